@@ -1,0 +1,26 @@
+ghost use Rattle.std.specs.Prelude.{◌≡◌};
+ghost use Rattle.orca_base.specs.Name.{begins_name, continues_name, has_name_form};
+
+/// Whether the text is a letter or `_`, followed by letters, digits and `_`.
+pub fn is_name(text: &str) -> bool
+    ensures { result ≡ has_name_form text.now }
+{
+    match text.as_bytes() {
+        [] => false,
+        [first, others @ ..] => {
+            may_begin_name(*first) && others.iter().all(|byte| may_continue_name(*byte))
+        }
+    }
+}
+
+fn may_begin_name(byte: u8) -> bool
+    ensures { result ≡ begins_name byte }
+{
+    byte.is_ascii_alphabetic() || byte == b'_'
+}
+
+fn may_continue_name(byte: u8) -> bool
+    ensures { result ≡ continues_name byte }
+{
+    byte.is_ascii_alphanumeric() || byte == b'_'
+}
