@@ -1,15 +1,14 @@
 ghost use Rattle.std.specs.Prelude.{◌≡◌};
+ghost use Rattle.std.specs.List.{list_all};
 ghost use Rattle.orca_base.specs.Name.{begins_name, continues_name, has_name_form};
 
 /// Whether the text is a letter or `_`, followed by letters, digits and `_`.
 pub fn is_name(text: &str) -> bool
     ensures { result ≡ has_name_form text.now }
 {
-    match text.as_bytes() {
-        [] => false,
-        [first, others @ ..] => {
-            may_begin_name(*first) && others.iter().all(|byte| may_continue_name(*byte))
-        }
+    match text.as_bytes().split_first() {
+        Some((first, others)) => may_begin_name(*first) && may_go_on(others),
+        None => false,
     }
 }
 
@@ -19,8 +18,10 @@ fn may_begin_name(byte: u8) -> bool
     byte.is_ascii_alphabetic() || byte == b'_'
 }
 
-fn may_continue_name(byte: u8) -> bool
-    ensures { result ≡ continues_name byte }
+fn may_go_on(bytes: &[u8]) -> bool
+    ensures { result ≡ list_all continues_name bytes.now }
 {
-    byte.is_ascii_alphanumeric() || byte == b'_'
+    bytes
+        .iter()
+        .all(|byte| byte.is_ascii_alphanumeric() || *byte == b'_')
 }

@@ -1,0 +1,23 @@
+use orca_base::{List, Text};
+
+/// A column that a query uses.
+#[derive(Debug, Drop)]
+pub struct Item {
+    /// The place of its table in the query's tables.
+    pub table: u32,
+    pub name: Text,
+    /// How many distinct values it has: 0 to 10^12.
+    pub ndv: u64,
+}
+
+/// A table of a query, under its alias.
+#[derive(Debug, Drop)]
+pub struct QueryTable {
+    pub alias: Text,
+    /// How many rows it has: 0 to 10^12.
+    pub rows: u64,
+    /// The items by whose hash its rows are placed, where they are.
+    pub hashed: Option<List<u32>>,
+    /// The items of each index.
+    pub indexes: List<List<u32>>,
+}

@@ -1,0 +1,30 @@
+/// The name of a group.
+#[derive(Clone, Copy, Debug, PartialEq, Eq)]
+pub struct Key(pub u32);
+
+/// A group expression, in one word.
+#[derive(Clone, Copy, Debug, PartialEq, Eq)]
+pub struct Expr(pub u64);
+
+/// A goal of the search, in one word.
+#[derive(Clone, Copy, Debug, PartialEq, Eq)]
+pub struct Goal(pub u64);
+
+/// What a goal's word stands for: a kind of job and its subject.
+#[derive(Clone, Copy, Debug, PartialEq, Eq)]
+pub enum GoalParts {
+    /// Exploration of a group.
+    Exp(Key),
+    /// Exploration of a group expression.
+    ExpE(Expr),
+    /// The rule of this number at a group expression.
+    Xf(Expr, u32),
+    /// Implementation of a group.
+    Imp(Key),
+    /// Implementation of a group expression.
+    ImpE(Expr),
+    /// A group for the request of this code.
+    Opt(Key, u32),
+    /// A group expression for the request of this code.
+    OptE(Expr, u32),
+}
