@@ -1,3 +1,11 @@
+ghost use Rattle.std.specs.Prelude.{◌≡◌, ◌≤◌, IfOk};
+ghost use Rattle.std.proofs.Props.{props};
+ghost use Rattle.query_core.specs.Tables.{AreTables};
+ghost use Rattle.query_core.specs.Items.{AreItems};
+ghost use Rattle.query_core.specs.Conditions.{ArePredicates};
+ghost use Rattle.query_core.specs.Grouping.{IsGrouping};
+ghost use Rattle.query_core.specs.Results.{IsOutput, IsOrder, AreOptions};
+
 use crate::aggregate::Agg;
 use crate::options::Options;
 use crate::output::{OrderKey, OutItem};
@@ -26,4 +34,80 @@ pub struct Query {
     pub output: List<OutItem>,
     pub order: List<OrderKey>,
     pub options: Options,
+    pub ghost has_segments: { 1 ≤ segments },
+    pub ghost segments_fit: { segments ≤ 1000 },
+    pub ghost tables_valid: { AreTables tables } by { Prim.hlevel props },
+    pub ghost items_valid: { AreItems tables items } by { Prim.hlevel props },
+    pub ghost preds_valid: { ArePredicates items preds } by { Prim.hlevel props },
+    pub ghost grouping_valid: { IsGrouping items grouped group_by aggs } by { Prim.hlevel props },
+    pub ghost output_valid: { IsOutput items grouped group_by aggs output } by { Prim.hlevel props },
+    pub ghost order_valid: { IsOrder items grouped group_by aggs order } by { Prim.hlevel props },
+    pub ghost options_valid: { AreOptions options } by { Prim.hlevel props },
+}
+
+#[cfg(test)]
+mod tests {
+    use super::*;
+    use crate::options::RootDist;
+    use orca_base::Text;
+    use std::alloc::{AllocError, Global};
+    use std::test::Fail;
+
+    fn text(alloc: Global, part: &str) -> Result<Text, AllocError>
+        ensures { IfOk result (λ made. made ≡ part.now) }
+    {
+        Ok(Text::of(String::from_str(alloc, part)?))
+    }
+
+    // `SELECT a FROM t ORDER BY a DESC`
+    fn one_table(alloc: Global) -> Result<Query, AllocError> {
+        let table = QueryTable {
+            alias: text(alloc, "t")?,
+            rows: 1000,
+            hashed: None,
+            indexes: List::new(alloc),
+        };
+        let item = Item {
+            table: 0,
+            name: text(alloc, "a")?,
+            ndv: 10,
+        };
+        Ok(Query {
+            segments: 4,
+            tables: List::of(vec![in alloc; table]?),
+            items: List::of(vec![in alloc; item]?),
+            preds: List::new(alloc),
+            links: List::new(alloc),
+            grouped: false,
+            group_by: List::new(alloc),
+            aggs: List::new(alloc),
+            output: List::of(vec![in alloc;
+                OutItem {
+                    item: 0,
+                    name: None
+                },
+            ]?),
+            order: List::of(vec![in alloc;
+                OrderKey {
+                    item: 0,
+                    desc: true
+                },
+            ]?),
+            options: Options {
+                root: RootDist::One,
+                off: 0,
+            },
+        })
+    }
+
+    fn lent<T: Send + Sync>(value: &T) -> &T {
+        value
+    }
+
+    #[test]
+    fn a_query_of_one_table_can_be_made_and_shared(rt: HostRuntime) -> Result<(), Fail> {
+        let query = one_table(rt.alloc())?;
+        assert_eq!(rt; lent(&query).order.len(), 1);
+        Ok(())
+    }
 }
