@@ -1,20 +1,15 @@
 -- What the used columns of a query keep, and the lists of columns that belong to its tables.
-use Rattle.std.specs.Prelude.{ℕ, Bool, true, false, not, List, [], ◌∷◌, ◌&&◌, ◌==◌, length, nat_lt, nat_le, bytes_eq, slice_get, IsTrue, option_to_list}
-use Rattle.std.specs.List.{list_all, list_any, enumerate_from}
+use Rattle.std.specs.Prelude.{ℕ, Bool, false, List, ◌&&◌, ◌==◌, length, nat_lt, nat_le, bytes_eq, slice_get, IsTrue, option_to_list}
+use Rattle.std.specs.List.{list_all, enumerate_from}
 use Rattle.std.specs.Option.{option_map_or}
 use Rattle.orca_base.specs.Name.{has_name_form}
-use Rattle.query_core.specs.Differ.{numbers_differ}
+use Rattle.query_core.specs.Differ.{all_differ, numbers_differ}
 use Rattle.query_core.specs.declared.table.Item.{Item}
 use Rattle.query_core.specs.declared.table.QueryTable.{QueryTable}
 
 -- the two are columns of one table under one name
 abbrev pub same_column : Item → Item → Bool
 same_column item other = (item.table == other.table) && bytes_eq item.name other.name
-
--- no column comes twice
-abbrev pub columns_differ : List Item → Bool
-columns_differ [] = true
-columns_differ (item ∷ others) = not (list_any (same_column item) others) && columns_differ others
 
 -- the number is that of an item of the table
 abbrev pub is_column_of : List Item → ℕ → ℕ → Bool
@@ -34,6 +29,6 @@ has_own_lists items place table =
 pub record AreItems (tables : List QueryTable) (items : List Item) : Type 0 where
   pub placed : IsTrue (list_all (λ item. nat_lt item.table (length tables)) items)
   pub named : IsTrue (list_all (λ item. has_name_form item.name) items)
-  pub apart : IsTrue (columns_differ items)
+  pub apart : IsTrue (all_differ same_column items)
   pub values_fit : IsTrue (list_all (λ item. nat_le item.ndv 1000000000000) items)
   pub lists : IsTrue (list_all (λ t. has_own_lists items t.0 t.1) (enumerate_from 0 tables))
