@@ -1,0 +1,54 @@
+-- The columns of a table that is read keep the limits, and their names differ.
+use Rattle.std.proofs.Common.{◌≡◌, ℕ, ◌≤◌, true, List, [], ◌∷◌, ◌++◌, length, map, codes, Option, Ok, refl, subst}
+use Rattle.std.specs.List.{AllByRecursion}
+use Rattle.std.specs.Str.{bytes_eq}
+use Rattle.std.specs.Cmp.Lexicographic.{nat_list_eq_equiv}
+use Rattle.std.proofs.lemmas.Bool.{leb-true}
+use Rattle.std.proofs.lemmas.List.{map_push}
+use Rattle.query_core.specs.declared.catalog.ColumnInfo.{ColumnInfo}
+use Rattle.serde_json.specs.Data.{Data}
+use Rattle.serde_json.specs.Find.{get}
+use Rattle.catalog_json.specs.declared.place.Place.TheVariants as places
+use Rattle.catalog_json.specs.Limits.{trillion, within}
+use Rattle.query_core.specs.Differ.{all_differ}
+use Rattle.catalog_json.specs.Catalog.{IsColumn}
+use Rattle.catalog_json.specs.Walk.{◌>>=◌, column_at, columns_at, each, list_at, new_name_at, number_at, object_at}
+use Rattle.catalog_json.proofs.Differ.{both_true, differ_push}
+use Rattle.catalog_json.proofs.Steps.{all_push, bind_ok, done, each_counts, each_keeps, list_kept, new_name_kept, number_kept, ok_is}
+
+-- a number up to its limit
+pub below : (most n : ℕ) → within 0 most n ≡ true → n ≤ most
+below most n e = leb-true n most (both_true _ _ e).1
+
+-- columns as those of a table, as far as they are read
+pub record AreColumns (columns : List ColumnInfo) : Type 0 where
+  pub all_are : AllByRecursion IsColumn columns
+  pub differ : all_differ bytes_eq (map (λ c. c.name) columns) ≡ true
+
+column_kept : (t : ℕ) (before : List ColumnInfo) (d : Data) (column : ColumnInfo) → AreColumns before → column_at t before d ≡ Ok column → AreColumns (before ++ column ∷ [])
+unfolding column_at
+column_kept t before d column so_far e =
+    let at = length before in
+    let object = bind_ok (object_at (places.Column t at) d) (λ object. new_name_at (places.ColumnName t at) (map (λ c. c.name) before) (get (codes "name") object) >>= λ name. number_at 0 trillion (places.Ndv t at) (get (codes "ndv") object) >>= λ ndv. done (record { name = name; ndv = ndv })) column e in
+    let name = bind_ok (new_name_at (places.ColumnName t at) (map (λ c. c.name) before) (get (codes "name") object.0)) (λ name. number_at 0 trillion (places.Ndv t at) (get (codes "ndv") object.0) >>= λ ndv. done (record { name = name; ndv = ndv })) column object.2 in
+    let ndv = bind_ok (number_at 0 trillion (places.Ndv t at) (get (codes "ndv") object.0)) (λ ndv. done (record { name = name.0; ndv = ndv })) column name.2 in
+    let new = new_name_kept (places.ColumnName t at) (map (λ c. c.name) before) (get (codes "name") object.0) name.0 name.1 in
+    let made : ColumnInfo = record { name = name.0; ndv = ndv.0 } in
+    subst (λ (c : ColumnInfo). AreColumns (before ++ c ∷ [])) (ok_is made column ndv.2) (record {
+      all_are = all_push IsColumn before made so_far.all_are (record { named = new.0; values = below trillion ndv.0 (number_kept 0 trillion (places.Ndv t at) (get (codes "ndv") object.0) ndv.0 ndv.1) });
+      differ = rw (map_push (λ (c : ColumnInfo). c.name) before made) (differ_push bytes_eq nat_list_eq_equiv.symm (map (λ c. c.name) before) name.0 so_far.differ new.1);
+    })
+
+-- the columns of a table
+pub record AreAllColumns (columns : List ColumnInfo) : Type 0 where
+  pub width : within 1 1000 (length columns) ≡ true
+  pub are : AreColumns columns
+
+pub columns_kept : (t : ℕ) (found : Option Data) (columns : List ColumnInfo) → columns_at t found ≡ Ok columns → AreAllColumns columns
+unfolding columns_at
+columns_kept t found columns e =
+    let ds = bind_ok (list_at 1 1000 (places.Columns t) found) (λ ds. each (column_at t) [] ds) columns e in
+    record {
+      width = rw (each_counts (column_at t) ds.0 columns ds.2) (list_kept 1 1000 (places.Columns t) found ds.0 ds.1);
+      are = each_keeps (column_at t) AreColumns (column_kept t) [] ds.0 columns (record { all_are = tt; differ = refl }) ds.2;
+    }

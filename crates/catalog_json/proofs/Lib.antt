@@ -1,0 +1,9 @@
+pub mod ColumnsKept
+pub mod Differ
+pub mod Each
+pub mod Elements
+pub mod Json
+pub mod Keys
+pub mod ListsKept
+pub mod Steps
+pub mod TablesKept

@@ -1,0 +1,87 @@
+-- A catalogue that is read keeps the limits, has names that differ, and lists its own columns.
+use Rattle.std.proofs.Common.{◌≡◌, ◌≤◌, true, List, [], ◌∷◌, ◌++◌, length, map, codes, Option, Ok, refl, subst}
+use Rattle.std.specs.List.{AllByRecursion}
+use Rattle.std.specs.Str.{bytes_eq}
+use Rattle.std.specs.Cmp.Lexicographic.{nat_list_eq_equiv}
+use Rattle.std.proofs.lemmas.List.{length-map, map_push}
+use Rattle.query_core.specs.declared.catalog.ColumnInfo.{ColumnInfo}
+use Rattle.query_core.specs.declared.catalog.TableInfo.{TableInfo}
+use Rattle.query_core.specs.declared.catalog.Catalog.{Catalog}
+use Rattle.serde_json.specs.Data.{Data}
+use Rattle.serde_json.specs.Find.{get}
+use Rattle.catalog_json.specs.declared.place.Place.TheVariants as places
+use Rattle.catalog_json.specs.Limits.{trillion}
+use Rattle.query_core.specs.Differ.{all_differ}
+use Rattle.catalog_json.specs.Catalog.{IsTable, IsCatalog}
+use Rattle.catalog_json.specs.Walk.{◌>>=◌, catalog_at, columns_at, each, indexes_at, list_at, new_name_at, number_at, object_at, placing_at, table_at, tables_at, version_at}
+use Rattle.catalog_json.proofs.Differ.{differ_push}
+use Rattle.catalog_json.proofs.Steps.{all_push, bind_ok, done, each_counts, each_keeps, list_kept, new_name_kept, number_kept, ok_is}
+use Rattle.catalog_json.proofs.ColumnsKept.{below, columns_kept}
+use Rattle.catalog_json.proofs.ListsKept.{indexes_kept, placing_kept}
+
+-- tables as those of a catalogue, as far as they are read
+record AreTables (tables : List TableInfo) : Type 0 where
+  all_are : AllByRecursion IsTable tables
+  differ : all_differ bytes_eq (map (λ t. t.name) tables) ≡ true
+
+table_kept : (before : List TableInfo) (d : Data) (table : TableInfo) → AreTables before → table_at before d ≡ Ok table → AreTables (before ++ table ∷ [])
+unfolding table_at
+table_kept before d table so_far e =
+    let t = length before in
+    let names = map (λ t. t.name) before in
+    let texts = λ (columns : List ColumnInfo). map (λ c. c.name) columns in
+    let object = bind_ok (object_at (places.Table t) d) (λ object. new_name_at (places.TableName t) names (get (codes "name") object) >>= λ name. number_at 0 trillion (places.Rows t) (get (codes "rows") object) >>= λ rows. columns_at t (get (codes "columns") object) >>= λ columns. placing_at t (texts columns) (get (codes "distribution") object) >>= λ placing. indexes_at t (texts columns) (get (codes "indexes") object) >>= λ indexes. done (record { name = name; rows = rows; placing = placing; columns = columns; indexes = indexes })) table e in
+    let o = object.0 in
+    let name = bind_ok (new_name_at (places.TableName t) names (get (codes "name") o)) (λ name. number_at 0 trillion (places.Rows t) (get (codes "rows") o) >>= λ rows. columns_at t (get (codes "columns") o) >>= λ columns. placing_at t (texts columns) (get (codes "distribution") o) >>= λ placing. indexes_at t (texts columns) (get (codes "indexes") o) >>= λ indexes. done (record { name = name; rows = rows; placing = placing; columns = columns; indexes = indexes })) table object.2 in
+    let rows = bind_ok (number_at 0 trillion (places.Rows t) (get (codes "rows") o)) (λ rows. columns_at t (get (codes "columns") o) >>= λ columns. placing_at t (texts columns) (get (codes "distribution") o) >>= λ placing. indexes_at t (texts columns) (get (codes "indexes") o) >>= λ indexes. done (record { name = name.0; rows = rows; placing = placing; columns = columns; indexes = indexes })) table name.2 in
+    let columns = bind_ok (columns_at t (get (codes "columns") o)) (λ columns. placing_at t (texts columns) (get (codes "distribution") o) >>= λ placing. indexes_at t (texts columns) (get (codes "indexes") o) >>= λ indexes. done (record { name = name.0; rows = rows.0; placing = placing; columns = columns; indexes = indexes })) table rows.2 in
+    let placing = bind_ok (placing_at t (texts columns.0) (get (codes "distribution") o)) (λ placing. indexes_at t (texts columns.0) (get (codes "indexes") o) >>= λ indexes. done (record { name = name.0; rows = rows.0; placing = placing; columns = columns.0; indexes = indexes })) table columns.2 in
+    let indexes = bind_ok (indexes_at t (texts columns.0) (get (codes "indexes") o)) (λ indexes. done (record { name = name.0; rows = rows.0; placing = placing.0; columns = columns.0; indexes = indexes })) table placing.2 in
+    let new = new_name_kept (places.TableName t) names (get (codes "name") o) name.0 name.1 in
+    let width : length (texts columns.0) ≡ length columns.0 = length-map columns.0 (λ c. c.name) in
+    let are = columns_kept t (get (codes "columns") o) columns.0 columns.1 in
+    let listed = rw width at (indexes_kept t (texts columns.0) (get (codes "indexes") o) indexes.0 indexes.1) in
+    let made : TableInfo = record { name = name.0; rows = rows.0; placing = placing.0; columns = columns.0; indexes = indexes.0 } in
+    subst (λ (x : TableInfo). AreTables (before ++ x ∷ [])) (ok_is made table indexes.2) (record {
+      all_are = all_push IsTable before made so_far.all_are (record {
+        named = new.0;
+        counted = below trillion rows.0 (number_kept 0 trillion (places.Rows t) (get (codes "rows") o) rows.0 rows.1);
+        width = are.width;
+        each_column = are.are.all_are;
+        differ = are.are.differ;
+        placed = rw width at (placing_kept t (texts columns.0) (get (codes "distribution") o) placing.0 placing.1);
+        index_count = listed.count;
+        each_index = listed.all_are;
+      });
+      differ = rw (map_push (λ (x : TableInfo). x.name) before made) (differ_push bytes_eq nat_list_eq_equiv.symm names name.0 so_far.differ new.1);
+    })
+
+-- the tables of a catalogue
+record AreAllTables (tables : List TableInfo) : Type 0 where
+  count : length tables ≤ 1000
+  are : AreTables tables
+
+tables_kept : (found : Option Data) (tables : List TableInfo) → tables_at found ≡ Ok tables → AreAllTables tables
+unfolding tables_at
+tables_kept found tables e =
+    let ds = bind_ok (list_at 0 1000 places.Tables found) (λ ds. each table_at [] ds) tables e in
+    record {
+      count = below 1000 (length tables) (rw (each_counts table_at ds.0 tables ds.2) (list_kept 0 1000 places.Tables found ds.0 ds.1));
+      are = each_keeps table_at AreTables table_kept [] ds.0 tables (record { all_are = tt; differ = refl }) ds.2;
+    }
+
+pub catalog_kept : (d : Data) (catalog : Catalog) → catalog_at d ≡ Ok catalog → IsCatalog catalog
+unfolding catalog_at
+catalog_kept d catalog e =
+    let object = bind_ok (object_at places.Whole d) (λ object. version_at (get (codes "version") object) >>= λ version. number_at 1 1000 places.Segments (get (codes "segments") object) >>= λ segments. tables_at (get (codes "tables") object) >>= λ tables. done (record { segments = segments; tables = tables })) catalog e in
+    let o = object.0 in
+    let version = bind_ok (version_at (get (codes "version") o)) (λ version. number_at 1 1000 places.Segments (get (codes "segments") o) >>= λ segments. tables_at (get (codes "tables") o) >>= λ tables. done (record { segments = segments; tables = tables })) catalog object.2 in
+    let segments = bind_ok (number_at 1 1000 places.Segments (get (codes "segments") o)) (λ segments. tables_at (get (codes "tables") o) >>= λ tables. done (record { segments = segments; tables = tables })) catalog version.2 in
+    let tables = bind_ok (tables_at (get (codes "tables") o)) (λ tables. done (record { segments = segments.0; tables = tables })) catalog segments.2 in
+    let kept = tables_kept (get (codes "tables") o) tables.0 tables.1 in
+    subst IsCatalog (ok_is _ catalog tables.2) (record {
+      segment_count = number_kept 1 1000 places.Segments (get (codes "segments") o) segments.0 segments.1;
+      table_count = kept.count;
+      each_table = kept.are.all_are;
+      differ = kept.are.differ;
+    })

@@ -1,0 +1,8 @@
+-- the indexes before the place were read, and the rest is read after them
+use Rattle.std.proofs.Common.{◌≡◌, [], map, drop}
+use Rattle.serde_json.specs.View.{view}
+use Rattle.catalog_json.specs.Walk.{each, index_at}
+use Rattle.catalog_json.proofs.table.read_each_index.Given as goal
+
+abbrev pub invariant-loop-value : goal.invariant-loop-value
+invariant-loop-value l = each (index_at l.t l.names) l.indexes (drop l.value-index (map view l.values)) ≡ each (index_at l.t l.names) [] (map view l.values)

@@ -1,0 +1,5 @@
+pub mod Catalog
+pub mod Limits
+pub mod Outcome
+pub mod Place
+pub mod Walk

@@ -1,0 +1,191 @@
+-- Reading the parts of a catalogue in order, up to the first fault.
+use Rattle.std.specs.Prelude.{◌≡◌, ◌≢◌, ℕ, ◌==◌, List, [], ◌∷◌, ◌++◌, length, map, position, codes, if◌then◌else◌, Option, Some, None, option_map, option_and_then, is_some, Result, Ok, Err}
+use Rattle.std.specs.List.{list_any}
+use Rattle.std.specs.Str.{bytes_eq}
+use Rattle.query_core.specs.declared.catalog.ColumnInfo.{ColumnInfo}
+use Rattle.query_core.specs.declared.catalog.Placing.{Placing}
+use Rattle.query_core.specs.declared.catalog.Placing.TheVariants.{Hashed, Random}
+use Rattle.query_core.specs.declared.catalog.TableInfo.{TableInfo}
+use Rattle.query_core.specs.declared.catalog.Catalog.{Catalog}
+use Rattle.serde_json.specs.Data.{Data, Items, no_items, item}
+use Rattle.serde_json.specs.Find.{get, as_number, as_u64, as_str, as_array, as_object}
+use Rattle.catalog_json.specs.Limits.{trillion, within, is_catalog_name}
+use Rattle.catalog_json.specs.declared.place.NameList.{NameList}
+use Rattle.catalog_json.specs.declared.place.NameList.TheVariants.{Distribution, Index}
+use Rattle.catalog_json.specs.declared.place.Place.{Place}
+use Rattle.catalog_json.specs.declared.place.Place.TheVariants as places
+use Rattle.catalog_json.specs.declared.fault.Fault.{Fault}
+use Rattle.catalog_json.specs.declared.fault.Fault.TheVariants.{Shape, Version, Range, Twice, UnknownColumn, Memory}
+
+-- a part's value, or the first fault
+abbrev pub Reading : Type 0 → Type 0
+Reading A = Result A Fault
+
+-- the next part is read only where this one has no fault
+infixl 10 ◌>>=◌
+abbrev pub ◌>>=◌ : {A B : Type 0} → Reading A → (A → Reading B) → Reading B
+(Ok x) >>= next = next x
+(Err fault) >>= next = Err fault
+
+-- what a function returned is the reading, unless memory ran out
+abbrev pub Gives : {A : Type 0} → Reading A → Reading A → Type 0
+Gives reading (Ok x) = reading ≡ Ok x
+Gives reading (Err fault) = fault ≢ Memory → reading ≡ Err fault
+
+-- what was read, seen by f
+abbrev pub seen : {A B : Type 0} → (A → B) → Reading A → Reading B
+seen f (Ok x) = Ok (f x)
+seen f (Err fault) = Err fault
+
+-- the elements in order, each read after those before it
+unfoldable pub each : {A : Type 0} → (List A → Data → Reading A) → List A → List Data → Reading (List A)
+each read before [] = Ok before
+each read before (d ∷ ds) = do
+  x ← read before d
+  each read (before ++ x ∷ []) ds
+
+-- ---- numbers, names, lists and objects
+
+-- a whole number, where there is one, within limits
+abbrev pub in_limits : ℕ → ℕ → Place → Option ℕ → Reading ℕ
+in_limits least most at None = Err (Shape at)
+in_limits least most at (Some n) = if within least most n then Ok n else Err (Range at)
+
+-- a whole number
+abbrev pub whole : Data → Option ℕ
+whole d = option_and_then as_u64 (as_number d)
+
+-- a whole number within limits
+abbrev pub number_at : ℕ → ℕ → Place → Option Data → Reading ℕ
+number_at least most at found = in_limits least most at (option_and_then whole found)
+
+-- a text, where there is one, as a name
+abbrev pub named : Place → Option (List ℕ) → Reading (List ℕ)
+named at None = Err (Shape at)
+named at (Some text) = if is_catalog_name text then Ok text else Err (Shape at)
+
+-- a name
+abbrev pub name_at : Place → Option Data → Reading (List ℕ)
+name_at at found = named at (option_and_then as_str found)
+
+-- a name that is none of those before it
+unfoldable pub new_name_at : Place → List (List ℕ) → Option Data → Reading (List ℕ)
+new_name_at at before found = do
+  name ← name_at at found
+  if list_any (bytes_eq name) before then Err (Twice at) else Ok name
+
+-- the elements of an array
+abbrev pub elements : Items → List Data
+elements no_items = []
+elements (item d ds) = d ∷ elements ds
+
+-- a list, where there is one, with a number of elements within limits
+abbrev pub of_length : ℕ → ℕ → Place → Option (List Data) → Reading (List Data)
+of_length least most at None = Err (Shape at)
+of_length least most at (Some ds) = if within least most (length ds) then Ok ds else Err (Range at)
+
+-- an array with a number of elements within limits
+abbrev pub list_at : ℕ → ℕ → Place → Option Data → Reading (List Data)
+list_at least most at found = of_length least most at (option_map elements (option_and_then as_array found))
+
+-- an object
+abbrev pub object_at : Place → Data → Reading Data
+object_at at d = if is_some (as_object d) then Ok d else Err (Shape at)
+
+-- ---- columns
+
+-- a column of table t, after those before it
+unfoldable pub column_at : ℕ → List ColumnInfo → Data → Reading ColumnInfo
+column_at t before d = do
+  object ← object_at (places.Column t (length before)) d
+  name ← new_name_at (places.ColumnName t (length before)) (map (λ c. c.name) before) (get (codes "name") object)
+  ndv ← number_at 0 trillion (places.Ndv t (length before)) (get (codes "ndv") object)
+  Ok (record { name = name; ndv = ndv })
+
+-- the columns of table t
+unfoldable pub columns_at : ℕ → Option Data → Reading (List ColumnInfo)
+columns_at t found = do
+  ds ← list_at 1 1000 (places.Columns t) found
+  each (column_at t) [] ds
+
+-- ---- lists of column names, as places among the table's columns
+
+-- the place of a listed name, which stands at none of the places before it
+abbrev pub new_place : Place → List ℕ → Option ℕ → Reading ℕ
+new_place at before None = Err (UnknownColumn at)
+new_place at before (Some i) = if list_any (λ p. p == i) before then Err (Twice at) else Ok i
+
+-- an element of a list, after the places of those before it
+unfoldable pub listed_at : NameList → List (List ℕ) → List ℕ → Data → Reading ℕ
+listed_at list names before d = do
+  name ← name_at (places.Listed list (length before)) (Some d)
+  new_place (places.Listed list (length before)) before (position (bytes_eq name) names)
+
+-- a list of columns
+unfoldable pub places_at : NameList → List (List ℕ) → Option Data → Reading (List ℕ)
+places_at list names found = do
+  ds ← list_at 1 8 (places.Names list) found
+  each (listed_at list names) [] ds
+
+-- ---- tables
+
+-- the one text that may stand for a distribution
+abbrev pub random_at : Place → List ℕ → Reading Placing
+random_at at text = if bytes_eq text (codes "random") then Ok Random else Err (Shape at)
+
+-- a distribution, with the text that it may be: else it is a list of the columns that are hashed
+unfoldable pub placing_by : ℕ → List (List ℕ) → Option Data → Option (List ℕ) → Reading Placing
+placing_by t names found (Some text) = random_at (places.Names (Distribution t)) text
+placing_by t names found None = seen Hashed (places_at (Distribution t) names found)
+
+-- a distribution
+abbrev pub placing_at : ℕ → List (List ℕ) → Option Data → Reading Placing
+placing_at t names found = placing_by t names found (option_and_then as_str found)
+
+-- an index, after those before it
+abbrev pub index_at : ℕ → List (List ℕ) → List (List ℕ) → Data → Reading (List ℕ)
+index_at t names before d = places_at (Index t (length before)) names (Some d)
+
+-- the indexes of table t; an absent list means none
+unfoldable pub indexes_at : ℕ → List (List ℕ) → Option Data → Reading (List (List ℕ))
+indexes_at t names None = Ok []
+indexes_at t names (Some d) = do
+  ds ← list_at 0 16 (places.Indexes t) (Some d)
+  each (index_at t names) [] ds
+
+-- a table, after those before it
+unfoldable pub table_at : List TableInfo → Data → Reading TableInfo
+table_at before d = do
+  object ← object_at (places.Table (length before)) d
+  name ← new_name_at (places.TableName (length before)) (map (λ t. t.name) before) (get (codes "name") object)
+  rows ← number_at 0 trillion (places.Rows (length before)) (get (codes "rows") object)
+  columns ← columns_at (length before) (get (codes "columns") object)
+  placing ← placing_at (length before) (map (λ c. c.name) columns) (get (codes "distribution") object)
+  indexes ← indexes_at (length before) (map (λ c. c.name) columns) (get (codes "indexes") object)
+  Ok (record { name = name; rows = rows; placing = placing; columns = columns; indexes = indexes })
+
+-- ---- the whole
+
+-- a whole number, where there is one, that is the version 1
+abbrev pub version_one : Option ℕ → Reading ℕ
+version_one None = Err (Shape places.Version)
+version_one (Some n) = if n == 1 then Ok n else Err (Version n)
+
+-- the version
+abbrev pub version_at : Option Data → Reading ℕ
+version_at found = version_one (option_and_then whole found)
+
+-- the tables
+unfoldable pub tables_at : Option Data → Reading (List TableInfo)
+tables_at found = do
+  ds ← list_at 0 1000 places.Tables found
+  each table_at [] ds
+
+-- the whole catalogue
+unfoldable pub catalog_at : Data → Reading Catalog
+catalog_at d = do
+  object ← object_at places.Whole d
+  version ← version_at (get (codes "version") object)
+  segments ← number_at 1 1000 places.Segments (get (codes "segments") object)
+  tables ← tables_at (get (codes "tables") object)
+  Ok (record { segments = segments; tables = tables })

@@ -1,0 +1,17 @@
+//! Reads a catalogue from JSON: its value, or the first fault with its cause and place.
+#![tactic(auto)]
+
+mod column;
+mod fault;
+mod listed;
+mod member;
+mod names;
+mod place;
+mod reading;
+mod table;
+
+pub use fault::CatalogFault;
+pub use reading::read_catalog;
+
+#[cfg(test)]
+mod tests;

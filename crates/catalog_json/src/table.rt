@@ -1,0 +1,131 @@
+//! Tables: where their rows lie, their indexes, and the whole.
+ghost use Rattle.std.specs.Prelude.{◌≡◌, ◌≤◌, [], ◌∷◌, ◌++◌, length, map, option_map, IfOk};
+ghost use Rattle.serde_json.specs.View.{view};
+ghost use Rattle.catalog_json.specs.Walk.{Gives, each, index_at, indexes_at, placing_at, random_at, table_at, tables_at};
+
+use crate::column::read_columns;
+use crate::fault::Fault;
+use crate::listed::read_places;
+use crate::member::{TRILLION, list_at, number_at, object_at};
+use crate::names::Names;
+use crate::place::{NameList, Place};
+use orca_base::List;
+use query_core::{Placing, TableInfo};
+use serde_json::Value;
+use std::alloc::Global;
+
+const MOST_INDEXES: usize = 16;
+
+const MOST_TABLES: usize = 1_000;
+
+fn random_at(place: Place, text: &str) -> Result<Placing, Fault>
+    ensures { result ≡ random_at place text.now }
+{
+    if text == "random" {
+        Ok(Placing::Random)
+    } else {
+        Err(Fault::Shape(place))
+    }
+}
+
+#[tactic(auto, unfolding(crate::specs::Walk::placing_by))]
+fn read_placing(
+    alloc: Global,
+    t: usize,
+    names: &Names<'_>,
+    value: Option<&Value>,
+) -> Result<Placing, Fault>
+    requires { length names.now ≤ 1000 }
+    ensures { Gives (placing_at t names.now (option_map (λ v. view v.now) value.entry)) result }
+{
+    let list = NameList::Distribution(t);
+    match value.and_then(Value::as_str) {
+        Some(text) => random_at(Place::Names(list), text),
+        None => Ok(Placing::Hashed(read_places(alloc, list, names, value)?)),
+    }
+}
+
+fn read_each_index(
+    alloc: Global,
+    t: usize,
+    names: &Names<'_>,
+    values: &[Value],
+) -> Result<List<List<u32>>, Fault>
+    requires { length names.now ≤ 1000 }
+    ensures { Gives (each (index_at t names.now) [] (map view values.now)) result }
+{
+    let mut indexes = List::new(alloc);
+    for value in values {
+        let list = NameList::Index(t, indexes.len());
+        let index = read_places(alloc, list, names, Some(value))?;
+        indexes.push(index)?;
+    }
+    Ok(indexes)
+}
+
+#[tactic(auto, unfolding(crate::specs::Walk::indexes_at))]
+fn read_indexes(
+    alloc: Global,
+    t: usize,
+    names: &Names<'_>,
+    value: Option<&Value>,
+) -> Result<List<List<u32>>, Fault>
+    requires { length names.now ≤ 1000 }
+    ensures { Gives (indexes_at t names.now (option_map (λ v. view v.now) value.entry)) result }
+{
+    match value {
+        None => Ok(List::new(alloc)),
+        Some(_) => {
+            let values = list_at(value, 0, MOST_INDEXES, Place::Indexes(t))?;
+            read_each_index(alloc, t, names, values)
+        }
+    }
+}
+
+/// Reads one of the tables, and adds its name.
+#[tactic(auto, unfolding(crate::specs::Walk::table_at))]
+fn read_table<'v>(
+    alloc: Global,
+    before: &[TableInfo],
+    names: &mut Names<'v>,
+    value: &'v Value,
+) -> Result<TableInfo, Fault>
+    requires { names.old ≡ map (λ t. t.name) before.now }
+    ensures read { Gives (table_at before.now (view value.now)) result }
+    ensures added { IfOk result (λ table. names.new ≡ names.old ++ table.name ∷ []) }
+{
+    let t = before.len();
+    let object = object_at(value, Place::Table(t))?;
+    let name = names.read_new(alloc, object.get("name"), Place::TableName(t))?;
+    let rows = number_at(object.get("rows"), 0, TRILLION, Place::Rows(t))?;
+    let columns = read_columns(alloc, t, object.get("columns"))?;
+    let placing = read_placing(alloc, t, &columns.names, object.get("distribution"))?;
+    let indexes = read_indexes(alloc, t, &columns.names, object.get("indexes"))?;
+    Ok(TableInfo {
+        name,
+        rows,
+        placing,
+        columns: columns.columns,
+        indexes,
+    })
+}
+
+fn read_each_table(alloc: Global, values: &[Value]) -> Result<List<TableInfo>, Fault>
+    ensures { Gives (each table_at [] (map view values.now)) result }
+{
+    let mut tables = List::new(alloc);
+    let mut names = Names::new(alloc);
+    for value in values {
+        let table = read_table(alloc, tables.as_slice(), &mut names, value)?;
+        tables.push(table)?;
+    }
+    Ok(tables)
+}
+
+#[tactic(auto, unfolding(crate::specs::Walk::tables_at))]
+pub fn read_tables(alloc: Global, value: Option<&Value>) -> Result<List<TableInfo>, Fault>
+    ensures { Gives (tables_at (option_map (λ v. view v.now) value.entry)) result }
+{
+    let values = list_at(value, 0, MOST_TABLES, Place::Tables)?;
+    read_each_table(alloc, values)
+}

@@ -1,0 +1,9 @@
+pub mod Put
+pub mod Words
+pub mod Columns
+pub mod OneTable
+pub mod Stages
+pub mod Puts
+pub mod Queries
+pub mod Causes
+pub mod Outcomes

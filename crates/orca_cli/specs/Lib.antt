@@ -1,0 +1,12 @@
+pub mod Status
+pub mod Command
+pub mod Reading
+pub mod QueryForm
+pub mod Asked
+pub mod Texts
+pub mod Run
+pub mod Views
+pub mod Stages
+pub mod Puts
+pub mod Causes
+pub mod Laws

@@ -1,0 +1,12 @@
+// What follows from how runs end.
+ghost use Rattle.orca_cli.specs.Laws.{OneOutcome};
+
+use plan_tree::least_plan_is_one;
+
+/// The status and the text of a run are determined by what the two files hold, as long as no read
+/// fails and memory lasts: no other run over the same bytes ends in another way.
+pub fn one_outcome()
+    ensures { OneOutcome }
+{
+    least_plan_is_one();
+}

@@ -1,0 +1,19 @@
+//! The top call: what `orca` does for the words of a command line, over a shelf of files and a sink for the text.
+#![tactic(auto)]
+
+mod asked;
+mod command;
+mod ending;
+mod laws;
+mod query_form;
+mod reading;
+mod status;
+mod text;
+mod top;
+
+pub use laws::one_outcome;
+pub use status::Status;
+pub use top::{orca_alone, orca_run, put_usage};
+
+#[cfg(test)]
+mod tests;

@@ -1,0 +1,113 @@
+// The host's files and its standard output. Of the bytes that they give and take nothing is told.
+ghost use Rattle.std.specs.Prelude.{◌≡◌, ◌⊎◌, ◌≤◌, ◌+◌, None, OnOk, IfErr, vec_len};
+ghost use Rattle.std.specs.Io.{StartsWith};
+ghost use Rattle.orca_io.specs.declared.shelf.ShelfError.TheVariants.{Failed, TooLong, Memory};
+ghost use Rattle.orca_io.specs.Shelf.{AddsAtMost};
+ghost use Rattle.orca_io.specs.Host.{IsOverOrStopped};
+
+use crate::count::next_count;
+use crate::{Shelf, ShelfError, Sink, SinkError};
+use std::io::{ErrorKind, Read};
+use std::rt::Files;
+use std::{fs, io};
+
+/// The host's files, each under its path. All paths have one count of faults.
+#[derive(Drop)]
+pub struct FileShelf<'r, R: Files + Alloc> {
+    rt: &'r R,
+    faults: u64,
+}
+
+impl<'r, R: Files + Alloc> FileShelf<'r, R> {
+    pub fn new(rt: &'r R) -> FileShelf<'r, R>
+        ensures { result.faults ≡ 0 }
+    {
+        FileShelf { rt, faults: 0 }
+    }
+}
+
+impl<'r, R: Files + Alloc> Shelf for FileShelf<'r, R> {
+    ghost held = { λ _ _. None };
+
+    ghost faults = { λ shelf _. shelf.faults };
+
+    fn read_all(&mut self, name: &str, limit: u64, into: &mut Vec<u8>) -> Result<(), ShelfError> {
+        let start = into.len();
+        match read_file(self.rt, name, limit, into) {
+            Ok(()) => Ok(()),
+            Err(e) => {
+                into.truncate(start);
+                if e == ShelfError::Failed {
+                    self.faults = next_count(self.faults);
+                }
+                Err(e)
+            }
+        }
+    }
+}
+
+// Adds a file's bytes. After a refusal some of them may stand there.
+fn read_file<R: Files>(rt: &R, path: &str, limit: u64, into: &mut Vec<u8>) -> Result<(), ShelfError>
+    ensures front { StartsWith into.new.items into.old.items }
+    ensures ok { OnOk result (AddsAtMost limit into.old.items into.new.items) }
+    ensures err { IfErr result (IsOverOrStopped limit) }
+{
+    match fs::open(rt, path) {
+        Ok(file) => read_to_limit(file, limit, into),
+        Err(e) => Err(refusal(e)),
+    }
+}
+
+// Reads one byte over the limit at most.
+fn read_to_limit<F: Read + Drop>(file: F, limit: u64, into: &mut Vec<u8>) -> Result<(), ShelfError>
+    ensures front { StartsWith into.new.items into.old.items }
+    ensures ok { OnOk result (AddsAtMost limit into.old.items into.new.items) }
+    ensures err { IfErr result (IsOverOrStopped limit) }
+{
+    match file.take(limit.saturating_add(1)).read_to_end(into) {
+        Ok(count) if count as u64 <= limit => Ok(()),
+        Ok(_) => Err(ShelfError::TooLong { seen: limit + 1 }),
+        Err(e) => Err(refusal(e)),
+    }
+}
+
+fn refusal(e: io::Error) -> ShelfError
+    ensures { (result ≡ Failed) ⊎ (result ≡ Memory) }
+{
+    if e.kind() == ErrorKind::OutOfMemory {
+        ShelfError::Memory
+    } else {
+        ShelfError::Failed
+    }
+}
+
+/// The host's standard output.
+#[derive(Drop)]
+pub struct StdSink<'r, R: Print> {
+    rt: &'r R,
+    faults: u64,
+}
+
+impl<'r, R: Print> StdSink<'r, R> {
+    pub fn new(rt: &'r R) -> StdSink<'r, R>
+        ensures { result.faults ≡ 0 }
+    {
+        StdSink { rt, faults: 0 }
+    }
+}
+
+impl<'r, R: Print> Sink for StdSink<'r, R> {
+    ghost taken = { λ _. None };
+
+    ghost faults = { λ sink. sink.faults };
+
+    fn put(&mut self, bytes: &[u8]) -> Result<(), SinkError> {
+        match self.rt.write_all(bytes) {
+            Ok(()) => Ok(()),
+            Err(_) => {
+                self.faults = next_count(self.faults);
+                Err(SinkError::Failed)
+            }
+        }
+    }
+}

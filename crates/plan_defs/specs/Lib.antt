@@ -1,0 +1,9 @@
+pub mod Groups
+pub mod Orders
+pub mod Properties
+pub mod Nodes
+pub mod Gives
+pub mod Valid
+pub mod Cost
+pub mod Least
+pub mod Text

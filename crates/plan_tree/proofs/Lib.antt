@@ -1,0 +1,10 @@
+pub mod Codes
+pub mod Plans
+pub mod Enforcers
+pub mod Pass
+pub mod Numbering
+pub mod Best
+pub mod Root
+pub mod Lines
+pub mod NodeNumbers
+pub mod OneLeast
