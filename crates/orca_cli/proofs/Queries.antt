@@ -5,6 +5,7 @@ use mathlib.Core.HLevel.{is_prop→PathP}
 use Rattle.query_core.specs.Tables.{AreTables}
 use Rattle.query_core.specs.Items.{AreItems}
 use Rattle.query_core.specs.Conditions.{ArePredicates}
+use Rattle.query_core.specs.Links.{AreLinks}
 use Rattle.query_core.specs.Grouping.{IsGrouping}
 use Rattle.query_core.specs.Results.{IsOutput, IsOrder, AreOptions}
 use Rattle.query_core.specs.declared.query.Query.{Query}
@@ -28,6 +29,7 @@ query_same q r segments tables items preds links grouped group_by aggs output or
   tables_valid = is_prop→PathP (λ j. AreTables (tables j)) (λ j. hlevel props) q.tables_valid r.tables_valid i;
   items_valid = is_prop→PathP (λ j. AreItems (tables j) (items j)) (λ j. hlevel props) q.items_valid r.items_valid i;
   preds_valid = is_prop→PathP (λ j. ArePredicates (items j) (preds j)) (λ j. hlevel props) q.preds_valid r.preds_valid i;
+  links_valid = is_prop→PathP (λ j. AreLinks (tables j) (items j) (preds j) (links j)) (λ j. hlevel props) q.links_valid r.links_valid i;
   grouping_valid = is_prop→PathP (λ j. IsGrouping (items j) (grouped j) (group_by j) (aggs j)) (λ j. hlevel props) q.grouping_valid r.grouping_valid i;
   output_valid = is_prop→PathP (λ j. IsOutput (items j) (grouped j) (group_by j) (aggs j) (output j)) (λ j. hlevel props) q.output_valid r.output_valid i;
   order_valid = is_prop→PathP (λ j. IsOrder (items j) (grouped j) (group_by j) (aggs j) (order j)) (λ j. hlevel props) q.order_valid r.order_valid i;

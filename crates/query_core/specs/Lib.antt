@@ -2,5 +2,9 @@ pub mod Differ
 pub mod Tables
 pub mod Items
 pub mod Conditions
+pub mod Sets
+pub mod Connected
+pub mod Links
 pub mod Grouping
 pub mod Results
+pub mod Keys

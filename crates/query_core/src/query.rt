@@ -3,6 +3,7 @@ ghost use Rattle.std.proofs.Props.{props};
 ghost use Rattle.query_core.specs.Tables.{AreTables};
 ghost use Rattle.query_core.specs.Items.{AreItems};
 ghost use Rattle.query_core.specs.Conditions.{ArePredicates};
+ghost use Rattle.query_core.specs.Links.{AreLinks};
 ghost use Rattle.query_core.specs.Grouping.{IsGrouping};
 ghost use Rattle.query_core.specs.Results.{IsOutput, IsOrder, AreOptions};
 
@@ -39,6 +40,7 @@ pub struct Query {
     pub ghost tables_valid: { AreTables tables } by { Prim.hlevel props },
     pub ghost items_valid: { AreItems tables items } by { Prim.hlevel props },
     pub ghost preds_valid: { ArePredicates items preds } by { Prim.hlevel props },
+    pub ghost links_valid: { AreLinks tables items preds links } by { Prim.hlevel props },
     pub ghost grouping_valid: { IsGrouping items grouped group_by aggs } by { Prim.hlevel props },
     pub ghost output_valid: { IsOutput items grouped group_by aggs output } by { Prim.hlevel props },
     pub ghost order_valid: { IsOrder items grouped group_by aggs order } by { Prim.hlevel props },

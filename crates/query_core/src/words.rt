@@ -2,6 +2,21 @@
 #[derive(Clone, Copy, Debug, PartialEq, Eq)]
 pub struct Key(pub u32);
 
+/// What a key stands for. A table is given by its place, a set of tables by its mask.
+#[derive(Clone, Copy, Debug, PartialEq, Eq)]
+pub enum KeyParts {
+    /// The rows of a table.
+    Get(u32),
+    /// The rows of a table that meet its own predicates.
+    Filter(u32),
+    /// The join of two or more tables.
+    Join(u32),
+    /// Groups that are not complete, as each segment makes them.
+    Partial,
+    /// The groups of GROUP BY.
+    Agg,
+}
+
 /// A group expression, in one word.
 #[derive(Clone, Copy, Debug, PartialEq, Eq)]
 pub struct Expr(pub u64);

@@ -1,0 +1,10 @@
+//! Estimates of how many rows a group of a query has.
+#![tactic(auto)]
+
+mod divisor;
+mod estimate;
+
+pub use estimate::rows;
+
+#[cfg(test)]
+mod tests;

@@ -1,0 +1,38 @@
+//! Keys as numbers. Nothing else packs or unpacks a key.
+#![tactic(auto)]
+
+ghost use Rattle.std.specs.Prelude.{◌≡◌, ◌<◌, ◌^◌, MatchOption};
+ghost use Rattle.query_core.specs.Keys.{key_number, IsInRange};
+
+use crate::words::{Key, KeyParts};
+
+impl Key {
+    /// The key of a group.
+    pub fn make(parts: KeyParts) -> Key
+        requires { IsInRange parts }
+        ensures number { result.0 ≡ key_number parts }
+        ensures small { result.0 < 2 ^ 12 }
+    {
+        match parts {
+            KeyParts::Get(table) => Key(table),
+            KeyParts::Filter(table) => Key(16 + table),
+            KeyParts::Join(set) => Key(1024 + set),
+            KeyParts::Partial => Key(2048),
+            KeyParts::Agg => Key(2049),
+        }
+    }
+
+    /// The group that a key names.
+    pub fn parts(self) -> Option<KeyParts>
+        ensures { MatchOption result ((p : KeyParts) → IsInRange p → key_number p ≡ self.0 → ⊥) (λ p. IsInRange p × (key_number p ≡ self.0)) }
+    {
+        match self.0 {
+            0..10 => Some(KeyParts::Get(self.0)),
+            16..26 => Some(KeyParts::Filter(self.0 - 16)),
+            1024..2048 => Some(KeyParts::Join(self.0 - 1024)),
+            2048 => Some(KeyParts::Partial),
+            2049 => Some(KeyParts::Agg),
+            _ => None,
+        }
+    }
+}

@@ -1,0 +1,17 @@
+pub mod Bytes
+pub mod Words
+pub mod Pieces
+pub mod Lexing
+pub mod Cutting
+pub mod Adding
+pub mod Marks
+pub mod Tokens
+pub mod Grammar
+pub mod Query
+pub mod Steps
+pub mod Reading
+pub mod Gives
+pub mod Faults
+pub mod Outcome
+pub mod Canonical
+pub mod Unplaced

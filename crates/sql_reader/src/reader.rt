@@ -1,0 +1,158 @@
+//! The reader of queries.
+
+ghost use Rattle.std.specs.Prelude.{◌≡◌, ◌≢◌, ◌≤◌, ◌<◌, ◌^◌, ◌↔◌, ℕ, List, length, IfOk, IfErr};
+ghost use Rattle.sql_reader.specs.declared.syntax.Select.{Select};
+ghost use Rattle.sql_reader.specs.declared.faults.SqlFault.{SqlFault};
+ghost use Rattle.sql_reader.specs.Pieces.{is_control};
+ghost use Rattle.sql_reader.specs.Reading.{parse_at};
+ghost use Rattle.sql_reader.specs.Faults.{place, IsFirst, IsReading};
+ghost use Rattle.sql_reader.specs.Outcome.{bad_byte, first_bad, stuck_at, sooner, earlier, next_place, outcome, IsOutcome};
+
+use crate::clauses::parse;
+use crate::faults::SqlFault;
+use crate::lexer::lex;
+use crate::stops::Stop;
+use crate::syntax::Select;
+use crate::tokens::Token;
+use std::alloc::Global;
+
+fn is_control_byte(byte: u8) -> bool
+    ensures { result ≡ is_control byte }
+{
+    if byte < 32 {
+        byte != b'\t' && byte != b'\n' && byte != b'\r'
+    } else {
+        byte == 127
+    }
+}
+
+fn fault_of_byte(at: u32, byte: u8) -> Option<SqlFault>
+    ensures { result ≡ bad_byte at byte }
+{
+    if byte >= 128 {
+        Some(SqlFault::NotAscii { at })
+    } else if is_control_byte(byte) {
+        Some(SqlFault::Token { at })
+    } else {
+        None
+    }
+}
+
+/// The first byte that may stand nowhere.
+fn first_bad_byte(text: &[u8]) -> Option<SqlFault>
+    requires { length text.now ≤ 2 ^ 16 }
+    ensures { result ≡ first_bad 0 text.now }
+{
+    for (at, byte) in text.iter().enumerate() {
+        let fault = fault_of_byte(at as u32, *byte);
+        if fault.is_some() {
+            return fault;
+        }
+    }
+    None
+}
+
+/// Where bytes are left, no token begins there.
+fn stuck(rest: &[u8], len: u32) -> Option<SqlFault>
+    requires { length rest.now ≤ len }
+    ensures { result ≡ stuck_at rest.now len }
+{
+    if rest.is_empty() {
+        None
+    } else {
+        Some(SqlFault::Token {
+            at: len - rest.len() as u32,
+        })
+    }
+}
+
+fn place_of_fault(fault: SqlFault) -> u32
+    ensures { result ≡ place fault }
+{
+    match fault {
+        SqlFault::TooLong | SqlFault::Memory => 0,
+        SqlFault::NotAscii { at }
+        | SqlFault::Token { at }
+        | SqlFault::Grammar { at }
+        | SqlFault::TooMany { at, .. } => at,
+    }
+}
+
+/// The second fault where it stands before the first.
+fn sooner_fault(first: Option<SqlFault>, second: SqlFault) -> SqlFault
+    ensures { result ≡ sooner first second }
+{
+    match first {
+        Some(first) if place_of_fault(second) >= place_of_fault(first) => first,
+        _ => second,
+    }
+}
+
+fn earlier_fault(first: Option<SqlFault>, second: Option<SqlFault>) -> Option<SqlFault>
+    ensures { result ≡ earlier first second }
+{
+    match second {
+        Some(second) => Some(sooner_fault(first, second)),
+        None => first,
+    }
+}
+
+fn place_of_next(tokens: &[Token], end: u32) -> u32
+    ensures { result ≡ next_place tokens.now end }
+{
+    match tokens {
+        [token, ..] => token.at,
+        [] => end,
+    }
+}
+
+/// What the parser says, or a fault that stands before it.
+fn answer(
+    alloc: Global,
+    before: Option<SqlFault>,
+    tokens: &[Token],
+    end: u32,
+) -> Result<Select, SqlFault>
+    ensures { IsOutcome result (outcome before (parse_at tokens.now) end) }
+{
+    match parse(alloc, tokens) {
+        Ok(select) => match before {
+            Some(fault) => Err(fault),
+            None => Ok(select),
+        },
+        Err(Stop::Unexpected(rest)) => {
+            let at = place_of_next(rest, end);
+            Err(sooner_fault(before, SqlFault::Grammar { at }))
+        }
+        Err(Stop::TooMany(what, rest)) => {
+            let at = place_of_next(rest, end);
+            Err(sooner_fault(before, SqlFault::TooMany { what, at }))
+        }
+        Err(Stop::Memory) => Err(SqlFault::Memory),
+    }
+}
+
+/// The query that a text is. Its reading, or its first fault unless memory ran out.
+pub fn read_sql(alloc: Global, text: &[u8]) -> Result<Select, SqlFault>
+    ensures ok { IfOk result (IsReading text.now) }
+    ensures fault { IfErr result (λ fault. fault ≢ SqlFault.Memory → IsFirst text.now fault) }
+    ensures too_long { 2 ^ 16 < length text.now → result ≡ Err SqlFault.TooLong }
+{
+    if text.len() > 65_536 {
+        return Err(SqlFault::TooLong);
+    }
+    let (tokens, rest) = lex(alloc, text)?;
+    let end = text.len() as u32;
+    let before = earlier_fault(first_bad_byte(text), stuck(rest, end));
+    answer(alloc, before, tokens.as_slice(), end)
+}
+
+/// A text has one reading, or one first fault, and never both. So `read_sql` gives `Ok` and each
+/// fault exactly where they are due, unless memory runs out.
+pub fn one_outcome()
+    ensures reading { (text : List ℕ) (a b : Select) → IsReading text a → IsReading text b → a ≡ b }
+    ensures fault { (text : List ℕ) (f g : SqlFault) → IsFirst text f → IsFirst text g → f ≡ g }
+    ensures either { (text : List ℕ) (select : Select) (f : SqlFault) →
+        IsReading text select → IsFirst text f → ⊥ }
+    ensures too_long { (text : List ℕ) → IsFirst text SqlFault.TooLong ↔ (2 ^ 16 < length text) }
+{}
