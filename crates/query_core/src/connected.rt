@@ -39,7 +39,8 @@ pub fn reached(links: &[Link], set: u32, from: u32) -> u32
 
 /// A table of the set that is not reached yet, next to one that is.
 fn next(links: &[Link], set: u32, found: u32) -> Option<u32>
-    ensures { MatchOption result (IsClosed links.now set found) (λ t. (bit found t ≡ 0) × IsLead links.now found set t) }
+    ensures { MatchOption result (IsClosed links.now set found)
+        (λ t. (bit found t ≡ 0) × IsLead links.now found set t) }
 {
     lead(links, found, difference(set, found))
 }

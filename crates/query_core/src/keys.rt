@@ -24,7 +24,9 @@ impl Key {
 
     /// The group that a key names.
     pub fn parts(self) -> Option<KeyParts>
-        ensures { MatchOption result ((p : KeyParts) → IsInRange p → key_number p ≡ self.0 → ⊥) (λ p. IsInRange p × (key_number p ≡ self.0)) }
+        ensures { MatchOption result
+            ((p : KeyParts) → IsInRange p → key_number p ≡ self.0 → ⊥)
+            (λ p. IsInRange p × (key_number p ≡ self.0)) }
     {
         match self.0 {
             0..10 => Some(KeyParts::Get(self.0)),
