@@ -1,0 +1,72 @@
+-- A column that a reference means is there.
+use Rattle.std.proofs.Common.{◌≡◌, ℕ, ◌+◌, ◌≤◌, ◌==◌, Bool, true, false, cond, List, [], ◌∷◌, length, position, nat_lt, Option, Some, None, option_map, option_to_list, Ok, refl, arith}
+use Rattle.std.specs.List.{list_all, position_or_len}
+use Rattle.std.proofs.lemmas.Bool.{eqb-true, eq-eqb}
+use Rattle.std.proofs.lemmas.Bool.Decides.{nat_tests}
+use Rattle.std.specs.Str.{bytes_eq}
+use Rattle.query_core.specs.declared.catalog.ColumnInfo.{ColumnInfo}
+use Rattle.sql_reader.specs.declared.syntax.ColRef.{ColRef}
+use Rattle.sql_bind.specs.declared.columns.Column.{Column}
+use Rattle.sql_bind.specs.Scope.{FromTable}
+use Rattle.sql_bind.specs.Columns.{column, candidates, column_of, only_one, place_in, belongs_to}
+use Rattle.sql_bind.proofs.Truths.{all_both, all_weaker, both, both_true}
+
+-- the column is one of the tables', which begin at this place of FROM
+abbrev pub has_column : ℕ → List FromTable → Column → Bool
+has_column base [] c = false
+has_column base (t ∷ ts) c = cond (c.table == base) (nat_lt c.place (length t.info.columns)) (has_column (base + 1) ts c)
+
+from_case : (base : ℕ) (c : Column) (found rest : Bool) (b : Bool) → (c.table == base) ≡ b → cond b found rest ≡ true → (rest ≡ true → base + 1 ≤ c.table) → base ≤ c.table
+from_case base c found rest true is e later = omega (arith, eqb-true c.table base is)
+from_case base c found rest false is e later = omega (arith, later e)
+
+pub from_base : (base : ℕ) (ts : List FromTable) (c : Column) → has_column base ts c ≡ true → base ≤ c.table
+from_base base [] c e = absurd cc
+from_base base (t ∷ ts) c e = from_case base c (nat_lt c.place (length t.info.columns)) (has_column (base + 1) ts c) (c.table == base) refl e (from_base (base + 1) ts c)
+
+pub differs : (a b : ℕ) → b + 1 ≤ a → (a == b) ≡ false
+differs a b above = grind (arith, nat_tests)
+
+-- a column of a later table
+pub later : (base : ℕ) (t : FromTable) (ts : List FromTable) (c : Column) → has_column (base + 1) ts c ≡ true → has_column base (t ∷ ts) c ≡ true
+later base t ts c e = rw (differs c.table base (from_base (base + 1) ts c e)) e
+
+-- a column of the first table
+pub here : (base : ℕ) (t : FromTable) (ts : List FromTable) (place : ℕ) → nat_lt place (length t.info.columns) ≡ true → has_column base (t ∷ ts) (column base place) ≡ true
+here base t ts place e = rw (eq-eqb base base refl) e
+
+some_if : {A : Type 0} (b : Bool) (found : Option A) (x : A) → cond b found None ≡ Some x → (b ≡ true) × (found ≡ Some x)
+some_if true found x e = (refl, e)
+some_if false found x e = absurd cc
+
+some_is : {A : Type 0} (x y : A) → Some x ≡ Some y → x ≡ y
+some_is x y e = cc
+
+place_known : (test : ColumnInfo → Bool) (columns : List ColumnInfo) (i : ℕ) → position test columns ≡ Some i → nat_lt i (length columns) ≡ true
+place_known test columns i e =
+    let found = some_if (nat_lt (position_or_len test columns) (length columns)) (Some (position_or_len test columns)) i e in
+    rw (← some_is (position_or_len test columns) i found.1) found.0
+
+in_known : (reference : ColRef) (t : FromTable) (place : ℕ) → place_in reference t ≡ Some place → nat_lt place (length t.info.columns) ≡ true
+in_known reference t place e =
+    place_known (λ c. bytes_eq c.name reference.name) t.info.columns place (some_if (belongs_to reference.table t.alias) (position (λ c. bytes_eq c.name reference.name) t.info.columns) place e).1
+
+first_known : (reference : ColRef) (base : ℕ) (t : FromTable) (ts : List FromTable) (found : Option ℕ) → place_in reference t ≡ found
+    → list_all (has_column base (t ∷ ts)) (option_to_list (option_map (column base) found)) ≡ true
+first_known reference base t ts None e = refl
+first_known reference base t ts (Some place) e = both (has_column base (t ∷ ts) (column base place)) true (here base t ts place (in_known reference t place e)) refl
+
+all_known : (reference : ColRef) (base : ℕ) (ts : List FromTable) → list_all (has_column base ts) (candidates reference base ts) ≡ true
+all_known reference base [] = refl
+all_known reference base (t ∷ ts) =
+    all_both (has_column base (t ∷ ts)) (option_to_list (option_map (column base) (place_in reference t))) (candidates reference (base + 1) ts)
+    (first_known reference base t ts (place_in reference t) refl)
+    (all_weaker (has_column (base + 1) ts) (has_column base (t ∷ ts)) (candidates reference (base + 1) ts) (later base t ts) (all_known reference (base + 1) ts))
+
+one_passes : (test : Column → Bool) (at : ℕ) (cs : List Column) (c : Column) → only_one at cs ≡ Ok c → list_all test cs ≡ true → test c ≡ true
+one_passes test at [] c e all = absurd cc
+one_passes test at (d ∷ []) c e all = let same : d ≡ c = cc in rw (← same) (both_true (test d) true all).0
+one_passes test at (d ∷ other ∷ ds) c e all = absurd cc
+
+pub column_there : (scope : List FromTable) (reference : ColRef) (c : Column) → column_of scope reference ≡ Ok c → has_column 0 scope c ≡ true
+column_there scope reference c e = one_passes (has_column 0 scope) reference.at (candidates reference 0 scope) c e (all_known reference 0 scope)

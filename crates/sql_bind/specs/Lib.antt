@@ -1,0 +1,14 @@
+pub mod Steps
+pub mod Scope
+pub mod Columns
+pub mod SelectList
+pub mod Conditions
+pub mod SortKeys
+pub mod Parts
+pub mod Used
+pub mod Numbers
+pub mod Grouping
+pub mod Query
+pub mod Binding
+pub mod Readable
+pub mod Meaning

@@ -1,0 +1,78 @@
+//! Binding: a select and a catalogue give a query, or the first fault.
+ghost use Rattle.std.specs.Prelude.{◌≡◌, ◌≤◌, Ok, IfOk, length};
+ghost use Rattle.catalog_json.specs.Catalog.{IsCatalog};
+ghost use Rattle.query_core.specs.Results.{AreOptions};
+ghost use Rattle.sql_bind.specs.Steps.{Gives};
+ghost use Rattle.sql_bind.specs.Used.{used_by as used_columns};
+ghost use Rattle.sql_bind.specs.Readable.{IsReadable};
+ghost use Rattle.sql_bind.specs.Binding.{binding, IsQueryOf, Binds};
+
+use crate::fault::BindFault;
+use crate::grouping::{is_grouped, judge};
+use crate::order::{group_of, order_of};
+use crate::parts::{Parts, parts_of};
+use crate::query::{aggs_of, items_of, outputs_of, preds_of, tables_of};
+use crate::used::{Used, used_by};
+use query_core::{Catalog, Options, Query, links_of};
+use sql_reader::Select;
+use std::alloc::{AllocError, Global};
+
+/// The query of these parts.
+fn query_of(
+    alloc: Global,
+    select: &Select,
+    catalog: &Catalog,
+    parts: &Parts<'_>,
+    used: &[Used<'_>],
+    options: Options,
+) -> Result<Query, AllocError>
+    requires readable { IsReadable select.now }
+    requires catalogue { IsCatalog catalog.now }
+    requires options { AreOptions options }
+    requires bound { binding select.now catalog.now ≡ Ok parts.now }
+    requires used { used.now ≡ used_columns parts.now }
+    ensures { IfOk result (IsQueryOf parts.now catalog.now options) }
+{
+    let tables = tables_of(alloc, used, parts.scope.as_slice())?;
+    let items = items_of(alloc, used)?;
+    let preds = preds_of(alloc, used, parts.compared.as_slice())?;
+    let links = links_of(alloc, tables.as_slice(), items.as_slice(), preds.as_slice())?;
+    let group_by = group_of(alloc, used, parts.group.as_slice())?;
+    let aggs = aggs_of(alloc, used, parts.chosen.as_slice())?;
+    let output = outputs_of(alloc, used, parts.chosen.as_slice())?;
+    let order = order_of(alloc, used, parts.keys.as_slice())?;
+    Ok(Query {
+        segments: catalog.segments,
+        tables,
+        items,
+        preds,
+        links,
+        grouped: is_grouped(parts),
+        group_by,
+        aggs,
+        output,
+        order,
+        options,
+    })
+}
+
+/// Binds a query that was read to a catalogue that was read. Places in faults are offsets in the
+/// query's text.
+pub fn bind(
+    alloc: Global,
+    select: &Select,
+    catalog: &Catalog,
+    options: Options,
+) -> Result<Query, BindFault>
+    requires readable { IsReadable select.now }
+    requires catalogue { IsCatalog catalog.now }
+    requires options { AreOptions options }
+
+    // The query that the names stand for, or the first fault.
+    ensures { Binds select.now catalog.now options result }
+{
+    let parts = parts_of(alloc, select, catalog)?;
+    let used = used_by(alloc, &parts)?;
+    judge(&parts, &used)?;
+    Ok(query_of(alloc, select, catalog, &parts, &used, options)?)
+}

@@ -1,0 +1,123 @@
+//! Which column of which table a reference means.
+ghost use Rattle.std.specs.Prelude.{◌≡◌, Option, ◌<◌, ◌^◌, ◌+◌, ◌≤◌, length, position, IfSome, IfOk};
+ghost use Rattle.std.specs.List.{list_any, AllByRecursion};
+ghost use Rattle.std.specs.Str.{bytes_eq};
+ghost use Rattle.sql_bind.specs.Steps.{Gives};
+ghost use Rattle.sql_bind.specs.Scope.{FromTable};
+ghost use Rattle.sql_bind.specs.Columns.{belongs_to as belongs, place_in as the_place, candidates as all_candidates, only_one as the_only, column_of as the_column, columns_of as the_columns, is_same, is_among as among};
+
+use crate::fault::BindFault;
+use crate::scope::Source;
+use orca_base::{List, Text};
+use query_core::ColumnInfo;
+use sql_reader::ColRef;
+use std::alloc::{AllocError, Global};
+
+/// A column of the catalogue, of one of the tables of FROM.
+#[derive(Clone, Copy, Debug, PartialEq, Eq)]
+pub struct Column {
+    /// The place of its table in FROM.
+    pub table: usize,
+    /// Its place among the table's columns.
+    pub place: usize,
+}
+
+pub fn same(a: Column, b: Column) -> bool
+    ensures { result ≡ is_same a b }
+{
+    a.table == b.table && a.place == b.place
+}
+
+pub fn is_among(columns: &[Column], column: Column) -> bool
+    ensures { result ≡ among columns.now column }
+{
+    columns.iter().any(|other| same(column, *other))
+}
+
+/// Whether the part before the point, if any, is the alias.
+fn belongs_to(table: &Option<Text>, alias: &Text) -> bool
+    ensures { result ≡ belongs table.now alias.now }
+{
+    match table {
+        Some(name) => name.as_str() == alias.as_str(),
+        None => true,
+    }
+}
+
+fn position_of(columns: &[ColumnInfo], name: &Text) -> Option<usize>
+    ensures place { result ≡ position (λ c. bytes_eq c.name name.now) columns.now }
+    ensures within { IfSome result (λ i. i < length columns.now) }
+{
+    columns
+        .iter()
+        .position(|column| column.name.as_str() == name.as_str())
+}
+
+/// The place of the column that the reference names in the table.
+fn place_in(reference: &ColRef, source: &Source<'_>) -> Option<usize>
+    ensures place { result ≡ the_place reference.now source.now }
+    ensures within { IfSome result (λ i. i < length source.now.info.columns) }
+{
+    if belongs_to(&reference.table, source.alias()) {
+        position_of(source.info().columns.as_slice(), &reference.name)
+    } else {
+        None
+    }
+}
+
+/// Each column that the reference can mean.
+fn candidates(
+    alloc: Global,
+    sources: &[Source<'_>],
+    reference: &ColRef,
+) -> Result<Vec<Column>, AllocError>
+    ensures { IfOk result (λ found. found.items ≡ all_candidates reference.now 0 sources.now) }
+{
+    let mut found = Vec::new(alloc);
+    let mut table = 0;
+    for source in sources {
+        if let Some(place) = place_in(reference, source) {
+            found.push(Column { table, place })?;
+        }
+        table += 1;
+    }
+    Ok(found)
+}
+
+fn only_one(at: u32, found: &[Column]) -> Result<Column, BindFault>
+    ensures { result ≡ the_only at found.now }
+{
+    match found {
+        [] => Err(BindFault::UnknownColumn { at }),
+        [column] => Ok(*column),
+        _ => Err(BindFault::Ambiguous { at }),
+    }
+}
+
+/// The column that a reference means.
+pub fn column_of(
+    alloc: Global,
+    sources: &[Source<'_>],
+    reference: &ColRef,
+) -> Result<Column, BindFault>
+    ensures { Gives (the_column sources.now reference.now) result }
+{
+    let found = candidates(alloc, sources, reference)?;
+    only_one(reference.at, &found)
+}
+
+/// The columns that references mean, in the order of the text.
+pub fn columns_of(
+    alloc: Global,
+    sources: &[Source<'_>],
+    references: &[ColRef],
+) -> Result<List<Column>, BindFault>
+    ensures { Gives (the_columns sources.now references.now) result }
+{
+    let mut columns = List::new(alloc);
+    for reference in references {
+        let column = column_of(alloc, sources, reference)?;
+        columns.push(column)?;
+    }
+    Ok(columns)
+}

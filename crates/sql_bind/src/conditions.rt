@@ -1,0 +1,83 @@
+//! The predicates of WHERE over columns.
+ghost use Rattle.std.specs.Prelude.{◌≡◌};
+ghost use Rattle.sql_bind.specs.Steps.{Gives};
+ghost use Rattle.sql_bind.specs.Conditions.{op_of as the_op, side_in as the_side, compared_in as the_comparison, compared_of as the_compared};
+
+use crate::columns::{Column, column_of};
+use crate::fault::BindFault;
+use crate::scope::Source;
+use orca_base::{List, Text};
+use query_core::CmpOp;
+use sql_reader::{SelOp, SelOperand, SelPred};
+use std::alloc::Global;
+
+/// The right side of a predicate.
+#[derive(Debug, Drop)]
+pub enum Side {
+    Column(Column),
+    Int(i64),
+    Str(Text),
+}
+
+/// A predicate.
+#[derive(Debug, Drop)]
+pub struct Compared {
+    pub left: Column,
+    pub op: CmpOp,
+    pub right: Side,
+}
+
+fn op_of(op: SelOp) -> CmpOp
+    ensures { result ≡ the_op op }
+{
+    match op {
+        SelOp::Eq => CmpOp::Eq,
+        SelOp::Ne => CmpOp::Ne,
+        SelOp::Lt => CmpOp::Lt,
+        SelOp::Le => CmpOp::Le,
+        SelOp::Gt => CmpOp::Gt,
+        SelOp::Ge => CmpOp::Ge,
+    }
+}
+
+fn side_in(alloc: Global, sources: &[Source<'_>], operand: &SelOperand) -> Result<Side, BindFault>
+    ensures { Gives (the_side sources.now operand.now) result }
+{
+    match operand {
+        SelOperand::Column(reference) => {
+            let column = column_of(alloc, sources, reference)?;
+            Ok(Side::Column(column))
+        }
+        SelOperand::Int(value) => Ok(Side::Int(*value)),
+        SelOperand::Str(text) => Ok(Side::Str(text.copy(alloc)?)),
+    }
+}
+
+#[tactic(auto, unfolding(crate::specs::Conditions::compared_in))]
+fn compared_in(alloc: Global, sources: &[Source<'_>], pred: &SelPred) -> Result<Compared, BindFault>
+    ensures { Gives (the_comparison sources.now pred.now) result }
+{
+    let left = column_of(alloc, sources, &pred.left)?;
+    let right = side_in(alloc, sources, &pred.right)?;
+    Ok(Compared {
+        left,
+        op: op_of(pred.op),
+        right,
+    })
+}
+
+/// The predicates in text order.
+pub fn compared_of(
+    alloc: Global,
+    sources: &[Source<'_>],
+    preds: &[SelPred],
+) -> Result<List<Compared>, BindFault>
+    ensures { Gives (the_compared sources.now preds.now) result }
+{
+    let mut compared = List::new(alloc);
+    for pred in preds {
+        let comparison = compared_in(alloc, sources, pred)?;
+        compared.push(comparison)?;
+    }
+    Ok(compared)
+}

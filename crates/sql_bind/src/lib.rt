@@ -1,0 +1,24 @@
+//! Binds a query that was read to a catalogue.
+#![tactic(auto)]
+
+mod binding;
+mod columns;
+mod conditions;
+mod fault;
+mod grouping;
+mod meaning;
+mod numbers;
+mod order;
+mod parts;
+mod query;
+mod scope;
+mod select_list;
+mod sort_keys;
+mod used;
+
+pub use binding::bind;
+pub use fault::BindFault;
+pub use meaning::one_meaning;
+
+#[cfg(test)]
+mod tests;

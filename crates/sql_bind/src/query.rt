@@ -1,0 +1,226 @@
+//! The parts of the query over numbered items.
+ghost use Rattle.std.specs.Prelude.{◌≡◌, ◌≤◌, IfOk, length, option_map, nat_le, IsTrue};
+ghost use Rattle.std.specs.List.{list_all};
+ghost use Rattle.sql_bind.specs.Numbers.{number_of as the_number};
+ghost use Rattle.sql_bind.specs.Query.{item_of as the_item, items_of as the_items, hashed_of as the_hashed, indexes_of as the_indexes, table_of as the_table, tables_from as the_tables, operand_of as the_operand, pred_of as the_pred, preds_of as the_preds, agg_of as the_agg, aggs_of as the_aggs, output_of as the_output, outputs_of as the_outputs};
+
+use crate::columns::Column;
+use crate::conditions::{Compared, Side};
+use crate::numbers::{number_of, numbers_of, target_number};
+use crate::scope::Source;
+use crate::select_list::{Chosen, What};
+use crate::sort_keys::target_of;
+use crate::used::Used;
+use orca_base::{List, Text};
+use query_core::{Agg, Item, Operand, OutItem, Placing, Pred, QueryTable};
+use std::alloc::{AllocError, Global};
+
+fn item_of(alloc: Global, used: &Used<'_>) -> Result<Item, AllocError>
+    requires { used.now.which.table ≤ 10 }
+    ensures { IfOk result (λ item. item ≡ the_item used.now) }
+{
+    Ok(Item {
+        table: used.column().table as u32,
+        name: used.info().name.copy(alloc)?,
+        ndv: used.info().ndv,
+    })
+}
+
+/// The used columns, as items.
+pub fn items_of(alloc: Global, used: &[Used<'_>]) -> Result<List<Item>, AllocError>
+    requires { IsTrue (list_all (λ u. nat_le u.which.table 10) used.now) }
+    ensures { IfOk result (λ items. items ≡ the_items used.now) }
+{
+    let mut items = List::new(alloc);
+    for column in used {
+        let item = item_of(alloc, column)?;
+        items.push(item)?;
+    }
+    Ok(items)
+}
+
+fn hashed_of(
+    alloc: Global,
+    used: &[Used<'_>],
+    table: usize,
+    placing: &Placing,
+) -> Result<Option<List<u32>>, AllocError>
+    requires { length used.now ≤ 60 }
+    ensures { IfOk result (λ hashed. hashed ≡ the_hashed used.now table placing.now) }
+{
+    match placing {
+        Placing::Hashed(places) => Ok(Some(numbers_of(alloc, used, table, places.as_slice())?)),
+        Placing::Random => Ok(None),
+    }
+}
+
+fn indexes_of(
+    alloc: Global,
+    used: &[Used<'_>],
+    table: usize,
+    indexes: &[List<u32>],
+) -> Result<List<List<u32>>, AllocError>
+    requires { length used.now ≤ 60 }
+    ensures { IfOk result (λ numbered. numbered ≡ the_indexes used.now table indexes.now) }
+{
+    let mut numbered = List::new(alloc);
+    for index in indexes {
+        let numbers = numbers_of(alloc, used, table, index.as_slice())?;
+        numbered.push(numbers)?;
+    }
+    Ok(numbered)
+}
+
+fn table_of(
+    alloc: Global,
+    used: &[Used<'_>],
+    table: usize,
+    source: &Source<'_>,
+) -> Result<QueryTable, AllocError>
+    requires { length used.now ≤ 60 }
+    ensures { IfOk result (λ made. made ≡ the_table used.now table source.now) }
+{
+    let info = source.info();
+    Ok(QueryTable {
+        alias: source.alias().copy(alloc)?,
+        rows: info.rows,
+        hashed: hashed_of(alloc, used, table, &info.placing)?,
+        indexes: indexes_of(alloc, used, table, info.indexes.as_slice())?,
+    })
+}
+
+/// The tables of FROM.
+pub fn tables_of(
+    alloc: Global,
+    used: &[Used<'_>],
+    sources: &[Source<'_>],
+) -> Result<List<QueryTable>, AllocError>
+    requires { length used.now ≤ 60 }
+    ensures { IfOk result (λ tables. tables ≡ the_tables used.now 0 sources.now) }
+{
+    let mut tables = List::new(alloc);
+    let mut table = 0;
+    for source in sources {
+        let made = table_of(alloc, used, table, source)?;
+        tables.push(made)?;
+        table += 1;
+    }
+    Ok(tables)
+}
+
+fn operand_of(alloc: Global, used: &[Used<'_>], side: &Side) -> Result<Operand, AllocError>
+    requires { length used.now ≤ 60 }
+    ensures { IfOk result (λ operand. operand ≡ the_operand used.now side.now) }
+{
+    match side {
+        Side::Column(column) => Ok(Operand::Item(number_of(used, *column))),
+        Side::Int(value) => Ok(Operand::Int(*value)),
+        Side::Str(text) => Ok(Operand::Str(text.copy(alloc)?)),
+    }
+}
+
+fn pred_of(alloc: Global, used: &[Used<'_>], compared: &Compared) -> Result<Pred, AllocError>
+    requires { length used.now ≤ 60 }
+    ensures { IfOk result (λ pred. pred ≡ the_pred used.now compared.now) }
+{
+    Ok(Pred {
+        left: number_of(used, compared.left),
+        op: compared.op,
+        right: operand_of(alloc, used, &compared.right)?,
+    })
+}
+
+/// The predicates.
+pub fn preds_of(
+    alloc: Global,
+    used: &[Used<'_>],
+    compared: &[Compared],
+) -> Result<List<Pred>, AllocError>
+    requires { length used.now ≤ 60 }
+    ensures { IfOk result (λ preds. preds ≡ the_preds used.now compared.now) }
+{
+    let mut preds = List::new(alloc);
+    for comparison in compared {
+        let pred = pred_of(alloc, used, comparison)?;
+        preds.push(pred)?;
+    }
+    Ok(preds)
+}
+
+fn name_of(alloc: Global, name: &Option<Text>) -> Result<Option<Text>, AllocError>
+    ensures { IfOk result (λ copied. copied ≡ name.now) }
+{
+    match name {
+        Some(text) => Ok(Some(text.copy(alloc)?)),
+        None => Ok(None),
+    }
+}
+
+fn argument_of(used: &[Used<'_>], arg: Option<Column>) -> Option<u32>
+    requires { length used.now ≤ 60 }
+    ensures { result ≡ option_map (the_number used.now) arg }
+{
+    match arg {
+        Some(column) => Some(number_of(used, column)),
+        None => None,
+    }
+}
+
+fn agg_of(alloc: Global, used: &[Used<'_>], chosen: &Chosen) -> Result<Option<Agg>, AllocError>
+    requires { length used.now ≤ 60 }
+    ensures { IfOk result (λ agg. agg ≡ the_agg used.now chosen.now) }
+{
+    match chosen.what {
+        What::Column { at: _, column: _ } => Ok(None),
+        What::Aggregate {
+            number: _,
+            func,
+            arg,
+        } => Ok(Some(Agg {
+            func,
+            arg: argument_of(used, arg),
+            name: name_of(alloc, &chosen.name)?,
+        })),
+    }
+}
+
+/// The aggregates in text order.
+pub fn aggs_of(alloc: Global, used: &[Used<'_>], chosen: &[Chosen]) -> Result<List<Agg>, AllocError>
+    requires { length used.now ≤ 60 }
+    ensures { IfOk result (λ aggs. aggs ≡ the_aggs used.now chosen.now) }
+{
+    let mut aggs = List::new(alloc);
+    for element in chosen {
+        if let Some(agg) = agg_of(alloc, used, element)? {
+            aggs.push(agg)?;
+        }
+    }
+    Ok(aggs)
+}
+
+fn output_of(alloc: Global, used: &[Used<'_>], chosen: &Chosen) -> Result<OutItem, AllocError>
+    requires { length used.now ≤ 60 }
+    ensures { IfOk result (λ output. output ≡ the_output used.now chosen.now) }
+{
+    Ok(OutItem {
+        item: target_number(used, target_of(chosen.what)),
+        name: name_of(alloc, &chosen.name)?,
+    })
+}
+
+/// The output in text order.
+pub fn outputs_of(
+    alloc: Global,
+    used: &[Used<'_>],
+    chosen: &[Chosen],
+) -> Result<List<OutItem>, AllocError>
+    requires { length used.now ≤ 60 }
+    ensures { IfOk result (λ outputs. outputs ≡ the_outputs used.now chosen.now) }
+{
+    let mut outputs = List::new(alloc);
+    for element in chosen {
+        let output = output_of(alloc, used, element)?;
+        outputs.push(output)?;
+    }
+    Ok(outputs)
+}

@@ -1,0 +1,183 @@
+//! The select list: plain columns, and aggregates, which are numbered from 0 in text order.
+ghost use Rattle.std.specs.Prelude.{◌≡◌, ◌<◌, ◌≤◌, length};
+ghost use Rattle.sql_bind.specs.Steps.{Gives};
+ghost use Rattle.sql_bind.specs.SelectList.{function_of as the_function, is_aggregate as is_an_aggregate, aggregates as all_aggregates, call_in as the_call, what_in as the_what, is_called as has_name, any_called, named_as as named_so, chosen_in as chosen_of_item, chosen_of as the_chosen};
+
+use crate::columns::{Column, column_of};
+use crate::fault::BindFault;
+use crate::scope::Source;
+use orca_base::{List, Text};
+use query_core::AggFunc;
+use sql_reader::{ColRef, SelExpr, SelFunc, SelItem};
+use std::alloc::Global;
+
+/// What an element of the select list is.
+#[derive(Clone, Copy, Debug, PartialEq, Eq)]
+pub enum What {
+    /// A column, which is written at this place.
+    Column {
+        at: u32,
+        column: Column,
+    },
+    /// The aggregate of this number.
+    Aggregate {
+        number: u8,
+        func: AggFunc,
+        arg: Option<Column>,
+    },
+}
+
+/// An element of the select list.
+#[derive(Debug, Drop)]
+pub struct Chosen {
+    pub what: What,
+    /// The output name, where one is given.
+    pub name: Option<Text>,
+}
+
+fn function_of(func: SelFunc) -> AggFunc
+    ensures { result ≡ the_function func }
+{
+    match func {
+        SelFunc::CountAll => AggFunc::CountAll,
+        SelFunc::Count => AggFunc::Count,
+        SelFunc::Sum => AggFunc::Sum,
+        SelFunc::Min => AggFunc::Min,
+        SelFunc::Max => AggFunc::Max,
+    }
+}
+
+pub fn is_aggregate(what: What) -> bool
+    ensures { result ≡ is_an_aggregate what }
+{
+    match what {
+        What::Column { .. } => false,
+        What::Aggregate { .. } => true,
+    }
+}
+
+/// How many aggregates there are.
+pub fn aggregates(chosen: &[Chosen]) -> usize
+    ensures count { result ≡ all_aggregates chosen.now }
+    ensures few { result ≤ length chosen.now }
+{
+    let mut count = 0;
+    for item in chosen {
+        if is_aggregate(item.what) {
+            count += 1;
+        }
+    }
+    count
+}
+
+fn call_in(
+    alloc: Global,
+    sources: &[Source<'_>],
+    number: u8,
+    func: AggFunc,
+    arg: &Option<ColRef>,
+) -> Result<What, BindFault>
+    ensures { Gives (the_call sources.now number func arg.now) result }
+{
+    match arg {
+        None => Ok(What::Aggregate {
+            number,
+            func,
+            arg: None,
+        }),
+        Some(reference) => {
+            let column = column_of(alloc, sources, reference)?;
+            Ok(What::Aggregate {
+                number,
+                func,
+                arg: Some(column),
+            })
+        }
+    }
+}
+
+fn what_in(
+    alloc: Global,
+    sources: &[Source<'_>],
+    number: u8,
+    expr: &SelExpr,
+) -> Result<What, BindFault>
+    ensures { Gives (the_what sources.now number expr.now) result }
+{
+    match expr {
+        SelExpr::Column(reference) => {
+            let column = column_of(alloc, sources, reference)?;
+            Ok(What::Column {
+                at: reference.at,
+                column,
+            })
+        }
+        SelExpr::Agg { func, arg } => call_in(alloc, sources, number, function_of(*func), arg),
+    }
+}
+
+pub fn is_called(name: &Text, chosen: &Chosen) -> bool
+    ensures { result ≡ has_name name.now chosen.now }
+{
+    match &chosen.name {
+        Some(other) => other.as_str() == name.as_str(),
+        None => false,
+    }
+}
+
+#[tactic(auto, unfolding(crate::specs::SelectList::any_called))]
+fn is_taken(before: &[Chosen], name: &Text) -> bool
+    ensures { result ≡ any_called name.now before.now }
+{
+    before.iter().any(|chosen| is_called(name, chosen))
+}
+
+fn named_as(
+    alloc: Global,
+    before: &[Chosen],
+    item: &SelItem,
+    what: What,
+) -> Result<Chosen, BindFault>
+    ensures { Gives (named_so before.now item.now.name_at item.now.name what) result }
+{
+    match &item.name {
+        None => Ok(Chosen { what, name: None }),
+        Some(name) if is_taken(before, name) => Err(BindFault::TwiceAlias { at: item.name_at }),
+        Some(name) => Ok(Chosen {
+            what,
+            name: Some(name.copy(alloc)?),
+        }),
+    }
+}
+
+#[tactic(auto, unfolding(crate::specs::SelectList::chosen_in))]
+fn chosen_in(
+    alloc: Global,
+    sources: &[Source<'_>],
+    before: &List<Chosen>,
+    item: &SelItem,
+) -> Result<Chosen, BindFault>
+    requires { length before.now ≤ 60 }
+    ensures { Gives (chosen_of_item sources.now before.now item.now) result }
+{
+    let number = aggregates(before.as_slice()) as u8;
+    let what = what_in(alloc, sources, number, &item.expr)?;
+    named_as(alloc, before.as_slice(), item, what)
+}
+
+/// The select list in text order.
+pub fn chosen_of(
+    alloc: Global,
+    sources: &[Source<'_>],
+    items: &[SelItem],
+) -> Result<List<Chosen>, BindFault>
+    requires { length items.now ≤ 60 }
+    ensures { Gives (the_chosen sources.now items.now) result }
+{
+    let mut chosen = List::new(alloc);
+    for item in items {
+        let element = chosen_in(alloc, sources, &chosen, item)?;
+        chosen.push(element)?;
+    }
+    Ok(chosen)
+}
