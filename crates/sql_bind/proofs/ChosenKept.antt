@@ -24,7 +24,7 @@ use Rattle.sql_bind.specs.Scope.{FromTable}
 use Rattle.sql_bind.specs.Columns.{column_of}
 use Rattle.sql_bind.specs.SelectList.{aggregates, any_called, call, call_in, chosen_in, chosen_of, function_of, has_name, is_aggregate, is_called, named_as, what_in}
 use Rattle.sql_bind.specs.Used.{in_what, named_by_chosen}
-use Rattle.sql_bind.specs.Readable.{has_its_argument, is_expr, is_item, is_named}
+use Rattle.sql_reader.specs.Readable.{has_its_argument, is_expr, is_item, is_named}
 use Rattle.sql_bind.proofs.Truths.{all_both, all_push, both, both_true, neither}
 use Rattle.sql_bind.proofs.Bound.{bind_ok, done, each_keeps, not_met, ok_is, seen_ok}
 use Rattle.sql_bind.proofs.Resolving.{column_there, has_column}

@@ -16,3 +16,4 @@ pub mod Named
 pub mod Valid
 pub mod Outcome
 pub mod MeaningLemmas
+pub mod Told

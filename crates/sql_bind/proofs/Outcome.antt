@@ -15,7 +15,7 @@ use Rattle.sql_bind.specs.SelectList.{chosen_in}
 use Rattle.sql_bind.specs.Parts.{parts_of}
 use Rattle.sql_bind.specs.Used.{UsedColumn, used_by, used_from, wanted_by}
 use Rattle.sql_bind.specs.Grouping.{judged}
-use Rattle.sql_bind.specs.Readable.{IsReadable}
+use Rattle.sql_reader.specs.Readable.{IsReadable}
 use Rattle.sql_bind.specs.Binding.{binding}
 use Rattle.sql_bind.proofs.Truths.{both_true}
 use Rattle.sql_bind.proofs.Bound.{each_counts}

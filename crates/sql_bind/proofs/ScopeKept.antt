@@ -17,7 +17,7 @@ use Rattle.sql_bind.specs.declared.fault.BindFault.TheVariants.{TwiceAlias}
 use Rattle.sql_bind.specs.Scope.{FromTable, alias_at, alias_of, aliased, from_table, has_alias, info_of, scope_of}
 use Rattle.sql_bind.specs.Used.{UsedColumn}
 use Rattle.sql_bind.specs.Query.{tables_from}
-use Rattle.sql_bind.specs.Readable.{is_named, is_table}
+use Rattle.sql_reader.specs.Readable.{is_named, is_table}
 use Rattle.sql_bind.proofs.Truths.{all_push, both, both_true, neither, was_false}
 use Rattle.sql_bind.proofs.Bound.{each_counts, each_keeps, not_met}
 

@@ -26,7 +26,7 @@ use Rattle.sql_bind.specs.Used.{UsedColumn, listed_from, in_compared, named_by_c
 use Rattle.sql_bind.specs.Numbers.{number_of}
 use Rattle.sql_bind.specs.Query.{aggs_of, distinct_by, group_numbers, items_of, item_of, itself, key_item, key_of, order_of, outputs_of, output_of, preds_of, pred_of, tables_from}
 use Rattle.sql_bind.specs.Grouping.{is_grouped, judged, loose_chosen, loose_keys, loose_places}
-use Rattle.sql_bind.specs.Readable.{IsReadable}
+use Rattle.sql_reader.specs.Readable.{IsReadable}
 use Rattle.sql_bind.specs.Binding.{binding}
 use Rattle.sql_bind.proofs.Truths.{all_pass, both, both_true, right}
 use Rattle.sql_bind.proofs.Bound.{bind_ok, each_counts, each_keeps}

@@ -10,5 +10,4 @@ pub mod Numbers
 pub mod Grouping
 pub mod Query
 pub mod Binding
-pub mod Readable
 pub mod Meaning

@@ -4,7 +4,7 @@ ghost use Rattle.catalog_json.specs.Catalog.{IsCatalog};
 ghost use Rattle.query_core.specs.Results.{AreOptions};
 ghost use Rattle.sql_bind.specs.Steps.{Gives};
 ghost use Rattle.sql_bind.specs.Used.{used_by as used_columns};
-ghost use Rattle.sql_bind.specs.Readable.{IsReadable};
+ghost use Rattle.sql_reader.specs.Readable.{IsReadable};
 ghost use Rattle.sql_bind.specs.Binding.{binding, IsQueryOf, Binds};
 
 use crate::fault::BindFault;

@@ -6,6 +6,7 @@ mod columns;
 mod conditions;
 mod fault;
 mod grouping;
+mod laws;
 mod meaning;
 mod numbers;
 mod order;
@@ -18,6 +19,7 @@ mod used;
 
 pub use binding::bind;
 pub use fault::BindFault;
+pub use laws::faults_are_told;
 pub use meaning::one_meaning;
 
 #[cfg(test)]

@@ -1,88 +1,12 @@
-ghost use Rattle.std.specs.Prelude.{◌≡◌, IsTrue, IfSome};
-ghost use Rattle.std.specs.List.{list_all};
-ghost use Rattle.orca_base.specs.Name.{has_name_form};
-ghost use Rattle.sql_bind.specs.Readable.{IsReadable, has_its_argument as takes, is_expr as expr_is, is_item as item_is, is_named as named_is, is_table as table_is};
-
 use crate::{BindFault, bind};
 use catalog_json::read_catalog;
-use orca_base::{Text, is_name};
 use query_core::{Catalog, Operand, Options, Query, RootDist};
-use sql_reader::{ColRef, FromItem, SelExpr, SelFunc, SelItem, Select, SqlFault, read_sql};
+use sql_reader::{SqlFault, read_sql};
 use std::alloc::{AllocError, Global};
 use std::test::Fail;
 
 const TWO_TABLES: &str =
     "{\"version\":1,\"segments\":4,\"tables\":[{\"name\":\"T1\",\"rows\":1000,\"distribution\":[\"a\"],\"columns\":[{\"name\":\"a\",\"ndv\":1000}]},{\"name\":\"T2\",\"rows\":1000,\"distribution\":[\"a\"],\"columns\":[{\"name\":\"a\",\"ndv\":1000},{\"name\":\"b\",\"ndv\":500}]}]}";
-
-// ---- what a select that was read has, tested
-
-fn takes_its_argument(func: SelFunc, arg: &Option<ColRef>) -> bool
-    ensures { result ≡ takes func arg.now }
-{
-    match func {
-        SelFunc::CountAll => arg.is_none(),
-        SelFunc::Count => arg.is_some(),
-        SelFunc::Sum => arg.is_some(),
-        SelFunc::Min => arg.is_some(),
-        SelFunc::Max => arg.is_some(),
-    }
-}
-
-fn is_expr(expr: &SelExpr) -> bool
-    ensures { result ≡ expr_is expr.now }
-{
-    match expr {
-        SelExpr::Column(_) => true,
-        SelExpr::Agg { func, arg } => takes_its_argument(*func, arg),
-    }
-}
-
-fn is_named(name: &Option<Text>) -> bool
-    ensures { result ≡ named_is name.now }
-{
-    match name {
-        Some(text) => is_name(text.as_str()),
-        None => true,
-    }
-}
-
-fn is_item(item: &SelItem) -> bool
-    ensures { result ≡ item_is item.now }
-{
-    is_expr(&item.expr) && is_named(&item.name)
-}
-
-fn is_table(item: &FromItem) -> bool
-    ensures { result ≡ table_is item.now }
-{
-    is_name(item.table.as_str()) && is_named(&item.alias)
-}
-
-fn are_items(items: &[SelItem]) -> bool
-    ensures { result ≡ list_all item_is items.now }
-{
-    items.iter().all(|item| is_item(item))
-}
-
-fn are_tables(tables: &[FromItem]) -> bool
-    ensures { result ≡ list_all table_is tables.now }
-{
-    tables.iter().all(|item| is_table(item))
-}
-
-fn is_readable(select: &Select) -> bool
-    ensures { IsTrue result → IsReadable select.now }
-{
-    1 <= select.items.len()
-        && select.items.len() <= 60
-        && are_items(select.items.as_slice())
-        && 1 <= select.from.len()
-        && select.from.len() <= 10
-        && are_tables(select.from.as_slice())
-        && select.preds.len() <= 40
-        && select.group_by.len() <= 8
-        && select.order_by.len() <= 8
-}
 
 // ---- the line that is told
 
@@ -157,15 +81,10 @@ fn said(alloc: Global, catalog: &str, text: &str) -> Result<String, AllocError> 
     };
     match read_sql(alloc, text.as_bytes()) {
         Err(fault) => told_of_text(alloc, fault),
-        Ok(select) => {
-            if !is_readable(&select) {
-                return String::from_str(alloc, "not readable");
-            }
-            match bind(alloc, &select, &catalog, PLAIN) {
-                Ok(query) => shown(alloc, &query),
-                Err(fault) => told(alloc, fault),
-            }
-        }
+        Ok(select) => match bind(alloc, &select, &catalog, PLAIN) {
+            Ok(query) => shown(alloc, &query),
+            Err(fault) => told(alloc, fault),
+        },
     }
 }
 

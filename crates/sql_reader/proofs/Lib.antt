@@ -27,6 +27,7 @@ pub mod Places
 pub mod EarlierFault
 pub mod Outcomes
 pub mod OneOutcome
+pub mod SomeOutcome
 pub mod Doubled
 pub mod Printable
 pub mod GoodParts
@@ -39,3 +40,4 @@ pub mod DecimalTexts
 pub mod CanonicalWords
 pub mod CanonicalTexts
 pub mod ReadsAgain
+pub mod ReadableQueries

@@ -78,7 +78,8 @@ same_count limits.Predicates s t e = let k = ap (λ (x : Select). length x.preds
 same_count limits.GroupBy s t e = let k = ap (λ (x : Select). length x.group_by) e in sym (length-map t.group_by _) ∙ k ∙ length-map s.group_by _
 same_count limits.OrderBy s t e = let k = ap (λ (x : Select). length x.order_by) e in sym (length-map t.order_by _) ∙ k ∙ length-map s.order_by _
 
-reads_of : (text : List ℕ) (s : Select) (r : IsReading text s) → Reads r.tokens s
+-- a reading is within the limits
+pub reads_of : (text : List ℕ) (s : Select) (r : IsReading text s) → Reads r.tokens s
 reads_of text s r =
     let v = verdict r.tokens [] (length text) (length text - 0) (lexed_rise text r.tokens [] r.lexed) (omega arith) in
     subst (λ a. Verdict r.tokens [] (length text) a) (parses text s r) v

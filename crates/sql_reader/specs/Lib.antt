@@ -15,3 +15,4 @@ pub mod Faults
 pub mod Outcome
 pub mod Canonical
 pub mod Unplaced
+pub mod Readable

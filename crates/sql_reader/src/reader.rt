@@ -1,11 +1,12 @@
 //! The reader of queries.
 
-ghost use Rattle.std.specs.Prelude.{◌≡◌, ◌≢◌, ◌≤◌, ◌<◌, ◌^◌, ◌↔◌, ℕ, List, length, IfOk, IfErr};
+ghost use Rattle.std.specs.Prelude.{◌≡◌, ◌≢◌, ◌≤◌, ◌<◌, ◌^◌, ◌↔◌, ◌⊎◌, ℕ, List, length, IfOk, IfErr};
 ghost use Rattle.sql_reader.specs.declared.syntax.Select.{Select};
 ghost use Rattle.sql_reader.specs.declared.faults.SqlFault.{SqlFault};
 ghost use Rattle.sql_reader.specs.Pieces.{is_control};
 ghost use Rattle.sql_reader.specs.Reading.{parse_at};
 ghost use Rattle.sql_reader.specs.Faults.{place, IsFirst, IsReading};
+ghost use Rattle.sql_reader.specs.Readable.{IsReadable};
 ghost use Rattle.sql_reader.specs.Outcome.{bad_byte, first_bad, stuck_at, sooner, earlier, next_place, outcome, IsOutcome};
 
 use crate::clauses::parse;
@@ -135,6 +136,7 @@ fn answer(
 /// The query that a text is. Its reading, or its first fault unless memory ran out.
 pub fn read_sql(alloc: Global, text: &[u8]) -> Result<Select, SqlFault>
     ensures ok { IfOk result (IsReading text.now) }
+    ensures readable { IfOk result IsReadable }
     ensures fault { IfErr result (λ fault. fault ≢ SqlFault.Memory → IsFirst text.now fault) }
     ensures too_long { 2 ^ 16 < length text.now → result ≡ Err SqlFault.TooLong }
 {
@@ -150,6 +152,8 @@ pub fn read_sql(alloc: Global, text: &[u8]) -> Result<Select, SqlFault>
 /// A text has one reading, or one first fault, and never both. So `read_sql` gives `Ok` and each
 /// fault exactly where they are due, unless memory runs out.
 pub fn one_outcome()
+    ensures some { (text : List ℕ) → ((select : Select) × IsReading text select)
+        ⊎ ((f : SqlFault) × IsFirst text f) }
     ensures reading { (text : List ℕ) (a b : Select) → IsReading text a → IsReading text b → a ≡ b }
     ensures fault { (text : List ℕ) (f g : SqlFault) → IsFirst text f → IsFirst text g → f ≡ g }
     ensures either { (text : List ℕ) (select : Select) (f : SqlFault) →

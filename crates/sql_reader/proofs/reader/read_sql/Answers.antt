@@ -4,6 +4,7 @@ use Rattle.sql_reader.specs.Outcome.{first_bad, stuck_at, earlier, outcome, IsOu
 use Rattle.sql_reader.proofs.Places.{rest_short}
 use Rattle.sql_reader.proofs.Outcomes.{right}
 use Rattle.sql_reader.proofs.OneOutcome.{ok_right, err_right}
+use Rattle.sql_reader.proofs.ReadableQueries.{ok_readable}
 use Rattle.sql_reader.proofs.reader.read_sql.Goals as goal
 
 pub stuck-requires : goal.stuck-requires
@@ -31,3 +32,7 @@ returns-clause-fault c =
     let slice : c.as_slice.result.now ≡ tokens = search rules in
     let answered : IsOutcome c.answer.result (outcome (earlier (first_bad 0 text) (stuck_at rest (length text))) (parse_at tokens) (length text)) = rw (before, slice) at c.answer.ensures in
     err_right text tokens rest c.in_ok-tokens.ensures short c.answer.result _ answered (right text tokens rest c.in_ok-tokens.ensures short)
+
+-- a reading is readable
+pub returns-clause-readable : goal.returns-clause-readable
+returns-clause-readable c = ok_readable c.args.text.now c.answer.result (returns-clause-ok c)

@@ -19,6 +19,7 @@ has_its_argument functions.Sum arg = is_some arg
 has_its_argument functions.Min arg = is_some arg
 has_its_argument functions.Max arg = is_some arg
 
+-- a column, or a call with its argument
 abbrev pub is_expr : SelExpr → Bool
 is_expr (exprs.Column reference) = true
 is_expr (exprs.Agg func arg) = has_its_argument func arg
@@ -27,9 +28,11 @@ is_expr (exprs.Agg func arg) = has_its_argument func arg
 abbrev pub is_named : Option (List ℕ) → Bool
 is_named name = list_all has_name_form (option_to_list name)
 
+-- such an expression, under a name or none
 abbrev pub is_item : SelItem → Bool
 is_item item = is_expr item.expr && is_named item.name
 
+-- a table, under an alias or none
 abbrev pub is_table : FromItem → Bool
 is_table item = has_name_form item.table && is_named item.alias
 
