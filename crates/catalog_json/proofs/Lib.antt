@@ -7,3 +7,4 @@ pub mod Keys
 pub mod ListsKept
 pub mod Steps
 pub mod TablesKept
+pub mod Told

@@ -1,6 +1,6 @@
 -- What every catalogue that is read has: its limits, its names, and lists of its own columns.
-use Rattle.std.specs.Prelude.{ℕ, ◌≤◌, ◌==◌, ◌&&◌, List, [], ◌∷◌, length, map, Bool, true, not, nat_lt, IsTrue, ⊤}
-use Rattle.std.specs.List.{list_all, list_any, AllByRecursion}
+use Rattle.std.specs.Prelude.{ℕ, ◌≤◌, ◌==◌, List, length, map, nat_lt, IsTrue, ⊤}
+use Rattle.std.specs.List.{list_all, AllByRecursion}
 use Rattle.std.specs.Str.{bytes_eq}
 use Rattle.query_core.specs.Differ.{all_differ}
 use Rattle.query_core.specs.declared.catalog.ColumnInfo.{ColumnInfo}

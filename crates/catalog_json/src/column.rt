@@ -46,8 +46,8 @@ fn read_each_column<'v>(alloc: Global, t: usize, values: &'v [Value]) -> Result<
     ensures names { IfOk result (λ c. c.names ≡ map (λ x. x.name) c.columns) }
     ensures count { IfOk result (λ c. length c.columns ≡ length values.now) }
 {
-    let mut columns = List::new(alloc);
-    let mut names = Names::new(alloc);
+    let mut columns = List::of(Vec::with_capacity(alloc, values.len())?);
+    let mut names = Names::with_capacity(alloc, values.len())?;
     for value in values {
         let column = read_column(alloc, t, columns.as_slice(), &mut names, value)?;
         columns.push(column)?;

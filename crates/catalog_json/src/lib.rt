@@ -3,6 +3,7 @@
 
 mod column;
 mod fault;
+mod laws;
 mod listed;
 mod member;
 mod names;
@@ -11,6 +12,7 @@ mod reading;
 mod table;
 
 pub use fault::CatalogFault;
+pub use laws::faults_are_told;
 pub use reading::read_catalog;
 
 #[cfg(test)]

@@ -30,12 +30,14 @@ impl<'v> Model for Names<'v> {
 }
 
 impl<'v> Names<'v> {
-    pub fn new(alloc: Global) -> Names<'v>
-        ensures { result ≡ [] }
+    /// No names yet, and room for so many.
+    pub fn with_capacity(alloc: Global, count: usize) -> Result<Names<'v>, Fault>
+        ensures empty { IfOk result (λ names. names ≡ []) }
+        ensures memory { IfErr result (λ e. e ≡ Memory) }
     {
-        Names {
-            set: IndexSet::new(alloc),
-        }
+        Ok(Names {
+            set: IndexSet::with_capacity(alloc, count)?,
+        })
     }
 
     pub fn position(&self, name: &str) -> Option<usize>

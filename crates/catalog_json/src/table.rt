@@ -113,8 +113,8 @@ fn read_table<'v>(
 fn read_each_table(alloc: Global, values: &[Value]) -> Result<List<TableInfo>, Fault>
     ensures { Gives (each table_at [] (map view values.now)) result }
 {
-    let mut tables = List::new(alloc);
-    let mut names = Names::new(alloc);
+    let mut tables = List::of(Vec::with_capacity(alloc, values.len())?);
+    let mut names = Names::with_capacity(alloc, values.len())?;
     for value in values {
         let table = read_table(alloc, tables.as_slice(), &mut names, value)?;
         tables.push(table)?;

@@ -20,7 +20,7 @@ loop-value-preserved c =
 pub returns-in_err-column-clause-read : goal.returns-in_err-column-clause-read
 returns-in_err-column-clause-read c =
     let loop = c.loop-value in
-    let raised = err_from_is_err_and c.from_residual.result c.from_residual.ensures.1 in
+    let raised = err_from_is_err_and c.from_residual-in_err-column.result c.from_residual-in_err-column.ensures.1 in
     rw raised.1 (stops (column_at c.args.t) c.args.values.now loop.columns loop.value-index c.value-item.result _ c.in_err-column.field-0.0 raised.0 c.loop-value-test.true c.value-item.is (rw (← c.as_slice.ensures) c.in_err-column.ensures.read) loop.invariant.columns raised.2)
 
 -- no value is left

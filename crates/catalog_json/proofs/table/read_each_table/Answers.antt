@@ -19,7 +19,7 @@ loop-value-preserved c =
 pub returns-in_err-table : goal.returns-in_err-table
 returns-in_err-table c =
     let loop = c.loop-value in
-    let raised = err_from_is_err_and c.from_residual.result c.from_residual.ensures.1 in
+    let raised = err_from_is_err_and c.from_residual-in_err-table.result c.from_residual-in_err-table.ensures.1 in
     rw raised.1 (stops table_at c.args.values.now loop.tables loop.value-index c.value-item.result _ c.in_err-table.field-0.0 raised.0 c.loop-value-test.true c.value-item.is (rw (← c.as_slice.ensures) c.in_err-table.ensures.read) loop.invariant.tables raised.2)
 
 -- no value is left
