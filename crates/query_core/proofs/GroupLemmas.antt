@@ -23,7 +23,7 @@ key_one Agg Agg in_p in_g same = refl
 key_one p g in_p in_g same = absurd (omega (arith, same))
 
 -- a smaller power has the smaller exponent
-exponent_lt : (t n : ℕ) → 2 ^ t < 2 ^ n → t < n
+pub exponent_lt : (t n : ℕ) → 2 ^ t < 2 ^ n → t < n
 exponent_lt t n less = elim (cases_lt t n) [
   | inl below ↦ below
   | inr above ↦

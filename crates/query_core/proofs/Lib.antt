@@ -3,3 +3,10 @@ pub mod Reach
 pub mod GroupLemmas
 pub mod Linking
 pub mod Whole
+pub mod ExpressionLemmas
+pub mod CandidateLemmas
+pub mod Splitting
+pub mod Least
+pub mod Joins
+pub mod GroupKinds
+pub mod Unions

@@ -18,7 +18,7 @@ use Rattle.query_core.proofs.Reach.{joined_turned, Reaches-then, Reaches-turned,
 use Rattle.query_core.proofs.Linking.{joins_own, joins_back}
 
 -- a table is in a set or not
-bit_cases : (set t : ℕ) → Has set t ⊎ (bit set t ≡ 0)
+pub bit_cases : (set t : ℕ) → Has set t ⊎ (bit set t ≡ 0)
 bit_cases set t = elim (cases_eq (bit set t) 1) [
   | inl has ↦ inl has
   | inr other ↦ inr (omega (arith, other, bit-below set t))

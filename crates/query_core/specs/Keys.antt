@@ -69,6 +69,14 @@ alone q t = if has_own q t then Filter t else Get t
 abbrev pub top_of : Query → ℕ → KeyParts
 top_of q set = option_map_or (alone q) (only_of set) (Join set)
 
+-- the tables of a group that joins tables
+abbrev pub tables_of : KeyParts → ℕ
+tables_of (Get t) = 2 ^ t
+tables_of (Filter t) = 2 ^ t
+tables_of (Join set) = set
+tables_of Partial = 0
+tables_of Agg = 0
+
 -- the group that joins all tables
 abbrev pub input_of : Query → KeyParts
 input_of q = top_of q (2 ^ length q.tables - 1)

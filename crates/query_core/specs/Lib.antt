@@ -8,3 +8,7 @@ pub mod Links
 pub mod Grouping
 pub mod Results
 pub mod Keys
+pub mod Expressions
+pub mod Candidates
+pub mod ByKind
+pub mod Crossing

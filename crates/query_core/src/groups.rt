@@ -43,7 +43,7 @@ impl Query {
         requires connected { IsConnected self.now.links mask }
         ensures { Names self.now result (group_of_set self.now mask) }
     {
-        Key::make(self.joined(mask))
+        Key::make(self.top_group(mask))
     }
 
     /// The key of the whole query's group.
@@ -81,7 +81,7 @@ impl Query {
         ensures value { result ≡ input_of self.now }
         ensures known { IsGroup self.now result }
     {
-        self.joined(sets::first(self.tables.len() as u32))
+        self.top_group(sets::first(self.tables.len() as u32))
     }
 
     fn has_group(&self, group: KeyParts) -> bool
@@ -136,8 +136,8 @@ impl Query {
         }
     }
 
-    /// The group of a set of tables.
-    fn joined(&self, set: u32) -> KeyParts
+    /// The group that joins the tables of the set.
+    pub fn top_group(&self, set: u32) -> KeyParts
         ensures { result ≡ group_of_set self.now set }
     {
         match sets::only(set) {
@@ -156,7 +156,8 @@ impl Query {
         }
     }
 
-    fn group_has_item(&self, group: KeyParts, item: u32) -> bool
+    /// The same as `has_item`, of a group.
+    pub fn group_has_item(&self, group: KeyParts, item: u32) -> bool
         ensures { result ≡ holds_item self.now group item }
     {
         match group {

@@ -2,8 +2,9 @@
 #![tactic(auto)]
 
 ghost use Rattle.std.specs.Prelude.{◌≡◌, ◌<◌, ◌^◌, MatchOption};
-ghost use Rattle.query_core.specs.Keys.{key_number, IsInRange};
+ghost use Rattle.query_core.specs.Keys.{key_number, tables_of, IsInRange};
 
+use crate::sets;
 use crate::words::{Key, KeyParts};
 
 impl Key {
@@ -35,6 +36,22 @@ impl Key {
             2048 => Some(KeyParts::Partial),
             2049 => Some(KeyParts::Agg),
             _ => None,
+        }
+    }
+}
+
+impl KeyParts {
+    /// The tables that the group joins. A group of GROUP BY joins none.
+    pub fn tables(self) -> u32
+        requires { IsInRange self }
+        ensures { result ≡ tables_of self }
+    {
+        match self {
+            KeyParts::Get(table) => sets::of_one(table),
+            KeyParts::Filter(table) => sets::of_one(table),
+            KeyParts::Join(set) => set,
+            KeyParts::Partial => 0,
+            KeyParts::Agg => 0,
         }
     }
 }

@@ -2,26 +2,36 @@
 #![tactic(auto)]
 
 mod aggregate;
+mod candidates;
 mod catalog;
 pub mod connected;
+mod crossing;
+mod expression_words;
+mod expressions;
 mod groups;
 mod keys;
 mod links;
+mod next_candidate;
 mod options;
 mod output;
 mod predicate;
 mod query;
 pub mod sets;
+mod splits;
 mod table;
 mod words;
 
 pub use aggregate::{Agg, AggFunc};
+pub use candidates::{candidates_are_known, groups_are_known};
 pub use catalog::{Catalog, ColumnInfo, Placing, TableInfo};
+pub use expression_words::expressions_are_one;
+pub use expressions::{Children, ExprParts, Operator};
 pub use links::links_of;
 pub use options::{Options, RootDist};
 pub use output::{OrderKey, OutItem};
 pub use predicate::{CmpOp, Link, Operand, Pred};
 pub use query::Query;
+pub use splits::sides_are_known;
 pub use table::{Item, QueryTable};
 pub use words::{Expr, Goal, GoalParts, Key, KeyParts};
 

@@ -1,6 +1,7 @@
-//! The running example of two tables, and one of three.
+//! The running example of two tables, one of three, and one of a table with indexes.
 
 ghost use Rattle.std.specs.Prelude.{◌≡◌, IfOk};
+ghost use Rattle.query_core.specs.Keys.{IsKey};
 
 use crate::*;
 use orca_base::{List, Text};
@@ -196,5 +197,126 @@ fn a_true_link_joins_what_no_predicate_does(rt: HostRuntime) -> Result<(), Fail>
     assert!(rt; query.has_item(Key(17), 1));
     assert!(rt; !query.has_item(Key(17), 2));
     assert!(rt; !query.has_item(Key(17), 3));
+    Ok(())
+}
+
+// `SELECT T.a FROM T`, with an index on a and one on b and a
+fn one_table(alloc: Global) -> Result<Query, AllocError> {
+    let indexes = vec![in alloc;
+        List::of(vec![in alloc; 0]?),
+        List::of(vec![in alloc; 1, 0]?),
+    ]?;
+    let tables = vec![in alloc;
+        QueryTable {
+            alias: text(alloc, "T")?,
+            rows: 10,
+            hashed: None,
+            indexes: List::of(indexes)
+        },
+    ]?;
+    let items = vec![in alloc;
+        Item {
+            table: 0,
+            name: text(alloc, "a")?,
+            ndv: 10
+        },
+        Item {
+            table: 0,
+            name: text(alloc, "b")?,
+            ndv: 10
+        },
+    ]?;
+    let preds = Vec::new(alloc);
+    let links = links_of(alloc, &tables, &items, &preds)?;
+    Ok(Query {
+        segments: 4,
+        tables: List::of(tables),
+        items: List::of(items),
+        preds: List::of(preds),
+        links,
+        grouped: false,
+        group_by: List::new(alloc),
+        aggs: List::new(alloc),
+        output: List::of(vec![in alloc;
+            OutItem {
+                item: 0,
+                name: None
+            },
+        ]?),
+        order: List::new(alloc),
+        options: Options {
+            root: RootDist::One,
+            off: 0,
+        },
+    })
+}
+
+#[test]
+fn an_expression_is_one_word(rt: HostRuntime) -> Result<(), Fail> {
+    let sides = Children::Two(KeyParts::Get(0), KeyParts::Get(1));
+    let parts = ExprParts::new(KeyParts::Join(3), Operator::HashJoin, sides);
+    let word = Expr(70_594_229_968_898);
+    assert_eq!(rt; Expr::make(parts), word);
+    assert_eq!(rt; word.parts(), Some(parts));
+    assert_eq!(rt; word.key(), Key(1027));
+    assert!(rt; !word.logical());
+    assert_eq!(rt; word.children(), (Some(Key(0)), Some(Key(1))));
+    assert_eq!(rt; Expr(3).parts(), None);
+    Ok(())
+}
+
+// Whether these are the words of the expressions that the group can hold, in their order.
+fn has_words(query: &Query, key: Key, words: &[u64]) -> bool
+    requires { IsKey query.now key }
+{
+    let mut after = None;
+    for word in words {
+        let next = query.next_candidate(key, after);
+        if next != Some(Expr(*word)) {
+            return false;
+        }
+        after = next;
+    }
+    query.next_candidate(key, after).is_none()
+}
+
+// A word has the key from bit 36 on, the operator from bit 31, the index from bit 26, and the children.
+#[test]
+fn a_group_holds_its_candidates(rt: HostRuntime) -> Result<(), Fail> {
+    let query = two_tables(rt.alloc())?;
+    let joins = [
+        0x403380000000,
+        0x403400002002,
+        0x403400004001,
+        0x403480002002,
+        0x403480004001,
+        0x403500002002,
+        0x403500004001,
+        0x403580002002,
+        0x403580004001,
+    ];
+    assert_eq!(rt; query.origin(query.root()), Expr(0x403380000000));
+    assert!(rt; has_words(&query, query.root(), &joins));
+    assert!(rt; query.is_key(Key(1)));
+    assert!(rt; has_words(&query, Key(1), &[0x1080000000, 0x1100000000]));
+    let read = [0x80000000, 0x100000000, 0x180000000, 0x184000000];
+    let indexed = one_table(rt.alloc())?;
+    assert!(rt; has_words(&indexed, indexed.root(), &read));
+    Ok(())
+}
+
+#[test]
+fn equalities_cross_groups_both_ways(rt: HostRuntime) -> Result<(), Fail> {
+    let query = two_tables(rt.alloc())?;
+    assert!(rt; query.is_key(Key(0)));
+    assert!(rt; query.is_key(Key(1)));
+    assert_eq!(rt; query.crossing(Key(0), Key(1), 0), Some((0, 1)));
+    assert_eq!(rt; query.crossing(Key(1), Key(0), 0), Some((1, 0)));
+    assert_eq!(rt; query.crossing(Key(0), Key(0), 0), None);
+    let query = three_tables(rt.alloc())?;
+    let (filtered, last) = (KeyParts::Filter(1), KeyParts::Get(2));
+    assert_eq!(rt; query.crossing_groups(filtered, last, 0), None);
+    assert_eq!(rt; query.crossing_groups(filtered, last, 1), Some((1, 2)));
+    assert_eq!(rt; query.crossing_groups(filtered, last, 2), None);
     Ok(())
 }

@@ -5,11 +5,11 @@ use Rattle.query_core.proofs.query.Query.top.Goals as goal
 
 pub make-requires : goal.make-requires
 make-requires c =
-    subst IsInRange (sym c.joined.ensures)
+    subst IsInRange (sym c.top_group.ensures)
     (group_in_range c.args.self.now _ (top_group c.args.self.now c.args.mask c.requires.some c.requires.of_tables c.requires.connected))
 
 pub returns : goal.returns
 returns c = record {
-  number = c.make.ensures.number ∙ ap key_number c.joined.ensures;
+  number = c.make.ensures.number ∙ ap key_number c.top_group.ensures;
   known = top_group c.args.self.now c.args.mask c.requires.some c.requires.of_tables c.requires.connected;
 }

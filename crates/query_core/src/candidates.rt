@@ -1,0 +1,61 @@
+//! The expressions that a group can hold. No call here takes memory.
+#![tactic(auto)]
+
+ghost use Rattle.std.specs.Prelude.{◌≡◌, ℕ, ◌<◌, ◌^◌, length};
+ghost use Rattle.query_core.specs.declared.expressions.ExprParts.{ExprParts};
+ghost use Rattle.query_core.specs.declared.query.Query.{Query};
+ghost use Rattle.query_core.specs.declared.words.KeyParts.{KeyParts};
+ghost use Rattle.query_core.specs.Connected.{IsConnected};
+ghost use Rattle.query_core.specs.Keys.{IsInRange, IsGroup, IsKey, Names, top_of, input_of, root_of};
+ghost use Rattle.query_core.specs.Expressions.{word_of, origin_of, IsChild, IsPacked, IsCandidate};
+
+use crate::expressions::{Children, ExprParts, Operator};
+use crate::query::Query;
+use crate::words::{Expr, Key, KeyParts};
+
+impl Query {
+    /// The expression with which the group begins.
+    pub fn origin(&self, key: Key) -> Expr
+        requires { IsKey self.now key }
+        ensures { (g : KeyParts) → Names self.now key g →
+            result.0 ≡ word_of (origin_of self.now g) }
+    {
+        Expr::make(self.origin_of_group(self.group(key)))
+    }
+
+    /// The same as `origin`, of a group.
+    pub fn origin_of_group(&self, group: KeyParts) -> ExprParts
+        ensures { result ≡ origin_of self.now group }
+    {
+        match group {
+            KeyParts::Get(_) => ExprParts::new(group, Operator::Get, Children::Zero),
+            KeyParts::Filter(table) => {
+                ExprParts::new(group, Operator::Select, Children::One(KeyParts::Get(table)))
+            }
+            KeyParts::Join(_) => ExprParts::new(group, Operator::NJoin, Children::Zero),
+            KeyParts::Partial => ExprParts::new(
+                group,
+                Operator::Partial,
+                Children::One(self.input()),
+            ),
+            KeyParts::Agg => ExprParts::new(group, Operator::Agg, Children::One(self.input())),
+        }
+    }
+}
+
+/// What all expressions have in common that the groups of a query can hold.
+pub fn candidates_are_known()
+    ensures packed { (q : Query) (e : ExprParts) → IsCandidate q e → IsPacked e }
+    ensures children { (q : Query) (e : ExprParts) (g : KeyParts) → IsCandidate q e →
+        IsChild e.children g → IsGroup q g }
+    ensures origins { (q : Query) (g : KeyParts) → IsGroup q g → IsCandidate q (origin_of q g) }
+{}
+
+/// What all groups of a query have in common, and which groups each query has.
+pub fn groups_are_known()
+    ensures in_range { (q : Query) (g : KeyParts) → IsGroup q g → IsInRange g }
+    ensures joined { (q : Query) (set : ℕ) → 0 < set → set < 2 ^ length q.tables →
+        IsConnected q.links set → IsGroup q (top_of q set) }
+    ensures input { (q : Query) → IsGroup q (input_of q) }
+    ensures root { (q : Query) → IsGroup q (root_of q) }
+{}

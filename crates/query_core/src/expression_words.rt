@@ -1,0 +1,243 @@
+//! Group expressions as numbers. Nothing else packs or unpacks an expression.
+#![tactic(auto)]
+
+ghost use Rattle.std.specs.Prelude.{◌≡◌, ◌<◌, ◌≤◌, ◌+◌, ◌*◌, ◌/◌, ◌%◌, ◌^◌, MatchOption};
+ghost use Rattle.std.specs.Option.{option_map};
+ghost use Rattle.query_core.specs.declared.expressions.ExprParts.{ExprParts};
+ghost use Rattle.query_core.specs.declared.words.KeyParts.{KeyParts};
+ghost use Rattle.query_core.specs.Keys.{key_number, IsInRange};
+ghost use Rattle.query_core.specs.Expressions.{operator_number, index_number, left_number, right_number, word_of, is_logical, left_key, right_key, AreInRange, IsPacked, HasWord, IsWord};
+
+use crate::expressions::{Children, ExprParts, Operator};
+use crate::words::{Expr, Key, KeyParts};
+
+impl Expr {
+    /// The word of a group expression.
+    pub fn make(parts: ExprParts) -> Expr
+        requires { IsPacked parts }
+        ensures number { result.0 ≡ word_of parts }
+        ensures small { result.0 < 2 ^ 48 }
+    {
+        let key = Key::make(parts.group).0 as u64;
+        let operator = parts.operator.number() as u64;
+        let index = parts.operator.index() as u64;
+        let (left, right) = parts.children.numbers();
+        Expr((key << 36) + (operator << 31) + (index << 26) + ((left as u64) << 13) + right as u64)
+    }
+
+    /// The group expression of this word, if it is that of one.
+    pub fn parts(self) -> Option<ExprParts>
+        ensures { MatchOption result
+            ((e : ExprParts) → IsPacked e → word_of e ≡ self.0 → ⊥)
+            (λ e. IsPacked e × (word_of e ≡ self.0)) }
+    {
+        let group = Key((self.0 >> 36) as u32).parts()?;
+        let operator = Operator::of(field(self.0, 31, 5), field(self.0, 26, 5))?;
+        let children = Children::of(field(self.0, 13, 13), field(self.0, 0, 13))?;
+        Some(ExprParts {
+            group,
+            operator,
+            children,
+        })
+    }
+
+    /// The group expression that the word is known to have.
+    pub fn known_parts(self) -> ExprParts
+        requires { IsWord self.0 }
+        ensures has { HasWord self.0 result }
+        ensures only { (e : ExprParts) → HasWord self.0 e → e ≡ result }
+    {
+        match self.parts() {
+            Some(parts) => parts,
+            None => unreachable!(),
+        }
+    }
+
+    /// The key of its group.
+    pub fn key(self) -> Key
+        requires { IsWord self.0 }
+        ensures { (e : ExprParts) → HasWord self.0 e → result.0 ≡ key_number e.group }
+    {
+        Key::make(self.known_parts().group)
+    }
+
+    /// Whether it says what is wanted, and not how it is made.
+    pub fn logical(self) -> bool
+        requires { IsWord self.0 }
+        ensures { (e : ExprParts) → HasWord self.0 e → result ≡ is_logical e.operator }
+    {
+        self.known_parts().operator.logical()
+    }
+
+    /// The keys of its children, the left one first.
+    pub fn children(self) -> (Option<Key>, Option<Key>)
+        requires { IsWord self.0 }
+        ensures left { (e : ExprParts) → HasWord self.0 e →
+            option_map (λ key. key.0) result.0 ≡ left_key e.children }
+        ensures right { (e : ExprParts) → HasWord self.0 e →
+            option_map (λ key. key.0) result.1 ≡ right_key e.children }
+    {
+        self.known_parts().children.keys()
+    }
+}
+
+/// A number is the word of one expression, and the key of one group.
+pub fn expressions_are_one()
+    ensures expressions { (e f : ExprParts) → IsPacked e → IsPacked f →
+        word_of e ≡ word_of f → e ≡ f }
+    ensures groups { (p g : KeyParts) → IsInRange p → IsInRange g →
+        key_number p ≡ key_number g → p ≡ g }
+    ensures small { (e : ExprParts) → IsPacked e → word_of e < 2 ^ 48 }
+
+    // The words of a group stand together, and groups stand in the order of their keys.
+    ensures from_key { (e : ExprParts) → IsPacked e → key_number e.group * 2 ^ 36 ≤ word_of e }
+    ensures to_next_key { (e : ExprParts) → IsPacked e →
+        word_of e < (key_number e.group + 1) * 2 ^ 36 }
+{}
+
+impl Operator {
+    fn number(self) -> u32
+        ensures number { result ≡ operator_number self }
+        ensures small { result < 32 }
+    {
+        match self {
+            Operator::Get => 1,
+            Operator::Scan => 2,
+            Operator::IndexScan(_) => 3,
+            Operator::Select => 4,
+            Operator::Filter => 5,
+            Operator::IndexSeek(_) => 6,
+            Operator::NJoin => 7,
+            Operator::Join => 8,
+            Operator::HashJoin => 9,
+            Operator::MergeJoin => 10,
+            Operator::LoopJoin => 11,
+            Operator::Agg => 12,
+            Operator::HashAgg => 13,
+            Operator::StreamAgg => 14,
+            Operator::Partial => 15,
+            Operator::PartialAgg => 16,
+        }
+    }
+
+    fn index(self) -> u32
+        ensures { result ≡ index_number self }
+    {
+        match self {
+            Operator::IndexScan(index) => index,
+            Operator::IndexSeek(index) => index,
+            _ => 0,
+        }
+    }
+
+    pub fn logical(self) -> bool
+        ensures { result ≡ is_logical self }
+    {
+        match self {
+            Operator::Get => true,
+            Operator::Select => true,
+            Operator::NJoin => true,
+            Operator::Join => true,
+            Operator::Agg => true,
+            Operator::Partial => true,
+            _ => false,
+        }
+    }
+
+    fn of(number: u32, index: u32) -> Option<Operator>
+        ensures { MatchOption result
+            ((o : Operator) → operator_number o ≡ number → index_number o ≡ index → ⊥)
+            (λ o. (operator_number o ≡ number) × (index_number o ≡ index)) }
+    {
+        match (number, index) {
+            (1, 0) => Some(Operator::Get),
+            (2, 0) => Some(Operator::Scan),
+            (3, _) => Some(Operator::IndexScan(index)),
+            (4, 0) => Some(Operator::Select),
+            (5, 0) => Some(Operator::Filter),
+            (6, _) => Some(Operator::IndexSeek(index)),
+            (7, 0) => Some(Operator::NJoin),
+            (8, 0) => Some(Operator::Join),
+            (9, 0) => Some(Operator::HashJoin),
+            (10, 0) => Some(Operator::MergeJoin),
+            (11, 0) => Some(Operator::LoopJoin),
+            (12, 0) => Some(Operator::Agg),
+            (13, 0) => Some(Operator::HashAgg),
+            (14, 0) => Some(Operator::StreamAgg),
+            (15, 0) => Some(Operator::Partial),
+            (16, 0) => Some(Operator::PartialAgg),
+            _ => None,
+        }
+    }
+}
+
+impl Children {
+    fn numbers(self) -> (u32, u32)
+        requires { AreInRange self }
+        ensures left { result.0 ≡ left_number self }
+        ensures right { result.1 ≡ right_number self }
+        ensures left_small { result.0 < 2 ^ 13 }
+        ensures right_small { result.1 < 2 ^ 13 }
+    {
+        match self {
+            Children::Zero => (0, 0),
+            Children::One(child) => (child_number(child), 0),
+            Children::Two(left, right) => (child_number(left), child_number(right)),
+        }
+    }
+
+    fn keys(self) -> (Option<Key>, Option<Key>)
+        requires { AreInRange self }
+        ensures left { option_map (λ key. key.0) result.0 ≡ left_key self }
+        ensures right { option_map (λ key. key.0) result.1 ≡ right_key self }
+    {
+        match self {
+            Children::Zero => (None, None),
+            Children::One(child) => (Some(Key::make(child)), None),
+            Children::Two(left, right) => (Some(Key::make(left)), Some(Key::make(right))),
+        }
+    }
+
+    fn of(left: u32, right: u32) -> Option<Children>
+        ensures { MatchOption result
+            ((c : Children) → AreInRange c → left_number c ≡ left → right_number c ≡ right → ⊥)
+            (λ c. AreInRange c × (left_number c ≡ left) × (right_number c ≡ right)) }
+    {
+        if left == 0 && right == 0 {
+            return Some(Children::Zero);
+        }
+        let first = child_of(left)?;
+        if right == 0 {
+            return Some(Children::One(first));
+        }
+        Some(Children::Two(first, child_of(right)?))
+    }
+}
+
+fn child_number(group: KeyParts) -> u32
+    requires { IsInRange group }
+    ensures number { result ≡ key_number group + 1 }
+    ensures small { result < 2 ^ 13 }
+{
+    Key::make(group).0 + 1
+}
+
+fn child_of(number: u32) -> Option<KeyParts>
+    ensures { MatchOption result
+        ((g : KeyParts) → IsInRange g → key_number g + 1 ≡ number → ⊥)
+        (λ g. IsInRange g × (key_number g + 1 ≡ number)) }
+{
+    if number == 0 {
+        return None;
+    }
+    Key(number - 1).parts()
+}
+
+// The field of this width from this place on.
+fn field(word: u64, place: u32, width: u32) -> u32
+    requires place { place < 64 }
+    requires width { width < 32 }
+    ensures { result ≡ word / 2 ^ place % 2 ^ width }
+{
+    ((word >> place) % (1 << width)) as u32
+}

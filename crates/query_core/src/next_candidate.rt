@@ -1,0 +1,205 @@
+//! The next expression that a group can hold, in the order of words. No call here takes memory.
+#![tactic(auto, using(crate::proofs::Least::packing))]
+
+ghost use Rattle.std.specs.Prelude.{◌≡◌, ℕ, ◌+◌, ◌<◌, ◌≤◌, ◌^◌, ◌↔◌, MatchOption};
+ghost use Rattle.query_core.specs.declared.expressions.ExprParts.{ExprParts};
+ghost use Rattle.query_core.specs.declared.words.KeyParts.{KeyParts};
+ghost use Rattle.query_core.specs.Keys.{key_number, IsInRange, IsGroup, IsKey, Names, input_of};
+ghost use Rattle.query_core.specs.Expressions.{operator_number, index_number, packed, AreInRange, IsPacked};
+ghost use Rattle.query_core.specs.Candidates.{IsAfter, IsNext, IsLast};
+ghost use Rattle.query_core.specs.ByKind.{expr, index_count as index_count_of, index_operator as index_operator_of, sooner_of, IsRead, IsJoinBy, IsJoinAt, IsAggregateBy, IsOf, FindsFrom};
+
+use crate::expressions::{Children, ExprParts, Operator};
+use crate::query::Query;
+use crate::words::{Expr, Key, KeyParts};
+
+impl Query {
+    /// The expression of the next word after this one, or of the first word, that a group can hold.
+    pub fn next_candidate(&self, key: Key, after: Option<Expr>) -> Option<Expr>
+        requires { IsKey self.now key }
+        ensures { (g : KeyParts) → Names self.now key g →
+            MatchOption result (IsLast self.now g after) (λ next. IsNext self.now g after next.0) }
+    {
+        self.next_in(self.group(key), bound_after(after)?)
+    }
+
+    fn next_in(&self, group: KeyParts, bound: u64) -> Option<Expr>
+        requires { IsGroup self.now group }
+        ensures { FindsFrom (IsOf self.now group) bound result }
+    {
+        match group {
+            KeyParts::Get(table) => self.next_of_table(table, bound),
+            KeyParts::Filter(table) => self.next_of_filter(table, bound),
+            KeyParts::Join(set) => self.next_of_join(set, bound),
+            KeyParts::Partial => self.next_of_partial(bound),
+            KeyParts::Agg => self.next_of_aggregation(bound),
+        }
+    }
+
+    fn next_of_table(&self, table: u32, bound: u64) -> Option<Expr>
+        requires { IsGroup self.now (KeyParts.Get table) }
+        ensures { FindsFrom (IsOf self.now (KeyParts.Get table)) bound result }
+    {
+        let group = KeyParts::Get(table);
+        let get = word_from(bound, group, Operator::Get, Children::Zero);
+        let scan = word_from(bound, group, Operator::Scan, Children::Zero);
+        let read = self.next_read(table, group, bound);
+        sooner(get, sooner(scan, read))
+    }
+
+    fn next_of_filter(&self, table: u32, bound: u64) -> Option<Expr>
+        requires { IsGroup self.now (KeyParts.Filter table) }
+        ensures { FindsFrom (IsOf self.now (KeyParts.Filter table)) bound result }
+    {
+        let group = KeyParts::Filter(table);
+        let child = Children::One(KeyParts::Get(table));
+        let select = word_from(bound, group, Operator::Select, child);
+        let filter = word_from(bound, group, Operator::Filter, child);
+        let read = self.next_read(table, group, bound);
+        sooner(select, sooner(filter, read))
+    }
+
+    fn next_of_join(&self, set: u32, bound: u64) -> Option<Expr>
+        requires { IsGroup self.now (KeyParts.Join set) }
+        ensures { FindsFrom (IsOf self.now (KeyParts.Join set)) bound result }
+    {
+        let many = word_from(bound, KeyParts::Join(set), Operator::NJoin, Children::Zero);
+        let join = self.next_join(set, Operator::Join, bound);
+        let hash = self.next_join(set, Operator::HashJoin, bound);
+        let merge = self.next_join(set, Operator::MergeJoin, bound);
+        let by_loop = self.next_join(set, Operator::LoopJoin, bound);
+        sooner(many, sooner(sooner(join, hash), sooner(merge, by_loop)))
+    }
+
+    fn next_of_partial(&self, bound: u64) -> Option<Expr>
+        ensures { FindsFrom (IsOf self.now KeyParts.Partial) bound result }
+    {
+        let child = Children::One(self.input());
+        let partial = word_from(bound, KeyParts::Partial, Operator::Partial, child);
+        let physical = word_from(bound, KeyParts::Partial, Operator::PartialAgg, child);
+        sooner(partial, physical)
+    }
+
+    fn next_of_aggregation(&self, bound: u64) -> Option<Expr>
+        ensures { FindsFrom (IsOf self.now KeyParts.Agg) bound result }
+    {
+        let aggregate = self.next_aggregate(Operator::Agg, bound);
+        let hash = self.next_aggregate(Operator::HashAgg, bound);
+        let stream = self.next_aggregate(Operator::StreamAgg, bound);
+        sooner(aggregate, sooner(hash, stream))
+    }
+
+    fn next_aggregate(&self, operator: Operator, bound: u64) -> Option<Expr>
+        requires { index_number operator < 32 }
+        ensures { FindsFrom (IsAggregateBy self.now operator) bound result }
+    {
+        let whole = word_from(bound, KeyParts::Agg, operator, Children::One(self.input()));
+        let parts = word_from(
+            bound,
+            KeyParts::Agg,
+            operator,
+            Children::One(KeyParts::Partial),
+        );
+        sooner(whole, parts)
+    }
+
+    fn next_read(&self, table: u32, group: KeyParts, bound: u64) -> Option<Expr>
+        requires { IsInRange group }
+        ensures { FindsFrom (IsRead self.now table group) bound result }
+    {
+        let mut next = None;
+        for index in 0..self.index_count(table) {
+            let operator = index_operator(group, index as u32);
+            next = sooner(next, word_from(bound, group, operator, Children::Zero));
+        }
+        next
+    }
+
+    fn index_count(&self, table: u32) -> usize
+        ensures { result ≡ index_count_of self.now table }
+    {
+        match self.tables.as_slice().get(table as usize) {
+            Some(found) => found.indexes.len(),
+            None => 0,
+        }
+    }
+
+    fn next_join(&self, set: u32, operator: Operator, bound: u64) -> Option<Expr>
+        requires set { set < 1024 }
+        requires index { index_number operator < 32 }
+        ensures { FindsFrom (IsJoinBy self.now set operator) bound result }
+    {
+        for left in first_left(set, operator, bound)..2049 {
+            if let Some(next) = self.join_from(set, operator, left as u32, bound) {
+                return Some(next);
+            }
+        }
+        None
+    }
+
+    fn join_from(&self, set: u32, operator: Operator, left: u32, bound: u64) -> Option<Expr>
+        requires set { set < 1024 }
+        requires index { index_number operator < 32 }
+        ensures { FindsFrom (IsJoinAt self.now set operator left) bound result }
+    {
+        let a = self.left_side(left)?;
+        let b = self.right_side(set, a)?;
+        let children = Children::Two(self.top_group(a), self.top_group(b));
+        word_from(bound, KeyParts::Join(set), operator, children)
+    }
+}
+
+// Joins whose left child has a lesser number have words below the bound.
+fn first_left(set: u32, operator: Operator, bound: u64) -> u64
+    requires set { set < 1024 }
+    requires index { index_number operator < 32 }
+    ensures { (left right : ℕ) → left < result → right < 2 ^ 13 →
+        packed (1024 + set) (operator_number operator) (index_number operator) left right < bound }
+{
+    let base = Expr::make(ExprParts::new(KeyParts::Join(set), operator, Children::Zero)).0;
+    bound.saturating_sub(base) >> 13
+}
+
+// The expression, if its word isn't below the bound.
+fn word_from(bound: u64, group: KeyParts, operator: Operator, children: Children) -> Option<Expr>
+    requires group { IsInRange group }
+    requires index { index_number operator < 32 }
+    requires children { AreInRange children }
+    ensures { FindsFrom (λ e. e ≡ expr group operator children) bound result }
+{
+    let word = Expr::make(ExprParts::new(group, operator, children));
+    if bound <= word.0 { Some(word) } else { None }
+}
+
+// The one of the two whose word is less, if both are there.
+fn sooner(a: Option<Expr>, b: Option<Expr>) -> Option<Expr>
+    ensures { result ≡ sooner_of a b }
+{
+    match (a, b) {
+        (Some(first), Some(second)) if second.0 < first.0 => b,
+        (Some(_), _) => a,
+        (None, _) => b,
+    }
+}
+
+// How the group is read from the index of this number.
+fn index_operator(group: KeyParts, index: u32) -> Operator
+    ensures { result ≡ index_operator_of group index }
+{
+    match group {
+        KeyParts::Get(_) => Operator::IndexScan(index),
+        _ => Operator::IndexSeek(index),
+    }
+}
+
+// The least word after this one, if a word of 64 bits comes after it.
+fn bound_after(before: Option<Expr>) -> Option<u64>
+    ensures { MatchOption result
+        ((w : ℕ) → w < 2 ^ 64 → IsAfter before w → ⊥)
+        (λ bound. (w : ℕ) → (bound ≤ w) ↔ IsAfter before w) }
+{
+    match before {
+        Some(word) => word.0.checked_add(1),
+        None => Some(0),
+    }
+}
