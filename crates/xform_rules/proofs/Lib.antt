@@ -1,0 +1,5 @@
+pub mod Sets
+pub mod Findings
+pub mod Usable
+pub mod Candidates
+pub mod Single

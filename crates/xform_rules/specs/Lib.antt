@@ -1,0 +1,12 @@
+pub mod Rules
+pub mod Forms
+pub mod ExpandNAry
+pub mod JoinCommute
+pub mod JoinAssociate
+pub mod SplitAgg
+pub mod GetRules
+pub mod SelectRules
+pub mod JoinRules
+pub mod AggRules
+pub mod Results
+pub mod Closure

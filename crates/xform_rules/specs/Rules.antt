@@ -1,0 +1,44 @@
+-- The rules, their numbers, and which of them are on.
+use Rattle.std.specs.Prelude.{ℕ, ◌≡◌}
+use Rattle.query_core.specs.Sets.{bit}
+use Rattle.query_core.specs.declared.query.Query.{Query}
+use Rattle.xform_rules.specs.declared.rules.Rule.{Rule}
+use Rattle.xform_rules.specs.declared.rules.Rule.TheVariants as rules
+
+-- the number of a rule
+abbrev pub rule_number : Rule → ℕ
+rule_number rules.ExpandNAry = 1
+rule_number rules.JoinCommute = 2
+rule_number rules.JoinAssociate = 3
+rule_number rules.SplitAgg = 4
+rule_number rules.GetToScan = 5
+rule_number rules.GetToIndexScan = 6
+rule_number rules.SelectToFilter = 7
+rule_number rules.SelectToIndexSeek = 8
+rule_number rules.JoinToHash = 9
+rule_number rules.JoinToMerge = 10
+rule_number rules.JoinToLoop = 11
+rule_number rules.AggToHash = 12
+rule_number rules.AggToStream = 13
+rule_number rules.PartialToHash = 14
+
+-- how many results a rule can have at an expression: one for each index of a table, of which there are at most 16, or one
+abbrev pub rule_limit : Rule → ℕ
+rule_limit rules.ExpandNAry = 1
+rule_limit rules.JoinCommute = 1
+rule_limit rules.JoinAssociate = 1
+rule_limit rules.SplitAgg = 1
+rule_limit rules.GetToScan = 1
+rule_limit rules.GetToIndexScan = 16
+rule_limit rules.SelectToFilter = 1
+rule_limit rules.SelectToIndexSeek = 16
+rule_limit rules.JoinToHash = 1
+rule_limit rules.JoinToMerge = 1
+rule_limit rules.JoinToLoop = 1
+rule_limit rules.AggToHash = 1
+rule_limit rules.AggToStream = 1
+rule_limit rules.PartialToHash = 1
+
+-- the query doesn't switch the rule off
+abbrev pub IsOn : Query → Rule → Type 0
+IsOn q rule = bit q.options.off (rule_number rule) ≡ 0

@@ -1,0 +1,105 @@
+//! The rules and their numbers.
+#![tactic(auto)]
+
+ghost use Rattle.std.specs.Prelude.{◌≡◌, ◌≤◌, IsTrue, ◌↔◌, IfSome, Some};
+ghost use Rattle.xform_rules.specs.Rules.{rule_number, rule_limit, IsOn};
+
+use query_core::{Query, sets};
+
+/// A rule. The first four explore; the others implement.
+#[derive(Clone, Copy, Debug, PartialEq, Eq)]
+pub enum Rule {
+    ExpandNAry,
+    JoinCommute,
+    JoinAssociate,
+    SplitAgg,
+    GetToScan,
+    GetToIndexScan,
+    SelectToFilter,
+    SelectToIndexSeek,
+    JoinToHash,
+    JoinToMerge,
+    JoinToLoop,
+    AggToHash,
+    AggToStream,
+    PartialToHash,
+}
+
+impl Rule {
+    /// The number of the rule: 1 to 14.
+    pub fn number(self) -> u32
+        ensures value { result ≡ rule_number self }
+        ensures some { 1 ≤ result }
+        ensures most { result ≤ 14 }
+    {
+        match self {
+            Rule::ExpandNAry => 1,
+            Rule::JoinCommute => 2,
+            Rule::JoinAssociate => 3,
+            Rule::SplitAgg => 4,
+            Rule::GetToScan => 5,
+            Rule::GetToIndexScan => 6,
+            Rule::SelectToFilter => 7,
+            Rule::SelectToIndexSeek => 8,
+            Rule::JoinToHash => 9,
+            Rule::JoinToMerge => 10,
+            Rule::JoinToLoop => 11,
+            Rule::AggToHash => 12,
+            Rule::AggToStream => 13,
+            Rule::PartialToHash => 14,
+        }
+    }
+
+    /// How many results it can have at an expression: one for each index of a table, or one.
+    pub fn limit(self) -> u32
+        ensures { result ≡ rule_limit self }
+    {
+        match self {
+            Rule::ExpandNAry => 1,
+            Rule::JoinCommute => 1,
+            Rule::JoinAssociate => 1,
+            Rule::SplitAgg => 1,
+            Rule::GetToScan => 1,
+            Rule::GetToIndexScan => 16,
+            Rule::SelectToFilter => 1,
+            Rule::SelectToIndexSeek => 16,
+            Rule::JoinToHash => 1,
+            Rule::JoinToMerge => 1,
+            Rule::JoinToLoop => 1,
+            Rule::AggToHash => 1,
+            Rule::AggToStream => 1,
+            Rule::PartialToHash => 1,
+        }
+    }
+}
+
+/// The rule of a number.
+pub fn rule_of(number: u32) -> Option<Rule>
+    ensures found { IfSome result (λ rule. rule_number rule ≡ number) }
+    ensures only { (rule : Rule) → rule_number rule ≡ number → result ≡ Some rule }
+{
+    match number {
+        1 => Some(Rule::ExpandNAry),
+        2 => Some(Rule::JoinCommute),
+        3 => Some(Rule::JoinAssociate),
+        4 => Some(Rule::SplitAgg),
+        5 => Some(Rule::GetToScan),
+        6 => Some(Rule::GetToIndexScan),
+        7 => Some(Rule::SelectToFilter),
+        8 => Some(Rule::SelectToIndexSeek),
+        9 => Some(Rule::JoinToHash),
+        10 => Some(Rule::JoinToMerge),
+        11 => Some(Rule::JoinToLoop),
+        12 => Some(Rule::AggToHash),
+        13 => Some(Rule::AggToStream),
+        14 => Some(Rule::PartialToHash),
+        _ => None,
+    }
+}
+
+/// Whether the query leaves the rule on.
+pub fn is_on(query: &Query, rule: Rule) -> bool
+    ensures { IsTrue result ↔ IsOn query.now rule }
+{
+    !sets::has(query.options.off, rule.number())
+}
