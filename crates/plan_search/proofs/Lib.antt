@@ -1,0 +1,4 @@
+pub mod WordLists
+pub mod Ranges
+pub mod Growing
+pub mod OneClosure

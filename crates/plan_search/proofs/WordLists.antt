@@ -1,0 +1,113 @@
+-- Lists of words to which one word comes.
+use Rattle.std.proofs.Common.{◌≡◌, ℕ, ◌+◌, ◌<◌, ◌≤◌, List, [], ◌∷◌, length, get_or, refl, ap, sym, subst, arith, zero, suc, inl, inr, ◌⊎◌}
+use Rattle.std.specs.Prelude.{◌-◌}
+use Rattle.std.specs.List.{Contains, All}
+use Rattle.std.specs.List.Sorted.{IsStrictlyIncreasing}
+use Rattle.std.specs.BTreeSet.{insert_key}
+use Rattle.std.specs.Ordering.{nat_cmp, match_ordering}
+use Rattle.std.specs.declared.cmp.Ordering.{Ordering}
+use Rattle.std.proofs.Math.Nat.{eq-zero-or-pos}
+use Rattle.std.proofs.lemmas.Map.Lookups.{exact_unsigned}
+use Rattle.std.specs.declared.cmp.Ordering.TheVariants.{Less, Equal, Greater}
+
+-- the first word of a list is in it
+pub contains_here : (x : ℕ) (xs : List ℕ) → Contains (x ∷ xs) x
+contains_here x xs = (zero, omega arith, refl)
+
+-- so are the others
+pub contains_later : (x : ℕ) (xs : List ℕ) (w : ℕ) → Contains xs w → Contains (x ∷ xs) w
+contains_later x xs w (k, within, is) = (suc k, omega (arith, within), is)
+
+-- and nothing else is
+pub contains_cases : (x : ℕ) (xs : List ℕ) (w : ℕ) → Contains (x ∷ xs) w → (x ≡ w) ⊎ Contains xs w
+contains_cases x xs w (zero, within, is) = inl is
+contains_cases x xs w (suc k, within, is) = inr (k, omega (arith, within), is)
+
+-- a word that comes leaves the others there
+pub insert_keeps : (xs : List ℕ) (k w : ℕ) → Contains xs w → Contains (insert_key nat_cmp xs k) w
+insert_keeps [] k w (i, within, is) = absurd (omega (arith, within))
+insert_keeps (x ∷ xs) k w has =
+    elim (nat_cmp k x) as (λ o. Contains (match_ordering o (k ∷ x ∷ xs) (x ∷ xs) (x ∷ insert_key nat_cmp xs k)) w) [
+      | Less ↦ contains_later k (x ∷ xs) w has
+      | Equal ↦ has
+      | Greater ↦ elim (contains_cases x xs w has) [
+        | inl same ↦ subst (λ v. Contains (x ∷ insert_key nat_cmp xs k) v) same (contains_here x (insert_key nat_cmp xs k))
+        | inr later ↦ contains_later x (insert_key nat_cmp xs k) w (insert_keeps xs k w later)
+      ]
+    ]
+
+-- the list gets no shorter, and where it gets no longer it stays as it was
+pub insert_longer : (xs : List ℕ) (k : ℕ) → length xs ≤ length (insert_key nat_cmp xs k)
+insert_longer [] k = omega arith
+insert_longer (x ∷ xs) k =
+    elim (nat_cmp k x) as (λ o. length (x ∷ xs) ≤ length (match_ordering o (k ∷ x ∷ xs) (x ∷ xs) (x ∷ insert_key nat_cmp xs k))) [
+      | Less ↦ omega arith
+      | Equal ↦ omega arith
+      | Greater ↦ omega (arith, insert_longer xs k)
+    ]
+
+pub insert_same : (xs : List ℕ) (k : ℕ) → length (insert_key nat_cmp xs k) ≤ length xs → insert_key nat_cmp xs k ≡ xs
+insert_same [] k no_longer = absurd (omega (arith, no_longer))
+insert_same (x ∷ xs) k no_longer =
+    let at_place : length (match_ordering (nat_cmp k x) (k ∷ x ∷ xs) (x ∷ xs) (x ∷ insert_key nat_cmp xs k)) ≤ length (x ∷ xs)
+    → match_ordering (nat_cmp k x) (k ∷ x ∷ xs) (x ∷ xs) (x ∷ insert_key nat_cmp xs k) ≡ x ∷ xs =
+    elim (nat_cmp k x) as (λ o. length (match_ordering o (k ∷ x ∷ xs) (x ∷ xs) (x ∷ insert_key nat_cmp xs k)) ≤ length (x ∷ xs)
+    → match_ordering o (k ∷ x ∷ xs) (x ∷ xs) (x ∷ insert_key nat_cmp xs k) ≡ x ∷ xs) [
+      | Less ↦ λ fits. absurd (omega (arith, fits))
+      | Equal ↦ λ fits. refl
+      | Greater ↦ λ fits. ap (λ ys. x ∷ ys) (insert_same xs k (omega (arith, fits)))
+    ] in
+    at_place no_longer
+
+-- the word is there then
+pub insert_there : (xs : List ℕ) (k : ℕ) → Contains (insert_key nat_cmp xs k) k
+insert_there [] k = contains_here k []
+insert_there (x ∷ xs) k =
+    let at_place : (o : Ordering) → nat_cmp k x ≡ o → Contains (match_ordering o (k ∷ x ∷ xs) (x ∷ xs) (x ∷ insert_key nat_cmp xs k)) k =
+    λ o. elim o as (λ o. nat_cmp k x ≡ o → Contains (match_ordering o (k ∷ x ∷ xs) (x ∷ xs) (x ∷ insert_key nat_cmp xs k)) k) [
+      | Less ↦ λ same. contains_here k (x ∷ xs)
+      | Equal ↦ λ same. subst (λ v. Contains (x ∷ xs) v) (sym (exact_unsigned k x same)) (contains_here x xs)
+      | Greater ↦ λ same. contains_later x (insert_key nat_cmp xs k) k (insert_there xs k)
+    ] in
+    at_place (nat_cmp k x) refl
+
+-- the element at a place of an ascending list is at least the place
+at_least_place : (xs : List ℕ) → IsStrictlyIncreasing xs → (k : ℕ) → k < length xs → k ≤ get_or xs k 0
+at_least_place xs ascending zero within = omega arith
+at_least_place xs ascending (suc k) within =
+    let next : k + 1 ≡ suc k = omega arith in
+    let below : get_or xs k 0 < get_or xs (suc k) 0 = subst (λ i. get_or xs k 0 < get_or xs i 0) next (ascending k (omega (arith, within))) in
+    omega (arith, at_least_place xs ascending k (omega (arith, within)), below)
+
+-- so an ascending list of numbers below a bound is no longer than the bound
+pub few_words : (xs : List ℕ) (bound : ℕ) → IsStrictlyIncreasing xs → All (λ w. w < bound) xs → length xs ≤ bound
+few_words xs bound ascending below = elim (eq-zero-or-pos (length xs)) [
+  | inl none ↦ omega (arith, none)
+  | inr some ↦
+      let last = length xs - 1 in
+      omega (arith, some, at_least_place xs ascending last (omega (arith, some)), below last 0 (omega (arith, some)))
+]
+
+-- nothing else comes
+pub insert_cases : (xs : List ℕ) (k w : ℕ) → Contains (insert_key nat_cmp xs k) w → Contains xs w ⊎ (k ≡ w)
+insert_cases [] k w has = elim (contains_cases k [] w has) [
+  | inl same ↦ inr same
+  | inr later ↦ inl later
+]
+insert_cases (x ∷ xs) k w has =
+    let at_place : Contains (match_ordering (nat_cmp k x) (k ∷ x ∷ xs) (x ∷ xs) (x ∷ insert_key nat_cmp xs k)) w → Contains (x ∷ xs) w ⊎ (k ≡ w) =
+    elim (nat_cmp k x) as (λ o. Contains (match_ordering o (k ∷ x ∷ xs) (x ∷ xs) (x ∷ insert_key nat_cmp xs k)) w → Contains (x ∷ xs) w ⊎ (k ≡ w)) [
+      | Less ↦ λ among. elim (contains_cases k (x ∷ xs) w among) [
+        | inl same ↦ inr same
+        | inr later ↦ inl later
+      ]
+      | Equal ↦ λ among. inl among
+      | Greater ↦ λ among. elim (contains_cases x (insert_key nat_cmp xs k) w among) [
+        | inl same ↦ inl (subst (λ v. Contains (x ∷ xs) v) same (contains_here x xs))
+        | inr later ↦ elim (insert_cases xs k w later) [
+          | inl old ↦ inl (contains_later x xs w old)
+          | inr new ↦ inr new
+        ]
+      ]
+    ] in
+    at_place has

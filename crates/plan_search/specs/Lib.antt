@@ -1,0 +1,2 @@
+pub mod PlainClosure
+pub mod Steps
