@@ -1,0 +1,4 @@
+pub mod Sets
+pub mod ByGroup
+pub mod Order
+pub mod Known

@@ -1,0 +1,4 @@
+pub mod Groups
+pub mod Members
+pub mod Memo
+pub mod Lines

@@ -1,0 +1,151 @@
+//! The text of the memo: its groups, each with its members.
+#![tactic(auto)]
+
+ghost use Rattle.std.specs.Prelude.{◌≡◌, ◌+◌, ◌++◌, ℕ, List, All, IfOk, OnOk, flat_map, length, map, string_bytes};
+ghost use Rattle.std.specs.List.Sorted.{IsStrictlyIncreasing};
+ghost use Rattle.query_core.specs.Keys.{key_number, IsInRange, IsGroup};
+ghost use Rattle.query_core.specs.Expressions.{IsCandidateWord};
+ghost use Rattle.query_core.specs.declared.query.Query.{Query};
+ghost use Rattle.query_core.specs.declared.expressions.ExprParts.{ExprParts};
+ghost use Rattle.job_trace.specs.Memo as texts;
+ghost use Rattle.job_trace.specs.Memo.{AreMembers, groups_of, group_lines, memo_section};
+ghost use Rattle.job_trace.specs.Lines.{texts_of, HaveWords, StandByGroup, begins as does_begin, heading};
+
+use crate::groups::group_line;
+use crate::members::member_line;
+use query_core::{
+    Expr, ExprParts, Key, KeyParts, Query, candidates_are_known, expressions_are_one,
+    groups_are_known,
+};
+use std::alloc::{AllocError, Global};
+
+/// The lines of the memo's text, each with its newline. `members` are the words of all its members.
+pub fn memo_text(alloc: Global, query: &Query, members: &[u64]) -> Result<Vec<String>, AllocError>
+    requires { (es : List ExprParts) × AreMembers query.now members.now es }
+    ensures { IfOk result (λ lines. (es : List ExprParts) → AreMembers query.now members.now es
+        → texts_of lines.items ≡ memo_section query.now es) }
+{
+    candidates_are_known();
+    let members = expressions(alloc, members)?;
+    Ok(memo_lines(alloc, query, members.as_slice())?)
+}
+
+/// What all lists of members have in common.
+pub fn members_are_known()
+    // Ascending words of candidates are those of members, and of one list of them.
+    ensures there { (q : Query) (words : List ℕ) → All (IsCandidateWord q) words →
+        IsStrictlyIncreasing words → (es : List ExprParts) × AreMembers q words es }
+    ensures one { (q : Query) (words : List ℕ) (es fs : List ExprParts) → AreMembers q words es →
+        AreMembers q words fs → es ≡ fs }
+
+    // No group comes twice, and there are as many lines as groups and members, and one more.
+    ensures groups { (q : Query) (words : List ℕ) (es : List ExprParts) → AreMembers q words es →
+        IsStrictlyIncreasing (map key_number (groups_of es)) }
+    ensures lines { (q : Query) (words : List ℕ) (es : List ExprParts) → AreMembers q words es →
+        length (memo_section q es) ≡ 1 + length (groups_of es) + length es }
+{
+    candidates_are_known();
+    expressions_are_one();
+}
+
+// The expressions of the words.
+fn expressions(alloc: Global, words: &[u64]) -> Result<Vec<ExprParts>, AllocError>
+    requires { (es : List ExprParts) × HaveWords words.now es }
+    ensures { IfOk result (λ made. (es : List ExprParts) → HaveWords words.now es
+        → made.items ≡ es) }
+{
+    let mut made = Vec::new(alloc);
+    for word in words {
+        made.push(Expr(*word).known_parts())?;
+    }
+    Ok(made)
+}
+
+fn memo_lines(
+    alloc: Global,
+    query: &Query,
+    members: &[ExprParts],
+) -> Result<Vec<String>, AllocError>
+    requires { StandByGroup query.now members.now }
+    ensures { IfOk result (λ lines. texts_of lines.items ≡ memo_section query.now members.now) }
+{
+    groups_are_known();
+    let mut lines = Vec::new(alloc);
+    lines.push(memo_line(alloc, group_count(members), members.len())?)?;
+    push_groups(alloc, query, members, &mut lines)?;
+    Ok(lines)
+}
+
+// The first line.
+fn memo_line(alloc: Global, groups: usize, members: usize) -> Result<String, AllocError>
+    ensures { IfOk result (λ s. string_bytes s ≡ texts.memo_line groups members) }
+{
+    Ok(format!(in alloc; "memo groups={groups} members={members}\n")?)
+}
+
+// How many groups the members have.
+fn group_count(members: &[ExprParts]) -> usize
+    requires { All (λ e. IsInRange e.group) members.now }
+    ensures { result ≡ length (groups_of members.now) }
+{
+    let mut count = 0;
+    let mut before = None;
+    for member in members {
+        let key = Key::make(member.group).0;
+        if begins(before, key) {
+            count += 1;
+        }
+        before = Some(key);
+    }
+    count
+}
+
+// Adds the line of each group, and behind it those of its members.
+fn push_groups(
+    alloc: Global,
+    query: &Query,
+    members: &[ExprParts],
+    lines: &mut Vec<String>,
+) -> Result<(), AllocError>
+    requires { StandByGroup query.now members.now }
+    ensures ok { OnOk result (texts_of lines.new.items ≡ texts_of lines.old.items
+        ++ flat_map (group_lines query.now members.now) (groups_of members.now)) }
+{
+    groups_are_known();
+    let mut before = None;
+    for member in members {
+        push_heading(alloc, query, before, member.group, lines)?;
+        lines.push(member_line(alloc, query, *member)?)?;
+        before = Some(Key::make(member.group).0);
+    }
+    Ok(())
+}
+
+// Adds the line of a group, if a member of it begins it.
+fn push_heading(
+    alloc: Global,
+    query: &Query,
+    before: Option<u32>,
+    group: KeyParts,
+    lines: &mut Vec<String>,
+) -> Result<(), AllocError>
+    requires { IsGroup query.now group }
+    ensures ok { OnOk result (texts_of lines.new.items ≡ texts_of lines.old.items
+        ++ heading query.now before group) }
+{
+    groups_are_known();
+    if begins(before, Key::make(group).0) {
+        lines.push(group_line(alloc, query, group)?)?;
+    }
+    Ok(())
+}
+
+// Whether a member of this key begins a group, where that before it had the other key.
+fn begins(before: Option<u32>, key: u32) -> bool
+    ensures { result ≡ does_begin before key }
+{
+    match before {
+        Some(last) => key != last,
+        None => true,
+    }
+}
