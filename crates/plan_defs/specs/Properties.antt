@@ -3,6 +3,8 @@ use Rattle.std.specs.Prelude.{ℕ, ◌≡◌, List, [], length, ◌<◌, slice_i
 use Rattle.query_core.specs.declared.query.Query.{Query}
 use Rattle.query_core.specs.declared.options.RootDist.{RootDist}
 use Rattle.query_core.specs.declared.options.RootDist.TheVariants.{One, Spread}
+use Rattle.cost_units.specs.declared.shape.Class.{Class}
+use Rattle.cost_units.specs.declared.shape.Class.TheVariants as classes
 use Rattle.plan_defs.specs.Groups.{HasItem}
 use Rattle.plan_defs.specs.Orders.{IsNumbered, LiesIn, BeginsWith, order_of, wanted_order, number_of_order}
 
@@ -14,17 +16,12 @@ pub data Placed : Type 0 where
   on_random : Placed
   on_copies : Placed
 
--- how many segments have a share of the rows
-pub data Class : Type 0 where
-  spread : Class
-  one : Class
-  copies : Class
-
+-- how many segments have a share of rows that lie so
 abbrev pub class_of : Placed → Class
-class_of on_one = one
-class_of (on_hashed list) = spread
-class_of on_random = spread
-class_of on_copies = copies
+class_of on_one = classes.One
+class_of (on_hashed list) = classes.Spread
+class_of on_random = classes.Spread
+class_of on_copies = classes.Copies
 
 -- what a plan gives: where its rows lie, and the elements of their order
 pub record Given : Type 0 where

@@ -8,7 +8,8 @@ use Rattle.plan_defs.specs.Groups.{rows_of}
 use Rattle.plan_defs.specs.Orders.{order_of}
 use Rattle.plan_defs.specs.Nodes.{Physical, scan, Kind, native, gather, broadcast, sort, gather_merge, Tree, leaf, over, two}
 use Rattle.plan_defs.specs.Gives.{Kid, node_group, kid_of}
-use Rattle.plan_defs.specs.Cost.{local_cost, work_of, cost_of}
+use Rattle.cost_units.specs.Cost.{local_cost}
+use Rattle.plan_defs.specs.Cost.{shape_of, cost_of}
 
 -- the alias of the table at this place
 abbrev pub table_text : Query → ℕ → List ℕ
@@ -60,7 +61,7 @@ numbered spaces name rows cost =
 -- the line of a node at this depth: the node, its group's rows and its own cost
 abbrev pub node_line : Query → ℕ → Kind → List Kid → List ℕ
 node_line q depth node kids =
-    numbered (indent depth) (node_text q node) (rows_of q (node_group node kids)) (local_cost (work_of q node kids))
+    numbered (indent depth) (node_text q node) (rows_of q (node_group node kids)) (local_cost (shape_of q node kids))
 
 -- the lines of a plan whose root stands at this depth, each node before those below it
 abbrev pub plan_lines : Query → ℕ → Tree → List (List ℕ)

@@ -2,7 +2,8 @@
 use Rattle.std.specs.Prelude.{ℕ, ◌≡◌, ◌≤◌, List, [], ◌∷◌}
 use Rattle.query_core.specs.declared.query.Query.{Query}
 use Rattle.plan_defs.specs.Orders.{IsNumbered, LiesIn, BeginsWith, order_of}
-use Rattle.plan_defs.specs.Properties.{spread, class_of}
+use Rattle.cost_units.specs.declared.shape.Class.TheVariants.{Spread}
+use Rattle.plan_defs.specs.Properties.{class_of}
 use Rattle.plan_defs.specs.Nodes.{Physical, scan, word_of, Kind, native, gather, broadcast, sort, gather_merge, Tree, leaf, over, two}
 use Rattle.plan_defs.specs.Gives.{Kid, kid_of}
 
@@ -13,7 +14,7 @@ NativeFits q (scan table) mode (kid ∷ others) = ⊥
 
 -- the kid's rows are shared out among the segments
 abbrev pub IsSpread : Kid → Type 0
-IsSpread kid = class_of kid.given.placed ≡ spread
+IsSpread kid = class_of kid.given.placed ≡ Spread
 
 -- the order isn't empty, has the number, and lies in the kid's group
 pub record CanSort (q : Query) (kid : Kid) (order : ℕ) : Type 0 where

@@ -4,11 +4,15 @@ use Rattle.std.proofs.Common.{◌≡◌, ℕ, zero, suc, ◌≤◌, List, [], �
 use Rattle.std.specs.Bool.{⊤}
 use Rattle.query_core.specs.declared.query.Query.{Query}
 use Rattle.plan_defs.specs.Orders.{IsNumbered, order_of, LiesIn, BeginsWith}
-use Rattle.plan_defs.specs.Properties.{Placed, on_one, on_hashed, on_random, on_copies, Class, one, spread, copies, class_of, Wanted, want_one, want_spread, want_copies, want_hashed, Request, Meets, Satisfies, PlaceFits, Fits}
+use Rattle.plan_defs.specs.Properties.{Placed, on_one, on_hashed, on_random, on_copies, class_of, Wanted, want_one, want_spread, want_copies, want_hashed, Request, Meets, Satisfies, PlaceFits, Fits}
 use Rattle.plan_defs.specs.Nodes.{Kind, native, gather, broadcast, sort, gather_merge, number_of}
 use Rattle.plan_defs.specs.Gives.{Kid, node_gives}
 use Rattle.plan_defs.specs.Valid.{IsSpread, CanSort, CanMerge, NodeFits}
-use Rattle.plan_defs.specs.Cost.{local_cost, gathering, merging, work_of}
+use Rattle.cost_units.specs.declared.shape.Class.{Class}
+use Rattle.cost_units.specs.declared.shape.Class.TheVariants.{Spread, One, Copies}
+use Rattle.cost_units.specs.declared.shape.CostShape.TheVariants.{Gather, GatherMerge}
+use Rattle.cost_units.specs.Cost.{local_cost}
+use Rattle.plan_defs.specs.Cost.{shape_of}
 use Rattle.plan_defs.specs.Groups.{rows_of}
 
 -- an enforcer, over a plan for this request
@@ -56,7 +60,7 @@ pub record Replaces (q : Query) (request : Request) (node : Kind) (kid : Kid) (e
   pub fits : Fits q kid.group enforced.below
   pub satisfies : Satisfies q kid.given enforced.below
   pub number : number_of enforced.node ≤ number_of node
-  pub cost : local_cost (work_of q enforced.node (kid ∷ [])) ≤ local_cost (work_of q node (kid ∷ []))
+  pub cost : local_cost (shape_of q enforced.node (kid ∷ [])) ≤ local_cost (shape_of q node (kid ∷ []))
 
 -- an enforcer is at the root of no plan of its kid but one that serves alone, or that a listed one replaces
 abbrev pub CanExchange : Query → Kind → Kid → Request → Type 0
@@ -72,7 +76,7 @@ BeginsWith-trans xs [] (z ∷ zs) a b = absurd b
 BeginsWith-trans [] (y ∷ ys) (z ∷ zs) a b = absurd a
 BeginsWith-trans (x ∷ xs) (y ∷ ys) (z ∷ zs) a b = (omega arith, BeginsWith-trans xs ys zs a.1 b.1)
 
-pub spread_meets : (placed : Placed) → class_of placed ≡ spread → Meets placed want_spread
+pub spread_meets : (placed : Placed) → class_of placed ≡ Spread → Meets placed want_spread
 spread_meets on_one is = cc
 spread_meets (on_hashed list) is = tt
 spread_meets on_random is = tt
@@ -80,10 +84,10 @@ spread_meets on_copies is = cc
 
 -- the class that a distribution asks for
 abbrev pub class_wanted : Wanted → Class
-class_wanted want_one = one
-class_wanted want_spread = spread
-class_wanted want_copies = copies
-class_wanted (want_hashed list) = spread
+class_wanted want_one = One
+class_wanted want_spread = Spread
+class_wanted want_copies = Copies
+class_wanted (want_hashed list) = Spread
 
 met_class : (placed : Placed) (place : Wanted) → Meets placed place → class_of placed ≡ class_wanted place
 met_class on_one want_one meets = refl
@@ -107,14 +111,14 @@ met_class on_copies (want_hashed list) meets = absurd meets
 pub same_class : (a b : Placed) (place : Wanted) → Meets a place → Meets b place → class_of a ≡ class_of b
 same_class a b place x y = let e = met_class a place x in let f = met_class b place y in cc
 
--- an enforcer does the same work over kids of one group and one class
-pub same_work : (q : Query) (node : Kind) (a b : Kid) → IsEnforcer node → a.group ≡ b.group → class_of a.given.placed ≡ class_of b.given.placed
-    → work_of q node (a ∷ []) ≡ work_of q node (b ∷ [])
-same_work q (native expression mode) a b enforcer group class = absurd enforcer
-same_work q gather a b enforcer group class = cc
-same_work q broadcast a b enforcer group class = cc
-same_work q (sort order) a b enforcer group class = cc
-same_work q (gather_merge order) a b enforcer group class = cc
+-- an enforcer has the same shape over kids of one group and one class
+pub same_shape : (q : Query) (node : Kind) (a b : Kid) → IsEnforcer node → a.group ≡ b.group → class_of a.given.placed ≡ class_of b.given.placed
+    → shape_of q node (a ∷ []) ≡ shape_of q node (b ∷ [])
+same_shape q (native expression mode) a b enforcer group class = absurd enforcer
+same_shape q gather a b enforcer group class = cc
+same_shape q broadcast a b enforcer group class = cc
+same_shape q (sort order) a b enforcer group class = cc
+same_shape q (gather_merge order) a b enforcer group class = cc
 
 pub empty_lies : (q : Query) (group : ℕ) → LiesIn q group []
 empty_lies q group k d below = let none : ⊥ = omega arith in absurd none
@@ -126,7 +130,7 @@ sort_among want_copies o = inl refl
 sort_among (want_hashed list) o = inl refl
 
 -- a gather costs no more than a merge of as many rows
-gather_cheaper : (rows : ℕ) → local_cost (gathering rows) ≤ local_cost (merging rows)
+gather_cheaper : (rows : ℕ) → local_cost (Gather rows) ≤ local_cost (GatherMerge rows)
 unfolding local_cost
 gather_cheaper rows = omega arith
 

@@ -6,7 +6,8 @@ use Rattle.plan_defs.specs.Nodes.{Kind, Tree, leaf, over, two}
 use Rattle.plan_defs.specs.Gives.{Kid, kid_of, node_group}
 use Rattle.plan_defs.specs.Text.{indent, node_text, numbered, node_line, plan_lines}
 use Rattle.plan_defs.specs.Groups.{rows_of}
-use Rattle.plan_defs.specs.Cost.{local_cost, work_of}
+use Rattle.cost_units.specs.Cost.{local_cost}
+use Rattle.plan_defs.specs.Cost.{shape_of}
 use Rattle.plan_tree.specs.Spells.{Spells}
 use Rattle.plan_tree.specs.Sights.{Sees}
 use Rattle.plan_tree.specs.Lines.{NodeFollows, PlanFollows}
@@ -21,7 +22,7 @@ SeesPlan q plan sight = (t : Tree) → Spells plan t → Sees sight (kid_of q t 
 
 -- the parts of a node's line
 pub is_node_line : (q : Query) (depth : ℕ) (kind : Kind) (kids : List Kid) (spaces name line : List ℕ) (group rows cost : ℕ)
-    → spaces ≡ indent depth → name ≡ node_text q kind → group ≡ node_group kind kids → rows ≡ rows_of q group → cost ≡ local_cost (work_of q kind kids)
+    → spaces ≡ indent depth → name ≡ node_text q kind → group ≡ node_group kind kids → rows ≡ rows_of q group → cost ≡ local_cost (shape_of q kind kids)
     → line ≡ numbered spaces name rows cost → line ≡ node_line q depth kind kids
 is_node_line q depth kind kids spaces name line group rows cost spaces_are name_is group_is rows_are cost_is line_is = cc
 

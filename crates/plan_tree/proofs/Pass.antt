@@ -7,10 +7,11 @@ use Rattle.plan_defs.specs.Properties.{Request, Fits}
 use Rattle.plan_defs.specs.Nodes.{Kind, native, gather, broadcast, sort, gather_merge, Physical, Tree, leaf, over, two}
 use Rattle.plan_defs.specs.Gives.{Kid, kid_of, node_group}
 use Rattle.plan_defs.specs.Valid.{IsValid}
-use Rattle.plan_defs.specs.Cost.{local_cost, work_of}
+use Rattle.cost_units.specs.Cost.{local_cost}
+use Rattle.plan_defs.specs.Cost.{shape_of}
 use Rattle.plan_defs.specs.Least.{Serves}
 use Rattle.plan_tree.proofs.Plans.{IsAtMost, IsAtMost-trans, kid_at_most, over_at_most, two_at_most}
-use Rattle.plan_tree.proofs.Enforcers.{Enforced, enforcers_of, Among, IsEnforcer, IsOrdered, Replaces, exchange, same_class, same_work}
+use Rattle.plan_tree.proofs.Enforcers.{Enforced, enforcers_of, Among, IsEnforcer, IsOrdered, Replaces, exchange, same_class, same_shape}
 
 -- the plan that was found is at most this one
 abbrev pub Beats : Query → Option Tree → Tree → Type 0
@@ -34,12 +35,12 @@ pub record IsBest (Member : ℕ → Type 0) (q : Query) (best : ℕ → Request 
   pub one_kid : (group : ℕ) (r : Request) (expression : Physical) (mode : ℕ) (kid : Tree) → Fits q group r
       → Serves Member q group r (over (native expression mode) kid)
       → (s : Served Member q kid) × ((a : Tree) → best s.group s.request ≡ Some a
-      → (local_cost (work_of q (native expression mode) (kid_of q a ∷ [])) ≤ local_cost (work_of q (native expression mode) (kid_of q kid ∷ [])))
+      → (local_cost (shape_of q (native expression mode) (kid_of q a ∷ [])) ≤ local_cost (shape_of q (native expression mode) (kid_of q kid ∷ [])))
       × Beats q (best group r) (over (native expression mode) a))
   pub two_kids : (group : ℕ) (r : Request) (expression : Physical) (mode : ℕ) (left right : Tree) → Fits q group r
       → Serves Member q group r (two (native expression mode) left right)
       → (s : Served Member q left) × (t : Served Member q right) × ((a b : Tree) → best s.group s.request ≡ Some a → best t.group t.request ≡ Some b
-      → (local_cost (work_of q (native expression mode) (kid_of q a ∷ kid_of q b ∷ [])) ≤ local_cost (work_of q (native expression mode) (kid_of q left ∷ kid_of q right ∷ [])))
+      → (local_cost (shape_of q (native expression mode) (kid_of q a ∷ kid_of q b ∷ [])) ≤ local_cost (shape_of q (native expression mode) (kid_of q left ∷ kid_of q right ∷ [])))
       × Beats q (best group r) (two (native expression mode) a b))
 
 -- the plan that beats another
@@ -75,8 +76,8 @@ module _ (Member : ℕ → Type 0) (q : Query) (ordered : IsOrdered q) (best : �
       let group = (kid_of q kid).group in
       let served = are_best.serves group e.below a replaces.fits is in
       let class = same_class (kid_of q a).given.placed (kid_of q kid).given.placed e.below.place served.satisfies.place replaces.satisfies.place in
-      let work = same_work q e.node (kid_of q a) (kid_of q kid) replaces.enforcer served.of_group class in
-      let cost : local_cost (work_of q e.node (kid_of q a ∷ [])) ≤ local_cost (work_of q node (kid_of q kid ∷ [])) = rw work replaces.cost in
+      let shape = same_shape q e.node (kid_of q a) (kid_of q kid) replaces.enforcer served.of_group class in
+      let cost : local_cost (shape_of q e.node (kid_of q a ∷ [])) ≤ local_cost (shape_of q node (kid_of q kid ∷ [])) = rw shape replaces.cost in
       Beats-trans q (best group r) (over e.node a) (over node kid) (are_best.enforced group r e a fits replaces.among replaces.fits is)
       (over_at_most q e.node node a kid replaces.number cost most)
 

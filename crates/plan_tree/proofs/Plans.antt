@@ -4,7 +4,10 @@ use Rattle.std.proofs.Math.Nat.{eq-or-lt_of_le}
 use Rattle.query_core.specs.declared.query.Query.{Query}
 use Rattle.plan_defs.specs.Nodes.{Kind, number_of, Tree, over, two, code_of}
 use Rattle.plan_defs.specs.Gives.{kid_of}
-use Rattle.plan_defs.specs.Cost.{Work, scanning, sorting, gathering, merging, broadcasting, local_cost, work_of, cost_of}
+use Rattle.cost_units.specs.declared.shape.CostShape.{CostShape}
+use Rattle.cost_units.specs.declared.shape.CostShape.TheVariants.{Scan, IndexScan, IndexSeek, Filter, HashJoin, MergeJoin, LoopJoin, HashAgg, StreamAgg, PartialAgg, Sort, Gather, GatherMerge, Redistribute, Broadcast}
+use Rattle.cost_units.specs.Cost.{local_cost}
+use Rattle.plan_defs.specs.Cost.{shape_of, cost_of}
 use Rattle.plan_defs.specs.Least.{IsLess}
 use Rattle.plan_tree.proofs.Codes.{AtMost, AtMost-refl, AtMost-trans, AtMost-append, AtMost-not_less}
 
@@ -29,23 +32,33 @@ IsAtMost-not_less q a b (inr x) (inl y) = omega arith
 IsAtMost-not_less q a b (inr x) (inr y) = AtMost-not_less (code_of a) (code_of b) x.1 y.1
 
 -- each node costs something
-pub costs_some : (work : Work) → 1 ≤ local_cost work
+pub costs_some : (shape : CostShape) → 1 ≤ local_cost shape
 unfolding local_cost
-costs_some (scanning rows) = omega arith
-costs_some (sorting rows) = omega arith
-costs_some (gathering rows) = omega arith
-costs_some (merging rows) = omega arith
-costs_some (broadcasting rows) = omega arith
+costs_some (Scan rows) = omega arith
+costs_some (IndexScan rows) = omega arith
+costs_some (IndexSeek out) = omega arith
+costs_some (Filter rows) = omega arith
+costs_some (HashJoin left right out) = omega arith
+costs_some (MergeJoin left right out) = omega arith
+costs_some (LoopJoin left right) = omega arith
+costs_some (HashAgg rows out) = omega arith
+costs_some (StreamAgg rows) = omega arith
+costs_some (PartialAgg rows) = omega arith
+costs_some (Sort rows) = omega arith
+costs_some (Gather rows) = omega arith
+costs_some (GatherMerge rows) = omega arith
+costs_some (Redistribute rows) = omega arith
+costs_some (Broadcast rows) = omega arith
 
 -- a plan is less than the same plan under one more node
 pub kid_at_most : (q : Query) (node : Kind) (a kid : Tree) → IsAtMost q a kid → IsAtMost q a (over node kid)
-kid_at_most q node a kid (inl x) = let some = costs_some (work_of q node (kid_of q kid ∷ [])) in inl (omega arith)
-kid_at_most q node a kid (inr x) = let some = costs_some (work_of q node (kid_of q kid ∷ [])) in inl (omega arith)
+kid_at_most q node a kid (inl x) = let some = costs_some (shape_of q node (kid_of q kid ∷ [])) in inl (omega arith)
+kid_at_most q node a kid (inr x) = let some = costs_some (shape_of q node (kid_of q kid ∷ [])) in inl (omega arith)
 
 -- a node of no greater number and no greater cost over a plan that is at most the other
 pub over_at_most : (q : Query) (node other : Kind) (a b : Tree)
     → number_of node ≤ number_of other
-    → local_cost (work_of q node (kid_of q a ∷ [])) ≤ local_cost (work_of q other (kid_of q b ∷ []))
+    → local_cost (shape_of q node (kid_of q a ∷ [])) ≤ local_cost (shape_of q other (kid_of q b ∷ []))
     → IsAtMost q a b
     → IsAtMost q (over node a) (over other b)
 over_at_most q node other a b number cost (inl x) = inl (omega arith)
@@ -56,7 +69,7 @@ over_at_most q node other a b number cost (inr x) = elim (eq-or-lt_of_le cost) [
 
 -- one node over two plans that are each at most the other
 pub two_at_most : (q : Query) (node : Kind) (a b c d : Tree)
-    → local_cost (work_of q node (kid_of q a ∷ kid_of q c ∷ [])) ≤ local_cost (work_of q node (kid_of q b ∷ kid_of q d ∷ []))
+    → local_cost (shape_of q node (kid_of q a ∷ kid_of q c ∷ [])) ≤ local_cost (shape_of q node (kid_of q b ∷ kid_of q d ∷ []))
     → IsAtMost q a b
     → IsAtMost q c d
     → IsAtMost q (two node a c) (two node b d)

@@ -1,7 +1,7 @@
 ghost use Rattle.std.specs.Prelude.{◌≡◌, ◌≢◌, ◌≤◌, ◌*◌, IfOk};
 ghost use Rattle.query_core.specs.declared.query.Query.{Query};
 ghost use Rattle.plan_defs.specs.Nodes.{Tree};
-ghost use Rattle.plan_defs.specs.Cost.{most_cost};
+ghost use Rattle.cost_units.specs.Cost.{most_cost};
 ghost use Rattle.plan_tree.specs.OneTable.{IsOneTable, IsFound, IsLeastPlan};
 ghost use Rattle.plan_tree.specs.Priced.{Prices};
 ghost use Rattle.plan_tree.specs.Choices.{gather_scan, sort_whole, merge_parts, sort_cheaply, choice_of};

@@ -1,6 +1,6 @@
 ghost use Rattle.std.specs.Prelude.{◌≡◌, ◌≤◌, ◌+◌, ◌*◌, IfOk};
 ghost use Rattle.plan_defs.specs.Nodes.{Tree, leaf, over};
-ghost use Rattle.plan_defs.specs.Cost.{most_cost};
+ghost use Rattle.cost_units.specs.Cost.{most_cost};
 ghost use Rattle.plan_tree.specs.Nodes.{kind_of, IsInRange};
 ghost use Rattle.plan_tree.specs.Priced.{Prices, PutsOver};
 

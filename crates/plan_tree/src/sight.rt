@@ -5,14 +5,7 @@ ghost use Rattle.plan_tree.specs.Nodes.{kind_of};
 ghost use Rattle.plan_tree.specs.Sights.{Sees, SeesAbove};
 
 use crate::node::NodeKind;
-
-/// How many segments have a share of the rows.
-#[derive(Clone, Copy, Debug, PartialEq, Eq)]
-pub enum Class {
-    Spread,
-    One,
-    Copies,
-}
+use cost_units::Class;
 
 /// What a node sees of the first plan below it.
 #[derive(Clone, Copy, Debug, PartialEq, Eq)]

@@ -1,0 +1,10 @@
+//! What the nodes of a plan cost, and how many rows a segment has.
+#![tactic(auto)]
+
+mod cost;
+mod shape;
+#[cfg(test)]
+mod tests;
+
+pub use cost::{bits_are_digits, local, share};
+pub use shape::{Class, CostShape};
