@@ -1,0 +1,4 @@
+pub mod Inserted
+pub mod Ordered
+pub mod Orders
+pub mod Ranges

@@ -1,0 +1,33 @@
+-- Requests, and their numbers.
+use Rattle.std.specs.Prelude.{ℕ, ◌≡◌, ◌+◌, ◌*◌, ◌<◌, ◌≤◌, ⊤}
+use Rattle.request_props.specs.declared.request.Dist.{Dist}
+use Rattle.request_props.specs.declared.request.Dist.TheVariants.{One, Spread, Copies, Hashed}
+use Rattle.request_props.specs.declared.request.Request.{Request}
+
+-- a list has a number below 60
+abbrev pub IsDistInRange : Dist → Type 0
+IsDistInRange One = ⊤
+IsDistInRange Spread = ⊤
+IsDistInRange Copies = ⊤
+IsDistInRange (Hashed list) = list < 60
+
+-- the list and the order are among the 60 that a query can have; the empty order has 0
+pub record IsInRange (request : Request) : Type 0 where
+  pub list : IsDistInRange request.dist
+  pub numbered : request.order ≤ 60
+
+-- the number of a distribution
+abbrev pub dist_code : Dist → ℕ
+dist_code One = 0
+dist_code Spread = 1
+dist_code Copies = 2
+dist_code (Hashed list) = 3 + list
+
+-- the number of a request
+abbrev pub code_of : Request → ℕ
+code_of request = dist_code request.dist * 64 + request.order
+
+-- the number is that of the request
+pub record HasCode (request : Request) (code : ℕ) : Type 0 where
+  pub in_range : IsInRange request
+  pub is_code : code_of request ≡ code

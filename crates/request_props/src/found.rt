@@ -1,0 +1,170 @@
+//! The lists and orders that a query has, each as often as it has them.
+#![tactic(auto)]
+
+ghost use Rattle.std.specs.Prelude.{ℕ, ◌≡◌, ◌<◌, ◌≤◌, ◌++◌, IfOk, OnOk, length};
+ghost use Rattle.std.specs.List.{All};
+ghost use Rattle.request_props.specs.Found.{alone, ascending as ascending_of, elements_of};
+ghost use Rattle.request_props.specs.Found.{found_lists as lists_found};
+ghost use Rattle.request_props.specs.Found.{found_orders as orders_found};
+ghost use Rattle.request_props.specs.Found.{joined_columns as columns_joined};
+ghost use Rattle.request_props.specs.Found.{is_across, sides_of};
+ghost use Rattle.request_props.specs.Found.{sides_across as across, sides_between as between};
+ghost use Rattle.request_props.specs.Found.{table_lists as lists_of_tables};
+ghost use Rattle.request_props.specs.Found.{unless_empty};
+
+use orca_base::List;
+use query_core::{CmpOp, Item, Operand, OrderKey, Pred, Query};
+use std::alloc::{AllocError, Global};
+
+/// The lists by whose hash rows may be placed.
+pub fn found_lists(alloc: Global, query: &Query) -> Result<Vec<List<u32>>, AllocError>
+    ensures value { IfOk result (λ found. found.items ≡ lists_found query.now) }
+{
+    let mut found = table_lists(alloc, query)?;
+    push_alone(alloc, &mut found, joined_columns(alloc, query)?.as_slice())?;
+    push_unless_empty(alloc, &mut found, query.group_by.as_slice())?;
+    Ok(found)
+}
+
+/// The orders that may be asked for, but for the empty one, as lists of elements.
+pub fn found_orders(alloc: Global, query: &Query) -> Result<Vec<List<u32>>, AllocError>
+    ensures value { IfOk result (λ found. found.items ≡ orders_found query.now) }
+{
+    let mut found = Vec::new(alloc);
+    push_unless_empty(alloc, &mut found, wanted_order(alloc, query)?.as_slice())?;
+    let joined = joined_columns(alloc, query)?;
+    push_alone(
+        alloc,
+        &mut found,
+        ascending(alloc, joined.as_slice())?.as_slice(),
+    )?;
+    let grouped = ascending(alloc, query.group_by.as_slice())?;
+    push_unless_empty(alloc, &mut found, grouped.as_slice())?;
+    Ok(found)
+}
+
+/// The elements of the ORDER BY list.
+pub fn wanted_order(alloc: Global, query: &Query) -> Result<Vec<u32>, AllocError>
+    ensures value { IfOk result (λ elements. elements.items ≡ elements_of query.now.order) }
+{
+    elements(alloc, query.order.as_slice())
+}
+
+fn table_lists(alloc: Global, query: &Query) -> Result<Vec<List<u32>>, AllocError>
+    ensures value { IfOk result (λ found. found.items ≡ lists_of_tables query.now) }
+{
+    let mut found = Vec::new(alloc);
+    for table in query.tables.as_slice() {
+        if let Some(list) = &table.hashed {
+            found.push(list.copy(alloc)?)?;
+        }
+    }
+    Ok(found)
+}
+
+fn joined_columns(alloc: Global, query: &Query) -> Result<Vec<u32>, AllocError>
+    ensures value { IfOk result (λ columns. columns.items ≡ columns_joined query.now) }
+{
+    let mut columns = Vec::new(alloc);
+    for pred in query.preds.as_slice() {
+        push_sides(&mut columns, query.items.as_slice(), pred)?;
+    }
+    Ok(columns)
+}
+
+fn push_sides(into: &mut Vec<u32>, items: &[Item], pred: &Pred) -> Result<(), AllocError>
+    ensures { OnOk result (into.new.items ≡ into.old.items ++ sides_of items.now pred.now) }
+{
+    match pred.op {
+        CmpOp::Eq => push_sides_across(into, items, pred.left, &pred.right),
+        CmpOp::Ne => Ok(()),
+        CmpOp::Lt => Ok(()),
+        CmpOp::Le => Ok(()),
+        CmpOp::Gt => Ok(()),
+        CmpOp::Ge => Ok(()),
+    }
+}
+
+fn push_sides_across(
+    into: &mut Vec<u32>,
+    items: &[Item],
+    left: u32,
+    right: &Operand,
+) -> Result<(), AllocError>
+    ensures { OnOk result (into.new.items ≡ into.old.items ++ across items.now left right.now) }
+{
+    match right {
+        Operand::Item(right) => push_columns(into, items, left, *right),
+        Operand::Int(_) => Ok(()),
+        Operand::Str(_) => Ok(()),
+    }
+}
+
+fn push_columns(
+    into: &mut Vec<u32>,
+    items: &[Item],
+    left: u32,
+    right: u32,
+) -> Result<(), AllocError>
+    ensures { OnOk result (into.new.items ≡ into.old.items ++ between items.now left right) }
+{
+    if are_apart(items, left, right) {
+        into.push(left)?;
+        into.push(right)?;
+    }
+    Ok(())
+}
+
+// Whether the items are columns of different tables.
+fn are_apart(items: &[Item], left: u32, right: u32) -> bool
+    ensures { result ≡ is_across items.now left right }
+{
+    match (items.get(left as usize), items.get(right as usize)) {
+        (Some(item), Some(other)) => item.table != other.table,
+        _ => false,
+    }
+}
+
+fn push_alone(alloc: Global, found: &mut Vec<List<u32>>, numbers: &[u32]) -> Result<(), AllocError>
+    ensures { OnOk result (found.new.items ≡ found.old.items ++ alone numbers.now) }
+{
+    for number in numbers {
+        found.push(List::of(vec![in alloc; *number]?))?;
+    }
+    Ok(())
+}
+
+fn push_unless_empty(
+    alloc: Global,
+    found: &mut Vec<List<u32>>,
+    list: &[u32],
+) -> Result<(), AllocError>
+    ensures { OnOk result (found.new.items ≡ found.old.items ++ unless_empty list.now) }
+{
+    if !list.is_empty() {
+        found.push(List::of(Vec::from_slice(alloc, list)?))?;
+    }
+    Ok(())
+}
+
+fn ascending(alloc: Global, columns: &[u32]) -> Result<Vec<u32>, AllocError>
+    requires { All (λ column. column < 60) columns.now }
+    ensures { IfOk result (λ elements. elements.items ≡ ascending_of columns.now) }
+{
+    let mut elements = Vec::new(alloc);
+    for column in columns {
+        elements.push(2 * *column)?;
+    }
+    Ok(elements)
+}
+
+fn elements(alloc: Global, keys: &[OrderKey]) -> Result<Vec<u32>, AllocError>
+    requires { All (λ key. key.item < 60) keys.now }
+    ensures { IfOk result (λ elements. elements.items ≡ elements_of keys.now) }
+{
+    let mut elements = Vec::new(alloc);
+    for key in keys {
+        elements.push(2 * key.item + if key.desc { 1 } else { 0 })?;
+    }
+    Ok(elements)
+}

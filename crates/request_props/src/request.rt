@@ -1,0 +1,72 @@
+ghost use Rattle.std.specs.Prelude.{◌≡◌, ◌↔◌, ◌≤◌, ◌<◌, Some};
+ghost use Rattle.request_props.specs.declared.request.Request.{Request};
+ghost use Rattle.request_props.specs.declared.request.Dist.{Dist};
+ghost use Rattle.request_props.specs.Requests.{IsInRange, IsDistInRange, dist_code as dist_number};
+ghost use Rattle.request_props.specs.Requests.{code_of, HasCode};
+
+/// The distribution that is asked for.
+#[derive(Clone, Copy, Debug, PartialEq, Eq)]
+pub enum Dist {
+    /// All rows on one segment.
+    One,
+    /// Each row on some segment.
+    Spread,
+    /// All rows on each segment.
+    Copies,
+    /// Each row on the segment that the hash of the numbered list says.
+    Hashed(u32),
+}
+
+/// What is asked of a plan: a distribution, and the number of an order, or 0.
+#[derive(Clone, Copy, Debug, PartialEq, Eq)]
+pub struct Request {
+    pub dist: Dist,
+    pub order: u32,
+}
+
+/// The request's number.
+pub fn code(request: Request) -> u32
+    requires { IsInRange request }
+    ensures { result ≡ code_of request }
+{
+    dist_code(request.dist) * 64 + request.order
+}
+
+/// The request of this number; none for a number that no request has.
+pub fn request_of(code: u32) -> Option<Request>
+    ensures exact { (r : Request) → HasCode r code ↔ (result ≡ Some r) }
+{
+    let order = code % 64;
+    if order > 60 {
+        return None;
+    }
+    match dist_of(code / 64) {
+        Some(dist) => Some(Request { dist, order }),
+        None => None,
+    }
+}
+
+fn dist_code(dist: Dist) -> u32
+    requires { IsDistInRange dist }
+    ensures value { result ≡ dist_number dist }
+    ensures few { result < 63 }
+{
+    match dist {
+        Dist::One => 0,
+        Dist::Spread => 1,
+        Dist::Copies => 2,
+        Dist::Hashed(list) => 3 + list,
+    }
+}
+
+fn dist_of(code: u32) -> Option<Dist>
+    ensures exact { (d : Dist) → (IsDistInRange d × (dist_number d ≡ code)) ↔ (result ≡ Some d) }
+{
+    match code {
+        0 => Some(Dist::One),
+        1 => Some(Dist::Spread),
+        2 => Some(Dist::Copies),
+        3..=62 => Some(Dist::Hashed(code - 3)),
+        _ => None,
+    }
+}
