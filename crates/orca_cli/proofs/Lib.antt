@@ -1,9 +1,10 @@
 pub mod Put
-pub mod Words
-pub mod Columns
-pub mod OneTable
+pub mod Others
+pub mod Queries
+pub mod Refusals
+pub mod Memos
 pub mod Stages
 pub mod Puts
-pub mod Queries
 pub mod Causes
 pub mod Outcomes
+pub mod Commands

@@ -1,90 +1,22 @@
 -- The outcome of a run is one, by the bytes of its files.
-use Rattle.std.proofs.Common.{◌≡◌, ℕ, List, [], ◌∷◌, Option, None, Some, Ok, IfSome, refl, sym, ap, ◌∙◌, subst}
+use Rattle.std.proofs.Common.{◌≡◌, ℕ, List, Option, Err, sym, ap, ◌∙◌, subst, Bool, ◌++◌, refl}
 use Rattle.std.specs.List.{concat}
 use Rattle.query_core.specs.declared.catalog.Catalog.{Catalog}
-use Rattle.query_core.specs.declared.catalog.TableInfo.{TableInfo}
 use Rattle.query_core.specs.declared.query.Query.{Query}
 use Rattle.catalog_json.specs.Outcome.{reading_of}
 use Rattle.plan_defs.specs.Nodes.{Tree}
 use Rattle.plan_defs.specs.Text.{plan_section}
 use Rattle.plan_tree.specs.OneTable.{IsLeastPlan}
-use Rattle.orca_cli.specs.Asked.{place_of, ArePlaces, IsOver, Asks}
-use Rattle.orca_cli.specs.QueryForm.{Names, without_newline, parts, IsForm}
-use Rattle.orca_cli.specs.Run.{OffersTable, IsPlanText, IsPlanned, IsUnplanned, IsImpossible, AsksNothing, EndsOver, EndsWithTable, IsEnding}
+use Rattle.orca_cli.specs.Asked.{SaysCatalog, IsNoCatalog}
+use Rattle.orca_cli.specs.Run.{GoesOn, IsPlanText, IsImpossible, IsAnswer, planned, unplanned, refused, IsEnding, answered, catalog_refused, catalog_unread, query_unread}
 use Rattle.orca_cli.specs.Laws.{IsOutcome, Outcome, Same, OneOutcome}
 use Rattle.orca_cli.specs.Command.{FileNames}
-use Rattle.orca_cli.specs.Texts.{catalog_refused, query_refused, no_plan}
-use Rattle.orca_cli.proofs.Causes.{offers_same}
+use Rattle.orca_cli.specs.Texts as texts
 use Rattle.orca_cli.specs.declared.status.Status.{Status}
-use Rattle.orca_cli.specs.declared.status.Status.TheVariants.{Planned, NoPlan, Usage, QueryRefused, CatalogRefused, TooManyEntries, ReadFault, WriteFault, Memory}
-use Rattle.orca_cli.proofs.Queries.{query_same}
-
--- a text has one form
-one_form : (text : List ℕ) (names others : Names) → IsForm text names → IsForm text others → names ≡ others
-one_form text names others is again =
-    let phrase = sym is.phrase ∙ again.phrase in
-    let output : names.output ≡ others.output = cc in
-    let table : names.table ≡ others.table = cc in
-    let order : names.order ≡ others.order = cc in
-    λ i. record { output = output i; table = table i; order = order i }
-
--- names have one place each
-one_place : (a b : ℕ) (place : Option ℕ) → place ≡ Some a → place ≡ Some b → a ≡ b
-one_place a b place is again = cc
-
--- one text asks one table for one query
-one_query : (segments : ℕ) (table : TableInfo) (text : List ℕ) (query other : Query) → Asks segments table text query → Asks segments table text other → query ≡ other
-one_query segments table text query other is again =
-    let names = one_form text is.names again.names is.form again.form in
-    let places : ArePlaces table is.names again.output_place again.order_place = subst (λ n. ArePlaces table n again.output_place again.order_place) (sym names) again.places in
-    let output = one_place is.output_place again.output_place (place_of table.columns is.names.output) is.places.has_output places.has_output in
-    let order = one_place is.order_place again.order_place (place_of table.columns is.names.order) is.places.has_order places.has_order in
-    let over : IsOver segments table is.output_place is.order_place other =
-    subst (λ o. IsOver segments table is.output_place o other) (sym order) (subst (λ o. IsOver segments table o again.order_place other) (sym output) again.over) in
-    query_same query other (is.over.segments ∙ sym over.segments) (is.over.tables ∙ sym over.tables) (is.over.items ∙ sym over.items) (is.over.preds ∙ sym over.preds)
-    (is.over.links ∙ sym over.links) (is.over.grouped ∙ sym over.grouped) (is.over.group_by ∙ sym over.group_by) (is.over.aggs ∙ sym over.aggs)
-    (is.over.output ∙ sym over.output) (is.over.order ∙ sym over.order) (is.over.options ∙ sym over.options)
-
--- how a run over known bytes ends
-data Answer (catalog asked : List ℕ) (status : Status) (text : List ℕ) : Type 0 where
-  planned : status ≡ Planned → (offer : OffersTable catalog) → IsPlanned offer.catalog.segments offer.table asked text → Answer catalog asked status text
-  unplanned : status ≡ NoPlan → (offer : OffersTable catalog) → IsUnplanned offer.catalog.segments offer.table asked → text ≡ no_plan → Answer catalog asked status text
-  asks_nothing : status ≡ QueryRefused → (offer : OffersTable catalog) → AsksNothing offer.catalog.segments offer.table asked → text ≡ query_refused → Answer catalog asked status text
-  no_table : status ≡ CatalogRefused → (OffersTable catalog → ⊥) → text ≡ catalog_refused → Answer catalog asked status text
-
--- what the shelf tells of the query's file
-answer_over : (catalog asked : List ℕ) (status : Status) (text : List ℕ) → EndsWithTable catalog (Some asked) status text → Answer catalog asked status text
-answer_over catalog asked Planned text is = planned refl is.0 is.1
-answer_over catalog asked NoPlan text is = unplanned refl is.0 is.1.0 is.1.1
-answer_over catalog asked Usage text is = absurd is.1
-answer_over catalog asked QueryRefused text is = asks_nothing refl is.0 is.1.0 is.1.1
-answer_over catalog asked CatalogRefused text is = absurd is.1
-answer_over catalog asked TooManyEntries text is = absurd is.1
-answer_over catalog asked ReadFault text is = absurd is.1
-answer_over catalog asked WriteFault text is = absurd is.1
-answer_over catalog asked Memory text is = absurd is.1
-
--- what the shelf tells of both files
-answer_with : (held : List ℕ → Option (List ℕ)) (files : FileNames) (catalog asked : List ℕ) (status : Status) (text : List ℕ) → held files.catalog ≡ Some catalog → held files.query ≡ Some asked
-    → IfSome (held files.catalog) (λ bytes. EndsWithTable bytes (held files.query) status text) → Answer catalog asked status text
-answer_with held files catalog asked status text catalog_told query_told is =
-    let over = subst (λ content. IfSome content (λ bytes. EndsWithTable bytes (held files.query) status text)) catalog_told is in
-    answer_over catalog asked status text (subst (λ content. EndsWithTable catalog content status text) query_told over)
-
-answer_of : (files : FileNames) (held : List ℕ → Option (List ℕ)) (catalog asked : List ℕ) (status : Status) (text : List ℕ) → Outcome files held catalog asked status text → Answer catalog asked status text
-answer_of files held catalog asked Planned text o = answer_with held files catalog asked Planned text o.catalog_told o.query_told o.ends
-answer_of files held catalog asked NoPlan text o = answer_with held files catalog asked NoPlan text o.catalog_told o.query_told o.ends.0
-answer_of files held catalog asked Usage text o = absurd o.ends
-answer_of files held catalog asked QueryRefused text o = answer_with held files catalog asked QueryRefused text o.catalog_told o.query_told o.ends.0
-answer_of files held catalog asked CatalogRefused text o = no_table refl (subst (λ content. IfSome content (λ bytes. OffersTable bytes → ⊥)) o.catalog_told o.ends.0) o.ends.1
-answer_of files held catalog asked TooManyEntries text o = absurd o.ends
-answer_of files held catalog asked ReadFault text o = absurd o.by_files
-answer_of files held catalog asked WriteFault text o = absurd o.ends
-answer_of files held catalog asked Memory text o = absurd o.ends
-
--- the query that one reading of the catalogue is asked for is the one of the other
-query_again : (catalog asked : List ℕ) (offer other : OffersTable catalog) (query : Query) → Asks offer.catalog.segments offer.table asked query → Asks other.catalog.segments other.table asked query
-query_again catalog asked offer other query asks = offers_same catalog offer other asked query asks
+use Rattle.orca_cli.specs.declared.status.Status.TheVariants.{CatalogRefused}
+use Rattle.orca_cli.proofs.Causes.{told_one, one_catalog, some_catalog}
+use Rattle.orca_cli.proofs.Memos.{OneMemo, section_one}
+use Rattle.orca_cli.proofs.Refusals.{OneReading, one_query, never_refused, one_cause}
 
 -- a query has one least plan
 unfoldable OneLeast : Type 0
@@ -98,43 +30,67 @@ one_text one query other text again same is other_is =
     let tree = one query is.plan here.plan is.least here.least in
     is.lines ∙ ap (λ plan. concat (plan_section query plan)) tree ∙ sym here.lines
 
-same_plans : OneLeast → (catalog asked : List ℕ) (first second : Status) (text other : List ℕ) (offer again : OffersTable catalog) → first ≡ Planned → second ≡ Planned
-    → IsPlanned offer.catalog.segments offer.table asked text → IsPlanned again.catalog.segments again.table asked other → Same first second text other
-same_plans one catalog asked first second text other offer again first_is second_is is other_is =
-    let asks = query_again catalog asked offer again is.0 is.1 in
-    record {
-      status = first_is ∙ sym second_is;
-      same_text = one_text one is.0 other_is.0 text other (one_query again.catalog.segments again.table asked is.0 other_is.0 asks other_is.1) is.2 other_is.2;
-    }
-
 -- a query with a plan isn't one without
-plan_or_none : (catalog asked text : List ℕ) (offer again : OffersTable catalog) → IsPlanned offer.catalog.segments offer.table asked text → IsUnplanned again.catalog.segments again.table asked → ⊥
-plan_or_none catalog asked text offer again is none =
-    let asks = query_again catalog asked offer again is.0 is.1 in
-    let same = one_query again.catalog.segments again.table asked is.0 none.0 asks none.1 in
-    let impossible : IsImpossible is.0 = subst IsImpossible (sym same) none.2 in
-    impossible is.2.plan is.2.least.serves
+plan_or_none : (query other : Query) (text : List ℕ) → query ≡ other → IsPlanText query text → IsImpossible other → ⊥
+plan_or_none query other text same is none = (subst IsImpossible (sym same) none) is.plan is.least.serves
 
-same_answers : OneLeast → (catalog asked : List ℕ) (first second : Status) (text other : List ℕ) → Answer catalog asked first text → Answer catalog asked second other → Same first second text other
-same_answers one catalog asked first second text other (planned a offer is) (planned b again is_too) = same_plans one catalog asked first second text other offer again a b is is_too
-same_answers one catalog asked first second text other (planned a offer is) (unplanned b again none t) = absurd (plan_or_none catalog asked text offer again is none)
-same_answers one catalog asked first second text other (planned a offer is) (asks_nothing b again nothing t) = absurd (nothing is.0 (query_again catalog asked offer again is.0 is.1))
-same_answers one catalog asked first second text other (planned a offer is) (no_table b none t) = absurd (none offer)
-same_answers one catalog asked first second text other (unplanned a offer none s) (planned b again is) = absurd (plan_or_none catalog asked other again offer is none)
-same_answers one catalog asked first second text other (unplanned a offer none s) (unplanned b again none_too t) = record { status = a ∙ sym b; same_text = s ∙ sym t }
-same_answers one catalog asked first second text other (unplanned a offer none s) (asks_nothing b again nothing t) = absurd (nothing none.0 (query_again catalog asked offer again none.0 none.1))
-same_answers one catalog asked first second text other (unplanned a offer none s) (no_table b no_offer t) = absurd (no_offer offer)
-same_answers one catalog asked first second text other (asks_nothing a offer nothing s) (planned b again is) = absurd (nothing is.0 (query_again catalog asked again offer is.0 is.1))
-same_answers one catalog asked first second text other (asks_nothing a offer nothing s) (unplanned b again none t) = absurd (nothing none.0 (query_again catalog asked again offer none.0 none.1))
-same_answers one catalog asked first second text other (asks_nothing a offer nothing s) (asks_nothing b again nothing_too t) = record { status = a ∙ sym b; same_text = s ∙ sym t }
-same_answers one catalog asked first second text other (asks_nothing a offer nothing s) (no_table b no_offer t) = absurd (no_offer offer)
-same_answers one catalog asked first second text other (no_table a none s) (planned b again is) = absurd (none again)
-same_answers one catalog asked first second text other (no_table a none s) (unplanned b again is t) = absurd (none again)
-same_answers one catalog asked first second text other (no_table a none s) (asks_nothing b again is t) = absurd (none again)
-same_answers one catalog asked first second text other (no_table a none s) (no_table b none_too t) = record { status = a ∙ sym b; same_text = s ∙ sym t }
+-- the texts behind two fronts that are the same are one
+goes_on_one : OneMemo → (memo : Bool) (query other : Query) (front fore text again : List ℕ) → query ≡ other → front ≡ fore → GoesOn memo query front text → GoesOn memo other fore again → text ≡ again
+goes_on_one one memo query other front fore text again same fronts goes goes_too =
+    let here : GoesOn memo query fore again = subst (λ q. GoesOn memo q fore again) (sym same) goes_too in
+    goes.joined ∙ ap (λ f. f ++ goes.section) fronts ∙ ap (λ section. fore ++ section) (section_one one query memo goes.section here.section goes.is_section here.is_section) ∙ sym here.joined
+
+module _ (reading : OneReading) (least : OneLeast) (closure : OneMemo) (catalog : Catalog) (memo : Bool) (asked : List ℕ) (first second : Status) (text other : List ℕ) where
+  -- two answers to one text over one catalogue are the same
+  same_answers : IsAnswer catalog memo asked first text → IsAnswer catalog memo asked second other → Same first second text other
+  same_answers (planned a q asks plan is_plan goes) (planned b r asks_too plan_too is_plan_too goes_too) =
+      let same : q ≡ r = one_query reading catalog asked q r asks asks_too in
+      record { status = a ∙ sym b; same_text = goes_on_one closure memo q r plan plan_too text other same (one_text least q r plan plan_too same is_plan is_plan_too) goes goes_too }
+  same_answers (planned a q asks plan is_plan goes) (unplanned b r asks_too none goes_too) = absurd (plan_or_none q r plan (one_query reading catalog asked q r asks asks_too) is_plan none)
+  same_answers (planned a q asks plan is_plan goes) (refused b cause why line) = absurd (never_refused reading catalog asked q cause asks why)
+  same_answers (unplanned a q asks none goes) (planned b r asks_too plan is_plan goes_too) = absurd (plan_or_none r q plan (one_query reading catalog asked r q asks_too asks) is_plan none)
+  same_answers (unplanned a q asks none goes) (unplanned b r asks_too none_too goes_too) =
+      record { status = a ∙ sym b; same_text = goes_on_one closure memo q r texts.no_plan texts.no_plan text other (one_query reading catalog asked q r asks asks_too) refl goes goes_too }
+  same_answers (unplanned a q asks none goes) (refused b cause why line_too) = absurd (never_refused reading catalog asked q cause asks why)
+  same_answers (refused a cause why line) (planned b r asks plan is_plan goes) = absurd (never_refused reading catalog asked r cause asks why)
+  same_answers (refused a cause why line) (unplanned b r asks none goes) = absurd (never_refused reading catalog asked r cause asks why)
+  same_answers (refused a cause why line) (refused b cause_too why_too line_too) =
+      record { status = a ∙ sym b; same_text = line ∙ ap texts.query_refused (one_cause reading catalog asked cause cause_too why why_too) ∙ sym line_too }
+
+-- how a run over known bytes ends
+data Known (bytes : List ℕ) (memo : Bool) (asked : List ℕ) (status : Status) (text : List ℕ) : Type 0 where
+  over : (catalog : Catalog) → SaysCatalog bytes catalog → IsAnswer catalog memo asked status text → Known bytes memo asked status text
+  without : status ≡ CatalogRefused → (cause : List ℕ) → IsNoCatalog bytes cause → text ≡ texts.catalog_refused cause → Known bytes memo asked status text
+
+-- what the shelf tells of both files
+known_of : (files : FileNames) (memo : Bool) (held : List ℕ → Option (List ℕ)) (bytes asked : List ℕ) (status : Status) (text : List ℕ) → (o : Outcome files memo held bytes asked status text) → IsEnding (record { files = files; memo = memo }) held o.before o.after status text → Known bytes memo asked status text
+known_of files memo held bytes asked status text o (answered catalog offers is) =
+    over catalog (subst (λ b. SaysCatalog b catalog) (told_one (held files.catalog) offers.bytes bytes offers.told o.catalog_told) offers.says)
+    (subst (λ b. IsAnswer catalog memo b status text) (told_one (held files.query) is.asked asked is.told o.query_told) is.answer)
+known_of files memo held bytes asked status text o (catalog_refused is none) =
+    without is none.cause (subst (λ b. IsNoCatalog b none.cause) (told_one (held files.catalog) none.bytes bytes none.told o.catalog_told) none.no_catalog) none.line
+known_of files memo held bytes asked status text o (catalog_unread is fault) = absurd (subst IsOutcome is o.by_files)
+known_of files memo held bytes asked status text o (query_unread is catalog offers fault) = absurd (subst IsOutcome is o.by_files)
+
+-- bytes that are no catalogue have one cause
+one_fault : (bytes cause other : List ℕ) → IsNoCatalog bytes cause → IsNoCatalog bytes other → cause ≡ other
+one_fault bytes cause other is again =
+    let refused_here : reading_of bytes ≡ Err is.fault = is.first in
+    let refused_again : reading_of bytes ≡ Err again.fault = again.first in
+    let fault : is.fault ≡ again.fault = cc in
+    is.caused ∙ ap texts.catalog_cause fault ∙ sym again.caused
+
+same_known : OneReading → OneLeast → OneMemo → (bytes : List ℕ) (memo : Bool) (asked : List ℕ) (first second : Status) (text other : List ℕ) → Known bytes memo asked first text → Known bytes memo asked second other → Same first second text other
+same_known reading least closure bytes memo asked first second text other (over k says is) (over l says_too is_too) =
+    let same = one_catalog bytes l k says_too says in
+    same_answers reading least closure k memo asked first second text other is (subst (λ c. IsAnswer c memo asked second other) same is_too)
+same_known reading least closure bytes memo asked first second text other (over k says is) (without b cause none line) = absurd (some_catalog bytes cause k says none)
+same_known reading least closure bytes memo asked first second text other (without a cause none line) (over l says is) = absurd (some_catalog bytes cause l says none)
+same_known reading least closure bytes memo asked first second text other (without a cause none line) (without b cause_too none_too line_too) =
+    record { status = a ∙ sym b; same_text = line ∙ ap texts.catalog_refused (one_fault bytes cause cause_too none none_too) ∙ sym line_too }
 
 -- two runs over the same bytes have one outcome
-pub one_outcome_of : ((q : Query) (s t : Tree) → IsLeastPlan q s → IsLeastPlan q t → s ≡ t) → OneOutcome
+pub one_outcome_of : OneReading → OneMemo → ((q : Query) (s t : Tree) → IsLeastPlan q s → IsLeastPlan q t → s ≡ t) → OneOutcome
 unfolding OneLeast
-one_outcome_of one files others held told catalog asked first second text other o again =
-    same_answers one catalog asked first second text other (answer_of files held catalog asked first text o) (answer_of others told catalog asked second other again)
+one_outcome_of reading closure least files others memo held told bytes asked first second text other o again =
+    same_known reading least closure bytes memo asked first second text other (known_of files memo held bytes asked first text o o.ends) (known_of others memo told bytes asked second other again again.ends)

@@ -1,164 +1,178 @@
 -- How the ending of a stage of a run is the ending of the stage around it.
-use Rattle.std.proofs.Common.{◌≡◌, ◌⊎◌, ℕ, ◌<◌, ◌≤◌, List, [], ◌∷◌, ◌++◌, length, map, flat_map, Option, None, Some, Result, Ok, Err, IfOk, IfSome, min, ◌+◌, ◌-◌, ◌^◌, refl, sym, subst, ap, ◌∙◌, inl, inr, arith, string_bytes}
+use Rattle.std.proofs.Common.{◌≡◌, ◌≢◌, ℕ, Bool, ◌<◌, ◌≤◌, List, [], ◌∷◌, ◌++◌, length, map, flat_map, Option, None, Some, Result, Ok, Err, IfOk, ◌+◌, ◌^◌, refl, sym, subst, ap, ◌∙◌, inl, inr, arith}
 use Rattle.std.specs.List.{concat}
-use Rattle.query_core.specs.declared.catalog.TableInfo.{TableInfo}
+use Rattle.std.specs.Prelude.{replicate}
+use Rattle.std.proofs.lemmas.List.{length-replicate}
+use Rattle.std.proofs.lemmas.Bool.{lt-ltb}
+use Rattle.query_core.specs.declared.catalog.Catalog.{Catalog}
 use Rattle.query_core.specs.declared.query.Query.{Query}
 use Rattle.orca_base.specs.Causes.{Rose}
 use Rattle.orca_io.specs.Shelf.{Exceeds}
-use Rattle.std.proofs.lemmas.Bool.{lt-ltb}
-use Rattle.query_core.specs.declared.catalog.Catalog.{Catalog}
-use Rattle.catalog_json.specs.Outcome.{reading_of}
-use Rattle.catalog_json.specs.declared.fault.CatalogFault.TheVariants.{TooLong}
-use Rattle.orca_cli.specs.Asked.{HasPlainTable, Asks}
+use Rattle.catalog_json.specs.Outcome.{reading_of, CatalogReads}
+use Rattle.catalog_json.specs.declared.fault.CatalogFault.{CatalogFault}
+use Rattle.catalog_json.specs.declared.fault.CatalogFault.TheVariants as catalogs
+use Rattle.sql_reader.specs.Faults.{IsFirst, IsReading}
+use Rattle.sql_reader.specs.declared.faults.SqlFault.TheVariants as selects
+use Rattle.sql_reader.specs.declared.faults.SqlFault.{SqlFault}
+use Rattle.sql_reader.specs.declared.syntax.Select.{Select}
+use Rattle.sql_bind.specs.Binding.{binding}
+use Rattle.sql_bind.specs.declared.fault.BindFault.{BindFault}
+use Rattle.sql_bind.specs.declared.fault.BindFault.TheVariants as names
+use Rattle.plan_tree.specs.OneTable.{IsOneTable}
+use Rattle.orca_cli.specs.Asked.{IsNoCatalog, IsBoundAs, Asks, IsUnread, IsUnbound, IsUnbuilt, IsRefused}
 use Rattle.orca_cli.specs.Views.{EndsAs, text_of}
 use Rattle.orca_cli.specs.declared.ending.Ending.{Ending}
-use Rattle.orca_cli.specs.Command.{FileNames}
+use Rattle.orca_cli.specs.Command.{PlanCommand}
 use Rattle.orca_cli.specs.Reading.{AreHeld}
-use Rattle.orca_cli.specs.Texts.{query_refused, catalog_refused, no_plan}
-use Rattle.orca_cli.specs.Run.{OffersTable, IsReadFault, EndsOver, EndsWithTable, IsEnding}
+use Rattle.orca_cli.specs.Texts as texts
+use Rattle.orca_cli.specs.Run.{AreTold, Offers, GoesOn, IsAnswer, planned, unplanned, refused, IsReadFault, IsEnding, answered, catalog_refused, query_unread}
+use Rattle.orca_cli.specs.Stages as stages
 use Rattle.orca_cli.specs.Stages.{IsPlanOf, IsEndingAt, IsEndingOver}
 use Rattle.orca_cli.specs.declared.status.Status.{Status}
-use Rattle.orca_cli.specs.declared.status.Status.TheVariants.{Planned, NoPlan, Usage, QueryRefused, CatalogRefused, TooManyEntries, ReadFault, WriteFault, Memory}
+use Rattle.orca_cli.specs.declared.status.Status.TheVariants.{QueryRefused, CatalogRefused}
 
 -- what follows from a fact follows where that holds of an Ok
 pub IfOk-then : {T E : Type 0} (P Q : T → Type 0) (r : Result T E) → ((x : T) → P x → Q x) → IfOk r P → IfOk r Q
 IfOk-then P Q (Ok x) step fact = step x fact
 IfOk-then P Q (Err e) step fact = tt
 
+-- what follows from two facts follows where both hold of an Ok
+pub IfOk-both : {T E : Type 0} (P Q R : T → Type 0) (r : Result T E) → ((x : T) → P x → Q x → R x) → IfOk r P → IfOk r Q → IfOk r R
+IfOk-both P Q R (Ok x) step first second = step x first second
+IfOk-both P Q R (Err e) step first second = tt
+
 -- the pieces of a list, joined
 pub flat_map-concat : {X : Type 0} (f : X → List ℕ) (xs : List X) → flat_map f xs ≡ concat (map f xs)
 flat_map-concat f [] = refl
 flat_map-concat f (x ∷ xs) = ap (λ rest. f x ++ rest) (flat_map-concat f xs)
 
--- the plan of the query that is asked for
-pub plan_over : (segments : ℕ) (table : TableInfo) (asked : List ℕ) (query : Query) (status : Status) (text : List ℕ)
-    → Asks segments table asked query → IsPlanOf query status text → EndsOver segments table (Some asked) status text
-plan_over segments table asked query Planned text asks is = (query, asks, is)
-plan_over segments table asked query NoPlan text asks is = ((query, asks, is.0), is.1)
-plan_over segments table asked query Usage text asks is = is
-plan_over segments table asked query QueryRefused text asks is = absurd is
-plan_over segments table asked query CatalogRefused text asks is = is
-plan_over segments table asked query TooManyEntries text asks is = is
-plan_over segments table asked query ReadFault text asks is = is
-plan_over segments table asked query WriteFault text asks is = is
-plan_over segments table asked query Memory text asks is = is
+-- what holds of a status and a text holds of an ending that has them
+pub as_ended : (P : Status → List ℕ → Type 0) (ending : Ending) (status : Status) (text : List ℕ) → EndsAs ending status text → P status text → P ending.status (text_of ending)
+as_ended P ending status text is fact = subst (λ s. P s (text_of ending)) (sym is.status) (subst (λ t. P status t) (sym is.text) fact)
 
--- an ending by the bytes that were read is one by what the shelf tells
-pub told_over : (segments : ℕ) (table : TableInfo) (held : Option (List ℕ)) (limit : ℕ) (bytes : List ℕ) (status : Status) (text : List ℕ)
-    → AreHeld held limit bytes → EndsOver segments table (Some bytes) status text → EndsOver segments table held status text
-told_over segments table (Some content) limit bytes status text are is = subst (λ content. EndsOver segments table (Some content) status text) are.told is
-told_over segments table None limit bytes Planned text are is = tt
-told_over segments table None limit bytes NoPlan text are is = (tt, is.1)
-told_over segments table None limit bytes Usage text are is = is
-told_over segments table None limit bytes QueryRefused text are is = (tt, is.1)
-told_over segments table None limit bytes CatalogRefused text are is = is
-told_over segments table None limit bytes TooManyEntries text are is = is
-told_over segments table None limit bytes ReadFault text are is = is
-told_over segments table None limit bytes WriteFault text are is = is
-told_over segments table None limit bytes Memory text are is = is
+-- the plan of the query that is asked for, and the memo where it is asked for
+pub plan_answer : (catalog : Catalog) (memo : Bool) (asked : List ℕ) (query : Query) (status : Status) (front text : List ℕ) → Asks catalog asked query → IsPlanOf query status front → GoesOn memo query front text
+    → IsAnswer catalog memo asked status text
+plan_answer catalog memo asked query status front text asks (stages.least is plan) goes = planned is query asks front plan goes
+plan_answer catalog memo asked query status front text asks (stages.none is impossible line) goes =
+    unplanned is query asks impossible (subst (λ line. GoesOn memo query line text) line goes)
 
--- an ending with no fault of the query's file
-pub at_over : (segments : ℕ) (table : TableInfo) (name : List ℕ) (held : Option (List ℕ)) (before after : List ℕ → ℕ) (status : Status) (text : List ℕ)
-    → EndsOver segments table held status text → IsEndingAt segments table name held before after status text
-at_over segments table name held before after Planned text is = is
-at_over segments table name held before after NoPlan text is = is
-at_over segments table name held before after Usage text is = is
-at_over segments table name held before after QueryRefused text is = is
-at_over segments table name held before after CatalogRefused text is = is
-at_over segments table name held before after TooManyEntries text is = is
-at_over segments table name held before after ReadFault text is = absurd is
-at_over segments table name held before after WriteFault text is = is
-at_over segments table name held before after Memory text is = is
+-- the ending with the section that is asked for behind it
+pub followed_answer : (catalog : Catalog) (memo : Bool) (asked : List ℕ) (query : Query) (front made : Ending) → Asks catalog asked query → IsPlanOf query front.status (text_of front)
+    → made.status ≡ front.status → GoesOn memo query (text_of front) (text_of made) → IsAnswer catalog memo asked made.status (text_of made)
+followed_answer catalog memo asked query front made asks plan same goes =
+    plan_answer catalog memo asked query made.status (text_of front) (text_of made) asks (subst (λ s. IsPlanOf query s (text_of front)) (sym same) plan) goes
 
--- a text over the limit asks for nothing
-pub long_over : (segments : ℕ) (table : TableInfo) (held : Option (List ℕ)) → Exceeds held 65536 → EndsOver segments table held QueryRefused query_refused
-long_over segments table None exceeds = (tt, refl)
-long_over segments table (Some content) exceeds = ((λ query asks. long_again (length content) asks.short exceeds), refl)
-  where
-    long_again : (n : ℕ) → n ≤ 65536 → 65536 < n → ⊥
-    long_again n short long = omega arith
+-- a query that is refused for the cause that the line gives
+pub refused_answer : (catalog : Catalog) (memo : Bool) (asked cause given : List ℕ) (ending : Ending) → IsRefused catalog asked cause → given ≡ cause → EndsAs ending QueryRefused (texts.query_refused given)
+    → IsAnswer catalog memo asked ending.status (text_of ending)
+refused_answer catalog memo asked cause given ending why same is = refused is.status cause why (is.text ∙ ap texts.query_refused same)
 
--- an ending over the table that the catalogue's bytes offer
-pub over_table : (catalog : List ℕ) (offer : OffersTable catalog) (name : List ℕ) (held : Option (List ℕ)) (before after : List ℕ → ℕ) (status : Status) (text : List ℕ)
-    → IsEndingAt offer.catalog.segments offer.table name held before after status text → IsEndingOver catalog name held before after status text
-over_table catalog offer name held before after Planned text is = (offer, is)
-over_table catalog offer name held before after NoPlan text is = (offer, is)
-over_table catalog offer name held before after Usage text is = is
-over_table catalog offer name held before after QueryRefused text is = (offer, is)
-over_table catalog offer name held before after CatalogRefused text is = absurd is
-over_table catalog offer name held before after TooManyEntries text is = is
-over_table catalog offer name held before after ReadFault text is = (is, offer)
-over_table catalog offer name held before after WriteFault text is = is
-over_table catalog offer name held before after Memory text is = is
+-- a query that is bound and not of the kind that is planned
+pub unbuilt_answer : (catalog : Catalog) (memo : Bool) (asked : List ℕ) (query : Query) (ending : Ending) → IsBoundAs catalog asked query → (IsOneTable query → ⊥) → EndsAs ending QueryRefused (texts.query_refused texts.not_built)
+    → IsAnswer catalog memo asked ending.status (text_of ending)
+unbuilt_answer catalog memo asked query ending bound unbuilt is =
+    let why : IsUnbuilt catalog asked texts.not_built = record { query = query; bound = bound; unbuilt = unbuilt; caused = refl } in
+    refused_answer catalog memo asked texts.not_built texts.not_built ending (inr (inr why)) refl is
+
+-- a select whose names can't be bound
+pub unbound_answer : (catalog : Catalog) (memo : Bool) (asked given : List ℕ) (select : Select) (fault : BindFault) (ending : Ending) → IsReading asked select → binding select catalog ≡ Err fault → fault ≢ names.Memory
+    → given ≡ texts.bind_cause fault → EndsAs ending QueryRefused (texts.query_refused given) → IsAnswer catalog memo asked ending.status (text_of ending)
+unbound_answer catalog memo asked given select fault ending reading first not_memory same is =
+    let why : IsUnbound catalog asked (texts.bind_cause fault) = record { select = select; reading = reading; fault = fault; first = first; not_memory = not_memory; caused = refl } in
+    refused_answer catalog memo asked (texts.bind_cause fault) given ending (inr (inl why)) same is
+
+-- a text that is no select
+pub unread_answer : (catalog : Catalog) (memo : Bool) (asked given : List ℕ) (fault : SqlFault) (ending : Ending) → IsFirst asked fault → given ≡ texts.sql_cause fault → EndsAs ending QueryRefused (texts.query_refused given)
+    → IsAnswer catalog memo asked ending.status (text_of ending)
+unread_answer catalog memo asked given fault ending first same is =
+    let why : IsUnread asked (texts.sql_cause fault) = record { fault = fault; first = first; caused = refl } in
+    refused_answer catalog memo asked (texts.sql_cause fault) given ending (inl why) same is
+
+-- ---- what a shelf tells
+
+-- bytes that were read are those that are told of
+pub read_told : (held : Option (List ℕ)) (limit : ℕ) (bytes : List ℕ) → AreHeld held limit bytes → AreTold held bytes
+read_told held limit bytes are = are.told
+
+-- some bytes that are longer than the limit, as what is told
+pub record AreLong (held : Option (List ℕ)) (limit : ℕ) : Type 0 where
+  pub bytes : List ℕ
+  pub told : AreTold held bytes
+  pub long : limit < length bytes
+
+-- a file over the limit holds such bytes
+pub exceeding : (held : Option (List ℕ)) (limit : ℕ) → Exceeds held limit → AreLong held limit
+exceeding None limit exceeds =
+    let long : List ℕ = replicate (limit + 1) 0 in
+    let count : length long ≡ limit + 1 = length-replicate (limit + 1) 0 in
+    record { bytes = long; told = tt; long = omega (arith, count) }
+exceeding (Some content) limit exceeds = record { bytes = content; told = refl; long = exceeds }
+
+-- ---- the query's file
+
+-- the answer to the bytes that were read
+pub answer_read : (catalog : Catalog) (memo : Bool) (name : List ℕ) (held : Option (List ℕ)) (before after : List ℕ → ℕ) (limit : ℕ) (bytes : List ℕ) (status : Status) (text : List ℕ)
+    → AreHeld held limit bytes → IsAnswer catalog memo bytes status text → IsEndingAt catalog memo name held before after status text
+answer_read catalog memo name held before after limit bytes status text are is = stages.answered (record { asked = bytes; told = are.told; answer = is })
+
+-- a text over the limit is refused as too long
+pub long_query : (catalog : Catalog) (memo : Bool) (name : List ℕ) (held : Option (List ℕ)) (before after : List ℕ → ℕ) (ending : Ending)
+    → ((bytes : List ℕ) → 2 ^ 16 < length bytes → IsFirst bytes selects.TooLong) → Exceeds held 65536
+    → EndsAs ending QueryRefused (texts.query_refused (texts.sql_cause selects.TooLong))
+    → IsEndingAt catalog memo name held before after ending.status (text_of ending)
+long_query catalog memo name held before after ending first exceeds is =
+    let long = exceeding held 65536 exceeds in
+    let answer = unread_answer catalog memo long.bytes (texts.sql_cause selects.TooLong) selects.TooLong ending (first long.bytes long.long) refl is in
+    stages.answered (record { asked = long.bytes; told = long.told; answer = answer })
+
+-- ---- the catalogue's file
+
+-- bytes over the limit are no catalogue
+too_long : (bytes : List ℕ) → 1048576 < length bytes → reading_of bytes ≡ Err catalogs.TooLong
+unfolding reading_of
+too_long bytes long = rw (lt-ltb 1048576 (length bytes) long) refl
+
+-- a catalogue's file over the limit is refused as too long
+pub long_catalog : (command : PlanCommand) (held : List ℕ → Option (List ℕ)) (before after : List ℕ → ℕ) (ending : Ending) → Exceeds (held command.files.catalog) 1048576
+    → EndsAs ending CatalogRefused (texts.catalog_refused (texts.catalog_cause catalogs.TooLong))
+    → IsEnding command held before after ending.status (text_of ending)
+long_catalog command held before after ending exceeds is =
+    let long = exceeding (held command.files.catalog) 1048576 exceeds in
+    let none : IsNoCatalog long.bytes (texts.catalog_cause catalogs.TooLong) = record { fault = catalogs.TooLong; first = too_long long.bytes long.long; not_memory = λ same. cc; caused = refl } in
+    catalog_refused is.status (record { bytes = long.bytes; told = long.told; cause = texts.catalog_cause catalogs.TooLong; no_catalog = none; line = is.text })
+
+-- bytes that are no catalogue, for the cause that the line gives
+pub refused_over : (bytes : List ℕ) (memo : Bool) (name given : List ℕ) (held : Option (List ℕ)) (before after : List ℕ → ℕ) (fault : CatalogFault) (ending : Ending) → CatalogReads bytes (Err fault) → fault ≢ catalogs.Memory
+    → given ≡ texts.catalog_cause fault → EndsAs ending CatalogRefused (texts.catalog_refused given) → IsEndingOver bytes memo name held before after ending.status (text_of ending)
+refused_over bytes memo name given held before after fault ending reads not_memory same is =
+    let none : IsNoCatalog bytes (texts.catalog_cause fault) = record { fault = fault; first = sym (reads (λ e. not_memory cc)); not_memory = not_memory; caused = refl } in
+    stages.refused is.status (texts.catalog_cause fault) none (is.text ∙ ap texts.catalog_refused same)
 
 -- a count that rose since later on rose since before
-pub rose_since : (before middle after : ℕ) → before ≤ middle → Rose middle after → Rose before after
+rose_since : (before middle after : ℕ) → before ≤ middle → Rose middle after → Rose before after
 rose_since before middle after later rose = omega arith
 
 fault_since : (name : List ℕ) (before middle after : List ℕ → ℕ) (text : List ℕ) → ((n : List ℕ) → before n ≤ middle n) → IsReadFault name middle after text → IsReadFault name before after text
 fault_since name before middle after text later fault = record { rose = rose_since (before name) (middle name) (after name) (later name) fault.rose; named = fault.named }
 
--- what is told of the catalogue's file holds of the bytes that were read
-if_told : (held : Option (List ℕ)) (limit : ℕ) (bytes : List ℕ) (P : List ℕ → Type 0) → AreHeld held limit bytes → P bytes → IfSome held P
-if_told None limit bytes P are fact = tt
-if_told (Some content) limit bytes P are fact = subst P are.told fact
+-- an ending over the catalogue that the bytes under a name say
+over_offer : (command : PlanCommand) (held : List ℕ → Option (List ℕ)) (before middle after : List ℕ → ℕ) (catalog : Catalog) (status : Status) (text : List ℕ)
+    → Offers (held command.files.catalog) catalog → ((n : List ℕ) → before n ≤ middle n) → IsEndingAt catalog command.memo command.files.query (held command.files.query) middle after status text
+    → IsEnding command held before after status text
+over_offer command held before middle after catalog status text offers later (stages.answered is) = answered catalog offers is
+over_offer command held before middle after catalog status text offers later (stages.unread is fault) = query_unread is catalog offers (fault_since command.files.query before middle after text later fault)
 
 -- an ending over the catalogue's bytes that were read, after the first file
-pub over_files : (files : FileNames) (held : List ℕ → Option (List ℕ)) (before middle after : List ℕ → ℕ) (limit : ℕ) (bytes : List ℕ) (status : Status) (text : List ℕ)
-    → AreHeld (held files.catalog) limit bytes → ((n : List ℕ) → before n ≤ middle n) → IsEndingOver bytes files.query (held files.query) middle after status text
-    → IsEnding files held before after status text
-over_files files held before middle after limit bytes Planned text are later is = if_told (held files.catalog) limit bytes (λ catalog. EndsWithTable catalog (held files.query) Planned text) are is
-over_files files held before middle after limit bytes NoPlan text are later is =
-    (if_told (held files.catalog) limit bytes (λ catalog. EndsWithTable catalog (held files.query) NoPlan text) are is, is.1.1)
-over_files files held before middle after limit bytes Usage text are later is = is
-over_files files held before middle after limit bytes QueryRefused text are later is =
-    (if_told (held files.catalog) limit bytes (λ catalog. EndsWithTable catalog (held files.query) QueryRefused text) are is, is.1.1)
-over_files files held before middle after limit bytes CatalogRefused text are later is =
-    (if_told (held files.catalog) limit bytes (λ catalog. OffersTable catalog → ⊥) are is.0, is.1)
-over_files files held before middle after limit bytes TooManyEntries text are later is = is
-over_files files held before middle after limit bytes ReadFault text are later is =
-    inr (fault_since files.query before middle after text later is.0, if_told (held files.catalog) limit bytes OffersTable are is.1)
-over_files files held before middle after limit bytes WriteFault text are later is = is
-over_files files held before middle after limit bytes Memory text are later is = is
-
--- what holds of a status and a text holds of an ending that has them
-pub as_ended : (P : Status → List ℕ → Type 0) (ending : Ending) (status : Status) (text : List ℕ) → EndsAs ending status text → P status text → P ending.status (text_of ending)
-as_ended P ending status text is fact = subst (λ s. P s (text_of ending)) (sym is.status) (subst (λ t. P status t) (sym is.text) fact)
-
--- bytes over the limit are no catalogue
-too_long : (bytes : List ℕ) → 1048576 < length bytes → OffersTable bytes → ⊥
-unfolding reading_of
-too_long bytes long offer =
-    let refused : reading_of bytes ≡ Err TooLong = rw (lt-ltb 1048576 (length bytes) long) refl in
-    let read : reading_of bytes ≡ Ok offer.catalog = offer.read in
-    cc
-
--- a catalogue's file over the limit is refused
-pub long_files : (files : FileNames) (held : List ℕ → Option (List ℕ)) (before after : List ℕ → ℕ) → Exceeds (held files.catalog) 1048576 → IsEnding files held before after CatalogRefused catalog_refused
-long_files files held before after exceeds = (if_exceeds (held files.catalog) exceeds, refl)
-  where
-    if_exceeds : (told : Option (List ℕ)) → Exceeds told 1048576 → IfSome told (λ catalog. OffersTable catalog → ⊥)
-    if_exceeds None exceeds = tt
-    if_exceeds (Some content) exceeds = too_long content exceeds
-
--- a catalogue without a plain table offers none
-pub offers_none : (bytes : List ℕ) (catalog : Catalog) → reading_of bytes ≡ Ok catalog → ((table : TableInfo) → HasPlainTable catalog table → ⊥) → OffersTable bytes → ⊥
-offers_none bytes catalog reads none offer =
-    let read : reading_of bytes ≡ Ok offer.catalog = offer.read in
-    let same : offer.catalog ≡ catalog = cc in
-    none offer.table (subst (λ k. HasPlainTable k offer.table) same offer.has_table)
-
--- a catalogue's file over the limit ends the run
-pub long_ends : (files : FileNames) (held : List ℕ → Option (List ℕ)) (before after : List ℕ → ℕ) (ending : Ending) → EndsAs ending CatalogRefused catalog_refused → Exceeds (held files.catalog) 1048576
-    → IsEnding files held before after ending.status (text_of ending)
-long_ends files held before after ending is exceeds = as_ended (λ status text. IsEnding files held before after status text) ending CatalogRefused catalog_refused is (long_files files held before after exceeds)
-
--- a catalogue that offers no table ends the run
-pub refused_over : (catalog name : List ℕ) (held : Option (List ℕ)) (before after : List ℕ → ℕ) (ending : Ending) → EndsAs ending CatalogRefused catalog_refused → (OffersTable catalog → ⊥)
-    → IsEndingOver catalog name held before after ending.status (text_of ending)
-refused_over catalog name held before after ending is none = as_ended (λ status text. IsEndingOver catalog name held before after status text) ending CatalogRefused catalog_refused is (none, refl)
+pub over_files : (command : PlanCommand) (held : List ℕ → Option (List ℕ)) (before middle after : List ℕ → ℕ) (limit : ℕ) (bytes : List ℕ) (status : Status) (text : List ℕ)
+    → AreHeld (held command.files.catalog) limit bytes → ((n : List ℕ) → before n ≤ middle n) → IsEndingOver bytes command.memo command.files.query (held command.files.query) middle after status text
+    → IsEnding command held before after status text
+over_files command held before middle after limit bytes status text are later (stages.over catalog says is) =
+    over_offer command held before middle after catalog status text (record { bytes = bytes; told = are.told; says = says }) later is
+over_files command held before middle after limit bytes status text are later (stages.refused is cause none line) =
+    catalog_refused is (record { bytes = bytes; told = are.told; cause = cause; no_catalog = none; line = line })
 
 -- what a shelf tells of the query's file stays the same
-pub retold_over : (catalog name : List ℕ) (held told : Option (List ℕ)) (before after : List ℕ → ℕ) (status : Status) (text : List ℕ) → told ≡ held
-    → IsEndingOver catalog name told before after status text → IsEndingOver catalog name held before after status text
-retold_over catalog name held told before after status text same is = subst (λ content. IsEndingOver catalog name content before after status text) same is
+pub retold_over : (bytes : List ℕ) (memo : Bool) (name : List ℕ) (held told : Option (List ℕ)) (before after : List ℕ → ℕ) (status : Status) (text : List ℕ) → told ≡ held
+    → IsEndingOver bytes memo name told before after status text → IsEndingOver bytes memo name held before after status text
+retold_over bytes memo name held told before after status text same is = subst (λ content. IsEndingOver bytes memo name content before after status text) same is

@@ -1,9 +1,8 @@
 pub mod Status
 pub mod Command
 pub mod Reading
-pub mod QueryForm
-pub mod Asked
 pub mod Texts
+pub mod Asked
 pub mod Run
 pub mod Views
 pub mod Stages

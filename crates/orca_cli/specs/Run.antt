@@ -1,30 +1,24 @@
 -- How a run ends: its status and its text, and what the sink took of the text.
-use Rattle.std.specs.Prelude.{◌≡◌, ◌⊎◌, ℕ, List, Option, None, Some, Ok, IfSome}
+use Rattle.std.specs.Prelude.{◌≡◌, ℕ, Bool, true, false, List, [], ◌++◌, Option, None, Some, IfSome}
 use Rattle.std.specs.List.{concat}
 use Rattle.std.specs.Io.KnownBytes.{Appends, Keeps}
 use Rattle.orca_base.specs.Causes.{Rose}
 use Rattle.orca_io.specs.Sink.{TakesPrefix}
 use Rattle.query_core.specs.declared.catalog.Catalog.{Catalog}
-use Rattle.query_core.specs.declared.catalog.TableInfo.{TableInfo}
 use Rattle.query_core.specs.declared.query.Query.{Query}
-use Rattle.catalog_json.specs.Outcome.{reading_of}
+use Rattle.query_core.specs.declared.expressions.ExprParts.{ExprParts}
+use Rattle.plan_search.specs.PlainClosure.{IsClosureOf}
+use Rattle.job_trace.specs.Memo.{AreMembers, memo_section}
 use Rattle.plan_defs.specs.Nodes.{Tree}
 use Rattle.plan_defs.specs.Properties.{root_request}
 use Rattle.plan_defs.specs.Least.{IsLeast, HasNoPlan}
 use Rattle.plan_defs.specs.Text.{plan_section}
 use Rattle.plan_tree.specs.OneTable.{IsMember}
-use Rattle.orca_cli.specs.Asked.{HasPlainTable, Asks}
-use Rattle.orca_cli.specs.Command.{FileNames}
-use Rattle.orca_cli.specs.Texts.{usage_line, catalog_refused, query_refused, read_fault, no_plan}
+use Rattle.orca_cli.specs.Asked.{SaysCatalog, IsNoCatalog, Asks, IsRefused}
+use Rattle.orca_cli.specs.Command.{PlanCommand}
+use Rattle.orca_cli.specs.Texts as texts
 use Rattle.orca_cli.specs.declared.status.Status.{Status}
 use Rattle.orca_cli.specs.declared.status.Status.TheVariants.{Planned, NoPlan, Usage, QueryRefused, CatalogRefused, TooManyEntries, ReadFault, WriteFault, Memory}
-
--- the bytes are a catalogue of one plain table
-pub record OffersTable (bytes : List ℕ) : Type 0 where
-  pub catalog : Catalog
-  pub read : reading_of bytes ≡ Ok catalog
-  pub table : TableInfo
-  pub has_table : HasPlainTable catalog table
 
 -- the text is that of the query's least plan
 pub record IsPlanText (query : Query) (text : List ℕ) : Type 0 where
@@ -36,61 +30,75 @@ pub record IsPlanText (query : Query) (text : List ℕ) : Type 0 where
 abbrev pub IsImpossible : Query → Type 0
 IsImpossible query = HasNoPlan IsMember query 0 (root_request query)
 
--- the bytes ask the table for a query, and the text is that of its least plan
-abbrev pub IsPlanned : ℕ → TableInfo → List ℕ → List ℕ → Type 0
-IsPlanned segments table asked text = (query : Query) × Asks segments table asked query × IsPlanText query text
+-- the text is that of the memo, whose members are the closure under the rules
+pub record IsMemoText (query : Query) (text : List ℕ) : Type 0 where
+  pub words : List ℕ
+  pub closure : IsClosureOf query words
+  pub members : List ExprParts
+  pub are : AreMembers query words members
+  pub lines : text ≡ concat (memo_section query members)
 
--- the bytes ask the table for a query that has no plan
-abbrev pub IsUnplanned : ℕ → TableInfo → List ℕ → Type 0
-IsUnplanned segments table asked = (query : Query) × Asks segments table asked query × IsImpossible query
+-- the memo's text, where it is asked for
+abbrev pub IsSection : Bool → Query → List ℕ → Type 0
+IsSection false query text = text ≡ []
+IsSection true query text = IsMemoText query text
 
--- the bytes ask the table for no query
-abbrev pub AsksNothing : ℕ → TableInfo → List ℕ → Type 0
-AsksNothing segments table asked = (query : Query) → Asks segments table asked query → ⊥
+-- the text goes on behind the front with the section that is asked for
+pub record GoesOn (memo : Bool) (query : Query) (front text : List ℕ) : Type 0 where
+  pub section : List ℕ
+  pub is_section : IsSection memo query section
+  pub joined : text ≡ front ++ section
+
+-- the answer to a query's bytes over a catalogue, with the memo where it is asked for
+pub data IsAnswer (catalog : Catalog) (memo : Bool) (asked : List ℕ) (status : Status) (text : List ℕ) : Type 0 where
+  planned : status ≡ Planned → (query : Query) → Asks catalog asked query → (plan : List ℕ) → IsPlanText query plan → GoesOn memo query plan text → IsAnswer catalog memo asked status text
+  unplanned : status ≡ NoPlan → (query : Query) → Asks catalog asked query → IsImpossible query → GoesOn memo query texts.no_plan text → IsAnswer catalog memo asked status text
+  refused : status ≡ QueryRefused → (cause : List ℕ) → IsRefused catalog asked cause → text ≡ texts.query_refused cause → IsAnswer catalog memo asked status text
+
+-- the bytes are those that the shelf tells of, where it tells
+abbrev pub AreTold : Option (List ℕ) → List ℕ → Type 0
+AreTold held bytes = IfSome held (λ content. bytes ≡ content)
+
+-- the bytes under a name say this catalogue
+pub record Offers (held : Option (List ℕ)) (catalog : Catalog) : Type 0 where
+  pub bytes : List ℕ
+  pub told : AreTold held bytes
+  pub says : SaysCatalog bytes catalog
+
+-- the answer to the bytes under a name
+pub record IsAnswered (catalog : Catalog) (memo : Bool) (held : Option (List ℕ)) (status : Status) (text : List ℕ) : Type 0 where
+  pub asked : List ℕ
+  pub told : AreTold held asked
+  pub answer : IsAnswer catalog memo asked status text
+
+-- the bytes under a name are no catalogue, and the text says why
+pub record IsCatalogRefused (held : Option (List ℕ)) (text : List ℕ) : Type 0 where
+  pub bytes : List ℕ
+  pub told : AreTold held bytes
+  pub cause : List ℕ
+  pub no_catalog : IsNoCatalog bytes cause
+  pub line : text ≡ texts.catalog_refused cause
 
 -- the count of the name's faults rose, and the text names it
 pub record IsReadFault (name : List ℕ) (before after : List ℕ → ℕ) (text : List ℕ) : Type 0 where
   pub rose : Rose (before name) (after name)
-  pub named : text ≡ read_fault name
+  pub named : text ≡ texts.read_fault name
 
--- the status and the text of a run over one table, by what the shelf tells of the query's file
-abbrev pub EndsOver : ℕ → TableInfo → Option (List ℕ) → Status → List ℕ → Type 0
-EndsOver segments table held Planned text = IfSome held (λ asked. IsPlanned segments table asked text)
-EndsOver segments table held NoPlan text = IfSome held (IsUnplanned segments table) × (text ≡ no_plan)
-EndsOver segments table held Usage text = ⊥
-EndsOver segments table held QueryRefused text = IfSome held (AsksNothing segments table) × (text ≡ query_refused)
-EndsOver segments table held CatalogRefused text = ⊥
-EndsOver segments table held TooManyEntries text = ⊥
-EndsOver segments table held ReadFault text = ⊥
-EndsOver segments table held WriteFault text = ⊥
-EndsOver segments table held Memory text = ⊥
-
--- the catalogue's bytes offer a table, and the run over it has this status and text
-abbrev pub EndsWithTable : List ℕ → Option (List ℕ) → Status → List ℕ → Type 0
-EndsWithTable catalog held status text = (offer : OffersTable catalog) × EndsOver offer.catalog.segments offer.table held status text
-
--- the status and the text of a run over two files: held is what the shelf tells of each name, before and after are its counts of faults
-abbrev pub IsEnding : FileNames → (List ℕ → Option (List ℕ)) → (List ℕ → ℕ) → (List ℕ → ℕ) → Status → List ℕ → Type 0
-IsEnding files held before after Planned text = IfSome (held files.catalog) (λ catalog. EndsWithTable catalog (held files.query) Planned text)
-IsEnding files held before after NoPlan text = IfSome (held files.catalog) (λ catalog. EndsWithTable catalog (held files.query) NoPlan text) × (text ≡ no_plan)
-IsEnding files held before after Usage text = ⊥
-IsEnding files held before after QueryRefused text =
-    IfSome (held files.catalog) (λ catalog. EndsWithTable catalog (held files.query) QueryRefused text) × (text ≡ query_refused)
-IsEnding files held before after CatalogRefused text = IfSome (held files.catalog) (λ catalog. OffersTable catalog → ⊥) × (text ≡ catalog_refused)
-IsEnding files held before after TooManyEntries text = ⊥
-IsEnding files held before after ReadFault text =
-    IsReadFault files.catalog before after text ⊎ (IsReadFault files.query before after text × IfSome (held files.catalog) OffersTable)
-IsEnding files held before after WriteFault text = ⊥
-IsEnding files held before after Memory text = ⊥
+-- the status and the text of a command over two files: held is what the shelf tells of each name, before and after are its counts of faults
+pub data IsEnding (command : PlanCommand) (held : List ℕ → Option (List ℕ)) (before after : List ℕ → ℕ) (status : Status) (text : List ℕ) : Type 0 where
+  answered : (catalog : Catalog) → Offers (held command.files.catalog) catalog → IsAnswered catalog command.memo (held command.files.query) status text → IsEnding command held before after status text
+  catalog_refused : status ≡ CatalogRefused → IsCatalogRefused (held command.files.catalog) text → IsEnding command held before after status text
+  catalog_unread : status ≡ ReadFault → IsReadFault command.files.catalog before after text → IsEnding command held before after status text
+  query_unread : status ≡ ReadFault → (catalog : Catalog) → Offers (held command.files.catalog) catalog → IsReadFault command.files.query before after text → IsEnding command held before after status text
 
 -- the status and the text for words that are no command
 abbrev pub IsUsage : Status → List ℕ → Type 0
-IsUsage status text = (status ≡ Usage) × (text ≡ usage_line)
+IsUsage status text = (status ≡ Usage) × (text ≡ texts.usage_line)
 
--- the status and the text of a run, by the files that its words name
-abbrev pub IsRun : Option FileNames → (List ℕ → Option (List ℕ)) → (List ℕ → ℕ) → (List ℕ → ℕ) → Status → List ℕ → Type 0
+-- the status and the text of a run, by the command that its words are
+abbrev pub IsRun : Option PlanCommand → (List ℕ → Option (List ℕ)) → (List ℕ → ℕ) → (List ℕ → ℕ) → Status → List ℕ → Type 0
 IsRun None held before after status text = IsUsage status text
-IsRun (Some files) held before after status text = IsEnding files held before after status text
+IsRun (Some command) held before after status text = IsEnding command held before after status text
 
 -- the text of the status was taken whole
 abbrev pub TakesText : (Status → List ℕ → Type 0) → Option (List ℕ) → Option (List ℕ) → Status → Type 0

@@ -1,14 +1,16 @@
 -- The lines that a run may put in place of a plan.
-use Rattle.std.specs.Prelude.{ℕ, List, ◌++◌, codes}
+use Rattle.std.specs.Prelude.{ℕ, List, [], ◌++◌, codes, decimal}
+use Rattle.catalog_json.specs.declared.fault.CatalogFault.{CatalogFault}
+use Rattle.catalog_json.specs.declared.fault.CatalogFault.TheVariants as catalogs
+use Rattle.sql_reader.specs.declared.faults.Limit.{Limit}
+use Rattle.sql_reader.specs.declared.faults.Limit.TheVariants.{Items, Tables, Predicates, GroupBy, OrderBy}
+use Rattle.sql_reader.specs.declared.faults.SqlFault.{SqlFault}
+use Rattle.sql_reader.specs.declared.faults.SqlFault.TheVariants as selects
+use Rattle.sql_bind.specs.declared.fault.BindFault.{BindFault}
+use Rattle.sql_bind.specs.declared.fault.BindFault.TheVariants as names
 
 abbrev pub usage_line : List ℕ
 usage_line = codes "usage: orca plan CATALOG QUERY [--workers N] [--capacity N] [--root one|spread] [--off RULE+RULE] [--memo] [--trace] [--by-worker] | orca gen NUMBER TABLES SHAPE [--workers N] [--capacity N]\n"
-
-abbrev pub catalog_refused : List ℕ
-catalog_refused = codes "catalog refused: not built\n"
-
-abbrev pub query_refused : List ℕ
-query_refused = codes "query refused: not built\n"
 
 -- the line that names a file that couldn't be read
 abbrev pub read_fault : List ℕ → List ℕ
@@ -16,3 +18,53 @@ read_fault name = codes "read fault: " ++ name ++ codes "\n"
 
 abbrev pub no_plan : List ℕ
 no_plan = codes "no plan\n"
+
+-- the line of a refused catalogue
+abbrev pub catalog_refused : List ℕ → List ℕ
+catalog_refused cause = codes "catalog refused: " ++ cause ++ codes "\n"
+
+-- the line of a refused query
+abbrev pub query_refused : List ℕ → List ℕ
+query_refused cause = codes "query refused: " ++ cause ++ codes "\n"
+
+-- why a catalogue is refused, with the JSON pointer of the place; want of memory has no line
+abbrev pub catalog_cause : CatalogFault → List ℕ
+catalog_cause catalogs.TooLong = codes "too long"
+catalog_cause catalogs.NotJson = codes "not JSON"
+catalog_cause (catalogs.Shape path) = codes "shape at " ++ path
+catalog_cause (catalogs.Version found) = codes "version " ++ decimal found
+catalog_cause (catalogs.Range path) = codes "range at " ++ path
+catalog_cause (catalogs.Twice path) = codes "twice at " ++ path
+catalog_cause (catalogs.UnknownColumn path) = codes "unknown column at " ++ path
+catalog_cause catalogs.Memory = []
+
+-- what there are too many of
+abbrev pub limit_name : Limit → List ℕ
+limit_name Items = codes "items"
+limit_name Tables = codes "tables"
+limit_name Predicates = codes "predicates"
+limit_name GroupBy = codes "group columns"
+limit_name OrderBy = codes "order keys"
+
+-- why a text is no query, with the offset of the place; want of memory has no line
+abbrev pub sql_cause : SqlFault → List ℕ
+sql_cause selects.TooLong = codes "too long"
+sql_cause (selects.NotAscii at) = codes "not ASCII at " ++ decimal at
+sql_cause (selects.Token at) = codes "token at " ++ decimal at
+sql_cause (selects.Grammar at) = codes "grammar at " ++ decimal at
+sql_cause (selects.TooMany what at) = codes "too many " ++ limit_name what ++ codes " at " ++ decimal at
+sql_cause selects.Memory = []
+
+-- why a query's names can't be bound, with the offset of the place; want of memory has no line
+abbrev pub bind_cause : BindFault → List ℕ
+bind_cause (names.UnknownTable at) = codes "unknown table at " ++ decimal at
+bind_cause (names.TwiceAlias at) = codes "name twice at " ++ decimal at
+bind_cause (names.UnknownColumn at) = codes "unknown column at " ++ decimal at
+bind_cause (names.Ambiguous at) = codes "ambiguous column at " ++ decimal at
+bind_cause (names.NotGrouped at) = codes "not grouped at " ++ decimal at
+bind_cause (names.TooManyItems found) = codes "too many columns: " ++ decimal found
+bind_cause names.Memory = []
+
+-- why a query is refused that is of a kind not planned yet
+abbrev pub not_built : List ℕ
+not_built = codes "not built"

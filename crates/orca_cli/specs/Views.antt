@@ -1,9 +1,8 @@
 -- What clauses see of the program's values.
 use Rattle.std.specs.Prelude.{◌≡◌, ℕ, List, flat_map, string_bytes}
-use Rattle.orca_cli.specs.Command.{FileNames}
-use Rattle.orca_cli.specs.QueryForm.{Names}
+use Rattle.orca_cli.specs.Command.{FileNames, PlanCommand}
+use Rattle.orca_cli.specs.declared.command.Command.{Command}
 use Rattle.orca_cli.specs.declared.command.Files.{Files}
-use Rattle.orca_cli.specs.declared.query_form.Form.{Form}
 use Rattle.orca_cli.specs.declared.status.Status.{Status}
 use Rattle.orca_cli.specs.declared.ending.Ending.{Ending}
 
@@ -11,9 +10,9 @@ use Rattle.orca_cli.specs.declared.ending.Ending.{Ending}
 abbrev pub file_names : Files → FileNames
 file_names files = record { catalog = files.catalog.now; query = files.query.now }
 
--- the names in a form
-abbrev pub names_of : Form → Names
-names_of form = record { output = form.output.now; table = form.table.now; order = form.order.now }
+-- what a command asks for
+abbrev pub plan_command : Command → PlanCommand
+plan_command command = record { files = file_names command.files; memo = command.memo }
 
 -- the text of an ending's lines
 abbrev pub text_of : Ending → List ℕ

@@ -1,6 +1,8 @@
-// What follows from how runs end.
+//! What follows from how runs end.
 ghost use Rattle.orca_cli.specs.Laws.{OneOutcome};
 
+use job_trace::members_are_known;
+use plan_search::closure_is_one;
 use plan_tree::least_plan_is_one;
 
 /// The status and the text of a run are determined by what the two files hold, as long as no read
@@ -9,4 +11,7 @@ pub fn one_outcome()
     ensures { OneOutcome }
 {
     least_plan_is_one();
+    sql_reader::one_outcome();
+    closure_is_one();
+    members_are_known();
 }

@@ -1,11 +1,13 @@
 //! The top call: what `orca` does for the words of a command line, over a shelf of files and a sink for the text.
 #![tactic(auto)]
 
-mod asked;
+mod answer;
 mod command;
 mod ending;
+mod faults;
+mod files;
 mod laws;
-mod query_form;
+mod memo;
 mod reading;
 mod status;
 mod text;
@@ -15,5 +17,7 @@ pub use laws::one_outcome;
 pub use status::Status;
 pub use top::{orca_alone, orca_run, put_usage};
 
+#[cfg(test)]
+mod memo_tests;
 #[cfg(test)]
 mod tests;

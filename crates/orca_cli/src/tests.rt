@@ -1,5 +1,5 @@
 use super::*;
-use crate::command::command_files;
+use crate::command::read_command;
 use orca_io::{MemShelf, MemSink, NoGate};
 use std::alloc::{AllocError, Global};
 use std::sync::Wait;
@@ -22,10 +22,6 @@ const PLAN: [&str; 5] = [
     "    Scan(t) rows=1000 cost=251\n",
 ];
 
-const CATALOG_REFUSED: &str = "catalog refused: not built\n";
-
-const QUERY_REFUSED: &str = "query refused: not built\n";
-
 fn words_of(alloc: Global, texts: &[&str]) -> Result<Vec<String>, AllocError> {
     let mut words = Vec::new(alloc);
     for text in texts {
@@ -47,7 +43,17 @@ fn planned<R: Threads + Wait + Sync + AllocGlobal>(
     catalog: &[u8],
     query: &[u8],
 ) -> Result<(Status, MemSink), AllocError> {
-    let words = words_of(rt.alloc(), &["plan", "c.json", "q.sql"])?;
+    answered(rt, &["plan", "c.json", "q.sql"], catalog, query)
+}
+
+// The status and the text of these words over the two files `c.json` and `q.sql`.
+fn answered<R: Threads + Wait + Sync + AllocGlobal>(
+    rt: &R,
+    texts: &[&str],
+    catalog: &[u8],
+    query: &[u8],
+) -> Result<(Status, MemSink), AllocError> {
+    let words = words_of(rt.alloc(), texts)?;
     let mut shelf = shelf_of(rt.alloc(), catalog, query)?;
     let mut sink = MemSink::with_room(rt.alloc(), 4096)?;
     let status = orca_run(rt, rt.alloc(), &words, &mut shelf, &mut sink, &NoGate);
@@ -66,89 +72,296 @@ fn prints_the_least_plan_of_one_table(rt: HostRuntime) -> Result<(), Fail> {
     Ok(())
 }
 
-#[test]
-fn the_output_may_be_another_column(rt: HostRuntime) -> Result<(), Fail> {
-    let (status, sink) = planned(&rt, CATALOG.as_bytes(), b"SELECT b FROM t ORDER BY a\n")?;
-    assert_eq!(rt; status, Status::Planned);
-    assert!(rt;
-        sink.taken().starts_with(b"cost 5253\noutput t.b\nGatherMerge(t.a) rows=1000 cost=3001\n")
-    );
-    Ok(())
+// The text after `query refused: ` or `catalog refused: `, over these two files.
+fn cause<R: Threads + Wait + Sync + AllocGlobal>(
+    rt: &R,
+    front: &str,
+    catalog: &[u8],
+    query: &[u8],
+) -> Result<(Status, String), Fail> {
+    let (status, sink) = planned(rt, catalog, query)?;
+    let line = str::from_utf8(sink.taken())?;
+    let told = line
+        .strip_prefix(front)
+        .and_then(|rest| rest.strip_suffix("\n"));
+    Ok((status, String::from_str(rt.alloc(), told.unwrap_or(line))?))
 }
 
 #[test]
-fn refuses_each_other_catalog(rt: HostRuntime) -> Result<(), Fail> {
-    let refused: [&[u8]; 8] = [
-        b"",
-        b"\0",
-        b"\xff\xfe",
-        b"{}",
-        TWO_TABLES.as_bytes(),
-        br#"{"version":2,"segments":4,"tables":[]}"#,
-        br#"{"version":1,"segments":4,"tables":[{"name":"t","rows":1,"distribution":["a"],"columns":[{"name":"a","ndv":1}]}]}"#,
-        br#"{"version":1,"segments":4,"tables":[{"name":"t","rows":1,"distribution":"random","columns":[{"name":"a","ndv":1}],"indexes":[["a"]]}]}"#,
-    ];
-    for catalog in refused {
-        let (status, sink) = planned(&rt, catalog, QUERY.as_bytes())?;
-        assert_eq!(rt; status, Status::CatalogRefused);
-        assert_eq!(rt; sink.taken(), CATALOG_REFUSED.as_bytes());
+fn prints_the_least_plan_of_each_query(rt: HostRuntime) -> Result<(), Fail> {
+    let empty =
+        r#"{"version":1,"segments":4,"tables":[{"name":"t","rows":0,"distribution":"random","columns":[{"name":"a","ndv":1000},{"name":"b","ndv":10}]}]}"#;
+    let alone =
+        r#"{"version":1,"segments":1,"tables":[{"name":"t","rows":10,"distribution":"random","columns":[{"name":"a","ndv":1000},{"name":"b","ndv":10}]}]}"#;
+    for (catalog, query, text) in [
+        (
+            empty,
+            "SELECT a FROM t",
+            "cost 2\noutput t.a\nGather rows=0 cost=1\n  Scan(t) rows=0 cost=1\n",
+        ),
+        (
+            alone,
+            "select a from t -- all",
+            "cost 32\noutput t.a\nGather rows=10 cost=21\n  Scan(t) rows=10 cost=11\n",
+        ),
+        (
+            CATALOG,
+            "SELECT b FROM t ORDER BY a",
+            "cost 5253\noutput t.b\nGatherMerge(t.a) rows=1000 cost=3001\n  Sort(t.a) rows=1000 cost=2001\n    Scan(t) rows=1000 cost=251\n",
+        ),
+        (
+            CATALOG,
+            "select u.b as c, a from t as u order by c desc, a, c;",
+            "cost 5253\noutput u.b AS c, u.a\nGatherMerge(u.b DESC, u.a) rows=1000 cost=3001\n  Sort(u.b DESC, u.a) rows=1000 cost=2001\n    Scan(u) rows=1000 cost=251\n",
+        ),
+    ] {
+        let (status, sink) = planned(&rt, catalog.as_bytes(), query.as_bytes())?;
+        assert_eq!(rt; status, Status::Planned, "{query}");
+        assert_eq!(rt; sink.taken(), text.as_bytes(), "{query}");
     }
     Ok(())
 }
 
 #[test]
-fn refuses_each_other_query(rt: HostRuntime) -> Result<(), Fail> {
-    let refused = [
-        "",
-        "\0",
-        "select a from t",
-        "SELECT a FROM t",
-        "SELECT c FROM t ORDER BY a",
-        "SELECT a FROM u ORDER BY a",
-        "SELECT a FROM t ORDER BY c",
-        "SELECT  a FROM t ORDER BY a",
-        "SELECT a FROM t ORDER BY a ",
-        "SELECT a FROM t ORDER BY a\n\n",
-        "SELECT a FROM t ORDER BY a;",
-        "SELECT a FROM t ORDER BY a DESC",
+fn prints_the_memo_where_it_is_asked_for(rt: HostRuntime) -> Result<(), Fail> {
+    let empty =
+        r#"{"version":1,"segments":4,"tables":[{"name":"t","rows":0,"distribution":"random","columns":[{"name":"a","ndv":1000},{"name":"b","ndv":10}]}]}"#;
+    let text =
+        "cost 2\noutput t.a\nGather rows=0 cost=1\n  Scan(t) rows=0 cost=1\nmemo groups=1 members=2\ngroup Get(t) rows=0\n  Get(t)\n  Scan(t)\n";
+    let commands: [&[&str]; 3] = [
+        &["plan", "--memo", "c.json", "q.sql"],
+        &["plan", "c.json", "--memo", "q.sql"],
+        &["plan", "c.json", "q.sql", "--memo"],
     ];
-    for query in refused {
-        let (status, sink) = planned(&rt, CATALOG.as_bytes(), query.as_bytes())?;
-        assert_eq!(rt; status, Status::QueryRefused, "{query:?}");
-        assert_eq!(rt; sink.taken(), QUERY_REFUSED.as_bytes());
+    for words in commands {
+        let (status, sink) = answered(&rt, words, empty.as_bytes(), b"SELECT a FROM t")?;
+        assert_eq!(rt; status, Status::Planned);
+        assert_eq!(rt; sink.taken(), text.as_bytes());
     }
     Ok(())
 }
 
 #[test]
-fn a_reserved_word_is_no_name_of_a_query(rt: HostRuntime) -> Result<(), Fail> {
-    let catalog =
-        br#"{"version":1,"segments":4,"tables":[{"name":"Order","rows":1,"distribution":"random","columns":[{"name":"a","ndv":1}]}]}"#;
-    let (status, _) = planned(&rt, catalog, b"SELECT a FROM Order ORDER BY a")?;
-    assert_eq!(rt; status, Status::QueryRefused);
+fn a_refused_query_is_told_with_its_cause(rt: HostRuntime) -> Result<(), Fail> {
+    let none = r#"{"version":1,"segments":4,"tables":[]}"#;
+    for (catalog, query, told) in [
+        (TWO_TABLES, "SELECT T1.z FROM T1", "unknown column at 7"),
+        (TWO_TABLES, "SELECT a FROM T1, T2", "ambiguous column at 7"),
+        (
+            TWO_TABLES,
+            "SELECT T2.b FROM T2 GROUP BY T2.a",
+            "not grouped at 7",
+        ),
+        (
+            TWO_TABLES,
+            "SELECT T1.a FROM T1, T2 AS T1",
+            "name twice at 27",
+        ),
+        (TWO_TABLES, "SELECT x FROM T9", "unknown table at 14"),
+        (TWO_TABLES, "SELECT a FROM T1 WHERE a = 'x", "token at 27"),
+        (
+            TWO_TABLES,
+            "SELECT a FROM t,t,t,t,t,t,t,t,t,t,t",
+            "too many tables at 34",
+        ),
+        (TWO_TABLES, "", "grammar at 0"),
+        (TWO_TABLES, ";", "grammar at 0"),
+        (CATALOG, "SELECT a FROM t, t u", "ambiguous column at 7"),
+        (
+            CATALOG,
+            "SELECT a FROM t WHERE a = 9223372036854775808",
+            "token at 26",
+        ),
+        (
+            CATALOG,
+            "SELECT a FROM t WHERE a = -9223372036854775808",
+            "token at 26",
+        ),
+        (CATALOG, "SELECT a FROM t WHERE a = 5x", "token at 26"),
+        (CATALOG, "SELECT \u{c3} FROM t", "not ASCII at 7"),
+        (CATALOG, "SELECT a\0 FROM t", "token at 8"),
+        (CATALOG, "SELECT a FROM t;;", "grammar at 16"),
+        (CATALOG, "SELECT a FROM t GROUP", "grammar at 21"),
+        (CATALOG, "SELECT COUNT(*) FROM t WHERE", "grammar at 28"),
+        (CATALOG, "SELECT a FROM t WHERE 5 = a", "grammar at 22"),
+        (CATALOG, "SELECT a b FROM t", "grammar at 9"),
+        (
+            CATALOG,
+            "SELECT a FROM t ORDER BY a, a, a, a, a, a, a, a, a",
+            "too many order keys at 49",
+        ),
+        (
+            CATALOG,
+            "SELECT a FROM t GROUP BY a, a, a, a, a, a, a, a, a",
+            "too many group columns at 49",
+        ),
+        (none, "SELECT a FROM t", "unknown table at 14"),
+    ] {
+        let (status, line) = cause(&rt, "query refused: ", catalog.as_bytes(), query.as_bytes())?;
+        assert_eq!(rt; status, Status::QueryRefused, "{query}");
+        assert_eq!(rt; line.as_str(), told, "{query}");
+    }
     Ok(())
 }
 
 #[test]
-fn long_files_are_refused(rt: HostRuntime) -> Result<(), Fail> {
-    let catalog = vec![in rt.alloc(); b' '; 1_048_577]?;
-    let (status, _) = planned(&rt, &catalog, QUERY.as_bytes())?;
+fn a_query_of_another_kind_is_not_built(rt: HostRuntime) -> Result<(), Fail> {
+    let indexed =
+        r#"{"version":1,"segments":4,"tables":[{"name":"t","rows":1,"distribution":"random","columns":[{"name":"a","ndv":1}],"indexes":[["a"]]}]}"#;
+    for (catalog, query) in [
+        (
+            TWO_TABLES,
+            "SELECT T1.a FROM T1, T2 WHERE T1.a = T2.b ORDER BY T1.a",
+        ),
+        (TWO_TABLES, "SELECT a FROM T1"),
+        (CATALOG, "SELECT t.a FROM t, t u"),
+        (CATALOG, "SELECT a FROM t WHERE a = 'it''s'"),
+        (CATALOG, "SELECT COUNT(*) FROM t"),
+        (CATALOG, "SELECT a FROM t GROUP BY a"),
+        (indexed, "SELECT a FROM t"),
+    ] {
+        let (status, line) = cause(&rt, "query refused: ", catalog.as_bytes(), query.as_bytes())?;
+        assert_eq!(rt; status, Status::QueryRefused, "{query}");
+        assert_eq!(rt; line.as_str(), "not built", "{query}");
+    }
+    Ok(())
+}
+
+#[test]
+fn a_refused_catalog_is_told_with_its_cause(rt: HostRuntime) -> Result<(), Fail> {
+    let cases: [(&[u8], &str); 7] = [
+        (b"", "not JSON"),
+        (b"\xff", "not JSON"),
+        (b"[]", "shape at "),
+        (b"{}", "shape at /version"),
+        (br#"{"version":1.5}"#, "shape at /version"),
+        (br#"{"version":3,"segments":4,"tables":[]}"#, "version 3"),
+        (
+            br#"{"version":1,"segments":0,"tables":[]}"#,
+            "range at /segments",
+        ),
+    ];
+    for (catalog, told) in cases {
+        let (status, line) = cause(&rt, "catalog refused: ", catalog, QUERY.as_bytes())?;
+        assert_eq!(rt; status, Status::CatalogRefused, "{told}");
+        assert_eq!(rt; line.as_str(), told);
+    }
+    Ok(())
+}
+
+#[test]
+fn a_catalog_nests_at_most_127_levels(rt: HostRuntime) -> Result<(), Fail> {
+    let deep = vec![in rt.alloc(); b'['; 200]?;
+    let (status, line) = cause(&rt, "catalog refused: ", &deep, QUERY.as_bytes())?;
     assert_eq!(rt; status, Status::CatalogRefused);
-    let query = vec![in rt.alloc(); b' '; 65_537]?;
-    let (status, _) = planned(&rt, CATALOG.as_bytes(), &query)?;
+    assert_eq!(rt; line.as_str(), "not JSON");
+    Ok(())
+}
+
+#[test]
+fn a_catalog_has_at_most_a_mebibyte(rt: HostRuntime) -> Result<(), Fail> {
+    let over = vec![in rt.alloc(); b' '; 1_048_577]?;
+    let (status, line) = cause(&rt, "catalog refused: ", &over, QUERY.as_bytes())?;
+    assert_eq!(rt; status, Status::CatalogRefused);
+    assert_eq!(rt; line.as_str(), "too long");
+    Ok(())
+}
+
+#[test]
+fn one_change_of_a_catalog_is_told_at_its_place(rt: HostRuntime) -> Result<(), Fail> {
+    for (old, new, told) in [
+        (
+            "\"ndv\":1000",
+            "\"ndv\":1000000000001",
+            "range at /tables/0/columns/0/ndv",
+        ),
+        (
+            "\"name\":\"T2\"",
+            "\"name\":\"T1\"",
+            "twice at /tables/1/name",
+        ),
+        (
+            "[\"a\"]",
+            "[\"c\"]",
+            "unknown column at /tables/0/distribution/0",
+        ),
+        (
+            "\"rows\":1000",
+            "\"rows\":\"1000\"",
+            "shape at /tables/0/rows",
+        ),
+        (
+            "\"name\":\"T1\"",
+            "\"name\":\"a b\"",
+            "shape at /tables/0/name",
+        ),
+    ] {
+        let catalog = TWO_TABLES.replacen(rt.alloc(), old, new, 1)?;
+        let (status, line) = cause(
+            &rt,
+            "catalog refused: ",
+            catalog.as_bytes(),
+            QUERY.as_bytes(),
+        )?;
+        assert_eq!(rt; status, Status::CatalogRefused, "{new}");
+        assert_eq!(rt; line.as_str(), told);
+    }
+    Ok(())
+}
+
+#[test]
+fn each_proper_prefix_of_a_catalog_is_refused(rt: HostRuntime) -> Result<(), Fail> {
+    for length in 0..TWO_TABLES.len() {
+        let (status, line) = cause(
+            &rt,
+            "catalog refused: ",
+            &TWO_TABLES.as_bytes()[..length],
+            QUERY.as_bytes(),
+        )?;
+        assert_eq!(rt; status, Status::CatalogRefused);
+        assert_eq!(rt; line.as_str(), "not JSON");
+    }
+    Ok(())
+}
+
+#[test]
+fn a_further_key_of_a_catalog_is_passed_over(rt: HostRuntime) -> Result<(), Fail> {
+    let commented = CATALOG.replacen(
+        rt.alloc(),
+        "\"segments\"",
+        "\"comment\":\"x\",\"segments\"",
+        1,
+    )?;
+    let (status, sink) = planned(&rt, commented.as_bytes(), QUERY.as_bytes())?;
+    assert_eq!(rt; status, Status::Planned);
+    assert!(rt; sink.taken().starts_with(b"cost 5253\noutput t.a\n"));
+    Ok(())
+}
+
+#[test]
+fn a_query_has_at_most_64_kibibytes(rt: HostRuntime) -> Result<(), Fail> {
+    let over = vec![in rt.alloc(); b' '; 65_537]?;
+    let (status, line) = cause(&rt, "query refused: ", CATALOG.as_bytes(), &over)?;
     assert_eq!(rt; status, Status::QueryRefused);
+    assert_eq!(rt; line.as_str(), "too long");
+    let mut most = vec![in rt.alloc(); b' '; 65_536 - QUERY.len()]?;
+    most.extend_from_slice(QUERY.as_bytes())?;
+    let (status, _) = planned(&rt, CATALOG.as_bytes(), &most)?;
+    assert_eq!(rt; status, Status::Planned);
     Ok(())
 }
 
 #[test]
 fn other_words_get_the_usage_line(rt: HostRuntime) -> Result<(), Fail> {
-    let others: [&[&str]; 6] = [
+    let others: [&[&str]; 8] = [
         &[],
         &["plan"],
         &["plan", "c.json"],
         &["plan", "c.json", ""],
         &["plan", "-c.json", "q.sql"],
-        &["plan", "c.json", "q.sql", "--memo"],
+        &["--memo", "plan", "c.json", "q.sql"],
+        &["plan", "c.json", "q.sql", "--memo", "--memo"],
+        &["plan", "c.json", "q.sql", "--trace"],
     ];
     for texts in others {
         let words = words_of(rt.alloc(), texts)?;
@@ -204,7 +417,7 @@ fn one_worker_answers_alone(rt: HostRuntime) -> Result<(), Fail> {
     let words = words_of(rt.alloc(), &["plan", "c.json", "q.sql"])?;
     let mut shelf = shelf_of(rt.alloc(), CATALOG.as_bytes(), QUERY.as_bytes())?;
     let mut sink = MemSink::with_room(rt.alloc(), 4096)?;
-    if command_files(&words).is_some() {
+    if read_command(&words).is_some() {
         let status = orca_alone(rt.alloc(), &words, &mut shelf, &mut sink);
         assert_eq!(rt; status, Status::Planned);
     }

@@ -2,13 +2,14 @@
 ghost use Rattle.std.specs.Prelude.{◌≡◌, None, IsSome, map, string_bytes};
 ghost use Rattle.orca_base.specs.Causes.{Rose};
 ghost use Rattle.orca_cli.specs.Causes.{ReadRose, Completes};
-ghost use Rattle.orca_cli.specs.Command.{files_of};
+ghost use Rattle.orca_cli.specs.Command.{command_of};
 ghost use Rattle.orca_cli.specs.Run.{IsRun, IsUsage, Ends};
 ghost use Rattle.orca_cli.specs.Views.{text_of};
 ghost use Rattle.orca_cli.specs.Puts.{IsPut};
 
-use crate::command::command_files;
-use crate::ending::{Ending, run_files};
+use crate::command::read_command;
+use crate::ending::Ending;
+use crate::files::run_files;
 use crate::status::Status;
 use crate::text::put_lines;
 use orca_io::{Gate, Shelf, Sink};
@@ -30,21 +31,21 @@ pub fn orca_run<R: Threads + Wait + Sync, S: Shelf, K: Sink, G: Gate>(
     _gate: &G,
 ) -> Status
     // The status, and what the sink took of its text.
-    ensures ends { Ends (IsRun (files_of (map string_bytes words.now)) (S.held shelf.old)
+    ensures ends { Ends (IsRun (command_of (map string_bytes words.now)) (S.held shelf.old)
         (S.faults shelf.old) (S.faults shelf.new))
         (K.taken out.old) (K.taken out.new) (K.faults out.old) (K.faults out.new) result }
 
     // What an answer other than a plan comes from.
-    ensures usage { result ≡ Status.Usage → files_of (map string_bytes words.now) ≡ None }
+    ensures usage { result ≡ Status.Usage → command_of (map string_bytes words.now) ≡ None }
     ensures read_fault { result ≡ Status.ReadFault
-        → ReadRose (files_of (map string_bytes words.now)) (S.faults shelf.old) (S.faults shelf.new) }
+        → ReadRose (command_of (map string_bytes words.now)) (S.faults shelf.old) (S.faults shelf.new) }
     ensures write_fault { result ≡ Status.WriteFault → Rose (K.faults out.old) (K.faults out.new) }
 
-    // Where nothing failed, a query that is asked for is planned.
-    ensures completes { Completes (files_of (map string_bytes words.now)) (S.held shelf.old)
+    // Where nothing failed, a query that is asked for is answered.
+    ensures completes { Completes (command_of (map string_bytes words.now)) (S.held shelf.old)
         (S.faults shelf.old) (S.faults shelf.new) (K.faults out.old) (K.faults out.new) result }
 {
-    if command_files(words).is_some() {
+    if read_command(words).is_some() {
         orca_alone(alloc, words, shelf, out)
     } else {
         put_usage(out)
@@ -58,23 +59,25 @@ pub fn orca_alone<S: Shelf, K: Sink>(
     shelf: &mut S,
     out: &mut K,
 ) -> Status
-    requires { IsSome (files_of (map string_bytes words.now)) }
+    requires { IsSome (command_of (map string_bytes words.now)) }
     // The status, and what the sink took of its text.
-    ensures ends { Ends (IsRun (files_of (map string_bytes words.now)) (S.held shelf.old)
+    ensures ends { Ends (IsRun (command_of (map string_bytes words.now)) (S.held shelf.old)
         (S.faults shelf.old) (S.faults shelf.new))
         (K.taken out.old) (K.taken out.new) (K.faults out.old) (K.faults out.new) result }
 
     ensures not_usage { result ≡ Status.Usage → ⊥ }
     ensures read_fault { result ≡ Status.ReadFault
-        → ReadRose (files_of (map string_bytes words.now)) (S.faults shelf.old) (S.faults shelf.new) }
+        → ReadRose (command_of (map string_bytes words.now)) (S.faults shelf.old) (S.faults shelf.new) }
     ensures write_fault { result ≡ Status.WriteFault → Rose (K.faults out.old) (K.faults out.new) }
 
-    // Where nothing failed, a query that is asked for is planned.
-    ensures completes { Completes (files_of (map string_bytes words.now)) (S.held shelf.old)
+    // Where nothing failed, a query that is asked for is answered.
+    ensures completes { Completes (command_of (map string_bytes words.now)) (S.held shelf.old)
         (S.faults shelf.old) (S.faults shelf.new) (K.faults out.old) (K.faults out.new) result }
 {
-    let files = command_files(words).unwrap();
-    match run_files(alloc, &files, shelf) {
+    // A text asks for one query, or has one fault.
+    sql_reader::one_outcome();
+    let command = read_command(words).unwrap();
+    match run_files(alloc, &command, shelf) {
         Ok(ending) => put_ending(out, &ending),
         Err(AllocError) => Status::Memory,
     }

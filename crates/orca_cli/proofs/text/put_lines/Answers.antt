@@ -1,4 +1,4 @@
-use Rattle.std.proofs.Common.{rules, ◌≡◌, suc, ◌<◌, List, ℕ, length, flat_map, string_bytes, take, drop, get_or, sym, ap, ◌∙◌, subst, arith, String, Global}
+use Rattle.std.proofs.Common.{◌≡◌, ◌<◌, length, string_bytes, get_or, sym, ap, ◌∙◌, subst, arith}
 use Rattle.orca_io.specs.Sink.{TakesPrefix}
 use Rattle.orca_cli.proofs.Put.{flat_map-at, prefix_after}
 use Rattle.orca_cli.proofs.text.put_lines.Goals as goal

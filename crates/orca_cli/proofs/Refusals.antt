@@ -1,0 +1,66 @@
+-- A text over a catalogue asks for one query, or is refused for one cause, and never both.
+use Rattle.std.proofs.Common.{◌≡◌, ℕ, List, Ok, Err, sym, ap, ◌∙◌, subst, inl, inr}
+use Rattle.query_core.specs.declared.catalog.Catalog.{Catalog}
+use Rattle.query_core.specs.declared.query.Query.{Query}
+use Rattle.sql_reader.specs.Faults.{IsFirst, IsReading}
+use Rattle.sql_reader.specs.declared.faults.SqlFault.{SqlFault}
+use Rattle.sql_reader.specs.declared.syntax.Select.{Select}
+use Rattle.sql_bind.specs.Binding.{binding, IsQueryOf}
+use Rattle.orca_cli.specs.Asked.{plain_options, IsBoundAs, Asks, IsUnbound, IsRefused}
+use Rattle.orca_cli.specs.Texts.{sql_cause, bind_cause}
+use Rattle.orca_cli.proofs.Queries.{AreAlike, alike_of, built_again, one_table_same}
+
+-- what the reader of queries promises: a text has one reading, or one first fault, and never both
+pub record OneReading : Type 0 where
+  pub reading : (text : List ℕ) (a b : Select) → IsReading text a → IsReading text b → a ≡ b
+  pub fault : (text : List ℕ) (f g : SqlFault) → IsFirst text f → IsFirst text g → f ≡ g
+  pub either : (text : List ℕ) (select : Select) (f : SqlFault) → IsReading text select → IsFirst text f → ⊥
+
+module _ (one : OneReading) (catalog : Catalog) (text : List ℕ) where
+  -- two queries that the text is bound to have the same parts
+  alike : (q r : Query) → IsBoundAs catalog text q → IsBoundAs catalog text r → AreAlike q r
+  alike q r is again =
+      let select : is.select ≡ again.select = one.reading text is.select again.select is.reading again.reading in
+      let read : binding again.select catalog ≡ Ok is.bound.parts = subst (λ s. binding s catalog ≡ Ok is.bound.parts) select is.bound.no_fault in
+      let read_again : binding again.select catalog ≡ Ok again.bound.parts = again.bound.no_fault in
+      let parts : is.bound.parts ≡ again.bound.parts = cc in
+      alike_of again.bound.parts catalog plain_options q r (subst (λ p. IsQueryOf p catalog plain_options q) parts is.bound.query) again.bound.query
+
+  -- the text asks for one query
+  pub one_query : (q r : Query) → Asks catalog text q → Asks catalog text r → q ≡ r
+  one_query q r is again = one_table_same q r (alike q r is.bound again.bound) is.built again.built
+
+  -- a text that is bound isn't refused by its names
+  bound_or_not : (q : Query) (cause : List ℕ) → IsBoundAs catalog text q → IsUnbound catalog text cause → ⊥
+  bound_or_not q cause is none =
+      let select : is.select ≡ none.select = one.reading text is.select none.select is.reading none.reading in
+      let read : binding none.select catalog ≡ Ok is.bound.parts = subst (λ s. binding s catalog ≡ Ok is.bound.parts) select is.bound.no_fault in
+      let refused : binding none.select catalog ≡ Err none.fault = none.first in
+      cc
+
+  -- a text that asks for a query isn't refused
+  pub never_refused : (q : Query) (cause : List ℕ) → Asks catalog text q → IsRefused catalog text cause → ⊥
+  never_refused q cause asks (inl unread) = one.either text asks.bound.select unread.fault asks.bound.reading unread.first
+  never_refused q cause asks (inr (inl unbound)) = bound_or_not q cause asks.bound unbound
+  never_refused q cause asks (inr (inr other)) = other.unbuilt (built_again q other.query (alike q other.query asks.bound other.bound) asks.built)
+
+  -- two faults of the names are the same
+  one_unbound : (cause other : List ℕ) → IsUnbound catalog text cause → IsUnbound catalog text other → cause ≡ other
+  one_unbound cause other is again =
+      let select : is.select ≡ again.select = one.reading text is.select again.select is.reading again.reading in
+      let refused : binding again.select catalog ≡ Err is.fault = subst (λ s. binding s catalog ≡ Err is.fault) select is.first in
+      let refused_again : binding again.select catalog ≡ Err again.fault = again.first in
+      let fault : is.fault ≡ again.fault = cc in
+      is.caused ∙ ap bind_cause fault ∙ sym again.caused
+
+  -- a text has one cause
+  pub one_cause : (cause other : List ℕ) → IsRefused catalog text cause → IsRefused catalog text other → cause ≡ other
+  one_cause cause other (inl is) (inl again) = is.caused ∙ ap sql_cause (one.fault text is.fault again.fault is.first again.first) ∙ sym again.caused
+  one_cause cause other (inl is) (inr (inl again)) = absurd (one.either text again.select is.fault again.reading is.first)
+  one_cause cause other (inl is) (inr (inr again)) = absurd (one.either text again.bound.select is.fault again.bound.reading is.first)
+  one_cause cause other (inr (inl is)) (inl again) = absurd (one.either text is.select again.fault is.reading again.first)
+  one_cause cause other (inr (inl is)) (inr (inl again)) = one_unbound cause other is again
+  one_cause cause other (inr (inl is)) (inr (inr again)) = absurd (bound_or_not again.query cause again.bound is)
+  one_cause cause other (inr (inr is)) (inl again) = absurd (one.either text is.bound.select again.fault is.bound.reading again.first)
+  one_cause cause other (inr (inr is)) (inr (inl again)) = absurd (bound_or_not is.query other is.bound again)
+  one_cause cause other (inr (inr is)) (inr (inr again)) = is.caused ∙ sym again.caused

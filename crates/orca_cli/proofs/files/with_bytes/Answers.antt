@@ -1,0 +1,19 @@
+use Rattle.std.proofs.Common.{sym, ◌∙◌}
+use Rattle.orca_cli.specs.Asked.{SaysCatalog}
+use Rattle.orca_cli.specs.Stages.{over}
+use Rattle.orca_cli.proofs.Stages.{IfOk-then, refused_over}
+use Rattle.orca_cli.proofs.files.with_bytes.Goals as goal
+
+-- the bytes say the catalogue
+pub returns-in-Ok : goal.returns-in-Ok
+returns-in-Ok g c =
+    let says : SaysCatalog c.args.bytes.now c.in-Ok.catalog = sym (c.in-Ok.ensures.reads (λ same. cc)) in
+    IfOk-then _ _ c.with_catalog.result (λ ending is. over c.in-Ok.catalog says is) c.with_catalog.ensures
+
+-- the line gives the first fault of the bytes
+pub returns-in_ok-catalog_fault_text-in-Err : goal.returns-in_ok-catalog_fault_text-in-Err
+returns-in_ok-catalog_fault_text-in-Err g c =
+    let text = c.in_ok-catalog_fault_text-in-Err.ensures in
+    IfOk-then _ _ c.refused_catalog.result
+    (λ ending is. refused_over c.args.bytes.now c.args.memo c.args.query.now c.deref.result.now (g.S.Shelf.held c.args.shelf.now c.args.query.now) _ _ c.in-Err.fault ending c.in-Err.ensures.reads text.not_memory (c.deref.ensures ∙ text.text) is)
+    c.refused_catalog.ensures

@@ -1,0 +1,72 @@
+//! Why a catalogue or a query is refused, as text. Want of memory has none, and stays what it is.
+ghost use Rattle.std.specs.Prelude.{◌≡◌, ◌≢◌, IfOk, string_bytes};
+ghost use Rattle.orca_cli.specs.Texts.{catalog_cause, limit_name, sql_cause, bind_cause};
+
+use catalog_json::CatalogFault;
+use sql_bind::BindFault;
+use sql_reader::{Limit, SqlFault};
+use std::alloc::{AllocError, Global};
+
+/// Why bytes are no catalogue, with the JSON pointer of the place.
+pub fn catalog_fault_text(alloc: Global, fault: &CatalogFault) -> Result<String, AllocError>
+    ensures text { IfOk result (λ text. string_bytes text ≡ catalog_cause fault.now) }
+    ensures not_memory { IfOk result (λ text. fault.now ≢ CatalogFault.Memory) }
+{
+    match fault {
+        CatalogFault::TooLong => String::from_str(alloc, "too long"),
+        CatalogFault::NotJson => String::from_str(alloc, "not JSON"),
+        CatalogFault::Shape { path } => format!(in alloc; "shape at {}", path.as_str()),
+        CatalogFault::Version { found } => format!(in alloc; "version {found}"),
+        CatalogFault::Range { path } => format!(in alloc; "range at {}", path.as_str()),
+        CatalogFault::Twice { path } => format!(in alloc; "twice at {}", path.as_str()),
+        CatalogFault::UnknownColumn { path } => {
+            format!(in alloc; "unknown column at {}", path.as_str())
+        }
+        CatalogFault::Memory => Err(AllocError),
+    }
+}
+
+fn limit_text(limit: Limit) -> &'static str
+    ensures { result.now ≡ limit_name limit }
+{
+    match limit {
+        Limit::Items => "items",
+        Limit::Tables => "tables",
+        Limit::Predicates => "predicates",
+        Limit::GroupBy => "group columns",
+        Limit::OrderBy => "order keys",
+    }
+}
+
+/// Why a text is no query, with the offset of the place.
+pub fn sql_fault_text(alloc: Global, fault: SqlFault) -> Result<String, AllocError>
+    ensures text { IfOk result (λ text. string_bytes text ≡ sql_cause fault) }
+    ensures not_memory { IfOk result (λ text. fault ≢ SqlFault.Memory) }
+{
+    match fault {
+        SqlFault::TooLong => String::from_str(alloc, "too long"),
+        SqlFault::NotAscii { at } => format!(in alloc; "not ASCII at {at}"),
+        SqlFault::Token { at } => format!(in alloc; "token at {at}"),
+        SqlFault::Grammar { at } => format!(in alloc; "grammar at {at}"),
+        SqlFault::TooMany { what, at } => {
+            format!(in alloc; "too many {} at {at}", limit_text(what))
+        }
+        SqlFault::Memory => Err(AllocError),
+    }
+}
+
+/// Why the names of a query can't be bound, with the offset of the place.
+pub fn bind_fault_text(alloc: Global, fault: BindFault) -> Result<String, AllocError>
+    ensures text { IfOk result (λ text. string_bytes text ≡ bind_cause fault) }
+    ensures not_memory { IfOk result (λ text. fault ≢ BindFault.Memory) }
+{
+    match fault {
+        BindFault::UnknownTable { at } => format!(in alloc; "unknown table at {at}"),
+        BindFault::TwiceAlias { at } => format!(in alloc; "name twice at {at}"),
+        BindFault::UnknownColumn { at } => format!(in alloc; "unknown column at {at}"),
+        BindFault::Ambiguous { at } => format!(in alloc; "ambiguous column at {at}"),
+        BindFault::NotGrouped { at } => format!(in alloc; "not grouped at {at}"),
+        BindFault::TooManyItems { found } => format!(in alloc; "too many columns: {found}"),
+        BindFault::Memory => Err(AllocError),
+    }
+}

@@ -1,0 +1,1 @@
+SELECT a FROM T1, T2
