@@ -7,6 +7,7 @@ export LC_ALL=C
 runs=${1:-10}
 most=1048576
 top=$(cd "$(dirname "${BASH_SOURCE[0]}")/.." && pwd)
+. "$top/bench/timing.sh"
 program=$top/crates/orca/out/orca
 folder=$(mktemp -d) || exit 1
 trap 'rm -rf "$folder"' EXIT
@@ -26,22 +27,6 @@ catalog() {
   printf '%s%*s' "$text" $((most - ${#text})) ''
 }
 
-# the least time of the runs on a file, in microseconds
-least() {
-  local best='' start end i
-  for ((i = 0; i < runs; i++)); do
-    start=${EPOCHREALTIME/./}
-    "$program" plan "$1" "$folder/query" >/dev/null 2>&1
-    end=${EPOCHREALTIME/./}
-    if [ -z "$best" ] || [ $((end - start)) -lt "$best" ]; then best=$((end - start)); fi
-  done
-  echo "$best"
-}
-
-milliseconds() {
-  printf '%d.%02d' $(($1 / 1000)) $(($1 % 1000 / 10))
-}
-
 printf 'SELECT t0.c0 FROM t0' >"$folder/query"
 # builds the program where it is missing or old
 "$top/orca" plan "$top/examples/t.json" "$top/examples/q.sql" >/dev/null || exit 1
@@ -50,8 +35,8 @@ for shape in '1000 34' '33 1000' '1 1000'; do
   read -r tables columns <<<"$shape"
   catalog 2 "$tables" "$columns" >"$folder/json"
   catalog 1 "$tables" "$columns" >"$folder/whole"
-  json=$(least "$folder/json")
-  whole=$(least "$folder/whole")
+  json=$(least "$program" plan "$folder/json" "$folder/query")
+  whole=$(least "$program" plan "$folder/whole" "$folder/query")
   printf '%-10s %8s %8s %12s %12s %12s\n' "$tables" "$columns" "$(wc -c <"$folder/whole")" \
     "$(milliseconds "$json")" "$(milliseconds "$whole")" "$(milliseconds $((whole > json ? whole - json : 0)))"
 done

@@ -7,25 +7,14 @@ set -u
 export LC_ALL=C
 runs=${1:-10}
 top=$(cd "$(dirname "${BASH_SOURCE[0]}")/.." && pwd)
+. "$top/bench/timing.sh"
 tests=$top/crates/orca_cli/out/orca_cli_tests
 name=memo_tests::a_star_of_eight_tables_with_grouping
 
 # builds the tests where they are missing, which proves them and runs each once
 [ -x "$tests" ] || (cd "$top/crates/orca_cli" && rt test >/dev/null) || exit 1
 
-# the least time of the runs with these words, in microseconds
-least() {
-  local best='' start end i
-  for ((i = 0; i < runs; i++)); do
-    start=${EPOCHREALTIME/./}
-    "$tests" "$@" >/dev/null || exit 1
-    end=${EPOCHREALTIME/./}
-    if [ -z "$best" ] || [ $((end - start)) -lt "$best" ]; then best=$((end - start)); fi
-  done
-  echo "$best"
-}
-
-first=$(least --list)
-whole=$(least "$name")
-printf 'start-up %d.%02d ms, with the memo %d.%02d ms\n' \
-  $((first / 1000)) $((first % 1000 / 10)) $((whole / 1000)) $((whole % 1000 / 10))
+first=$(least "$tests" --list)
+"$tests" "$name" >/dev/null || exit 1
+whole=$(least "$tests" "$name")
+printf 'start-up %s ms, with the memo %s ms\n' "$(milliseconds "$first")" "$(milliseconds "$whole")"

@@ -7,6 +7,7 @@ export LC_ALL=C
 runs=${1:-10}
 most=65536
 top=$(cd "$(dirname "${BASH_SOURCE[0]}")/.." && pwd)
+. "$top/bench/timing.sh"
 program=$top/crates/orca/out/orca
 catalog=$top/examples/t.json
 folder=$(mktemp -d) || exit 1
@@ -72,29 +73,11 @@ query() {
   esac
 }
 
-# the least time of the runs on a file, in microseconds
-least() {
-  local best='' start end i
-  for ((i = 0; i < runs; i++)); do
-    start=${EPOCHREALTIME/./}
-    "$program" plan "$catalog" "$1" >/dev/null 2>&1
-    end=${EPOCHREALTIME/./}
-    if [ -z "$best" ] || [ $((end - start)) -lt "$best" ]; then best=$((end - start)); fi
-  done
-  echo "$best"
-}
-
-milliseconds() {
-  local sign=''
-  [ "$1" -ge 0 ] || sign=-
-  printf '%s%d.%02d' "$sign" $((${1#-} / 1000)) $((${1#-} % 1000 / 10))
-}
-
 # builds the program where it is missing or old
 query one_line >"$folder/one_line"
 "$top/orca" plan "$catalog" "$folder/one_line" >/dev/null
 [ -x "$program" ] || exit 1
-first=$(least "$folder/one_line")
+first=$(least "$program" plan "$catalog" "$folder/one_line")
 
 printf '%-20s %8s %6s %10s %10s\n' query bytes status ms 'ms more'
 for name in one_line spaces one_comment short_comments one_string quotes_in_a_string unclosed_string one_name \
@@ -103,7 +86,7 @@ for name in one_line spaces one_comment short_comments one_string quotes_in_a_st
   query "$name" >"$file"
   "$program" plan "$catalog" "$file" >/dev/null 2>&1
   status=$?
-  time=$(least "$file")
+  time=$(least "$program" plan "$catalog" "$file")
   printf '%-20s %8d %6d %10s %10s\n' "$name" "$(wc -c <"$file")" "$status" \
     "$(milliseconds "$time")" "$(milliseconds $((time - first)))"
 done
