@@ -16,6 +16,7 @@ use Rattle.orca_cli.specs.declared.status.Status.{Status}
 use Rattle.orca_cli.specs.declared.status.Status.TheVariants.{CatalogRefused}
 use Rattle.orca_cli.proofs.Causes.{told_one, one_catalog, some_catalog}
 use Rattle.orca_cli.proofs.Memos.{OneMemo, section_one}
+use Rattle.orca_cli.proofs.Queries.{OneLinks}
 use Rattle.orca_cli.proofs.Refusals.{OneReading, one_query, never_refused, one_cause}
 
 -- a query has one least plan
@@ -40,17 +41,17 @@ goes_on_one one memo query other front fore text again same fronts goes goes_too
     let here : GoesOn memo query fore again = subst (λ q. GoesOn memo q fore again) (sym same) goes_too in
     goes.joined ∙ ap (λ f. f ++ goes.section) fronts ∙ ap (λ section. fore ++ section) (section_one one query memo goes.section here.section goes.is_section here.is_section) ∙ sym here.joined
 
-module _ (reading : OneReading) (least : OneLeast) (closure : OneMemo) (catalog : Catalog) (memo : Bool) (asked : List ℕ) (first second : Status) (text other : List ℕ) where
+module _ (reading : OneReading) (links : OneLinks) (least : OneLeast) (closure : OneMemo) (catalog : Catalog) (memo : Bool) (asked : List ℕ) (first second : Status) (text other : List ℕ) where
   -- two answers to one text over one catalogue are the same
   same_answers : IsAnswer catalog memo asked first text → IsAnswer catalog memo asked second other → Same first second text other
   same_answers (planned a q asks plan is_plan goes) (planned b r asks_too plan_too is_plan_too goes_too) =
-      let same : q ≡ r = one_query reading catalog asked q r asks asks_too in
+      let same : q ≡ r = one_query reading catalog asked links q r asks.bound asks_too.bound in
       record { status = a ∙ sym b; same_text = goes_on_one closure memo q r plan plan_too text other same (one_text least q r plan plan_too same is_plan is_plan_too) goes goes_too }
-  same_answers (planned a q asks plan is_plan goes) (unplanned b r asks_too none goes_too) = absurd (plan_or_none q r plan (one_query reading catalog asked q r asks asks_too) is_plan none)
+  same_answers (planned a q asks plan is_plan goes) (unplanned b r asks_too none goes_too) = absurd (plan_or_none q r plan (one_query reading catalog asked links q r asks.bound asks_too.bound) is_plan none)
   same_answers (planned a q asks plan is_plan goes) (refused b cause why line) = absurd (never_refused reading catalog asked q cause asks why)
-  same_answers (unplanned a q asks none goes) (planned b r asks_too plan is_plan goes_too) = absurd (plan_or_none r q plan (one_query reading catalog asked r q asks_too asks) is_plan none)
+  same_answers (unplanned a q asks none goes) (planned b r asks_too plan is_plan goes_too) = absurd (plan_or_none r q plan (one_query reading catalog asked links r q asks_too.bound asks.bound) is_plan none)
   same_answers (unplanned a q asks none goes) (unplanned b r asks_too none_too goes_too) =
-      record { status = a ∙ sym b; same_text = goes_on_one closure memo q r texts.no_plan texts.no_plan text other (one_query reading catalog asked q r asks asks_too) refl goes goes_too }
+      record { status = a ∙ sym b; same_text = goes_on_one closure memo q r texts.no_plan texts.no_plan text other (one_query reading catalog asked links q r asks.bound asks_too.bound) refl goes goes_too }
   same_answers (unplanned a q asks none goes) (refused b cause why line_too) = absurd (never_refused reading catalog asked q cause asks why)
   same_answers (refused a cause why line) (planned b r asks plan is_plan goes) = absurd (never_refused reading catalog asked r cause asks why)
   same_answers (refused a cause why line) (unplanned b r asks none goes) = absurd (never_refused reading catalog asked r cause asks why)
@@ -80,17 +81,17 @@ one_fault bytes cause other is again =
     let fault : is.fault ≡ again.fault = cc in
     is.caused ∙ ap texts.catalog_cause fault ∙ sym again.caused
 
-same_known : OneReading → OneLeast → OneMemo → (bytes : List ℕ) (memo : Bool) (asked : List ℕ) (first second : Status) (text other : List ℕ) → Known bytes memo asked first text → Known bytes memo asked second other → Same first second text other
-same_known reading least closure bytes memo asked first second text other (over k says is) (over l says_too is_too) =
+same_known : OneReading → OneLinks → OneLeast → OneMemo → (bytes : List ℕ) (memo : Bool) (asked : List ℕ) (first second : Status) (text other : List ℕ) → Known bytes memo asked first text → Known bytes memo asked second other → Same first second text other
+same_known reading links least closure bytes memo asked first second text other (over k says is) (over l says_too is_too) =
     let same = one_catalog bytes l k says_too says in
-    same_answers reading least closure k memo asked first second text other is (subst (λ c. IsAnswer c memo asked second other) same is_too)
-same_known reading least closure bytes memo asked first second text other (over k says is) (without b cause none line) = absurd (some_catalog bytes cause k says none)
-same_known reading least closure bytes memo asked first second text other (without a cause none line) (over l says is) = absurd (some_catalog bytes cause l says none)
-same_known reading least closure bytes memo asked first second text other (without a cause none line) (without b cause_too none_too line_too) =
+    same_answers reading links least closure k memo asked first second text other is (subst (λ c. IsAnswer c memo asked second other) same is_too)
+same_known reading links least closure bytes memo asked first second text other (over k says is) (without b cause none line) = absurd (some_catalog bytes cause k says none)
+same_known reading links least closure bytes memo asked first second text other (without a cause none line) (over l says is) = absurd (some_catalog bytes cause l says none)
+same_known reading links least closure bytes memo asked first second text other (without a cause none line) (without b cause_too none_too line_too) =
     record { status = a ∙ sym b; same_text = line ∙ ap texts.catalog_refused (one_fault bytes cause cause_too none none_too) ∙ sym line_too }
 
 -- two runs over the same bytes have one outcome
-pub one_outcome_of : OneReading → OneMemo → ((q : Query) (s t : Tree) → IsLeastPlan q s → IsLeastPlan q t → s ≡ t) → OneOutcome
+pub one_outcome_of : OneReading → OneLinks → OneMemo → ((q : Query) (s t : Tree) → IsLeastPlan q s → IsLeastPlan q t → s ≡ t) → OneOutcome
 unfolding OneLeast
-one_outcome_of reading closure least files others memo held told bytes asked first second text other o again =
-    same_known reading least closure bytes memo asked first second text other (known_of files memo held bytes asked first text o o.ends) (known_of others memo told bytes asked second other again again.ends)
+one_outcome_of reading links closure least files others memo held told bytes asked first second text other o again =
+    same_known reading links least closure bytes memo asked first second text other (known_of files memo held bytes asked first text o o.ends) (known_of others memo told bytes asked second other again again.ends)

@@ -1,17 +1,17 @@
 -- Queries with the same parts are the same.
-use Rattle.std.proofs.Common.{◌≡◌, ◌==◌, ◌&&◌, ℕ, ◌≤◌, Bool, true, false, not, nat_lt, IsTrue, List, [], ◌∷◌, length, refl, sym, ◌∙◌, subst, arith}
-use Rattle.std.proofs.lemmas.Bool.Decides.{nat_tests}
-use Rattle.std.specs.List.{list_all}
+use Rattle.std.proofs.Common.{◌≡◌, ◌≤◌, List, sym, ◌∙◌, subst}
 use Rattle.std.proofs.Props.{props}
 use mathlib.Core.HLevel.{is_prop→PathP}
 use Rattle.query_core.specs.Tables.{AreTables}
 use Rattle.query_core.specs.Items.{AreItems}
 use Rattle.query_core.specs.Conditions.{ArePredicates}
-use Rattle.query_core.specs.Links.{AreLinks, is_between}
+use Rattle.query_core.specs.Links.{AreLinks}
 use Rattle.query_core.specs.declared.catalog.Catalog.{Catalog}
 use Rattle.query_core.specs.declared.options.Options.{Options}
 use Rattle.query_core.specs.declared.options.RootDist.TheVariants.{One}
 use Rattle.query_core.specs.declared.predicate.Link.{Link}
+use Rattle.query_core.specs.declared.predicate.Pred.{Pred}
+use Rattle.query_core.specs.declared.table.Item.{Item}
 use Rattle.query_core.specs.declared.table.QueryTable.{QueryTable}
 use Rattle.plan_tree.specs.OneTable.{IsOnePlain, IsOneTable}
 use Rattle.sql_bind.specs.Binding.{IsQueryOf}
@@ -84,28 +84,15 @@ built_again q r same built = record {
   none_off = subst (λ o. o.off ≡ 0) same.options built.none_off;
 }
 
-both_true : (a b : Bool) → (a && b) ≡ true → (a ≡ true) × (b ≡ true)
-both_true true b both = (refl, both)
-both_true false b both = cc
+-- what the layer of bound queries promises: the links are determined by the tables, the items and the predicates
+abbrev pub OneLinks : Type 0
+OneLinks = (tables : List QueryTable) (items : List Item) (preds : List Pred) (links others : List Link) → AreLinks tables items preds links → AreLinks tables items preds others → others ≡ links
 
--- no link joins two of one table
-never_between : (a b : ℕ) → (nat_lt a 1 && nat_lt b 1 && not (a == b)) ≡ true → ⊥
-never_between a b between =
-    let outer = both_true (nat_lt a 1 && nat_lt b 1) (not (a == b)) between in
-    let below = both_true (nat_lt a 1) (nat_lt b 1) outer.0 in
-    let first = below.0 in
-    let second = below.1 in
-    let apart = outer.1 in
-    grind (arith, nat_tests)
-
-no_links : (tables : List QueryTable) (links : List Link) → IsOnePlain tables → IsTrue (list_all (is_between (length tables)) links) → links ≡ []
-no_links [] links plain between = absurd plain
-no_links (t ∷ []) [] plain between = refl
-no_links (t ∷ []) (l ∷ ls) plain between = absurd (never_between l.a l.b (both_true _ _ between).0)
-no_links (t ∷ u ∷ us) links plain between = absurd plain
-
--- queries over one plain table that are alike are the same
-pub one_table_same : (q r : Query) → AreAlike q r → IsOneTable q → IsOneTable r → q ≡ r
-one_table_same q r same built again =
-    let links : q.links ≡ r.links = no_links q.tables q.links built.table q.links_valid.between_tables ∙ sym (no_links r.tables r.links again.table r.links_valid.between_tables) in
+-- queries that are alike are the same
+pub alike_same : OneLinks → (q r : Query) → AreAlike q r → q ≡ r
+alike_same one q r same =
+    let by_preds : AreLinks q.tables q.items r.preds q.links = subst (λ preds. AreLinks q.tables q.items preds q.links) same.preds q.links_valid in
+    let by_items : AreLinks q.tables r.items r.preds q.links = subst (λ items. AreLinks q.tables items r.preds q.links) same.items by_preds in
+    let by_tables : AreLinks r.tables r.items r.preds q.links = subst (λ tables. AreLinks tables r.items r.preds q.links) same.tables by_items in
+    let links : q.links ≡ r.links = one r.tables r.items r.preds r.links q.links r.links_valid by_tables in
     query_same q r same.segments same.tables same.items same.preds links same.grouped same.group_by same.aggs same.output same.order same.options

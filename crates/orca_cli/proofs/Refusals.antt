@@ -8,7 +8,7 @@ use Rattle.sql_reader.specs.declared.syntax.Select.{Select}
 use Rattle.sql_bind.specs.Binding.{binding, IsQueryOf}
 use Rattle.orca_cli.specs.Asked.{plain_options, IsBoundAs, Asks, IsUnbound, IsRefused}
 use Rattle.orca_cli.specs.Texts.{sql_cause, bind_cause}
-use Rattle.orca_cli.proofs.Queries.{AreAlike, alike_of, built_again, one_table_same}
+use Rattle.orca_cli.proofs.Queries.{OneLinks, AreAlike, alike_of, alike_same, built_again}
 
 -- what the reader of queries promises: a text has one reading, or one first fault, and never both
 pub record OneReading : Type 0 where
@@ -26,9 +26,9 @@ module _ (one : OneReading) (catalog : Catalog) (text : List ℕ) where
       let parts : is.bound.parts ≡ again.bound.parts = cc in
       alike_of again.bound.parts catalog plain_options q r (subst (λ p. IsQueryOf p catalog plain_options q) parts is.bound.query) again.bound.query
 
-  -- the text asks for one query
-  pub one_query : (q r : Query) → Asks catalog text q → Asks catalog text r → q ≡ r
-  one_query q r is again = one_table_same q r (alike q r is.bound again.bound) is.built again.built
+  -- the text is bound to one query
+  pub one_query : OneLinks → (q r : Query) → IsBoundAs catalog text q → IsBoundAs catalog text r → q ≡ r
+  one_query links q r is again = alike_same links q r (alike q r is again)
 
   -- a text that is bound isn't refused by its names
   bound_or_not : (q : Query) (cause : List ℕ) → IsBoundAs catalog text q → IsUnbound catalog text cause → ⊥

@@ -4,6 +4,7 @@ ghost use Rattle.orca_cli.specs.Laws.{OneOutcome};
 use job_trace::members_are_known;
 use plan_search::closure_is_one;
 use plan_tree::least_plan_is_one;
+use query_core::links_are_one;
 
 /// The status and the text of a run are determined by what the two files hold, as long as no read
 /// fails and memory lasts: no other run over the same bytes ends in another way.
@@ -12,6 +13,7 @@ pub fn one_outcome()
 {
     least_plan_is_one();
     sql_reader::one_outcome();
+    links_are_one();
     closure_is_one();
     members_are_known();
 }

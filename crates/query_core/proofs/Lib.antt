@@ -1,6 +1,7 @@
 pub mod Bits
 pub mod Reach
 pub mod GroupLemmas
+pub mod TrueLinks
 pub mod Linking
 pub mod Whole
 pub mod ExpressionLemmas

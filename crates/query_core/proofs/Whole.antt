@@ -1,11 +1,10 @@
 -- The links of a query connect all its tables.
-use Rattle.std.proofs.Common.{◌≡◌, ℕ, zero, suc, ◌+◌, ◌-◌, ◌<◌, ◌≤◌, ◌^◌, ◌&&◌, ◌==◌, List, [], ◌∷◌, length, refl, sym, subst, ◌∙◌, arith, IsTrue, ◌⊎◌, inl, inr}
+use Rattle.std.proofs.Common.{◌≡◌, ℕ, zero, suc, ◌+◌, ◌-◌, ◌<◌, ◌≤◌, ◌^◌, List, [], ◌∷◌, length, refl, sym, subst, ◌∙◌, arith, IsTrue, ◌⊎◌, inl, inr}
 use Rattle.std.specs.Prelude.{bit_or}
 use Rattle.std.specs.Int.{trailing_zeros, w32}
-use Rattle.std.specs.List.{list_all}
 use Rattle.std.proofs.Math.Nat.{pow-le-pow_right}
 use Rattle.std.proofs.lemmas.Nat.{or_lt, pow_pos}
-use Rattle.std.proofs.lemmas.Bool.{cases_eq, cases_lt, eqb-true, false≢true, and_parts, or_left, or_right, or_cases}
+use Rattle.std.proofs.lemmas.Bool.{cases_eq, cases_lt, false≢true, or_left, or_right, or_cases}
 use Rattle.query_core.specs.declared.predicate.Link.{Link}
 use Rattle.query_core.specs.declared.query.Query.{Query}
 use Rattle.query_core.specs.Sets.{bit, Has, Adds, IsLeast}
@@ -14,21 +13,15 @@ use Rattle.query_core.specs.Links.{predicate_links, StartsComponent}
 use Rattle.query_core.specs.Keys.{IsGroup, input_of}
 use Rattle.query_core.proofs.GroupLemmas.{top_group}
 use Rattle.query_core.proofs.Bits.{bit-below, bit-none, bit-or, bit-one, bit-one_other, bit-first, bit-after, bit-beyond, one-grows, power_below, least-found}
-use Rattle.query_core.proofs.Reach.{joined_turned, Reaches-then, Reaches-turned, reached_first, reached_next, reached_is}
-use Rattle.query_core.proofs.Linking.{joins_own, joins_back}
+use Rattle.query_core.proofs.Reach.{Reaches-then, Reaches-turned, reached_first, reached_next, reached_is}
+use Rattle.query_core.proofs.TrueLinks.{joins_own, joins_back, joined_ends}
+use Rattle.query_core.proofs.Linking.{components_joined}
 
 -- a table is in a set or not
 pub bit_cases : (set t : ℕ) → Has set t ⊎ (bit set t ≡ 0)
 bit_cases set t = elim (cases_eq (bit set t) 1) [
   | inl has ↦ inl has
   | inr other ↦ inr (omega (arith, other, bit-below set t))
-]
-
--- the tables that a link joins are its ends
-joined_ends : (link : Link) (s t : ℕ) → IsTrue (joins s t link) → ((link.a ≡ s) × (link.b ≡ t)) ⊎ ((link.a ≡ t) × (link.b ≡ s))
-joined_ends link s t joined = elim (or_cases (link.a == s && link.b == t) (link.a == t && link.b == s) joined) [
-  | inl ahead ↦ let both = and_parts _ _ ahead in inl (eqb-true link.a s both.0, eqb-true link.b t both.1)
-  | inr back ↦ let both = and_parts _ _ back in inr (eqb-true link.a t both.0, eqb-true link.b s both.1)
 ]
 
 module _ (set found : ℕ) where
@@ -99,21 +92,7 @@ module _ (links : List Link) (set count from : ℕ) (small : set < 2 ^ count) (h
       } in
       grown (2 ^ count) (2 ^ from) (bit-one from) (reached_first links set from (2 ^ from) has adds) (power_below from count there) (omega arith)
 
--- where each link of a list is among others, these join what the list joins
-joined_by : (links made : List Link) → IsTrue (list_all (λ link. are_joined links link.a link.b) made)
-    → (s t : ℕ) → IsTrue (are_joined made s t) → IsTrue (are_joined links s t)
-joined_by links [] all s t joined = absurd (false≢true joined)
-joined_by links (link ∷ made) all s t joined = elim (or_cases (joins s t link) (are_joined made s t) joined) [
-  | inr rest ↦ joined_by links made (and_parts _ _ all).1 s t rest
-  | inl this ↦
-      let own : IsTrue (are_joined links link.a link.b) = (and_parts _ _ all).0 in
-      elim (joined_ends link s t this) [
-        | inl (same_s, same_t) ↦ subst (λ x. IsTrue (are_joined links x t)) same_s (subst (λ x. IsTrue (are_joined links link.a x)) same_t own)
-        | inr (same_t, same_s) ↦
-            subst (λ x. IsTrue x) (joined_turned links t s) (subst (λ x. IsTrue (are_joined links x s)) same_t (subst (λ x. IsTrue (are_joined links link.a x)) same_s own))
-      ]
-]
-
+-- what links reach others reach that join at least the same tables
 reaches_by : (links made : List Link) (set : ℕ) → ((s t : ℕ) → IsTrue (are_joined made s t) → IsTrue (are_joined links s t))
     → {s t : ℕ} → Reaches made set s t → Reaches links set s t
 reaches_by links made set more (here has) = here has
@@ -126,6 +105,7 @@ reached_by_first q (suc bound) t below there =
     let count = length q.tables in
     let all = 2 ^ count - 1 in
     let made = predicate_links q.items q.preds in
+    let joined = components_joined count made q.links q.links_valid.in_order in
     let has : Has all t = bit-first count t there in
     let start : Has all 0 = bit-first count 0 (omega (arith, there)) in
     let small : all < 2 ^ count = omega (arith, pow_pos count) in
@@ -149,12 +129,12 @@ reached_by_first q (suc bound) t below there =
                   there = there;
                   least = λ u reaches. subst (λ x. x ≤ u) same_least (found.least u (reached.complete u reaches));
                 } in
-                along (here start) (q.links_valid.by_true 0 t (refl, starts)) has
+                along (here start) (joined.by_true 0 t (refl, starts)) has
             | inr lesser ↦
                 let below_t : least < t = omega (arith, lesser, found.least t own) in
                 Reaches-then q.links all
                 (reached_by_first q bound least (omega (arith, below, below_t)) (omega (arith, below_t, there)))
-                (reaches_by q.links made all (joined_by q.links made q.links_valid.by_predicates) (Reaches-turned made all (reached.sound least found.here)))
+                (reaches_by q.links made all joined.by_predicates (Reaches-turned made all (reached.sound least found.here)))
           ]
     ]
 

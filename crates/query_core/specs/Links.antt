@@ -1,5 +1,5 @@
 -- Which links a query has: those that its predicates make, and those that join the rest to table 0.
-use Rattle.std.specs.Prelude.{ℕ, Bool, not, List, Option, None, Some, ◌≡◌, ◌&&◌, ◌==◌, ◌<◌, ◌≤◌, ◌-◌, ◌^◌, min, max, length, nat_lt, slice_get, filter_map, IsTrue, if◌then◌else◌}
+use Rattle.std.specs.Prelude.{ℕ, Bool, true, not, List, [], ◌∷◌, Option, None, Some, ◌≡◌, ◌↔◌, ◌&&◌, ◌==◌, ◌<◌, ◌≤◌, ◌+◌, ◌-◌, ◌^◌, min, max, length, take, drop, nat_lt, nat_le, slice_get, filter_map, IsTrue, if◌then◌else◌}
 use Rattle.std.specs.List.{list_all}
 use Rattle.std.specs.Option.{option_map}
 use Rattle.query_core.specs.Connected.{are_joined, Reaches}
@@ -48,17 +48,28 @@ pub record StartsComponent (count : ℕ) (made : List Link) (table : ℕ) : Type
 abbrev pub AreApart : ℕ → List Link → ℕ → ℕ → Type 0
 AreApart count made s t = (s ≡ 0) × StartsComponent count made t
 
--- each predicate over two tables links them, a TRUE link joins table 0 with the least table of each component of these links that is without it, and there are no other links
+-- links from table 0 to tables from this one on, each to a later table than the link before
+abbrev pub ascend_from : ℕ → List Link → Bool
+ascend_from low [] = true
+ascend_from low (link ∷ links) = link.a == 0 && nat_le low link.b && ascend_from (link.b + 1) links
+
+-- TRUE links: from table 0 to the tables that are wanted and to no others, ascending, one to each
+pub record AreTrueLinks (IsWanted : ℕ → Type 0) (links : List Link) : Type 0 where
+  pub ascending : IsTrue (ascend_from 1 links)
+  pub tables : (t : ℕ) → IsTrue (are_joined links 0 t) ↔ IsWanted t
+
+-- the links made, in their order, and behind them the TRUE links to the tables that are wanted
+pub record AddsTrueLinks (IsWanted : ℕ → Type 0) (made links : List Link) : Type 0 where
+  pub made_first : take (length made) links ≡ made
+  pub true_last : AreTrueLinks IsWanted (drop (length made) links)
+
+-- the links that the predicates make, in the predicates' order, and behind them a TRUE link from table 0 to the least table of each component of these links that is without it, ascending
 pub record AreLinks (tables : List QueryTable) (items : List Item) (preds : List Pred) (links : List Link) : Type 0 where
   pub between_tables : IsTrue (list_all (is_between (length tables)) links)
-  pub by_predicates : IsTrue (list_all (λ link. are_joined links link.a link.b) (predicate_links items preds))
-  pub by_true : (s t : ℕ) → AreApart (length tables) (predicate_links items preds) s t → IsTrue (are_joined links s t)
-  pub no_others : (s t : ℕ) → IsTrue (are_joined links s t) → IsTrue (not (are_joined (predicate_links items preds) s t))
-      → AreApart (length tables) (predicate_links items preds) (min s t) (max s t)
+  pub in_order : AddsTrueLinks (StartsComponent (length tables) (predicate_links items preds)) (predicate_links items preds) links
 
--- the links made, the TRUE links to tables below the bound, and no others
-pub record AreLinksBelow (count : ℕ) (made links : List Link) (bound : ℕ) : Type 0 where
-  pub between : IsTrue (list_all (is_between count) links)
-  pub kept : (s t : ℕ) → IsTrue (are_joined made s t) → IsTrue (are_joined links s t)
-  pub by_true : (t : ℕ) → t < bound → StartsComponent count made t → IsTrue (are_joined links 0 t)
+-- each two tables that are joined by the links made, and each two that are apart, are joined, and no others
+pub record JoinsComponents (count : ℕ) (made links : List Link) : Type 0 where
+  pub by_predicates : (s t : ℕ) → IsTrue (are_joined made s t) → IsTrue (are_joined links s t)
+  pub by_true : (s t : ℕ) → AreApart count made s t → IsTrue (are_joined links s t)
   pub no_others : (s t : ℕ) → IsTrue (are_joined links s t) → IsTrue (not (are_joined made s t)) → AreApart count made (min s t) (max s t)

@@ -26,7 +26,7 @@ pub use candidates::{candidates_are_known, groups_are_known};
 pub use catalog::{Catalog, ColumnInfo, Placing, TableInfo};
 pub use expression_words::expressions_are_one;
 pub use expressions::{Children, ExprParts, Operator};
-pub use links::links_of;
+pub use links::{links_are_one, links_of};
 pub use options::{Options, RootDist};
 pub use output::{OrderKey, OutItem};
 pub use predicate::{CmpOp, Link, Operand, Pred};

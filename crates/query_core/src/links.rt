@@ -1,11 +1,14 @@
 //! The links of a query: those of its predicates, and those that join the rest to table 0.
 #![tactic(auto)]
 
-ghost use Rattle.std.specs.Prelude.{◌≡◌, ◌<◌, ◌≤◌, ◌^◌, IsTrue, ◌↔◌, IfOk, length};
-ghost use Rattle.std.specs.List.{list_all};
+ghost use Rattle.std.specs.Prelude.{ℕ, List, ◌≡◌, ◌<◌, ◌≤◌, ◌^◌, IsTrue, ◌↔◌, IfOk, length};
 ghost use Rattle.query_core.specs.Tables.{AreTables};
 ghost use Rattle.query_core.specs.Items.{AreItems};
-ghost use Rattle.query_core.specs.Links.{AreLinks, StartsComponent, AreLinksBelow, is_between, link_of as link_by, predicate_links as links_by, right_table as table_right, table_of as table_at, link_between as link_over};
+ghost use Rattle.query_core.specs.declared.predicate.Link.{Link};
+ghost use Rattle.query_core.specs.declared.predicate.Pred.{Pred};
+ghost use Rattle.query_core.specs.declared.table.Item.{Item};
+ghost use Rattle.query_core.specs.declared.table.QueryTable.{QueryTable};
+ghost use Rattle.query_core.specs.Links.{AreLinks, AddsTrueLinks, StartsComponent, JoinsComponents, link_of as link_by, predicate_links as links_by, right_table as table_right, table_of as table_at, link_between as link_over};
 
 use crate::connected::reached;
 use crate::predicate::{Link, Operand, Pred};
@@ -29,6 +32,16 @@ pub fn links_of(
     let links = with_true_links(alloc, tables.len() as u32, &made)?;
     Ok(List::of(links))
 }
+
+/// The links are determined by the tables, the items and the predicates.
+pub fn links_are_one()
+    ensures links { (tables : List QueryTable) (items : List Item) (preds : List Pred) →
+        (links others : List Link) → AreLinks tables items preds links →
+        AreLinks tables items preds others → others ≡ links }
+    ensures joined { (tables : List QueryTable) (items : List Item) (preds : List Pred) →
+        (links : List Link) → AreLinks tables items preds links →
+        JoinsComponents (length tables) (links_by items preds) links }
+{}
 
 fn predicate_links(alloc: Global, items: &[Item], preds: &[Pred]) -> Result<Vec<Link>, AllocError>
     ensures { IfOk result (λ made. made.items ≡ links_by items.now preds.now) }
@@ -79,8 +92,8 @@ fn table_of(items: &[Item], number: u32) -> Option<u32>
 /// The links and, after them, the TRUE links that they want.
 fn with_true_links(alloc: Global, count: u32, made: &[Link]) -> Result<Vec<Link>, AllocError>
     requires few { count ≤ 10 }
-    requires between { IsTrue (list_all (is_between count) made.now) }
-    ensures { IfOk result (λ links. AreLinksBelow count made.now links.items count) }
+    ensures { IfOk result (λ links.
+        AddsTrueLinks (StartsComponent count made.now) made.now links.items) }
 {
     let mut links = Vec::from_slice(alloc, made)?;
     for table in 1..count {
