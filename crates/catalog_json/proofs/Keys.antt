@@ -1,22 +1,48 @@
--- The keys of a set of names, as texts.
-use Rattle.std.proofs.Common.{◌≡◌, ℕ, suc, ◌+◌, not, cond, ◌||◌, List, [], ◌∷◌, map, length, position, Bor, refl, ap}
+-- The keys of a set or a map of names, as texts.
+use Rattle.std.proofs.Common.{◌≡◌, ℕ, suc, ◌+◌, ◌++◌, not, true, false, Bool, Option, Some, cond, is_some, ◌||◌, List, [], ◌∷◌, map, length, position, String, Global, string_bytes, string_eq, refl, ap}
 use Rattle.std.specs.List.{list_any, prefix_len}
+use Rattle.std.specs.Map.{keys_of, lookup}
 use Rattle.std.specs.Str.{bytes_eq}
+use Rattle.query_core.specs.declared.catalog.ColumnInfo.{ColumnInfo}
+use Rattle.indexmap.specs.IndexMap.{insert_entry}
+use Rattle.catalog_json.specs.Columns.{column_of, names_of}
+use Rattle.catalog_json.proofs.Differ.{neither}
 
-pub any_shown : (name : List ℕ) (keys : List (Bor (List ℕ))) → list_any (λ k. bytes_eq name k.now) keys ≡ list_any (bytes_eq name) (map (λ k. k.now) keys)
+pub any_shown : (name : List ℕ) (keys : List (String Global)) → list_any (λ k. bytes_eq name (string_bytes k)) keys ≡ list_any (bytes_eq name) (map string_bytes keys)
 any_shown name [] = refl
-any_shown name (k ∷ keys) = ap (λ b. bytes_eq name k.now || b) (any_shown name keys)
+any_shown name (k ∷ keys) = ap (λ b. bytes_eq name (string_bytes k) || b) (any_shown name keys)
 
-abbrev texts : List (Bor (List ℕ)) → List (List ℕ)
-texts keys = map (λ k. k.now) keys
+-- ---- the names of columns
 
-before_shown : (name : List ℕ) (keys : List (Bor (List ℕ))) → prefix_len (λ k. not (bytes_eq name k.now)) keys ≡ prefix_len (λ text. not (bytes_eq name text)) (texts keys)
+abbrev Entries : Type 0
+Entries = List (String Global × ℕ)
+
+abbrev names : Entries → List (List ℕ)
+names es = names_of (map column_of es)
+
+any_or : (here : Bool) (n : ℕ) (rest : Option ℕ) (later : Bool) → is_some rest ≡ later → is_some (cond here (Some n) rest) ≡ (here || later)
+any_or true n rest later e = refl
+any_or false n rest later e = e
+
+-- a column with a new name goes last
+pub goes_last : (es : Entries) (name : String Global) (ndv : ℕ) → list_any (bytes_eq (string_bytes name)) (names es) ≡ false → map column_of (insert_entry string_eq es name ndv) ≡ map column_of es ++ column_of (name, ndv) ∷ []
+goes_last [] name ndv fresh = refl
+goes_last (e ∷ es) name ndv fresh =
+    let other = neither (bytes_eq (string_bytes name) (string_bytes e.0)) (list_any (bytes_eq (string_bytes name)) (names es)) fresh in
+    rw other.0 (ap (λ (cs : List ColumnInfo). column_of e ∷ cs) (goes_last es name ndv other.1))
+
+-- a name has a value where it is among the names
+pub name_there : (name : List ℕ) (es : Entries) → is_some (lookup (λ k. bytes_eq name (string_bytes k)) es) ≡ list_any (bytes_eq name) (names es)
+name_there name [] = refl
+name_there name (e ∷ es) = any_or (bytes_eq name (string_bytes e.0)) e.1 _ _ (name_there name es)
+
+before_shown : (name : List ℕ) (es : Entries) → prefix_len (λ k. not (bytes_eq name (string_bytes k))) (keys_of es) ≡ prefix_len (λ text. not (bytes_eq name text)) (names es)
 before_shown name [] = refl
-before_shown name (k ∷ keys) = ap (λ n. cond (not (bytes_eq name k.now)) (1 + n) 0) (before_shown name keys)
+before_shown name (e ∷ es) = ap (λ n. cond (not (bytes_eq name (string_bytes e.0))) (1 + n) 0) (before_shown name es)
 
-pub count_shown : (keys : List (Bor (List ℕ))) → length keys ≡ length (texts keys)
-count_shown [] = refl
-count_shown (k ∷ keys) = ap suc (count_shown keys)
+key_count : (es : Entries) → length (keys_of es) ≡ length (names es)
+key_count [] = refl
+key_count (e ∷ es) = ap suc (key_count es)
 
-pub position_shown : (name : List ℕ) (keys : List (Bor (List ℕ))) → position (λ k. bytes_eq name k.now) keys ≡ position (bytes_eq name) (map (λ k. k.now) keys)
-position_shown name keys = rw (before_shown name keys, count_shown keys) refl
+pub position_shown : (name : List ℕ) (es : Entries) → position (λ k. bytes_eq name (string_bytes k)) (keys_of es) ≡ position (bytes_eq name) (names es)
+position_shown name es = rw (before_shown name es, key_count es) refl

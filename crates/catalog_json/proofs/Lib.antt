@@ -5,6 +5,7 @@ pub mod Elements
 pub mod Json
 pub mod Keys
 pub mod ListsKept
+pub mod Members
 pub mod Steps
 pub mod TablesKept
 pub mod Told

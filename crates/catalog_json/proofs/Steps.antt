@@ -1,14 +1,17 @@
 -- What a reading without a fault says of its parts.
-use Rattle.std.proofs.Common.{◌≡◌, ◌==◌, ℕ, ◌+◌, Bool, true, false, cond, List, [], ◌∷◌, ◌++◌, length, position, nat_lt, Option, Some, None, option_map, option_and_then, Ok, Err, refl, ap, subst, arith, length-append}
+use Rattle.std.proofs.Common.{◌≡◌, ◌==◌, ℕ, ◌+◌, ◌≤◌, IfOk, map, Bool, true, false, cond, List, [], ◌∷◌, ◌++◌, length, position, nat_lt, Option, Some, None, option_map, option_and_then, Ok, Err, refl, ap, subst, arith, length-append}
 use Rattle.std.specs.List.{list_any, position_or_len, AllByRecursion}
 use Rattle.std.specs.Str.{bytes_eq}
 use Rattle.serde_json.specs.Data.{Data}
+use Rattle.std.proofs.lemmas.List.{length-map}
 use Rattle.serde_json.specs.Find.{as_str, as_array}
+use Rattle.serde_json.specs.View.{view}
+use Rattle.serde_json.specs.declared.value.Value.{Value}
 use Rattle.catalog_json.specs.declared.place.Place.{Place}
 use Rattle.catalog_json.specs.declared.fault.Fault.{Fault}
 use Rattle.catalog_json.specs.declared.fault.Fault.TheVariants.{Shape, Range, Twice}
 use Rattle.catalog_json.specs.Limits.{within, is_catalog_name}
-use Rattle.catalog_json.specs.Walk.{◌>>=◌, Reading, each, elements, in_limits, list_at, name_at, named, new_name_at, new_place, number_at, of_length, whole}
+use Rattle.catalog_json.specs.Walk.{◌>>=◌, Gives, Reading, each, elements, in_limits, list_at, name_at, named, new_name_at, new_place, number_at, of_length, whole}
 
 abbrev pub done : {A : Type 0} → A → Reading A
 done x = Ok x
@@ -95,6 +98,11 @@ module _ {A : Type 0} (read : List A → Data → Reading A) where
 
   pub each_counts : (ds : List Data) (xs : List A) → each read [] ds ≡ Ok xs → length xs ≡ length ds
   each_counts ds xs e = omega (arith, more_counts [] ds xs e)
+
+  -- no more are read than there are
+  pub no_more : (values : List Value) (result : Reading (List A)) (most : ℕ) → Gives (each read [] (map view values)) result → length values ≤ most → IfOk result (λ xs. length xs ≤ most)
+  no_more values (Ok xs) most gives le = omega (arith, each_counts (map view values) xs gives, length-map values view, le)
+  no_more values (Err fault) most gives le = tt
 
   -- what each element keeps, all keep
   pub each_keeps : (P : List A → Type 0) (step : (before : List A) (d : Data) (x : A) → P before → read before d ≡ Ok x → P (before ++ x ∷ []))

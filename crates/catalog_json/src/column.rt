@@ -1,71 +1,118 @@
 //! The columns of a table.
-ghost use Rattle.std.specs.Prelude.{◌≡◌, ◌≤◌, [], ◌∷◌, ◌++◌, length, map, option_map, IfOk};
+ghost use Rattle.std.specs.Prelude.{◌≡◌, ◌≤◌, ◌<◌, [], ◌∷◌, ◌++◌, length, map, option_map, position, IfOk, IfErr, IfSome};
+ghost use Rattle.std.specs.List.{list_any};
+ghost use Rattle.std.specs.Str.{bytes_eq};
 ghost use Rattle.serde_json.specs.View.{view};
+ghost use Rattle.catalog_json.specs.declared.fault.Fault.TheVariants.{Memory};
+ghost use Rattle.catalog_json.specs.Columns.{names_of};
 ghost use Rattle.catalog_json.specs.Walk.{Gives, each, seen, column_at, columns_at};
 
 use crate::fault::Fault;
-use crate::member::{TRILLION, list_at, number_at, object_at};
-use crate::names::Names;
+use crate::member::{TRILLION, number_at, take_list, take_name};
+use crate::object::Object;
 use crate::place::Place;
-use orca_base::List;
+use indexmap::IndexMap;
+use orca_base::{List, Text};
 use query_core::ColumnInfo;
 use serde_json::Value;
 use std::alloc::Global;
+use std::marker::Model;
 
 const MOST_COLUMNS: usize = 1_000;
 
-/// A table's columns, and their names for looking them up.
+/// A table's columns, each found by its name.
 #[derive(Drop)]
-pub struct Columns<'v> {
-    pub columns: List<ColumnInfo>,
-    pub names: Names<'v>,
+pub struct Columns {
+    /// How many distinct values each has.
+    ndvs: IndexMap<String, u64>,
 }
 
-/// Reads one of the columns of table `t`, and adds its name.
-#[tactic(auto, unfolding(crate::specs::Walk::column_at))]
-fn read_column<'v>(
-    alloc: Global,
-    t: usize,
-    before: &[ColumnInfo],
-    names: &mut Names<'v>,
-    value: &'v Value,
-) -> Result<ColumnInfo, Fault>
-    requires { names.old ≡ map (λ c. c.name) before.now }
-    ensures read { Gives (column_at t before.now (view value.now)) result }
-    ensures added { IfOk result (λ column. names.new ≡ names.old ++ column.name ∷ []) }
-{
-    let c = before.len();
-    let object = object_at(value, Place::Column(t, c))?;
-    let name = names.read_new(alloc, object.get("name"), Place::ColumnName(t, c))?;
-    let ndv = number_at(object.get("ndv"), 0, TRILLION, Place::Ndv(t, c))?;
-    Ok(ColumnInfo { name, ndv })
+impl Model for Columns {
+    ghost use Rattle.std.specs.Prelude.{List, map};
+    ghost use Rattle.query_core.specs.declared.catalog.ColumnInfo.{ColumnInfo};
+    ghost use Rattle.catalog_json.specs.Columns.{column_of};
+
+    ghost Value = { List ColumnInfo };
+
+    ghost view = { λ c. map column_of c.ndvs.entries };
 }
 
-fn read_each_column<'v>(alloc: Global, t: usize, values: &'v [Value]) -> Result<Columns<'v>, Fault>
-    ensures read { Gives (each (column_at t) [] (map view values.now)) (seen (λ c. c.columns) result) }
-    ensures names { IfOk result (λ c. c.names ≡ map (λ x. x.name) c.columns) }
-    ensures count { IfOk result (λ c. length c.columns ≡ length values.now) }
-{
-    let mut columns = List::of(Vec::with_capacity(alloc, values.len())?);
-    let mut names = Names::with_capacity(alloc, values.len())?;
-    for value in values {
-        let column = read_column(alloc, t, columns.as_slice(), &mut names, value)?;
-        columns.push(column)?;
+impl Columns {
+    /// No columns yet, and room for so many.
+    fn with_capacity(alloc: Global, count: usize) -> Result<Columns, Fault>
+        ensures empty { IfOk result (λ columns. columns ≡ []) }
+        ensures memory { IfErr result (λ e. e ≡ Memory) }
+    {
+        Ok(Columns {
+            ndvs: IndexMap::with_capacity(alloc, count)?,
+        })
     }
-    Ok(Columns { columns, names })
+
+    fn len(&self) -> usize
+        ensures { result ≡ length self.now }
+    {
+        self.ndvs.len()
+    }
+
+    /// The place of the column with a name.
+    pub fn position(&self, name: &str) -> Option<usize>
+        ensures place { result ≡ position (bytes_eq name.now) (names_of self.now) }
+        ensures within { IfSome result (λ i. i < length self.now) }
+    {
+        self.ndvs.get_index_of(name)
+    }
+
+    fn has(&self, name: &str) -> bool
+        ensures { result ≡ list_any (bytes_eq name.now) (names_of self.now) }
+    {
+        self.ndvs.contains_key(name)
+    }
+
+    /// Reads one more of the columns of table `t`.
+    #[tactic(auto, unfolding(crate::specs::Walk::column_at, crate::specs::Walk::new_name_at))]
+    fn read(&mut self, t: usize, value: Value) -> Result<(), Fault>
+        ensures { Gives (seen (λ c. self.old ++ c ∷ []) (column_at t self.old (view value)))
+            (seen (λ _. self.new) result) }
+    {
+        let c = self.len();
+        let mut object = Object::of(value, Place::Column(t, c))?;
+        let name = take_name(object.take("name"), Place::ColumnName(t, c))?;
+        if self.has(name.as_str()) {
+            return Err(Fault::Twice(Place::ColumnName(t, c)));
+        }
+        let ndv = number_at(object.get("ndv"), 0, TRILLION, Place::Ndv(t, c))?;
+        self.ndvs.insert(name, ndv)?;
+        Ok(())
+    }
+
+    pub fn into_list(self, alloc: Global) -> Result<List<ColumnInfo>, Fault>
+        ensures all { IfOk result (λ list. list ≡ self) }
+        ensures memory { IfErr result (λ e. e ≡ Memory) }
+    {
+        let mut list = List::of(Vec::with_capacity(alloc, self.ndvs.len())?);
+        for (name, ndv) in self.ndvs {
+            let name = Text::of(name);
+            list.push(ColumnInfo { name, ndv })?;
+        }
+        Ok(list)
+    }
+}
+
+fn read_each_column(alloc: Global, t: usize, values: Vec<Value>) -> Result<Columns, Fault>
+    ensures { Gives (each (column_at t) [] (map view values.items)) result }
+{
+    let mut columns = Columns::with_capacity(alloc, values.len())?;
+    for value in values {
+        columns.read(t, value)?;
+    }
+    Ok(columns)
 }
 
 #[tactic(auto, unfolding(crate::specs::Walk::columns_at))]
-pub fn read_columns<'v>(
-    alloc: Global,
-    t: usize,
-    value: Option<&'v Value>,
-) -> Result<Columns<'v>, Fault>
-    ensures read { Gives (columns_at t (option_map (λ v. view v.now) value.entry))
-        (seen (λ c. c.columns) result) }
-    ensures names { IfOk result (λ c. c.names ≡ map (λ x. x.name) c.columns) }
-    ensures count { IfOk result (λ c. length c.columns ≤ 1000) }
+pub fn read_columns(alloc: Global, t: usize, value: Option<Value>) -> Result<Columns, Fault>
+    ensures read { Gives (columns_at t (option_map view value)) result }
+    ensures count { IfOk result (λ columns. length columns ≤ 1000) }
 {
-    let values = list_at(value, 1, MOST_COLUMNS, Place::Columns(t))?;
+    let values = take_list(value, 1, MOST_COLUMNS, Place::Columns(t))?;
     read_each_column(alloc, t, values)
 }

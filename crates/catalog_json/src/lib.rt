@@ -7,6 +7,7 @@ mod laws;
 mod listed;
 mod member;
 mod names;
+mod object;
 mod place;
 mod reading;
 mod table;

@@ -1,6 +1,6 @@
-//! Numbers, names, lists and objects of a catalogue.
-ghost use Rattle.std.specs.Prelude.{◌≡◌, ◌≤◌, length, IfOk, option_map, option_and_then, map};
-ghost use Rattle.serde_json.specs.Find.{as_array};
+//! Numbers, names and lists of a catalogue.
+ghost use Rattle.std.specs.Prelude.{◌≡◌, ◌≤◌, length, IfOk, option_map, option_and_then, map, string_bytes};
+ghost use Rattle.serde_json.specs.Find.{as_array, as_str};
 ghost use Rattle.serde_json.specs.View.{view};
 ghost use Rattle.catalog_json.specs.Limits.{is_catalog_name, within};
 ghost use Rattle.catalog_json.specs.Walk.{elements, seen};
@@ -53,6 +53,29 @@ pub fn name_at<'v>(value: Option<&'v Value>, place: Place) -> Result<&'v str, Fa
     }
 }
 
+fn take_text(value: Option<Value>) -> Option<String>
+    ensures { option_map string_bytes result ≡ option_and_then as_str (option_map view value) }
+{
+    match value {
+        Some(Value::String(text)) => Some(text),
+        _ => None,
+    }
+}
+
+/// A name, moved.
+pub fn take_name(value: Option<Value>, place: Place) -> Result<String, Fault>
+    ensures { seen string_bytes result ≡ spec.name_at place (option_map view value) }
+{
+    let Some(text) = take_text(value) else {
+        return Err(Fault::Shape(place));
+    };
+    if is_catalog_name(text.as_str()) {
+        Ok(text)
+    } else {
+        Err(Fault::Shape(place))
+    }
+}
+
 #[tactic(auto, using(crate::proofs::Elements::elements_items_of))]
 fn elements<'v>(value: Option<&'v Value>) -> Option<&'v [Value]>
     ensures { option_map (λ vs. map view vs.now) result
@@ -82,12 +105,34 @@ pub fn list_at<'v>(
     }
 }
 
-pub fn object_at<'v>(value: &'v Value, place: Place) -> Result<&'v Value, Fault>
-    ensures { seen (λ v. view v.now) result ≡ spec.object_at place (view value.now) }
+#[tactic(auto, using(crate::proofs::Elements::elements_items_of))]
+fn take_elements(value: Option<Value>) -> Option<Vec<Value>>
+    ensures { option_map (λ vs. map view vs.items) result
+        ≡ option_map elements (option_and_then as_array (option_map view value)) }
 {
-    if value.is_object() {
-        Ok(value)
+    match value {
+        Some(Value::Array(list)) => Some(list),
+        _ => None,
+    }
+}
+
+/// The elements of an array with `least` to `most` of them, moved.
+pub fn take_list(
+    value: Option<Value>,
+    least: usize,
+    most: usize,
+    place: Place,
+) -> Result<Vec<Value>, Fault>
+    ensures read { seen (λ vs. map view vs.items) result
+        ≡ spec.list_at least most place (option_map view value) }
+    ensures within { IfOk result (λ vs. length vs.items ≤ most) }
+{
+    let Some(list) = take_elements(value) else {
+        return Err(Fault::Shape(place));
+    };
+    if is_within(least as u64, most as u64, list.len() as u64) {
+        Ok(list)
     } else {
-        Err(Fault::Shape(place))
+        Err(Fault::Range(place))
     }
 }

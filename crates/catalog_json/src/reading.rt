@@ -6,7 +6,8 @@ ghost use Rattle.catalog_json.specs.Outcome.{CatalogReads, json_of, most_bytes, 
 ghost use Rattle.catalog_json.specs.Catalog.{IsCatalog};
 
 use crate::fault::{CatalogFault, Fault};
-use crate::member::{number_at, object_at, whole};
+use crate::member::{number_at, whole};
+use crate::object::Object;
 use crate::place::Place;
 use crate::table::read_tables;
 use query_core::Catalog;
@@ -26,18 +27,18 @@ fn version_at(value: Option<&Value>) -> Result<u64, Fault>
 }
 
 #[tactic(auto, unfolding(crate::specs::Walk::catalog_at))]
-fn read_value(alloc: Global, value: &Value) -> Result<Catalog, Fault>
-    ensures { Gives (catalog_at (view value.now)) result }
+fn read_value(alloc: Global, value: Value) -> Result<Catalog, Fault>
+    ensures { Gives (catalog_at (view value)) result }
 {
-    let object = object_at(value, Place::Whole)?;
+    let mut object = Object::of(value, Place::Whole)?;
     version_at(object.get("version"))?;
     let segments = number_at(object.get("segments"), 1, 1_000, Place::Segments)?;
-    let tables = read_tables(alloc, object.get("tables"))?;
+    let tables = read_tables(alloc, object.take("tables"))?;
     Ok(Catalog { segments, tables })
 }
 
-fn catalog_of(alloc: Global, value: &Value) -> Result<Catalog, CatalogFault>
-    ensures told { result ≢ Err CatalogFault.Memory → result ≡ told_of (catalog_at (view value.now)) }
+fn catalog_of(alloc: Global, value: Value) -> Result<Catalog, CatalogFault>
+    ensures told { result ≢ Err CatalogFault.Memory → result ≡ told_of (catalog_at (view value)) }
     ensures sound { IfOk result IsCatalog }
     ensures short { result ≢ Err CatalogFault.TooLong }
 {
@@ -77,7 +78,7 @@ pub fn read_catalog(alloc: Global, bytes: &[u8]) -> Result<Catalog, CatalogFault
         return Err(CatalogFault::TooLong);
     }
     match value_of(alloc, bytes) {
-        Ok(value) => catalog_of(alloc, &value),
+        Ok(value) => catalog_of(alloc, value),
         Err(fault) => Err(fault),
     }
 }

@@ -1,13 +1,15 @@
 //! Tables: where their rows lie, their indexes, and the whole.
 ghost use Rattle.std.specs.Prelude.{◌≡◌, ◌≤◌, [], ◌∷◌, ◌++◌, length, map, option_map, IfOk};
 ghost use Rattle.serde_json.specs.View.{view};
+ghost use Rattle.catalog_json.specs.Columns.{names_of};
 ghost use Rattle.catalog_json.specs.Walk.{Gives, each, index_at, indexes_at, placing_at, random_at, table_at, tables_at};
 
-use crate::column::read_columns;
+use crate::column::{Columns, read_columns};
 use crate::fault::Fault;
 use crate::listed::read_places;
-use crate::member::{TRILLION, list_at, number_at, object_at};
+use crate::member::{TRILLION, list_at, number_at, take_list};
 use crate::names::Names;
+use crate::object::Object;
 use crate::place::{NameList, Place};
 use orca_base::List;
 use query_core::{Placing, TableInfo};
@@ -32,32 +34,32 @@ fn random_at(place: Place, text: &str) -> Result<Placing, Fault>
 fn read_placing(
     alloc: Global,
     t: usize,
-    names: &Names<'_>,
+    columns: &Columns,
     value: Option<&Value>,
 ) -> Result<Placing, Fault>
-    requires { length names.now ≤ 1000 }
-    ensures { Gives (placing_at t names.now (option_map (λ v. view v.now) value.entry)) result }
+    requires { length columns.now ≤ 1000 }
+    ensures { Gives (placing_at t (names_of columns.now) (option_map (λ v. view v.now) value.entry)) result }
 {
     let list = NameList::Distribution(t);
     match value.and_then(Value::as_str) {
         Some(text) => random_at(Place::Names(list), text),
-        None => Ok(Placing::Hashed(read_places(alloc, list, names, value)?)),
+        None => Ok(Placing::Hashed(read_places(alloc, list, columns, value)?)),
     }
 }
 
 fn read_each_index(
     alloc: Global,
     t: usize,
-    names: &Names<'_>,
+    columns: &Columns,
     values: &[Value],
 ) -> Result<List<List<u32>>, Fault>
-    requires { length names.now ≤ 1000 }
-    ensures { Gives (each (index_at t names.now) [] (map view values.now)) result }
+    requires { length columns.now ≤ 1000 }
+    ensures { Gives (each (index_at t (names_of columns.now)) [] (map view values.now)) result }
 {
     let mut indexes = List::new(alloc);
     for value in values {
         let list = NameList::Index(t, indexes.len());
-        let index = read_places(alloc, list, names, Some(value))?;
+        let index = read_places(alloc, list, columns, Some(value))?;
         indexes.push(index)?;
     }
     Ok(indexes)
@@ -67,51 +69,51 @@ fn read_each_index(
 fn read_indexes(
     alloc: Global,
     t: usize,
-    names: &Names<'_>,
+    columns: &Columns,
     value: Option<&Value>,
 ) -> Result<List<List<u32>>, Fault>
-    requires { length names.now ≤ 1000 }
-    ensures { Gives (indexes_at t names.now (option_map (λ v. view v.now) value.entry)) result }
+    requires { length columns.now ≤ 1000 }
+    ensures { Gives (indexes_at t (names_of columns.now) (option_map (λ v. view v.now) value.entry)) result }
 {
     match value {
         None => Ok(List::new(alloc)),
         Some(_) => {
             let values = list_at(value, 0, MOST_INDEXES, Place::Indexes(t))?;
-            read_each_index(alloc, t, names, values)
+            read_each_index(alloc, t, columns, values)
         }
     }
 }
 
 /// Reads one of the tables, and adds its name.
 #[tactic(auto, unfolding(crate::specs::Walk::table_at))]
-fn read_table<'v>(
+fn read_table(
     alloc: Global,
     before: &[TableInfo],
-    names: &mut Names<'v>,
-    value: &'v Value,
+    names: &mut Names,
+    value: Value,
 ) -> Result<TableInfo, Fault>
     requires { names.old ≡ map (λ t. t.name) before.now }
-    ensures read { Gives (table_at before.now (view value.now)) result }
+    ensures read { Gives (table_at before.now (view value)) result }
     ensures added { IfOk result (λ table. names.new ≡ names.old ++ table.name ∷ []) }
 {
     let t = before.len();
-    let object = object_at(value, Place::Table(t))?;
+    let mut object = Object::of(value, Place::Table(t))?;
     let name = names.read_new(alloc, object.get("name"), Place::TableName(t))?;
     let rows = number_at(object.get("rows"), 0, TRILLION, Place::Rows(t))?;
-    let columns = read_columns(alloc, t, object.get("columns"))?;
-    let placing = read_placing(alloc, t, &columns.names, object.get("distribution"))?;
-    let indexes = read_indexes(alloc, t, &columns.names, object.get("indexes"))?;
+    let columns = read_columns(alloc, t, object.take("columns"))?;
+    let placing = read_placing(alloc, t, &columns, object.get("distribution"))?;
+    let indexes = read_indexes(alloc, t, &columns, object.get("indexes"))?;
     Ok(TableInfo {
         name,
         rows,
         placing,
-        columns: columns.columns,
+        columns: columns.into_list(alloc)?,
         indexes,
     })
 }
 
-fn read_each_table(alloc: Global, values: &[Value]) -> Result<List<TableInfo>, Fault>
-    ensures { Gives (each table_at [] (map view values.now)) result }
+fn read_each_table(alloc: Global, values: Vec<Value>) -> Result<List<TableInfo>, Fault>
+    ensures { Gives (each table_at [] (map view values.items)) result }
 {
     let mut tables = List::of(Vec::with_capacity(alloc, values.len())?);
     let mut names = Names::with_capacity(alloc, values.len())?;
@@ -123,9 +125,9 @@ fn read_each_table(alloc: Global, values: &[Value]) -> Result<List<TableInfo>, F
 }
 
 #[tactic(auto, unfolding(crate::specs::Walk::tables_at))]
-pub fn read_tables(alloc: Global, value: Option<&Value>) -> Result<List<TableInfo>, Fault>
-    ensures { Gives (tables_at (option_map (λ v. view v.now) value.entry)) result }
+pub fn read_tables(alloc: Global, value: Option<Value>) -> Result<List<TableInfo>, Fault>
+    ensures { Gives (tables_at (option_map view value)) result }
 {
-    let values = list_at(value, 0, MOST_TABLES, Place::Tables)?;
+    let values = take_list(value, 0, MOST_TABLES, Place::Tables)?;
     read_each_table(alloc, values)
 }
