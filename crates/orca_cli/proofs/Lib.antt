@@ -1,6 +1,7 @@
 pub mod Put
 pub mod Others
 pub mod Queries
+pub mod Limits
 pub mod Refusals
 pub mod Memos
 pub mod Stages

@@ -19,6 +19,7 @@ use Rattle.sql_bind.specs.declared.parts.Parts.{Parts}
 use Rattle.query_core.specs.Grouping.{IsGrouping}
 use Rattle.query_core.specs.Results.{IsOutput, IsOrder, AreOptions}
 use Rattle.query_core.specs.declared.query.Query.{Query}
+use Rattle.orca_cli.specs.Asked.{IsBuilt}
 
 query_same : (q r : Query) → q.segments ≡ r.segments → q.tables ≡ r.tables → q.items ≡ r.items → q.preds ≡ r.preds → q.links ≡ r.links → q.grouped ≡ r.grouped
     → q.group_by ≡ r.group_by → q.aggs ≡ r.aggs → q.output ≡ r.output → q.order ≡ r.order → q.options ≡ r.options → q ≡ r
@@ -48,16 +49,16 @@ query_same q r segments tables items preds links grouped group_by aggs output or
 
 -- the two have the same parts, but perhaps for links
 pub record AreAlike (q r : Query) : Type 0 where
-  segments : q.segments ≡ r.segments
-  tables : q.tables ≡ r.tables
-  items : q.items ≡ r.items
-  preds : q.preds ≡ r.preds
-  grouped : q.grouped ≡ r.grouped
-  group_by : q.group_by ≡ r.group_by
-  aggs : q.aggs ≡ r.aggs
-  output : q.output ≡ r.output
-  order : q.order ≡ r.order
-  options : q.options ≡ r.options
+  pub segments : q.segments ≡ r.segments
+  pub tables : q.tables ≡ r.tables
+  pub items : q.items ≡ r.items
+  pub preds : q.preds ≡ r.preds
+  pub grouped : q.grouped ≡ r.grouped
+  pub group_by : q.group_by ≡ r.group_by
+  pub aggs : q.aggs ≡ r.aggs
+  pub output : q.output ≡ r.output
+  pub order : q.order ≡ r.order
+  pub options : q.options ≡ r.options
 
 -- queries of the same parts are alike
 pub alike_of : (parts : Parts) (catalog : Catalog) (options : Options) (q r : Query) → IsQueryOf parts catalog options q → IsQueryOf parts catalog options r → AreAlike q r
@@ -74,8 +75,8 @@ alike_of parts catalog options q r is again = record {
   options = is.options ∙ sym again.options;
 }
 
--- a query like one over a plain table is one
-pub built_again : (q r : Query) → AreAlike q r → IsOneTable q → IsOneTable r
+-- a query like one of the kind that is planned is of that kind
+pub built_again : (q r : Query) → AreAlike q r → IsBuilt q → IsBuilt r
 built_again q r same built = record {
   table = subst IsOnePlain same.tables built.table;
   no_preds = sym same.preds ∙ built.no_preds;

@@ -6,8 +6,9 @@ use Rattle.sql_reader.specs.Faults.{IsFirst, IsReading}
 use Rattle.sql_reader.specs.declared.faults.SqlFault.{SqlFault}
 use Rattle.sql_reader.specs.declared.syntax.Select.{Select}
 use Rattle.sql_bind.specs.Binding.{binding, IsQueryOf}
-use Rattle.orca_cli.specs.Asked.{plain_options, IsBoundAs, Asks, IsUnbound, IsRefused}
-use Rattle.orca_cli.specs.Texts.{sql_cause, bind_cause}
+use Rattle.orca_cli.specs.Asked.{plain_options, IsBoundAs, Asks, IsUnbound, IsUnbuilt, IsUnnumbered, IsRefused}
+use Rattle.orca_cli.specs.Texts.{sql_cause, bind_cause, props_cause}
+use Rattle.orca_cli.proofs.Limits.{refused_again, within_limits, one_limit}
 use Rattle.orca_cli.proofs.Queries.{OneLinks, AreAlike, alike_of, alike_same, built_again}
 
 -- what the reader of queries promises: a text has one reading, or one first fault, and never both
@@ -42,7 +43,9 @@ module _ (one : OneReading) (catalog : Catalog) (text : List ℕ) where
   pub never_refused : (q : Query) (cause : List ℕ) → Asks catalog text q → IsRefused catalog text cause → ⊥
   never_refused q cause asks (inl unread) = one.either text asks.bound.select unread.fault asks.bound.reading unread.first
   never_refused q cause asks (inr (inl unbound)) = bound_or_not q cause asks.bound unbound
-  never_refused q cause asks (inr (inr other)) = other.unbuilt (built_again q other.query (alike q other.query asks.bound other.bound) asks.built)
+  never_refused q cause asks (inr (inr (inl other))) = other.unbuilt (built_again q other.query (alike q other.query asks.bound other.bound) asks.built)
+  never_refused q cause asks (inr (inr (inr many))) =
+      within_limits q many.fault asks.within (refused_again many.query q (alike many.query q many.bound asks.bound) many.fault many.too_many) many.not_memory
 
   -- two faults of the names are the same
   one_unbound : (cause other : List ℕ) → IsUnbound catalog text cause → IsUnbound catalog text other → cause ≡ other
@@ -53,14 +56,32 @@ module _ (one : OneReading) (catalog : Catalog) (text : List ℕ) where
       let fault : is.fault ≡ again.fault = cc in
       is.caused ∙ ap bind_cause fault ∙ sym again.caused
 
+  -- a query that isn't planned isn't refused for its lists or orders
+  built_or_not : (cause other : List ℕ) → IsUnbuilt catalog text cause → IsUnnumbered catalog text other → ⊥
+  built_or_not cause other is many = is.unbuilt (built_again many.query is.query (alike many.query is.query many.bound is.bound) many.built)
+
+  -- of too many lists or orders one count is told
+  one_unnumbered : (cause other : List ℕ) → IsUnnumbered catalog text cause → IsUnnumbered catalog text other → cause ≡ other
+  one_unnumbered cause other is again =
+      let many = refused_again again.query is.query (alike again.query is.query again.bound is.bound) again.fault again.too_many in
+      let fault : is.fault ≡ again.fault = one_limit is.query is.fault again.fault is.too_many many is.not_memory again.not_memory in
+      is.caused ∙ ap props_cause fault ∙ sym again.caused
+
   -- a text has one cause
   pub one_cause : (cause other : List ℕ) → IsRefused catalog text cause → IsRefused catalog text other → cause ≡ other
   one_cause cause other (inl is) (inl again) = is.caused ∙ ap sql_cause (one.fault text is.fault again.fault is.first again.first) ∙ sym again.caused
   one_cause cause other (inl is) (inr (inl again)) = absurd (one.either text again.select is.fault again.reading is.first)
-  one_cause cause other (inl is) (inr (inr again)) = absurd (one.either text again.bound.select is.fault again.bound.reading is.first)
+  one_cause cause other (inl is) (inr (inr (inl again))) = absurd (one.either text again.bound.select is.fault again.bound.reading is.first)
+  one_cause cause other (inl is) (inr (inr (inr again))) = absurd (one.either text again.bound.select is.fault again.bound.reading is.first)
   one_cause cause other (inr (inl is)) (inl again) = absurd (one.either text is.select again.fault is.reading again.first)
   one_cause cause other (inr (inl is)) (inr (inl again)) = one_unbound cause other is again
-  one_cause cause other (inr (inl is)) (inr (inr again)) = absurd (bound_or_not again.query cause again.bound is)
-  one_cause cause other (inr (inr is)) (inl again) = absurd (one.either text is.bound.select again.fault is.bound.reading again.first)
-  one_cause cause other (inr (inr is)) (inr (inl again)) = absurd (bound_or_not is.query other is.bound again)
-  one_cause cause other (inr (inr is)) (inr (inr again)) = is.caused ∙ sym again.caused
+  one_cause cause other (inr (inl is)) (inr (inr (inl again))) = absurd (bound_or_not again.query cause again.bound is)
+  one_cause cause other (inr (inl is)) (inr (inr (inr again))) = absurd (bound_or_not again.query cause again.bound is)
+  one_cause cause other (inr (inr (inl is))) (inl again) = absurd (one.either text is.bound.select again.fault is.bound.reading again.first)
+  one_cause cause other (inr (inr (inl is))) (inr (inl again)) = absurd (bound_or_not is.query other is.bound again)
+  one_cause cause other (inr (inr (inl is))) (inr (inr (inl again))) = is.caused ∙ sym again.caused
+  one_cause cause other (inr (inr (inl is))) (inr (inr (inr again))) = absurd (built_or_not cause other is again)
+  one_cause cause other (inr (inr (inr is))) (inl again) = absurd (one.either text is.bound.select again.fault is.bound.reading again.first)
+  one_cause cause other (inr (inr (inr is))) (inr (inl again)) = absurd (bound_or_not is.query other is.bound again)
+  one_cause cause other (inr (inr (inr is))) (inr (inr (inl again))) = absurd (built_or_not other cause again is)
+  one_cause cause other (inr (inr (inr is))) (inr (inr (inr again))) = one_unnumbered cause other is again

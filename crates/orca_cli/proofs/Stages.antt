@@ -18,8 +18,10 @@ use Rattle.sql_reader.specs.declared.syntax.Select.{Select}
 use Rattle.sql_bind.specs.Binding.{binding}
 use Rattle.sql_bind.specs.declared.fault.BindFault.{BindFault}
 use Rattle.sql_bind.specs.declared.fault.BindFault.TheVariants as names
-use Rattle.plan_tree.specs.OneTable.{IsOneTable}
-use Rattle.orca_cli.specs.Asked.{IsNoCatalog, IsBoundAs, Asks, IsUnread, IsUnbound, IsUnbuilt, IsRefused}
+use Rattle.request_props.specs.Numbered.{IsRefusedFor}
+use Rattle.request_props.specs.declared.fault.PropsFault.{PropsFault}
+use Rattle.request_props.specs.declared.fault.PropsFault.TheVariants as limits
+use Rattle.orca_cli.specs.Asked.{IsNoCatalog, IsBoundAs, IsBuilt, Asks, IsUnread, IsUnbound, IsUnbuilt, IsUnnumbered, IsRefused}
 use Rattle.orca_cli.specs.Views.{EndsAs, text_of}
 use Rattle.orca_cli.specs.declared.ending.Ending.{Ending}
 use Rattle.orca_cli.specs.Command.{PlanCommand}
@@ -69,11 +71,18 @@ pub refused_answer : (catalog : Catalog) (memo : Bool) (asked cause given : List
 refused_answer catalog memo asked cause given ending why same is = refused is.status cause why (is.text ∙ ap texts.query_refused same)
 
 -- a query that is bound and not of the kind that is planned
-pub unbuilt_answer : (catalog : Catalog) (memo : Bool) (asked : List ℕ) (query : Query) (ending : Ending) → IsBoundAs catalog asked query → (IsOneTable query → ⊥) → EndsAs ending QueryRefused (texts.query_refused texts.not_built)
+pub unbuilt_answer : (catalog : Catalog) (memo : Bool) (asked : List ℕ) (query : Query) (ending : Ending) → IsBoundAs catalog asked query → (IsBuilt query → ⊥) → EndsAs ending QueryRefused (texts.query_refused texts.not_built)
     → IsAnswer catalog memo asked ending.status (text_of ending)
 unbuilt_answer catalog memo asked query ending bound unbuilt is =
     let why : IsUnbuilt catalog asked texts.not_built = record { query = query; bound = bound; unbuilt = unbuilt; caused = refl } in
-    refused_answer catalog memo asked texts.not_built texts.not_built ending (inr (inr why)) refl is
+    refused_answer catalog memo asked texts.not_built texts.not_built ending (inr (inr (inl why))) refl is
+
+-- a query of this kind with too many hashed lists or orders
+pub unnumbered_answer : (catalog : Catalog) (memo : Bool) (asked given : List ℕ) (query : Query) (fault : PropsFault) (ending : Ending) → IsBoundAs catalog asked query → IsBuilt query → IsRefusedFor query fault → fault ≢ limits.Memory
+    → given ≡ texts.props_cause fault → EndsAs ending QueryRefused (texts.query_refused given) → IsAnswer catalog memo asked ending.status (text_of ending)
+unnumbered_answer catalog memo asked given query fault ending bound built too_many not_memory same is =
+    let why : IsUnnumbered catalog asked (texts.props_cause fault) = record { query = query; bound = bound; built = built; fault = fault; too_many = too_many; not_memory = not_memory; caused = refl } in
+    refused_answer catalog memo asked (texts.props_cause fault) given ending (inr (inr (inr why))) same is
 
 -- a select whose names can't be bound
 pub unbound_answer : (catalog : Catalog) (memo : Bool) (asked given : List ℕ) (select : Select) (fault : BindFault) (ending : Ending) → IsReading asked select → binding select catalog ≡ Err fault → fault ≢ names.Memory

@@ -1,5 +1,5 @@
 -- What a text asks for over a catalogue: a query that is planned, or the cause why it is refused.
-use Rattle.std.specs.Prelude.{ℕ, List, ◌≡◌, ◌≢◌, ◌⊎◌, Ok, Err}
+use Rattle.std.specs.Prelude.{ℕ, List, ◌≡◌, ◌≢◌, ◌≤◌, ◌⊎◌, length, Ok, Err}
 use Rattle.catalog_json.specs.Outcome.{reading_of}
 use Rattle.catalog_json.specs.declared.fault.CatalogFault.{CatalogFault}
 use Rattle.catalog_json.specs.declared.fault.CatalogFault.TheVariants as catalogs
@@ -13,8 +13,11 @@ use Rattle.query_core.specs.declared.catalog.Catalog.{Catalog}
 use Rattle.query_core.specs.declared.options.Options.{Options}
 use Rattle.query_core.specs.declared.options.RootDist.TheVariants.{One}
 use Rattle.query_core.specs.declared.query.Query.{Query}
+use Rattle.request_props.specs.Numbered.{lists_of, orders_of, IsRefusedFor}
+use Rattle.request_props.specs.declared.fault.PropsFault.{PropsFault}
+use Rattle.request_props.specs.declared.fault.PropsFault.TheVariants as limits
 use Rattle.plan_tree.specs.OneTable.{IsOneTable}
-use Rattle.orca_cli.specs.Texts.{catalog_cause, sql_cause, bind_cause, not_built}
+use Rattle.orca_cli.specs.Texts.{catalog_cause, sql_cause, bind_cause, not_built, props_cause}
 
 -- ---- the catalogue
 
@@ -41,10 +44,20 @@ pub record IsBoundAs (catalog : Catalog) (text : List ℕ) (query : Query) : Typ
   pub reading : IsReading text select
   pub bound : IsBound select catalog plain_options query
 
--- the text asks for this query, and the query is of the kind that is planned
+-- the query is of the kind that is planned
+abbrev pub IsBuilt : Query → Type 0
+IsBuilt query = IsOneTable query
+
+-- the query has at most 60 hashed lists and at most 60 orders
+pub record IsWithinLimits (query : Query) : Type 0 where
+  pub few_lists : length (lists_of query) ≤ 60
+  pub few_orders : length (orders_of query) ≤ 60
+
+-- the text asks for this query, and the query is of the kind that is planned and within the limits
 pub record Asks (catalog : Catalog) (text : List ℕ) (query : Query) : Type 0 where
   pub bound : IsBoundAs catalog text query
-  pub built : IsOneTable query
+  pub built : IsBuilt query
+  pub within : IsWithinLimits query
 
 -- the text is no select, and this is the cause
 pub record IsUnread (text cause : List ℕ) : Type 0 where
@@ -65,9 +78,19 @@ pub record IsUnbound (catalog : Catalog) (text cause : List ℕ) : Type 0 where
 pub record IsUnbuilt (catalog : Catalog) (text cause : List ℕ) : Type 0 where
   pub query : Query
   pub bound : IsBoundAs catalog text query
-  pub unbuilt : IsOneTable query → ⊥
+  pub unbuilt : IsBuilt query → ⊥
   pub caused : cause ≡ not_built
+
+-- the text is bound to a query of the kind that is planned, which has too many hashed lists, or else too many orders, and this is the cause
+pub record IsUnnumbered (catalog : Catalog) (text cause : List ℕ) : Type 0 where
+  pub query : Query
+  pub bound : IsBoundAs catalog text query
+  pub built : IsBuilt query
+  pub fault : PropsFault
+  pub too_many : IsRefusedFor query fault
+  pub not_memory : fault ≢ limits.Memory
+  pub caused : cause ≡ props_cause fault
 
 -- the text is refused, and this is the cause
 abbrev pub IsRefused : Catalog → List ℕ → List ℕ → Type 0
-IsRefused catalog text cause = IsUnread text cause ⊎ IsUnbound catalog text cause ⊎ IsUnbuilt catalog text cause
+IsRefused catalog text cause = IsUnread text cause ⊎ IsUnbound catalog text cause ⊎ IsUnbuilt catalog text cause ⊎ IsUnnumbered catalog text cause

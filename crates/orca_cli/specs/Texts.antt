@@ -8,6 +8,8 @@ use Rattle.sql_reader.specs.declared.faults.SqlFault.{SqlFault}
 use Rattle.sql_reader.specs.declared.faults.SqlFault.TheVariants as selects
 use Rattle.sql_bind.specs.declared.fault.BindFault.{BindFault}
 use Rattle.sql_bind.specs.declared.fault.BindFault.TheVariants as names
+use Rattle.request_props.specs.declared.fault.PropsFault.{PropsFault}
+use Rattle.request_props.specs.declared.fault.PropsFault.TheVariants.{TooManyLists, TooManyOrders, Memory}
 
 abbrev pub usage_line : List ℕ
 usage_line = codes "usage: orca plan CATALOG QUERY [--workers N] [--capacity N] [--root one|spread] [--off RULE+RULE] [--memo] [--trace] [--by-worker] | orca gen NUMBER TABLES SHAPE [--workers N] [--capacity N]\n"
@@ -68,3 +70,9 @@ bind_cause names.Memory = []
 -- why a query is refused that is of a kind not planned yet
 abbrev pub not_built : List ℕ
 not_built = codes "not built"
+
+-- why the hashed lists and orders of a query have no numbers, with how many there are; want of memory has no line
+abbrev pub props_cause : PropsFault → List ℕ
+props_cause (TooManyLists found) = codes "too many hashed lists: " ++ decimal found
+props_cause (TooManyOrders found) = codes "too many orders: " ++ decimal found
+props_cause Memory = []

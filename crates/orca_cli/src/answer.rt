@@ -1,21 +1,21 @@
 //! The answer to a query's text over a catalogue.
-ghost use Rattle.std.specs.Prelude.{◌≡◌, ℕ, List, IfOk, IsTrue, ◌↔◌};
+ghost use Rattle.std.specs.Prelude.{◌≡◌, ℕ, List, IfOk};
 ghost use Rattle.catalog_json.specs.Catalog.{IsCatalog};
 ghost use Rattle.sql_reader.specs.Faults.{IsReading};
 ghost use Rattle.sql_reader.specs.Readable.{IsReadable};
-ghost use Rattle.plan_tree.specs.OneTable.{IsOneTable, IsOnePlain};
 ghost use Rattle.query_core.specs.declared.catalog.Catalog.{Catalog};
-ghost use Rattle.orca_cli.specs.Asked.{IsBoundAs};
+ghost use Rattle.request_props.specs.Numbered.{IsProps};
+ghost use Rattle.orca_cli.specs.Asked.{IsBoundAs, IsBuilt};
 ghost use Rattle.orca_cli.specs.Run.{IsAnswer};
-ghost use Rattle.orca_cli.specs.Stages.{IsPlanOf};
 ghost use Rattle.orca_cli.specs.Views.{text_of};
 
-use crate::ending::{Ending, no_plan, refused_query};
-use crate::faults::{bind_fault_text, sql_fault_text};
+use crate::built::is_built;
+use crate::ending::{Ending, refused_query};
+use crate::faults::{bind_fault_text, props_fault_text, sql_fault_text};
 use crate::memo::with_memo;
-use crate::status::Status;
-use plan_tree::{Found, least_one_table, plan_text};
-use query_core::{Catalog, Options, Query, QueryTable, RootDist};
+use crate::planning::planned;
+use query_core::{Catalog, Options, Query, RootDist};
+use request_props::Props;
 use sql_bind::bind;
 use sql_reader::{Select, read_sql};
 use std::alloc::{AllocError, Global};
@@ -65,43 +65,36 @@ fn query_answer(alloc: Global, memo: bool, query: &Query) -> Result<Ending, Allo
         (λ ending. IsAnswer catalog memo text ending.status (text_of ending)) }
 {
     if is_built(query) {
-        let ending = planned(alloc, query)?;
-        with_memo(alloc, memo, query, ending)
+        built_answer(alloc, memo, query)
     } else {
         refused_query(alloc, "not built")
     }
 }
 
-// Whether the query is of the kind that is planned.
-fn is_built(query: &Query) -> bool
-    ensures { IsTrue result ↔ IsOneTable query.now }
+// The answer to each text that is bound to a query of the kind that is planned.
+fn built_answer(alloc: Global, memo: bool, query: &Query) -> Result<Ending, AllocError>
+    requires { IsBuilt query.now }
+    ensures { (catalog : Catalog) (text : List ℕ) → IsBoundAs catalog text query.now → IfOk result
+        (λ ending. IsAnswer catalog memo text ending.status (text_of ending)) }
 {
-    is_one_plain(query.tables.as_slice())
-        && query.preds.is_empty()
-        && !query.grouped
-        && query.options.root == RootDist::One
-        && query.options.off == 0
-}
-
-fn is_one_plain(tables: &[QueryTable]) -> bool
-    ensures { IsTrue result ↔ IsOnePlain tables.now }
-{
-    match tables {
-        [table] => table.hashed.is_none() && table.indexes.is_empty(),
-        _ => false,
+    match Props::collect(alloc, query) {
+        Ok(props) => numbered_answer(alloc, memo, query, &props),
+        Err(fault) => refused_query(alloc, &props_fault_text(alloc, fault)?),
     }
 }
 
-// The least plan of a query, or that there is none.
-fn planned(alloc: Global, query: &Query) -> Result<Ending, AllocError>
-    requires { IsOneTable query.now }
-    ensures { IfOk result (λ ending. IsPlanOf query.now ending.status (text_of ending)) }
+// The answer to each text that is bound to such a query, whose lists and orders have numbers.
+fn numbered_answer(
+    alloc: Global,
+    memo: bool,
+    query: &Query,
+    props: &Props,
+) -> Result<Ending, AllocError>
+    requires built { IsBuilt query.now }
+    requires props { IsProps query.now props.now }
+    ensures { (catalog : Catalog) (text : List ℕ) → IsBoundAs catalog text query.now → IfOk result
+        (λ ending. IsAnswer catalog memo text ending.status (text_of ending)) }
 {
-    match least_one_table(alloc, query)? {
-        Found::Least { plan, cost } => Ok(Ending {
-            status: Status::Planned,
-            lines: plan_text(alloc, query, &plan, cost)?,
-        }),
-        Found::NoPlan => no_plan(alloc),
-    }
+    let ending = planned(alloc, query, props)?;
+    with_memo(alloc, memo, query, ending)
 }

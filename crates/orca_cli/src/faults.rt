@@ -1,8 +1,9 @@
 //! Why a catalogue or a query is refused, as text. Want of memory has none, and stays what it is.
 ghost use Rattle.std.specs.Prelude.{◌≡◌, ◌≢◌, IfOk, string_bytes};
-ghost use Rattle.orca_cli.specs.Texts.{catalog_cause, limit_name, sql_cause, bind_cause};
+ghost use Rattle.orca_cli.specs.Texts.{catalog_cause, limit_name, sql_cause, bind_cause, props_cause};
 
 use catalog_json::CatalogFault;
+use request_props::PropsFault;
 use sql_bind::BindFault;
 use sql_reader::{Limit, SqlFault};
 use std::alloc::{AllocError, Global};
@@ -68,5 +69,17 @@ pub fn bind_fault_text(alloc: Global, fault: BindFault) -> Result<String, AllocE
         BindFault::NotGrouped { at } => format!(in alloc; "not grouped at {at}"),
         BindFault::TooManyItems { found } => format!(in alloc; "too many columns: {found}"),
         BindFault::Memory => Err(AllocError),
+    }
+}
+
+/// Why the hashed lists and orders of a query have no numbers, with how many there are.
+pub fn props_fault_text(alloc: Global, fault: PropsFault) -> Result<String, AllocError>
+    ensures text { IfOk result (λ text. string_bytes text ≡ props_cause fault) }
+    ensures not_memory { IfOk result (λ text. fault ≢ PropsFault.Memory) }
+{
+    match fault {
+        PropsFault::TooManyLists { found } => format!(in alloc; "too many hashed lists: {found}"),
+        PropsFault::TooManyOrders { found } => format!(in alloc; "too many orders: {found}"),
+        PropsFault::Memory => Err(AllocError),
     }
 }

@@ -2,12 +2,14 @@
 #![tactic(auto)]
 
 mod answer;
+mod built;
 mod command;
 mod ending;
 mod faults;
 mod files;
 mod laws;
 mod memo;
+mod planning;
 mod reading;
 mod status;
 mod text;

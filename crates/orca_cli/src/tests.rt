@@ -1,6 +1,9 @@
 use super::*;
 use crate::command::read_command;
+use crate::ending::refused_query;
+use crate::faults::props_fault_text;
 use orca_io::{MemShelf, MemSink, NoGate};
+use request_props::PropsFault;
 use std::alloc::{AllocError, Global};
 use std::sync::Wait;
 use std::test::Fail;
@@ -223,6 +226,26 @@ fn a_query_of_another_kind_is_not_built(rt: HostRuntime) -> Result<(), Fail> {
         let (status, line) = cause(&rt, "query refused: ", catalog.as_bytes(), query.as_bytes())?;
         assert_eq!(rt; status, Status::QueryRefused, "{query}");
         assert_eq!(rt; line.as_str(), "not built", "{query}");
+    }
+    Ok(())
+}
+
+#[test]
+fn too_many_lists_or_orders_are_told_with_their_number(rt: HostRuntime) -> Result<(), Fail> {
+    for (fault, told) in [
+        (
+            PropsFault::TooManyLists { found: 61 },
+            "query refused: too many hashed lists: 61\n",
+        ),
+        (
+            PropsFault::TooManyOrders { found: 61 },
+            "query refused: too many orders: 61\n",
+        ),
+    ] {
+        let ending = refused_query(rt.alloc(), &props_fault_text(rt.alloc(), fault)?)?;
+        assert_eq!(rt; ending.status, Status::QueryRefused);
+        assert_eq!(rt; ending.lines.len(), 1);
+        assert_eq!(rt; ending.lines[0].as_str(), told);
     }
     Ok(())
 }

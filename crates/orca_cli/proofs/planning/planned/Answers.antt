@@ -4,7 +4,7 @@ use Rattle.plan_tree.specs.OneTable.{IsFound}
 use Rattle.plan_tree.specs.declared.plan.Found.TheVariants.{Least}
 use Rattle.orca_cli.specs.Stages.{least}
 use Rattle.orca_cli.proofs.Stages.{flat_map-concat}
-use Rattle.orca_cli.proofs.answer.planned.Goals as goal
+use Rattle.orca_cli.proofs.planning.planned.Goals as goal
 
 -- the lines are those of the tree that the plan is
 pub returns-in_ok-plan_text-in-Least : goal.returns-in_ok-plan_text-in-Least
