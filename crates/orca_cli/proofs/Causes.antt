@@ -2,9 +2,10 @@
 use Rattle.std.proofs.Common.{◌≡◌, ℕ, List, Option, None, Some, Ok, Err, IfSome, refl, sym, ◌∙◌, subst, inl, inr, Bool}
 use Rattle.orca_base.specs.Causes.{Rose}
 use Rattle.query_core.specs.declared.catalog.Catalog.{Catalog}
+use Rattle.query_core.specs.declared.query.Query.{Query}
 use Rattle.catalog_json.specs.Outcome.{reading_of}
-use Rattle.orca_cli.specs.Asked.{SaysCatalog, IsNoCatalog, IsRefused}
-use Rattle.orca_cli.specs.Causes.{ReadRose, HoldsQuery, IsSettled, Completes}
+use Rattle.orca_cli.specs.Asked.{SaysCatalog, IsNoCatalog, Asks, IsRefused}
+use Rattle.orca_cli.specs.Causes.{ReadRose, Holds, IsSettled, Completes, IsRefusal, Refuses}
 use Rattle.orca_cli.specs.Command.{PlanCommand}
 use Rattle.orca_cli.specs.Run.{AreTold, IsAnswer, planned, unplanned, refused, IsEnding, answered, catalog_refused, catalog_unread, query_unread, IsRun, Ends}
 use Rattle.orca_cli.specs.declared.status.Status.{Status}
@@ -67,26 +68,33 @@ some_catalog bytes cause catalog says none =
     let refused : reading_of bytes ≡ Err none.fault = none.first in
     cc
 
-module _ (one : OneReading) (command : PlanCommand) (held : List ℕ → Option (List ℕ)) (q : HoldsQuery command.files held) where
-  -- the answer over files that ask for a query is a plan or none
-  settled_answer : (catalog : Catalog) (memo : Bool) (asked : List ℕ) (status : Status) (text : List ℕ) → q.catalog ≡ catalog → q.text ≡ asked → IsAnswer catalog memo asked status text → IsSettled status
-  settled_answer catalog memo asked status text same same_text (planned is query asks plan is_plan goes) = subst IsSettled (sym is) tt
-  settled_answer catalog memo asked status text same same_text (unplanned is query asks impossible goes) = subst IsSettled (sym is) tt
-  settled_answer catalog memo asked status text same same_text (refused is cause why line) =
-      let here : IsRefused q.catalog q.text cause = subst (λ k. IsRefused k q.text cause) (sym same) (subst (λ t. IsRefused catalog t cause) (sym same_text) why) in
-      absurd (never_refused one q.catalog q.text q.query cause q.asks here)
+-- a run over files that hold a catalogue and a text ends with the answer to that text, where no count rose
+module _ (command : PlanCommand) (held : List ℕ → Option (List ℕ)) (catalog : Catalog) (asked : List ℕ) (holds : Holds command.files held catalog asked) where
+  pub answer_of : (before after : List ℕ → ℕ) (status : Status) (text : List ℕ) → (ReadRose (Some command) before after → ⊥) → IsEnding command held before after status text → IsAnswer catalog command.memo asked status text
+  answer_of before after status text no_read (answered other offers is) =
+      let bytes : offers.bytes ≡ holds.bytes = told_one (held command.files.catalog) offers.bytes holds.bytes offers.told holds.bytes_told in
+      let says : SaysCatalog holds.bytes other = subst (λ b. SaysCatalog b other) bytes offers.says in
+      let here : IsAnswer other command.memo asked status text =
+      subst (λ t. IsAnswer other command.memo t status text) (told_one (held command.files.query) is.asked asked is.told holds.text_told) is.answer in
+      subst (λ k. IsAnswer k command.memo asked status text) (one_catalog holds.bytes other catalog says holds.says) here
+  answer_of before after status text no_read (catalog_refused is none) =
+      let bytes : none.bytes ≡ holds.bytes = told_one (held command.files.catalog) none.bytes holds.bytes none.told holds.bytes_told in
+      absurd (some_catalog holds.bytes none.cause catalog holds.says (subst (λ b. IsNoCatalog b none.cause) bytes none.no_catalog))
+  answer_of before after status text no_read (catalog_unread is unread) = absurd (no_read (inl unread.rose))
+  answer_of before after status text no_read (query_unread is k offers unread) = absurd (no_read (inr unread.rose))
 
-  -- a run over files that ask for a query is answered where no count rose
-  pub settled : (before after : List ℕ → ℕ) (status : Status) (text : List ℕ) → (ReadRose (Some command) before after → ⊥) → IsEnding command held before after status text → IsSettled status
-  settled before after status text no_read (answered catalog offers is) =
-      let bytes : offers.bytes ≡ q.bytes = told_one (held command.files.catalog) offers.bytes q.bytes offers.told q.bytes_told in
-      let says : SaysCatalog q.bytes catalog = subst (λ b. SaysCatalog b catalog) bytes offers.says in
-      settled_answer catalog command.memo is.asked status text (one_catalog q.bytes q.catalog catalog q.says says) (sym (told_one (held command.files.query) is.asked q.text is.told q.text_told)) is.answer
-  settled before after status text no_read (catalog_refused is none) =
-      let bytes : none.bytes ≡ q.bytes = told_one (held command.files.catalog) none.bytes q.bytes none.told q.bytes_told in
-      absurd (some_catalog q.bytes none.cause q.catalog q.says (subst (λ b. IsNoCatalog b none.cause) bytes none.no_catalog))
-  settled before after status text no_read (catalog_unread is unread) = absurd (no_read (inl unread.rose))
-  settled before after status text no_read (query_unread is catalog offers unread) = absurd (no_read (inr unread.rose))
+module _ (one : OneReading) (catalog : Catalog) (memo : Bool) (asked : List ℕ) (status : Status) (text : List ℕ) where
+  -- the answer to a text that asks for a query is a plan or none
+  settled_answer : (q : Query) → Asks catalog asked q → IsAnswer catalog memo asked status text → IsSettled status
+  settled_answer q asks (planned is query asks_too plan is_plan goes) = subst IsSettled (sym is) tt
+  settled_answer q asks (unplanned is query asks_too impossible goes) = subst IsSettled (sym is) tt
+  settled_answer q asks (refused is cause why line) = absurd (never_refused one catalog asked q cause asks why)
+
+  -- the answer to a text that is refused is a refusal
+  refusal_answer : (cause : List ℕ) → IsRefused catalog asked cause → IsAnswer catalog memo asked status text → IsRefusal status
+  refusal_answer cause why (planned is query asks plan is_plan goes) = absurd (never_refused one catalog asked query cause asks why)
+  refusal_answer cause why (unplanned is query asks impossible goes) = absurd (never_refused one catalog asked query cause asks why)
+  refusal_answer cause why (refused is other why_too line) = subst IsRefusal (sym is) tt
 
 -- files that ask for a query are answered where no count rose
 pub completed : OneReading → (named : Option PlanCommand) (held : List ℕ → Option (List ℕ)) (reads_before reads_after : List ℕ → ℕ) (old new : Option (List ℕ)) (before after : ℕ) (status : Status)
@@ -94,13 +102,36 @@ pub completed : OneReading → (named : Option PlanCommand) (held : List ℕ →
 completed one named held reads_before reads_after old new before after status ends command is q no_read no_write =
     by_status status (subst (λ n. Ends (IsRun n held reads_before reads_after) old new before after status) is ends)
   where
+    settled : (s : Status) (text : List ℕ) → IsEnding command held reads_before reads_after s text → IsSettled s
+    settled s text ending = settled_answer one q.catalog command.memo q.text s text q.query q.asks (answer_of command held q.catalog q.text q.holds reads_before reads_after s text no_read ending)
+
     by_status : (s : Status) → Ends (IsRun (Some command) held reads_before reads_after) old new before after s → IsSettled s
     by_status Planned e = tt
     by_status NoPlan e = tt
-    by_status Usage e = settled one command held q reads_before reads_after Usage e.0 no_read e.1
-    by_status QueryRefused e = settled one command held q reads_before reads_after QueryRefused e.0 no_read e.1
-    by_status CatalogRefused e = settled one command held q reads_before reads_after CatalogRefused e.0 no_read e.1
-    by_status TooManyEntries e = settled one command held q reads_before reads_after TooManyEntries e.0 no_read e.1
-    by_status ReadFault e = settled one command held q reads_before reads_after ReadFault e.0 no_read e.1
+    by_status Usage e = settled Usage e.0 e.1
+    by_status QueryRefused e = settled QueryRefused e.0 e.1
+    by_status CatalogRefused e = settled CatalogRefused e.0 e.1
+    by_status TooManyEntries e = settled TooManyEntries e.0 e.1
+    by_status ReadFault e = settled ReadFault e.0 e.1
+    by_status WriteFault e = no_write e.rose
+    by_status Memory e = tt
+
+-- files whose query is refused have it refused where no count rose
+pub refused_there : OneReading → (named : Option PlanCommand) (held : List ℕ → Option (List ℕ)) (reads_before reads_after : List ℕ → ℕ) (old new : Option (List ℕ)) (before after : ℕ) (status : Status)
+    → Ends (IsRun named held reads_before reads_after) old new before after status → Refuses named held reads_before reads_after before after status
+refused_there one named held reads_before reads_after old new before after status ends command is r no_read no_write =
+    by_status status (subst (λ n. Ends (IsRun n held reads_before reads_after) old new before after status) is ends)
+  where
+    refusal : (s : Status) (text : List ℕ) → IsEnding command held reads_before reads_after s text → IsRefusal s
+    refusal s text ending = refusal_answer one r.catalog command.memo r.text s text r.cause r.refused (answer_of command held r.catalog r.text r.holds reads_before reads_after s text no_read ending)
+
+    by_status : (s : Status) → Ends (IsRun (Some command) held reads_before reads_after) old new before after s → IsRefusal s
+    by_status Planned e = refusal Planned e.0 e.1
+    by_status NoPlan e = refusal NoPlan e.0 e.1
+    by_status Usage e = refusal Usage e.0 e.1
+    by_status QueryRefused e = tt
+    by_status CatalogRefused e = refusal CatalogRefused e.0 e.1
+    by_status TooManyEntries e = refusal TooManyEntries e.0 e.1
+    by_status ReadFault e = refusal ReadFault e.0 e.1
     by_status WriteFault e = no_write e.rose
     by_status Memory e = tt

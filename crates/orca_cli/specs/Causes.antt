@@ -3,7 +3,7 @@ use Rattle.std.specs.Prelude.{◌≡◌, ◌⊎◌, ℕ, List, Option, None, Som
 use Rattle.orca_base.specs.Causes.{Rose}
 use Rattle.query_core.specs.declared.catalog.Catalog.{Catalog}
 use Rattle.query_core.specs.declared.query.Query.{Query}
-use Rattle.orca_cli.specs.Asked.{SaysCatalog, Asks}
+use Rattle.orca_cli.specs.Asked.{SaysCatalog, Asks, IsRefused}
 use Rattle.orca_cli.specs.Command.{FileNames, PlanCommand}
 use Rattle.orca_cli.specs.declared.status.Status.{Status}
 use Rattle.orca_cli.specs.declared.status.Status.TheVariants.{Planned, NoPlan, Usage, QueryRefused, CatalogRefused, TooManyEntries, ReadFault, WriteFault, Memory}
@@ -14,16 +14,28 @@ ReadRose None before after = ⊥
 ReadRose (Some command) before after =
     Rose (before command.files.catalog) (after command.files.catalog) ⊎ Rose (before command.files.query) (after command.files.query)
 
--- the shelf tells a catalogue, and a text that asks for a query over it
-pub record HoldsQuery (files : FileNames) (held : List ℕ → Option (List ℕ)) : Type 0 where
+-- the shelf tells bytes that say this catalogue, and this text
+pub record Holds (files : FileNames) (held : List ℕ → Option (List ℕ)) (catalog : Catalog) (text : List ℕ) : Type 0 where
   pub bytes : List ℕ
   pub bytes_told : held files.catalog ≡ Some bytes
-  pub text : List ℕ
-  pub text_told : held files.query ≡ Some text
-  pub catalog : Catalog
   pub says : SaysCatalog bytes catalog
+  pub text_told : held files.query ≡ Some text
+
+-- the shelf tells a catalogue, and a text that asks for a query over it
+pub record HoldsQuery (files : FileNames) (held : List ℕ → Option (List ℕ)) : Type 0 where
+  pub catalog : Catalog
+  pub text : List ℕ
+  pub holds : Holds files held catalog text
   pub query : Query
   pub asks : Asks catalog text query
+
+-- the shelf tells a catalogue, and a text that is refused over it
+pub record HoldsRefused (files : FileNames) (held : List ℕ → Option (List ℕ)) : Type 0 where
+  pub catalog : Catalog
+  pub text : List ℕ
+  pub holds : Holds files held catalog text
+  pub cause : List ℕ
+  pub refused : IsRefused catalog text cause
 
 -- the run ended with its plan, or without one, or for want of memory
 abbrev pub IsSettled : Status → Type 0
@@ -41,3 +53,20 @@ IsSettled Memory = ⊤
 abbrev pub Completes : Option PlanCommand → (List ℕ → Option (List ℕ)) → (List ℕ → ℕ) → (List ℕ → ℕ) → ℕ → ℕ → Status → Type 0
 Completes named held reads_before reads_after before after status =
     (command : PlanCommand) → named ≡ Some command → HoldsQuery command.files held → (ReadRose (Some command) reads_before reads_after → ⊥) → (Rose before after → ⊥) → IsSettled status
+
+-- the run ended with the query refused, or for want of memory
+abbrev pub IsRefusal : Status → Type 0
+IsRefusal Planned = ⊥
+IsRefusal NoPlan = ⊥
+IsRefusal Usage = ⊥
+IsRefusal QueryRefused = ⊤
+IsRefusal CatalogRefused = ⊥
+IsRefusal TooManyEntries = ⊥
+IsRefusal ReadFault = ⊥
+IsRefusal WriteFault = ⊥
+IsRefusal Memory = ⊤
+
+-- a run over files whose query is refused, in which neither file's count rose nor the sink's, refuses it
+abbrev pub Refuses : Option PlanCommand → (List ℕ → Option (List ℕ)) → (List ℕ → ℕ) → (List ℕ → ℕ) → ℕ → ℕ → Status → Type 0
+Refuses named held reads_before reads_after before after status =
+    (command : PlanCommand) → named ≡ Some command → HoldsRefused command.files held → (ReadRose (Some command) reads_before reads_after → ⊥) → (Rose before after → ⊥) → IsRefusal status

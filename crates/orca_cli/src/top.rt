@@ -1,7 +1,7 @@
 // The top call.
 ghost use Rattle.std.specs.Prelude.{◌≡◌, None, IsSome, map, string_bytes};
 ghost use Rattle.orca_base.specs.Causes.{Rose};
-ghost use Rattle.orca_cli.specs.Causes.{ReadRose, Completes};
+ghost use Rattle.orca_cli.specs.Causes.{ReadRose, Completes, Refuses};
 ghost use Rattle.orca_cli.specs.Command.{command_of};
 ghost use Rattle.orca_cli.specs.Run.{IsRun, IsUsage, Ends};
 ghost use Rattle.orca_cli.specs.Views.{text_of};
@@ -41,8 +41,11 @@ pub fn orca_run<R: Threads + Wait + Sync, S: Shelf, K: Sink, G: Gate>(
         → ReadRose (command_of (map string_bytes words.now)) (S.faults shelf.old) (S.faults shelf.new) }
     ensures write_fault { result ≡ Status.WriteFault → Rose (K.faults out.old) (K.faults out.new) }
 
-    // Where nothing failed, a query that is asked for is answered.
+    // Where nothing failed, a query that is asked for is answered, and one that is refused is
+    // refused here.
     ensures completes { Completes (command_of (map string_bytes words.now)) (S.held shelf.old)
+        (S.faults shelf.old) (S.faults shelf.new) (K.faults out.old) (K.faults out.new) result }
+    ensures refuses { Refuses (command_of (map string_bytes words.now)) (S.held shelf.old)
         (S.faults shelf.old) (S.faults shelf.new) (K.faults out.old) (K.faults out.new) result }
 {
     if read_command(words).is_some() {
@@ -70,8 +73,11 @@ pub fn orca_alone<S: Shelf, K: Sink>(
         → ReadRose (command_of (map string_bytes words.now)) (S.faults shelf.old) (S.faults shelf.new) }
     ensures write_fault { result ≡ Status.WriteFault → Rose (K.faults out.old) (K.faults out.new) }
 
-    // Where nothing failed, a query that is asked for is answered.
+    // Where nothing failed, a query that is asked for is answered, and one that is refused is
+    // refused here.
     ensures completes { Completes (command_of (map string_bytes words.now)) (S.held shelf.old)
+        (S.faults shelf.old) (S.faults shelf.new) (K.faults out.old) (K.faults out.new) result }
+    ensures refuses { Refuses (command_of (map string_bytes words.now)) (S.held shelf.old)
         (S.faults shelf.old) (S.faults shelf.new) (K.faults out.old) (K.faults out.new) result }
 {
     // A text asks for one query, or has one fault.

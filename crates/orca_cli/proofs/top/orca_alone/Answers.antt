@@ -2,7 +2,7 @@ use Rattle.std.proofs.Common.{◌≡◌, None, Some, option_map, map, string_byt
 use Rattle.orca_cli.specs.Command.{command_of}
 use Rattle.orca_cli.specs.Run.{IsRun, Ends}
 use Rattle.orca_cli.specs.Views.{plan_command, text_of}
-use Rattle.orca_cli.proofs.Causes.{usage_cause, read_cause, write_cause, completed}
+use Rattle.orca_cli.proofs.Causes.{usage_cause, read_cause, write_cause, completed, refused_there}
 use Rattle.orca_cli.proofs.Puts.{put_ends_named}
 use Rattle.orca_cli.proofs.Refusals.{OneReading}
 use Rattle.orca_cli.proofs.top.orca_alone.Goals as goal
@@ -29,4 +29,5 @@ returns-in-Ok g c =
       read_fault = read_cause words held reads_before reads_after old new before after status ends;
       write_fault = write_cause words held reads_before reads_after old new before after status ends;
       completes = completed reading words held reads_before reads_after old new before after status ends;
+      refuses = refused_there reading words held reads_before reads_after old new before after status ends;
     }
