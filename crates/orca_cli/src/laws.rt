@@ -1,4 +1,7 @@
 //! What follows from how runs end.
+ghost use Rattle.plan_tree.specs.OneTable.{IsOneTable};
+ghost use Rattle.query_core.specs.declared.query.Query.{Query};
+ghost use Rattle.orca_cli.specs.Asked.{IsWithinLimits};
 ghost use Rattle.orca_cli.specs.Laws.{OneOutcome};
 
 use job_trace::members_are_known;
@@ -17,3 +20,9 @@ pub fn one_outcome()
     closure_is_one();
     members_are_known();
 }
+
+/// A query over one plain table is never refused for its hashed lists or orders.
+#[tactic(auto, using(crate::proofs::Limits::one_table_within))]
+pub fn one_table_is_within_limits()
+    ensures { (query : Query) → IsOneTable query → IsWithinLimits query }
+{}

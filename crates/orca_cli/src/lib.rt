@@ -15,7 +15,7 @@ mod status;
 mod text;
 mod top;
 
-pub use laws::one_outcome;
+pub use laws::{one_outcome, one_table_is_within_limits};
 pub use status::Status;
 pub use top::{orca_alone, orca_run, put_usage};
 
