@@ -1,4 +1,4 @@
--- The causes of a run's answers, and when a run is sure to be answered.
+-- The causes of a run's answers, and when a run is sure to be answered, or sure to refuse the query.
 use Rattle.std.specs.Prelude.{◌≡◌, ◌⊎◌, ℕ, List, Option, None, Some, ⊤}
 use Rattle.orca_base.specs.Causes.{Rose}
 use Rattle.query_core.specs.declared.catalog.Catalog.{Catalog}

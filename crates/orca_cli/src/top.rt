@@ -41,8 +41,8 @@ pub fn orca_run<R: Threads + Wait + Sync, S: Shelf, K: Sink, G: Gate>(
         → ReadRose (command_of (map string_bytes words.now)) (S.faults shelf.old) (S.faults shelf.new) }
     ensures write_fault { result ≡ Status.WriteFault → Rose (K.faults out.old) (K.faults out.new) }
 
-    // Where nothing failed, a query that is asked for is answered, and one that is refused is
-    // refused here.
+    // Where nothing failed, a query that is asked for is answered, and a text with a cause of
+    // refusal is refused.
     ensures completes { Completes (command_of (map string_bytes words.now)) (S.held shelf.old)
         (S.faults shelf.old) (S.faults shelf.new) (K.faults out.old) (K.faults out.new) result }
     ensures refuses { Refuses (command_of (map string_bytes words.now)) (S.held shelf.old)
@@ -73,8 +73,8 @@ pub fn orca_alone<S: Shelf, K: Sink>(
         → ReadRose (command_of (map string_bytes words.now)) (S.faults shelf.old) (S.faults shelf.new) }
     ensures write_fault { result ≡ Status.WriteFault → Rose (K.faults out.old) (K.faults out.new) }
 
-    // Where nothing failed, a query that is asked for is answered, and one that is refused is
-    // refused here.
+    // Where nothing failed, a query that is asked for is answered, and a text with a cause of
+    // refusal is refused.
     ensures completes { Completes (command_of (map string_bytes words.now)) (S.held shelf.old)
         (S.faults shelf.old) (S.faults shelf.new) (K.faults out.old) (K.faults out.new) result }
     ensures refuses { Refuses (command_of (map string_bytes words.now)) (S.held shelf.old)
