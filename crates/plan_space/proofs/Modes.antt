@@ -1,0 +1,95 @@
+-- The modes of an expression are below 192.
+use Rattle.std.proofs.Common.{◌≡◌, ℕ, ◌-◌, ◌<◌, Bool, true, refl, arith}
+use Rattle.std.specs.Prelude.{Option, Some, None, ◌==◌, nat_lt, slice_get, if◌then◌else◌}
+use Rattle.std.specs.Option.{option_map}
+use Rattle.std.proofs.lemmas.Bool.{cond_both, eqb-true}
+use Rattle.std.proofs.lemmas.Option.{slice_get_within}
+use Rattle.query_core.specs.Crossing.{crossing_at, crossing_of}
+use Rattle.query_core.specs.declared.expressions.Children.{Children}
+use Rattle.query_core.specs.declared.expressions.Children.TheVariants.{Zero, One, Two}
+use Rattle.query_core.specs.declared.expressions.ExprParts.{ExprParts}
+use Rattle.query_core.specs.declared.expressions.Operator.{Operator}
+use Rattle.query_core.specs.declared.expressions.Operator.TheVariants as operators
+use Rattle.query_core.specs.declared.predicate.Pred.{Pred}
+use Rattle.query_core.specs.declared.query.Query.{Query}
+use Rattle.query_core.specs.declared.words.KeyParts.{KeyParts}
+use Rattle.request_props.specs.declared.request.Dist.TheVariants as dists
+use Rattle.plan_space.specs.Lines.{Line, same_spread, on_one, only_line, hash_colocated, hash_line, merge_with, merge_colocated, merge_line, loop_line, leaf_line, kid_line, pair_line, line_over, line_of}
+
+module _ (q : Query) (line : Line) where
+  -- where the expression has the line in a mode, the mode is below 192
+  abbrev IsFew : Option Line → ℕ → Type 0
+  IsFew found mode = found ≡ Some line → mode < 192
+
+  no_line : (mode : ℕ) → IsFew None mode
+  no_line mode never = cc
+
+  -- a line that is chosen by a test
+  chosen_line : (mode : ℕ) (test : Bool) (first second : Option Line) → (test ≡ true → IsFew first mode) → IsFew second mode
+      → IsFew (if test then first else second) mode
+  chosen_line mode test first second by_first by_second = cond_both test first second (λ found. IsFew found mode) by_first (λ fails. by_second)
+
+  -- a line in one mode
+  mode_line : (mode only : ℕ) → only < 192 → (found : Option Line) → mode == only ≡ true → IsFew found mode
+  mode_line mode only few found same is = omega (arith, eqb-true mode only same, few)
+
+  only_line_few : (own : Line) (mode : ℕ) → IsFew (only_line own mode) mode
+  only_line_few own mode = chosen_line mode (mode == 0) (Some own) None (mode_line mode 0 (omega arith) (Some own)) (no_line mode)
+
+  leaf_few : (group : KeyParts) (operator : Operator) (mode : ℕ) → IsFew (leaf_line q group operator mode) mode
+  leaf_few group operators.Scan mode = only_line_few _ mode
+  leaf_few group (operators.IndexScan index) mode = only_line_few _ mode
+  leaf_few group (operators.IndexSeek index) mode = only_line_few _ mode
+  leaf_few group operator mode = no_line mode
+
+  kid_few : (operator : Operator) (mode : ℕ) → IsFew (kid_line operator mode) mode
+  kid_few operators.Filter mode = only_line_few _ mode
+  kid_few operator mode = no_line mode
+
+  module _ (left right : KeyParts) where
+    -- there are at most 40 predicates
+    crossing_few : (number : ℕ) (pred : Option Pred) (sides : ℕ × ℕ) → slice_get q.preds number ≡ pred → crossing_at q left right pred ≡ Some sides → number < 40
+    crossing_few number None sides got is = let never : None ≡ Some sides = is in cc
+    crossing_few number (Some pred) sides got is = omega (arith, slice_get_within q.preds number pred got, q.preds_valid.few)
+
+    sides_few : (line_with : (ℕ × ℕ) → Line) (number : ℕ) (sides : Option (ℕ × ℕ)) → crossing_of q left right number ≡ sides
+        → option_map line_with sides ≡ Some line → number < 40
+    sides_few line_with number None is found = let never : None ≡ Some line = found in cc
+    sides_few line_with number (Some sides) is found = crossing_few number (slice_get q.preds number) sides refl is
+
+    -- the line of a crossing equality, by the number of its predicate
+    crossing_line : (line_with : (ℕ × ℕ) → Line) (mode number : ℕ) → (number < 40 → mode < 192) → IsFew (option_map line_with (crossing_of q left right number)) mode
+    crossing_line line_with mode number few is = few (sides_few line_with number (crossing_of q left right number) refl is)
+
+    hash_few : (mode : ℕ) → IsFew (hash_line q left right mode) mode
+    hash_few mode =
+        chosen_line mode (mode == 0) _ _ (mode_line mode 0 (omega arith) _)
+        (chosen_line mode (mode == 64) _ _ (mode_line mode 64 (omega arith) _)
+        (chosen_line mode (nat_lt mode 128) _ _ (λ below. no_line mode)
+        (crossing_line (hash_colocated q) mode (mode - 128) (λ few. omega (arith, few)))))
+
+    merge_few : (mode : ℕ) → IsFew (merge_line q left right mode) mode
+    merge_few mode =
+        chosen_line mode (nat_lt mode 64) _ _ (λ below. crossing_line (merge_with q on_one dists.One) mode mode (λ few. omega (arith, few)))
+        (chosen_line mode (nat_lt mode 128) _ _ (λ below. crossing_line (merge_with q same_spread dists.Copies) mode (mode - 64) (λ few. omega (arith, few)))
+        (crossing_line (merge_colocated q) mode (mode - 128) (λ few. omega (arith, few))))
+
+    loop_few : (mode : ℕ) → IsFew (loop_line mode) mode
+    loop_few mode =
+        chosen_line mode (mode == 0) _ _ (mode_line mode 0 (omega arith) _)
+        (chosen_line mode (mode == 64) _ _ (mode_line mode 64 (omega arith) _) (no_line mode))
+
+    pair_few : (operator : Operator) (mode : ℕ) → IsFew (pair_line q operator left right mode) mode
+    pair_few operators.HashJoin mode = hash_few mode
+    pair_few operators.MergeJoin mode = merge_few mode
+    pair_few operators.LoopJoin mode = loop_few mode
+    pair_few operator mode = no_line mode
+
+  line_few : (group : KeyParts) (operator : Operator) (children : Children) (mode : ℕ) → IsFew (line_over q group operator children mode) mode
+  line_few group operator Zero mode = leaf_few group operator mode
+  line_few group operator (One child) mode = kid_few operator mode
+  line_few group operator (Two left right) mode = pair_few left right operator mode
+
+-- an expression has lines in modes below 192 only
+pub few_modes : (q : Query) (e : ExprParts) (mode : ℕ) (line : Line) → line_of q e mode ≡ Some line → mode < 192
+few_modes q e mode line = line_few q line e.group e.operator e.children mode

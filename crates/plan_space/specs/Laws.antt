@@ -1,0 +1,108 @@
+-- What holds of all plans of a query.
+use Rattle.std.specs.Prelude.{ℕ, ◌≡◌, ◌<◌, ◌≤◌, List, [], ◌∷◌, length, Option, Some, ⊤}
+use Rattle.query_core.specs.Keys.{root_of}
+use Rattle.query_core.specs.Expressions.{IsCandidate}
+use Rattle.query_core.specs.declared.query.Query.{Query}
+use Rattle.query_core.specs.declared.words.KeyParts.{KeyParts}
+use Rattle.query_core.specs.declared.expressions.ExprParts.{ExprParts}
+use Rattle.xform_rules.specs.Closure.{IsMember}
+use Rattle.request_props.specs.Numbered.{lists_of, orders_of, IsProps}
+use Rattle.request_props.specs.declared.props.Props.{Props}
+use Rattle.request_props.specs.Satisfied.{given_order, Satisfies}
+use Rattle.request_props.specs.declared.given.Given.{Given}
+use Rattle.request_props.specs.declared.given.GivenDist.{GivenDist}
+use Rattle.request_props.specs.declared.given.GivenDist.TheVariants.{One, Hashed, Random, Copies}
+use Rattle.request_props.specs.declared.request.Request.{Request}
+use Rattle.plan_space.specs.Numbers.{OrderLiesIn, HashFits, Fits, root_request}
+use Rattle.plan_space.specs.Nodes.{Tree}
+use Rattle.plan_space.specs.Lines.{Line, line_of}
+use Rattle.plan_space.specs.Gives.{Kid, kid_of, gives, native_gives}
+use Rattle.plan_space.specs.Valid.{NativeFits, IsValid}
+use Rattle.plan_space.specs.Alternatives.{IsAlternative, asked_of, KidsServe}
+use Rattle.plan_space.specs.Choices.{groups_of, IsChoice, IsSettled}
+use Rattle.plan_space.specs.Least.{Serves, IsLeast, IsAnswer}
+
+-- a hashed distribution fits the group by its list, and each other one does
+abbrev pub GivenDistFits : Query → KeyParts → GivenDist → Type 0
+GivenDistFits q group One = ⊤
+GivenDistFits q group (Hashed list) = HashFits q group list
+GivenDistFits q group Random = ⊤
+GivenDistFits q group Copies = ⊤
+
+-- the list and the order that are given lie in the group
+pub record GivenFits (q : Query) (group : KeyParts) (given : Given) : Type 0 where
+  pub dist : GivenDistFits q group given.dist
+  pub order : OrderLiesIn q group (given_order q given.order)
+
+-- what each kid gives lies in its group
+abbrev pub KidsFit : Query → List Kid → Type 0
+KidsFit q [] = ⊤
+KidsFit q (kid ∷ kids) = GivenFits q kid.group kid.given × KidsFit q kids
+
+-- the kids are plans of the children
+abbrev pub AreOf : List KeyParts → List Kid → Type 0
+AreOf [] [] = ⊤
+AreOf [] (kid ∷ kids) = ⊥
+AreOf (group ∷ groups) [] = ⊥
+AreOf (group ∷ groups) (kid ∷ kids) = (kid.group ≡ group) × AreOf groups kids
+
+-- each request fits its group
+abbrev pub RequestsFit : Query → List KeyParts → List Request → Type 0
+RequestsFit q [] [] = ⊤
+RequestsFit q [] (wanted ∷ wishes) = ⊥
+RequestsFit q (group ∷ groups) [] = ⊥
+RequestsFit q (group ∷ groups) (wanted ∷ wishes) = Fits q group wanted × RequestsFit q groups wishes
+
+-- what a valid plan gives lies in its group
+abbrev pub GivesWhatFits : Query → Type 0
+GivesWhatFits q = (plan : Tree) → IsValid (IsMember q) q plan → GivenFits q (kid_of q plan).group (gives q plan)
+
+-- a physical expression over kids meets a request that fits its group only in a mode that is there for the request, over kids that give what is asked of them
+abbrev pub SatisfactionSplits : Query → Type 0
+SatisfactionSplits q =
+    (e : ExprParts) (mode : ℕ) (kids : List Kid) (wanted : Request) → IsCandidate q e → KidsFit q kids → Fits q e.group wanted
+    → NativeFits q e mode kids → Satisfies q (native_gives q e mode kids) wanted
+    → (line : Line) × IsAlternative q e wanted mode line × KidsServe q kids (asked_of line wanted)
+
+-- a physical expression in a mode that is there for a request, over kids that give what is asked of them, may stand over them and meets the request
+abbrev pub SatisfactionJoins : Query → Type 0
+SatisfactionJoins q =
+    (e : ExprParts) (mode : ℕ) (line : Line) (kids : List Kid) (wanted : Request) → IsAlternative q e wanted mode line
+    → AreOf (groups_of e.children) kids → KidsServe q kids (asked_of line wanted)
+    → NativeFits q e mode kids × Satisfies q (native_gives q e mode kids) wanted
+
+-- what is asked of the children fits their groups
+abbrev pub AsksWhatFits : Query → Type 0
+AsksWhatFits q =
+    (e : ExprParts) (mode : ℕ) (line : Line) (wanted : Request) → IsCandidate q e → IsAlternative q e wanted mode line
+    → RequestsFit q (groups_of e.children) (asked_of line wanted)
+
+-- of all plans for a request one is least; with more than 60 lists or orders the numbers of two nodes could be one
+abbrev pub LeastIsOne : Query → Type 0
+LeastIsOne q =
+    length (lists_of q) ≤ 60 → length (orders_of q) ≤ 60 → (group : KeyParts) (wanted : Request) (plan other : Tree)
+    → IsLeast (IsMember q) q group wanted plan → IsLeast (IsMember q) q group wanted other → other ≡ plan
+
+-- what is at most all that its nodes make of least plans is the least of all plans
+abbrev pub SettledIsLeast : Query → Type 0
+SettledIsLeast q =
+    (group : KeyParts) (wanted : Request) (best : Option Tree) → Fits q group wanted → IsSettled (IsMember q) q group wanted best
+    → IsAnswer (IsMember q) q group wanted best
+
+-- a choice is a plan that meets the request
+abbrev pub ChoicesServe : Query → Type 0
+ChoicesServe q =
+    (group : KeyParts) (wanted : Request) (plan : Tree) → Fits q group wanted → IsChoice (IsMember q) q group wanted plan
+    → Serves (IsMember q) q group wanted plan
+
+-- what is asked of the whole plan fits the root
+abbrev pub RootRequestFits : Query → Type 0
+RootRequestFits q = Fits q (root_of q) (root_request q)
+
+-- what is collected for the whole plan is what is asked of it
+abbrev pub RootRequestIsCollected : Query → Type 0
+RootRequestIsCollected q = (props : Props) → IsProps q props → props.root ≡ root_request q
+
+-- an expression has lines in modes below 192 only
+abbrev pub ModesAreFew : Query → Type 0
+ModesAreFew q = (e : ExprParts) (mode : ℕ) (line : Line) → line_of q e mode ≡ Some line → mode < 192

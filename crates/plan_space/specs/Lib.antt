@@ -1,0 +1,12 @@
+pub mod Numbers
+pub mod Nodes
+pub mod Lines
+pub mod Gives
+pub mod Valid
+pub mod Alternatives
+pub mod Enforcers
+pub mod Cost
+pub mod Least
+pub mod Order
+pub mod Choices
+pub mod Laws

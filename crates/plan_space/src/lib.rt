@@ -1,0 +1,10 @@
+//! Definitions: the plans of a query, what they give and cost, and the least of them; and laws on them.
+#![tactic(auto)]
+
+mod laws;
+
+pub use laws::{
+    choices_serve, least_is_one, modes_are_few, plans_are_ordered, root_request_fits,
+    root_request_is_collected, satisfaction_splits, settled_is_least, what_is_asked_fits,
+    what_is_given_fits,
+};
