@@ -5,7 +5,6 @@ use Rattle.query_core.specs.declared.query.Query.{Query}
 use Rattle.request_props.specs.Found.{alone, ascending, elements_of, sides_of, unless_empty, wanted_order}
 use Rattle.request_props.specs.Listing.{listing_of}
 use Rattle.query_core.specs.declared.table.QueryTable.{QueryTable}
-use Rattle.plan_tree.specs.OneTable.{IsOnePlain, IsOneTable}
 use Rattle.request_props.specs.Numbered.{lists_of, orders_of, IsRefusedFor}
 use Rattle.request_props.specs.declared.fault.PropsFault.{PropsFault}
 use Rattle.request_props.specs.declared.fault.PropsFault.TheVariants.{TooManyLists, TooManyOrders, Memory}
@@ -48,36 +47,3 @@ one_limit q (TooManyOrders n) (TooManyLists m) is again first second = absurd (o
 one_limit q (TooManyOrders n) (TooManyOrders m) is again first second = ap TooManyOrders (is.1 ∙ sym again.1)
 one_limit q (TooManyOrders n) Memory is again first second = absurd (second refl)
 one_limit q Memory g is again first second = absurd (first refl)
-
--- ---- one plain table
-
--- a query without grouping groups by nothing
-no_group : (grouped others : Bool) (group_by : List ℕ) → grouped ≡ false → grouped ≡ (nat_le 1 (length group_by) || others) → group_by ≡ []
-no_group grouped others [] none marked = refl
-no_group grouped others (column ∷ columns) none marked =
-    let some : grouped ≡ true = marked ∙ ap (λ b. b || others) (le-leb 1 (length (column ∷ columns)) (omega arith)) in
-    cc
-
--- a plain table isn't hashed
-no_hashed : (tables : List QueryTable) → IsOnePlain tables → filter_map (λ table. table.hashed) tables ≡ []
-no_hashed [] plain = absurd plain
-no_hashed (table ∷ []) plain = rw plain.0 refl
-no_hashed (table ∷ other ∷ others) plain = absurd plain
-
--- of one order there is one at most
-one_order : (order : List ℕ) → length (listing_of (unless_empty order ++ [] ++ [])) ≤ 60
-one_order [] = omega arith
-one_order (first ∷ others) = omega arith
-
--- a query over one plain table has no hashed list, and at most the order of ORDER BY
-pub one_table_within : (q : Query) → IsOneTable q → IsWithinLimits q
-one_table_within q one =
-    let group : q.group_by ≡ [] = no_group q.grouped (nat_le 1 (length q.aggs)) q.group_by one.not_grouped q.grouping_valid.marked in
-    let hashed = no_hashed q.tables one.table in
-    let lists : lists_of q ≡ [] = λ i. listing_of (hashed i ++ alone (flat_map (sides_of q.items) (one.no_preds i)) ++ unless_empty (group i)) in
-    let orders : orders_of q ≡ listing_of (unless_empty (wanted_order q) ++ [] ++ []) =
-    λ i. listing_of (unless_empty (wanted_order q) ++ alone (ascending (flat_map (sides_of q.items) (one.no_preds i))) ++ unless_empty (ascending (group i))) in
-    record {
-      few_lists = subst (λ made. length made ≤ 60) (sym lists) (omega arith);
-      few_orders = subst (λ made. length made ≤ 60) (sym orders) (one_order (wanted_order q));
-    }

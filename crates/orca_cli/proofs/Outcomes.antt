@@ -4,10 +4,10 @@ use Rattle.std.specs.List.{concat}
 use Rattle.query_core.specs.declared.catalog.Catalog.{Catalog}
 use Rattle.query_core.specs.declared.query.Query.{Query}
 use Rattle.catalog_json.specs.Outcome.{reading_of}
-use Rattle.plan_defs.specs.Nodes.{Tree}
-use Rattle.plan_defs.specs.Text.{plan_section}
-use Rattle.plan_tree.specs.OneTable.{IsLeastPlan}
-use Rattle.orca_cli.specs.Asked.{SaysCatalog, IsNoCatalog}
+use Rattle.plan_space.specs.Nodes.{Tree}
+use Rattle.plan_space.specs.Least.{IsLeastPlan}
+use Rattle.plan_report.specs.Text.{plan_section}
+use Rattle.orca_cli.specs.Asked.{SaysCatalog, IsNoCatalog, IsWithinLimits}
 use Rattle.orca_cli.specs.Run.{GoesOn, IsPlanText, IsImpossible, IsAnswer, planned, unplanned, refused, IsEnding, answered, catalog_refused, catalog_unread, query_unread}
 use Rattle.orca_cli.specs.Laws.{IsOutcome, Outcome, Same, OneOutcome}
 use Rattle.orca_cli.specs.Command.{FileNames}
@@ -19,16 +19,16 @@ use Rattle.orca_cli.proofs.Memos.{OneMemo, section_one}
 use Rattle.orca_cli.proofs.Queries.{OneLinks}
 use Rattle.orca_cli.proofs.Refusals.{OneReading, one_query, never_refused, one_cause}
 
--- a query has one least plan
+-- a query within the limits has one least plan
 unfoldable OneLeast : Type 0
-OneLeast = (q : Query) (s t : Tree) → IsLeastPlan q s → IsLeastPlan q t → s ≡ t
+OneLeast = (q : Query) (s t : Tree) → IsWithinLimits q → IsLeastPlan q s → IsLeastPlan q t → s ≡ t
 
 -- the texts of one query's least plan are one
-one_text : OneLeast → (query other : Query) (text again : List ℕ) → query ≡ other → IsPlanText query text → IsPlanText other again → text ≡ again
+one_text : OneLeast → (query other : Query) (text again : List ℕ) → IsWithinLimits query → query ≡ other → IsPlanText query text → IsPlanText other again → text ≡ again
 unfolding OneLeast
-one_text one query other text again same is other_is =
+one_text one query other text again within same is other_is =
     let here : IsPlanText query again = subst (λ q. IsPlanText q again) (sym same) other_is in
-    let tree = one query is.plan here.plan is.least here.least in
+    let tree = one query is.plan here.plan within is.least here.least in
     is.lines ∙ ap (λ plan. concat (plan_section query plan)) tree ∙ sym here.lines
 
 -- a query with a plan isn't one without
@@ -46,7 +46,7 @@ module _ (reading : OneReading) (links : OneLinks) (least : OneLeast) (closure :
   same_answers : IsAnswer catalog memo asked first text → IsAnswer catalog memo asked second other → Same first second text other
   same_answers (planned a q asks plan is_plan goes) (planned b r asks_too plan_too is_plan_too goes_too) =
       let same : q ≡ r = one_query reading catalog asked links q r asks.bound asks_too.bound in
-      record { status = a ∙ sym b; same_text = goes_on_one closure memo q r plan plan_too text other same (one_text least q r plan plan_too same is_plan is_plan_too) goes goes_too }
+      record { status = a ∙ sym b; same_text = goes_on_one closure memo q r plan plan_too text other same (one_text least q r plan plan_too asks.within same is_plan is_plan_too) goes goes_too }
   same_answers (planned a q asks plan is_plan goes) (unplanned b r asks_too none goes_too) = absurd (plan_or_none q r plan (one_query reading catalog asked links q r asks.bound asks_too.bound) is_plan none)
   same_answers (planned a q asks plan is_plan goes) (refused b cause why line) = absurd (never_refused reading catalog asked q cause asks why)
   same_answers (unplanned a q asks none goes) (planned b r asks_too plan is_plan goes_too) = absurd (plan_or_none r q plan (one_query reading catalog asked links r q asks_too.bound asks.bound) is_plan none)
@@ -91,7 +91,7 @@ same_known reading links least closure bytes memo asked first second text other 
     record { status = a ∙ sym b; same_text = line ∙ ap texts.catalog_refused (one_fault bytes cause cause_too none none_too) ∙ sym line_too }
 
 -- two runs over the same bytes have one outcome
-pub one_outcome_of : OneReading → OneLinks → OneMemo → ((q : Query) (s t : Tree) → IsLeastPlan q s → IsLeastPlan q t → s ≡ t) → OneOutcome
+pub one_outcome_of : OneReading → OneLinks → OneMemo → ((q : Query) (s t : Tree) → IsWithinLimits q → IsLeastPlan q s → IsLeastPlan q t → s ≡ t) → OneOutcome
 unfolding OneLeast
 one_outcome_of reading links closure least files others memo held told bytes asked first second text other o again =
     same_known reading links least closure bytes memo asked first second text other (known_of files memo held bytes asked first text o o.ends) (known_of others memo told bytes asked second other again again.ends)

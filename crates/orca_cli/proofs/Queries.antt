@@ -1,5 +1,7 @@
 -- Queries with the same parts are the same.
-use Rattle.std.proofs.Common.{◌≡◌, ◌≤◌, List, sym, ◌∙◌, subst}
+use Rattle.std.proofs.Common.{◌≡◌, ◌≤◌, List, length, sym, ◌∙◌, subst}
+use Rattle.std.specs.Prelude.{IsTrue, ◌==◌}
+use Rattle.std.specs.List.{list_all}
 use Rattle.std.proofs.Props.{props}
 use mathlib.Core.HLevel.{is_prop→PathP}
 use Rattle.query_core.specs.Tables.{AreTables}
@@ -8,12 +10,10 @@ use Rattle.query_core.specs.Conditions.{ArePredicates}
 use Rattle.query_core.specs.Links.{AreLinks}
 use Rattle.query_core.specs.declared.catalog.Catalog.{Catalog}
 use Rattle.query_core.specs.declared.options.Options.{Options}
-use Rattle.query_core.specs.declared.options.RootDist.TheVariants.{One}
 use Rattle.query_core.specs.declared.predicate.Link.{Link}
 use Rattle.query_core.specs.declared.predicate.Pred.{Pred}
 use Rattle.query_core.specs.declared.table.Item.{Item}
 use Rattle.query_core.specs.declared.table.QueryTable.{QueryTable}
-use Rattle.plan_tree.specs.OneTable.{IsOnePlain, IsOneTable}
 use Rattle.sql_bind.specs.Binding.{IsQueryOf}
 use Rattle.sql_bind.specs.declared.parts.Parts.{Parts}
 use Rattle.query_core.specs.Grouping.{IsGrouping}
@@ -78,11 +78,8 @@ alike_of parts catalog options q r is again = record {
 -- a query like one of the kind that is planned is of that kind
 pub built_again : (q r : Query) → AreAlike q r → IsBuilt q → IsBuilt r
 built_again q r same built = record {
-  table = subst IsOnePlain same.tables built.table;
-  no_preds = sym same.preds ∙ built.no_preds;
   not_grouped = sym same.grouped ∙ built.not_grouped;
-  root = subst (λ o. o.root ≡ One) same.options built.root;
-  none_off = subst (λ o. o.off ≡ 0) same.options built.none_off;
+  no_index = subst (λ tables. IsTrue (list_all (λ table. length table.indexes == 0) tables)) same.tables built.no_index;
 }
 
 -- what the layer of bound queries promises: the links are determined by the tables, the items and the predicates

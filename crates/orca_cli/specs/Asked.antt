@@ -1,5 +1,6 @@
 -- What a text asks for over a catalogue: a query that is planned, or the cause why it is refused.
-use Rattle.std.specs.Prelude.{ℕ, List, ◌≡◌, ◌≢◌, ◌≤◌, ◌⊎◌, length, Ok, Err}
+use Rattle.std.specs.Prelude.{ℕ, false, List, ◌≡◌, ◌≢◌, ◌≤◌, ◌==◌, ◌⊎◌, length, IsTrue, Ok, Err}
+use Rattle.std.specs.List.{list_all}
 use Rattle.catalog_json.specs.Outcome.{reading_of}
 use Rattle.catalog_json.specs.declared.fault.CatalogFault.{CatalogFault}
 use Rattle.catalog_json.specs.declared.fault.CatalogFault.TheVariants as catalogs
@@ -16,7 +17,6 @@ use Rattle.query_core.specs.declared.query.Query.{Query}
 use Rattle.request_props.specs.Numbered.{lists_of, orders_of, IsRefusedFor}
 use Rattle.request_props.specs.declared.fault.PropsFault.{PropsFault}
 use Rattle.request_props.specs.declared.fault.PropsFault.TheVariants as limits
-use Rattle.plan_tree.specs.OneTable.{IsOneTable}
 use Rattle.orca_cli.specs.Texts.{catalog_cause, sql_cause, bind_cause, not_built, props_cause}
 
 -- ---- the catalogue
@@ -44,9 +44,10 @@ pub record IsBoundAs (catalog : Catalog) (text : List ℕ) (query : Query) : Typ
   pub reading : IsReading text select
   pub bound : IsBound select catalog plain_options query
 
--- the query is of the kind that is planned
-abbrev pub IsBuilt : Query → Type 0
-IsBuilt query = IsOneTable query
+-- the query is of the kind that is planned: it has no grouping, and none of its tables has an index
+pub record IsBuilt (query : Query) : Type 0 where
+  pub not_grouped : query.grouped ≡ false
+  pub no_index : IsTrue (list_all (λ table. length table.indexes == 0) query.tables)
 
 -- the query has at most 60 hashed lists and at most 60 orders
 pub record IsWithinLimits (query : Query) : Type 0 where

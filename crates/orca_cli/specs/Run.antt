@@ -9,11 +9,9 @@ use Rattle.query_core.specs.declared.query.Query.{Query}
 use Rattle.query_core.specs.declared.expressions.ExprParts.{ExprParts}
 use Rattle.plan_search.specs.PlainClosure.{IsClosureOf}
 use Rattle.job_trace.specs.Memo.{AreMembers, memo_section}
-use Rattle.plan_defs.specs.Nodes.{Tree}
-use Rattle.plan_defs.specs.Properties.{root_request}
-use Rattle.plan_defs.specs.Least.{IsLeast, HasNoPlan}
-use Rattle.plan_defs.specs.Text.{plan_section}
-use Rattle.plan_tree.specs.OneTable.{IsMember}
+use Rattle.plan_space.specs.Nodes.{Tree}
+use Rattle.plan_space.specs.Least.{IsLeastPlan, QueryHasNoPlan}
+use Rattle.plan_report.specs.Text.{plan_section}
 use Rattle.orca_cli.specs.Asked.{SaysCatalog, IsNoCatalog, Asks, IsRefused}
 use Rattle.orca_cli.specs.Command.{PlanCommand}
 use Rattle.orca_cli.specs.Texts as texts
@@ -23,12 +21,12 @@ use Rattle.orca_cli.specs.declared.status.Status.TheVariants.{Planned, NoPlan, U
 -- the text is that of the query's least plan
 pub record IsPlanText (query : Query) (text : List ℕ) : Type 0 where
   pub plan : Tree
-  pub least : IsLeast IsMember query 0 (root_request query) plan
+  pub least : IsLeastPlan query plan
   pub lines : text ≡ concat (plan_section query plan)
 
 -- no plan gives what the query asks for
 abbrev pub IsImpossible : Query → Type 0
-IsImpossible query = HasNoPlan IsMember query 0 (root_request query)
+IsImpossible query = QueryHasNoPlan query
 
 -- the text is that of the memo, whose members are the closure under the rules
 pub record IsMemoText (query : Query) (text : List ℕ) : Type 0 where

@@ -5,6 +5,9 @@ use Rattle.query_core.specs.declared.query.Query.{Query}
 use Rattle.orca_cli.specs.Texts.{no_plan, catalog_refused}
 use Rattle.orca_cli.specs.Asked.{SaysCatalog, IsNoCatalog}
 use Rattle.orca_cli.specs.Run.{IsPlanText, IsImpossible, IsReadFault, IsAnswered}
+use Rattle.plan_tree.specs.declared.plan.Found.{Found}
+use Rattle.plan_tree.specs.declared.plan.Found.TheVariants as found
+use Rattle.plan_tree.specs.declared.plan.Found.TheVariants.{Least}
 use Rattle.orca_cli.specs.declared.status.Status.{Status}
 use Rattle.orca_cli.specs.declared.status.Status.TheVariants.{Planned, NoPlan, CatalogRefused, ReadFault}
 
@@ -12,6 +15,11 @@ use Rattle.orca_cli.specs.declared.status.Status.TheVariants.{Planned, NoPlan, C
 pub data IsPlanOf (query : Query) (status : Status) (text : List ℕ) : Type 0 where
   least : status ≡ Planned → IsPlanText query text → IsPlanOf query status text
   none : status ≡ NoPlan → IsImpossible query → text ≡ no_plan → IsPlanOf query status text
+
+-- the status of what was found
+abbrev pub status_for : Found → Status
+status_for (Least plan cost) = Planned
+status_for found.NoPlan = NoPlan
 
 -- the run over a catalogue, with the reading of the query's file
 pub data IsEndingAt (catalog : Catalog) (memo : Bool) (name : List ℕ) (held : Option (List ℕ)) (before after : List ℕ → ℕ) (status : Status) (text : List ℕ) : Type 0 where

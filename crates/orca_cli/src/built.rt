@@ -1,26 +1,19 @@
 //! Which queries are planned.
-ghost use Rattle.std.specs.Prelude.{IsTrue, ◌↔◌};
-ghost use Rattle.plan_tree.specs.OneTable.{IsOnePlain};
+ghost use Rattle.std.specs.Prelude.{IsTrue, ◌≡◌, ◌==◌, ◌↔◌, length};
+ghost use Rattle.std.specs.List.{list_all};
 ghost use Rattle.orca_cli.specs.Asked.{IsBuilt};
 
-use query_core::{Query, QueryTable, RootDist};
+use query_core::{Query, QueryTable};
 
 /// Whether the query is of the kind that is planned.
 pub fn is_built(query: &Query) -> bool
     ensures { IsTrue result ↔ IsBuilt query.now }
 {
-    is_one_plain(query.tables.as_slice())
-        && query.preds.is_empty()
-        && !query.grouped
-        && query.options.root == RootDist::One
-        && query.options.off == 0
+    !query.grouped && have_no_index(query.tables.as_slice())
 }
 
-fn is_one_plain(tables: &[QueryTable]) -> bool
-    ensures { IsTrue result ↔ IsOnePlain tables.now }
+fn have_no_index(tables: &[QueryTable]) -> bool
+    ensures { result ≡ list_all (λ table. length table.indexes == 0) tables.now }
 {
-    match tables {
-        [table] => table.hashed.is_none() && table.indexes.is_empty(),
-        _ => false,
-    }
+    tables.iter().all(|table| table.indexes.len() == 0)
 }

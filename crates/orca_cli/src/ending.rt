@@ -41,14 +41,6 @@ pub fn refused_query(alloc: Global, cause: &str) -> Result<Ending, AllocError>
     line(alloc, Status::QueryRefused, text)
 }
 
-/// No plan gives what the query asks for.
-pub fn no_plan(alloc: Global) -> Result<Ending, AllocError>
-    ensures { IfOk result (λ ending. EndsAs ending Status.NoPlan texts.no_plan) }
-{
-    let text = String::from_str(alloc, "no plan\n")?;
-    line(alloc, Status::NoPlan, text)
-}
-
 /// The file of this name couldn't be read.
 pub fn failed_read(alloc: Global, name: &str) -> Result<Ending, AllocError>
     ensures { IfOk result

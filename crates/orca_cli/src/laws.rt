@@ -1,12 +1,9 @@
 //! What follows from how runs end.
-ghost use Rattle.plan_tree.specs.OneTable.{IsOneTable};
-ghost use Rattle.query_core.specs.declared.query.Query.{Query};
-ghost use Rattle.orca_cli.specs.Asked.{IsWithinLimits};
 ghost use Rattle.orca_cli.specs.Laws.{OneOutcome};
 
 use job_trace::members_are_known;
 use plan_search::closure_is_one;
-use plan_tree::least_plan_is_one;
+use plan_space::least_is_one;
 use query_core::links_are_one;
 
 /// The status and the text of a run are determined by what the two files hold, as long as no read
@@ -14,15 +11,9 @@ use query_core::links_are_one;
 pub fn one_outcome()
     ensures { OneOutcome }
 {
-    least_plan_is_one();
+    least_is_one();
     sql_reader::one_outcome();
     links_are_one();
     closure_is_one();
     members_are_known();
 }
-
-/// A query over one plain table is never refused for its hashed lists or orders.
-#[tactic(auto, using(crate::proofs::Limits::one_table_within))]
-pub fn one_table_is_within_limits()
-    ensures { (query : Query) → IsOneTable query → IsWithinLimits query }
-{}

@@ -15,10 +15,12 @@ mod status;
 mod text;
 mod top;
 
-pub use laws::{one_outcome, one_table_is_within_limits};
+pub use laws::one_outcome;
 pub use status::Status;
 pub use top::{orca_alone, orca_run, put_usage};
 
+#[cfg(test)]
+mod join_tests;
 #[cfg(test)]
 mod memo_tests;
 #[cfg(test)]

@@ -2,3 +2,9 @@ pub mod WordLists
 pub mod Ranges
 pub mod Growing
 pub mod OneClosure
+pub mod Scanning
+pub mod Bounds
+pub mod Kids
+pub mod Listed
+pub mod Enforcing
+pub mod Finding

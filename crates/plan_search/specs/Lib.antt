@@ -1,2 +1,4 @@
 pub mod PlainClosure
 pub mod Steps
+pub mod Places
+pub mod Search

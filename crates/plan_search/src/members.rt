@@ -21,6 +21,7 @@ pub fn members_of(words: &[u64], group: KeyParts) -> &[u64]
         Contains words.now (word_of e) → Contains result.now (word_of e) }
     ensures only { (e : ExprParts) → IsPacked e → Contains result.now (word_of e) →
         e.group ≡ group }
+    ensures rises { IsStrictlyIncreasing result.now }
     ensures part { (word : ℕ) → Contains result.now word → Contains words.now word }
 {
     // For the proof: the words of a group stand together.

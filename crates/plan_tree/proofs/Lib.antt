@@ -1,10 +1,7 @@
-pub mod Codes
-pub mod Plans
-pub mod Enforcers
-pub mod Pass
-pub mod Numbering
-pub mod Best
-pub mod Root
-pub mod Lines
+pub mod Places
+pub mod Keys
+pub mod Kept
+pub mod Costs
 pub mod NodeNumbers
-pub mod OneLeast
+pub mod Decided
+pub mod Modes

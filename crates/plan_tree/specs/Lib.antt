@@ -1,8 +1,7 @@
+pub mod Meanings
 pub mod Nodes
-pub mod Spells
-pub mod Sights
+pub mod Alternatives
+pub mod Enforcers
 pub mod Costs
-pub mod OneTable
-pub mod Priced
-pub mod Choices
-pub mod Lines
+pub mod Spells
+pub mod Found

@@ -1,18 +1,25 @@
-//! Plans, and the least plan over one table.
+//! The nodes of plans: which of them may meet a request over which plans, and what a node costs.
 #![tactic(auto)]
 
+mod alternatives;
 mod cost;
-mod least;
+mod enforcers;
+mod fitting;
+mod line;
+mod lines;
 mod node;
+mod numbers;
 mod plan;
-mod priced;
-mod section;
-mod sight;
+mod serving;
+
+pub use alternatives::{Alt, alternative, alternative_in, modes_are_one};
+pub use cost::{enforcer_cost, native_cost, node_cost};
+pub use enforcers::{Enforced, enforcer};
+pub use fitting::fits;
+pub use line::{LeftDist, LeftOrder, Line};
+pub use lines::line_of;
+pub use node::{Node, NodeKind, nodes_are_one};
+pub use plan::{Found, Plan};
+
 #[cfg(test)]
 mod tests;
-mod text;
-
-pub use least::{least_one_table, least_plan_is_one};
-pub use node::{Node, NodeKind};
-pub use plan::{Found, Plan};
-pub use section::plan_text;

@@ -1,4 +1,12 @@
+//! Plans.
+#![tactic(auto)]
+
+ghost use Rattle.std.specs.Prelude.{◌≡◌, IfOk};
+ghost use Rattle.plan_space.specs.Nodes.{Tree};
+ghost use Rattle.plan_tree.specs.Spells.{Spells};
+
 use crate::node::Node;
+use std::alloc::{AllocError, Global};
 
 /// A plan: a node over none, one or two plans.
 #[derive(Debug, Drop)]
@@ -13,4 +21,21 @@ pub enum Plan {
 pub enum Found {
     Least { plan: Plan, cost: u64 },
     NoPlan,
+}
+
+impl Plan {
+    /// The same plan once more.
+    pub fn copy(&self, alloc: Global) -> Result<Plan, AllocError>
+        ensures { IfOk result (λ plan. (tree : Tree) → Spells self.now tree → Spells plan tree) }
+    {
+        Ok(match self {
+            Plan::Leaf(node) => Plan::Leaf(*node),
+            Plan::Over(node, kid) => Plan::Over(*node, Box::new(alloc, kid.copy(alloc)?)?),
+            Plan::Two(node, left, right) => Plan::Two(
+                *node,
+                Box::new(alloc, left.copy(alloc)?)?,
+                Box::new(alloc, right.copy(alloc)?)?,
+            ),
+        })
+    }
 }

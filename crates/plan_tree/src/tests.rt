@@ -1,13 +1,17 @@
-ghost use Rattle.std.specs.Prelude.{◌≡◌, ◌≤◌, ◌<◌, IfOk};
-ghost use Rattle.plan_tree.specs.OneTable.{IsOneTable};
+//! Two tables that are joined by an equality, worked by hand.
 
-use crate::least::least_one_table;
-use crate::plan::{Found, Plan};
-use crate::section::plan_text;
+ghost use Rattle.std.specs.Prelude.{◌≡◌, ◌≤◌, IfOk, IfSome};
+ghost use Rattle.query_core.specs.Keys.{IsGroup};
+ghost use Rattle.query_core.specs.Expressions.{IsCandidate};
+ghost use Rattle.request_props.specs.Numbered.{IsProps};
+
+use crate::*;
 use orca_base::{List, Text};
-use query_core::{Item, Options, OrderKey, OutItem, Query, QueryTable, RootDist};
+use query_core::*;
+use request_props::{Dist, Props, Request};
 use std::alloc::{AllocError, Global};
 use std::test::Fail;
+use xform_rules::{Rule, result_at, results_are_candidates};
 
 fn text(alloc: Global, part: &str) -> Result<Text, AllocError>
     ensures { IfOk result (λ made. made ≡ part.now) }
@@ -15,285 +19,146 @@ fn text(alloc: Global, part: &str) -> Result<Text, AllocError>
     Ok(Text::of(String::from_str(alloc, part)?))
 }
 
-fn column(alloc: Global, name: &str) -> Result<Item, AllocError>
-    ensures name { IfOk result (λ made. made.name ≡ name.now) }
-    ensures table { IfOk result (λ made. made.table ≡ 0) }
-    ensures ndv { IfOk result (λ made. made.ndv ≡ 10) }
-{
-    Ok(Item {
-        table: 0,
-        name: text(alloc, name)?,
-        ndv: 10,
+// `SELECT T1.a FROM T1, T2 WHERE T1.a = T2.b ORDER BY T1.a`, over tables of 1000 rows on 4 segments
+fn two_tables(alloc: Global, op: CmpOp) -> Result<Query, AllocError> {
+    let tables = vec![in alloc;
+        QueryTable {
+            alias: text(alloc, "T1")?,
+            rows: 1000,
+            hashed: None,
+            indexes: List::new(alloc)
+        },
+        QueryTable {
+            alias: text(alloc, "T2")?,
+            rows: 1000,
+            hashed: None,
+            indexes: List::new(alloc)
+        },
+    ]?;
+    let items = vec![in alloc;
+        Item {
+            table: 0,
+            name: text(alloc, "a")?,
+            ndv: 1000
+        },
+        Item {
+            table: 1,
+            name: text(alloc, "b")?,
+            ndv: 500
+        },
+    ]?;
+    let preds = vec![in alloc;
+        Pred {
+            left: 0,
+            op,
+            right: Operand::Item(1)
+        },
+    ]?;
+    let links = links_of(alloc, &tables, &items, &preds)?;
+    Ok(Query {
+        segments: 4,
+        tables: List::of(tables),
+        items: List::of(items),
+        preds: List::of(preds),
+        links,
+        grouped: false,
+        group_by: List::new(alloc),
+        aggs: List::new(alloc),
+        output: List::of(vec![in alloc;
+            OutItem {
+                item: 0,
+                name: None
+            },
+        ]?),
+        order: List::of(vec![in alloc;
+            OrderKey {
+                item: 0,
+                desc: false
+            },
+        ]?),
+        options: Options {
+            root: RootDist::One,
+            off: 0,
+        },
     })
 }
 
-// `SELECT output FROM t` in an order, where t has the columns a and b.
-macro_rules! query_of {
-    ($alloc:expr, $segments:expr, $rows:expr, $output:expr, $order:expr) => {
-        Query {
-            segments: $segments,
-            tables: List::of(vec![in $alloc;
-                QueryTable {
-                    alias: text($alloc, "t")?,
-                    rows: $rows,
-                    hashed: None,
-                    indexes: List::new($alloc)
-                },
-            ]?),
-            items: List::of(vec![in $alloc; column($alloc, "a")?, column($alloc, "b")?]?),
-            preds: List::new($alloc),
-            links: List::new($alloc),
-            grouped: false,
-            group_by: List::new($alloc),
-            aggs: List::new($alloc),
-            output: List::of(vec![in $alloc;
-                OutItem {
-                    item: $output,
-                    name: None
-                },
-            ]?),
-            order: $order,
-            options: Options {
-                root: RootDist::One,
-                off: 0,
-            },
-        }
-    };
-}
-
-fn unordered(alloc: Global, segments: u64, rows: u64, output: u32) -> Result<Query, AllocError>
-    requires some { 1 ≤ segments }
-    requires few { segments ≤ 1000 }
-    requires fit { rows ≤ 1000000000000 }
-    requires column { output < 2 }
-    ensures plain { IfOk result IsOneTable }
+fn step(query: &Query, rule: Rule, e: ExprParts) -> Option<ExprParts>
+    requires { IsCandidate query.now e }
+    ensures { IfSome result (IsCandidate query.now) }
 {
-    Ok(query_of!(alloc, segments, rows, output, List::new(alloc)))
+    // For the proof: the result of a rule at a candidate is one.
+    candidates_are_known();
+    let other = result_at(query, rule, e, None, 0)?;
+    results_are_candidates();
+    Some(other)
 }
 
-// `ORDER BY b`.
-fn ordered(alloc: Global, segments: u64, rows: u64, output: u32) -> Result<Query, AllocError>
-    requires some { 1 ≤ segments }
-    requires few { segments ≤ 1000 }
-    requires fit { rows ≤ 1000000000000 }
-    requires column { output < 2 }
-    ensures plain { IfOk result IsOneTable }
+fn origin(query: &Query, group: KeyParts) -> ExprParts
+    requires { IsGroup query.now group }
+    ensures { IsCandidate query.now result }
 {
-    let order = List::of(vec![in alloc;
-        OrderKey {
-            item: 1,
-            desc: false
-        },
-    ]?);
-    Ok(query_of!(alloc, segments, rows, output, order))
+    candidates_are_known();
+    query.origin_of_group(group)
 }
 
-// `ORDER BY b DESC, a`, over 1,000 rows.
-fn ordered_by_two(alloc: Global) -> Result<Query, AllocError>
-    ensures plain { IfOk result IsOneTable }
+// The join of the two tables by this rule.
+fn join_by(query: &Query, rule: Rule) -> Option<ExprParts>
+    ensures { IfSome result (IsCandidate query.now) }
 {
-    let first = OrderKey {
-        item: 1,
-        desc: true,
-    };
-    let second = OrderKey {
-        item: 0,
-        desc: false,
-    };
-    let order = List::of(vec![in alloc; first, second]?);
-    Ok(query_of!(alloc, 4, 1000, 0, order))
+    let whole = origin(query, query.group(query.root()));
+    let join = step(query, Rule::ExpandNAry, whole)?;
+    step(query, rule, join)
 }
 
-// Where the rows of a listed plan lie.
-#[derive(Clone, Copy, Debug, PartialEq, Eq)]
-enum Place {
-    Segments,
-    One,
-    Copies,
+fn ask(dist: Dist, order: u32) -> Request {
+    Request { dist, order }
 }
 
-// A plan of the slow program: its node numbers from the root down, and what they come to.
-#[derive(Debug, Drop)]
-struct Listed {
-    code: Vec<u64>,
-    cost: u64,
-    place: Place,
-    sorted: bool,
-}
-
-const NODES: [u64; 4] = [1, 2, 65, 129];
-
-// How many times the number can be halved before it is 0.
-fn halvings(number: u64) -> u64 {
-    let mut left = number;
-    let mut times: u64 = 0;
-    for _ in 0..64 {
-        if left > 0 {
-            left /= 2;
-            times = times.saturating_add(1);
-        }
-    }
-    times
-}
-
-fn sorting(rows: u64) -> u64 {
-    rows.saturating_mul(halvings(rows)).saturating_add(1)
-}
-
-// The plan with the node on top, where that is a plan.
-fn grown(
-    alloc: Global,
-    below: &Listed,
-    node: u64,
-    rows: u64,
-    part: u64,
-) -> Result<Option<Listed>, AllocError> {
-    let on_segments = below.place == Place::Segments;
-    let (fits, local, place, sorted) = match node {
-        1 => (
-            on_segments,
-            rows.saturating_mul(2).saturating_add(1),
-            Place::One,
-            false,
-        ),
-        2 => (
-            on_segments,
-            rows.saturating_mul(4).saturating_add(1),
-            Place::Copies,
-            false,
-        ),
-        65 => (
-            true,
-            sorting(if on_segments { part } else { rows }),
-            below.place,
-            true,
-        ),
-        _ => (
-            on_segments && below.sorted,
-            rows.saturating_mul(3).saturating_add(1),
-            Place::One,
-            true,
-        ),
-    };
-    if !fits {
-        return Ok(None);
-    }
-    let mut code = vec![in alloc; node]?;
-    code.extend_from_slice(below.code.as_slice())?;
-    Ok(Some(Listed {
-        code,
-        cost: below.cost.saturating_add(local),
-        place,
-        sorted,
-    }))
-}
-
-// The least plan for rows at one place, by cost and then by code, of all with at most five enforcers.
-fn least_listed(
-    alloc: Global,
-    segments: u64,
-    rows: u64,
-    wants_order: bool,
-) -> Result<Listed, AllocError>
-    requires { 1 ≤ segments }
+fn join_in(query: &Query, props: &Props, rule: Rule, request: Request, mode: u32) -> Option<Alt>
+    requires { IsProps query.now props.now }
 {
-    let part = rows.div_ceil(segments);
-    let mut best = Listed {
-        code: Vec::new(alloc),
-        cost: u64::MAX,
-        place: Place::One,
-        sorted: true,
-    };
-    let mut plans = vec![in alloc;
-        Listed {
-            code: vec![in alloc; 72_058_693_549_555_712]?,
-            cost: part.saturating_add(1),
-            place: Place::Segments,
-            sorted: false,
-        },
-    ]?;
-    for _ in 0..5 {
-        let mut taller = Vec::new(alloc);
-        for below in &plans {
-            for node in NODES {
-                if node > 2 && !wants_order {
-                    continue;
-                }
-                if let Some(plan) = grown(alloc, below, node, rows, part)? {
-                    taller.push(plan)?;
-                }
-            }
-        }
-        for plan in &taller {
-            let serves = plan.place == Place::One && (plan.sorted || !wants_order);
-            if serves && (plan.cost, plan.code.as_slice()) < (best.cost, best.code.as_slice()) {
-                best = Listed {
-                    code: plan.code.clone()?,
-                    cost: plan.cost,
-                    place: plan.place,
-                    sorted: plan.sorted,
-                };
-            }
-        }
-        plans = taller;
-    }
-    Ok(best)
-}
-
-fn push_code(plan: &Plan, code: &mut Vec<u64>) -> Result<(), AllocError> {
-    match plan {
-        Plan::Leaf(node) => code.push(node.0)?,
-        Plan::Over(node, kid) => {
-            code.push(node.0)?;
-            push_code(kid, code)?;
-        }
-        Plan::Two(node, left, right) => {
-            code.push(node.0)?;
-            push_code(left, code)?;
-            push_code(right, code)?;
-        }
-    }
-    Ok(())
-}
-
-// The cost and the code of the least plan, none where there is no plan.
-fn found(alloc: Global, query: &Query) -> Result<Option<(u64, Vec<u64>)>, AllocError>
-    requires { IsOneTable query.now }
-{
-    match least_one_table(alloc, query)? {
-        Found::Least { plan, cost } => {
-            let mut code = Vec::new(alloc);
-            push_code(&plan, &mut code)?;
-            Ok(Some((cost, code)))
-        }
-        Found::NoPlan => Ok(None),
+    let join = join_by(query, rule)?;
+    if mode < 256 && request.order as usize <= props.orders.len() {
+        alternative_in(query, props, join, request, mode)
+    } else {
+        None
     }
 }
 
-// Whether the full list has the same least plans, without an order and with one.
-fn agree(alloc: Global, segments: u64, rows: u64, output: u32) -> Result<bool, AllocError>
-    requires some { 1 ≤ segments }
-    requires few { segments ≤ 1000 }
-    requires fit { rows ≤ 1000000000000 }
-    requires column { output < 2 }
+// The mode of the alternative at the place.
+fn mode_at(query: &Query, props: &Props, rule: Rule, request: Request, n: u32) -> Option<u32>
+    requires { IsProps query.now props.now }
 {
-    let plain = unordered(alloc, segments, rows, output)?;
-    let listed = least_listed(alloc, segments, rows, false)?;
-    let plain_agrees = found(alloc, &plain)? == Some((listed.cost, listed.code));
-    let query = ordered(alloc, segments, rows, output)?;
-    let listed = least_listed(alloc, segments, rows, true)?;
-    Ok(plain_agrees && found(alloc, &query)? == Some((listed.cost, listed.code)))
+    let join = join_by(query, rule)?;
+    if request.order as usize > props.orders.len() {
+        return None;
+    }
+    let alt = alternative(query, props, join, request, n)?;
+    match alt.node.kind() {
+        Some(NodeKind::Native(_, mode)) => Some(mode),
+        _ => None,
+    }
+}
+
+fn enforced(query: &Query, props: &Props, request: Request, n: u32) -> Option<Enforced>
+    requires { IsProps query.now props.now }
+{
+    enforcer(query, props, query.root(), request, n)
 }
 
 #[test]
-fn the_least_plan_is_that_of_a_full_list(rt: HostRuntime) -> Result<(), Fail> {
-    let alloc = rt.alloc();
-    for segments in [1, 4] {
-        for rows in [0, 1, 1000, 1_000_000_000_000] {
-            for output in [0, 1] {
-                assert!(rt;
-                    agree(alloc, segments, rows, output)?,
-                    "{segments} {rows} {output}"
+fn a_hash_join_with_one_crossing_equality_has_three_modes(rt: HostRuntime) -> Result<(), Fail> {
+    let query = two_tables(rt.alloc(), CmpOp::Eq)?;
+    let props = Props::collect(rt.alloc(), &query)?;
+    for rule in [Rule::JoinToHash, Rule::JoinToMerge] {
+        let join = join_by(&query, rule);
+        assert!(rt; join.is_some());
+        if let Some(join) = join {
+            for mode in 0..256 {
+                assert_eq!(rt;
+                    line_of(&query, &props, join, mode).is_some(),
+                    mode == 0 || mode == 64 || mode == 128
                 );
             }
         }
@@ -302,27 +167,166 @@ fn the_least_plan_is_that_of_a_full_list(rt: HostRuntime) -> Result<(), Fail> {
 }
 
 #[test]
-fn a_plan_is_printed_a_node_a_line(rt: HostRuntime) -> Result<(), Fail> {
-    let alloc = rt.alloc();
-    let query = ordered_by_two(alloc)?;
-    match least_one_table(alloc, &query)? {
-        Found::Least { plan, cost } => {
-            assert_eq!(rt; cost, 5253);
-            let lines = plan_text(alloc, &query, &plan, cost)?;
-            assert_eq!(rt; lines.len(), 5);
-            assert_eq!(rt; lines[0].as_str(), "cost 5253\n");
-            assert_eq!(rt; lines[1].as_str(), "output t.a\n");
-            assert_eq!(rt;
-                lines[2].as_str(),
-                "GatherMerge(t.b DESC, t.a) rows=1000 cost=3001\n"
-            );
-            assert_eq!(rt;
-                lines[3].as_str(),
-                "  Sort(t.b DESC, t.a) rows=1000 cost=2001\n"
-            );
-            assert_eq!(rt; lines[4].as_str(), "    Scan(t) rows=1000 cost=251\n");
-        }
-        Found::NoPlan => assert!(rt; false),
+fn a_join_without_an_equality_has_two_modes(rt: HostRuntime) -> Result<(), Fail> {
+    let query = two_tables(rt.alloc(), CmpOp::Lt)?;
+    let props = Props::collect(rt.alloc(), &query)?;
+    let one = ask(Dist::One, 0);
+    let spread = ask(Dist::Spread, 0);
+    assert!(rt; join_in(&query, &props, Rule::JoinToLoop, one, 0).is_some());
+    assert!(rt; join_in(&query, &props, Rule::JoinToLoop, one, 64).is_none());
+    assert!(rt; join_in(&query, &props, Rule::JoinToLoop, spread, 64).is_some());
+    assert!(rt; join_in(&query, &props, Rule::JoinToLoop, spread, 128).is_none());
+    Ok(())
+}
+
+#[test]
+fn alternatives_are_as_by_hand(rt: HostRuntime) -> Result<(), Fail> {
+    let query = two_tables(rt.alloc(), CmpOp::Eq)?;
+    let props = Props::collect(rt.alloc(), &query)?;
+    let rows = [
+        (Rule::JoinToHash, ask(Dist::One, 0), Some(0), None),
+        (Rule::JoinToHash, ask(Dist::One, 1), None, None),
+        (Rule::JoinToHash, ask(Dist::Spread, 0), Some(64), Some(128)),
+        (
+            Rule::JoinToHash,
+            ask(Dist::Hashed(0), 0),
+            Some(64),
+            Some(128),
+        ),
+        (Rule::JoinToHash, ask(Dist::Hashed(1), 0), None, None),
+        (Rule::JoinToHash, ask(Dist::Copies, 0), None, None),
+        (Rule::JoinToMerge, ask(Dist::One, 1), Some(0), None),
+        (Rule::JoinToMerge, ask(Dist::Spread, 1), Some(64), Some(128)),
+        (Rule::JoinToMerge, ask(Dist::Spread, 2), None, None),
+        (Rule::JoinToLoop, ask(Dist::One, 1), Some(0), None),
+        (Rule::JoinToLoop, ask(Dist::Spread, 2), None, None),
+    ];
+    for (rule, request, first, second) in rows {
+        assert_eq!(rt; mode_at(&query, &props, rule, request, 0), first);
+        assert_eq!(rt; mode_at(&query, &props, rule, request, 1), second);
+        assert_eq!(rt; mode_at(&query, &props, rule, request, 2), None);
     }
     Ok(())
+}
+
+#[test]
+fn joins_ask_as_by_hand(rt: HostRuntime) -> Result<(), Fail> {
+    let query = two_tables(rt.alloc(), CmpOp::Eq)?;
+    let props = Props::collect(rt.alloc(), &query)?;
+    assert_eq!(rt;
+        join_in(&query, &props, Rule::JoinToMerge, ask(Dist::Spread, 1), 128),
+        Some(Alt {
+            node: Node((1 << 56) + (70_594_229_968_898 + (1 << 31)) * 256 + 128),
+            left: Some((Key(0), ask(Dist::Hashed(0), 1))),
+            right: Some((Key(1), ask(Dist::Hashed(1), 2)))
+        })
+    );
+    assert_eq!(rt;
+        join_in(&query, &props, Rule::JoinToLoop, ask(Dist::One, 1), 0),
+        Some(Alt {
+            node: Node((1 << 56) + (70_594_229_968_898 + (2 << 31)) * 256),
+            left: Some((Key(0), ask(Dist::One, 1))),
+            right: Some((Key(1), ask(Dist::One, 0)))
+        })
+    );
+    Ok(())
+}
+
+#[test]
+fn costs_are_those_of_worked_examples(rt: HostRuntime) -> Result<(), Fail> {
+    let query = two_tables(rt.alloc(), CmpOp::Eq)?;
+    let props = Props::collect(rt.alloc(), &query)?;
+    let spread = ask(Dist::Spread, 0);
+    if query.is_key(Key(0)) {
+        let table = query.group(Key(0));
+        let scan = step(&query, Rule::GetToScan, origin(&query, table));
+        assert!(rt; scan.is_some());
+        if let Some(scan) = scan {
+            assert_eq!(rt; native_cost(&query, &props, scan, 0, spread), 251);
+        }
+        assert_eq!(rt;
+            enforcer_cost(&query, NodeKind::Sort(1), table, spread),
+            2001
+        );
+        assert_eq!(rt;
+            enforcer_cost(&query, NodeKind::Broadcast, table, spread),
+            4001
+        );
+        assert_eq!(rt;
+            enforcer_cost(&query, NodeKind::Gather, table, spread),
+            2001
+        );
+        assert_eq!(rt;
+            enforcer_cost(&query, NodeKind::GatherMerge(1), table, spread),
+            3001
+        );
+        assert_eq!(rt;
+            enforcer_cost(&query, NodeKind::Redistribute(0), table, spread),
+            1001
+        );
+    }
+    if let Some(join) = join_by(&query, Rule::JoinToHash) {
+        assert_eq!(rt; native_cost(&query, &props, join, 128, spread), 1001);
+        assert_eq!(rt; native_cost(&query, &props, join, 64, spread), 2501);
+        assert_eq!(rt;
+            native_cost(&query, &props, join, 0, ask(Dist::One, 0)),
+            4001
+        );
+    }
+    Ok(())
+}
+
+#[test]
+fn a_sort_comes_before_a_merge(rt: HostRuntime) -> Result<(), Fail> {
+    let query = two_tables(rt.alloc(), CmpOp::Eq)?;
+    let props = Props::collect(rt.alloc(), &query)?;
+    let rows = [
+        (ask(Dist::One, 1), 0, Some((65, ask(Dist::One, 0)))),
+        (ask(Dist::One, 1), 1, Some((129, ask(Dist::Spread, 1)))),
+        (ask(Dist::One, 1), 2, None),
+        (ask(Dist::One, 0), 0, Some((1, ask(Dist::Spread, 0)))),
+        (ask(Dist::One, 0), 1, None),
+        (ask(Dist::Spread, 0), 0, None),
+        (ask(Dist::Copies, 0), 0, Some((2, ask(Dist::Spread, 0)))),
+        (ask(Dist::Copies, 2), 0, Some((66, ask(Dist::Copies, 0)))),
+        (ask(Dist::Copies, 2), 1, None),
+        (
+            ask(Dist::Hashed(1), 0),
+            0,
+            Some((193, ask(Dist::Spread, 0))),
+        ),
+        (ask(Dist::Hashed(2), 0), 0, None),
+        (ask(Dist::One, 3), 0, None),
+    ];
+    for (request, n, wanted) in rows {
+        let wanted = match wanted {
+            Some((number, below)) => Some(Enforced {
+                node: Node(number),
+                below,
+            }),
+            None => None,
+        };
+        assert_eq!(rt; enforced(&query, &props, request, n), wanted);
+    }
+    Ok(())
+}
+
+#[test]
+fn nodes_are_told_by_their_numbers(rt: HostRuntime) {
+    let kinds = [
+        (1, Some(NodeKind::Gather)),
+        (2, Some(NodeKind::Broadcast)),
+        (65, Some(NodeKind::Sort(1))),
+        (124, Some(NodeKind::Sort(60))),
+        (188, Some(NodeKind::GatherMerge(60))),
+        (192, Some(NodeKind::Redistribute(0))),
+        (251, Some(NodeKind::Redistribute(59))),
+        (64, None),
+        (125, None),
+        (252, None),
+        (1 << 56, None),
+    ];
+    for (number, kind) in kinds {
+        assert_eq!(rt; Node(number).kind(), kind);
+    }
 }

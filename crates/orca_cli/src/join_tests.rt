@@ -1,0 +1,122 @@
+//! What the program prints for queries over several tables.
+use crate::status::Status;
+use crate::tests::{TWO_TABLES, answered, cause, planned};
+use std::alloc::{AllocError, Global};
+use std::test::Fail;
+
+const LARGE_AND_SMALL: &str =
+    r#"{"version":1,"segments":4,"tables":[{"name":"b","rows":100000,"distribution":"random","columns":[{"name":"x","ndv":1000}]},{"name":"s","rows":10,"distribution":"random","columns":[{"name":"y","ndv":10}]}]}"#;
+
+const UNLINKED: &str =
+    r#"{"version":1,"segments":4,"tables":[{"name":"t","rows":100,"distribution":"random","columns":[{"name":"a","ndv":100}]},{"name":"u","rows":10,"distribution":"random","columns":[{"name":"b","ndv":10}]}]}"#;
+
+const VAST: &str =
+    r#"{"version":1,"segments":4,"tables":[{"name":"T1","rows":1000000000000,"distribution":"random","columns":[{"name":"a","ndv":1}]},{"name":"T2","rows":1000000000000,"distribution":"random","columns":[{"name":"b","ndv":1}]}]}"#;
+
+const JOINED: &str =
+    "cost 7506\noutput T1.a\nGatherMerge(T1.a) rows=1000 cost=3001\n  Sort(T1.a) rows=1000 cost=2001\n    HashJoin(colocated p0) rows=1000 cost=1001\n      Scan(T1) rows=1000 cost=251\n      Redistribute(T2.b) rows=1000 cost=1001\n        Scan(T2) rows=1000 cost=251\n";
+
+#[test]
+fn prints_the_least_plan_of_each_join(rt: HostRuntime) -> Result<(), Fail> {
+    for (catalog, query, text) in [
+        (
+            TWO_TABLES,
+            "SELECT T1.a FROM T1, T2 WHERE T1.a = T2.b ORDER BY T1.a",
+            JOINED,
+        ),
+        (
+            TWO_TABLES,
+            "SELECT T1.a FROM T1, T2 WHERE T1.a = T2.a",
+            "cost 3504\noutput T1.a\nGather rows=1000 cost=2001\n  HashJoin(colocated p0) rows=1000 cost=1001\n    Scan(T1) rows=1000 cost=251\n    Scan(T2) rows=1000 cost=251\n",
+        ),
+        (
+            LARGE_AND_SMALL,
+            "SELECT b.x FROM b, s WHERE b.x = s.y",
+            "cost 52318\noutput b.x\nGather rows=1000 cost=2001\n  HashJoin(copied) rows=1000 cost=25271\n    Scan(b) rows=100000 cost=25001\n    Broadcast rows=10 cost=41\n      Scan(s) rows=10 cost=4\n",
+        ),
+        (
+            UNLINKED,
+            "SELECT t.a FROM t, u",
+            "cost 1253\noutput t.a\nLoopJoin(one) rows=1000 cost=1001\n  Gather rows=100 cost=201\n    Scan(t) rows=100 cost=26\n  Gather rows=10 cost=21\n    Scan(u) rows=10 cost=4\n",
+        ),
+        (
+            VAST,
+            "SELECT T1.a FROM T1, T2 WHERE T1.a < T2.b",
+            "cost 1004500000000004\noutput T1.a\nLoopJoin(one) rows=333333333334 cost=1000000000000000\n  Gather rows=1000000000000 cost=2000000000001\n    Scan(T1) rows=1000000000000 cost=250000000001\n  Gather rows=1000000000000 cost=2000000000001\n    Scan(T2) rows=1000000000000 cost=250000000001\n",
+        ),
+    ] {
+        let (status, sink) = planned(&rt, catalog.as_bytes(), query.as_bytes())?;
+        assert_eq!(rt; sink.taken(), text.as_bytes(), "{query}");
+        assert_eq!(rt; status, Status::Planned, "{query}");
+    }
+    Ok(())
+}
+
+#[test]
+fn prints_the_plan_and_the_memo_of_a_join(rt: HostRuntime) -> Result<(), Fail> {
+    let memo =
+        "memo groups=3 members=13\ngroup Get(T1) rows=1000\n  Get(T1)\n  Scan(T1)\ngroup Get(T2) rows=1000\n  Get(T2)\n  Scan(T2)\ngroup Join(T1, T2) rows=1000\n  NJoin(T1, T2)\n  Join(T1 | T2)\n  Join(T2 | T1)\n  HashJoin(T1 | T2)\n  HashJoin(T2 | T1)\n  MergeJoin(T1 | T2)\n  MergeJoin(T2 | T1)\n  LoopJoin(T1 | T2)\n  LoopJoin(T2 | T1)\n";
+    let query = "SELECT T1.a FROM T1, T2 WHERE T1.a = T2.b ORDER BY T1.a";
+    let words = ["plan", "c.json", "q.sql", "--memo"];
+    let (status, sink) = answered(&rt, &words, TWO_TABLES.as_bytes(), query.as_bytes())?;
+    let mut text = String::from_str(rt.alloc(), JOINED)?;
+    text.push_str(memo)?;
+    assert_eq!(rt; sink.taken(), text.as_bytes());
+    assert_eq!(rt; status, Status::Planned);
+    Ok(())
+}
+
+// Two tables of ten rows with 30 columns each, of which the first may be hashed on two.
+fn wide_catalog(alloc: Global, distribution: &str) -> Result<String, AllocError> {
+    let mut text = String::from_str(alloc, r#"{"version":1,"segments":4,"tables":["#)?;
+    push_wide_table(&mut text, alloc, "a", distribution)?;
+    text.push_str(",")?;
+    push_wide_table(&mut text, alloc, "b", r#""random""#)?;
+    text.push_str("]}")?;
+    Ok(text)
+}
+
+fn push_wide_table(
+    text: &mut String,
+    alloc: Global,
+    name: &str,
+    distribution: &str,
+) -> Result<(), AllocError> {
+    let front = format!(in alloc;
+        "{{\"name\":\"{name}\",\"rows\":10,\"distribution\":{distribution},\"columns\":["
+    )?;
+    text.push_str(&front)?;
+    for column in 0..30 {
+        if column > 0 {
+            text.push_str(",")?;
+        }
+        text.push_str(&format!(in alloc; "{{\"name\":\"c{column}\",\"ndv\":10}}")?)?;
+    }
+    text.push_str("]}")
+}
+
+// `SELECT a.c0 FROM a, b WHERE a.c0 = b.c0 AND ..` over all 30 columns
+fn wide_query(alloc: Global, end: &str) -> Result<String, AllocError> {
+    let mut text = String::from_str(alloc, "SELECT a.c0 FROM a, b WHERE a.c0 = b.c0")?;
+    for column in 1..30 {
+        text.push_str(&format!(in alloc; " AND a.c{column} = b.c{column}")?)?;
+    }
+    text.push_str(end)?;
+    Ok(text)
+}
+
+#[test]
+fn a_query_has_at_most_60_hashed_lists_and_orders(rt: HostRuntime) -> Result<(), Fail> {
+    let alloc = rt.alloc();
+    for (distribution, end, told) in [
+        (r#"["c0","c1"]"#, "", "too many hashed lists: 61"),
+        (r#""random""#, " ORDER BY a.c0, a.c1", "too many orders: 61"),
+    ] {
+        let catalog = wide_catalog(alloc, distribution)?;
+        let query = wide_query(alloc, end)?;
+        let (status, line) = cause(&rt, "query refused: ", catalog.as_bytes(), query.as_bytes())?;
+        assert_eq!(rt; line.as_str(), told);
+        assert_eq!(rt; status, Status::QueryRefused);
+    }
+    Ok(())
+}

@@ -1,9 +1,0 @@
-pub mod Groups
-pub mod Orders
-pub mod Properties
-pub mod Nodes
-pub mod Gives
-pub mod Valid
-pub mod Cost
-pub mod Least
-pub mod Text

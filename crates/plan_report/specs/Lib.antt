@@ -1,0 +1,5 @@
+pub mod Text
+pub mod Sights
+pub mod Costs
+pub mod Lines
+pub mod Found

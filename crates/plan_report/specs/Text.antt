@@ -1,0 +1,210 @@
+-- The lines in which a plan is printed.
+use Rattle.std.specs.Option.{option_map_or}
+use Rattle.std.specs.Prelude.{ℕ, zero, suc, ◌-◌, ◌/◌, ◌%◌, List, [], ◌∷◌, ◌++◌, flat_map, length, Option, None, Some, codes, decimal, if◌then◌else◌, ◌==◌, nat_lt, slice_get}
+use Rattle.query_core.specs.declared.query.Query.{Query}
+use Rattle.query_core.specs.declared.table.Item.{Item}
+use Rattle.query_core.specs.declared.aggregate.Agg.{Agg}
+use Rattle.query_core.specs.declared.aggregate.AggFunc.{AggFunc}
+use Rattle.query_core.specs.declared.aggregate.AggFunc.TheVariants as functions
+use Rattle.query_core.specs.declared.output.OutItem.{OutItem}
+use Rattle.query_core.specs.declared.expressions.Operator.{Operator}
+use Rattle.query_core.specs.declared.expressions.Operator.TheVariants as operators
+use Rattle.query_core.specs.declared.expressions.ExprParts.{ExprParts}
+use Rattle.cardinality.specs.Rows.{rows_of}
+use Rattle.request_props.specs.Numbered.{order_of}
+use Rattle.cost_units.specs.Cost.{local_cost}
+use Rattle.plan_space.specs.Numbers.{list_of}
+use Rattle.plan_space.specs.Nodes.{Kind, native, gather, broadcast, sort, gather_merge, redistribute, Tree, leaf, over, two}
+use Rattle.plan_space.specs.Lines.{table_in}
+use Rattle.plan_space.specs.Gives.{Kid, node_group, kid_of}
+use Rattle.plan_space.specs.Cost.{shape_of, cost_of}
+
+-- ---- columns and aggregates
+
+-- the alias of the table at this place
+abbrev pub table_text : Query → ℕ → List ℕ
+table_text q table = option_map_or (λ t. t.alias) (slice_get q.tables table) []
+
+-- a column: its table's alias, a point and its name
+abbrev pub item_text : Query → Item → List ℕ
+item_text q item = table_text q item.table ++ codes "." ++ item.name
+
+-- the column of this number
+abbrev pub column_text : Query → ℕ → List ℕ
+column_text q number = option_map_or (item_text q) (slice_get q.items number) []
+
+-- what an aggregate computes
+abbrev pub function_text : AggFunc → List ℕ
+function_text functions.CountAll = codes "COUNT"
+function_text functions.Count = codes "COUNT"
+function_text functions.Sum = codes "SUM"
+function_text functions.Min = codes "MIN"
+function_text functions.Max = codes "MAX"
+
+-- the column that an aggregate goes over, or a star where it goes over none
+abbrev pub argument_text : Query → Option ℕ → List ℕ
+argument_text q None = codes "*"
+argument_text q (Some number) = column_text q number
+
+abbrev pub aggregate_text : Query → Agg → List ℕ
+aggregate_text q agg = function_text agg.func ++ codes "(" ++ argument_text q agg.arg ++ codes ")"
+
+-- the aggregate at this place
+abbrev pub aggregate_text_at : Query → ℕ → List ℕ
+aggregate_text_at q place = option_map_or (aggregate_text q) (slice_get q.aggs place) []
+
+-- a name, where there is one
+abbrev pub name_text : Option (List ℕ) → List ℕ
+name_text None = []
+name_text (Some name) = name
+
+-- the output name of the aggregate at this place
+abbrev pub aggregate_name_at : Query → ℕ → List ℕ
+aggregate_name_at q place = option_map_or (λ agg. name_text agg.name) (slice_get q.aggs place) []
+
+-- the column of this number, or the aggregate; aggregates are numbered after the columns
+abbrev pub computed_text : Query → ℕ → List ℕ
+computed_text q number = option_map_or (item_text q) (slice_get q.items number) (aggregate_text_at q (number - length q.items))
+
+-- the column of this number, or the aggregate's output name
+abbrev pub sorted_text : Query → ℕ → List ℕ
+sorted_text q number = option_map_or (item_text q) (slice_get q.items number) (aggregate_name_at q (number - length q.items))
+
+-- ---- orders and hashed lists
+
+-- an order's element: the column, and DESC where it descends
+abbrev pub element_text : Query → ℕ → List ℕ
+element_text q element = sorted_text q (element / 2) ++ (if element % 2 == 0 then [] else codes " DESC")
+
+-- the elements that are not the first, each with a comma and a space in front
+abbrev pub other_elements_text : Query → List ℕ → List ℕ
+other_elements_text q order = flat_map (λ element. codes ", " ++ element_text q element) order
+
+-- an order: its elements with a comma and a space between each two
+abbrev pub order_text : Query → List ℕ → List ℕ
+order_text q [] = []
+order_text q (first ∷ others) = element_text q first ++ other_elements_text q others
+
+-- the columns that are not the first, each with a comma and a space in front
+abbrev pub other_columns_text : Query → List ℕ → List ℕ
+other_columns_text q columns = flat_map (λ column. codes ", " ++ column_text q column) columns
+
+-- a hashed list: its columns with a comma and a space between each two
+abbrev pub list_text : Query → List ℕ → List ℕ
+list_text q [] = []
+list_text q (first ∷ others) = column_text q first ++ other_columns_text q others
+
+-- ---- nodes
+
+-- how a hash join works: on one segment, with copies of the right side, or on rows hashed alike by the equality of this number
+abbrev pub hash_mode_text : ℕ → List ℕ
+hash_mode_text mode =
+    if nat_lt mode 64 then codes "one"
+    else if nat_lt mode 128 then codes "copied"
+    else codes "colocated p" ++ decimal (mode - 128)
+
+-- how a merge join works, each time by the equality of this number
+abbrev pub merge_mode_text : ℕ → List ℕ
+merge_mode_text mode =
+    if nat_lt mode 64 then codes "one p" ++ decimal mode
+    else if nat_lt mode 128 then codes "copied p" ++ decimal (mode - 64)
+    else codes "colocated p" ++ decimal (mode - 128)
+
+-- how a loop join works
+abbrev pub loop_mode_text : ℕ → List ℕ
+loop_mode_text mode = if nat_lt mode 64 then codes "one" else codes "copied"
+
+-- a table, and the number of its index
+abbrev pub index_text : Query → ℕ → ℕ → List ℕ
+index_text q table index = table_text q table ++ codes ", i" ++ decimal index
+
+-- an operator that makes the rows of the table, in a mode; a logical one is no node
+abbrev pub operator_text : Query → Operator → ℕ → ℕ → List ℕ
+operator_text q operators.Get table mode = []
+operator_text q operators.Scan table mode = codes "Scan(" ++ table_text q table ++ codes ")"
+operator_text q (operators.IndexScan index) table mode = codes "IndexScan(" ++ index_text q table index ++ codes ")"
+operator_text q operators.Select table mode = []
+operator_text q operators.Filter table mode = codes "Filter(" ++ table_text q table ++ codes ")"
+operator_text q (operators.IndexSeek index) table mode = codes "IndexSeek(" ++ index_text q table index ++ codes ")"
+operator_text q operators.NJoin table mode = []
+operator_text q operators.Join table mode = []
+operator_text q operators.HashJoin table mode = codes "HashJoin(" ++ hash_mode_text mode ++ codes ")"
+operator_text q operators.MergeJoin table mode = codes "MergeJoin(" ++ merge_mode_text mode ++ codes ")"
+operator_text q operators.LoopJoin table mode = codes "LoopJoin(" ++ loop_mode_text mode ++ codes ")"
+operator_text q operators.Agg table mode = []
+operator_text q operators.HashAgg table mode = codes "HashAgg"
+operator_text q operators.StreamAgg table mode = codes "StreamAgg"
+operator_text q operators.Partial table mode = []
+operator_text q operators.PartialAgg table mode = codes "PartialAgg"
+
+-- a physical expression in a mode
+abbrev pub native_text : Query → ExprParts → ℕ → List ℕ
+native_text q e mode = operator_text q e.operator (table_in e.group) mode
+
+-- a node, with its order or its hashed list
+abbrev pub node_text : Query → Kind → List ℕ
+node_text q (native e mode) = native_text q e mode
+node_text q gather = codes "Gather"
+node_text q broadcast = codes "Broadcast"
+node_text q (sort order) = codes "Sort(" ++ order_text q (order_of q order) ++ codes ")"
+node_text q (gather_merge order) = codes "GatherMerge(" ++ order_text q (order_of q order) ++ codes ")"
+node_text q (redistribute list) = codes "Redistribute(" ++ list_text q (list_of q list) ++ codes ")"
+
+-- ---- lines
+
+-- two spaces for each level
+abbrev pub indent : ℕ → List ℕ
+indent zero = []
+indent (suc depth) = indent depth ++ codes "  "
+
+-- a name behind its spaces, with the rows and the cost
+abbrev pub numbered : List ℕ → List ℕ → ℕ → ℕ → List ℕ
+numbered spaces name rows cost =
+    spaces ++ name ++ codes " rows=" ++ decimal rows ++ codes " cost=" ++ decimal cost ++ codes "\n"
+
+-- the line of a node at this depth: the node, its group's rows and its own cost
+abbrev pub node_line : Query → ℕ → Kind → List Kid → List ℕ
+node_line q depth node kids =
+    numbered (indent depth) (node_text q node) (rows_of q (node_group node kids)) (local_cost (shape_of q node kids))
+
+-- the lines of a plan whose root stands at this depth, each node before those below it
+abbrev pub plan_lines : Query → ℕ → Tree → List (List ℕ)
+plan_lines q depth (leaf node) = node_line q depth node [] ∷ []
+plan_lines q depth (over node kid) = node_line q depth node (kid_of q kid ∷ []) ∷ plan_lines q (suc depth) kid
+plan_lines q depth (two node left right) =
+    node_line q depth node (kid_of q left ∷ kid_of q right ∷ [])
+    ∷ (plan_lines q (suc depth) left ++ plan_lines q (suc depth) right)
+
+-- ---- the whole text
+
+-- the output name that an item is given
+abbrev pub given_name : Option (List ℕ) → List ℕ
+given_name None = []
+given_name (Some name) = codes " AS " ++ name
+
+-- an item of the output, with its output name
+abbrev pub output_item_text : Query → OutItem → List ℕ
+output_item_text q out = computed_text q out.item ++ given_name out.name
+
+-- the items of the output that are not the first, each with a comma and a space in front
+abbrev pub other_outputs_text : Query → List OutItem → List ℕ
+other_outputs_text q output = flat_map (λ out. codes ", " ++ output_item_text q out) output
+
+-- the items of the output with a comma and a space between each two
+abbrev pub outputs_text : Query → List OutItem → List ℕ
+outputs_text q [] = []
+outputs_text q (first ∷ others) = output_item_text q first ++ other_outputs_text q others
+
+abbrev pub output_line : Query → List ℕ
+output_line q = codes "output " ++ outputs_text q q.output ++ codes "\n"
+
+abbrev pub cost_line : ℕ → List ℕ
+cost_line cost = codes "cost " ++ decimal cost ++ codes "\n"
+
+-- the lines of a plan's text: its cost, the query's output, and the lines of the plan
+abbrev pub plan_section : Query → Tree → List (List ℕ)
+plan_section q tree = cost_line (cost_of q tree) ∷ output_line q ∷ plan_lines q 0 tree
+
+-- the text where there is no plan
+abbrev pub no_plan_section : List (List ℕ)
+no_plan_section = codes "no plan\n" ∷ []

@@ -1,0 +1,124 @@
+//! The lines of a plan's nodes.
+#![tactic(auto)]
+
+ghost use Rattle.std.specs.Prelude.{◌≡◌, IfOk, OnOk, string_bytes};
+ghost use Rattle.request_props.specs.Numbered.{IsProps};
+ghost use Rattle.plan_tree.specs.Nodes.{kind_of, IsInRange};
+ghost use Rattle.plan_report.specs.Text as texts;
+ghost use Rattle.plan_report.specs.Lines.{AddsPlan, AddsNode, IsNodeLine, IsKindLine};
+
+use crate::below::{below_none, below_one, below_two, kind_above, sight};
+use crate::cost::node_cost;
+use crate::node_text::node_text;
+use crate::sight::Below;
+use plan_tree::{Node, NodeKind, Plan};
+use query_core::Query;
+use request_props::Props;
+use std::alloc::{AllocError, Global};
+
+/// Adds the lines of a plan, each with its newline: what the node is, its group's rows and its own cost.
+/// A node stands before those below it, with two more spaces in front of these.
+pub fn push_plan(
+    alloc: Global,
+    query: &Query,
+    props: &Props,
+    indent: &str,
+    plan: &Plan,
+    lines: &mut Vec<String>,
+) -> Result<(), AllocError>
+    requires { IsProps query.now props.now }
+    ensures { OnOk result
+        (AddsPlan query.now indent.now plan.now lines.old.items lines.new.items) }
+{
+    match plan {
+        Plan::Leaf(node) => {
+            push_node(alloc, query, props, indent, *node, below_none(query), lines)
+        }
+        Plan::Over(node, kid) => {
+            let below = below_one(query, sight(query, props, kid));
+            push_node(alloc, query, props, indent, *node, below, lines)?;
+            let deeper = format!(in alloc; "{indent}  ")?;
+            push_plan(alloc, query, props, &deeper, kid, lines)?;
+            Ok(())
+        }
+        Plan::Two(node, left, right) => {
+            let first = sight(query, props, left);
+            let second = sight(query, props, right);
+            let below = below_two(query, first, second);
+            push_node(alloc, query, props, indent, *node, below, lines)?;
+            let deeper = format!(in alloc; "{indent}  ")?;
+            push_plan(alloc, query, props, &deeper, left, lines)?;
+            push_plan(alloc, query, props, &deeper, right, lines)?;
+            Ok(())
+        }
+    }
+}
+
+fn push_node(
+    alloc: Global,
+    query: &Query,
+    props: &Props,
+    indent: &str,
+    node: Node,
+    below: Below,
+    lines: &mut Vec<String>,
+) -> Result<(), AllocError>
+    requires { IsProps query.now props.now }
+    ensures { OnOk result
+        (AddsNode query.now indent.now node below lines.old.items lines.new.items) }
+{
+    let line = node_line(alloc, query, props, indent, node, below)?;
+    lines.push(line)?;
+    Ok(())
+}
+
+// The line of a node; nothing for a number that no node has.
+fn node_line(
+    alloc: Global,
+    query: &Query,
+    props: &Props,
+    indent: &str,
+    node: Node,
+    below: Below,
+) -> Result<String, AllocError>
+    requires { IsProps query.now props.now }
+    ensures { IfOk result (λ line. IsNodeLine query.now indent.now node below (string_bytes line)) }
+{
+    match node.kind() {
+        Some(kind) => kind_line(alloc, query, props, indent, kind, below),
+        None => Ok(String::new(alloc)),
+    }
+}
+
+fn kind_line(
+    alloc: Global,
+    query: &Query,
+    props: &Props,
+    indent: &str,
+    kind: NodeKind,
+    below: Below,
+) -> Result<String, AllocError>
+    requires props { IsProps query.now props.now }
+    requires in_range { IsInRange (kind_of kind) }
+    ensures { IfOk result (λ line.
+        IsKindLine query.now indent.now (kind_of kind) below (string_bytes line)) }
+{
+    let name = node_text(alloc, query, props, kind)?;
+    let above = kind_above(query, props, kind, below);
+    let cost = node_cost(query, kind, below, above);
+    Ok(numbered(alloc, indent, &name, above.rows, cost)?)
+}
+
+// A name behind its indent, with its two numbers.
+fn numbered(
+    alloc: Global,
+    indent: &str,
+    name: &str,
+    rows: u64,
+    cost: u64,
+) -> Result<String, AllocError>
+    ensures { IfOk result (λ line.
+        string_bytes line ≡ texts.numbered indent.now name.now rows cost) }
+{
+    Ok(format!(in alloc; "{indent}{name} rows={rows} cost={cost}\n")?)
+}

@@ -1,0 +1,178 @@
+-- How groups and requests stand in order, and how many nodes plans have.
+use Rattle.std.proofs.Common.{◌≡◌, ℕ, zero, suc, ◌<◌, ◌≤◌, ◌+◌, ◌*◌, ◌-◌, Bool, true, false, refl, subst, sym, ◌∙◌, ap, inl, inr, arith, rules}
+use Rattle.std.specs.Prelude.{◌^◌, List, [], ◌∷◌, length, Option, None, Some, bit_or, bit_and, cond, nat_eq}
+use Rattle.std.specs.Option.{option_map_or}
+use Rattle.std.specs.Int.{trailing_zeros, w32}
+use Rattle.std.specs.Int.Bits.{or_add_and}
+use Rattle.std.proofs.lemmas.Nat.{trailing_le}
+use Rattle.std.proofs.lemmas.Bool.{cases_Bool, eqb-true}
+use Rattle.query_core.specs.Sets.{only_of}
+use Rattle.query_core.specs.Keys.{key_number, has_own, alone, top_of, IsInRange, IsGroup}
+use Rattle.query_core.specs.Expressions.{FallsInto, HasShape, IsFiltered, IsJoin}
+use Rattle.query_core.specs.declared.query.Query.{Query}
+use Rattle.query_core.specs.declared.words.KeyParts.{KeyParts}
+use Rattle.query_core.specs.declared.words.KeyParts.TheVariants as groups
+use Rattle.query_core.specs.declared.expressions.Operator.{Operator}
+use Rattle.query_core.specs.declared.expressions.Operator.TheVariants as operators
+use Rattle.query_core.specs.declared.expressions.Children.{Children}
+use Rattle.query_core.specs.declared.expressions.Children.TheVariants.{Zero, One, Two}
+use Rattle.request_props.specs.Numbered.{lists_of, orders_of, IsProps, IsNumbered}
+use Rattle.request_props.specs.declared.props.Props.{Props}
+use Rattle.request_props.specs.declared.request.Dist.{Dist}
+use Rattle.request_props.specs.declared.request.Dist.TheVariants as dists
+use Rattle.request_props.specs.declared.request.Request.{Request}
+use Rattle.plan_space.specs.Numbers.{Fits, DistFits}
+use Rattle.plan_space.specs.Lines.{Line, kid_line, pair_line}
+use Rattle.plan_search.specs.Places.{dist_place, request_place, dist_nodes, order_nodes, group_nodes, most_nodes}
+
+-- only a filter has a line over one child, which is its table
+pub one_shape : (q : Query) (group child : KeyParts) (operator : Operator) (mode : ℕ) (line : Line) → HasShape q operator group (One child)
+    → kid_line operator mode ≡ Some line → IsFiltered group (One child)
+one_shape q group child operators.Get mode line shape is = cc
+one_shape q group child operators.Scan mode line shape is = cc
+one_shape q group child (operators.IndexScan index) mode line shape is = cc
+one_shape q group child operators.Select mode line shape is = cc
+one_shape q group child operators.Filter mode line shape is = shape
+one_shape q group child (operators.IndexSeek index) mode line shape is = cc
+one_shape q group child operators.NJoin mode line shape is = cc
+one_shape q group child operators.Join mode line shape is = cc
+one_shape q group child operators.HashJoin mode line shape is = cc
+one_shape q group child operators.MergeJoin mode line shape is = cc
+one_shape q group child operators.LoopJoin mode line shape is = cc
+one_shape q group child operators.Agg mode line shape is = cc
+one_shape q group child operators.HashAgg mode line shape is = cc
+one_shape q group child operators.StreamAgg mode line shape is = cc
+one_shape q group child operators.Partial mode line shape is = cc
+one_shape q group child operators.PartialAgg mode line shape is = cc
+
+-- only joins have a line over two children
+pub two_shape : (q : Query) (group left right : KeyParts) (operator : Operator) (mode : ℕ) (line : Line) → HasShape q operator group (Two left right)
+    → pair_line q operator left right mode ≡ Some line → IsJoin q group (Two left right)
+two_shape q group left right operators.Get mode line shape is = cc
+two_shape q group left right operators.Scan mode line shape is = cc
+two_shape q group left right (operators.IndexScan index) mode line shape is = cc
+two_shape q group left right operators.Select mode line shape is = cc
+two_shape q group left right operators.Filter mode line shape is = cc
+two_shape q group left right (operators.IndexSeek index) mode line shape is = cc
+two_shape q group left right operators.NJoin mode line shape is = cc
+two_shape q group left right operators.Join mode line shape is = cc
+two_shape q group left right operators.HashJoin mode line shape is = shape
+two_shape q group left right operators.MergeJoin mode line shape is = shape
+two_shape q group left right operators.LoopJoin mode line shape is = shape
+two_shape q group left right operators.Agg mode line shape is = cc
+two_shape q group left right operators.HashAgg mode line shape is = cc
+two_shape q group left right operators.StreamAgg mode line shape is = cc
+two_shape q group left right operators.Partial mode line shape is = cc
+two_shape q group left right operators.PartialAgg mode line shape is = cc
+
+-- a table's group, with or without its own predicates
+alone_nodes : (q : Query) (t : ℕ) → group_nodes (alone q t) ≤ 8
+alone_nodes q t = elim (cases_Bool (has_own q t)) [
+  | inl is ↦ subst (λ b. group_nodes (cond b (groups.Filter t) (groups.Get t)) ≤ 8) (sym is) (omega arith)
+  | inr is ↦ subst (λ b. group_nodes (cond b (groups.Filter t) (groups.Get t)) ≤ 8) (sym is) (omega arith)
+]
+
+-- a set's group has few nodes
+pub top_nodes : (q : Query) (a : ℕ) → 0 < a → group_nodes (top_of q a) ≤ 1 + (16 * a - 8)
+top_nodes q a some =
+    let t = trailing_zeros w32 a in
+    elim (cases_Bool (nat_eq a (2 ^ t))) [
+      | inl is ↦ subst (λ b. group_nodes (option_map_or (alone q) (cond b (Some t) None) (groups.Join a)) ≤ 1 + (16 * a - 8)) (sym is) (omega (arith, some, alone_nodes q t))
+      | inr is ↦ subst (λ b. group_nodes (option_map_or (alone q) (cond b (Some t) None) (groups.Join a)) ≤ 1 + (16 * a - 8)) (sym is) (omega arith)
+    ]
+
+alone_key : (q : Query) (t : ℕ) → t ≤ 32 → key_number (alone q t) ≤ 48
+alone_key q t small = elim (cases_Bool (has_own q t)) [
+  | inl is ↦ subst (λ b. key_number (cond b (groups.Filter t) (groups.Get t)) ≤ 48) (sym is) (omega (arith, small))
+  | inr is ↦ subst (λ b. key_number (cond b (groups.Filter t) (groups.Get t)) ≤ 48) (sym is) (omega (arith, small))
+]
+
+-- the group of a lesser set has a lesser key than the join of a greater one
+pub top_key : (q : Query) (a set : ℕ) → a < set → key_number (top_of q a) < 1024 + set
+top_key q a set less =
+    let t = trailing_zeros w32 a in
+    elim (cases_Bool (nat_eq a (2 ^ t))) [
+      | inl is ↦ subst (λ b. key_number (option_map_or (alone q) (cond b (Some t) None) (groups.Join a)) < 1024 + set) (sym is) (omega (arith, alone_key q t (trailing_le 32 a)))
+      | inr is ↦ subst (λ b. key_number (option_map_or (alone q) (cond b (Some t) None) (groups.Join a)) < 1024 + set) (sym is) (omega (arith, less))
+    ]
+
+-- two disjoint sets that are a third together are as many as it, as numbers
+pub parts_add : (a b set : ℕ) → bit_or a b ≡ set → bit_and a b ≡ 0 → a + b ≡ set
+parts_add a b set whole disjoint = let add = or_add_and a b in omega (arith, add, whole, disjoint)
+
+-- a request's place among those of its group
+pub request_small : (q : Query) (group : KeyParts) (props : Props) (wanted : Request) → IsProps q props → Fits q group wanted → request_place wanted < 4096
+request_small q group props wanted is fits =
+    let dist : dist_place wanted.dist ≤ 62 = dist_small wanted.dist fits.dist in
+    omega (arith, dist, fits.numbered, is.few_orders)
+  where
+    dist_small : (d : Dist) → DistFits q group d → dist_place d ≤ 62
+    dist_small dists.One fits = omega arith
+    dist_small dists.Spread fits = omega arith
+    dist_small dists.Copies fits = omega arith
+    dist_small (dists.Hashed list) fits = omega (arith, fits.numbered, is.few_lists)
+
+order_few : (order : ℕ) → order_nodes order ≤ 1
+order_few zero = omega arith
+order_few (suc order) = omega arith
+
+dist_few : (dist : Dist) → dist_nodes dist ≤ 1
+dist_few dists.One = omega arith
+dist_few dists.Spread = omega arith
+dist_few dists.Copies = omega arith
+dist_few (dists.Hashed list) = omega arith
+
+-- a request wants two enforcers at most
+pub most_nodes_few : (group : KeyParts) (wanted : Request) → most_nodes group wanted ≤ group_nodes group + 2
+most_nodes_few group wanted = omega (arith, order_few wanted.order, dist_few wanted.dist)
+
+-- a node over its table's plan
+pub filter_nodes : (group child : KeyParts) (wanted below : Request) → IsFiltered group (One child) → (1 + most_nodes child below ≤ most_nodes group wanted) × (key_number child < key_number group)
+filter_nodes group child wanted below shape =
+    let t = shape.0 in
+    let same : child ≡ groups.Get t = child_is child (groups.Get t) shape.2 in
+    subst (λ g. (1 + most_nodes child below ≤ most_nodes g wanted) × (key_number child < key_number g)) (sym shape.1)
+    (subst (λ c. (1 + most_nodes c below ≤ most_nodes (groups.Filter t) wanted) × (key_number c < key_number (groups.Filter t))) (sym same)
+    (omega (arith, most_nodes_few (groups.Get t) below), omega arith))
+  where
+    child_is : (c d : KeyParts) → One c ≡ One d → c ≡ d
+    child_is c d same = cc
+
+-- a node over the plans of the two sides
+pub join_nodes : (q : Query) (group left right : KeyParts) (wanted one two : Request) → IsJoin q group (Two left right)
+    → (1 + most_nodes left one + most_nodes right two ≤ most_nodes group wanted) × ((key_number left < key_number group) × (key_number right < key_number group))
+join_nodes q group left right wanted one two (set, a, b, is, falls, sides) =
+    let add = parts_add a b set falls.whole falls.disjoint in
+    let first : left ≡ top_of q a = left_is left right (top_of q a) (top_of q b) sides in
+    let second : right ≡ top_of q b = right_is left right (top_of q a) (top_of q b) sides in
+    subst (λ g. (1 + most_nodes left one + most_nodes right two ≤ most_nodes g wanted) × ((key_number left < key_number g) × (key_number right < key_number g))) (sym is)
+    (subst (λ l. (1 + most_nodes l one + most_nodes right two ≤ most_nodes (groups.Join set) wanted) × ((key_number l < 1024 + set) × (key_number right < 1024 + set))) (sym first)
+    (subst (λ r. (1 + most_nodes (top_of q a) one + most_nodes r two ≤ most_nodes (groups.Join set) wanted) × ((key_number (top_of q a) < 1024 + set) × (key_number r < 1024 + set))) (sym second) (
+      omega (arith, add, falls.some_left, falls.some_right, most_nodes_few (top_of q a) one, most_nodes_few (top_of q b) two, top_nodes q a falls.some_left, top_nodes q b falls.some_right),
+      (top_key q a set (omega (arith, add, falls.some_right)), top_key q b set (omega (arith, add, falls.some_left))),
+    )))
+  where
+    left_is : (c d e f : KeyParts) → Two c d ≡ Two e f → c ≡ e
+    left_is c d e f same = cc
+
+    right_is : (c d e f : KeyParts) → Two c d ≡ Two e f → d ≡ f
+    right_is c d e f same = cc
+
+-- each plan may have a node
+pub some_nodes : (group : KeyParts) (wanted : Request) → 1 ≤ most_nodes group wanted
+some_nodes (groups.Get t) wanted = omega arith
+some_nodes (groups.Filter t) wanted = omega arith
+some_nodes (groups.Join set) wanted = omega arith
+some_nodes groups.Partial wanted = omega arith
+some_nodes groups.Agg wanted = omega arith
+
+-- no plan has more nodes than this
+pub all_nodes : (group : KeyParts) (wanted : Request) → IsInRange group → most_nodes group wanted ≤ 16384
+all_nodes group wanted range = omega (arith, most_nodes_few group wanted, few group range)
+  where
+    few : (g : KeyParts) → IsInRange g → group_nodes g ≤ 16368
+    few (groups.Get t) range = omega arith
+    few (groups.Filter t) range = omega arith
+    few (groups.Join set) range = omega (arith, range)
+    few groups.Partial range = omega arith
+    few groups.Agg range = omega arith

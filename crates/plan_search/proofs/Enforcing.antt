@@ -1,0 +1,269 @@
+-- What enforcers ask for, and the choices that they make.
+use Rattle.std.proofs.Common.{◌≡◌, ℕ, zero, suc, ◌<◌, ◌≤◌, ◌+◌, ◌*◌, refl, subst, sym, ◌∙◌, ap, inl, inr, ◌⊎◌, arith}
+use Rattle.std.specs.Option.{option_map_or}
+use Rattle.std.specs.Prelude.{◌^◌, List, [], ◌∷◌, length, slice_get, Option, None, Some, MatchOption, ⊤}
+use Rattle.query_core.specs.Keys.{IsGroup, IsInRange}
+use Rattle.query_core.specs.declared.query.Query.{Query}
+use Rattle.query_core.specs.declared.words.KeyParts.{KeyParts}
+use Rattle.query_core.specs.declared.expressions.ExprParts.{ExprParts}
+use Rattle.xform_rules.specs.Closure.{IsMember}
+use Rattle.cost_units.specs.Cost.{most_cost, local_cost}
+use Rattle.request_props.specs.Numbered.{IsProps}
+use Rattle.request_props.specs.declared.props.Props.{Props}
+use Rattle.request_props.specs.declared.request.Dist.{Dist}
+use Rattle.request_props.specs.declared.request.Dist.TheVariants.{One, Spread, Copies, Hashed}
+use Rattle.request_props.specs.declared.request.Request.{Request}
+use Rattle.plan_space.specs.Numbers.{OrderLiesIn, DistFits, Fits}
+use Rattle.plan_space.specs.Nodes.{Kind, native, sort, number_of, Tree, over}
+use Rattle.plan_space.specs.Lines.{request}
+use Rattle.plan_space.specs.Gives.{kid_of}
+use Rattle.plan_space.specs.Cost.{cost_of, shape_of}
+use Rattle.plan_space.specs.Least.{HasNoPlan}
+use Rattle.plan_space.specs.Enforcers.{EnforcedBy, enforced, enforcers_by, enforcers_of, Among}
+use Rattle.plan_space.specs.Choices.{Beats, IsEnforcerSettled, IsChoice, enforced_choice}
+use Rattle.plan_space.specs.Laws.{ChoicesServe}
+use Rattle.plan_tree.specs.declared.node.Node.{Node}
+use Rattle.plan_tree.specs.Nodes as kinds
+use Rattle.plan_tree.specs.Costs.{IsCostAmong}
+use Rattle.plan_tree.specs.Enforcers.{IsEnforced}
+use Rattle.plan_tree.specs.declared.enforcers.Enforced.{Enforced}
+use Rattle.plan_search.specs.declared.answers.Answers.{Answers}
+use Rattle.plan_search.specs.declared.choice.Choice.{Choice}
+use Rattle.plan_search.specs.Places.{place_of, place_at, most_nodes, most_of_all}
+use Rattle.plan_search.specs.Search.{IsAnswered, AreAnswered, IsBuilt, IsChosen, kept_at, cost_at, IsOver, cheaper_of, Goes, IsPlaceSettled, AreEnforcersSettled, enforcer_number}
+use Rattle.plan_search.proofs.Bounds.{all_nodes}
+use Rattle.plan_search.proofs.Kids.{none_case, some_case, cost_small}
+use Rattle.plan_search.proofs.Scanning.{IsOrder, IsStable, goes_on, goes_as, goes_to, goes_from, goes_not, goes_by_one, enforcer_stable}
+
+-- what an enforcer for the request asks for fits the group, comes before it, and has a node less
+pub record IsBelow (q : Query) (group : KeyParts) (wanted : Request) (e : EnforcedBy) : Type 0 where
+  pub place : place_of group e.below < place_of group wanted
+  pub nodes : 1 + most_nodes group e.below ≤ most_nodes group wanted
+  pub fits : Fits q group e.below
+  pub in_range : kinds.IsInRange e.node
+  pub small : number_of e.node < 2 ^ 56
+
+empty_lies : (q : Query) (group : KeyParts) → OrderLiesIn q group []
+empty_lies q group k d below = absurd (omega (arith, below))
+
+module _ (q : Query) (props : Props) (is_props : IsProps q props) (group : KeyParts) where
+  -- a sort, over the same distribution in no order
+  sort_below : (dist : Dist) (o : ℕ) (e : EnforcedBy) → Fits q group (request dist (suc o)) → e ≡ enforced (sort (suc o)) (request dist 0) → IsBelow q group (request dist (suc o)) e
+  sort_below dist o e fits is = subst (IsBelow q group (request dist (suc o))) (sym is) (record {
+    place = omega arith;
+    nodes = omega arith;
+    fits = record { dist = fits.dist; numbered = omega arith; order = empty_lies q group };
+    in_range = record { some = omega arith; few = omega (arith, fits.numbered, is_props.few_orders) };
+    small = omega (arith, fits.numbered, is_props.few_orders);
+  })
+
+  pub below_facts : (dist : Dist) (order : ℕ) (e : EnforcedBy) → Fits q group (request dist order) → Among e (enforcers_by dist order) → IsBelow q group (request dist order) e
+  below_facts One zero e fits (inl is) = subst (IsBelow q group (request One 0)) (sym is) (record {
+    place = omega arith;
+    nodes = omega arith;
+    fits = record { dist = tt; numbered = omega arith; order = empty_lies q group };
+    in_range = tt;
+    small = omega arith;
+  })
+  below_facts One zero e fits (inr none) = absurd none
+  below_facts Spread zero e fits none = absurd none
+  below_facts Copies zero e fits (inl is) = subst (IsBelow q group (request Copies 0)) (sym is) (record {
+    place = omega arith;
+    nodes = omega arith;
+    fits = record { dist = tt; numbered = omega arith; order = empty_lies q group };
+    in_range = tt;
+    small = omega arith;
+  })
+  below_facts Copies zero e fits (inr none) = absurd none
+  below_facts (Hashed list) zero e fits (inl is) = subst (IsBelow q group (request (Hashed list) 0)) (sym is) (record {
+    place = omega arith;
+    nodes = omega arith;
+    fits = record { dist = tt; numbered = omega arith; order = empty_lies q group };
+    in_range = omega (arith, fits.dist.numbered, is_props.few_lists);
+    small = omega (arith, fits.dist.numbered, is_props.few_lists);
+  })
+  below_facts (Hashed list) zero e fits (inr none) = absurd none
+  below_facts One (suc o) e fits (inl is) = sort_below One o e fits is
+  below_facts One (suc o) e fits (inr (inl is)) = subst (IsBelow q group (request One (suc o))) (sym is) (record {
+    place = omega arith;
+    nodes = omega arith;
+    fits = record { dist = tt; numbered = fits.numbered; order = fits.order };
+    in_range = record { some = omega arith; few = omega (arith, fits.numbered, is_props.few_orders) };
+    small = omega (arith, fits.numbered, is_props.few_orders);
+  })
+  below_facts One (suc o) e fits (inr (inr none)) = absurd none
+  below_facts Spread (suc o) e fits (inl is) = sort_below Spread o e fits is
+  below_facts Spread (suc o) e fits (inr none) = absurd none
+  below_facts Copies (suc o) e fits (inl is) = sort_below Copies o e fits is
+  below_facts Copies (suc o) e fits (inr none) = absurd none
+  below_facts (Hashed list) (suc o) e fits (inl is) = sort_below (Hashed list) o e fits is
+  below_facts (Hashed list) (suc o) e fits (inr none) = absurd none
+
+-- the n-th of a list is one of it
+pub among_at : (list : List EnforcedBy) (n : ℕ) (e : EnforcedBy) → slice_get list n ≡ Some e → Among e list
+among_at [] n e is = cc
+among_at (first ∷ others) zero e is = inl cc
+among_at (first ∷ others) (suc n) e is = inr (among_at others n e is)
+
+abbrev number_at : List EnforcedBy → ℕ → ℕ
+number_at list n = option_map_or (λ e. number_of e.node) (slice_get list n) (2 ^ 56)
+
+-- the next enforcer has a greater number
+next_at : (dist : Dist) (order n : ℕ) (e : EnforcedBy) → order ≤ 60 → slice_get (enforcers_by dist order) n ≡ Some e → number_of e.node + 1 ≤ 2 ^ 56
+    → number_of e.node + 1 ≤ number_at (enforcers_by dist order) (suc n)
+next_at One zero zero e few is small = small
+next_at One zero (suc n) e few is small = cc
+next_at Spread zero n e few is small = cc
+next_at Copies zero zero e few is small = small
+next_at Copies zero (suc n) e few is small = cc
+next_at (Hashed list) zero zero e few is small = small
+next_at (Hashed list) zero (suc n) e few is small = cc
+next_at One (suc o) zero e few is small = let same : enforced (sort (suc o)) (request One 0) ≡ e = cc in subst (λ x. number_of x.node + 1 ≤ 128 + suc o) same (omega arith)
+next_at One (suc o) (suc zero) e few is small = small
+next_at One (suc o) (suc (suc n)) e few is small = cc
+next_at Spread (suc o) zero e few is small = small
+next_at Spread (suc o) (suc n) e few is small = cc
+next_at Copies (suc o) zero e few is small = small
+next_at Copies (suc o) (suc n) e few is small = cc
+next_at (Hashed list) (suc o) zero e few is small = small
+next_at (Hashed list) (suc o) (suc n) e few is small = cc
+
+none_next : (list : List EnforcedBy) (n : ℕ) → slice_get list n ≡ None → slice_get list (suc n) ≡ None
+none_next [] n is = refl
+none_next (first ∷ others) zero is = cc
+none_next (first ∷ others) (suc n) is = none_next others n is
+
+module _ (wanted : Request) (n : ℕ) where
+  -- where there is no n-th enforcer nothing comes after
+  pub last_number : slice_get (enforcers_of wanted) n ≡ None → enforcer_number wanted n ≤ enforcer_number wanted (n + 1)
+  last_number is =
+      let next : suc n ≡ n + 1 = omega arith in
+      let none = none_next (enforcers_of wanted) n is in
+      subst (λ m. enforcer_number wanted n ≤ enforcer_number wanted m) next
+      (subst (λ x. enforcer_number wanted n ≤ option_map_or (λ e. number_of e.node) x (2 ^ 56)) (sym none)
+      (subst (λ x. option_map_or (λ e. number_of e.node) x (2 ^ 56) ≤ 2 ^ 56) (sym is) (omega arith)))
+
+  pub next_number_at : (e : EnforcedBy) → wanted.order ≤ 60 → slice_get (enforcers_of wanted) n ≡ Some e → number_of e.node < 2 ^ 56
+      → (enforcer_number wanted n ≡ number_of e.node) × (number_of e.node + 1 ≤ enforcer_number wanted (n + 1))
+  next_number_at e few is small =
+      let next : suc n ≡ n + 1 = omega arith in (
+        ap (λ x. option_map_or (λ e. number_of e.node) x (2 ^ 56)) is,
+        subst (λ m. number_of e.node + 1 ≤ enforcer_number wanted m) next (next_at wanted.dist wanted.order n e few is (omega (arith, small))),
+      )
+
+-- there are no more than two enforcers
+pub two_numbers : (wanted : Request) → enforcer_number wanted 2 ≤ 2 ^ 56
+two_numbers wanted = two_at wanted.dist wanted.order
+  where
+    two_at : (dist : Dist) (order : ℕ) → number_at (enforcers_by dist order) 2 ≤ 2 ^ 56
+    two_at One zero = omega arith
+    two_at Spread zero = omega arith
+    two_at Copies zero = omega arith
+    two_at (Hashed list) zero = omega arith
+    two_at One (suc o) = omega arith
+    two_at Spread (suc o) = omega arith
+    two_at Copies (suc o) = omega arith
+    two_at (Hashed list) (suc o) = omega arith
+
+module _ (q : Query) (answers : Answers) (group : KeyParts) (wanted : Request) where
+  pub place_stable : (n : ℕ) → IsStable q (IsPlaceSettled q group wanted n)
+  place_stable n best other improves settled e is = enforcer_stable q group e best other improves (settled e is)
+
+  -- the two places are all
+  pub both_settled : (best : Option Tree) → IsPlaceSettled q group wanted 0 best × IsPlaceSettled q group wanted 1 best → AreEnforcersSettled q group (enforcers_of wanted) best
+  both_settled best settled = both_at wanted.dist wanted.order settled.0 settled.1
+    where
+      both_at : (dist : Dist) (order : ℕ) → ((e : EnforcedBy) → slice_get (enforcers_by dist order) 0 ≡ Some e → IsEnforcerSettled (IsMember q) q group e best)
+          → ((e : EnforcedBy) → slice_get (enforcers_by dist order) 1 ≡ Some e → IsEnforcerSettled (IsMember q) q group e best)
+          → AreEnforcersSettled q group (enforcers_by dist order) best
+      both_at One zero first second e (inl is) = first e (ap (λ x. Some x) (sym is))
+      both_at One zero first second e (inr none) = absurd none
+      both_at Spread zero first second e none = absurd none
+      both_at Copies zero first second e (inl is) = first e (ap (λ x. Some x) (sym is))
+      both_at Copies zero first second e (inr none) = absurd none
+      both_at (Hashed list) zero first second e (inl is) = first e (ap (λ x. Some x) (sym is))
+      both_at (Hashed list) zero first second e (inr none) = absurd none
+      both_at One (suc o) first second e (inl is) = first e (ap (λ x. Some x) (sym is))
+      both_at One (suc o) first second e (inr (inl is)) = second e (ap (λ x. Some x) (sym is))
+      both_at One (suc o) first second e (inr (inr none)) = absurd none
+      both_at Spread (suc o) first second e (inl is) = first e (ap (λ x. Some x) (sym is))
+      both_at Spread (suc o) first second e (inr none) = absurd none
+      both_at Copies (suc o) first second e (inl is) = first e (ap (λ x. Some x) (sym is))
+      both_at Copies (suc o) first second e (inr none) = absurd none
+      both_at (Hashed list) (suc o) first second e (inl is) = first e (ap (λ x. Some x) (sym is))
+      both_at (Hashed list) (suc o) first second e (inr none) = absurd none
+
+  -- both places, one after the other
+  pub both_go : (old new newer : Option Choice) → Goes q answers group wanted (enforcer_number wanted 0) (enforcer_number wanted 1) (IsPlaceSettled q group wanted 0) old new
+      → Goes q answers group wanted (enforcer_number wanted 1) (enforcer_number wanted 2) (IsPlaceSettled q group wanted 1) new newer
+      → Goes q answers group wanted 0 (2 ^ 56) (AreEnforcersSettled q group (enforcers_of wanted)) old newer
+  both_go old new newer first second =
+      goes_from q answers group wanted 0 (enforcer_number wanted 0) (2 ^ 56) (AreEnforcersSettled q group (enforcers_of wanted)) old newer (omega arith)
+      (goes_to q answers group wanted (enforcer_number wanted 0) (enforcer_number wanted 2) (2 ^ 56) (AreEnforcersSettled q group (enforcers_of wanted)) old newer (two_numbers wanted)
+      (goes_as q answers group wanted (enforcer_number wanted 0) (enforcer_number wanted 2) (λ best. IsPlaceSettled q group wanted 0 best × IsPlaceSettled q group wanted 1 best)
+      (AreEnforcersSettled q group (enforcers_of wanted)) old newer both_settled
+      (goes_on q answers group wanted (enforcer_number wanted 0) (enforcer_number wanted 1) (enforcer_number wanted 2) (IsPlaceSettled q group wanted 0) (IsPlaceSettled q group wanted 1)
+      old new newer (place_stable 0) first second)))
+
+  module _ (props : Props) (is_props : IsProps q props) (known : IsGroup q group) (fits : Fits q group wanted) (answered : AreAnswered q answers (place_of group wanted))
+      (n : ℕ) (e : EnforcedBy) (is_at : slice_get (enforcers_of wanted) n ≡ Some e) where
+    pub among : Among e (enforcers_of wanted)
+    among = among_at (enforcers_of wanted) n e is_at
+
+    pub facts : IsBelow q group wanted e
+    facts = below_facts q props is_props group wanted.dist wanted.order e fits among
+
+    pub below_answered : IsAnswered q answers group e.below
+    below_answered = answered group e.below known facts.fits facts.place
+
+    numbers : (enforcer_number wanted n ≡ number_of e.node) × (number_of e.node + 1 ≤ enforcer_number wanted (n + 1))
+    numbers = next_number_at wanted n e (omega (arith, fits.numbered, is_props.few_orders)) is_at facts.small
+
+    only_this : (best : Option Tree) → IsEnforcerSettled (IsMember q) q group e best → IsPlaceSettled q group wanted n best
+    only_this best settled other is = let same : Some e ≡ Some other = sym is_at ∙ is in let equal : e ≡ other = cc in subst (λ x. IsEnforcerSettled (IsMember q) q group x best) equal settled
+
+    -- the plan below costs no more than any plan
+    pub below_small : IsInRange group → cost_at answers (place_of group e.below) ≤ most_of_all
+    below_small range = omega (arith, cost_small q answers group e.below below_answered, facts.nodes, all_nodes group wanted range)
+
+    -- where what it asks for has no plan
+    pub lacking_goes : (best : Option Choice) → kept_at answers (place_of group e.below) ≡ None
+        → Goes q answers group wanted (enforcer_number wanted n) (enforcer_number wanted (n + 1)) (IsPlaceSettled q group wanted n) best best
+    lacking_goes best none =
+        goes_not q answers group wanted (enforcer_number wanted n) (enforcer_number wanted (n + 1)) (IsPlaceSettled q group wanted n) best (omega (arith, numbers.0, numbers.1))
+        (λ tree. only_this tree (inr (none_case q answers group e.below below_answered none)))
+
+    -- the enforcer is offered over the plan for what it asks
+    pub enforcer_goes : IsOrder q → ChoicesServe q → (node : Node) → kinds.IsNode node e.node → (local : ℕ) → local ≤ most_cost → IsCostAmong q e.node group wanted local
+        → (choice : Choice) (old : Option Choice) → IsOver answers node local (place_of group e.below) choice
+        → Goes q answers group wanted (enforcer_number wanted n) (enforcer_number wanted (n + 1)) (IsPlaceSettled q group wanted n) old (Some (cheaper_of old choice))
+    enforcer_goes order serve node is_node local small cost choice old (kept, at, is) =
+        let found = some_case q answers group e.below kept below_answered at in
+        let kid = found.0 in
+        let holds = found.1 in
+        let plan = over e.node kid in
+        let local_is : local ≡ local_cost (shape_of q e.node (kid_of q kid ∷ [])) =
+        cost e among refl (kid_of q kid) holds.is_kept.least.serves.of_group holds.is_kept.least.serves.satisfies in
+        let chosen : IsChosen q answers group wanted choice e.node plan = record {
+          is_node = subst (λ c. kinds.IsNode c.node e.node) (sym is) is_node;
+          built = subst (λ c. IsBuilt answers c.kids e.node plan) (sym is) (kid, (kept, holds.stands, holds.is_kept.spells), refl);
+          serves = serve group wanted plan fits (enforced_choice e kid among holds.is_kept.least refl);
+          cost = subst (λ c. c.cost ≡ cost_of q plan) (sym is) (omega (arith, local_is, holds.is_kept.cost));
+          small = omega (arith, small, local_is, holds.is_kept.small, facts.nodes);
+        } in
+        goes_from q answers group wanted (enforcer_number wanted n) (number_of e.node) (enforcer_number wanted (n + 1)) (IsPlaceSettled q group wanted n) old (Some (cheaper_of old choice))
+        (omega (arith, numbers.0))
+        (goes_to q answers group wanted (number_of e.node) (number_of e.node + 1) (enforcer_number wanted (n + 1)) (IsPlaceSettled q group wanted n) old (Some (cheaper_of old choice)) numbers.1
+        (goes_as q answers group wanted (number_of e.node) (number_of e.node + 1) (λ best. Beats q best plan) (IsPlaceSettled q group wanted n) old (Some (cheaper_of old choice))
+        (λ best beats. only_this best (inl (kid, holds.is_kept.least, beats)))
+        (goes_by_one q answers group wanted order (number_of e.node) e.node choice plan old chosen refl)))
+
+-- which enforcer was found
+pub enforced_at : (found : Enforced) (x : Option EnforcedBy) → IsEnforced (Some found) x
+    → (e : EnforcedBy) × (x ≡ Some e) × kinds.IsNode found.node e.node × (found.below ≡ e.below)
+enforced_at found None is = absurd is
+enforced_at found (Some e) is = (e, refl, is.0, is.1)
+
+pub enforced_none : (x : Option EnforcedBy) → IsEnforced None x → x ≡ None
+enforced_none None is = refl
+enforced_none (Some e) is = absurd is

@@ -1,0 +1,193 @@
+-- The least plan for one goal, and what it adds to the answers.
+use Rattle.std.proofs.Common.{◌≡◌, ℕ, zero, suc, false, ◌<◌, ◌≤◌, ◌+◌, ◌*◌, refl, subst, sym, ◌∙◌, ap, inl, inr, ◌⊎◌, arith}
+use Rattle.std.specs.Prelude.{◌^◌, List, [], ◌∷◌, Option, None, Some, ⊤, nat_eq}
+use Rattle.std.specs.Ordering.{nat_cmp, is_eq}
+use Rattle.std.specs.BTreeMap.{Updates}
+use Rattle.std.specs.Cmp.{nat_cmp_is}
+use Rattle.std.specs.declared.cmp.Ordering.TheVariants.{Less, Equal, Greater}
+use Rattle.std.proofs.lemmas.Bool.{cases_eq, cases_order}
+use Rattle.query_core.specs.Keys.{key_number, IsGroup, IsInRange}
+use Rattle.query_core.specs.declared.query.Query.{Query}
+use Rattle.query_core.specs.declared.words.KeyParts.{KeyParts}
+use Rattle.query_core.specs.declared.words.KeyParts.TheVariants as groups
+use Rattle.query_core.specs.declared.expressions.ExprParts.{ExprParts}
+use Rattle.xform_rules.specs.Closure.{IsMember}
+use Rattle.request_props.specs.Numbered.{IsProps, IsNumbered, orders_of}
+use Rattle.request_props.specs.declared.props.Props.{Props}
+use Rattle.request_props.specs.declared.request.Dist.{Dist}
+use Rattle.request_props.specs.declared.request.Dist.TheVariants.{One, Spread, Copies, Hashed}
+use Rattle.request_props.specs.declared.request.Request.{Request}
+use Rattle.plan_space.specs.Numbers.{Fits}
+use Rattle.plan_space.specs.Nodes.{Kind, Tree}
+use Rattle.plan_space.specs.Lines.{Line}
+use Rattle.plan_space.specs.Least.{Serves, IsLeast, HasNoPlan, IsAnswer}
+use Rattle.plan_space.specs.Enforcers.{EnforcedBy, enforcers_of, Among}
+use Rattle.plan_space.specs.Choices.{BestServes, IsModeSettled, IsSettled}
+use Rattle.plan_space.specs.Laws.{SettledIsLeast}
+use Rattle.plan_tree.specs.Nodes.{IsNode}
+use Rattle.plan_tree.specs.Spells.{Spells}
+use Rattle.plan_tree.specs.declared.plan.Plan.{Plan}
+use Rattle.plan_space.specs.Cost.{cost_of}
+use Rattle.plan_search.proofs.Kids.{some_case}
+use Rattle.plan_search.specs.declared.answers.Answers.{Answers}
+use Rattle.plan_search.specs.declared.answers.Kept.{Kept}
+use Rattle.plan_search.specs.declared.choice.Choice.{Choice}
+use Rattle.plan_search.specs.declared.physical.Physical.{Physical}
+use Rattle.plan_search.specs.Places.{dist_place, request_place, place_of}
+use Rattle.plan_search.specs.Search.{kept_at, IsAnswerFor, answer_at, IsAnswered, AreAnswered, IsBuilt, IsChosen, IsBestSoFar, Goes, AreEnforcersSettled, AreListed, AreSettledIn, physical}
+use Rattle.plan_search.proofs.Bounds.{request_small}
+use Rattle.plan_search.proofs.Scanning.{IsStable, goes_on, enforcer_stable}
+
+module _ (q : Query) (answers : Answers) (group : KeyParts) (wanted : Request) where
+  -- the best so far meets the request
+  best_serves : (choice : Option Choice) (best : Option Tree) → IsBestSoFar q answers group wanted choice best → BestServes (IsMember q) q group wanted best
+  best_serves None None is = tt
+  best_serves None (Some tree) is = absurd is
+  best_serves (Some choice) None is = absurd is
+  best_serves (Some choice) (Some tree) (node, chosen) = chosen.serves
+
+  enforcers_stable : IsStable q (AreEnforcersSettled q group (enforcers_of wanted))
+  enforcers_stable best other improves settled e among = enforcer_stable q group e best other improves (settled e among)
+
+  -- once all nodes are offered, the best is the least plan, and where there is none there is no plan
+  pub best_is_answer : (list : List Physical) (some all : Option Choice) → SettledIsLeast q → Fits q group wanted → AreListed q group list
+      → Goes q answers group wanted 0 (2 ^ 56) (AreEnforcersSettled q group (enforcers_of wanted)) None some
+      → Goes q answers group wanted (2 ^ 56) (2 ^ 57) (AreSettledIn q wanted list) some all
+      → (best : Option Tree) × IsBestSoFar q answers group wanted all best × IsAnswer (IsMember q) q group wanted best
+  best_is_answer list some all least fits listed first second =
+      let both = goes_on q answers group wanted 0 (2 ^ 56) (2 ^ 57) (AreEnforcersSettled q group (enforcers_of wanted)) (AreSettledIn q wanted list) None some all enforcers_stable first second None tt tt in
+      let best = both.0 in (
+        best,
+        both.1.is_best,
+        least group wanted best fits (record {
+          best_serves = best_serves all best both.1.is_best;
+          enforcers = both.1.done.0;
+          members = λ e mode member of_group line alternative.
+              both.1.done.1 (physical e mode) (listed.complete e mode line member of_group alternative.is_line) line alternative;
+        }),
+      )
+
+  -- the best choice's plan is an answer
+  pub chosen_answer : (choice : Choice) (kept : Kept) (best : Option Tree) → IsBestSoFar q answers group wanted (Some choice) best → IsAnswer (IsMember q) q group wanted best
+      → ((node : Kind) (tree : Tree) → IsNode choice.node node → IsBuilt answers choice.kids node tree → Spells kept.plan tree) → kept.cost ≡ choice.cost
+      → IsAnswerFor q group wanted (Some kept)
+  chosen_answer choice kept None is answer spells cost = absurd is
+  chosen_answer choice kept (Some tree) (node, chosen) answer spells cost =
+      (tree, record { spells = spells node tree chosen.is_node chosen.built; least = answer; cost = cost ∙ chosen.cost; small = chosen.small })
+
+  pub chosen_built : (choice : Choice) (best : Option Tree) → IsBestSoFar q answers group wanted (Some choice) best → (node : Kind) × (tree : Tree) × IsBuilt answers choice.kids node tree
+  chosen_built choice None is = absurd is
+  chosen_built choice (Some tree) (node, chosen) = (node, tree, chosen.built)
+
+  -- no choice, no plan
+  pub none_answer : (best : Option Tree) → IsBestSoFar q answers group wanted None best → IsAnswer (IsMember q) q group wanted best → IsAnswerFor q group wanted None
+  none_answer None is answer = answer
+  none_answer (Some tree) is answer = absurd is
+
+differ : (x y : ℕ) → (x ≡ y → ⊥) → is_eq (nat_cmp x y) ≡ false
+differ x y not_same = elim (cases_order x y) [
+  | inl same ↦ absurd (not_same same)
+  | inr (inl less) ↦ ap is_eq (sym (nat_cmp_is x y Less less))
+  | inr (inr more) ↦ ap is_eq (sym (nat_cmp_is x y Greater more))
+]
+
+-- ---- places are one to one
+
+dist_is_one : (d e : Dist) → dist_place d ≡ dist_place e → d ≡ e
+dist_is_one One One is = refl
+dist_is_one One Spread is = absurd (omega (arith, is))
+dist_is_one One Copies is = absurd (omega (arith, is))
+dist_is_one One (Hashed list) is = absurd (omega (arith, is))
+dist_is_one Spread One is = absurd (omega (arith, is))
+dist_is_one Spread Spread is = refl
+dist_is_one Spread Copies is = absurd (omega (arith, is))
+dist_is_one Spread (Hashed list) is = absurd (omega (arith, is))
+dist_is_one Copies One is = absurd (omega (arith, is))
+dist_is_one Copies Spread is = absurd (omega (arith, is))
+dist_is_one Copies Copies is = refl
+dist_is_one Copies (Hashed list) is = absurd (omega (arith, is))
+dist_is_one (Hashed list) One is = absurd (omega (arith, is))
+dist_is_one (Hashed list) Spread is = absurd (omega (arith, is))
+dist_is_one (Hashed list) Copies is = absurd (omega (arith, is))
+dist_is_one (Hashed list) (Hashed other) is = let same : list ≡ other = omega (arith, is) in ap (λ l. Hashed l) same
+
+-- a place among those of a group is that of one request
+pub request_is_one : (r s : Request) → r.order < 64 → s.order < 64 → request_place r ≡ request_place s → r ≡ s
+request_is_one r s few also is =
+    let order : r.order ≡ s.order = omega (arith, few, also, is) in
+    let place : dist_place r.dist ≡ dist_place s.dist = omega (arith, few, also, is) in
+    let dist : r.dist ≡ s.dist = dist_is_one r.dist s.dist place in
+    let make : Dist → ℕ → Request = λ d o. record { dist = d; order = o } in
+    ap (λ d. make d r.order) dist ∙ ap (λ o. make s.dist o) order
+
+module _ (q : Query) (props : Props) (is_props : IsProps q props) (in_range : (g : KeyParts) → IsGroup q g → IsInRange g)
+    (groups_one : (p g : KeyParts) → IsInRange p → IsInRange g → key_number p ≡ key_number g → p ≡ g) where
+  -- a place is that of one group and one request
+  pub place_is_one : (g h : KeyParts) (r s : Request) → IsGroup q g → IsGroup q h → Fits q g r → Fits q h s → place_of g r ≡ place_of h s → (g ≡ h) × (r ≡ s)
+  place_is_one g h r s known also fits fits_too is =
+      let small = request_small q g props r is_props fits in
+      let small_too = request_small q h props s is_props fits_too in
+      let key : key_number g ≡ key_number h = omega (arith, small, small_too, is) in
+      let place : request_place r ≡ request_place s = omega (arith, key, is) in (
+        groups_one g h (in_range g known) (in_range h also) key,
+        request_is_one r s (omega (arith, fits.numbered, is_props.few_orders)) (omega (arith, fits_too.numbered, is_props.few_orders)) place,
+      )
+
+  -- one more answer
+  pub answered_more : (old new : Answers) (group : KeyParts) (wanted : Request) (answer : Option Kept) → IsGroup q group → Fits q group wanted → AreAnswered q old (place_of group wanted)
+      → IsAnswerFor q group wanted answer → Updates nat_cmp old.map new.map (place_of group wanted) (Some answer) → AreAnswered q new (place_of group wanted + 1)
+  answered_more old new group wanted answer known fits answered is updates g r known_too fits_too less = elim (cases_eq (place_of g r) (place_of group wanted)) [
+    | inl same ↦
+        let one = place_is_one g group r wanted known_too known fits_too fits same in (
+          answer,
+          ap (λ p. answer_at new p) same ∙ updates.1,
+          subst (λ h. IsAnswerFor q h r answer) (sym one.0) (subst (λ s. IsAnswerFor q group s answer) (sym one.1) is),
+        )
+    | inr other ↦
+        let before = answered g r known_too fits_too (omega (arith, less, other)) in
+        (before.0, updates.2 (place_of g r) (differ (place_of group wanted) (place_of g r) (λ is. other (sym is))) ∙ before.1, before.2)
+  ]
+
+  -- no request that fits has the place, so all before the next place are answered
+  pub answered_past : (answers : Answers) (group : KeyParts) (place : ℕ) (at : Request) → IsGroup q group → place < 4096 → request_place at ≡ place → at.order < 64
+      → (Fits q group at → ⊥) → AreAnswered q answers (key_number group * 4096 + place) → AreAnswered q answers (key_number group * 4096 + place + 1)
+  answered_past answers group place at known few is small fits_not answered g r known_too fits less =
+      let small_too = request_small q g props r is_props fits in
+      elim (cases_eq (place_of g r) (key_number group * 4096 + place)) [
+        | inl same ↦
+            let key : key_number g ≡ key_number group = omega (arith, small_too, few, same) in
+            let equal : g ≡ group = groups_one g group (in_range g known_too) (in_range group known) key in
+            let request : r ≡ at = request_is_one r at (omega (arith, fits.numbered, is_props.few_orders)) small (omega (arith, same, key, is)) in
+            absurd (fits_not (subst (λ h. Fits q h at) equal (subst (λ s. Fits q g s) request fits)))
+        | inr other ↦ answered g r known_too fits (omega (arith, less, other))
+      ]
+
+-- where no group has the key, all below the next key are answered
+pub answered_key : (q : Query) (props : Props) → IsProps q props → (answers : Answers) (key : ℕ) → ((g : KeyParts) → IsGroup q g → key_number g ≡ key → ⊥)
+    → AreAnswered q answers (key * 4096) → AreAnswered q answers ((key + 1) * 4096)
+answered_key q props is_props answers key none answered g r known fits less =
+    let small = request_small q g props r is_props fits in
+    elim (cases_eq (key_number g) key) [
+      | inl same ↦ absurd (none g known same)
+      | inr other ↦ answered g r known fits (omega (arith, less, small, other))
+    ]
+
+-- ---- the root
+
+key_small : (g : KeyParts) → IsInRange g → key_number g < 2050
+key_small (groups.Get t) range = omega (arith, range)
+key_small (groups.Filter t) range = omega (arith, range)
+key_small (groups.Join set) range = omega (arith, range)
+key_small groups.Partial range = omega arith
+key_small groups.Agg range = omega arith
+
+-- the plan that stands at the root's goal is the query's least
+pub root_found : (q : Query) (props : Props) → IsProps q props → (answers : Answers) (kept : Kept) (copy : Plan) (group : KeyParts) (wanted : Request)
+    → AreAnswered q answers (2050 * 4096) → IsGroup q group → IsInRange group → Fits q group wanted → kept_at answers (place_of group wanted) ≡ Some kept
+    → ((tree : Tree) → Spells kept.plan tree → Spells copy tree)
+    → (tree : Tree) × Spells copy tree × IsLeast (IsMember q) q group wanted tree × (kept.cost ≡ cost_of q tree)
+root_found q props is_props answers kept copy group wanted answered known range fits at spells =
+    let small = request_small q group props wanted is_props fits in
+    let key = key_small group range in
+    let found = some_case q answers group wanted kept (answered group wanted known fits (omega (arith, small, key))) at in
+    (found.0, spells found.0 found.1.is_kept.spells, found.1.is_kept.least, found.1.is_kept.cost)

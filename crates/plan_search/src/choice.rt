@@ -1,0 +1,33 @@
+//! A plan that may be chosen: its root, its cost, and where the plans below it stand.
+#![tactic(auto)]
+
+ghost use Rattle.std.specs.Prelude.{◌≡◌, Some};
+ghost use Rattle.plan_search.specs.Search.{cheaper_of};
+
+use plan_tree::Node;
+
+/// The places of the plans below a node.
+#[derive(Clone, Copy, Debug, PartialEq, Eq)]
+pub enum Kids {
+    Zero,
+    One(u64),
+    Two(u64, u64),
+}
+
+/// A node over least plans.
+#[derive(Clone, Copy, Debug, PartialEq, Eq)]
+pub struct Choice {
+    pub node: Node,
+    pub cost: u64,
+    pub kids: Kids,
+}
+
+/// Takes the choice where it costs less than the best so far.
+pub fn offer(best: &mut Option<Choice>, choice: Choice)
+    ensures { best.new ≡ Some (cheaper_of best.old choice) }
+{
+    match best {
+        Some(old) if old.cost <= choice.cost => {}
+        _ => *best = Some(choice),
+    }
+}

@@ -1,0 +1,152 @@
+//! The answers to all goals, each behind those that it stands on.
+#![tactic(auto)]
+
+ghost use Rattle.std.specs.Prelude.{ℕ, ◌≡◌, ◌<◌, ◌+◌, ◌*◌, IfOk, OnOk, MatchOption};
+ghost use Rattle.query_core.specs.declared.words.KeyParts.{KeyParts as Group};
+ghost use Rattle.query_core.specs.Keys.{IsGroup, key_number};
+ghost use Rattle.request_props.specs.Numbered.{IsProps};
+ghost use Rattle.plan_search.specs.PlainClosure.{IsClosureOf};
+ghost use Rattle.plan_search.specs.Places.{dist_place as dist_place_of, request_place};
+ghost use Rattle.plan_search.specs.Search.{AreAnswered, AreListed};
+
+use crate::answers::Answers;
+use crate::best::answer;
+use crate::members::members_of;
+use crate::physical::{Physical, physicals};
+use plan_tree::fits;
+use query_core::{
+    Key, KeyParts, Query, candidates_are_known, expressions_are_one, groups_are_known,
+};
+use request_props::{Dist, Props, Request};
+use std::alloc::{AllocError, Global};
+use xform_rules::members_are_candidates;
+
+/// No key is as great as this.
+const KEYS: u32 = 2050;
+
+/// How many places the requests of a group have.
+const PLACES: u32 = 4096;
+
+/// The answers to all requests that fit their groups. `words` are those of the query's members.
+pub fn answer_all(
+    alloc: Global,
+    query: &Query,
+    props: &Props,
+    words: &[u64],
+) -> Result<Answers, AllocError>
+    requires props { IsProps query.now props.now }
+    requires closure { IsClosureOf query.now words.now }
+    ensures { IfOk result (λ answers. AreAnswered query.now answers (2050 * 4096)) }
+{
+    let mut answers = Answers::new(alloc);
+    for key in 0..KEYS {
+        answer_key(alloc, query, props, words, key, &mut answers)?;
+    }
+    Ok(answers)
+}
+
+/// Answers all requests that fit the group with this key, if there is one.
+fn answer_key(
+    alloc: Global,
+    query: &Query,
+    props: &Props,
+    words: &[u64],
+    key: u32,
+    answers: &mut Answers,
+) -> Result<(), AllocError>
+    requires props { IsProps query.now props.now }
+    requires closure { IsClosureOf query.now words.now }
+    requires answered { AreAnswered query.now answers.now (key * 4096) }
+    ensures { OnOk result (AreAnswered query.now answers.new ((key + 1) * 4096)) }
+{
+    match group_with(query, key) {
+        Some(group) => answer_group(alloc, query, props, words, group, answers),
+        None => Ok(()),
+    }
+}
+
+/// The query's group with this key, if it has one.
+fn group_with(query: &Query, key: u32) -> Option<KeyParts>
+    ensures { MatchOption result ((g : Group) → IsGroup query.now g → key_number g ≡ key → ⊥)
+        (λ g. IsGroup query.now g × (key_number g ≡ key)) }
+{
+    if query.is_key(Key(key)) {
+        return Some(query.group(Key(key)));
+    }
+    None
+}
+
+/// Answers all requests that fit the group.
+fn answer_group(
+    alloc: Global,
+    query: &Query,
+    props: &Props,
+    words: &[u64],
+    group: KeyParts,
+    answers: &mut Answers,
+) -> Result<(), AllocError>
+    requires props { IsProps query.now props.now }
+    requires closure { IsClosureOf query.now words.now }
+    requires known { IsGroup query.now group }
+    requires answered { AreAnswered query.now answers.now (key_number group * 4096) }
+    ensures { OnOk result (AreAnswered query.now answers.new ((key_number group + 1) * 4096)) }
+{
+    // For the proof: members are of groups of the query.
+    members_are_candidates();
+    candidates_are_known();
+    groups_are_known();
+    let list = physicals(alloc, query, props, group, members_of(words, group))?;
+    for place in 0..PLACES {
+        answer_place(alloc, query, props, &list, group, place, answers)?;
+    }
+    Ok(())
+}
+
+/// Answers the request at the place, if it fits the group.
+fn answer_place(
+    alloc: Global,
+    query: &Query,
+    props: &Props,
+    list: &[Physical],
+    group: KeyParts,
+    place: u32,
+    answers: &mut Answers,
+) -> Result<(), AllocError>
+    requires props { IsProps query.now props.now }
+    requires known { IsGroup query.now group }
+    requires listed { AreListed query.now group list.now }
+    requires place { place < 4096 }
+    requires answered { AreAnswered query.now answers.now (key_number group * 4096 + place) }
+    ensures { OnOk result (AreAnswered query.now answers.new (key_number group * 4096 + place + 1)) }
+{
+    // For the proof: each goal has a place of its own.
+    groups_are_known();
+    expressions_are_one();
+    let wanted = request_at(place);
+    if fits(query, props, group, wanted) {
+        answer(alloc, query, props, list, group, wanted, answers)?;
+    }
+    Ok(())
+}
+
+/// The request that has this place among those of a group.
+fn request_at(place: u32) -> Request
+    ensures value { request_place result ≡ place }
+    ensures order { result.order < 64 }
+{
+    Request {
+        dist: dist_at(place / 64),
+        order: place % 64,
+    }
+}
+
+fn dist_at(place: u32) -> Dist
+    ensures { dist_place_of result ≡ place }
+{
+    match place {
+        0 => Dist::Spread,
+        1 => Dist::One,
+        2 => Dist::Copies,
+        _ => Dist::Hashed(place - 3),
+    }
+}

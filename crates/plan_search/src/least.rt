@@ -1,0 +1,36 @@
+//! The least plan of a query.
+#![tactic(auto)]
+
+ghost use Rattle.std.specs.Prelude.{IfOk};
+ghost use Rattle.request_props.specs.Numbered.{IsProps};
+ghost use Rattle.plan_tree.specs.Found.{IsFound};
+
+use crate::closure::plain_closure;
+use crate::goals::answer_all;
+use crate::places::place_at;
+use plan_space::{root_request_fits, root_request_is_collected};
+use plan_tree::Found;
+use query_core::{Query, groups_are_known};
+use request_props::Props;
+use std::alloc::{AllocError, Global};
+
+/// The least plan of the query, or that there is none: of all plans over the members of its groups
+/// that give what is asked of the whole plan, redundant sorts and motions included.
+pub fn plain_least(alloc: Global, query: &Query, props: &Props) -> Result<Found, AllocError>
+    requires { IsProps query.now props.now }
+    ensures { IfOk result (IsFound query.now) }
+{
+    // For the proof: what is asked of the whole plan is among the goals.
+    groups_are_known();
+    root_request_fits();
+    root_request_is_collected();
+    let words = plain_closure(alloc, query)?;
+    let answers = answer_all(alloc, query, props, words.as_slice())?;
+    match answers.kept(place_at(query.root(), props.root)) {
+        Some(kept) => Ok(Found::Least {
+            plan: kept.plan.copy(alloc)?,
+            cost: kept.cost,
+        }),
+        None => Ok(Found::NoPlan),
+    }
+}

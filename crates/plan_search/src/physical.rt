@@ -1,0 +1,80 @@
+//! Members in the modes in which they can work.
+#![tactic(auto)]
+
+ghost use Rattle.std.specs.Prelude.{ℕ, ◌≡◌, ◌++◌, IfOk, OnOk, is_some};
+ghost use Rattle.std.specs.List.{All, Contains};
+ghost use Rattle.std.specs.List.Sorted.{IsStrictlyIncreasing};
+ghost use Rattle.query_core.specs.declared.expressions.ExprParts.{ExprParts};
+ghost use Rattle.query_core.specs.Expressions.{word_of};
+ghost use Rattle.request_props.specs.Numbered.{IsProps};
+ghost use Rattle.xform_rules.specs.Closure.{IsMember};
+ghost use Rattle.plan_space.specs.Lines.{line_of as line_by_table};
+ghost use Rattle.plan_search.specs.Search.{IsMemberWordOf, AreListed, modes_below};
+
+use plan_space::modes_are_few;
+use plan_tree::line_of;
+use query_core::{Expr, ExprParts, KeyParts, Query, candidates_are_known, expressions_are_one};
+use request_props::Props;
+use std::alloc::{AllocError, Global};
+use xform_rules::members_are_candidates;
+
+/// How many numbers there are for modes.
+const MODES: u32 = 192;
+
+/// A physical expression in a mode.
+#[derive(Clone, Copy, Debug, PartialEq, Eq)]
+pub struct Physical {
+    pub expr: ExprParts,
+    pub mode: u32,
+}
+
+/// The members of a group with these words, in all modes in which they can work, by their numbers.
+pub fn physicals(
+    alloc: Global,
+    query: &Query,
+    props: &Props,
+    group: KeyParts,
+    words: &[u64],
+) -> Result<Vec<Physical>, AllocError>
+    requires props { IsProps query.now props.now }
+    requires members { All (IsMemberWordOf query.now group) words.now }
+    requires ascending { IsStrictlyIncreasing words.now }
+    requires complete { (e : ExprParts) → IsMember query.now e → e.group ≡ group → Contains words.now (word_of e) }
+    ensures { IfOk result (λ list. AreListed query.now group list.items) }
+{
+    // For the proof: members have words, and few modes.
+    members_are_candidates();
+    candidates_are_known();
+    expressions_are_one();
+    modes_are_few();
+    let mut list = Vec::new(alloc);
+    for word in words {
+        push_modes(query, props, Expr(*word).known_parts(), &mut list)?;
+    }
+    Ok(list)
+}
+
+/// Adds the expression in each mode in which it has a line.
+fn push_modes(
+    query: &Query,
+    props: &Props,
+    expr: ExprParts,
+    list: &mut Vec<Physical>,
+) -> Result<(), AllocError>
+    requires props { IsProps query.now props.now }
+    ensures { OnOk result (list.new.items ≡ list.old.items ++ modes_below query.now expr 192) }
+{
+    for mode in 0..MODES {
+        if has_line(query, props, expr, mode) {
+            list.push(Physical { expr, mode })?;
+        }
+    }
+    Ok(())
+}
+
+fn has_line(query: &Query, props: &Props, expr: ExprParts, mode: u32) -> bool
+    requires props { IsProps query.now props.now }
+    ensures { result ≡ is_some (line_by_table query.now expr mode) }
+{
+    line_of(query, props, expr, mode).is_some()
+}

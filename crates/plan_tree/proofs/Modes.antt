@@ -1,0 +1,216 @@
+-- The modes in which an expression may serve a request, ascending.
+use Rattle.std.proofs.Common.{◌≡◌, ◌≤◌, ◌<◌, ◌⊎◌, ◌+◌, ◌-◌, ℕ, zero, suc, Bool, true, false, List, [], ◌∷◌, Some, None, inl, inr, length, slice_get, slice_index, slice_index_or, refl, ap, sym, ◌∙◌, subst, add-one, arith, if◌then◌else◌}
+use Rattle.std.specs.List.{Contains}
+use Rattle.std.specs.List.Sorted.{IsStrictlyIncreasing}
+use Rattle.std.proofs.lemmas.Bool.{cases_lt}
+use Rattle.std.proofs.lemmas.Bool.Decides.{nat_tests}
+use Rattle.std.proofs.lemmas.List.Elements.{Contains-get_or}
+use Rattle.std.proofs.lemmas.List.Kept.{AllPairs-from_increasing}
+use Rattle.std.proofs.lemmas.Option.{slice_get_past}
+use Rattle.query_core.specs.Crossing.{crossing_of, crossing_at}
+use Rattle.query_core.specs.declared.query.Query.{Query}
+use Rattle.query_core.specs.declared.words.KeyParts.{KeyParts}
+use Rattle.query_core.specs.declared.expressions.Operator.{Operator}
+use Rattle.query_core.specs.declared.expressions.Operator.TheVariants as operators
+use Rattle.query_core.specs.declared.expressions.Children.{Children}
+use Rattle.query_core.specs.declared.expressions.Children.TheVariants as arities
+use Rattle.query_core.specs.declared.expressions.ExprParts.{ExprParts}
+use Rattle.request_props.specs.declared.request.Request.{Request}
+use Rattle.plan_space.specs.Lines.{Line, only_line, leaf_line, kid_line, pair_line, hash_line, merge_line, loop_line, line_over}
+use Rattle.plan_tree.specs.Alternatives.{HasAlternative, AreModes}
+use Rattle.plan_tree.proofs.Decided.{has, alternative_from_has, has_alternative}
+
+-- ---- the numbers that pass a test, so many of them looked at from this one on
+
+pub passing : (ℕ → Bool) → ℕ → ℕ → List ℕ
+passing p from zero = []
+passing p from (suc left) = if p from then from ∷ passing p (from + 1) left else passing p (from + 1) left
+
+pub passing-end : (p : ℕ → Bool) (from : ℕ) → passing p from zero ≡ []
+unfolding passing
+passing-end p from = refl
+
+pub passing-yes : (p : ℕ → Bool) (from left : ℕ) → p from ≡ true → passing p from (suc left) ≡ from ∷ passing p (from + 1) left
+unfolding passing
+passing-yes p from left holds = rw holds
+
+pub passing-pass : (p : ℕ → Bool) (from left : ℕ) → p from ≡ false → passing p from (suc left) ≡ passing p (from + 1) left
+unfolding passing
+passing-pass p from left not_it = rw not_it
+
+either : (b : Bool) → (b ≡ true) ⊎ (b ≡ false)
+either true = inl refl
+either false = inr refl
+
+at_cons : (x : ℕ) (xs : List ℕ) (m k : ℕ) → k < length (x ∷ xs) → slice_index_or (x ∷ xs) k m ≡ m → (x ≡ m) ⊎ Contains xs m
+at_cons x xs m zero within is = inl is
+at_cons x xs m (suc k) within is = inr (k, omega arith, is)
+
+contains_cons : (x : ℕ) (xs : List ℕ) (m : ℕ) → Contains (x ∷ xs) m → (x ≡ m) ⊎ Contains xs m
+contains_cons x xs m there = at_cons x xs m there.0 there.1 there.2
+
+contains_here : (x : ℕ) (xs : List ℕ) (m : ℕ) → x ≡ m → Contains (x ∷ xs) m
+contains_here x xs m is = (zero, omega arith, is)
+
+contains_later : (x : ℕ) (xs : List ℕ) (m : ℕ) → Contains xs m → Contains (x ∷ xs) m
+contains_later x xs m there = (suc there.0, let within = there.1 in omega arith, there.2)
+
+in_passing : (p : ℕ → Bool) (from left m : ℕ) → Contains (passing p from left) m → (from ≤ m) × (m < from + left) × (p m ≡ true)
+in_passing p from zero m there = let within : there.0 < length (passing p from zero) = there.1 in absurd (let none = passing-end p from in let no_length = ap length none in omega arith)
+in_passing p from (suc left) m there = elim (either (p from)) [
+  | inl holds ↦ elim (contains_cons from (passing p (from + 1) left) m (subst (λ (xs : List ℕ). Contains xs m) (passing-yes p from left holds) there)) [
+    | inl is ↦ (omega arith, omega arith, subst (λ (k : ℕ). p k ≡ true) is holds)
+    | inr later ↦ let below = in_passing p (from + 1) left m later in (omega arith, omega arith, below.2)
+  ]
+  | inr not_it ↦
+      let below = in_passing p (from + 1) left m (subst (λ (xs : List ℕ). Contains xs m) (passing-pass p from left not_it) there) in
+      (omega arith, omega arith, below.2)
+]
+
+passing_has : (p : ℕ → Bool) (from left m : ℕ) → from ≤ m → m < from + left → p m ≡ true → Contains (passing p from left) m
+passing_has p from zero m at within holds = absurd (omega arith)
+passing_has p from (suc left) m at within holds = elim (cases_lt from m) [
+  | inl later ↦
+      let below = passing_has p (from + 1) left m (omega arith) (omega arith) holds in
+      elim (either (p from)) [
+        | inl first ↦ subst (λ (xs : List ℕ). Contains xs m) (sym (passing-yes p from left first)) (contains_later from (passing p (from + 1) left) m below)
+        | inr not_it ↦ subst (λ (xs : List ℕ). Contains xs m) (sym (passing-pass p from left not_it)) below
+      ]
+  | inr first ↦
+      let same : from ≡ m = omega arith in
+      let here : p from ≡ true = subst (λ (k : ℕ). p k ≡ true) (sym same) holds in
+      subst (λ (xs : List ℕ). Contains xs m) (sym (passing-yes p from left here)) (contains_here from (passing p (from + 1) left) m same)
+]
+
+rises_at : (x : ℕ) (xs : List ℕ) → ((m : ℕ) → Contains xs m → x < m) → IsStrictlyIncreasing xs
+    → (k : ℕ) → k + 1 < length (x ∷ xs) → slice_index (x ∷ xs) k < slice_index (x ∷ xs) (k + 1)
+rises_at x xs above rises zero within = above (slice_index xs 0) (Contains-get_or xs 0 0 (omega arith))
+rises_at x xs above rises (suc k) within = let step = rises k (omega arith) in rw add-one (rw add-one at step)
+
+rises_cons : (x : ℕ) (xs : List ℕ) → ((m : ℕ) → Contains xs m → x < m) → IsStrictlyIncreasing xs → IsStrictlyIncreasing (x ∷ xs)
+rises_cons x xs above rises = λ k within. rises_at x xs above rises k within
+
+passing_rises : (p : ℕ → Bool) (from left : ℕ) → IsStrictlyIncreasing (passing p from left)
+passing_rises p from zero = subst IsStrictlyIncreasing (sym (passing-end p from)) (λ k within. absurd (omega arith))
+passing_rises p from (suc left) = elim (either (p from)) [
+  | inl holds ↦
+      subst IsStrictlyIncreasing (sym (passing-yes p from left holds))
+      (rises_cons from (passing p (from + 1) left) (λ m there. let below = in_passing p (from + 1) left m there in omega arith) (passing_rises p (from + 1) left))
+  | inr not_it ↦ subst IsStrictlyIncreasing (sym (passing-pass p from left not_it)) (passing_rises p (from + 1) left)
+]
+
+-- ---- no mode is as high as 192
+
+cross_past : (q : Query) (left right : KeyParts) (number : ℕ) → 40 ≤ number → crossing_of q left right number ≡ None
+cross_past q left right number far =
+    let few = q.preds_valid.few in
+    ap (crossing_at q left right) (slice_get_past q.preds number (omega arith))
+
+only_past : (line : Line) (mode : ℕ) → 192 ≤ mode → only_line line mode ≡ None
+only_past line mode far = grind (arith, nat_tests)
+
+hash_past : (q : Query) (left right : KeyParts) (mode : ℕ) → 192 ≤ mode → hash_line q left right mode ≡ None
+hash_past q left right mode far = let none = cross_past q left right (mode - 128) (omega arith) in grind (arith, nat_tests)
+
+merge_past : (q : Query) (left right : KeyParts) (mode : ℕ) → 192 ≤ mode → merge_line q left right mode ≡ None
+merge_past q left right mode far = let none = cross_past q left right (mode - 128) (omega arith) in grind (arith, nat_tests)
+
+loop_past : (mode : ℕ) → 192 ≤ mode → loop_line mode ≡ None
+loop_past mode far = grind (arith, nat_tests)
+
+leaf_past : (q : Query) (group : KeyParts) (operator : Operator) (mode : ℕ) → 192 ≤ mode → leaf_line q group operator mode ≡ None
+leaf_past q group operators.Scan mode far = only_past _ mode far
+leaf_past q group (operators.IndexScan index) mode far = only_past _ mode far
+leaf_past q group (operators.IndexSeek index) mode far = only_past _ mode far
+leaf_past q group operator mode far = refl
+
+kid_past : (operator : Operator) (mode : ℕ) → 192 ≤ mode → kid_line operator mode ≡ None
+kid_past operators.Filter mode far = only_past _ mode far
+kid_past operator mode far = refl
+
+pair_past : (q : Query) (operator : Operator) (left right : KeyParts) (mode : ℕ) → 192 ≤ mode → pair_line q operator left right mode ≡ None
+pair_past q operators.HashJoin left right mode far = hash_past q left right mode far
+pair_past q operators.MergeJoin left right mode far = merge_past q left right mode far
+pair_past q operators.LoopJoin left right mode far = loop_past mode far
+pair_past q operator left right mode far = refl
+
+over_past : (q : Query) (group : KeyParts) (operator : Operator) (children : Children) (mode : ℕ) → 192 ≤ mode → line_over q group operator children mode ≡ None
+over_past q group operator arities.Zero mode far = leaf_past q group operator mode far
+over_past q group operator (arities.One child) mode far = kid_past operator mode far
+over_past q group operator (arities.Two left right) mode far = pair_past q operator left right mode far
+
+mode_within : (q : Query) (e : ExprParts) (wanted : Request) (mode : ℕ) → HasAlternative q e wanted mode → mode < 192
+mode_within q e wanted mode there = elim (cases_lt mode 192) [
+  | inl within ↦ within
+  | inr far ↦
+      let same = sym (over_past q e.group e.operator e.children mode far) ∙ there.1.is_line in
+      let never : ⊥ = cc in
+      absurd never
+]
+
+-- ---- the modes
+
+-- those of the first 192 that are alternatives
+pub modes_are : (q : Query) (e : ExprParts) (wanted : Request) → AreModes q e wanted (passing (has q e wanted) 0 192)
+modes_are q e wanted = record {
+  rises = passing_rises (has q e wanted) 0 192;
+  exact = λ mode. (
+    λ there. alternative_from_has q e wanted mode (in_passing (has q e wanted) 0 192 mode there).2,
+    λ alternative. passing_has (has q e wanted) 0 192 mode (omega arith) (mode_within q e wanted mode alternative) (has_alternative q e wanted mode alternative),
+  );
+}
+
+-- a mode that is none changes no place
+pub skipped : (p : ℕ → Bool) (mode left more place : ℕ) → more ≡ suc left → p mode ≡ false
+    → slice_get (passing p (mode + 1) left) place ≡ slice_get (passing p mode more) place
+skipped p mode left more place is none = rw (is, passing-pass p mode left none)
+
+-- a mode is at the next place
+pub at_first : (p : ℕ → Bool) (mode left more place : ℕ) → more ≡ suc left → p mode ≡ true → place ≡ 0
+    → slice_get (passing p mode more) place ≡ Some mode
+at_first p mode left more place is holds first = rw (is, passing-yes p mode left holds, first)
+
+-- and those after it one place later
+pub after_first : (p : ℕ → Bool) (mode left more place next : ℕ) → more ≡ suc left → p mode ≡ true → place ≡ suc next
+    → slice_get (passing p (mode + 1) left) next ≡ slice_get (passing p mode more) place
+after_first p mode left more place next is holds later = rw (is, passing-yes p mode left holds, later)
+
+-- ---- there is one list of them
+
+head_least : (x : ℕ) (xs : List ℕ) → IsStrictlyIncreasing (x ∷ xs) → (m : ℕ) → Contains xs m → x < m
+head_least x xs rises m there =
+    let apart = AllPairs-from_increasing (x ∷ xs) rises 0 (suc there.0) m (omega arith) (let within = there.1 in omega arith) in
+    rw there.2 at apart
+
+tail_rises : (x : ℕ) (xs : List ℕ) → IsStrictlyIncreasing (x ∷ xs) → IsStrictlyIncreasing xs
+tail_rises x xs rises = λ k within. let step = rises (suc k) (omega arith) in rw add-one (rw add-one at step)
+
+tail_there : (x y : ℕ) (xs ys : List ℕ) → x ≡ y → IsStrictlyIncreasing (x ∷ xs) → ((m : ℕ) → Contains (x ∷ xs) m → Contains (y ∷ ys) m)
+    → (m : ℕ) → Contains xs m → Contains ys m
+tail_there x y xs ys same rises to m there = elim (contains_cons y ys m (to m (contains_later x xs m there))) [
+  | inl first ↦ let more = head_least x xs rises m there in absurd (omega arith)
+  | inr later ↦ later
+]
+
+heads_same : (x y : ℕ) (xs ys : List ℕ) → IsStrictlyIncreasing (x ∷ xs) → IsStrictlyIncreasing (y ∷ ys) → Contains (y ∷ ys) x → Contains (x ∷ xs) y → x ≡ y
+heads_same x y xs ys rises also x_there y_there = elim (contains_cons y ys x x_there) [
+  | inl same ↦ sym same
+  | inr later ↦ elim (contains_cons x xs y y_there) [
+    | inl same ↦ same
+    | inr also_later ↦ let more = head_least y ys also x later in let less = head_least x xs rises y also_later in absurd (omega arith)
+  ]
+]
+
+one_list : (xs ys : List ℕ) → IsStrictlyIncreasing xs → IsStrictlyIncreasing ys
+    → ((m : ℕ) → Contains xs m → Contains ys m) → ((m : ℕ) → Contains ys m → Contains xs m) → xs ≡ ys
+one_list [] [] rises also to from = refl
+one_list [] (y ∷ ys) rises also to from = let there = from y (contains_here y ys y refl) in let within = there.1 in absurd (omega arith)
+one_list (x ∷ xs) [] rises also to from = let there = to x (contains_here x xs x refl) in let within = there.1 in absurd (omega arith)
+one_list (x ∷ xs) (y ∷ ys) rises also to from =
+    let same = heads_same x y xs ys rises also (to x (contains_here x xs x refl)) (from y (contains_here y ys y refl)) in
+    let others = one_list xs ys (tail_rises x xs rises) (tail_rises y ys also) (tail_there x y xs ys same rises to) (tail_there y x ys xs (sym same) also from) in
+    cc
+
+pub modes_same : (q : Query) (e : ExprParts) (wanted : Request) (modes others : List ℕ) → AreModes q e wanted modes → AreModes q e wanted others → modes ≡ others
+modes_same q e wanted modes others are also =
+    one_list modes others are.rises also.rises (λ m there. (also.exact m).1 ((are.exact m).0 there)) (λ m there. (are.exact m).1 ((also.exact m).0 there))

@@ -1,0 +1,116 @@
+//! The modes in which an expression may serve a request. No call here takes memory.
+#![tactic(auto)]
+
+ghost use Rattle.std.specs.Prelude.{ℕ, ◌≡◌, ◌<◌, List, IfSome};
+ghost use Rattle.query_core.specs.declared.query.Query.{Query as AnyQuery};
+ghost use Rattle.query_core.specs.declared.expressions.ExprParts.{ExprParts as Parts};
+ghost use Rattle.request_props.specs.declared.request.Request.{Request as AnyRequest};
+ghost use Rattle.query_core.specs.Keys.{IsGroup};
+ghost use Rattle.query_core.specs.declared.words.KeyParts.{KeyParts as Group};
+ghost use Rattle.query_core.specs.Expressions.{IsCandidate, IsChild};
+ghost use Rattle.request_props.specs.Numbered.{IsProps, IsNumbered};
+ghost use Rattle.plan_space.specs.Alternatives.{LineServes, asked_of};
+ghost use Rattle.plan_space.specs.Choices.{groups_of};
+ghost use Rattle.plan_tree.specs.Meanings.{table_line_of};
+ghost use Rattle.plan_tree.specs.Alternatives.{AreAsked, AreModes, IsAltAt, IsAltIn, IsAsk};
+
+use crate::line::Line;
+use crate::lines::line_of;
+use crate::node::{Node, NodeKind};
+use crate::serving::{asked_left, asked_right, left_child, right_child, serves};
+use query_core::{
+    Children, ExprParts, Key, KeyParts, Query, candidates_are_known, groups_are_known,
+};
+use request_props::{Props, Request};
+
+/// A node that may serve a request, and what it asks of the children, by the keys of their groups.
+#[derive(Clone, Copy, Debug, PartialEq, Eq)]
+pub struct Alt {
+    pub node: Node,
+    pub left: Option<(Key, Request)>,
+    pub right: Option<(Key, Request)>,
+}
+
+/// The expression in a mode, where it may serve the request.
+pub fn alternative_in(
+    query: &Query,
+    props: &Props,
+    expr: ExprParts,
+    request: Request,
+    mode: u32,
+) -> Option<Alt>
+    requires props { IsProps query.now props.now }
+    requires candidate { IsCandidate query.now expr }
+    requires numbered { IsNumbered query.now request.order }
+    requires few { mode < 256 }
+    ensures { IsAltIn query.now expr request mode result }
+{
+    candidates_are_known();
+    let line = line_of(query, props, expr, mode)?;
+    if !serves(query, props, line, expr.children, request) {
+        return None;
+    }
+    let node = NodeKind::Native(expr, mode).node();
+    Some(alt_over(query, node, line, expr.children, request))
+}
+
+/// The alternative at this place, of those for the request, ascending by their modes.
+pub fn alternative(
+    query: &Query,
+    props: &Props,
+    expr: ExprParts,
+    request: Request,
+    n: u32,
+) -> Option<Alt>
+    requires props { IsProps query.now props.now }
+    requires candidate { IsCandidate query.now expr }
+    requires numbered { IsNumbered query.now request.order }
+    ensures { IsAltAt query.now expr request n result }
+{
+    let mut seen = 0;
+    for mode in 0..192 {
+        match alternative_in(query, props, expr, request, mode) {
+            Some(alt) => {
+                if seen == n {
+                    return Some(alt);
+                }
+                seen += 1;
+            }
+            None => {}
+        }
+    }
+    None
+}
+
+/// The modes in which an expression may serve a request are one list.
+pub fn modes_are_one()
+    ensures { (q : AnyQuery) (e : Parts) (wanted : AnyRequest) (modes others : List ℕ) →
+        AreModes q e wanted modes → AreModes q e wanted others → modes ≡ others }
+{}
+
+// What the line asks of the children.
+fn alt_over(query: &Query, node: Node, line: Line, children: Children, request: Request) -> Alt
+    requires known { (g : Group) → IsChild children g → IsGroup query.now g }
+    requires serves { LineServes query.now (table_line_of line) children request }
+    ensures node { result.node ≡ node }
+    ensures asks { AreAsked query.now result (groups_of children)
+        (asked_of (table_line_of line) request) }
+{
+    Alt {
+        node,
+        left: ask(query, left_child(children), asked_left(line, request)),
+        right: ask(query, right_child(children), asked_right(line, request)),
+    }
+}
+
+// The key of the group with what is asked of it.
+fn ask(query: &Query, group: Option<KeyParts>, request: Option<Request>) -> Option<(Key, Request)>
+    requires { IfSome group (IsGroup query.now) }
+    ensures { IsAsk query.now result group request }
+{
+    groups_are_known();
+    match (group, request) {
+        (Some(group), Some(request)) => Some((Key::make(group), request)),
+        _ => None,
+    }
+}

@@ -1,0 +1,104 @@
+//! The enforcers that may meet a request. No call here takes memory.
+#![tactic(auto)]
+
+ghost use Rattle.std.specs.Prelude.{◌≡◌, ◌≤◌, None, slice_get};
+ghost use Rattle.query_core.specs.Keys.{IsKey, Names};
+ghost use Rattle.query_core.specs.declared.words.KeyParts.{KeyParts as Group};
+ghost use Rattle.request_props.specs.Numbered.{IsProps};
+ghost use Rattle.plan_space.specs.Numbers.{Fits};
+ghost use Rattle.plan_space.specs.Enforcers.{enforcers_of, movers_of};
+ghost use Rattle.plan_tree.specs.Nodes.{kind_of, IsInRange, IsNode};
+ghost use Rattle.plan_tree.specs.Enforcers.{AreBoth, IsEnforced, IsEnforcerAt};
+
+use crate::fitting::{hash_fits, order_fits};
+use crate::node::{Node, NodeKind};
+use query_core::{Key, KeyParts, Query};
+use request_props::{Dist, Props, Request};
+
+/// An enforcer that may meet a request, and what it asks of a plan of the same group.
+#[derive(Clone, Copy, Debug, PartialEq, Eq)]
+pub struct Enforced {
+    pub node: Node,
+    pub below: Request,
+}
+
+/// The enforcer at this place, of those for the request that fit the group.
+pub fn enforcer(
+    query: &Query,
+    props: &Props,
+    key: Key,
+    request: Request,
+    n: u32,
+) -> Option<Enforced>
+    requires props { IsProps query.now props.now }
+    requires key { IsKey query.now key }
+    ensures at_place { (g : Group) → Names query.now key g →
+        IsEnforcerAt query.now g request n result }
+    ensures fitting { (g : Group) → Names query.now key g → Fits query.now g request →
+        IsEnforced result (slice_get (enforcers_of request) n) }
+{
+    let (first, second) = both(query, props, query.group(key), request);
+    match n {
+        0 => first,
+        1 => second,
+        _ => None,
+    }
+}
+
+// The two enforcers for the request, where they fit the group.
+fn both(
+    query: &Query,
+    props: &Props,
+    group: KeyParts,
+    request: Request,
+) -> (Option<Enforced>, Option<Enforced>)
+    requires { IsProps query.now props.now }
+    ensures { AreBoth query.now group (enforcers_of request) result.0 result.1 }
+{
+    if request.order == 0 {
+        return (mover(query, props, group, request.dist), None);
+    }
+    if !order_fits(query, props, group, request.order) {
+        return (None, None);
+    }
+    let sorted = over(NodeKind::Sort(request.order), request.dist, 0);
+    match request.dist {
+        Dist::One => {
+            let merge = NodeKind::GatherMerge(request.order);
+            (Some(sorted), Some(over(merge, Dist::Spread, request.order)))
+        }
+        Dist::Spread => (Some(sorted), None),
+        Dist::Copies => (Some(sorted), None),
+        Dist::Hashed(_) => (Some(sorted), None),
+    }
+}
+
+// The enforcer that brings rows to the distribution, in no order.
+fn mover(query: &Query, props: &Props, group: KeyParts, dist: Dist) -> Option<Enforced>
+    requires { IsProps query.now props.now }
+    ensures { AreBoth query.now group (movers_of dist) result None }
+{
+    match dist {
+        Dist::One => Some(over(NodeKind::Gather, Dist::Spread, 0)),
+        Dist::Spread => None,
+        Dist::Copies => Some(over(NodeKind::Broadcast, Dist::Spread, 0)),
+        Dist::Hashed(list) => {
+            if !hash_fits(query, props, group, list) {
+                return None;
+            }
+            Some(over(NodeKind::Redistribute(list), Dist::Spread, 0))
+        }
+    }
+}
+
+// The enforcer over a plan for this distribution and this order.
+fn over(kind: NodeKind, dist: Dist, order: u32) -> Enforced
+    requires { IsInRange (kind_of kind) }
+    ensures node { IsNode result.node (kind_of kind) }
+    ensures below { result.below ≡ record { dist = dist; order = order } }
+{
+    Enforced {
+        node: kind.node(),
+        below: Request { dist, order },
+    }
+}

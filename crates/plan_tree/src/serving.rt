@@ -1,0 +1,217 @@
+//! Which requests a line may serve, and what it asks of the children then. No call here takes
+//! memory.
+#![tactic(auto)]
+
+ghost use Rattle.std.specs.Prelude.{◌≡◌, ◌<◌, ◌↔◌, IsTrue, length, slice_get};
+ghost use Rattle.std.specs.Option.{option_map_or};
+ghost use Rattle.request_props.specs.Numbered.{IsProps, IsNumbered};
+ghost use Rattle.request_props.specs.Satisfied.{Satisfies, IsOrderKnown, given_order};
+ghost use Rattle.plan_space.specs.Gives.{gives_so};
+ghost use Rattle.plan_space.specs.Choices.{groups_of};
+ghost use Rattle.plan_space.specs.Alternatives.{DistServes, OrderServes, LeftServes, LineServes};
+ghost use Rattle.plan_space.specs.Alternatives.{WantsSpread, asked_of, dist_asked as dist_by_line};
+ghost use Rattle.plan_space.specs.Alternatives.{order_asked as order_by_line, left_asked as asked_by_line};
+ghost use Rattle.plan_tree.specs.Meanings.{left_dist_of, left_order_of, table_line_of};
+
+use crate::fitting::fits;
+use crate::line::{LeftDist, LeftOrder, Line};
+use query_core::{Children, KeyParts, Query};
+use request_props::{Dist, Given, GivenDist, GivenOrder, Props, Request, satisfies};
+
+/// Whether the line is there for the request, over these children.
+pub fn serves(query: &Query, props: &Props, line: Line, children: Children, wanted: Request) -> bool
+    requires props { IsProps query.now props.now }
+    requires wanted { IsNumbered query.now wanted.order }
+    ensures { IsTrue result ↔ LineServes query.now (table_line_of line) children wanted }
+{
+    match (line, children) {
+        (Line::Alone(dist, order), Children::Zero) => gives(query, props, dist, order, wanted),
+        (Line::Above(dist, order), Children::One(child)) => {
+            left_serves(query, props, child, dist, order, wanted)
+        }
+        (Line::Beside(dist, order, _), Children::Two(left, _)) => {
+            left_serves(query, props, left, dist, order, wanted)
+        }
+        _ => false,
+    }
+}
+
+/// What the line asks of the left child.
+pub fn asked_left(line: Line, wanted: Request) -> Option<Request>
+    ensures { result ≡ slice_get (asked_of (table_line_of line) wanted) 0 }
+{
+    match line {
+        Line::Alone(_, _) => None,
+        Line::Above(dist, order) => Some(left_asked(dist, order, wanted)),
+        Line::Beside(dist, order, _) => Some(left_asked(dist, order, wanted)),
+    }
+}
+
+/// What the line asks of the right child.
+pub fn asked_right(line: Line, wanted: Request) -> Option<Request>
+    ensures { result ≡ slice_get (asked_of (table_line_of line) wanted) 1 }
+{
+    match line {
+        Line::Alone(_, _) => None,
+        Line::Above(_, _) => None,
+        Line::Beside(_, _, right) => Some(right),
+    }
+}
+
+pub fn left_child(children: Children) -> Option<KeyParts>
+    ensures { result ≡ slice_get (groups_of children) 0 }
+{
+    match children {
+        Children::Zero => None,
+        Children::One(child) => Some(child),
+        Children::Two(left, _) => Some(left),
+    }
+}
+
+pub fn right_child(children: Children) -> Option<KeyParts>
+    ensures { result ≡ slice_get (groups_of children) 1 }
+{
+    match children {
+        Children::Zero => None,
+        Children::One(_) => None,
+        Children::Two(_, right) => Some(right),
+    }
+}
+
+fn left_asked(dist: LeftDist, order: LeftOrder, wanted: Request) -> Request
+    ensures { result ≡ asked_by_line (left_dist_of dist) (left_order_of order) wanted }
+{
+    Request {
+        dist: dist_asked(dist, wanted.dist),
+        order: order_asked(order, wanted.order),
+    }
+}
+
+fn dist_asked(dist: LeftDist, wanted: Dist) -> Dist
+    ensures { result ≡ dist_by_line (left_dist_of dist) wanted }
+{
+    match dist {
+        LeftDist::Fixed(_, asked) => asked,
+        LeftDist::Same => wanted,
+        LeftDist::SameSpread => wanted,
+    }
+}
+
+fn order_asked(order: LeftOrder, wanted: u32) -> u32
+    ensures { result ≡ order_by_line (left_order_of order) wanted }
+{
+    match order {
+        LeftOrder::Fixed(_, asked) => asked,
+        LeftOrder::Same => wanted,
+    }
+}
+
+fn left_serves(
+    query: &Query,
+    props: &Props,
+    left: KeyParts,
+    dist: LeftDist,
+    order: LeftOrder,
+    wanted: Request,
+) -> bool
+    requires props { IsProps query.now props.now }
+    requires wanted { IsNumbered query.now wanted.order }
+    ensures { IsTrue result ↔
+        LeftServes query.now left (left_dist_of dist) (left_order_of order) wanted }
+{
+    dist_serves(query, props, dist, wanted.dist)
+        && order_serves(query, props, order, wanted.order)
+        && fits(query, props, left, left_asked(dist, order, wanted))
+}
+
+fn dist_serves(query: &Query, props: &Props, dist: LeftDist, wanted: Dist) -> bool
+    requires { IsProps query.now props.now }
+    ensures { IsTrue result ↔ DistServes (left_dist_of dist) wanted }
+{
+    match dist {
+        LeftDist::Fixed(given, _) => {
+            let unordered = Request {
+                dist: wanted,
+                order: 0,
+            };
+            gives(query, props, given, GivenOrder::Listed(0), unordered)
+        }
+        LeftDist::Same => true,
+        LeftDist::SameSpread => wants_spread(wanted),
+    }
+}
+
+fn wants_spread(dist: Dist) -> bool
+    ensures { IsTrue result ↔ WantsSpread dist }
+{
+    match dist {
+        Dist::One => false,
+        Dist::Spread => true,
+        Dist::Copies => false,
+        Dist::Hashed(_) => true,
+    }
+}
+
+fn order_serves(query: &Query, props: &Props, order: LeftOrder, wanted: u32) -> bool
+    requires props { IsProps query.now props.now }
+    requires wanted { IsNumbered query.now wanted }
+    ensures { IsTrue result ↔ OrderServes query.now (left_order_of order) wanted }
+{
+    match order {
+        LeftOrder::Fixed(given, _) => {
+            let anywhere = Request {
+                dist: Dist::One,
+                order: wanted,
+            };
+            gives(query, props, GivenDist::One, given, anywhere)
+        }
+        LeftOrder::Same => true,
+    }
+}
+
+// Whether the distribution and the order are what is asked for.
+fn gives(query: &Query, props: &Props, dist: GivenDist, order: GivenOrder, wanted: Request) -> bool
+    requires props { IsProps query.now props.now }
+    requires wanted { IsNumbered query.now wanted.order }
+    ensures { IsTrue result ↔ Satisfies query.now (gives_so dist order) wanted }
+{
+    let given = Given {
+        dist,
+        order: known_order(query, props, order),
+    };
+    satisfies(query, props, given, wanted)
+}
+
+// The same order, by a number or an index that is there: one that isn't there is empty.
+fn known_order(query: &Query, props: &Props, order: GivenOrder) -> GivenOrder
+    requires { IsProps query.now props.now }
+    ensures known { IsOrderKnown query.now result }
+    ensures same { given_order query.now result ≡ given_order query.now order }
+{
+    match order {
+        GivenOrder::Listed(number) => {
+            if number as usize <= props.orders.len() {
+                order
+            } else {
+                GivenOrder::Listed(0)
+            }
+        }
+        GivenOrder::Index(table, index) => {
+            if has_index(query, table, index) {
+                order
+            } else {
+                GivenOrder::Listed(0)
+            }
+        }
+    }
+}
+
+fn has_index(query: &Query, table: u32, index: u32) -> bool
+    ensures { IsTrue result ↔
+        (index < option_map_or (λ t. length t.indexes) (slice_get query.now.tables table) 0) }
+{
+    match query.tables.as_slice().get(table as usize) {
+        Some(table) => (index as usize) < table.indexes.len(),
+        None => false,
+    }
+}

@@ -1,0 +1,1 @@
+SELECT b.x FROM b, s WHERE b.x = s.y
