@@ -1,22 +1,20 @@
 -- How groups and requests stand in order, and how many nodes plans have.
-use Rattle.std.proofs.Common.{◌≡◌, ℕ, zero, suc, ◌<◌, ◌≤◌, ◌+◌, ◌*◌, ◌-◌, Bool, true, false, refl, subst, sym, ◌∙◌, ap, inl, inr, arith, rules}
-use Rattle.std.specs.Prelude.{◌^◌, List, [], ◌∷◌, length, Option, None, Some, bit_or, bit_and, cond, nat_eq}
+use Rattle.std.proofs.Common.{◌≡◌, ℕ, zero, suc, ◌<◌, ◌≤◌, ◌+◌, ◌*◌, ◌-◌, subst, sym, inl, inr, arith}
+use Rattle.std.specs.Prelude.{◌^◌, None, Some, bit_or, bit_and, cond, nat_eq}
 use Rattle.std.specs.Option.{option_map_or}
 use Rattle.std.specs.Int.{trailing_zeros, w32}
 use Rattle.std.specs.Int.Bits.{or_add_and}
 use Rattle.std.proofs.lemmas.Nat.{trailing_le}
-use Rattle.std.proofs.lemmas.Bool.{cases_Bool, eqb-true}
-use Rattle.query_core.specs.Sets.{only_of}
-use Rattle.query_core.specs.Keys.{key_number, has_own, alone, top_of, IsInRange, IsGroup}
-use Rattle.query_core.specs.Expressions.{FallsInto, HasShape, IsFiltered, IsJoin}
+use Rattle.std.proofs.lemmas.Bool.{cases_Bool}
+use Rattle.query_core.specs.Keys.{key_number, has_own, alone, top_of, IsInRange}
+use Rattle.query_core.specs.Expressions.{HasShape, IsFiltered, IsJoin}
 use Rattle.query_core.specs.declared.query.Query.{Query}
 use Rattle.query_core.specs.declared.words.KeyParts.{KeyParts}
 use Rattle.query_core.specs.declared.words.KeyParts.TheVariants as groups
 use Rattle.query_core.specs.declared.expressions.Operator.{Operator}
 use Rattle.query_core.specs.declared.expressions.Operator.TheVariants as operators
-use Rattle.query_core.specs.declared.expressions.Children.{Children}
-use Rattle.query_core.specs.declared.expressions.Children.TheVariants.{Zero, One, Two}
-use Rattle.request_props.specs.Numbered.{lists_of, orders_of, IsProps, IsNumbered}
+use Rattle.query_core.specs.declared.expressions.Children.TheVariants.{One, Two}
+use Rattle.request_props.specs.Numbered.{IsProps}
 use Rattle.request_props.specs.declared.props.Props.{Props}
 use Rattle.request_props.specs.declared.request.Dist.{Dist}
 use Rattle.request_props.specs.declared.request.Dist.TheVariants as dists

@@ -1,11 +1,10 @@
 -- What enforcers ask for, and the choices that they make.
-use Rattle.std.proofs.Common.{◌≡◌, ℕ, zero, suc, ◌<◌, ◌≤◌, ◌+◌, ◌*◌, refl, subst, sym, ◌∙◌, ap, inl, inr, ◌⊎◌, arith}
+use Rattle.std.proofs.Common.{◌≡◌, ℕ, zero, suc, ◌<◌, ◌≤◌, ◌+◌, refl, subst, sym, ◌∙◌, ap, inl, inr, arith}
 use Rattle.std.specs.Option.{option_map_or}
-use Rattle.std.specs.Prelude.{◌^◌, List, [], ◌∷◌, length, slice_get, Option, None, Some, MatchOption, ⊤}
+use Rattle.std.specs.Prelude.{◌^◌, List, [], ◌∷◌, slice_get, Option, None, Some}
 use Rattle.query_core.specs.Keys.{IsGroup, IsInRange}
 use Rattle.query_core.specs.declared.query.Query.{Query}
 use Rattle.query_core.specs.declared.words.KeyParts.{KeyParts}
-use Rattle.query_core.specs.declared.expressions.ExprParts.{ExprParts}
 use Rattle.xform_rules.specs.Closure.{IsMember}
 use Rattle.cost_units.specs.Cost.{most_cost, local_cost}
 use Rattle.request_props.specs.Numbered.{IsProps}
@@ -13,14 +12,13 @@ use Rattle.request_props.specs.declared.props.Props.{Props}
 use Rattle.request_props.specs.declared.request.Dist.{Dist}
 use Rattle.request_props.specs.declared.request.Dist.TheVariants.{One, Spread, Copies, Hashed}
 use Rattle.request_props.specs.declared.request.Request.{Request}
-use Rattle.plan_space.specs.Numbers.{OrderLiesIn, DistFits, Fits}
-use Rattle.plan_space.specs.Nodes.{Kind, native, sort, number_of, Tree, over}
+use Rattle.plan_space.specs.Numbers.{OrderLiesIn, Fits}
+use Rattle.plan_space.specs.Nodes.{sort, number_of, Tree, over}
 use Rattle.plan_space.specs.Lines.{request}
 use Rattle.plan_space.specs.Gives.{kid_of}
 use Rattle.plan_space.specs.Cost.{cost_of, shape_of}
-use Rattle.plan_space.specs.Least.{HasNoPlan}
 use Rattle.plan_space.specs.Enforcers.{EnforcedBy, enforced, enforcers_by, enforcers_of, Among}
-use Rattle.plan_space.specs.Choices.{Beats, IsEnforcerSettled, IsChoice, enforced_choice}
+use Rattle.plan_space.specs.Choices.{Beats, IsEnforcerSettled, enforced_choice}
 use Rattle.plan_space.specs.Laws.{ChoicesServe}
 use Rattle.plan_tree.specs.declared.node.Node.{Node}
 use Rattle.plan_tree.specs.Nodes as kinds
@@ -29,7 +27,7 @@ use Rattle.plan_tree.specs.Enforcers.{IsEnforced}
 use Rattle.plan_tree.specs.declared.enforcers.Enforced.{Enforced}
 use Rattle.plan_search.specs.declared.answers.Answers.{Answers}
 use Rattle.plan_search.specs.declared.choice.Choice.{Choice}
-use Rattle.plan_search.specs.Places.{place_of, place_at, most_nodes, most_of_all}
+use Rattle.plan_search.specs.Places.{place_of, most_nodes, most_of_all}
 use Rattle.plan_search.specs.Search.{IsAnswered, AreAnswered, IsBuilt, IsChosen, kept_at, cost_at, IsOver, cheaper_of, Goes, IsPlaceSettled, AreEnforcersSettled, enforcer_number}
 use Rattle.plan_search.proofs.Bounds.{all_nodes}
 use Rattle.plan_search.proofs.Kids.{none_case, some_case, cost_small}

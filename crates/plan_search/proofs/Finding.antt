@@ -1,28 +1,26 @@
 -- The least plan for one goal, and what it adds to the answers.
-use Rattle.std.proofs.Common.{◌≡◌, ℕ, zero, suc, false, ◌<◌, ◌≤◌, ◌+◌, ◌*◌, refl, subst, sym, ◌∙◌, ap, inl, inr, ◌⊎◌, arith}
-use Rattle.std.specs.Prelude.{◌^◌, List, [], ◌∷◌, Option, None, Some, ⊤, nat_eq}
+use Rattle.std.proofs.Common.{◌≡◌, ℕ, false, ◌<◌, ◌+◌, ◌*◌, refl, subst, sym, ◌∙◌, ap, inl, inr, arith}
+use Rattle.std.specs.Prelude.{◌^◌, List, Option, None, Some}
 use Rattle.std.specs.Ordering.{nat_cmp, is_eq}
 use Rattle.std.specs.BTreeMap.{Updates}
 use Rattle.std.specs.Cmp.{nat_cmp_is}
-use Rattle.std.specs.declared.cmp.Ordering.TheVariants.{Less, Equal, Greater}
+use Rattle.std.specs.declared.cmp.Ordering.TheVariants.{Less, Greater}
 use Rattle.std.proofs.lemmas.Bool.{cases_eq, cases_order}
 use Rattle.query_core.specs.Keys.{key_number, IsGroup, IsInRange}
 use Rattle.query_core.specs.declared.query.Query.{Query}
 use Rattle.query_core.specs.declared.words.KeyParts.{KeyParts}
 use Rattle.query_core.specs.declared.words.KeyParts.TheVariants as groups
-use Rattle.query_core.specs.declared.expressions.ExprParts.{ExprParts}
 use Rattle.xform_rules.specs.Closure.{IsMember}
-use Rattle.request_props.specs.Numbered.{IsProps, IsNumbered, orders_of}
+use Rattle.request_props.specs.Numbered.{IsProps}
 use Rattle.request_props.specs.declared.props.Props.{Props}
 use Rattle.request_props.specs.declared.request.Dist.{Dist}
 use Rattle.request_props.specs.declared.request.Dist.TheVariants.{One, Spread, Copies, Hashed}
 use Rattle.request_props.specs.declared.request.Request.{Request}
 use Rattle.plan_space.specs.Numbers.{Fits}
 use Rattle.plan_space.specs.Nodes.{Kind, Tree}
-use Rattle.plan_space.specs.Lines.{Line}
-use Rattle.plan_space.specs.Least.{Serves, IsLeast, HasNoPlan, IsAnswer}
-use Rattle.plan_space.specs.Enforcers.{EnforcedBy, enforcers_of, Among}
-use Rattle.plan_space.specs.Choices.{BestServes, IsModeSettled, IsSettled}
+use Rattle.plan_space.specs.Least.{IsLeast, IsAnswer}
+use Rattle.plan_space.specs.Enforcers.{enforcers_of}
+use Rattle.plan_space.specs.Choices.{BestServes}
 use Rattle.plan_space.specs.Laws.{SettledIsLeast}
 use Rattle.plan_tree.specs.Nodes.{IsNode}
 use Rattle.plan_tree.specs.Spells.{Spells}
@@ -34,7 +32,7 @@ use Rattle.plan_search.specs.declared.answers.Kept.{Kept}
 use Rattle.plan_search.specs.declared.choice.Choice.{Choice}
 use Rattle.plan_search.specs.declared.physical.Physical.{Physical}
 use Rattle.plan_search.specs.Places.{dist_place, request_place, place_of}
-use Rattle.plan_search.specs.Search.{kept_at, IsAnswerFor, answer_at, IsAnswered, AreAnswered, IsBuilt, IsChosen, IsBestSoFar, Goes, AreEnforcersSettled, AreListed, AreSettledIn, physical}
+use Rattle.plan_search.specs.Search.{kept_at, IsAnswerFor, answer_at, AreAnswered, IsBuilt, IsBestSoFar, Goes, AreEnforcersSettled, AreListed, AreSettledIn, physical}
 use Rattle.plan_search.proofs.Bounds.{request_small}
 use Rattle.plan_search.proofs.Scanning.{IsStable, goes_on, enforcer_stable}
 

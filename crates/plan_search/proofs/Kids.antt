@@ -1,10 +1,10 @@
 -- What the search finds at the goals that a node asks for, and what it makes of it.
 use Rattle.std.proofs.Common.{◌≡◌, ℕ, ◌<◌, ◌≤◌, ◌+◌, ◌*◌, refl, subst, sym, ◌∙◌, ap, inl, inr, ◌⊎◌, arith}
-use Rattle.std.specs.Prelude.{List, [], ◌∷◌, ◌++◌, map, Option, None, Some, MatchOption, option_to_list, ⊤}
+use Rattle.std.specs.Prelude.{List, [], ◌∷◌, Option, None, Some, MatchOption}
 use Rattle.std.specs.Option.{option_and_then, option_map_or}
 use Rattle.query_core.specs.Keys.{key_number, IsGroup}
 use Rattle.query_core.specs.declared.words.Key.{Key}
-use Rattle.query_core.specs.Expressions.{IsPacked, HasShape, IsCandidate, IsFiltered, IsJoin}
+use Rattle.query_core.specs.Expressions.{IsPacked, HasShape, IsCandidate}
 use Rattle.query_core.specs.declared.query.Query.{Query}
 use Rattle.query_core.specs.declared.words.KeyParts.{KeyParts}
 use Rattle.query_core.specs.declared.expressions.Children.{Children}
@@ -16,13 +16,13 @@ use Rattle.request_props.specs.Numbered.{IsProps}
 use Rattle.request_props.specs.declared.props.Props.{Props}
 use Rattle.request_props.specs.declared.request.Request.{Request}
 use Rattle.plan_space.specs.Numbers.{Fits}
-use Rattle.plan_space.specs.Nodes.{Kind, native, number_of, Tree, leaf, over, two}
-use Rattle.plan_space.specs.Lines.{Line, line_of, line_over}
+use Rattle.plan_space.specs.Nodes.{native, Tree, leaf, over, two}
+use Rattle.plan_space.specs.Lines.{Line, line_over}
 use Rattle.plan_space.specs.Gives.{kid_of}
 use Rattle.plan_space.specs.Cost.{cost_of, shape_of}
-use Rattle.plan_space.specs.Least.{Serves, IsLeast, HasNoPlan}
+use Rattle.plan_space.specs.Least.{HasNoPlan}
 use Rattle.plan_space.specs.Alternatives.{IsAlternative, asked_of, KidsServe}
-use Rattle.plan_space.specs.Choices.{groups_of, AreLeast, IsNodeOver, LacksOne, IsChoice, native_choice}
+use Rattle.plan_space.specs.Choices.{groups_of, AreLeast, LacksOne, native_choice}
 use Rattle.plan_space.specs.Laws.{AsksWhatFits, ChoicesServe, RequestsFit, AreOf}
 use Rattle.plan_search.specs.declared.answers.Answers.{Answers}
 use Rattle.plan_search.specs.declared.answers.Kept.{Kept}
@@ -33,8 +33,8 @@ use Rattle.plan_tree.specs.declared.alternatives.Alt.{Alt}
 use Rattle.plan_tree.specs.Nodes.{IsNode}
 use Rattle.plan_tree.specs.Alternatives.{Asks, AreAsked, IsAltBy}
 use Rattle.plan_tree.specs.Costs.{IsNativeCost}
-use Rattle.plan_search.specs.Places.{request_place, place_of, place_at, most_nodes, most_of_all}
-use Rattle.plan_search.specs.Search.{IsKept, IsAnswerFor, answer_at, IsAnswered, AreAnswered, StandsAt, IsBuilt, IsChosen, kept_at, cost_at, IsLacking, IsMade, IsOver, IsOverTwo}
+use Rattle.plan_search.specs.Places.{place_of, place_at, most_nodes, most_of_all}
+use Rattle.plan_search.specs.Search.{IsKept, answer_at, IsAnswered, AreAnswered, IsBuilt, kept_at, cost_at, IsLacking, IsMade, IsOver, IsOverTwo}
 use Rattle.plan_search.proofs.Bounds.{one_shape, two_shape, request_small, filter_nodes, join_nodes, some_nodes, all_nodes}
 
 module _ (q : Query) (answers : Answers) where

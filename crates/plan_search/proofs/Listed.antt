@@ -1,6 +1,6 @@
 -- Lists of expressions in modes.
-use Rattle.std.proofs.Common.{◌≡◌, ℕ, Bool, true, false, zero, suc, ◌<◌, ◌≤◌, ◌+◌, ◌*◌, ◌-◌, refl, subst, sym, ◌∙◌, ap, inl, inr, ◌⊎◌, arith, get_or, take_all}
-use Rattle.std.specs.Prelude.{◌^◌, List, [], ◌∷◌, ◌++◌, length, take, drop, is_some, slice_index, slice_index_or, if◌then◌else◌, Option, None, Some, ⊤}
+use Rattle.std.proofs.Common.{◌≡◌, ℕ, Bool, true, false, zero, suc, ◌<◌, ◌≤◌, ◌+◌, ◌*◌, refl, subst, sym, ◌∙◌, ap, inl, inr, ◌⊎◌, arith, get_or, take_all}
+use Rattle.std.specs.Prelude.{◌^◌, List, [], ◌∷◌, ◌++◌, length, take, drop, is_some, slice_index, slice_index_or, if◌then◌else◌, Option, Some, ⊤}
 use Rattle.std.proofs.Math.Seq.{drop-cons}
 use Rattle.std.proofs.Math.ListN.{get_or-eq_default}
 use Rattle.std.proofs.lemmas.Bool.{cases_eq, cases_lt}
@@ -13,14 +13,14 @@ use Rattle.query_core.specs.declared.expressions.ExprParts.{ExprParts}
 use Rattle.query_core.specs.Expressions.{word_of}
 use Rattle.xform_rules.specs.Closure.{IsMember}
 use Rattle.request_props.specs.declared.request.Request.{Request}
-use Rattle.plan_space.specs.Nodes.{Tree, native, number_of}
+use Rattle.plan_space.specs.Nodes.{Tree}
 use Rattle.plan_space.specs.Lines.{Line, line_of}
 use Rattle.plan_space.specs.Choices.{IsModeSettled}
 use Rattle.plan_space.specs.Laws.{ModesAreFew}
 use Rattle.plan_search.specs.declared.answers.Answers.{Answers}
 use Rattle.plan_search.specs.declared.choice.Choice.{Choice}
 use Rattle.plan_search.specs.declared.physical.Physical.{Physical}
-use Rattle.plan_search.specs.Search.{IsPhysical, ArePhysical, RisesFrom, next_number, mode_number, IsIn, AreSettledIn, Improves, Goes, physical, modes_below, AreListed}
+use Rattle.plan_search.specs.Search.{IsPhysical, ArePhysical, RisesFrom, next_number, mode_number, IsIn, AreSettledIn, Goes, physical, modes_below, AreListed}
 use Rattle.plan_search.proofs.Scanning.{IsStable, goes_on, goes_to, goes_as, goes_not, mode_stable}
 
 -- each of the list is such a member

@@ -1,6 +1,6 @@
 -- The best plan so far, from node to node.
 use Rattle.std.proofs.Common.{◌≡◌, ℕ, ◌<◌, ◌≤◌, ◌+◌, ap, refl, subst, inl, inr, arith}
-use Rattle.std.specs.Prelude.{List, [], ◌∷◌, Option, None, Some, nat_lt, ⊤}
+use Rattle.std.specs.Prelude.{Option, None, Some}
 use Rattle.std.proofs.Math.Nat.{eq-or-lt_of_le}
 use Rattle.std.proofs.lemmas.Bool.{cases_lt, cond_below, cond_above}
 use Rattle.query_core.specs.declared.query.Query.{Query}
@@ -17,7 +17,7 @@ use Rattle.plan_search.specs.declared.choice.Kids.{Kids}
 use Rattle.plan_search.specs.declared.choice.Kids.TheVariants as kids
 use Rattle.plan_search.specs.declared.answers.Answers.{Answers}
 use Rattle.plan_search.specs.declared.choice.Choice.{Choice}
-use Rattle.plan_search.specs.Search.{IsBuilt, IsMade, IsChosen, IsBestSoFar, IsRootBelow, root_number, Improves, IsLater, Goes, cheaper_of}
+use Rattle.plan_search.specs.Search.{IsBuilt, IsMade, IsChosen, IsRootBelow, root_number, Improves, IsLater, Goes, cheaper_of}
 
 -- plans are in order
 pub record IsOrder (q : Query) : Type 0 where

@@ -1,5 +1,5 @@
 -- The order in which groups and requests are answered: each behind all that its plans may stand on.
-use Rattle.std.specs.Prelude.{ℕ, zero, suc, ◌+◌, ◌*◌, ◌-◌, if◌then◌else◌}
+use Rattle.std.specs.Prelude.{ℕ, zero, suc, ◌+◌, ◌*◌, ◌-◌}
 use Rattle.query_core.specs.Keys.{key_number}
 use Rattle.cost_units.specs.Cost.{most_cost}
 use Rattle.query_core.specs.declared.words.KeyParts.{KeyParts}

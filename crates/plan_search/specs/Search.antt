@@ -15,7 +15,6 @@ use Rattle.plan_space.specs.Numbers.{Fits}
 use Rattle.plan_space.specs.Nodes.{Kind, native, number_of, Tree, leaf, over, two}
 use Rattle.plan_space.specs.Cost.{cost_of}
 use Rattle.plan_space.specs.Least.{Serves, IsLeast, HasNoPlan}
-use Rattle.plan_space.specs.Order.{IsAtMost}
 use Rattle.plan_space.specs.Choices.{Beats, IsEnforcerSettled, IsModeSettled, LacksOne, AreLeast, IsNodeOver, groups_of}
 use Rattle.plan_space.specs.Lines.{Line, line_of}
 use Rattle.plan_space.specs.Alternatives.{IsAlternative, asked_of}

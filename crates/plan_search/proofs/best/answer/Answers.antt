@@ -1,8 +1,8 @@
-use Rattle.std.proofs.Common.{sym, ◌∙◌, ap, subst, Some}
+use Rattle.std.proofs.Common.{◌∙◌, ap, subst, Some}
 use Rattle.std.specs.Ordering.{nat_cmp}
 use Rattle.std.specs.BTreeMap.{Updates}
 use Rattle.std.proofs.lemmas.Result.{on_ok_weaker}
-use Rattle.plan_search.specs.Places.{place_at, place_of}
+use Rattle.plan_search.specs.Places.{place_at}
 use Rattle.plan_search.proofs.Finding.{answered_more}
 use Rattle.plan_search.proofs.best.answer.Goals as goal
 

@@ -1,6 +1,6 @@
 use Rattle.std.proofs.Common.{subst}
 use Rattle.plan_search.specs.Search.{IsBestSoFar}
-use Rattle.plan_search.proofs.Finding.{chosen_answer, chosen_built, none_answer}
+use Rattle.plan_search.proofs.Finding.{chosen_answer, chosen_built}
 use Rattle.plan_search.proofs.best.find.Goals as goal
 
 pub keep-requires : goal.keep-requires

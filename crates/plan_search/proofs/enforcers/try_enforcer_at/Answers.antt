@@ -1,6 +1,6 @@
-use Rattle.std.proofs.Common.{◌≡◌, ◌≤◌, ◌+◌, Option, None, Some, sym, ◌∙◌, ap, subst, arith}
+use Rattle.std.proofs.Common.{◌≡◌, ◌≤◌, ◌+◌, None, Some, sym, ◌∙◌, subst, arith}
 use Rattle.query_core.specs.Keys as keys
-use Rattle.plan_space.specs.Enforcers.{EnforcedBy, enforcers_of}
+use Rattle.plan_space.specs.Enforcers.{enforcers_of}
 use Rattle.plan_tree.specs.Enforcers.{IsEnforced}
 use Rattle.std.specs.Prelude.{slice_get}
 use Rattle.plan_search.specs.Places.{place_at, place_of, most_of_all}

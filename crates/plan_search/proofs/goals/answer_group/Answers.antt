@@ -1,4 +1,4 @@
-use Rattle.std.proofs.Common.{◌≡◌, get_or, subst, sym}
+use Rattle.std.proofs.Common.{get_or, subst, sym}
 use Rattle.std.proofs.lemmas.List.Elements.{Contains-get_or}
 use Rattle.std.specs.List.{Contains}
 use Rattle.plan_search.specs.PlainClosure.{IsMemberWord}

@@ -1,4 +1,4 @@
-use Rattle.plan_search.proofs.Kids.{IsAsked, one_small, two_small, over_one, over_two, made_zero}
+use Rattle.plan_search.proofs.Kids.{one_small, two_small, over_one, over_two, made_zero}
 use Rattle.plan_search.proofs.natives.choice_of.Goals as goal
 
 pub choice_over_two-requires-clause-small : goal.choice_over_two-requires-clause-small

@@ -1,4 +1,4 @@
-use Rattle.std.proofs.Common.{sym, subst, Some, ◌+◌}
+use Rattle.std.proofs.Common.{sym, subst, ◌+◌}
 use Rattle.plan_space.specs.Choices.{IsModeSettled}
 use Rattle.plan_space.specs.Nodes.{native, number_of}
 use Rattle.xform_rules.specs.Closure.{IsMember}
