@@ -1,10 +1,8 @@
 -- Whether a query has too many hashed lists or orders, and how many, is told by its parts.
-use Rattle.std.proofs.Common.{◌≡◌, ◌≢◌, ◌<◌, ◌≤◌, ◌||◌, ℕ, Bool, true, false, List, [], ◌∷◌, ◌++◌, length, filter_map, flat_map, nat_le, refl, sym, ap, ◌∙◌, subst, arith}
-use Rattle.std.proofs.lemmas.Bool.{le-leb}
+use Rattle.std.proofs.Common.{◌≡◌, ◌≢◌, ◌<◌, ◌≤◌, ℕ, ◌++◌, length, filter_map, flat_map, refl, sym, ap, ◌∙◌, subst, arith}
 use Rattle.query_core.specs.declared.query.Query.{Query}
-use Rattle.request_props.specs.Found.{alone, ascending, elements_of, sides_of, unless_empty, wanted_order}
+use Rattle.request_props.specs.Found.{alone, ascending, elements_of, sides_of, unless_empty}
 use Rattle.request_props.specs.Listing.{listing_of}
-use Rattle.query_core.specs.declared.table.QueryTable.{QueryTable}
 use Rattle.request_props.specs.Numbered.{lists_of, orders_of, IsRefusedFor}
 use Rattle.request_props.specs.declared.fault.PropsFault.{PropsFault}
 use Rattle.request_props.specs.declared.fault.PropsFault.TheVariants.{TooManyLists, TooManyOrders, Memory}
