@@ -1,70 +1,48 @@
 -- What a valid plan gives lies in its group.
-use Rattle.std.proofs.Common.{◌≡◌, ◌/◌, List, [], ◌∷◌, IsTrue, refl, subst}
+use Rattle.std.proofs.Common.{◌≡◌, List, [], ◌∷◌, refl, subst}
 use Rattle.std.specs.Prelude.{Option, Some, None}
-use Rattle.std.proofs.lemmas.List.Elements.{All-weaker}
 use Rattle.query_core.specs.Expressions.{IsCandidate}
-use Rattle.query_core.specs.Keys.{has_item}
 use Rattle.query_core.specs.declared.query.Query.{Query}
 use Rattle.query_core.specs.declared.words.KeyParts.{KeyParts}
 use Rattle.query_core.specs.declared.expressions.Children.{Children}
 use Rattle.query_core.specs.declared.expressions.ExprParts.{ExprParts}
 use Rattle.request_props.specs.Satisfied.{given_order}
-use Rattle.request_props.specs.declared.given.Given.{Given}
 use Rattle.request_props.specs.declared.given.GivenDist.{GivenDist}
-use Rattle.request_props.specs.declared.given.GivenDist.TheVariants.{One, Hashed, Random, Copies}
+use Rattle.request_props.specs.declared.given.GivenDist.TheVariants.{One, Hashed, Copies}
 use Rattle.request_props.specs.declared.given.GivenOrder.{GivenOrder}
-use Rattle.plan_space.specs.Numbers.{list_of, OrderLiesIn}
+use Rattle.plan_space.specs.Numbers.{OrderLiesIn}
 use Rattle.plan_space.specs.Nodes.{Kind, native, gather, broadcast, sort, gather_merge, redistribute, Tree, leaf, over, two}
 use Rattle.plan_space.specs.Lines.{LeftDist, fixed_dist, same_dist, same_spread, LeftOrder, fixed_order, same_order, Line, alone, above, beside, line_of}
 use Rattle.plan_space.specs.Gives.{Kid, left_dist, left_order, left_gives, line_gives, gives_by, node_group, node_gives, kid_of, gives}
 use Rattle.plan_space.specs.Valid.{OverOne, LineFits, FitsBy, EnforcerFits, NodeFits, IsValid}
-use Rattle.plan_space.specs.Laws.{GivenDistFits, GivenFits, KidsFit}
+use Rattle.plan_space.specs.Laws.{DistLiesIn, GivenFits, KidsFit}
 use Rattle.plan_space.proofs.Numbers.{ListingIsOne}
-use Rattle.plan_space.proofs.Fitting.{FixedDistFits, FixedOrderFits, LeftFits, HasItemsOf, IsFitting, no_order_fits, candidate_line_fits}
+use Rattle.plan_space.proofs.Candidates.{candidate_line_fits}
+use Rattle.plan_space.proofs.Fitting.{FixedDistFits, LeftFits, DistWithin, OrderWithin, LeftWithin, IsFitting, no_order_fits, dist_lies}
 
 module _ (q : Query) where
-  -- what lies in a group lies in each group that has its items
-  dist_kept : (group other : KeyParts) (dist : GivenDist) → HasItemsOf q group other → GivenDistFits q other dist → GivenDistFits q group dist
-  dist_kept group other One kept fits = tt
-  dist_kept group other (Hashed list) kept fits = record {
-    numbered = fits.numbered;
-    lies_in = All-weaker (λ i. IsTrue (has_item q other i)) (λ i. IsTrue (has_item q group i)) kept (list_of q list) fits.lies_in;
-  }
-  dist_kept group other Random kept fits = tt
-  dist_kept group other Copies kept fits = tt
-
-  -- likewise for the order beside it
-  given_kept : (group other : KeyParts) (given : Given) → HasItemsOf q group other → GivenFits q other given → GivenFits q group given
-  given_kept group other given kept fits = record {
-    dist = dist_kept group other given.dist kept fits.dist;
-    order =
-        All-weaker (λ element. IsTrue (has_item q other (element / 2))) (λ element. IsTrue (has_item q group (element / 2))) (λ element item. kept (element / 2) item)
-        (given_order q given.order) fits.order;
-  }
-
   -- ---- lines
 
-  -- the distribution that a line gives over a left child fits that child
-  left_dist_fits : (left : KeyParts) (dist : LeftDist) (given : GivenDist) → FixedDistFits q left dist → GivenDistFits q left given
-      → GivenDistFits q left (left_dist dist given)
-  left_dist_fits left (fixed_dist fixed asked) given fixes fits = fixes.0
-  left_dist_fits left same_dist given fixes fits = fits
-  left_dist_fits left same_spread given fixes fits = fits
+  -- the distribution that a line gives over a left child lies in the group
+  left_dist_lies : (group left : KeyParts) (dist : LeftDist) (given : GivenDist) → DistWithin q group left dist → FixedDistFits q left dist
+      → DistLiesIn q left given → DistLiesIn q group (left_dist dist given)
+  left_dist_lies group left (fixed_dist fixed asked) given within fixes lies = within
+  left_dist_lies group left same_dist given within fixes lies = within given (fixes given lies)
+  left_dist_lies group left same_spread given within fixes lies = within given (fixes given lies)
 
   -- so does the order
-  left_order_fits : (left : KeyParts) (order : LeftOrder) (given : GivenOrder) → FixedOrderFits q left order → OrderLiesIn q left (given_order q given)
-      → OrderLiesIn q left (given_order q (left_order order given))
-  left_order_fits left (fixed_order fixed asked) given fixes fits = fixes.0
-  left_order_fits left same_order given fixes fits = fits
+  left_order_lies : (group left : KeyParts) (order : LeftOrder) (given : GivenOrder) → OrderWithin q group left order
+      → OrderLiesIn q left (given_order q given) → OrderLiesIn q group (given_order q (left_order order given))
+  left_order_lies group left (fixed_order fixed asked) given within lies = within
+  left_order_lies group left same_order given within lies = within (given_order q given) lies
 
   -- what a line gives over a left child
-  left_gives_fits : (group : KeyParts) (dist : LeftDist) (order : LeftOrder) (left : Kid) → HasItemsOf q group left.group → LeftFits q left.group dist order
-      → GivenFits q left.group left.given → GivenFits q group (left_gives dist order left.given)
-  left_gives_fits group dist order left kept fixes fits =
-      given_kept group left.group (left_gives dist order left.given) kept (record {
-        dist = left_dist_fits left.group dist left.given.dist fixes.dist_fits fits.dist;
-        order = left_order_fits left.group order left.given.order fixes.order_fits fits.order;
-      })
+  left_gives_fits : (group : KeyParts) (dist : LeftDist) (order : LeftOrder) (left : Kid) → LeftWithin q group left.group dist order
+      → LeftFits q left.group dist order → GivenFits q left.group left.given → GivenFits q group (left_gives dist order left.given)
+  left_gives_fits group dist order left within fixes fits = record {
+    dist = left_dist_lies group left.group dist left.given.dist within.dist_within fixes.dist_fits fits.dist;
+    order = left_order_lies group left.group order left.given.order within.order_within fits.order;
+  }
 
   -- what a line gives over its kids
   line_gives_fits : (group : KeyParts) (children : Children) (line : Line) (kids : List Kid) → IsFitting q group children line → LineFits q line children kids
@@ -104,13 +82,13 @@ module _ (q : Query) where
     node_gives_fits : (node : Kind) (kids : List Kid) → NodeFits Member q node kids → KidsFit q kids → GivenFits q (node_group node kids) (node_gives q node kids)
     node_gives_fits (native e mode) kids fits kids_fit =
         mode_gives_fits e.group e.children (line_of q e mode) kids (λ line is. candidate_line_fits one q e mode line (known e fits.0) is) fits.1 kids_fit
-    node_gives_fits gather kids fits kids_fit = over_one gather (λ kid can fit. record { dist = tt; order = (no_order_fits q kid.group).1 }) kids fits kids_fit
-    node_gives_fits broadcast kids fits kids_fit = over_one broadcast (λ kid can fit. record { dist = tt; order = (no_order_fits q kid.group).1 }) kids fits kids_fit
+    node_gives_fits gather kids fits kids_fit = over_one gather (λ kid can fit. record { dist = dist_lies q kid.group One tt; order = (no_order_fits q kid.group).1 }) kids fits kids_fit
+    node_gives_fits broadcast kids fits kids_fit = over_one broadcast (λ kid can fit. record { dist = dist_lies q kid.group Copies tt; order = (no_order_fits q kid.group).1 }) kids fits kids_fit
     node_gives_fits (sort order) kids fits kids_fit = over_one (sort order) (λ kid can fit. record { dist = fit.dist; order = can.lies_in }) kids fits kids_fit
     node_gives_fits (gather_merge order) kids fits kids_fit =
-        over_one (gather_merge order) (λ kid can fit. record { dist = tt; order = can.can_sort.lies_in }) kids fits kids_fit
+        over_one (gather_merge order) (λ kid can fit. record { dist = dist_lies q kid.group One tt; order = can.can_sort.lies_in }) kids fits kids_fit
     node_gives_fits (redistribute list) kids fits kids_fit =
-        over_one (redistribute list) (λ kid can fit. record { dist = can.hash_fits; order = (no_order_fits q kid.group).1 }) kids fits kids_fit
+        over_one (redistribute list) (λ kid can fit. record { dist = dist_lies q kid.group (Hashed list) can.hash_fits; order = (no_order_fits q kid.group).1 }) kids fits kids_fit
 
     -- what a valid plan gives lies in its group, from the leaves up
     pub plan_gives_fits : (plan : Tree) → IsValid Member q plan → GivenFits q (kid_of q plan).group (gives q plan)

@@ -1,6 +1,10 @@
 pub mod Numbers
 pub mod Items
 pub mod Fitting
+pub mod Joins
+pub mod Leaves
+pub mod Grouped
+pub mod Candidates
 pub mod Given
 pub mod Splits
 pub mod Codes

@@ -1,10 +1,12 @@
--- The modes of an expression are below 192.
-use Rattle.std.proofs.Common.{◌≡◌, ℕ, ◌-◌, ◌<◌, Bool, true, refl, arith}
+-- The modes of an expression go no further than 128 and the number of its predicates or of its hashed lists.
+use Rattle.std.proofs.Common.{◌≡◌, ℕ, ◌+◌, ◌-◌, ◌<◌, ◌≤◌, Bool, true, length, refl, arith}
 use Rattle.std.specs.Prelude.{Option, Some, None, ◌==◌, nat_lt, slice_get, if◌then◌else◌}
 use Rattle.std.specs.Option.{option_map}
-use Rattle.std.proofs.lemmas.Bool.{cond_both, eqb-true}
+use Rattle.std.proofs.lemmas.Bool.{cond_both, and_parts, ltb-true, eqb-true}
 use Rattle.std.proofs.lemmas.Option.{slice_get_within}
+use Rattle.std.specs.List.{list_all}
 use Rattle.query_core.specs.Crossing.{crossing_at, crossing_of}
+use Rattle.query_core.specs.Keys.{is_grouped_by}
 use Rattle.query_core.specs.declared.expressions.Children.{Children}
 use Rattle.query_core.specs.declared.expressions.Children.TheVariants.{Zero, One, Two}
 use Rattle.query_core.specs.declared.expressions.ExprParts.{ExprParts}
@@ -14,12 +16,15 @@ use Rattle.query_core.specs.declared.predicate.Pred.{Pred}
 use Rattle.query_core.specs.declared.query.Query.{Query}
 use Rattle.query_core.specs.declared.words.KeyParts.{KeyParts}
 use Rattle.request_props.specs.declared.request.Dist.TheVariants as dists
-use Rattle.plan_space.specs.Lines.{Line, same_spread, on_one, only_line, hash_colocated, hash_line, merge_with, merge_colocated, merge_line, loop_line, leaf_line, kid_line, pair_line, line_over, line_of}
+use Rattle.request_props.specs.Numbered.{lists_of}
+use Rattle.plan_space.specs.Numbers.{list_of}
+use Rattle.plan_space.specs.Lines.{Line, same_spread, on_one, only_line, hash_colocated, hash_line, merge_with, merge_colocated, merge_line, loop_line, group_order, is_grouped_list, agg_line, leaf_line, kid_line, pair_line, line_over, line_of}
+use Rattle.plan_space.proofs.Few.{lists_few}
 
-module _ (q : Query) (line : Line) where
-  -- where the expression has the line in a mode, the mode is below 192
+module _ (q : Query) (most : ℕ) (lists_fit : length (lists_of q) ≤ most) (preds_fit : 40 ≤ most) (line : Line) where
+  -- where the expression has the line in a mode, the mode is below this
   abbrev IsFew : Option Line → ℕ → Type 0
-  IsFew found mode = found ≡ Some line → mode < 192
+  IsFew found mode = found ≡ Some line → mode < 128 + most
 
   no_line : (mode : ℕ) → IsFew None mode
   no_line mode never = cc
@@ -30,7 +35,7 @@ module _ (q : Query) (line : Line) where
   chosen_line mode test first second by_first by_second = cond_both test first second (λ found. IsFew found mode) by_first (λ fails. by_second)
 
   -- a line in one mode
-  mode_line : (mode only : ℕ) → only < 192 → (found : Option Line) → mode == only ≡ true → IsFew found mode
+  mode_line : (mode only : ℕ) → only < 128 + most → (found : Option Line) → mode == only ≡ true → IsFew found mode
   mode_line mode only few found same is = omega (arith, eqb-true mode only same, few)
 
   only_line_few : (own : Line) (mode : ℕ) → IsFew (only_line own mode) mode
@@ -42,8 +47,24 @@ module _ (q : Query) (line : Line) where
   leaf_few group (operators.IndexSeek index) mode = only_line_few _ mode
   leaf_few group operator mode = no_line mode
 
-  kid_few : (operator : Operator) (mode : ℕ) → IsFew (kid_line operator mode) mode
+  -- the line of a list
+  listed_line : (mode : ℕ) → is_grouped_list q (mode - 128) ≡ true → (found : Option Line) → IsFew found mode
+  listed_line mode grouped found is =
+      let numbered = and_parts (nat_lt (mode - 128) (length (lists_of q))) (list_all (is_grouped_by q) (list_of q (mode - 128))) grouped in
+      omega (arith, ltb-true (mode - 128) (length (lists_of q)) numbered.0, lists_fit)
+
+  -- an aggregation has a mode for each list at most
+  agg_few : (order mode : ℕ) → IsFew (agg_line q order mode) mode
+  agg_few order mode =
+      chosen_line mode (mode == 0) _ _ (mode_line mode 0 (omega arith) _)
+      (chosen_line mode (nat_lt mode 128) _ _ (λ below. no_line mode)
+      (chosen_line mode (is_grouped_list q (mode - 128)) _ _ (λ grouped. listed_line mode grouped _) (no_line mode)))
+
+  kid_few : (operator : Operator) (mode : ℕ) → IsFew (kid_line q operator mode) mode
   kid_few operators.Filter mode = only_line_few _ mode
+  kid_few operators.HashAgg mode = agg_few 0 mode
+  kid_few operators.StreamAgg mode = agg_few (group_order q) mode
+  kid_few operators.PartialAgg mode = only_line_few _ mode
   kid_few operator mode = no_line mode
 
   module _ (left right : KeyParts) where
@@ -58,7 +79,7 @@ module _ (q : Query) (line : Line) where
     sides_few line_with number (Some sides) is found = crossing_few number (slice_get q.preds number) sides refl is
 
     -- the line of a crossing equality, by the number of its predicate
-    crossing_line : (line_with : (ℕ × ℕ) → Line) (mode number : ℕ) → (number < 40 → mode < 192) → IsFew (option_map line_with (crossing_of q left right number)) mode
+    crossing_line : (line_with : (ℕ × ℕ) → Line) (mode number : ℕ) → (number < 40 → mode < 128 + most) → IsFew (option_map line_with (crossing_of q left right number)) mode
     crossing_line line_with mode number few is = few (sides_few line_with number (crossing_of q left right number) refl is)
 
     hash_few : (mode : ℕ) → IsFew (hash_line q left right mode) mode
@@ -66,13 +87,13 @@ module _ (q : Query) (line : Line) where
         chosen_line mode (mode == 0) _ _ (mode_line mode 0 (omega arith) _)
         (chosen_line mode (mode == 64) _ _ (mode_line mode 64 (omega arith) _)
         (chosen_line mode (nat_lt mode 128) _ _ (λ below. no_line mode)
-        (crossing_line (hash_colocated q) mode (mode - 128) (λ few. omega (arith, few)))))
+        (crossing_line (hash_colocated q) mode (mode - 128) (λ few. omega (arith, few, preds_fit)))))
 
     merge_few : (mode : ℕ) → IsFew (merge_line q left right mode) mode
     merge_few mode =
-        chosen_line mode (nat_lt mode 64) _ _ (λ below. crossing_line (merge_with q on_one dists.One) mode mode (λ few. omega (arith, few)))
-        (chosen_line mode (nat_lt mode 128) _ _ (λ below. crossing_line (merge_with q same_spread dists.Copies) mode (mode - 64) (λ few. omega (arith, few)))
-        (crossing_line (merge_colocated q) mode (mode - 128) (λ few. omega (arith, few))))
+        chosen_line mode (nat_lt mode 64) _ _ (λ below. crossing_line (merge_with q on_one dists.One) mode mode (λ few. omega (arith, few, preds_fit)))
+        (chosen_line mode (nat_lt mode 128) _ _ (λ below. crossing_line (merge_with q same_spread dists.Copies) mode (mode - 64) (λ few. omega (arith, few, preds_fit)))
+        (crossing_line (merge_colocated q) mode (mode - 128) (λ few. omega (arith, few, preds_fit))))
 
     loop_few : (mode : ℕ) → IsFew (loop_line mode) mode
     loop_few mode =
@@ -90,6 +111,10 @@ module _ (q : Query) (line : Line) where
   line_few group operator (One child) mode = kid_few operator mode
   line_few group operator (Two left right) mode = pair_few left right operator mode
 
--- an expression has lines in modes below 192 only
-pub few_modes : (q : Query) (e : ExprParts) (mode : ℕ) (line : Line) → line_of q e mode ≡ Some line → mode < 192
-few_modes q e mode line = line_few q line e.group e.operator e.children mode
+-- an expression has lines in modes below 192 only, where the query has few hashed lists
+pub few_modes : (q : Query) → length (lists_of q) ≤ 60 → (e : ExprParts) (mode : ℕ) (line : Line) → line_of q e mode ≡ Some line → mode < 192
+few_modes q few e mode line = line_few q 64 (omega (arith, few)) (omega arith) line e.group e.operator e.children mode
+
+-- and below 256 in each query
+pub byte_modes : (q : Query) (e : ExprParts) (mode : ℕ) (line : Line) → line_of q e mode ≡ Some line → mode < 256
+byte_modes q e mode line = line_few q 128 (omega (arith, lists_few q)) (omega arith) line e.group e.operator e.children mode

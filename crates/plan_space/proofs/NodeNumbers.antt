@@ -13,7 +13,7 @@ use Rattle.plan_space.specs.Nodes.{Kind, native, gather, broadcast, sort, gather
 use Rattle.plan_space.specs.Lines.{LeftDist, LeftOrder, Line, alone, above, beside, line_of}
 use Rattle.plan_space.specs.Gives.{Kid}
 use Rattle.plan_space.specs.Valid.{OverOne, OverTwo, OneFits, TwoFit, FitsBy, EnforcerFits, NodeFits}
-use Rattle.plan_space.proofs.Modes.{few_modes}
+use Rattle.plan_space.proofs.Modes.{byte_modes}
 
 -- an expression has a word, a mode is below 256, and orders and lists have no greater number than this
 abbrev pub IsInRange : ℕ → Kind → Type 0
@@ -34,7 +34,7 @@ module _ (Member : ExprParts → Type 0) (packed : (e : ExprParts) → Member e 
   mode_fits : (e : ExprParts) (mode : ℕ) (kids : List Kid) (found : Option Line) → line_of q e mode ≡ found
       → FitsBy q found e.children kids → mode < 256
   mode_fits e mode kids None is fits = absurd fits
-  mode_fits e mode kids (Some line) is fits = omega (arith, few_modes q e mode line is)
+  mode_fits e mode kids (Some line) is fits = omega (arith, byte_modes q e mode line is)
 
   -- the nodes of valid plans are in range
   pub fits_in_range : (node : Kind) (kids : List Kid) → NodeFits Member q node kids → IsInRange most node

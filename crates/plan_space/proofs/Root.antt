@@ -80,12 +80,15 @@ column_of_first count (item ∷ items) zero placed within =
     eq-eqb (bit (2 ^ count - 1) item.table) 1 (first_has count item.table (ltb-true item.table count (and_parts _ _ placed).0))
 column_of_first count (item ∷ items) (suc i) placed within = column_of_first count items i (and_parts _ _ placed).1 (omega (arith, within))
 
+-- each item is one of the group that joins all tables
+pub input_item : (q : Query) (i : ℕ) → i < length q.items → IsTrue (has_item q (input_of q) i)
+input_item q i within = column_top q (2 ^ length q.tables - 1) i (column_of_first (length q.tables) q.items i q.items_valid.placed within)
+
 -- what may stand in the output and the order of the query are items of its root
 root_item : (q : Query) (grouped : Bool) (i : ℕ) → IsTrue (is_root_item q.items grouped q.group_by q.aggs i)
     → IsTrue (has_item q (if grouped then groups.Agg else input_of q) i)
 root_item q true i item = item
-root_item q false i item =
-    column_top q (2 ^ length q.tables - 1) i (column_of_first (length q.tables) q.items i q.items_valid.placed (ltb-true i (length q.items) item))
+root_item q false i item = input_item q i (ltb-true i (length q.items) item)
 
 -- ---- the order of ORDER BY
 

@@ -24,7 +24,7 @@ use Rattle.plan_space.specs.Gives.{Kid, left_dist, left_order, left_gives, line_
 use Rattle.plan_space.specs.Valid.{IsSpread, DistNeeds, OrderNeeds, LeftNeeds, LineFits, FitsBy, NativeFits}
 use Rattle.plan_space.specs.Alternatives.{WantsSpread, dist_asked, order_asked, left_asked, DistServes, OrderServes, LeftServes, LineServes, asked_of, KidsServe, IsAlternative}
 use Rattle.plan_space.specs.Choices.{groups_of}
-use Rattle.plan_space.specs.Laws.{GivenDistFits, GivenFits, KidsFit, AreOf, RequestsFit}
+use Rattle.plan_space.specs.Laws.{GivenDistFits, DistLiesIn, GivenFits, KidsFit, AreOf, RequestsFit}
 use Rattle.plan_space.proofs.Fitting.{FixedDistFits, FixedOrderFits, LeftFits, FixesWhatFits}
 
 -- rows that are spread meet only what asks for spread rows
@@ -102,10 +102,10 @@ order_joins q same_order gives wanted serves begins = (tt, begins)
 
 -- what is asked of the left child fits it: the line's own does, and the request's where the child gives it
 dist_asked_fits : (q : Query) (left : KeyParts) (dist : LeftDist) (gives : GivenDist) (wanted : Dist) → FixedDistFits q left dist
-    → GivenDistFits q left gives → Meets (left_dist dist gives) wanted → DistFits q left (dist_asked dist wanted)
-dist_asked_fits q left (fixed_dist fixed asked) gives wanted fixes fits meets = fixes.1
-dist_asked_fits q left same_dist gives wanted fixes fits meets = met_fits q left gives wanted fits meets
-dist_asked_fits q left same_spread gives wanted fixes fits meets = met_fits q left gives wanted fits meets
+    → DistLiesIn q left gives → Meets (left_dist dist gives) wanted → DistFits q left (dist_asked dist wanted)
+dist_asked_fits q left (fixed_dist fixed asked) gives wanted fixes lies meets = fixes.1
+dist_asked_fits q left same_dist gives wanted fixes lies meets = met_fits q left gives wanted (fixes gives lies) meets
+dist_asked_fits q left same_spread gives wanted fixes lies meets = met_fits q left gives wanted (fixes gives lies) meets
 
 -- likewise the order
 order_asked_fits : (q : Query) (left : KeyParts) (order : LeftOrder) (gives : GivenOrder) (wanted : ℕ) → FixedOrderFits q left order

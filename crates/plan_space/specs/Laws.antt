@@ -4,6 +4,7 @@ use Rattle.query_core.specs.Keys.{root_of}
 use Rattle.query_core.specs.Expressions.{IsCandidate}
 use Rattle.query_core.specs.declared.query.Query.{Query}
 use Rattle.query_core.specs.declared.words.KeyParts.{KeyParts}
+use Rattle.query_core.specs.declared.words.KeyParts.TheVariants as groups
 use Rattle.query_core.specs.declared.expressions.ExprParts.{ExprParts}
 use Rattle.xform_rules.specs.Closure.{IsMember}
 use Rattle.request_props.specs.Numbered.{lists_of, orders_of, IsProps}
@@ -29,9 +30,17 @@ GivenDistFits q group (Hashed list) = HashFits q group list
 GivenDistFits q group Random = ⊤
 GivenDistFits q group Copies = ⊤
 
--- the list and the order that are given lie in the group
+-- so it is in each group, but that the rows of partial groups lie where those of the input lay, by whatever list
+abbrev pub DistLiesIn : Query → KeyParts → GivenDist → Type 0
+DistLiesIn q (groups.Get t) dist = GivenDistFits q (groups.Get t) dist
+DistLiesIn q (groups.Filter t) dist = GivenDistFits q (groups.Filter t) dist
+DistLiesIn q (groups.Join set) dist = GivenDistFits q (groups.Join set) dist
+DistLiesIn q groups.Partial dist = ⊤
+DistLiesIn q groups.Agg dist = GivenDistFits q groups.Agg dist
+
+-- what is given lies in the group: its distribution and its order do
 pub record GivenFits (q : Query) (group : KeyParts) (given : Given) : Type 0 where
-  pub dist : GivenDistFits q group given.dist
+  pub dist : DistLiesIn q group given.dist
   pub order : OrderLiesIn q group (given_order q given.order)
 
 -- what each kid gives lies in its group
@@ -103,6 +112,7 @@ RootRequestFits q = Fits q (root_of q) (root_request q)
 abbrev pub RootRequestIsCollected : Query → Type 0
 RootRequestIsCollected q = (props : Props) → IsProps q props → props.root ≡ root_request q
 
--- an expression has lines in modes below 192 only
+-- where a query has at most 60 hashed lists, an expression has lines in modes below 192 only
 abbrev pub ModesAreFew : Query → Type 0
-ModesAreFew q = (e : ExprParts) (mode : ℕ) (line : Line) → line_of q e mode ≡ Some line → mode < 192
+ModesAreFew q =
+    length (lists_of q) ≤ 60 → (e : ExprParts) (mode : ℕ) (line : Line) → line_of q e mode ≡ Some line → mode < 192

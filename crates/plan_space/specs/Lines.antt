@@ -1,7 +1,9 @@
 -- How physical expressions work: for each mode of an expression, what it needs of its children and what it gives.
-use Rattle.std.specs.Prelude.{ℕ, ◌*◌, ◌-◌, ◌==◌, [], ◌∷◌, Option, None, Some, nat_lt, if◌then◌else◌}
+use Rattle.std.specs.Prelude.{ℕ, Bool, ◌*◌, ◌-◌, ◌==◌, ◌&&◌, [], ◌∷◌, length, Option, None, Some, nat_lt, if◌then◌else◌}
+use Rattle.std.specs.List.{list_all}
 use Rattle.std.specs.Option.{option_map}
 use Rattle.query_core.specs.Crossing.{crossing_of}
+use Rattle.query_core.specs.Keys.{is_grouped_by}
 use Rattle.query_core.specs.declared.query.Query.{Query}
 use Rattle.query_core.specs.declared.words.KeyParts.{KeyParts}
 use Rattle.query_core.specs.declared.words.KeyParts.TheVariants as groups
@@ -10,6 +12,8 @@ use Rattle.query_core.specs.declared.expressions.Operator.TheVariants as operato
 use Rattle.query_core.specs.declared.expressions.Children.{Children}
 use Rattle.query_core.specs.declared.expressions.Children.TheVariants as arities
 use Rattle.query_core.specs.declared.expressions.ExprParts.{ExprParts}
+use Rattle.request_props.specs.Found.{ascending}
+use Rattle.request_props.specs.Numbered.{lists_of}
 use Rattle.request_props.specs.declared.given.GivenDist.{GivenDist}
 use Rattle.request_props.specs.declared.given.GivenDist.TheVariants as given
 use Rattle.request_props.specs.declared.given.GivenOrder.{GivenOrder}
@@ -17,7 +21,7 @@ use Rattle.request_props.specs.declared.given.GivenOrder.TheVariants.{Listed, In
 use Rattle.request_props.specs.declared.request.Dist.{Dist}
 use Rattle.request_props.specs.declared.request.Dist.TheVariants as dists
 use Rattle.request_props.specs.declared.request.Request.{Request}
-use Rattle.plan_space.specs.Numbers.{list_number, order_number, table_dist}
+use Rattle.plan_space.specs.Numbers.{list_number, list_of, order_number, table_dist}
 
 -- how the distribution goes with that of the left child: it is this one, over a child that meets the other; or it is the child's, wherever that is; or it is the child's, which is spread
 pub data LeftDist : Type 0 where
@@ -149,29 +153,45 @@ pair_line q operators.StreamAgg left right mode = None
 pair_line q operators.Partial left right mode = None
 pair_line q operators.PartialAgg left right mode = None
 
--- the line of an operator over one child
-abbrev pub kid_line : Operator → ℕ → Option Line
-kid_line operators.Get mode = None
-kid_line operators.Scan mode = None
-kid_line (operators.IndexScan index) mode = None
-kid_line operators.Select mode = None
-kid_line operators.Filter mode = only_line (above same_dist same_order) mode
-kid_line (operators.IndexSeek index) mode = None
-kid_line operators.NJoin mode = None
-kid_line operators.Join mode = None
-kid_line operators.HashJoin mode = None
-kid_line operators.MergeJoin mode = None
-kid_line operators.LoopJoin mode = None
-kid_line operators.Agg mode = None
-kid_line operators.HashAgg mode = None
-kid_line operators.StreamAgg mode = None
-kid_line operators.Partial mode = None
-kid_line operators.PartialAgg mode = None
+-- the order of the GROUP BY columns, each ascending
+abbrev pub group_order : Query → ℕ
+group_order q = order_number q (ascending q.group_by)
+
+-- the list has the number, and all of its columns are in GROUP BY
+abbrev pub is_grouped_list : Query → ℕ → Bool
+is_grouped_list q list = nat_lt list (length (lists_of q)) && list_all (is_grouped_by q) (list_of q list)
+
+-- an aggregation that gives this order, over a child in the same order: on one segment, or for each list within GROUP BY over rows that are hashed by it
+abbrev pub agg_line : Query → ℕ → ℕ → Option Line
+agg_line q order mode =
+    if mode == 0 then Some (above on_one (in_order order))
+    else if nat_lt mode 128 then None
+    else if is_grouped_list q (mode - 128) then Some (above (on_hashed (mode - 128)) (in_order order))
+    else None
+
+-- the line of an operator over one child; an aggregation of partial groups takes spread rows where they lie
+abbrev pub kid_line : Query → Operator → ℕ → Option Line
+kid_line q operators.Get mode = None
+kid_line q operators.Scan mode = None
+kid_line q (operators.IndexScan index) mode = None
+kid_line q operators.Select mode = None
+kid_line q operators.Filter mode = only_line (above same_dist same_order) mode
+kid_line q (operators.IndexSeek index) mode = None
+kid_line q operators.NJoin mode = None
+kid_line q operators.Join mode = None
+kid_line q operators.HashJoin mode = None
+kid_line q operators.MergeJoin mode = None
+kid_line q operators.LoopJoin mode = None
+kid_line q operators.Agg mode = None
+kid_line q operators.HashAgg mode = agg_line q 0 mode
+kid_line q operators.StreamAgg mode = agg_line q (group_order q) mode
+kid_line q operators.Partial mode = None
+kid_line q operators.PartialAgg mode = only_line (above same_spread (in_order 0)) mode
 
 -- the line of an operator over these children
 abbrev pub line_over : Query → KeyParts → Operator → Children → ℕ → Option Line
 line_over q group operator arities.Zero mode = leaf_line q group operator mode
-line_over q group operator (arities.One child) mode = kid_line operator mode
+line_over q group operator (arities.One child) mode = kid_line q operator mode
 line_over q group operator (arities.Two left right) mode = pair_line q operator left right mode
 
 -- the line of an expression in a mode, if it has the mode

@@ -83,7 +83,7 @@ pub fn root_request_is_collected()
     listing_is_one();
 }
 
-/// An expression has few modes.
+/// An expression has few modes, where the query has at most 60 hashed lists.
 pub fn modes_are_few()
     ensures few { (q : Query) → ModesAreFew q }
 {}

@@ -1,4 +1,4 @@
-use Rattle.plan_space.proofs.Fitting.{candidate_line_fits}
+use Rattle.plan_space.proofs.Candidates.{candidate_line_fits}
 use Rattle.plan_space.proofs.Splits.{satisfaction_splits, satisfaction_joins}
 use Rattle.plan_space.proofs.laws.satisfaction_splits.Goals as goal
 

@@ -1,4 +1,4 @@
-use Rattle.plan_space.proofs.Fitting.{candidate_line_fits}
+use Rattle.plan_space.proofs.Candidates.{candidate_line_fits}
 use Rattle.plan_space.proofs.Splits.{asks_what_fits}
 use Rattle.plan_space.proofs.laws.what_is_asked_fits.Goals as goal
 

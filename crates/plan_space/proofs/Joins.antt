@@ -1,0 +1,109 @@
+-- The lines of joins fix what fits their children, and give what lies in their group.
+use Rattle.std.proofs.Common.{◌≡◌, ℕ, ◌-◌, Bool, refl, subst, nat_lt}
+use Rattle.std.specs.Prelude.{Option, Some, None, ◌==◌, if◌then◌else◌}
+use Rattle.std.specs.Option.{option_map}
+use Rattle.std.proofs.lemmas.Bool.{cond_both}
+use Rattle.query_core.specs.Crossing.{crossing_of}
+use Rattle.query_core.specs.declared.query.Query.{Query}
+use Rattle.query_core.specs.declared.words.KeyParts.{KeyParts}
+use Rattle.query_core.specs.declared.expressions.Operator.{Operator}
+use Rattle.query_core.specs.declared.expressions.Operator.TheVariants as operators
+use Rattle.query_core.specs.declared.expressions.Children.TheVariants.{Two}
+use Rattle.request_props.specs.declared.request.Request.{Request}
+use Rattle.request_props.specs.declared.request.Dist.{Dist}
+use Rattle.request_props.specs.declared.request.Dist.TheVariants as dists
+use Rattle.plan_space.specs.Numbers.{DistFits, Fits}
+use Rattle.plan_space.specs.Lines.{LeftDist, same_spread, LeftOrder, same_order, Line, beside, request, column_order, column_list, in_order, on_one, on_hashed, hash_colocated, hash_line, merge_with, merge_colocated, merge_line, loop_line, pair_line}
+use Rattle.plan_space.proofs.Numbers.{ListingIsOne}
+use Rattle.plan_space.proofs.Items.{AreSides, JoinsGroups}
+use Rattle.plan_space.proofs.Fitting.{FixedDistFits, FixedOrderFits, LeftFits, DistsFit, IsFitting, column_hash_fits, column_order_fits, no_order_fits, in_order_fits, on_hashed_fits, plain_fits, items_within}
+
+module _ (one : ListingIsOne) (q : Query) (group left right : KeyParts) (lists_fit : DistsFit q left) (joins : JoinsGroups q group left right) where
+  -- a line beside the right child fits
+  abbrev JoinFits : Line → Type 0
+  JoinFits line = IsFitting q group (Two left right) line
+
+  -- it does where what it fixes fits
+  join_fits : (dist : LeftDist) (order : LeftOrder) (asked : Request) → FixedDistFits q left dist → FixedOrderFits q left order → Fits q right asked
+      → JoinFits (beside dist order asked)
+  join_fits dist order asked dist_fits order_fits right_fits =
+      let left_fits : LeftFits q left dist order = record { dist_fits = dist_fits; order_fits = order_fits } in
+      record { fixes = (left_fits, right_fits); gives = items_within q group left joins.kept dist order left_fits }
+
+  -- a hash join by a crossing equality, of rows hashed alike
+  hash_colocated_fits : (sides : ℕ × ℕ) → AreSides q left right sides → JoinFits (hash_colocated q sides)
+  hash_colocated_fits sides are =
+      join_fits (on_hashed (column_list q sides.0)) (in_order 0) (request (dists.Hashed (column_list q sides.1)) 0)
+      (on_hashed_fits q left (column_list q sides.0) (column_hash_fits one q left sides.0 are.in_left are.left_joined))
+      (in_order_fits q left 0 (no_order_fits q left))
+      (plain_fits q right (dists.Hashed (column_list q sides.1)) (column_hash_fits one q right sides.1 are.in_right are.right_joined))
+
+  -- a merge join by a crossing equality, from where its distributions fit
+  merge_fits : (dist : LeftDist) (asked : Dist) → FixedDistFits q left dist → DistFits q right asked → (sides : ℕ × ℕ) → AreSides q left right sides
+      → JoinFits (merge_with q dist asked sides)
+  merge_fits dist asked dist_fits right_fits sides are =
+      let left_order = column_order_fits one q left sides.0 are.in_left are.left_joined in
+      let right_order = column_order_fits one q right sides.1 are.in_right are.right_joined in
+      join_fits dist (in_order (column_order q sides.0)) (request asked (column_order q sides.1)) dist_fits
+      (in_order_fits q left (column_order q sides.0) left_order)
+      (record { dist = right_fits; numbered = right_order.0; order = right_order.1 })
+
+  merge_colocated_fits : (sides : ℕ × ℕ) → AreSides q left right sides → JoinFits (merge_colocated q sides)
+  merge_colocated_fits sides are =
+      merge_fits (on_hashed (column_list q sides.0)) (dists.Hashed (column_list q sides.1))
+      (on_hashed_fits q left (column_list q sides.0) (column_hash_fits one q left sides.0 are.in_left are.left_joined))
+      (column_hash_fits one q right sides.1 are.in_right are.right_joined) sides are
+
+  module _ (mode : ℕ) (line : Line) where
+    no_line : None ≡ Some line → JoinFits line
+    no_line never = cc
+
+    -- a line on one segment or over copies, in an order that fits
+    plain_line : (dist : LeftDist) (order : LeftOrder) (asked : Dist) → FixedDistFits q left dist → FixedOrderFits q left order → DistFits q right asked
+        → Some (beside dist order (request asked 0)) ≡ Some line → JoinFits line
+    plain_line dist order asked dist_fits order_fits right_fits is =
+        let same : beside dist order (request asked 0) ≡ line = cc in
+        subst JoinFits same (join_fits dist order (request asked 0) dist_fits order_fits (plain_fits q right asked right_fits))
+
+    -- the line of the sides that are found
+    line_of_sides : (line_with : (ℕ × ℕ) → Line) → ((sides : ℕ × ℕ) → AreSides q left right sides → JoinFits (line_with sides)) → (found : Option (ℕ × ℕ))
+        → ((sides : ℕ × ℕ) → found ≡ Some sides → AreSides q left right sides) → option_map line_with found ≡ Some line → JoinFits line
+    line_of_sides line_with fits None are is = let never : None ≡ Some line = is in cc
+    line_of_sides line_with fits (Some sides) are is =
+        let same : line_with sides ≡ line = cc in
+        subst JoinFits same (fits sides (are sides refl))
+
+    -- the line of a crossing equality
+    crossing_line : (line_with : (ℕ × ℕ) → Line) → ((sides : ℕ × ℕ) → AreSides q left right sides → JoinFits (line_with sides)) → (number : ℕ)
+        → option_map line_with (crossing_of q left right number) ≡ Some line → JoinFits line
+    crossing_line line_with fits number = line_of_sides line_with fits (crossing_of q left right number) (joins.sides number)
+
+    -- a line that is chosen by a test fits where both do
+    chosen_line : (test : Bool) (first second : Option Line) → (first ≡ Some line → JoinFits line) → (second ≡ Some line → JoinFits line)
+        → (if test then first else second) ≡ Some line → JoinFits line
+    chosen_line test first second by_first by_second = cond_both test first second (λ found. found ≡ Some line → JoinFits line) (λ passes. by_first) (λ fails. by_second)
+
+    hash_line_fits : hash_line q left right mode ≡ Some line → JoinFits line
+    hash_line_fits =
+        chosen_line (mode == 0) _ _ (plain_line on_one (in_order 0) dists.One (tt, tt) (in_order_fits q left 0 (no_order_fits q left)) tt)
+        (chosen_line (mode == 64) _ _ (plain_line same_spread (in_order 0) dists.Copies lists_fit (in_order_fits q left 0 (no_order_fits q left)) tt)
+        (chosen_line (nat_lt mode 128) _ _ no_line
+        (crossing_line (hash_colocated q) hash_colocated_fits (mode - 128))))
+
+    merge_line_fits : merge_line q left right mode ≡ Some line → JoinFits line
+    merge_line_fits =
+        chosen_line (nat_lt mode 64) _ _ (crossing_line (merge_with q on_one dists.One) (merge_fits on_one dists.One (tt, tt) tt) mode)
+        (chosen_line (nat_lt mode 128) _ _ (crossing_line (merge_with q same_spread dists.Copies) (merge_fits same_spread dists.Copies lists_fit tt) (mode - 64))
+        (crossing_line (merge_colocated q) merge_colocated_fits (mode - 128)))
+
+    loop_line_fits : loop_line mode ≡ Some line → JoinFits line
+    loop_line_fits =
+        chosen_line (mode == 0) _ _ (plain_line on_one same_order dists.One (tt, tt) tt tt)
+        (chosen_line (mode == 64) _ _ (plain_line same_spread same_order dists.Copies lists_fit tt tt) no_line)
+
+    -- a join's lines
+    pub pair_fits : (operator : Operator) → pair_line q operator left right mode ≡ Some line → JoinFits line
+    pair_fits operators.HashJoin = hash_line_fits
+    pair_fits operators.MergeJoin = merge_line_fits
+    pair_fits operators.LoopJoin = loop_line_fits
+    pair_fits operator = no_line
