@@ -5,3 +5,4 @@ pub mod Costs
 pub mod NodeNumbers
 pub mod Decided
 pub mod Modes
+pub mod Grouped

@@ -1,23 +1,16 @@
 -- The modes in which an expression may serve a request, ascending.
-use Rattle.std.proofs.Common.{◌≡◌, ◌≤◌, ◌<◌, ◌⊎◌, ◌+◌, ◌-◌, ℕ, zero, suc, Bool, true, false, List, [], ◌∷◌, Some, None, inl, inr, length, slice_get, slice_index, slice_index_or, refl, ap, sym, ◌∙◌, subst, add-one, arith, if◌then◌else◌}
+use Rattle.std.proofs.Common.{◌≡◌, ◌≤◌, ◌<◌, ◌⊎◌, ◌+◌, ℕ, zero, suc, Bool, true, false, List, [], ◌∷◌, Some, inl, inr, length, slice_get, slice_index, slice_index_or, refl, ap, sym, subst, add-one, arith, if◌then◌else◌}
 use Rattle.std.specs.List.{Contains}
 use Rattle.std.specs.List.Sorted.{IsStrictlyIncreasing}
 use Rattle.std.proofs.lemmas.Bool.{cases_lt}
-use Rattle.std.proofs.lemmas.Bool.Decides.{nat_tests}
 use Rattle.std.proofs.lemmas.List.Elements.{Contains-get_or}
 use Rattle.std.proofs.lemmas.List.Kept.{AllPairs-from_increasing}
-use Rattle.std.proofs.lemmas.Option.{slice_get_past}
-use Rattle.query_core.specs.Crossing.{crossing_of, crossing_at}
 use Rattle.query_core.specs.declared.query.Query.{Query}
-use Rattle.query_core.specs.declared.words.KeyParts.{KeyParts}
-use Rattle.query_core.specs.declared.expressions.Operator.{Operator}
-use Rattle.query_core.specs.declared.expressions.Operator.TheVariants as operators
-use Rattle.query_core.specs.declared.expressions.Children.{Children}
-use Rattle.query_core.specs.declared.expressions.Children.TheVariants as arities
 use Rattle.query_core.specs.declared.expressions.ExprParts.{ExprParts}
 use Rattle.request_props.specs.declared.request.Request.{Request}
-use Rattle.plan_space.specs.Lines.{Line, only_line, leaf_line, kid_line, pair_line, hash_line, merge_line, loop_line, line_over}
-use Rattle.plan_tree.specs.Alternatives.{HasAlternative, AreModes}
+use Rattle.request_props.specs.Numbered.{lists_of}
+use Rattle.plan_space.specs.Laws.{ModesAreFew}
+use Rattle.plan_tree.specs.Alternatives.{AreModes}
 use Rattle.plan_tree.proofs.Decided.{has, alternative_from_has, has_alternative}
 
 -- ---- the numbers that pass a test, so many of them looked at from this one on
@@ -99,64 +92,18 @@ passing_rises p from (suc left) = elim (either (p from)) [
   | inr not_it ↦ subst IsStrictlyIncreasing (sym (passing-pass p from left not_it)) (passing_rises p (from + 1) left)
 ]
 
--- ---- no mode is as high as 192
-
-cross_past : (q : Query) (left right : KeyParts) (number : ℕ) → 40 ≤ number → crossing_of q left right number ≡ None
-cross_past q left right number far =
-    let few = q.preds_valid.few in
-    ap (crossing_at q left right) (slice_get_past q.preds number (omega arith))
-
-only_past : (line : Line) (mode : ℕ) → 192 ≤ mode → only_line line mode ≡ None
-only_past line mode far = grind (arith, nat_tests)
-
-hash_past : (q : Query) (left right : KeyParts) (mode : ℕ) → 192 ≤ mode → hash_line q left right mode ≡ None
-hash_past q left right mode far = let none = cross_past q left right (mode - 128) (omega arith) in grind (arith, nat_tests)
-
-merge_past : (q : Query) (left right : KeyParts) (mode : ℕ) → 192 ≤ mode → merge_line q left right mode ≡ None
-merge_past q left right mode far = let none = cross_past q left right (mode - 128) (omega arith) in grind (arith, nat_tests)
-
-loop_past : (mode : ℕ) → 192 ≤ mode → loop_line mode ≡ None
-loop_past mode far = grind (arith, nat_tests)
-
-leaf_past : (q : Query) (group : KeyParts) (operator : Operator) (mode : ℕ) → 192 ≤ mode → leaf_line q group operator mode ≡ None
-leaf_past q group operators.Scan mode far = only_past _ mode far
-leaf_past q group (operators.IndexScan index) mode far = only_past _ mode far
-leaf_past q group (operators.IndexSeek index) mode far = only_past _ mode far
-leaf_past q group operator mode far = refl
-
-kid_past : (operator : Operator) (mode : ℕ) → 192 ≤ mode → kid_line operator mode ≡ None
-kid_past operators.Filter mode far = only_past _ mode far
-kid_past operator mode far = refl
-
-pair_past : (q : Query) (operator : Operator) (left right : KeyParts) (mode : ℕ) → 192 ≤ mode → pair_line q operator left right mode ≡ None
-pair_past q operators.HashJoin left right mode far = hash_past q left right mode far
-pair_past q operators.MergeJoin left right mode far = merge_past q left right mode far
-pair_past q operators.LoopJoin left right mode far = loop_past mode far
-pair_past q operator left right mode far = refl
-
-over_past : (q : Query) (group : KeyParts) (operator : Operator) (children : Children) (mode : ℕ) → 192 ≤ mode → line_over q group operator children mode ≡ None
-over_past q group operator arities.Zero mode far = leaf_past q group operator mode far
-over_past q group operator (arities.One child) mode far = kid_past operator mode far
-over_past q group operator (arities.Two left right) mode far = pair_past q operator left right mode far
-
-mode_within : (q : Query) (e : ExprParts) (wanted : Request) (mode : ℕ) → HasAlternative q e wanted mode → mode < 192
-mode_within q e wanted mode there = elim (cases_lt mode 192) [
-  | inl within ↦ within
-  | inr far ↦
-      let same = sym (over_past q e.group e.operator e.children mode far) ∙ there.1.is_line in
-      let never : ⊥ = cc in
-      absurd never
-]
-
 -- ---- the modes
 
--- those of the first 192 that are alternatives
-pub modes_are : (q : Query) (e : ExprParts) (wanted : Request) → AreModes q e wanted (passing (has q e wanted) 0 192)
-modes_are q e wanted = record {
+-- where there are no others, those of the first 192 that are alternatives
+pub modes_are : (q : Query) → ModesAreFew q → length (lists_of q) ≤ 60 → (e : ExprParts) (wanted : Request)
+    → AreModes q e wanted (passing (has q e wanted) 0 192)
+modes_are q few few_lists e wanted = record {
   rises = passing_rises (has q e wanted) 0 192;
   exact = λ mode. (
     λ there. alternative_from_has q e wanted mode (in_passing (has q e wanted) 0 192 mode there).2,
-    λ alternative. passing_has (has q e wanted) 0 192 mode (omega arith) (mode_within q e wanted mode alternative) (has_alternative q e wanted mode alternative),
+    λ alternative.
+        let within = few few_lists e mode alternative.0 alternative.1.is_line in
+        passing_has (has q e wanted) 0 192 mode (omega arith) (omega (arith, within)) (has_alternative q e wanted mode alternative),
   );
 }
 

@@ -18,6 +18,7 @@ use crate::line::Line;
 use crate::lines::line_of;
 use crate::node::{Node, NodeKind};
 use crate::serving::{asked_left, asked_right, left_child, right_child, serves};
+use plan_space::modes_are_few;
 use query_core::{
     Children, ExprParts, Key, KeyParts, Query, candidates_are_known, groups_are_known,
 };
@@ -67,6 +68,7 @@ pub fn alternative(
     requires numbered { IsNumbered query.now request.order }
     ensures { IsAltAt query.now expr request n result }
 {
+    modes_are_few();
     let mut seen = 0;
     for mode in 0..192 {
         match alternative_in(query, props, expr, request, mode) {

@@ -5,6 +5,7 @@ ghost use Rattle.std.specs.Prelude.{◌≡◌, ◌≤◌, ◌↔◌, IsTrue, len
 ghost use Rattle.std.specs.List.{All};
 ghost use Rattle.query_core.specs.Keys.{has_item};
 ghost use Rattle.request_props.specs.Numbered.{IsProps};
+ghost use Rattle.plan_space.specs.Lines.{is_grouped_list as is_list_grouped};
 ghost use Rattle.plan_space.specs.Numbers.{DistFits, Fits, HashFits, ListLiesIn};
 ghost use Rattle.plan_tree.specs.Enforcers.{OrderFits};
 
@@ -36,6 +37,15 @@ pub fn hash_fits(query: &Query, props: &Props, group: KeyParts, list: u32) -> bo
         Some(items) => list_lies_in(query, group, items.as_slice()),
         None => false,
     }
+}
+
+/// Whether the list has a number, and all of its columns are in GROUP BY.
+pub fn is_grouped_list(query: &Query, props: &Props, list: u32) -> bool
+    requires { IsProps query.now props.now }
+    ensures { result ≡ is_list_grouped query.now list }
+{
+    // The items of partial groups are the GROUP BY columns.
+    hash_fits(query, props, KeyParts::Partial, list)
 }
 
 fn dist_fits(query: &Query, props: &Props, group: KeyParts, dist: Dist) -> bool

@@ -8,13 +8,15 @@ ghost use Rattle.plan_space.specs.Lines.{line_of as line_by_table, leaf_line as 
 ghost use Rattle.plan_space.specs.Lines.{pair_line as pair_line_by_table, kid_line as kid_line_by_table};
 ghost use Rattle.plan_space.specs.Lines.{hash_line as hash_line_by_table, merge_line as merge_line_by_table};
 ghost use Rattle.plan_space.specs.Lines.{loop_line as loop_line_by_table, table_line as line_of_table};
+ghost use Rattle.plan_space.specs.Lines.{agg_line as agg_line_by_table};
 ghost use Rattle.plan_space.specs.Lines.{hash_colocated as hash_line_with, merge_with as merge_line_with};
 ghost use Rattle.plan_space.specs.Lines.{table_in as table_of_group, on_one, on_hashed, in_order};
 ghost use Rattle.plan_space.specs.Lines.{only_line as only_by_table, merge_colocated as merge_line_hashed};
 ghost use Rattle.plan_tree.specs.Meanings.{left_dist_of, left_order_of, table_line_of};
 
+use crate::fitting::is_grouped_list;
 use crate::line::{LeftDist, LeftOrder, Line};
-use crate::numbers::{column_list, column_order, table_dist};
+use crate::numbers::{column_list, column_order, group_order, table_dist};
 use query_core::{Children, ExprParts, KeyParts, Operator, Query};
 use request_props::{Dist, GivenDist, GivenOrder, Props, Request};
 
@@ -25,7 +27,7 @@ pub fn line_of(query: &Query, props: &Props, expr: ExprParts, mode: u32) -> Opti
 {
     match expr.children {
         Children::Zero => leaf_line(query, props, expr.group, expr.operator, mode),
-        Children::One(_) => kid_line(expr.operator, mode),
+        Children::One(_) => kid_line(query, props, expr.operator, mode),
         Children::Two(left, right) => { pair_line(query, props, expr.operator, left, right, mode) }
     }
 }
@@ -52,12 +54,35 @@ fn leaf_line(
 }
 
 // The line of an operator over one child.
-fn kid_line(operator: Operator, mode: u32) -> Option<Line>
-    ensures { option_map table_line_of result ≡ kid_line_by_table operator mode }
+fn kid_line(query: &Query, props: &Props, operator: Operator, mode: u32) -> Option<Line>
+    requires { IsProps query.now props.now }
+    ensures { option_map table_line_of result ≡ kid_line_by_table query.now operator mode }
 {
     match operator {
         Operator::Filter => only_line(Line::Above(LeftDist::Same, LeftOrder::Same), mode),
+        Operator::HashAgg => agg_line(query, props, 0, mode),
+        Operator::StreamAgg => agg_line(query, props, group_order(query, props), mode),
+        Operator::PartialAgg => {
+            only_line(Line::Above(LeftDist::SameSpread, left_in_order(0)), mode)
+        }
         _ => None,
+    }
+}
+
+// An aggregation that gives this order, over a child in the same order: on one segment, or for
+// each list within GROUP BY over rows that are hashed by it.
+fn agg_line(query: &Query, props: &Props, order: u32, mode: u32) -> Option<Line>
+    requires { IsProps query.now props.now }
+    ensures { option_map table_line_of result ≡ agg_line_by_table query.now order mode }
+{
+    if mode == 0 {
+        Some(Line::Above(left_on_one(), left_in_order(order)))
+    } else if mode < 128 {
+        None
+    } else if is_grouped_list(query, props, mode - 128) {
+        Some(Line::Above(left_on_hashed(mode - 128), left_in_order(order)))
+    } else {
+        None
     }
 }
 

@@ -1,12 +1,14 @@
 //! The numbers of hashed lists and of orders. No call here takes memory.
 #![tactic(auto)]
 
-ghost use Rattle.std.specs.Prelude.{◌≡◌, ◌*◌, ◌≤◌, [], ◌∷◌, bytes_eq, length};
+ghost use Rattle.std.specs.Prelude.{◌≡◌, ◌≤◌, bytes_eq, length};
 ghost use Rattle.std.specs.List.{position_or_len};
-ghost use Rattle.request_props.specs.Found.{elements_of};
+ghost use Rattle.request_props.specs.Found.{ascending, elements_of};
 ghost use Rattle.request_props.specs.Numbered.{IsProps};
 ghost use Rattle.plan_space.specs.Lines.{column_order as number_of_order, column_list as number_of_list};
+ghost use Rattle.plan_space.specs.Lines.{group_order as number_of_group};
 ghost use Rattle.plan_space.specs.Numbers.{list_number as number_of_hashed, table_dist as dist_of_table};
+ghost use Rattle.plan_space.specs.Numbers.{order_number};
 
 use orca_base::List;
 use query_core::{OrderKey, Query};
@@ -39,7 +41,26 @@ pub fn column_order(query: &Query, props: &Props, column: u32) -> u32
     requires { IsProps query.now props.now }
     ensures { result ≡ number_of_order query.now column }
 {
-    column_place(props.orders.as_slice(), column) as u32 + 1
+    ascending_order(query, props, &[column])
+}
+
+/// The number of the order of the GROUP BY columns, each ascending; 0 where there is none.
+pub fn group_order(query: &Query, props: &Props) -> u32
+    requires { IsProps query.now props.now }
+    ensures { result ≡ number_of_group query.now }
+{
+    ascending_order(query, props, query.group_by.as_slice())
+}
+
+// The number of the order of these columns, each ascending.
+fn ascending_order(query: &Query, props: &Props, columns: &[u32]) -> u32
+    requires { IsProps query.now props.now }
+    ensures { result ≡ order_number query.now (ascending columns.now) }
+{
+    match columns {
+        [] => 0,
+        [_, ..] => order_place(props.orders.as_slice(), columns) as u32 + 1,
+    }
 }
 
 fn list_number(query: &Query, props: &Props, list: &[u32]) -> u32
@@ -62,26 +83,29 @@ fn list_place(lists: &[List<u32>], list: &[u32]) -> usize
     lists.len()
 }
 
-// The first place of the order of the ascending column, or the length where it has none.
-fn column_place(orders: &[List<OrderKey>], column: u32) -> usize
+// The first place of the order of the columns, each ascending, or the length where it has none.
+fn order_place(orders: &[List<OrderKey>], columns: &[u32]) -> usize
     ensures value { result ≡
-        position_or_len (λ order. bytes_eq ((2 * column) ∷ []) (elements_of order)) orders.now }
+        position_or_len (λ order. bytes_eq (ascending columns.now) (elements_of order)) orders.now }
     ensures most { result ≤ length orders.now }
 {
     for place in 0..orders.len() {
-        if is_of_column(orders[place].as_slice(), column) {
+        if is_ascending(orders[place].as_slice(), columns) {
             return place;
         }
     }
     orders.len()
 }
 
-fn is_of_column(order: &[OrderKey], column: u32) -> bool
-    ensures { result ≡ bytes_eq ((2 * column) ∷ []) (elements_of order.now) }
+// Whether the order is that of the columns, each ascending.
+fn is_ascending(order: &[OrderKey], columns: &[u32]) -> bool
+    ensures { result ≡ bytes_eq (ascending columns.now) (elements_of order.now) }
 {
-    match order {
-        [] => false,
-        [key] => key.item == column && !key.desc,
-        [_, _, ..] => false,
+    match columns {
+        [] => order.is_empty(),
+        [column, others @ ..] => match order {
+            [] => false,
+            [key, keys @ ..] => { !key.desc && *column == key.item && is_ascending(keys, others) }
+        },
     }
 }

@@ -18,7 +18,7 @@ returns-then-seen-n c =
     let place = sym c.loop-mode.invariant.others ∙ first in
     record {
       modes = passing test 0 192;
-      are_modes = modes_are q c.args.expr c.args.request;
+      are_modes = modes_are q (c.modes_are_few.ensures.few q) c.requires.props.few_lists c.args.expr c.args.request;
       at_place = subst (λ (at : Option ℕ). IsAltOf q c.args.expr c.args.request at (Some c.in-Some.alt)) (sym place) line;
     }
 
@@ -54,6 +54,6 @@ returns c =
     let place = sym c.loop-mode.invariant.others ∙ none in
     record {
       modes = passing test 0 192;
-      are_modes = modes_are q c.args.expr c.args.request;
+      are_modes = modes_are q (c.modes_are_few.ensures.few q) c.requires.props.few_lists c.args.expr c.args.request;
       at_place = subst (λ (at : Option ℕ). IsAltOf q c.args.expr c.args.request at None) (sym place) refl;
     }
