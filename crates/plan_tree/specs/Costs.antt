@@ -1,9 +1,10 @@
 -- What the program says of a node's cost, over any plans that give what is asked of them.
-use Rattle.std.specs.Prelude.{ℕ, ◌≡◌, List, [], ◌∷◌, Option, None, Some, slice_get}
+use Rattle.std.specs.Prelude.{ℕ, ◌≡◌, ◌≤◌, List, [], ◌∷◌, Option, None, Some, slice_get}
 use Rattle.query_core.specs.declared.query.Query.{Query}
 use Rattle.query_core.specs.declared.words.KeyParts.{KeyParts}
 use Rattle.query_core.specs.declared.expressions.ExprParts.{ExprParts}
-use Rattle.cost_units.specs.Cost.{local_cost}
+use Rattle.cardinality.specs.Rows.{rows_of}
+use Rattle.cost_units.specs.Cost.{local_cost, most_rows}
 use Rattle.cost_units.specs.declared.shape.Class.{Class}
 use Rattle.cost_units.specs.declared.shape.Class.TheVariants as classes
 use Rattle.request_props.specs.Satisfied.{Satisfies}
@@ -18,6 +19,7 @@ use Rattle.plan_space.specs.Alternatives.{IsAlternative, asked_of, KidsServe}
 use Rattle.plan_space.specs.Choices.{groups_of}
 use Rattle.plan_space.specs.Laws.{AreOf}
 use Rattle.plan_space.specs.Cost.{shape_of, share_of}
+use Rattle.plan_tree.specs.declared.cost.ExprRows.{ExprRows}
 
 -- the cost of the expression in the mode over any plans of its children that give what is asked of them
 abbrev pub IsNativeCost : Query → ExprParts → ℕ → Request → ℕ → Type 0
@@ -63,3 +65,17 @@ first_asked q groups wishes = share_asked q (slice_get groups 0) (slice_get wish
 -- the share of the second of these groups by the second of these requests
 abbrev pub second_asked : Query → List KeyParts → List Request → ℕ
 second_asked q groups wishes = share_asked q (slice_get groups 1) (slice_get wishes 1)
+
+-- the rows of a group; 0 where there is none
+abbrev pub rows_if : Query → Option KeyParts → ℕ
+rows_if q None = 0
+rows_if q (Some group) = rows_of q group
+
+-- the rows of the expression's group and of its children, none more than a group may have
+pub record AreRowsOf (q : Query) (e : ExprParts) (rows : ExprRows) : Type 0 where
+  pub left : rows.left ≡ rows_if q (slice_get (groups_of e.children) 0)
+  pub right : rows.right ≡ rows_if q (slice_get (groups_of e.children) 1)
+  pub own : rows.own ≡ rows_of q e.group
+  pub few_left : rows.left ≤ most_rows
+  pub few_right : rows.right ≤ most_rows
+  pub few_own : rows.own ≤ most_rows

@@ -1,7 +1,7 @@
 //! The modes in which an expression may serve a request. No call here takes memory.
 #![tactic(auto)]
 
-ghost use Rattle.std.specs.Prelude.{ℕ, ◌≡◌, ◌<◌, List, IfSome};
+ghost use Rattle.std.specs.Prelude.{ℕ, ◌≡◌, ◌<◌, List, Some, IfSome};
 ghost use Rattle.query_core.specs.declared.query.Query.{Query as AnyQuery};
 ghost use Rattle.query_core.specs.declared.expressions.ExprParts.{ExprParts as Parts};
 ghost use Rattle.request_props.specs.declared.request.Request.{Request as AnyRequest};
@@ -10,6 +10,7 @@ ghost use Rattle.query_core.specs.declared.words.KeyParts.{KeyParts as Group};
 ghost use Rattle.query_core.specs.Expressions.{IsCandidate, IsChild};
 ghost use Rattle.request_props.specs.Numbered.{IsProps, IsNumbered};
 ghost use Rattle.plan_space.specs.Alternatives.{LineServes, asked_of};
+ghost use Rattle.plan_space.specs.Lines.{line_of as line_by_table};
 ghost use Rattle.plan_space.specs.Choices.{groups_of};
 ghost use Rattle.plan_tree.specs.Meanings.{table_line_of};
 ghost use Rattle.plan_tree.specs.Alternatives.{AreAsked, AreModes, IsAltAt, IsAltIn, IsAsk};
@@ -46,8 +47,27 @@ pub fn alternative_in(
     requires few { mode < 256 }
     ensures { IsAltIn query.now expr request mode result }
 {
-    candidates_are_known();
     let line = line_of(query, props, expr, mode)?;
+    alternative_by(query, props, expr, request, mode, line)
+}
+
+/// The same, with the line that the expression has in the mode.
+pub fn alternative_by(
+    query: &Query,
+    props: &Props,
+    expr: ExprParts,
+    request: Request,
+    mode: u32,
+    line: Line,
+) -> Option<Alt>
+    requires props { IsProps query.now props.now }
+    requires candidate { IsCandidate query.now expr }
+    requires numbered { IsNumbered query.now request.order }
+    requires few { mode < 256 }
+    requires line { line_by_table query.now expr mode ≡ Some (table_line_of line) }
+    ensures { IsAltIn query.now expr request mode result }
+{
+    candidates_are_known();
     if !serves(query, props, line, expr.children, request) {
         return None;
     }

@@ -1,16 +1,17 @@
 //! What a node costs. No call here takes memory.
 #![tactic(auto)]
 
-ghost use Rattle.std.specs.Prelude.{ℕ, ◌≡◌, ◌≤◌, IfSome};
+ghost use Rattle.std.specs.Prelude.{ℕ, ◌≡◌, ◌≤◌, Option, Some, IfSome};
 ghost use Rattle.query_core.specs.declared.expressions.ExprParts.{ExprParts as Parts};
 ghost use Rattle.query_core.specs.declared.words.KeyParts.{KeyParts as Group};
 ghost use Rattle.query_core.specs.Keys.{IsGroup, IsKey, Names};
 ghost use Rattle.query_core.specs.Expressions.{IsCandidate};
 ghost use Rattle.cardinality.specs.Rows.{rows_of};
-ghost use Rattle.cost_units.specs.Cost.{IsBounded, most_rows, most_cost};
+ghost use Rattle.cost_units.specs.Cost.{IsBounded, most_rows, most_cost, share as share_of_rows};
 ghost use Rattle.request_props.specs.Numbered.{IsProps};
 ghost use Rattle.plan_space.specs.Alternatives.{asked_of};
 ghost use Rattle.plan_space.specs.Choices.{groups_of};
+ghost use Rattle.plan_space.specs.Lines.{line_of as line_by_table};
 ghost use Rattle.plan_space.specs.Cost.{operator_shape as shape_by_operator, share_of};
 ghost use Rattle.plan_tree.specs.Meanings.{table_line_of};
 ghost use Rattle.plan_tree.specs.Nodes.{kind_of, IsNode};
@@ -18,6 +19,7 @@ ghost use Rattle.plan_space.specs.Nodes.{Kind, native};
 ghost use Rattle.plan_tree.specs.Enforcers.{IsEnforcer};
 ghost use Rattle.plan_tree.specs.Costs.{IsNativeCost, IsEnforcerCost, IsCostAmong, below_of, class_asked as class_by_dist};
 ghost use Rattle.plan_tree.specs.Costs.{first_asked, second_asked, share_asked as share_by_request};
+ghost use Rattle.plan_tree.specs.Costs.{AreRowsOf, rows_if};
 
 use crate::line::Line;
 use crate::lines::line_of;
@@ -29,6 +31,14 @@ use query_core::{
     ExprParts, Key, KeyParts, Operator, Query, candidates_are_known, groups_are_known,
 };
 use request_props::{Dist, Props, Request};
+
+/// The rows of an expression's group, and of its children: 0 where there is none.
+#[derive(Clone, Copy, Debug, PartialEq, Eq)]
+pub struct ExprRows {
+    pub left: u64,
+    pub right: u64,
+    pub own: u64,
+}
 
 /// The cost of an expression in a mode that may serve the request.
 pub fn native_cost(
@@ -45,9 +55,39 @@ pub fn native_cost(
     ensures most { result ≤ most_cost }
 {
     match line_of(query, props, expr, mode) {
-        Some(line) => local(native_shape(query, expr, line, request)),
+        Some(line) => native_cost_by(query, expr, line, expr_rows(query, expr), request),
         None => 1,
     }
+}
+
+/// The rows of the expression's group and of its children.
+pub fn expr_rows(query: &Query, expr: ExprParts) -> ExprRows
+    requires { IsCandidate query.now expr }
+    ensures { AreRowsOf query.now expr result }
+{
+    candidates_are_known();
+    ExprRows {
+        left: child_rows(query, left_child(expr.children)),
+        right: child_rows(query, right_child(expr.children)),
+        own: group_rows(query, expr.group),
+    }
+}
+
+/// The cost of an expression in a mode with this line, where that may serve the request.
+pub fn native_cost_by(
+    query: &Query,
+    expr: ExprParts,
+    line: Line,
+    rows: ExprRows,
+    request: Request,
+) -> u64
+    requires rows { AreRowsOf query.now expr rows }
+    ensures value { (mode : ℕ) → line_by_table query.now expr mode ≡ Some (table_line_of line) →
+        IsNativeCost query.now expr mode request result }
+    ensures some { 1 ≤ result }
+    ensures most { result ≤ most_cost }
+{
+    local(native_shape(query, expr, line, rows, request))
 }
 
 /// The cost of an enforcer over a plan of the group that gives what is asked of it.
@@ -58,16 +98,21 @@ pub fn enforcer_cost(query: &Query, kind: NodeKind, group: KeyParts, below: Requ
     ensures some { 1 ≤ result }
     ensures most { result ≤ most_cost }
 {
-    local(match kind {
-        NodeKind::Native(_, _) => unreachable!(),
-        NodeKind::Gather => CostShape::Gather(group_rows(query, group)),
-        NodeKind::Broadcast => CostShape::Broadcast(group_rows(query, group)),
-        NodeKind::Sort(_) => CostShape::Sort(group_share(query, group, below.dist)),
-        NodeKind::GatherMerge(_) => CostShape::GatherMerge(group_rows(query, group)),
-        NodeKind::Redistribute(_) => {
-            CostShape::Redistribute(group_share(query, group, below.dist))
-        }
-    })
+    cost_over(query, kind, group_rows(query, group), below)
+}
+
+/// The cost of an enforcer for the request, over plans of a group with so many rows.
+pub fn enforcer_cost_by(query: &Query, rows: u64, request: Request, node: Node) -> u64
+    requires { rows ≤ most_rows }
+    ensures value { (g : Group) (k : Kind) → rows ≡ rows_of query.now g → IsNode node k →
+        IsCostAmong query.now k g request result }
+    ensures some { 1 ≤ result }
+    ensures most { result ≤ most_cost }
+{
+    match node.kind() {
+        Some(kind) => cost_among(query, kind, rows, request),
+        None => 1,
+    }
 }
 
 /// The cost of a node that may serve the request: an expression in a mode, or an enforcer.
@@ -111,6 +156,46 @@ fn kind_cost(query: &Query, props: &Props, group: KeyParts, request: Request, ki
     }
 }
 
+// The cost of an enforcer for the request, over so many rows.
+fn cost_among(query: &Query, kind: NodeKind, rows: u64, request: Request) -> u64
+    requires { rows ≤ most_rows }
+    ensures value { (g : Group) → rows ≡ rows_of query.now g →
+        IsCostAmong query.now (kind_of kind) g request result }
+    ensures some { 1 ≤ result }
+    ensures most { result ≤ most_cost }
+{
+    let below = below(kind, request);
+    match kind {
+        NodeKind::Native(_, _) => 1,
+        NodeKind::Gather => cost_over(query, kind, rows, below),
+        NodeKind::Broadcast => cost_over(query, kind, rows, below),
+        NodeKind::Sort(_) => cost_over(query, kind, rows, below),
+        NodeKind::GatherMerge(_) => cost_over(query, kind, rows, below),
+        NodeKind::Redistribute(_) => cost_over(query, kind, rows, below),
+    }
+}
+
+// The cost of an enforcer over so many rows that lie as asked.
+fn cost_over(query: &Query, kind: NodeKind, rows: u64, below: Request) -> u64
+    requires kind { IsEnforcer (kind_of kind) }
+    requires rows { rows ≤ most_rows }
+    ensures value { (g : Group) → rows ≡ rows_of query.now g →
+        IsEnforcerCost query.now (kind_of kind) g below result }
+    ensures some { 1 ≤ result }
+    ensures most { result ≤ most_cost }
+{
+    local(match kind {
+        NodeKind::Native(_, _) => unreachable!(),
+        NodeKind::Gather => CostShape::Gather(rows),
+        NodeKind::Broadcast => CostShape::Broadcast(rows),
+        NodeKind::Sort(_) => CostShape::Sort(rows_share(query, rows, below.dist)),
+        NodeKind::GatherMerge(_) => CostShape::GatherMerge(rows),
+        NodeKind::Redistribute(_) => {
+            CostShape::Redistribute(rows_share(query, rows, below.dist))
+        }
+    })
+}
+
 // What an enforcer for the request asks of a plan of the same group.
 fn below(kind: NodeKind, request: Request) -> Request
     ensures { result ≡ below_of (kind_of kind) request }
@@ -132,22 +217,23 @@ fn ask(dist: Dist, order: u32) -> Request
 }
 
 // What an expression has to do by a line.
-fn native_shape(query: &Query, expr: ExprParts, line: Line, request: Request) -> CostShape
-    requires { IsCandidate query.now expr }
+fn native_shape(
+    query: &Query,
+    expr: ExprParts,
+    line: Line,
+    rows: ExprRows,
+    request: Request,
+) -> CostShape
+    requires { AreRowsOf query.now expr rows }
     ensures value { result ≡ shape_by_operator expr.operator
         (first_asked query.now (groups_of expr.children) (asked_of (table_line_of line) request))
         (second_asked query.now (groups_of expr.children) (asked_of (table_line_of line) request))
         (share_of query.now expr.group (class_by_dist request.dist)) }
     ensures bounded { IsBounded result }
 {
-    candidates_are_known();
-    let left = child_share(query, left_child(expr.children), asked_left(line, request));
-    let right = child_share(
-        query,
-        right_child(expr.children),
-        asked_right(line, request),
-    );
-    let out = group_share(query, expr.group, request.dist);
+    let left = child_share(query, rows.left, asked_left(line, request));
+    let right = child_share(query, rows.right, asked_right(line, request));
+    let out = rows_share(query, rows.own, request.dist);
     operator_shape(expr.operator, left, right, out)
 }
 
@@ -180,25 +266,37 @@ fn operator_shape(operator: Operator, left: u64, right: u64, out: u64) -> CostSh
     }
 }
 
-// The share of a child by what is asked of it; 0 where there is none.
-fn child_share(query: &Query, group: Option<KeyParts>, asked: Option<Request>) -> u64
-    requires { IfSome group (IsGroup query.now) }
-    ensures value { result ≡ share_by_request query.now group asked }
+// The share of a child with so many rows by what is asked of it; 0 where there is none.
+fn child_share(query: &Query, rows: u64, asked: Option<Request>) -> u64
+    requires { rows ≤ most_rows }
+    ensures value { (group : Option Group) → rows ≡ rows_if query.now group →
+        result ≡ share_by_request query.now group asked }
     ensures most { result ≤ most_rows }
 {
-    match (group, asked) {
-        (Some(group), Some(asked)) => group_share(query, group, asked.dist),
-        _ => 0,
+    match asked {
+        Some(asked) => rows_share(query, rows, asked.dist),
+        None => 0,
     }
 }
 
-// The share of a group whose rows lie as asked.
-fn group_share(query: &Query, group: KeyParts, dist: Dist) -> u64
-    requires { IsGroup query.now group }
-    ensures value { result ≡ share_of query.now group (class_by_dist dist) }
+// The share of so many rows that lie as asked.
+fn rows_share(query: &Query, rows: u64, dist: Dist) -> u64
+    requires { rows ≤ most_rows }
+    ensures value { result ≡ share_of_rows rows (class_by_dist dist) query.now.segments }
     ensures most { result ≤ most_rows }
 {
-    share(group_rows(query, group), class_asked(dist), query.segments)
+    share(rows, class_asked(dist), query.segments)
+}
+
+fn child_rows(query: &Query, group: Option<KeyParts>) -> u64
+    requires { IfSome group (IsGroup query.now) }
+    ensures value { result ≡ rows_if query.now group }
+    ensures most { result ≤ most_rows }
+{
+    match group {
+        Some(group) => group_rows(query, group),
+        None => 0,
+    }
 }
 
 fn group_rows(query: &Query, group: KeyParts) -> u64

@@ -12,8 +12,10 @@ mod numbers;
 mod plan;
 mod serving;
 
-pub use alternatives::{Alt, alternative, alternative_in, modes_are_one};
-pub use cost::{enforcer_cost, native_cost, node_cost};
+pub use alternatives::{Alt, alternative, alternative_by, alternative_in, modes_are_one};
+pub use cost::{
+    ExprRows, enforcer_cost, enforcer_cost_by, expr_rows, native_cost, native_cost_by, node_cost,
+};
 pub use enforcers::{Enforced, enforcer};
 pub use fitting::fits;
 pub use line::{LeftDist, LeftOrder, Line};

@@ -16,7 +16,7 @@ ghost use Rattle.plan_tree.specs.Meanings.{left_dist_of, left_order_of, table_li
 use crate::fitting::fits;
 use crate::line::{LeftDist, LeftOrder, Line};
 use query_core::{Children, KeyParts, Query};
-use request_props::{Dist, Given, GivenDist, GivenOrder, Props, Request, satisfies};
+use request_props::{Dist, Given, GivenDist, GivenOrder, Props, Request, meets, satisfies};
 
 /// Whether the line is there for the request, over these children.
 pub fn serves(query: &Query, props: &Props, line: Line, children: Children, wanted: Request) -> bool
@@ -119,23 +119,16 @@ fn left_serves(
     ensures { IsTrue result ↔
         LeftServes query.now left (left_dist_of dist) (left_order_of order) wanted }
 {
-    dist_serves(query, props, dist, wanted.dist)
+    dist_serves(dist, wanted.dist)
         && order_serves(query, props, order, wanted.order)
         && fits(query, props, left, left_asked(dist, order, wanted))
 }
 
-fn dist_serves(query: &Query, props: &Props, dist: LeftDist, wanted: Dist) -> bool
-    requires { IsProps query.now props.now }
+fn dist_serves(dist: LeftDist, wanted: Dist) -> bool
     ensures { IsTrue result ↔ DistServes (left_dist_of dist) wanted }
 {
     match dist {
-        LeftDist::Fixed(given, _) => {
-            let unordered = Request {
-                dist: wanted,
-                order: 0,
-            };
-            gives(query, props, given, GivenOrder::Listed(0), unordered)
-        }
+        LeftDist::Fixed(given, _) => meets(given, wanted),
         LeftDist::Same => true,
         LeftDist::SameSpread => wants_spread(wanted),
     }
@@ -158,6 +151,7 @@ fn order_serves(query: &Query, props: &Props, order: LeftOrder, wanted: u32) -> 
     ensures { IsTrue result ↔ OrderServes query.now (left_order_of order) wanted }
 {
     match order {
+        _ if wanted == 0 => true,
         LeftOrder::Fixed(given, _) => {
             let anywhere = Request {
                 dist: Dist::One,

@@ -15,7 +15,7 @@ pub use given::{Given, GivenDist, GivenOrder};
 pub use numbering::listing_is_one;
 pub use props::Props;
 pub use request::{Dist, Request, code, request_of};
-pub use satisfaction::satisfies;
+pub use satisfaction::{meets, satisfies};
 
 #[cfg(test)]
 mod tests;

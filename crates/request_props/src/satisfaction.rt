@@ -22,7 +22,8 @@ pub fn satisfies(query: &Query, props: &Props, given: Given, request: Request) -
     meets(given.dist, request.dist) && has_order(query, props, given.order, request.order)
 }
 
-fn meets(given: GivenDist, wanted: Dist) -> bool
+/// Whether rows that lie so are distributed as asked.
+pub fn meets(given: GivenDist, wanted: Dist) -> bool
     ensures { IsTrue result ↔ Meets given wanted }
 {
     match (given, wanted) {
