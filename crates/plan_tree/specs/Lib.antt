@@ -5,3 +5,4 @@ pub mod Enforcers
 pub mod Costs
 pub mod Spells
 pub mod Found
+pub mod Seen

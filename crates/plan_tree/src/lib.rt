@@ -10,6 +10,8 @@ mod lines;
 mod node;
 mod numbers;
 mod plan;
+mod seen;
+mod seen_cost;
 mod serving;
 
 pub use alternatives::{Alt, alternative, alternative_by, alternative_in, modes_are_one};
@@ -17,11 +19,13 @@ pub use cost::{
     ExprRows, enforcer_cost, enforcer_cost_by, expr_rows, native_cost, native_cost_by, node_cost,
 };
 pub use enforcers::{Enforced, enforcer};
-pub use fitting::fits;
+pub use fitting::{fits, hash_fits, order_fits};
 pub use line::{LeftDist, LeftOrder, Line};
 pub use lines::line_of;
 pub use node::{Node, NodeKind, nodes_are_one};
 pub use plan::{Found, Plan};
+pub use seen::{Below, Seen, meets, plan_seen, seen_above, seen_below};
+pub use seen_cost::cost_above;
 
 #[cfg(test)]
 mod tests;

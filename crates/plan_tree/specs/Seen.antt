@@ -1,0 +1,46 @@
+-- What the program keeps of plans: what a node sees of one plan below it, and of all of them.
+use Rattle.std.specs.Prelude.{List, [], ◌∷◌, ⊤}
+use Rattle.query_core.specs.Keys.{IsGroup}
+use Rattle.query_core.specs.declared.query.Query.{Query}
+use Rattle.plan_space.specs.Nodes.{Kind, native, gather, broadcast, sort, gather_merge, redistribute, Tree, leaf, over, two}
+use Rattle.plan_space.specs.Gives.{Kid, kid_of}
+use Rattle.plan_tree.specs.declared.seen.Seen.{Seen}
+use Rattle.plan_tree.specs.declared.seen.Below.{Below}
+use Rattle.plan_tree.specs.declared.seen.Below.TheVariants.{Nothing, One, Two}
+
+-- the plan's group, and what it gives
+abbrev pub kid_seen : Seen → Kid
+kid_seen seen = record { group = seen.group; given = seen.given }
+
+-- what is seen of each plan below, the left one first
+abbrev pub kids_seen : Below → List Kid
+kids_seen Nothing = []
+kids_seen (One kid) = kid_seen kid ∷ []
+kids_seen (Two left right) = kid_seen left ∷ kid_seen right ∷ []
+
+-- the node at the root of a plan
+abbrev pub root_node : Tree → Kind
+root_node (leaf node) = node
+root_node (over node kid) = node
+root_node (two node left right) = node
+
+-- what the root of a plan sees of the plans below it
+abbrev pub kids_of : Query → Tree → List Kid
+kids_of q (leaf node) = []
+kids_of q (over node kid) = kid_of q kid ∷ []
+kids_of q (two node left right) = kid_of q left ∷ kid_of q right ∷ []
+
+-- the group of an expression is one of the query's
+abbrev pub HasGroup : Query → Kind → Type 0
+HasGroup q (native e mode) = IsGroup q e.group
+HasGroup q gather = ⊤
+HasGroup q broadcast = ⊤
+HasGroup q (sort order) = ⊤
+HasGroup q (gather_merge order) = ⊤
+HasGroup q (redistribute list) = ⊤
+
+-- the groups of the plans below are groups of the query
+abbrev pub HaveGroups : Query → Below → Type 0
+HaveGroups q Nothing = ⊤
+HaveGroups q (One kid) = IsGroup q kid.group
+HaveGroups q (Two left right) = IsGroup q left.group × IsGroup q right.group

@@ -1,0 +1,233 @@
+//! What nodes see of the plans below them, and what they give over these. No call here takes memory.
+#![tactic(auto)]
+
+ghost use Rattle.std.specs.Prelude.{◌≡◌, ◌↔◌, IsTrue};
+ghost use Rattle.request_props.specs.Numbered.{IsProps, IsNumbered, order_of};
+ghost use Rattle.request_props.specs.Satisfied.{Satisfies};
+ghost use Rattle.plan_space.specs.Nodes.{Kind, Tree};
+ghost use Rattle.plan_space.specs.Gives.{kid_of, kid_under, first_group as group_of_first, first_given as given_by_first};
+ghost use Rattle.plan_space.specs.Gives.{node_group as group_of_node, node_gives as given_by_node, native_gives as given_by_native};
+ghost use Rattle.plan_space.specs.Gives.{line_gives as given_by_line, left_gives as given_by_left, left_dist as dist_by_left, left_order as order_by_left};
+ghost use Rattle.plan_tree.specs.Meanings.{left_dist_of, left_order_of, table_line_of};
+ghost use Rattle.plan_tree.specs.Nodes.{kind_of, IsNode};
+ghost use Rattle.plan_tree.specs.Spells.{Spells};
+ghost use Rattle.plan_tree.specs.Seen.{kid_seen, kids_seen, kids_of};
+
+use crate::line::{LeftDist, LeftOrder, Line};
+use crate::lines::line_of;
+use crate::node::{Node, NodeKind};
+use crate::plan::Plan;
+use crate::serving::gives;
+use query_core::{ExprParts, KeyParts, Query};
+use request_props::{Given, GivenDist, GivenOrder, Props, Request};
+
+/// What a node sees of a plan below it: the plan's group, and what it gives.
+#[derive(Clone, Copy, Debug, PartialEq, Eq)]
+pub struct Seen {
+    pub group: KeyParts,
+    pub given: Given,
+}
+
+/// What a node sees of all plans below it.
+#[derive(Clone, Copy, Debug, PartialEq, Eq)]
+pub enum Below {
+    Nothing,
+    One(Seen),
+    /// The left plan and the right one.
+    Two(Seen, Seen),
+}
+
+/// What is seen of a plan.
+pub fn plan_seen(query: &Query, props: &Props, plan: &Plan) -> Seen
+    requires { IsProps query.now props.now }
+    ensures { (t : Tree) → Spells plan.now t → kid_seen result ≡ kid_of query.now t }
+{
+    match plan {
+        Plan::Leaf(node) => node_seen(query, props, *node, Below::Nothing),
+        Plan::Over(node, kid) => {
+            let below = Below::One(plan_seen(query, props, kid));
+            node_seen(query, props, *node, below)
+        }
+        Plan::Two(node, left, right) => {
+            let below = Below::Two(plan_seen(query, props, left), plan_seen(query, props, right));
+            node_seen(query, props, *node, below)
+        }
+    }
+}
+
+/// What the root of a plan sees of the plans below it.
+pub fn seen_below(query: &Query, props: &Props, plan: &Plan) -> Below
+    requires { IsProps query.now props.now }
+    ensures { (t : Tree) → Spells plan.now t → kids_seen result ≡ kids_of query.now t }
+{
+    match plan {
+        Plan::Leaf(_) => Below::Nothing,
+        Plan::Over(_, kid) => Below::One(plan_seen(query, props, kid)),
+        Plan::Two(_, left, right) => {
+            Below::Two(plan_seen(query, props, left), plan_seen(query, props, right))
+        }
+    }
+}
+
+/// What is seen of a node over plans that are seen so.
+pub fn seen_above(query: &Query, props: &Props, kind: NodeKind, below: Below) -> Seen
+    requires { IsProps query.now props.now }
+    ensures { kid_seen result ≡ kid_under query.now (kind_of kind) (kids_seen below) }
+{
+    Seen {
+        group: node_group(kind, below),
+        given: node_gives(query, props, kind, below),
+    }
+}
+
+/// Whether what is given is what is asked for. An order that isn't there counts as empty.
+pub fn meets(query: &Query, props: &Props, given: Given, wanted: Request) -> bool
+    requires { IsProps query.now props.now }
+    ensures { IsTrue result ↔ Satisfies query.now given wanted }
+{
+    gives(query, props, given.dist, given.order, known_request(query, props, wanted))
+}
+
+// The same of a node by its number; a number that no node has is seen as any plan.
+fn node_seen(query: &Query, props: &Props, node: Node, below: Below) -> Seen
+    requires { IsProps query.now props.now }
+    ensures { (kind : Kind) → IsNode node kind →
+        kid_seen result ≡ kid_under query.now kind (kids_seen below) }
+{
+    match node.kind() {
+        Some(kind) => seen_above(query, props, kind, below),
+        None => Seen {
+            group: KeyParts::Get(0),
+            given: unordered(GivenDist::One),
+        },
+    }
+}
+
+fn node_group(kind: NodeKind, below: Below) -> KeyParts
+    ensures { result ≡ group_of_node (kind_of kind) (kids_seen below) }
+{
+    match kind {
+        NodeKind::Native(expr, _) => expr.group,
+        NodeKind::Gather => first_group(below),
+        NodeKind::Broadcast => first_group(below),
+        NodeKind::Sort(_) => first_group(below),
+        NodeKind::GatherMerge(_) => first_group(below),
+        NodeKind::Redistribute(_) => first_group(below),
+    }
+}
+
+/// The group of the first plan below.
+pub fn first_group(below: Below) -> KeyParts
+    ensures { result ≡ group_of_first (kids_seen below) }
+{
+    match below {
+        Below::Nothing => KeyParts::Get(0),
+        Below::One(kid) => kid.group,
+        Below::Two(left, _) => left.group,
+    }
+}
+
+// What the first plan below gives.
+fn first_given(below: Below) -> Given
+    ensures { result ≡ given_by_first (kids_seen below) }
+{
+    match below {
+        Below::Nothing => unordered(GivenDist::One),
+        Below::One(kid) => kid.given,
+        Below::Two(left, _) => left.given,
+    }
+}
+
+fn node_gives(query: &Query, props: &Props, kind: NodeKind, below: Below) -> Given
+    requires { IsProps query.now props.now }
+    ensures { result ≡ given_by_node query.now (kind_of kind) (kids_seen below) }
+{
+    match kind {
+        NodeKind::Native(expr, mode) => native_gives(query, props, expr, mode, below),
+        NodeKind::Gather => unordered(GivenDist::One),
+        NodeKind::Broadcast => unordered(GivenDist::Copies),
+        NodeKind::Sort(order) => ordered(first_given(below).dist, order),
+        NodeKind::GatherMerge(order) => ordered(GivenDist::One, order),
+        NodeKind::Redistribute(list) => unordered(GivenDist::Hashed(list)),
+    }
+}
+
+fn unordered(dist: GivenDist) -> Given
+    ensures { result ≡ record { dist = dist; order = GivenOrder.Listed 0 } }
+{
+    ordered(dist, 0)
+}
+
+fn ordered(dist: GivenDist, order: u32) -> Given
+    ensures { result ≡ record { dist = dist; order = GivenOrder.Listed order } }
+{
+    Given {
+        dist,
+        order: GivenOrder::Listed(order),
+    }
+}
+
+fn native_gives(query: &Query, props: &Props, expr: ExprParts, mode: u32, below: Below) -> Given
+    requires { IsProps query.now props.now }
+    ensures { result ≡ given_by_native query.now expr mode (kids_seen below) }
+{
+    match line_of(query, props, expr, mode) {
+        Some(line) => line_gives(line, below),
+        None => unordered(GivenDist::One),
+    }
+}
+
+fn line_gives(line: Line, below: Below) -> Given
+    ensures { result ≡ given_by_line (table_line_of line) (kids_seen below) }
+{
+    match line {
+        Line::Alone(dist, order) => Given { dist, order },
+        Line::Above(dist, order) => left_gives(dist, order, first_given(below)),
+        Line::Beside(dist, order, _) => left_gives(dist, order, first_given(below)),
+    }
+}
+
+fn left_gives(dist: LeftDist, order: LeftOrder, given: Given) -> Given
+    ensures { result ≡ given_by_left (left_dist_of dist) (left_order_of order) given }
+{
+    Given {
+        dist: left_dist(dist, given.dist),
+        order: left_order(order, given.order),
+    }
+}
+
+fn left_dist(dist: LeftDist, given: GivenDist) -> GivenDist
+    ensures { result ≡ dist_by_left (left_dist_of dist) given }
+{
+    match dist {
+        LeftDist::Fixed(gives, _) => gives,
+        LeftDist::Same => given,
+        LeftDist::SameSpread => given,
+    }
+}
+
+fn left_order(order: LeftOrder, given: GivenOrder) -> GivenOrder
+    ensures { result ≡ order_by_left (left_order_of order) given }
+{
+    match order {
+        LeftOrder::Fixed(gives, _) => gives,
+        LeftOrder::Same => given,
+    }
+}
+
+// The same request, with an order that is there: one that isn't is empty.
+fn known_request(query: &Query, props: &Props, wanted: Request) -> Request
+    requires { IsProps query.now props.now }
+    ensures known { IsNumbered query.now result.order }
+    ensures dist { result.dist ≡ wanted.dist }
+    ensures same { order_of query.now result.order ≡ order_of query.now wanted.order }
+{
+    if wanted.order as usize <= props.orders.len() {
+        wanted
+    } else {
+        Request {
+            dist: wanted.dist,
+            order: 0,
+        }
+    }
+}
