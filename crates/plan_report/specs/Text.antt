@@ -114,11 +114,17 @@ merge_mode_text mode =
 abbrev pub loop_mode_text : ℕ → List ℕ
 loop_mode_text mode = if nat_lt mode 64 then codes "one" else codes "copied"
 
+-- how an aggregation works: on one segment, or on rows hashed by the list of this number
+abbrev pub agg_mode_text : Query → ℕ → List ℕ
+agg_mode_text q mode =
+    if nat_lt mode 128 then codes "one"
+    else codes "hashed " ++ list_text q (list_of q (mode - 128))
+
 -- a table, and the number of its index
 abbrev pub index_text : Query → ℕ → ℕ → List ℕ
 index_text q table index = table_text q table ++ codes ", i" ++ decimal index
 
--- an operator that makes the rows of the table, in a mode; a logical one is no node
+-- an operator in a mode, with the table whose rows it makes, if it makes a table's; a logical one is no node
 abbrev pub operator_text : Query → Operator → ℕ → ℕ → List ℕ
 operator_text q operators.Get table mode = []
 operator_text q operators.Scan table mode = codes "Scan(" ++ table_text q table ++ codes ")"
@@ -132,8 +138,8 @@ operator_text q operators.HashJoin table mode = codes "HashJoin(" ++ hash_mode_t
 operator_text q operators.MergeJoin table mode = codes "MergeJoin(" ++ merge_mode_text mode ++ codes ")"
 operator_text q operators.LoopJoin table mode = codes "LoopJoin(" ++ loop_mode_text mode ++ codes ")"
 operator_text q operators.Agg table mode = []
-operator_text q operators.HashAgg table mode = codes "HashAgg"
-operator_text q operators.StreamAgg table mode = codes "StreamAgg"
+operator_text q operators.HashAgg table mode = codes "HashAgg(" ++ agg_mode_text q mode ++ codes ")"
+operator_text q operators.StreamAgg table mode = codes "StreamAgg(" ++ agg_mode_text q mode ++ codes ")"
 operator_text q operators.Partial table mode = []
 operator_text q operators.PartialAgg table mode = codes "PartialAgg"
 

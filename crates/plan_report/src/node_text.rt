@@ -3,14 +3,13 @@
 
 ghost use Rattle.std.specs.Prelude.{◌≡◌, ◌++◌, IfOk, codes, string_bytes};
 ghost use Rattle.request_props.specs.Numbered.{IsProps};
-ghost use Rattle.plan_space.specs.Lines.{table_in as table_of_group};
 ghost use Rattle.plan_tree.specs.Nodes.{kind_of};
 ghost use Rattle.plan_report.specs.Text as texts;
 
 use crate::columns::table_text;
 use crate::lists::{list_text, order_text};
-use plan_tree::NodeKind;
-use query_core::{ExprParts, KeyParts, Operator, Query};
+use plan_tree::{NodeKind, table_in};
+use query_core::{ExprParts, Operator, Query};
 use request_props::Props;
 use std::alloc::{AllocError, Global};
 
@@ -25,7 +24,7 @@ pub fn node_text(
     ensures { IfOk result (λ s. string_bytes s ≡ texts.node_text query.now (kind_of kind)) }
 {
     match kind {
-        NodeKind::Native(expr, mode) => native_text(alloc, query, expr, mode),
+        NodeKind::Native(expr, mode) => native_text(alloc, query, props, expr, mode),
         NodeKind::Gather => Ok(String::from_str(alloc, "Gather")?),
         NodeKind::Broadcast => Ok(String::from_str(alloc, "Broadcast")?),
         NodeKind::Sort(order) => {
@@ -46,35 +45,33 @@ pub fn node_text(
 fn native_text(
     alloc: Global,
     query: &Query,
+    props: &Props,
     expr: ExprParts,
     mode: u32,
 ) -> Result<String, AllocError>
+    requires { IsProps query.now props.now }
     ensures { IfOk result (λ s. string_bytes s ≡ texts.native_text query.now expr mode) }
 {
-    operator_text(alloc, query, expr.operator, table_in(expr.group), mode)
+    operator_text(
+        alloc,
+        query,
+        props,
+        expr.operator,
+        table_in(expr.group),
+        mode,
+    )
 }
 
-// The table whose rows a group has.
-fn table_in(group: KeyParts) -> u32
-    ensures { result ≡ table_of_group group }
-{
-    match group {
-        KeyParts::Get(table) => table,
-        KeyParts::Filter(table) => table,
-        KeyParts::Join(_) => 0,
-        KeyParts::Partial => 0,
-        KeyParts::Agg => 0,
-    }
-}
-
-// An operator that makes the rows of the table, in a mode; nothing for a logical one.
+// An operator in a mode, with the table whose rows it makes; nothing for a logical one.
 fn operator_text(
     alloc: Global,
     query: &Query,
+    props: &Props,
     operator: Operator,
     table: u32,
     mode: u32,
 ) -> Result<String, AllocError>
+    requires { IsProps query.now props.now }
     ensures { IfOk result (λ s.
         string_bytes s ≡ texts.operator_text query.now operator table mode) }
 {
@@ -103,8 +100,14 @@ fn operator_text(
         Operator::MergeJoin => merge_text(alloc, mode),
         Operator::LoopJoin => loop_text(alloc, mode),
         Operator::Agg => Ok(String::new(alloc)),
-        Operator::HashAgg => Ok(String::from_str(alloc, "HashAgg")?),
-        Operator::StreamAgg => Ok(String::from_str(alloc, "StreamAgg")?),
+        Operator::HashAgg => {
+            let work = agg_mode_text(alloc, query, props, mode)?;
+            Ok(format!(in alloc; "HashAgg({work})")?)
+        }
+        Operator::StreamAgg => {
+            let work = agg_mode_text(alloc, query, props, mode)?;
+            Ok(format!(in alloc; "StreamAgg({work})")?)
+        }
         Operator::Partial => Ok(String::new(alloc)),
         Operator::PartialAgg => Ok(String::from_str(alloc, "PartialAgg")?),
     }
@@ -155,5 +158,23 @@ fn loop_text(alloc: Global, mode: u32) -> Result<String, AllocError>
         Ok(String::from_str(alloc, "LoopJoin(one)")?)
     } else {
         Ok(String::from_str(alloc, "LoopJoin(copied)")?)
+    }
+}
+
+// How an aggregation works: on one segment, or on rows hashed by a list.
+fn agg_mode_text(
+    alloc: Global,
+    query: &Query,
+    props: &Props,
+    mode: u32,
+) -> Result<String, AllocError>
+    requires { IsProps query.now props.now }
+    ensures { IfOk result (λ s. string_bytes s ≡ texts.agg_mode_text query.now mode) }
+{
+    if mode < 128 {
+        Ok(String::from_str(alloc, "one")?)
+    } else {
+        let columns = list_text(alloc, query, props, mode - 128)?;
+        Ok(format!(in alloc; "hashed {columns}")?)
     }
 }

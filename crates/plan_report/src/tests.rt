@@ -1,6 +1,6 @@
 //! Texts of plans that were made by hand.
 
-ghost use Rattle.std.specs.Prelude.{◌≡◌, ◌<◌, IfOk};
+ghost use Rattle.std.specs.Prelude.{◌≡◌, ◌<◌, ◌⊎◌, IfOk};
 
 use crate::plan_text;
 use orca_base::{List, Text};
@@ -90,14 +90,15 @@ fn two_tables(alloc: Global) -> Result<Query, AllocError> {
     })
 }
 
-// `SELECT COUNT(*), SUM(t.a) AS total, t.b FROM t GROUP BY t.b ORDER BY total DESC, t.b`
+// `SELECT COUNT(*), SUM(t.a) AS total, t.b FROM t WHERE t.a = 5 GROUP BY t.b ORDER BY total DESC, t.b`,
+// where t has 1,000 rows, hashed on a, and an index on a
 fn grouped(alloc: Global) -> Result<Query, AllocError> {
     let tables = vec![in alloc;
         QueryTable {
             alias: text(alloc, "t")?,
             rows: 1000,
-            hashed: None,
-            indexes: List::new(alloc)
+            hashed: Some(List::of(vec![in alloc; 0]?)),
+            indexes: List::of(vec![in alloc; List::of(vec![in alloc; 0]?)]?)
         },
     ]?;
     let items = vec![in alloc;
@@ -128,7 +129,13 @@ fn grouped(alloc: Global) -> Result<Query, AllocError> {
         segments: 4,
         tables: List::of(tables),
         items: List::of(items),
-        preds: List::new(alloc),
+        preds: List::of(vec![in alloc;
+            Pred {
+                left: 0,
+                op: CmpOp::Eq,
+                right: Operand::Int(5)
+            },
+        ]?),
         links: List::new(alloc),
         grouped: true,
         group_by: List::of(vec![in alloc; 1]?),
@@ -203,6 +210,26 @@ fn merge_join(mode: u32) -> Node
         mode,
     )
     .node()
+}
+
+fn index_seek() -> Node {
+    let expr = ExprParts::new(KeyParts::Filter(0), Operator::IndexSeek(0), Children::Zero);
+    NodeKind::Native(expr, 0).node()
+}
+
+// The groups of the whole input, in a mode.
+fn agg(operator: Operator, mode: u32) -> Node
+    requires operator { operator ≡ Operator.HashAgg ⊎ operator ≡ Operator.StreamAgg }
+    requires mode { mode < 256 }
+{
+    let children = Children::One(KeyParts::Filter(0));
+    NodeKind::Native(ExprParts::new(KeyParts::Agg, operator, children), mode).node()
+}
+
+fn partial_agg() -> Node {
+    let children = Children::One(KeyParts::Filter(0));
+    let expr = ExprParts::new(KeyParts::Partial, Operator::PartialAgg, children);
+    NodeKind::Native(expr, 0).node()
 }
 
 // The rows of T1 where they lie, those of T2 moved to where the hash of T2.b says, and their join,
@@ -319,6 +346,39 @@ fn aggregates_are_printed_with_their_functions(rt: HostRuntime) -> Result<(), Fa
                 lines[2].as_str(),
                 "Sort(total DESC, t.b) rows=1000 cost=2001\n"
             );
+        }
+        Err(_) => assert!(rt; false),
+    }
+    Ok(())
+}
+
+#[test]
+fn an_aggregation_is_printed_with_where_it_groups(rt: HostRuntime) -> Result<(), Fail> {
+    let alloc = rt.alloc();
+    let query = grouped(alloc)?;
+    let cases = [
+        (index_seek(), "IndexSeek(t, i0) rows=100 cost=76\n"),
+        (agg(Operator::HashAgg, 0), "HashAgg(one) rows=10 "),
+        (agg(Operator::HashAgg, 128), "HashAgg(hashed t.a) rows=10 "),
+        (agg(Operator::HashAgg, 129), "HashAgg(hashed t.b) rows=10 "),
+        (agg(Operator::StreamAgg, 0), "StreamAgg(one) rows=10 "),
+        (
+            agg(Operator::StreamAgg, 129),
+            "StreamAgg(hashed t.b) rows=10 ",
+        ),
+        (partial_agg(), "PartialAgg rows=40 "),
+    ];
+    match Props::collect(alloc, &query) {
+        Ok(props) => {
+            for (node, wanted) in cases {
+                let found = Found::Least {
+                    plan: Plan::Leaf(node),
+                    cost: 1,
+                };
+                let lines = plan_text(alloc, &query, &props, &found)?;
+                assert_eq!(rt; lines.len(), 3);
+                assert!(rt; lines[2].starts_with(wanted), "{wanted}");
+            }
         }
         Err(_) => assert!(rt; false),
     }

@@ -21,7 +21,7 @@ pub use cost::{
 pub use enforcers::{Enforced, enforcer};
 pub use fitting::{fits, hash_fits, order_fits};
 pub use line::{LeftDist, LeftOrder, Line};
-pub use lines::line_of;
+pub use lines::{line_of, table_in};
 pub use node::{Node, NodeKind, nodes_are_one};
 pub use plan::{Found, Plan};
 pub use seen::{Below, Seen, meets, plan_seen, seen_above, seen_below};

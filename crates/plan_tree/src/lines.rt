@@ -122,8 +122,8 @@ fn table_line(query: &Query, props: &Props, group: KeyParts, order: GivenOrder) 
     Line::Alone(table_dist(query, props, table_in(group)), order)
 }
 
-// The table whose rows a group has.
-fn table_in(group: KeyParts) -> u32
+/// The table whose rows a group has.
+pub fn table_in(group: KeyParts) -> u32
     ensures { result ≡ table_of_group group }
 {
     match group {
