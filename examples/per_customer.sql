@@ -1,0 +1,1 @@
+SELECT customer, COUNT(*) AS n FROM sales GROUP BY customer

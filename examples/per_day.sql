@@ -1,0 +1,1 @@
+SELECT day, COUNT(*) AS n FROM sales GROUP BY day ORDER BY day
