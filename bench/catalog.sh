@@ -2,15 +2,9 @@
 # Times the program on catalogues of a mebibyte, the longest that may be read. Prints the least time of several runs on
 # each. One of another version is read as JSON and then refused, so what a good one takes more is the catalogue's walk.
 # Usage: bench/catalog.sh [RUNS]
-set -u
-export LC_ALL=C
 runs=${1:-10}
 most=1048576
-top=$(cd "$(dirname "${BASH_SOURCE[0]}")/.." && pwd)
-. "$top/bench/timing.sh"
-program=$top/crates/orca/out/orca
-folder=$(mktemp -d) || exit 1
-trap 'rm -rf "$folder"' EXIT
+. "$(dirname "${BASH_SOURCE[0]}")/timing.sh"
 
 # so many tables with so many columns each, with spaces at the end up to the greatest length
 catalog() {
@@ -28,8 +22,7 @@ catalog() {
 }
 
 printf 'SELECT t0.c0 FROM t0' >"$folder/query"
-# builds the program where it is missing or old
-"$top/orca" plan "$top/examples/t.json" "$top/examples/q.sql" >/dev/null || exit 1
+build || exit 1
 printf '%-10s %8s %8s %12s %12s %12s\n' tables columns bytes 'as JSON, ms' 'whole, ms' 'the walk, ms'
 for shape in '1000 34' '33 1000' '1 1000'; do
   read -r tables columns <<<"$shape"

@@ -3,11 +3,8 @@
 # predicates (139 groups, 3,739 members), by the test of that name: reading the catalogue and the query, binding, the
 # closure and the text. Prints the least time of several runs.
 # Usage: bench/memo.sh [RUNS]
-set -u
-export LC_ALL=C
 runs=${1:-10}
-top=$(cd "$(dirname "${BASH_SOURCE[0]}")/.." && pwd)
-. "$top/bench/timing.sh"
+. "$(dirname "${BASH_SOURCE[0]}")/timing.sh"
 tests=$top/crates/orca_cli/out/orca_cli_tests
 name=memo_tests::a_star_of_eight_tables_with_grouping
 

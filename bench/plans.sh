@@ -1,16 +1,11 @@
 #!/usr/bin/env bash
 # Times the program on chains, stars and cliques of 2 to 8 tables, one equality for each link, each over columns of its
-# own. Prints the least time of several runs and the greatest memory of one, with the plan's cost.
+# own, and on a star of eight tables with two filters and a grouping (examples/star.sql). Prints the least time of
+# several runs and the greatest memory of one, with the plan's cost.
 # Usage: bench/plans.sh [RUNS [GREATEST NUMBER OF TABLES]]
-set -u
-export LC_ALL=C
 runs=${1:-3}
 greatest=${2:-8}
-top=$(cd "$(dirname "${BASH_SOURCE[0]}")/.." && pwd)
-. "$top/bench/timing.sh"
-program=$top/crates/orca/out/orca
-folder=$(mktemp -d) || exit 1
-trap 'rm -rf "$folder"' EXIT
+. "$(dirname "${BASH_SOURCE[0]}")/timing.sh"
 
 # the pairs of tables that a shape links, one a line
 pairs() {
@@ -50,18 +45,22 @@ ask() {
   printf ' ORDER BY t0.c1'
 } >"$folder/query"
 
-# builds the program where it is missing or old
-"$top/orca" plan "$top/examples/t.json" "$top/examples/q.sql" >/dev/null || exit 1
+# the line of a query
+measure() {
+  local shape=$1 tables=$2 answer time
+  shift 2
+  answer=$("$program" plan "$@" | head -n 1)
+  time=$(least "$program" plan "$@")
+  printf '%-8s %6d %12s %12s %s\n' "$shape" "$tables" "$(milliseconds "$time")" "$(memory "$program" plan "$@")" "$answer"
+}
+
+build || exit 1
 printf '%-8s %6s %12s %12s %s\n' shape tables 'time, ms' 'memory, KiB' answer
 for shape in chain star clique; do
   for ((tables = 2; tables <= greatest; tables++)); do
     write "$shape" "$tables"
     ask "$shape" "$tables"
-    answer=$("$program" plan "$folder/catalog" "$folder/query" | head -n 1)
-    time=$(least "$program" plan "$folder/catalog" "$folder/query")
-    memory=$(python3 -c 'import resource, subprocess, sys
-subprocess.run(sys.argv[1:], stdout=subprocess.DEVNULL)
-print(resource.getrusage(resource.RUSAGE_CHILDREN).ru_maxrss)' "$program" plan "$folder/catalog" "$folder/query" 2>/dev/null || echo '?')
-    printf '%-8s %6d %12s %12s %s\n' $shape $tables "$(milliseconds "$time")" "$memory" "$answer"
+    measure "$shape" "$tables" "$folder/catalog" "$folder/query"
   done
 done
+measure grouped 8 "$top/examples/star.json" "$top/examples/star.sql"

@@ -2,16 +2,10 @@
 # Times the program on queries of 64 KiB, the longest that may be read. Prints the least time of several runs on each,
 # and how much longer that is than the least time on a query of one line, which is mostly start-up.
 # Usage: bench/sql.sh [RUNS]
-set -u
-export LC_ALL=C
 runs=${1:-10}
 most=65536
-top=$(cd "$(dirname "${BASH_SOURCE[0]}")/.." && pwd)
-. "$top/bench/timing.sh"
-program=$top/crates/orca/out/orca
+. "$(dirname "${BASH_SOURCE[0]}")/timing.sh"
 catalog=$top/examples/t.json
-folder=$(mktemp -d) || exit 1
-trap 'rm -rf "$folder"' EXIT
 
 # a byte, as often as the count says
 repeated() {
@@ -73,10 +67,8 @@ query() {
   esac
 }
 
-# builds the program where it is missing or old
+build || exit 1
 query one_line >"$folder/one_line"
-"$top/orca" plan "$catalog" "$folder/one_line" >/dev/null
-[ -x "$program" ] || exit 1
 first=$(least "$program" plan "$catalog" "$folder/one_line")
 
 printf '%-20s %8s %6s %10s %10s\n' query bytes status ms 'ms more'

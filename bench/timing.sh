@@ -1,4 +1,15 @@
-# What the scripts beside this one share; they read it in.
+# What the scripts beside this one share: they set `runs`, and then read this in.
+set -u
+export LC_ALL=C
+top=$(cd "$(dirname "${BASH_SOURCE[0]}")/.." && pwd)
+program=$top/crates/orca/out/orca
+folder=$(mktemp -d) || exit 1
+trap 'rm -rf "$folder"' EXIT
+
+# builds the program where it is missing or old
+build() {
+  "$top/orca" plan "$top/examples/t.json" "$top/examples/q.sql" >/dev/null
+}
 
 # the least time of the runs of a command, in microseconds
 least() {
@@ -17,4 +28,15 @@ milliseconds() {
   local sign=''
   [ "$1" -ge 0 ] || sign=-
   printf '%s%d.%02d' "$sign" $((${1#-} / 1000)) $((${1#-} % 1000 / 10))
+}
+
+# the greatest memory that a run of a command had, in KiB, by GNU time; that counts for a moment before the command
+# starts, with less than 2 MiB
+memory() {
+  if [ -x /usr/bin/time ]; then
+    /usr/bin/time -f %M -o "$folder/memory" "$@" >/dev/null 2>&1
+    tail -n 1 "$folder/memory"
+  else
+    echo '?'
+  fi
 }
