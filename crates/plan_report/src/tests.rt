@@ -113,6 +113,14 @@ fn grouped(alloc: Global) -> Result<Query, AllocError> {
             ndv: 10
         },
     ]?;
+    let preds = vec![in alloc;
+        Pred {
+            left: 0,
+            op: CmpOp::Eq,
+            right: Operand::Int(5)
+        },
+    ]?;
+    let links = links_of(alloc, &tables, &items, &preds)?;
     let aggs = vec![in alloc;
         Agg {
             func: AggFunc::CountAll,
@@ -129,14 +137,8 @@ fn grouped(alloc: Global) -> Result<Query, AllocError> {
         segments: 4,
         tables: List::of(tables),
         items: List::of(items),
-        preds: List::of(vec![in alloc;
-            Pred {
-                left: 0,
-                op: CmpOp::Eq,
-                right: Operand::Int(5)
-            },
-        ]?),
-        links: List::new(alloc),
+        preds: List::of(preds),
+        links,
         grouped: true,
         group_by: List::of(vec![in alloc; 1]?),
         aggs: List::of(aggs),
