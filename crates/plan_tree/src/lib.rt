@@ -28,4 +28,6 @@ pub use seen::{Below, Seen, meets, plan_seen, seen_above, seen_below};
 pub use seen_cost::cost_above;
 
 #[cfg(test)]
+mod grouped_tests;
+#[cfg(test)]
 mod tests;

@@ -13,7 +13,7 @@ use std::alloc::{AllocError, Global};
 use std::test::Fail;
 use xform_rules::{Rule, result_at, results_are_candidates};
 
-fn text(alloc: Global, part: &str) -> Result<Text, AllocError>
+pub fn text(alloc: Global, part: &str) -> Result<Text, AllocError>
     ensures { IfOk result (λ made. made ≡ part.now) }
 {
     Ok(Text::of(String::from_str(alloc, part)?))
@@ -83,7 +83,7 @@ fn two_tables(alloc: Global, op: CmpOp) -> Result<Query, AllocError> {
     })
 }
 
-fn step(query: &Query, rule: Rule, e: ExprParts) -> Option<ExprParts>
+pub fn step(query: &Query, rule: Rule, e: ExprParts) -> Option<ExprParts>
     requires { IsCandidate query.now e }
     ensures { IfSome result (IsCandidate query.now) }
 {
@@ -94,7 +94,7 @@ fn step(query: &Query, rule: Rule, e: ExprParts) -> Option<ExprParts>
     Some(other)
 }
 
-fn origin(query: &Query, group: KeyParts) -> ExprParts
+pub fn origin(query: &Query, group: KeyParts) -> ExprParts
     requires { IsGroup query.now group }
     ensures { IsCandidate query.now result }
 {
@@ -111,7 +111,7 @@ fn join_by(query: &Query, rule: Rule) -> Option<ExprParts>
     step(query, rule, join)
 }
 
-fn ask(dist: Dist, order: u32) -> Request {
+pub fn ask(dist: Dist, order: u32) -> Request {
     Request { dist, order }
 }
 
