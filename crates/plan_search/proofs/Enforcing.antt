@@ -16,7 +16,7 @@ use Rattle.plan_space.specs.Numbers.{OrderLiesIn, Fits}
 use Rattle.plan_space.specs.Nodes.{sort, number_of, Tree, over}
 use Rattle.plan_space.specs.Lines.{request}
 use Rattle.plan_space.specs.Gives.{kid_of}
-use Rattle.plan_space.specs.Cost.{cost_of, shape_of}
+use Rattle.plan_space.specs.Cost.{shape_of}
 use Rattle.plan_space.specs.Enforcers.{EnforcedBy, enforced, enforcers_by, enforcers_of, Among}
 use Rattle.plan_space.specs.Choices.{Beats, IsEnforcerSettled, enforced_choice}
 use Rattle.plan_space.specs.Laws.{ChoicesServe}
@@ -26,11 +26,12 @@ use Rattle.plan_tree.specs.Costs.{IsCostAmong}
 use Rattle.plan_tree.specs.Enforcers.{IsEnforced}
 use Rattle.plan_tree.specs.declared.enforcers.Enforced.{Enforced}
 use Rattle.plan_search.specs.declared.answers.Answers.{Answers}
+use Rattle.plan_search.specs.declared.choice.Below.{Below}
 use Rattle.plan_search.specs.declared.choice.Choice.{Choice}
 use Rattle.plan_search.specs.Places.{place_of, most_nodes, most_of_all}
-use Rattle.plan_search.specs.Search.{IsAnswered, AreAnswered, IsBuilt, IsChosen, kept_at, cost_at, IsOver, cheaper_of, Goes, IsPlaceSettled, AreEnforcersSettled, enforcer_number}
+use Rattle.plan_search.specs.Search.{IsAnswered, AreAnswered, IsChosen, kept_at, cost_at, choice_over, IsPlanAt, cheaper_of, GoesOverPlace, GoesOverEnforcers, IsPlaceSettled, AreEnforcersSettled, enforcer_number}
 use Rattle.plan_search.proofs.Bounds.{all_nodes}
-use Rattle.plan_search.proofs.Kids.{none_case, some_case, cost_small}
+use Rattle.plan_search.proofs.Answered.{none_case, some_case, cost_small}
 use Rattle.plan_search.proofs.Scanning.{IsOrder, IsStable, goes_on, goes_as, goes_to, goes_from, goes_not, goes_by_one, enforcer_stable}
 
 -- what an enforcer for the request asks for fits the group, comes before it, and has a node less
@@ -192,9 +193,8 @@ module _ (q : Query) (answers : Answers) (group : KeyParts) (wanted : Request) w
       both_at (Hashed list) (suc o) first second e (inr none) = absurd none
 
   -- both places, one after the other
-  pub both_go : (old new newer : Option Choice) → Goes q answers group wanted (enforcer_number wanted 0) (enforcer_number wanted 1) (IsPlaceSettled q group wanted 0) old new
-      → Goes q answers group wanted (enforcer_number wanted 1) (enforcer_number wanted 2) (IsPlaceSettled q group wanted 1) new newer
-      → Goes q answers group wanted 0 (2 ^ 56) (AreEnforcersSettled q group (enforcers_of wanted)) old newer
+  pub both_go : (old new newer : Option Choice) → GoesOverPlace q answers group wanted 0 old new → GoesOverPlace q answers group wanted 1 new newer
+      → GoesOverEnforcers q answers group wanted old newer
   both_go old new newer first second =
       goes_from q answers group wanted 0 (enforcer_number wanted 0) (2 ^ 56) (AreEnforcersSettled q group (enforcers_of wanted)) old newer (omega arith)
       (goes_to q answers group wanted (enforcer_number wanted 0) (enforcer_number wanted 2) (2 ^ 56) (AreEnforcersSettled q group (enforcers_of wanted)) old newer (two_numbers wanted)
@@ -225,30 +225,31 @@ module _ (q : Query) (answers : Answers) (group : KeyParts) (wanted : Request) w
     below_small range = omega (arith, cost_small q answers group e.below below_answered, facts.nodes, all_nodes group wanted range)
 
     -- where what it asks for has no plan
-    pub lacking_goes : (best : Option Choice) → kept_at answers (place_of group e.below) ≡ None
-        → Goes q answers group wanted (enforcer_number wanted n) (enforcer_number wanted (n + 1)) (IsPlaceSettled q group wanted n) best best
+    pub lacking_goes : (best : Option Choice) → kept_at answers (place_of group e.below) ≡ None → GoesOverPlace q answers group wanted n best best
     lacking_goes best none =
         goes_not q answers group wanted (enforcer_number wanted n) (enforcer_number wanted (n + 1)) (IsPlaceSettled q group wanted n) best (omega (arith, numbers.0, numbers.1))
         (λ tree. only_this tree (inr (none_case q answers group e.below below_answered none)))
 
     -- the enforcer is offered over the plan for what it asks
     pub enforcer_goes : IsOrder q → ChoicesServe q → (node : Node) → kinds.IsNode node e.node → (local : ℕ) → local ≤ most_cost → IsCostAmong q e.node group wanted local
-        → (choice : Choice) (old : Option Choice) → IsOver answers node local (place_of group e.below) choice
-        → Goes q answers group wanted (enforcer_number wanted n) (enforcer_number wanted (n + 1)) (IsPlaceSettled q group wanted n) old (Some (cheaper_of old choice))
-    enforcer_goes order serve node is_node local small cost choice old (kept, at, is) =
+        → (below : Below) (old : Option Choice) → IsPlanAt answers (place_of group e.below) below
+        → GoesOverPlace q answers group wanted n old (Some (cheaper_of old (choice_over node local below)))
+    enforcer_goes order serve node is_node local small cost below old (kept, at, is) =
         let found = some_case q answers group e.below kept below_answered at in
         let kid = found.0 in
         let holds = found.1 in
         let plan = over e.node kid in
+        let choice = choice_over node local below in
         let local_is : local ≡ local_cost (shape_of q e.node (kid_of q kid ∷ [])) =
         cost e among refl (kid_of q kid) holds.is_kept.least.serves.of_group holds.is_kept.least.serves.satisfies in
-        let chosen : IsChosen q answers group wanted choice e.node plan = record {
-          is_node = subst (λ c. kinds.IsNode c.node e.node) (sym is) is_node;
-          built = subst (λ c. IsBuilt answers c.kids e.node plan) (sym is) (kid, (kept, holds.stands, holds.is_kept.spells), refl);
+        let chosen : IsChosen q answers group wanted (choice_over node local below) e.node plan =
+        subst (λ b. IsChosen q answers group wanted (choice_over node local b) e.node plan) (sym is) (record {
+          is_node = is_node;
+          built = (kid, (kept, holds.stands, holds.is_kept.spells), refl);
           serves = serve group wanted plan fits (enforced_choice e kid among holds.is_kept.least refl);
-          cost = subst (λ c. c.cost ≡ cost_of q plan) (sym is) (omega (arith, local_is, holds.is_kept.cost));
+          cost = omega (arith, local_is, holds.is_kept.cost);
           small = omega (arith, small, local_is, holds.is_kept.small, facts.nodes);
-        } in
+        }) in
         goes_from q answers group wanted (enforcer_number wanted n) (number_of e.node) (enforcer_number wanted (n + 1)) (IsPlaceSettled q group wanted n) old (Some (cheaper_of old choice))
         (omega (arith, numbers.0))
         (goes_to q answers group wanted (number_of e.node) (number_of e.node + 1) (enforcer_number wanted (n + 1)) (IsPlaceSettled q group wanted n) old (Some (cheaper_of old choice)) numbers.1

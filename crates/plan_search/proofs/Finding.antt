@@ -10,6 +10,7 @@ use Rattle.query_core.specs.Keys.{key_number, IsGroup, IsInRange}
 use Rattle.query_core.specs.declared.query.Query.{Query}
 use Rattle.query_core.specs.declared.words.KeyParts.{KeyParts}
 use Rattle.query_core.specs.declared.words.KeyParts.TheVariants as groups
+use Rattle.query_core.specs.declared.expressions.ExprParts.{ExprParts}
 use Rattle.xform_rules.specs.Closure.{IsMember}
 use Rattle.request_props.specs.Numbered.{IsProps}
 use Rattle.request_props.specs.declared.props.Props.{Props}
@@ -20,19 +21,19 @@ use Rattle.plan_space.specs.Numbers.{Fits}
 use Rattle.plan_space.specs.Nodes.{Kind, Tree}
 use Rattle.plan_space.specs.Least.{IsLeast, IsAnswer}
 use Rattle.plan_space.specs.Enforcers.{enforcers_of}
-use Rattle.plan_space.specs.Choices.{BestServes}
+use Rattle.plan_space.specs.Choices.{BestServes, IsModeSettled}
 use Rattle.plan_space.specs.Laws.{SettledIsLeast}
 use Rattle.plan_tree.specs.Nodes.{IsNode}
 use Rattle.plan_tree.specs.Spells.{Spells}
 use Rattle.plan_tree.specs.declared.plan.Plan.{Plan}
 use Rattle.plan_space.specs.Cost.{cost_of}
-use Rattle.plan_search.proofs.Kids.{some_case}
+use Rattle.plan_search.proofs.Answered.{some_case}
 use Rattle.plan_search.specs.declared.answers.Answers.{Answers}
 use Rattle.plan_search.specs.declared.answers.Kept.{Kept}
 use Rattle.plan_search.specs.declared.choice.Choice.{Choice}
 use Rattle.plan_search.specs.declared.physical.Physical.{Physical}
 use Rattle.plan_search.specs.Places.{dist_place, request_place, place_of}
-use Rattle.plan_search.specs.Search.{kept_at, IsAnswerFor, answer_at, AreAnswered, IsBuilt, IsBestSoFar, Goes, AreEnforcersSettled, AreListed, AreSettledIn, physical}
+use Rattle.plan_search.specs.Search.{kept_at, IsAnswerFor, answer_at, AreAnswered, IsBuilt, IsBestSoFar, GoesOverEnforcers, GoesOverAll, AreEnforcersSettled, AreListed, AreSettledIn, HasMode}
 use Rattle.plan_search.proofs.Bounds.{request_small}
 use Rattle.plan_search.proofs.Scanning.{IsStable, goes_on, enforcer_stable}
 
@@ -47,10 +48,15 @@ module _ (q : Query) (answers : Answers) (group : KeyParts) (wanted : Request) w
   enforcers_stable : IsStable q (AreEnforcersSettled q group (enforcers_of wanted))
   enforcers_stable best other improves settled e among = enforcer_stable q group e best other improves (settled e among)
 
+  -- a mode that the list has is settled
+  settled_at : (list : List Physical) (best : Option Tree) (e : ExprParts) (mode : ℕ) → AreSettledIn q wanted list best → HasMode e mode list
+      → IsModeSettled (IsMember q) q wanted e mode best
+  settled_at list best e mode settled (p, among, is_expr, is_mode) =
+      subst (λ f. IsModeSettled (IsMember q) q wanted f mode best) is_expr (subst (λ m. IsModeSettled (IsMember q) q wanted p.expr m best) is_mode (settled p among))
+
   -- once all nodes are offered, the best is the least plan, and where there is none there is no plan
   pub best_is_answer : (list : List Physical) (some all : Option Choice) → SettledIsLeast q → Fits q group wanted → AreListed q group list
-      → Goes q answers group wanted 0 (2 ^ 56) (AreEnforcersSettled q group (enforcers_of wanted)) None some
-      → Goes q answers group wanted (2 ^ 56) (2 ^ 57) (AreSettledIn q wanted list) some all
+      → GoesOverEnforcers q answers group wanted None some → GoesOverAll q answers group wanted list some all
       → (best : Option Tree) × IsBestSoFar q answers group wanted all best × IsAnswer (IsMember q) q group wanted best
   best_is_answer list some all least fits listed first second =
       let both = goes_on q answers group wanted 0 (2 ^ 56) (2 ^ 57) (AreEnforcersSettled q group (enforcers_of wanted)) (AreSettledIn q wanted list) None some all enforcers_stable first second None tt tt in
@@ -61,7 +67,7 @@ module _ (q : Query) (answers : Answers) (group : KeyParts) (wanted : Request) w
           best_serves = best_serves all best both.1.is_best;
           enforcers = both.1.done.0;
           members = λ e mode member of_group line alternative.
-              both.1.done.1 (physical e mode) (listed.complete e mode line member of_group alternative.is_line) line alternative;
+              settled_at list best e mode both.1.done.1 (listed.complete e mode line member of_group alternative.is_line) line alternative;
         }),
       )
 

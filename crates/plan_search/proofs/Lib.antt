@@ -4,7 +4,10 @@ pub mod Growing
 pub mod OneClosure
 pub mod Scanning
 pub mod Bounds
+pub mod Answered
+pub mod Asked
 pub mod Kids
+pub mod Tried
 pub mod Listed
 pub mod Enforcing
 pub mod Finding

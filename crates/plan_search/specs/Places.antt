@@ -2,6 +2,7 @@
 use Rattle.std.specs.Prelude.{ℕ, zero, suc, ◌+◌, ◌*◌, ◌-◌}
 use Rattle.query_core.specs.Keys.{key_number}
 use Rattle.cost_units.specs.Cost.{most_cost}
+use Rattle.query_core.specs.declared.words.Key.{Key}
 use Rattle.query_core.specs.declared.words.KeyParts.{KeyParts}
 use Rattle.query_core.specs.declared.words.KeyParts.TheVariants as groups
 use Rattle.request_props.specs.declared.request.Dist.{Dist}
@@ -22,6 +23,10 @@ request_place wanted = dist_place wanted.dist * 64 + wanted.order
 -- the place of a request of the group with this key
 abbrev pub place_at : ℕ → Request → ℕ
 place_at key wanted = key * 4096 + request_place wanted
+
+-- the place of a goal that a node asks for
+abbrev pub place_asked : Key × Request → ℕ
+place_asked goal = place_at goal.0.0 goal.1
 
 abbrev pub place_of : KeyParts → Request → ℕ
 place_of group wanted = place_at (key_number group) wanted

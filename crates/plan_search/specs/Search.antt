@@ -1,11 +1,12 @@
 -- What the search knows of the goals that are answered, and of the best plan so far for one more.
-use Rattle.std.specs.Prelude.{ℕ, zero, suc, ◌++◌, is_some, slice_get, ◌≡◌, ◌<◌, ◌≤◌, ◌⊎◌, ◌+◌, ◌*◌, ◌^◌, List, [], ◌∷◌, Option, None, Some, nat_lt, if◌then◌else◌, ⊤}
+use Rattle.std.specs.Prelude.{ℕ, ◌++◌, slice_get, ◌≡◌, ◌<◌, ◌≤◌, ◌⊎◌, ◌+◌, ◌*◌, ◌^◌, List, [], ◌∷◌, Option, None, Some, nat_lt, if◌then◌else◌, ⊤}
 use Rattle.std.specs.Ordering.{nat_cmp}
 use Rattle.std.specs.BTreeMap.{get}
 use Rattle.std.specs.Option.{option_and_then, option_map_or}
 use Rattle.query_core.specs.Keys.{IsGroup}
 use Rattle.query_core.specs.Expressions.{word_of}
 use Rattle.query_core.specs.declared.query.Query.{Query}
+use Rattle.query_core.specs.declared.words.Key.{Key}
 use Rattle.query_core.specs.declared.words.KeyParts.{KeyParts}
 use Rattle.query_core.specs.declared.expressions.ExprParts.{ExprParts}
 use Rattle.xform_rules.specs.Closure.{IsMember}
@@ -23,12 +24,15 @@ use Rattle.plan_tree.specs.declared.node.Node.{Node}
 use Rattle.plan_search.specs.declared.answers.Answers.{Answers}
 use Rattle.plan_search.specs.declared.answers.Kept.{Kept}
 use Rattle.plan_search.specs.declared.physical.Physical.{Physical}
+use Rattle.plan_search.specs.declared.choice.Below.{Below}
 use Rattle.plan_search.specs.declared.choice.Choice.{Choice}
 use Rattle.plan_search.specs.declared.choice.Kids.{Kids}
 use Rattle.plan_search.specs.declared.choice.Kids.TheVariants as kids
 use Rattle.plan_tree.specs.Nodes.{IsNode}
+use Rattle.plan_tree.specs.Meanings.{table_line_of}
+use Rattle.plan_tree.specs.Costs.{AreRowsOf}
 use Rattle.plan_tree.specs.Spells.{Spells}
-use Rattle.plan_search.specs.Places.{place_of, most_nodes}
+use Rattle.plan_search.specs.Places.{place_of, place_asked, most_nodes}
 
 -- ---- goals that are answered
 
@@ -114,6 +118,10 @@ Goes q answers group wanted from to Done old new =
     (before : Option Tree) → IsBestSoFar q answers group wanted old before → IsRootBelow before from
     → (after : Option Tree) × IsLater q answers group wanted before to Done new after
 
+-- the node, which costs so much by itself, over the plans below
+abbrev pub choice_over : Node → ℕ → Below → Choice
+choice_over node local below = record { node = node; cost = local + below.cost; kids = below.kids }
+
 -- of the two the one that costs less, and of equal ones the first
 abbrev pub cheaper_of : Option Choice → Choice → Choice
 cheaper_of None choice = choice
@@ -148,16 +156,37 @@ IsMade q answers wanted e mode choice =
 abbrev pub cost_at : Answers → ℕ → ℕ
 cost_at answers place = option_map_or (λ kept. kept.cost) (kept_at answers place) 0
 
--- the choice is the node over the plan at the place
-abbrev pub IsOver : Answers → Node → ℕ → ℕ → Choice → Type 0
-IsOver answers node local place choice =
-    (kept : Kept) × (kept_at answers place ≡ Some kept) × (choice ≡ record { node = node; cost = local + kept.cost; kids = kids.One place })
+-- what is below is the plan at the place
+abbrev pub IsPlanAt : Answers → ℕ → Below → Type 0
+IsPlanAt answers place below = (kept : Kept) × (kept_at answers place ≡ Some kept) × (below ≡ record { kids = kids.One place; cost = kept.cost })
 
--- the choice is the node over the plans at the two places
-abbrev pub IsOverTwo : Answers → Node → ℕ → ℕ → ℕ → Choice → Type 0
-IsOverTwo answers node local first second choice =
+-- what is below is the plans at the two places
+abbrev pub ArePlansAt : Answers → ℕ → ℕ → Below → Type 0
+ArePlansAt answers first second below =
     (left right : Kept) × (kept_at answers first ≡ Some left) × (kept_at answers second ≡ Some right)
-    × (choice ≡ record { node = node; cost = local + left.cost + right.cost; kids = kids.Two first second })
+    × (below ≡ record { kids = kids.Two first second; cost = left.cost + right.cost })
+
+-- what is below is the plans at the goals that a node asks for, none where it asks for none of a left child
+abbrev pub AreFound : Answers → Option (Key × Request) → Option (Key × Request) → Below → Type 0
+AreFound answers None right below = below ≡ record { kids = kids.Zero; cost = 0 }
+AreFound answers (Some left) None below = IsPlanAt answers (place_asked left) below
+AreFound answers (Some left) (Some right) below = ArePlansAt answers (place_asked left) (place_asked right) below
+
+-- no plan stands at one of the places
+abbrev pub IsOneMissing : Answers → ℕ → ℕ → Type 0
+IsOneMissing answers first second = (kept_at answers first ≡ None) ⊎ (kept_at answers second ≡ None)
+
+-- no plan stands at one of the goals that a node asks for
+abbrev pub IsMissing : Answers → Option (Key × Request) → Option (Key × Request) → Type 0
+IsMissing answers None right = ⊥
+IsMissing answers (Some left) None = kept_at answers (place_asked left) ≡ None
+IsMissing answers (Some left) (Some right) = IsOneMissing answers (place_asked left) (place_asked right)
+
+-- what the plans at the goals that a node asks for cost together
+abbrev pub asked_cost : Answers → Option (Key × Request) → Option (Key × Request) → ℕ
+asked_cost answers None right = 0
+asked_cost answers (Some left) None = cost_at answers (place_asked left)
+asked_cost answers (Some left) (Some right) = cost_at answers (place_asked left) + cost_at answers (place_asked right)
 
 -- ---- expressions in modes
 
@@ -165,10 +194,12 @@ IsOverTwo answers node local first second choice =
 abbrev pub mode_number : Physical → ℕ
 mode_number p = number_of (native p.expr p.mode)
 
--- a member of the group in one of its few modes
+-- a member of the group in one of its few modes, with its line there, and its rows
 pub record IsPhysical (q : Query) (group : KeyParts) (p : Physical) : Type 0 where
   pub member : IsMember q p.expr
   pub of_group : p.expr.group ≡ group
+  pub line : line_of q p.expr p.mode ≡ Some (table_line_of p.line)
+  pub rows : AreRowsOf q p.expr p.rows
   pub few : p.mode < 192
   pub small : mode_number p + 1 ≤ 2 ^ 57
 
@@ -196,20 +227,37 @@ IsIn p (first ∷ others) = (p ≡ first) ⊎ IsIn p others
 abbrev pub AreSettledIn : Query → Request → List Physical → Option Tree → Type 0
 AreSettledIn q wanted list best = (p : Physical) → IsIn p list → IsModeSettled (IsMember q) q wanted p.expr p.mode best
 
--- the expression in this mode
-abbrev pub physical : ExprParts → ℕ → Physical
-physical e mode = record { expr = e; mode = mode }
+-- the expression in this mode is one of the list
+abbrev pub HasMode : ExprParts → ℕ → List Physical → Type 0
+HasMode e mode list = (p : Physical) × IsIn p list × (p.expr ≡ e) × (p.mode ≡ mode)
 
 -- members of the group in all modes in which they have a line, by their numbers
 pub record AreListed (q : Query) (group : KeyParts) (list : List Physical) : Type 0 where
   pub are : ArePhysical q group list
   pub rises : RisesFrom (2 ^ 56) list
-  pub complete : (e : ExprParts) (mode : ℕ) (line : Line) → IsMember q e → e.group ≡ group → line_of q e mode ≡ Some line → IsIn (physical e mode) list
+  pub complete : (e : ExprParts) (mode : ℕ) (line : Line) → IsMember q e → e.group ≡ group → line_of q e mode ≡ Some line → HasMode e mode list
 
--- the expression in each mode below the bound in which it has a line
-abbrev pub modes_below : Query → ExprParts → ℕ → List Physical
-modes_below q e zero = []
-modes_below q e (suc mode) = modes_below q e mode ++ (if is_some (line_of q e mode) then physical e mode ∷ [] else [])
+-- the expression in a mode below the bound, with its line there, and its rows
+pub record IsInMode (q : Query) (e : ExprParts) (bound : ℕ) (p : Physical) : Type 0 where
+  pub expr : p.expr ≡ e
+  pub below : p.mode < bound
+  pub line : line_of q e p.mode ≡ Some (table_line_of p.line)
+  pub rows : AreRowsOf q e p.rows
+
+-- so is each of the list
+abbrev pub AreInModes : Query → ExprParts → ℕ → List Physical → Type 0
+AreInModes q e bound [] = ⊤
+AreInModes q e bound (p ∷ ps) = IsInMode q e bound p × AreInModes q e bound ps
+
+-- the expression in all modes below the bound in which it has a line, by their numbers
+pub record AreModesOf (q : Query) (e : ExprParts) (bound : ℕ) (list : List Physical) : Type 0 where
+  pub are : AreInModes q e bound list
+  pub rises : RisesFrom (number_of (native e 0)) list
+  pub complete : (mode : ℕ) (line : Line) → mode < bound → line_of q e mode ≡ Some line → HasMode e mode list
+
+-- the expression in all its modes comes behind the list
+abbrev pub AddsModes : Query → ExprParts → List Physical → List Physical → Type 0
+AddsModes q e old new = (modes : List Physical) × AreModesOf q e 192 modes × (new ≡ old ++ modes)
 
 -- the word is that of a member of the group
 abbrev pub IsMemberWordOf : Query → KeyParts → ℕ → Type 0
@@ -224,3 +272,21 @@ enforcer_number wanted n = option_map_or (λ e. number_of e.node) (slice_get (en
 -- the n-th enforcer for the request is settled, if there are so many
 abbrev pub IsPlaceSettled : Query → KeyParts → Request → ℕ → Option Tree → Type 0
 IsPlaceSettled q group wanted n best = (e : EnforcedBy) → slice_get (enforcers_of wanted) n ≡ Some e → IsEnforcerSettled (IsMember q) q group e best
+
+-- ---- how the best so far goes on
+
+-- over a member in its mode
+abbrev pub GoesOver : Query → Answers → Physical → Request → Option Choice → Option Choice → Type 0
+GoesOver q answers p wanted old new = Goes q answers p.expr.group wanted (mode_number p) (mode_number p + 1) (IsModeSettled (IsMember q) q wanted p.expr p.mode) old new
+
+-- over the members of the group in their modes
+abbrev pub GoesOverAll : Query → Answers → KeyParts → Request → List Physical → Option Choice → Option Choice → Type 0
+GoesOverAll q answers group wanted list old new = Goes q answers group wanted (2 ^ 56) (2 ^ 57) (AreSettledIn q wanted list) old new
+
+-- over the n-th enforcer for the request, if there are so many
+abbrev pub GoesOverPlace : Query → Answers → KeyParts → Request → ℕ → Option Choice → Option Choice → Type 0
+GoesOverPlace q answers group wanted n old new = Goes q answers group wanted (enforcer_number wanted n) (enforcer_number wanted (n + 1)) (IsPlaceSettled q group wanted n) old new
+
+-- over the enforcers for the request
+abbrev pub GoesOverEnforcers : Query → Answers → KeyParts → Request → Option Choice → Option Choice → Type 0
+GoesOverEnforcers q answers group wanted old new = Goes q answers group wanted 0 (2 ^ 56) (AreEnforcersSettled q group (enforcers_of wanted)) old new

@@ -1,8 +1,10 @@
 //! A plan that may be chosen: its root, its cost, and where the plans below it stand.
 #![tactic(auto)]
 
-ghost use Rattle.std.specs.Prelude.{◌≡◌, Some};
-ghost use Rattle.plan_search.specs.Search.{cheaper_of};
+ghost use Rattle.std.specs.Prelude.{◌≡◌, ◌≤◌, Some};
+ghost use Rattle.cost_units.specs.Cost.{most_cost};
+ghost use Rattle.plan_search.specs.Places.{most_of_all};
+ghost use Rattle.plan_search.specs.Search.{cheaper_of, choice_over};
 
 use plan_tree::Node;
 
@@ -12,6 +14,28 @@ pub enum Kids {
     Zero,
     One(u64),
     Two(u64, u64),
+}
+
+/// The plans below a node: where they stand, and what they cost together.
+#[derive(Clone, Copy, Debug, PartialEq, Eq)]
+pub struct Below {
+    pub kids: Kids,
+    pub cost: u64,
+}
+
+impl Below {
+    /// The node, which costs so much by itself, over these plans.
+    pub fn under(self, node: Node, local: u64) -> Choice
+        requires local { local ≤ most_cost }
+        requires small { self.cost ≤ most_of_all }
+        ensures { result ≡ choice_over node local self }
+    {
+        Choice {
+            node,
+            cost: local + self.cost,
+            kids: self.kids,
+        }
+    }
 }
 
 /// A node over least plans.

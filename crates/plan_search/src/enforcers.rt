@@ -1,16 +1,15 @@
 //! The choices that enforcers make for a request.
 #![tactic(auto)]
 
-ghost use Rattle.std.specs.Prelude.{◌+◌, ◌^◌};
 ghost use Rattle.query_core.specs.Keys.{IsGroup};
 ghost use Rattle.request_props.specs.Numbered.{IsProps};
 ghost use Rattle.plan_space.specs.Numbers.{Fits};
-ghost use Rattle.plan_space.specs.Enforcers.{enforcers_of};
 ghost use Rattle.plan_search.specs.Places.{place_of};
-ghost use Rattle.plan_search.specs.Search.{AreAnswered, Goes, AreEnforcersSettled, IsPlaceSettled, enforcer_number};
+ghost use Rattle.plan_search.specs.Search.{AreAnswered, GoesOverEnforcers, GoesOverPlace};
 
+use crate::below::one_plan;
 use crate::choice::{Choice, offer};
-use crate::natives::{Search, choice_over};
+use crate::natives::Search;
 use plan_space::{choices_serve, plans_are_ordered};
 use plan_tree::{enforcer, node_cost};
 use query_core::{Key, KeyParts, groups_are_known};
@@ -27,8 +26,8 @@ pub fn try_enforcers(
     requires known { IsGroup search.query.now group }
     requires fits { Fits search.query.now group wanted }
     requires answered { AreAnswered search.query.now search.answers.now (place_of group wanted) }
-    ensures { Goes search.entry.query.now search.entry.answers.now group wanted 0 (2 ^ 56)
-        (AreEnforcersSettled search.entry.query.now group (enforcers_of wanted)) best.old best.new }
+    ensures { GoesOverEnforcers search.entry.query.now search.entry.answers.now group wanted best.old
+        best.new }
 {
     try_enforcer_at(search, group, wanted, 0, best);
     try_enforcer_at(search, group, wanted, 1, best);
@@ -46,8 +45,8 @@ fn try_enforcer_at(
     requires known { IsGroup search.query.now group }
     requires fits { Fits search.query.now group wanted }
     requires answered { AreAnswered search.query.now search.answers.now (place_of group wanted) }
-    ensures { Goes search.entry.query.now search.entry.answers.now group wanted (enforcer_number wanted n) (enforcer_number wanted (n + 1))
-        (IsPlaceSettled search.entry.query.now group wanted n) best.old best.new }
+    ensures { GoesOverPlace search.entry.query.now search.entry.answers.now group wanted n best.old
+        best.new }
 {
     // For the proof: what an enforcer makes of a plan serves, and plans are in order.
     groups_are_known();
@@ -55,9 +54,9 @@ fn try_enforcer_at(
     plans_are_ordered();
     let key = Key::make(group);
     if let Some(found) = enforcer(search.query, search.props, key, wanted, n) {
-        let local = node_cost(search.query, search.props, key, wanted, found.node);
-        if let Some(choice) = choice_over(search.answers, found.node, local, (key, found.below)) {
-            offer(best, choice);
+        if let Some(below) = one_plan(search.answers, (key, found.below)) {
+            let local = node_cost(search.query, search.props, key, wanted, found.node);
+            offer(best, below.under(found.node, local));
         }
     }
 }

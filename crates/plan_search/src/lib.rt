@@ -3,6 +3,7 @@
 #![tactic(auto)]
 
 mod answers;
+mod below;
 mod best;
 mod choice;
 mod closure;

@@ -1,18 +1,17 @@
 //! Members in the modes in which they can work.
 #![tactic(auto)]
 
-ghost use Rattle.std.specs.Prelude.{ℕ, ◌≡◌, ◌++◌, IfOk, OnOk, is_some};
+ghost use Rattle.std.specs.Prelude.{◌≡◌, IfOk, OnOk};
 ghost use Rattle.std.specs.List.{All, Contains};
 ghost use Rattle.std.specs.List.Sorted.{IsStrictlyIncreasing};
 ghost use Rattle.query_core.specs.declared.expressions.ExprParts.{ExprParts};
-ghost use Rattle.query_core.specs.Expressions.{word_of};
+ghost use Rattle.query_core.specs.Expressions.{IsCandidate, word_of};
 ghost use Rattle.request_props.specs.Numbered.{IsProps};
 ghost use Rattle.xform_rules.specs.Closure.{IsMember};
-ghost use Rattle.plan_space.specs.Lines.{line_of as line_by_table};
-ghost use Rattle.plan_search.specs.Search.{IsMemberWordOf, AreListed, modes_below};
+ghost use Rattle.plan_search.specs.Search.{AddsModes, AreListed, IsMemberWordOf};
 
 use plan_space::modes_are_few;
-use plan_tree::line_of;
+use plan_tree::{ExprRows, Line, expr_rows, line_of};
 use query_core::{Expr, ExprParts, KeyParts, Query, candidates_are_known, expressions_are_one};
 use request_props::Props;
 use std::alloc::{AllocError, Global};
@@ -21,11 +20,13 @@ use xform_rules::members_are_candidates;
 /// How many numbers there are for modes.
 const MODES: u32 = 192;
 
-/// A physical expression in a mode.
+/// A physical expression in a mode, with its line there, and its rows.
 #[derive(Clone, Copy, Debug, PartialEq, Eq)]
 pub struct Physical {
     pub expr: ExprParts,
     pub mode: u32,
+    pub line: Line,
+    pub rows: ExprRows,
 }
 
 /// The members of a group with these words, in all modes in which they can work, by their numbers.
@@ -39,7 +40,8 @@ pub fn physicals(
     requires props { IsProps query.now props.now }
     requires members { All (IsMemberWordOf query.now group) words.now }
     requires ascending { IsStrictlyIncreasing words.now }
-    requires complete { (e : ExprParts) → IsMember query.now e → e.group ≡ group → Contains words.now (word_of e) }
+    requires complete { (e : ExprParts) → IsMember query.now e → e.group ≡ group →
+        Contains words.now (word_of e) }
     ensures { IfOk result (λ list. AreListed query.now group list.items) }
 {
     // For the proof: members have words, and few modes.
@@ -62,19 +64,19 @@ fn push_modes(
     list: &mut Vec<Physical>,
 ) -> Result<(), AllocError>
     requires props { IsProps query.now props.now }
-    ensures { OnOk result (list.new.items ≡ list.old.items ++ modes_below query.now expr 192) }
+    requires candidate { IsCandidate query.now expr }
+    ensures { OnOk result (AddsModes query.now expr list.old.items list.new.items) }
 {
+    let rows = expr_rows(query, expr);
     for mode in 0..MODES {
-        if has_line(query, props, expr, mode) {
-            list.push(Physical { expr, mode })?;
+        if let Some(line) = line_of(query, props, expr, mode) {
+            list.push(Physical {
+                expr,
+                mode,
+                line,
+                rows,
+            })?;
         }
     }
     Ok(())
-}
-
-fn has_line(query: &Query, props: &Props, expr: ExprParts, mode: u32) -> bool
-    requires props { IsProps query.now props.now }
-    ensures { result ≡ is_some (line_by_table query.now expr mode) }
-{
-    line_of(query, props, expr, mode).is_some()
 }

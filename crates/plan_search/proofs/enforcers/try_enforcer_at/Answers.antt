@@ -1,10 +1,10 @@
-use Rattle.std.proofs.Common.{◌≡◌, ◌≤◌, ◌+◌, None, Some, sym, ◌∙◌, subst, arith}
+use Rattle.std.proofs.Common.{◌≡◌, ◌≤◌, ◌+◌, None, Some, ap, sym, ◌∙◌, subst, arith}
 use Rattle.query_core.specs.Keys as keys
 use Rattle.plan_space.specs.Enforcers.{enforcers_of}
 use Rattle.plan_tree.specs.Enforcers.{IsEnforced}
 use Rattle.std.specs.Prelude.{slice_get}
 use Rattle.plan_search.specs.Places.{place_at, place_of, most_of_all}
-use Rattle.plan_search.specs.Search.{Goes, IsPlaceSettled, enforcer_number, cost_at, kept_at, IsOver}
+use Rattle.plan_search.specs.Search.{GoesOverPlace, IsPlaceSettled, enforcer_number, cost_at, kept_at, IsPlanAt, cheaper_of}
 use Rattle.plan_search.proofs.Enforcing.{enforced_at, enforced_none, facts, below_small, lacking_goes, enforcer_goes, last_number}
 use Rattle.plan_search.proofs.Scanning.{goes_not}
 use Rattle.plan_search.proofs.enforcers.try_enforcer_at.Goals as goal
@@ -18,37 +18,39 @@ node_cost-local-requires-clause-candidate c e mode is =
     let small = (facts q c.args.search.answers.now c.args.group c.args.wanted c.args.search.props.now c.requires.props c.requires.known c.requires.fits c.requires.answered c.args.n found.0 found.1).small in
     absurd (omega (arith, is.number, found.2.number, small))
 
-pub choice_over-requires-clause-small : goal.choice_over-requires-clause-small
-choice_over-requires-clause-small c =
+pub one_plan-requires : goal.one_plan-requires
+one_plan-requires c =
     let q = c.args.search.query.now in
     let named : keys.Names q c.make-key.result c.args.group = record { number = c.make-key.ensures.number; known = c.requires.known } in
     let found = enforced_at c.in-Some.found (slice_get (enforcers_of c.args.wanted) c.args.n)
     (subst (λ r. IsEnforced r (slice_get (enforcers_of c.args.wanted) c.args.n)) c.in-Some.is (c.enforcer.ensures.fitting c.args.group named c.requires.fits)) in
-    subst (λ k. cost_at c.args.search.answers.now (place_at k c.in-Some.found.below) ≤ most_of_all) (sym c.make-key.ensures.number)
-    (subst (λ r. cost_at c.args.search.answers.now (place_of c.args.group r) ≤ most_of_all) (sym found.3)
-    (below_small q c.args.search.answers.now c.args.group c.args.wanted c.args.search.props.now c.requires.props c.requires.known c.requires.fits c.requires.answered c.args.n found.0 found.1
-    (c.groups_are_known.ensures.in_range q c.args.group c.requires.known)))
+    record {
+      small = subst (λ k. cost_at c.args.search.answers.now (place_at k c.in-Some.found.below) ≤ most_of_all) (sym c.make-key.ensures.number)
+          (subst (λ r. cost_at c.args.search.answers.now (place_of c.args.group r) ≤ most_of_all) (sym found.3)
+          (below_small q c.args.search.answers.now c.args.group c.args.wanted c.args.search.props.now c.requires.props c.requires.known c.requires.fits c.requires.answered c.args.n found.0 found.1
+          (c.groups_are_known.ensures.in_range q c.args.group c.requires.known)));
+    }
 
 -- the enforcer over the plan for what it asks
-pub returns-in-Some-choice_over : goal.returns-in-Some-choice_over
-returns-in-Some-choice_over c =
+pub returns-in-Some-one_plan : goal.returns-in-Some-one_plan
+returns-in-Some-one_plan c =
     let q = c.args.search.query.now in
     let answers = c.args.search.answers.now in
     let named : keys.Names q c.make-key.result c.args.group = record { number = c.make-key.ensures.number; known = c.requires.known } in
     let found = enforced_at c.in-Some.found (slice_get (enforcers_of c.args.wanted) c.args.n)
     (subst (λ r. IsEnforced r (slice_get (enforcers_of c.args.wanted) c.args.n)) c.in-Some.is (c.enforcer.ensures.fitting c.args.group named c.requires.fits)) in
     let is_node = found.2 in
-    subst (λ new. Goes q answers c.args.group c.args.wanted (enforcer_number c.args.wanted c.args.n) (enforcer_number c.args.wanted (c.args.n + 1)) (IsPlaceSettled q c.args.group c.args.wanted c.args.n) c.args.best.now new)
-    (sym c.offer.ensures)
+    let below = c.in-Some-one_plan.below in
+    subst (λ new. GoesOverPlace q answers c.args.group c.args.wanted c.args.n c.args.best.now new) (sym (c.offer.ensures ∙ ap (λ choice. Some (cheaper_of c.args.best.now choice)) c.under.ensures))
     (enforcer_goes q answers c.args.group c.args.wanted c.args.search.props.now c.requires.props c.requires.known c.requires.fits c.requires.answered c.args.n found.0 found.1
     (record { itself = c.plans_are_ordered.ensures.itself q; along = c.plans_are_ordered.ensures.along q }) (c.choices_serve.ensures q) c.in-Some.found.node is_node
-    c.node_cost-local.result c.node_cost-local.ensures.most (c.node_cost-local.ensures.enforcer c.args.group found.0.node named is_node) c.in-Some-choice_over.choice c.args.best.now
-    (subst (λ r. IsOver answers c.in-Some.found.node c.node_cost-local.result (place_of c.args.group r) c.in-Some-choice_over.choice) found.3
-    (subst (λ k. IsOver answers c.in-Some.found.node c.node_cost-local.result (place_at k c.in-Some.found.below) c.in-Some-choice_over.choice) c.make-key.ensures.number c.in-Some-choice_over.ensures)))
+    c.node_cost-local.result c.node_cost-local.ensures.most (c.node_cost-local.ensures.enforcer c.args.group found.0.node named is_node) below c.args.best.now
+    (subst (λ r. IsPlanAt answers (place_of c.args.group r) below) found.3
+    (subst (λ k. IsPlanAt answers (place_at k c.in-Some.found.below) below) c.make-key.ensures.number c.in-Some-one_plan.ensures.found)))
 
 -- nothing stands below
-pub returns-in_default-choice_over : goal.returns-in_default-choice_over
-returns-in_default-choice_over c =
+pub returns-in_default-one_plan : goal.returns-in_default-one_plan
+returns-in_default-one_plan c =
     let q = c.args.search.query.now in
     let answers = c.args.search.answers.now in
     let named : keys.Names q c.make-key.result c.args.group = record { number = c.make-key.ensures.number; known = c.requires.known } in
@@ -56,7 +58,7 @@ returns-in_default-choice_over c =
     (subst (λ r. IsEnforced r (slice_get (enforcers_of c.args.wanted) c.args.n)) c.in-Some.is (c.enforcer.ensures.fitting c.args.group named c.requires.fits)) in
     lacking_goes q answers c.args.group c.args.wanted c.args.search.props.now c.requires.props c.requires.known c.requires.fits c.requires.answered c.args.n found.0 found.1 c.args.best.now
     (subst (λ r. kept_at answers (place_of c.args.group r) ≡ None) found.3
-    (subst (λ k. kept_at answers (place_at k c.in-Some.found.below) ≡ None) c.make-key.ensures.number c.in_default-choice_over.ensures))
+    (subst (λ k. kept_at answers (place_at k c.in-Some.found.below) ≡ None) c.make-key.ensures.number c.in_default-one_plan.ensures.found))
 
 -- there is no such enforcer
 pub returns-in_default : goal.returns-in_default

@@ -1,84 +1,32 @@
-use Rattle.plan_search.proofs.Kids.{one_small, two_small, over_one, over_two, made_zero}
+use Rattle.std.proofs.Common.{sym, subst}
+use Rattle.plan_search.specs.Search.{IsMade}
+use Rattle.plan_search.proofs.Kids.{asked_here, asked_small, missing_lacks, found_made}
 use Rattle.plan_search.proofs.natives.choice_of.Goals as goal
 
-pub choice_over_two-requires-clause-small : goal.choice_over_two-requires-clause-small
-choice_over_two-requires-clause-small c = two_small c.args.search.query.now c.args.search.answers.now c.args.e c.args.wanted c.args.mode c.args.alt (record {
-  props = c.args.search.props.now;
-  is_props = c.requires.props;
-  asks = c.what_is_asked_fits.ensures c.args.search.query.now;
-  serve = c.choices_serve.ensures c.args.search.query.now;
-  line = c.requires.alt.0;
-  alt_of = c.requires.alt.1;
-  candidate = c.members_are_candidates.ensures c.args.search.query.now c.args.e c.requires.member;
-  packed = c.candidates_are_known.ensures.packed c.args.search.query.now c.args.e (c.members_are_candidates.ensures c.args.search.query.now c.args.e c.requires.member);
-  member = c.requires.member;
-  fits = c.requires.fits;
-  few = c.requires.few;
-  answered = c.requires.answered;
-}) c.in-Some-Some.left c.in-Some-Some.right c.in-Some-Some.is-0 c.in-Some-Some.is-1
+pub plans_below-requires : goal.plans_below-requires
+plans_below-requires c =
+    let q = c.args.search.query.now in
+    let p = c.args.p.now in
+    let known = asked_here q c.args.search.answers.now p c.args.wanted c.args.alt c.args.search.props.now c.requires.props (c.what_is_asked_fits.ensures q) (c.choices_serve.ensures q)
+    (c.members_are_candidates.ensures q) (c.candidates_are_known.ensures.packed q) c.requires.is c.requires.fits c.requires.answered c.requires.alt in
+    record { small = asked_small q c.args.search.answers.now p.expr c.args.wanted p.mode c.args.alt known }
 
-pub choice_over-requires-clause-small : goal.choice_over-requires-clause-small
-choice_over-requires-clause-small c = one_small c.args.search.query.now c.args.search.answers.now c.args.e c.args.wanted c.args.mode c.args.alt (record {
-  props = c.args.search.props.now;
-  is_props = c.requires.props;
-  asks = c.what_is_asked_fits.ensures c.args.search.query.now;
-  serve = c.choices_serve.ensures c.args.search.query.now;
-  line = c.requires.alt.0;
-  alt_of = c.requires.alt.1;
-  candidate = c.members_are_candidates.ensures c.args.search.query.now c.args.e c.requires.member;
-  packed = c.candidates_are_known.ensures.packed c.args.search.query.now c.args.e (c.members_are_candidates.ensures c.args.search.query.now c.args.e c.requires.member);
-  member = c.requires.member;
-  fits = c.requires.fits;
-  few = c.requires.few;
-  answered = c.requires.answered;
-}) c.in-Some-None.left c.in-Some-None.is-0 c.in-Some-None.is-1
+-- a plan is missing
+pub returns-in-None : goal.returns-in-None
+returns-in-None c =
+    let q = c.args.search.query.now in
+    let p = c.args.p.now in
+    let known = asked_here q c.args.search.answers.now p c.args.wanted c.args.alt c.args.search.props.now c.requires.props (c.what_is_asked_fits.ensures q) (c.choices_serve.ensures q)
+    (c.members_are_candidates.ensures q) (c.candidates_are_known.ensures.packed q) c.requires.is c.requires.fits c.requires.answered c.requires.alt in
+    missing_lacks q c.args.search.answers.now p.expr c.args.wanted p.mode c.args.alt known c.in-None.ensures.found
 
-pub returns-in-Some-Some : goal.returns-in-Some-Some
-returns-in-Some-Some c = over_two c.args.search.query.now c.args.search.answers.now c.args.e c.args.wanted c.args.mode c.args.alt (record {
-  props = c.args.search.props.now;
-  is_props = c.requires.props;
-  asks = c.what_is_asked_fits.ensures c.args.search.query.now;
-  serve = c.choices_serve.ensures c.args.search.query.now;
-  line = c.requires.alt.0;
-  alt_of = c.requires.alt.1;
-  candidate = c.members_are_candidates.ensures c.args.search.query.now c.args.e c.requires.member;
-  packed = c.candidates_are_known.ensures.packed c.args.search.query.now c.args.e (c.members_are_candidates.ensures c.args.search.query.now c.args.e c.requires.member);
-  member = c.requires.member;
-  fits = c.requires.fits;
-  few = c.requires.few;
-  answered = c.requires.answered;
-}) c.native_cost-local.result c.native_cost-local.ensures.most c.native_cost-local.ensures.value
-    c.in-Some-Some.left c.in-Some-Some.right c.in-Some-Some.is-0 c.in-Some-Some.is-1 c.choice_over_two.result c.choice_over_two.ensures
-
-pub returns-in-Some-None : goal.returns-in-Some-None
-returns-in-Some-None c = over_one c.args.search.query.now c.args.search.answers.now c.args.e c.args.wanted c.args.mode c.args.alt (record {
-  props = c.args.search.props.now;
-  is_props = c.requires.props;
-  asks = c.what_is_asked_fits.ensures c.args.search.query.now;
-  serve = c.choices_serve.ensures c.args.search.query.now;
-  line = c.requires.alt.0;
-  alt_of = c.requires.alt.1;
-  candidate = c.members_are_candidates.ensures c.args.search.query.now c.args.e c.requires.member;
-  packed = c.candidates_are_known.ensures.packed c.args.search.query.now c.args.e (c.members_are_candidates.ensures c.args.search.query.now c.args.e c.requires.member);
-  member = c.requires.member;
-  fits = c.requires.fits;
-  few = c.requires.few;
-  answered = c.requires.answered;
-}) c.native_cost-local.result c.native_cost-local.ensures.most c.native_cost-local.ensures.value
-    c.in-Some-None.left c.in-Some-None.is-0 c.in-Some-None.is-1 c.choice_over.result c.choice_over.ensures
-
-pub returns-in_default : goal.returns-in_default
-returns-in_default c = made_zero c.args.search.query.now c.args.search.answers.now c.args.e c.args.wanted c.args.mode c.args.alt (record {
-  props = c.args.search.props.now;
-  is_props = c.requires.props;
-  asks = c.what_is_asked_fits.ensures c.args.search.query.now;
-  serve = c.choices_serve.ensures c.args.search.query.now;
-  line = c.requires.alt.0;
-  alt_of = c.requires.alt.1;
-  candidate = c.members_are_candidates.ensures c.args.search.query.now c.args.e c.requires.member;
-  packed = c.candidates_are_known.ensures.packed c.args.search.query.now c.args.e (c.members_are_candidates.ensures c.args.search.query.now c.args.e c.requires.member);
-  member = c.requires.member;
-  fits = c.requires.fits;
-  few = c.requires.few;
-  answered = c.requires.answered;
-}) c.native_cost-local.result c.native_cost-local.ensures.most c.native_cost-local.ensures.value c.in_default.is-0
+-- the expression over the plans that it asks for
+pub returns-in-Some : goal.returns-in-Some
+returns-in-Some c =
+    let q = c.args.search.query.now in
+    let p = c.args.p.now in
+    let known = asked_here q c.args.search.answers.now p c.args.wanted c.args.alt c.args.search.props.now c.requires.props (c.what_is_asked_fits.ensures q) (c.choices_serve.ensures q)
+    (c.members_are_candidates.ensures q) (c.candidates_are_known.ensures.packed q) c.requires.is c.requires.fits c.requires.answered c.requires.alt in
+    subst (IsMade q c.args.search.answers.now c.args.wanted p.expr p.mode) (sym c.under.ensures)
+    (found_made q c.args.search.answers.now p.expr c.args.wanted p.mode c.args.alt known c.native_cost_by-local.result c.native_cost_by-local.ensures.most
+    (c.native_cost_by-local.ensures.value p.mode c.requires.is.line) c.in-Some.below c.in-Some.ensures.found)

@@ -1,4 +1,4 @@
-use Rattle.plan_search.proofs.Listed.{AreTried}
+use Rattle.plan_search.proofs.Tried.{AreTried}
 use Rattle.plan_search.proofs.natives.try_all.Given as goal
 
 -- the members so far are settled

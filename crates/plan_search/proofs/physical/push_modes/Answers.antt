@@ -1,18 +1,27 @@
-use Rattle.std.proofs.Common.{sym, ◌∙◌, ap}
+use Rattle.std.proofs.Common.{◌∙◌, ap, ◌∷◌, [], ◌++◌, refl}
+use Rattle.std.proofs.lemmas.List.{append_assoc}
+use Rattle.plan_search.specs.declared.physical.Physical.{Physical}
 use Rattle.plan_search.proofs.Listed.{mode_pushed, mode_passed}
 use Rattle.plan_search.proofs.physical.push_modes.Goals as goal
-use Rattle.plan_search.proofs.physical.push_modes.Goals.{then-has_line+in_ok-push, else-has_line}
+use Rattle.plan_search.proofs.physical.push_modes.Goals.{in-Some+in_ok-push, in_default}
 
--- the mode is added where it has a line
+-- the mode comes behind the others where it has a line
 pub loop-mode-preserved : goal.loop-mode-preserved
 loop-mode-preserved c =
     let q = c.args.query.now in
     let e = c.args.expr in
     let m = c.loop-mode.mode in
-    elim c.if-has_line.branch [
-      | then-has_line+in_ok-push w ↦
-          ap (λ l. l.items) w.list-is
-          ∙ mode_pushed q e m c.args.list.now.items c.loop-mode.list.items c.loop-mode.invariant w.push.new.self.items (sym w.if-has_line.true ∙ c.has_line.ensures) w.in_ok-push.ensures.items
-      | else-has_line w ↦
-          ap (λ l. l.items) w.list-is ∙ mode_passed q e m c.args.list.now.items c.loop-mode.list.items c.loop-mode.invariant (sym w.if-has_line.false ∙ c.has_line.ensures)
+    let modes = c.loop-mode.invariant.0 in
+    elim c.match-line_of.branch [
+      | in-Some+in_ok-push w ↦
+          let p : Physical = record { expr = e; mode = m; line = w.in-Some.line; rows = c.expr_rows-rows.result } in (
+            modes ++ p ∷ [],
+            mode_pushed q e m modes c.loop-mode.invariant.1 p refl refl w.in-Some.ensures c.expr_rows-rows.ensures,
+            ap (λ l. l.items) w.list-is ∙ w.in_ok-push.ensures.items ∙ ap (λ l. l ++ p ∷ []) c.loop-mode.invariant.2 ∙ append_assoc c.args.list.now.items modes (p ∷ []),
+          )
+      | in_default w ↦ (
+        modes,
+        mode_passed q e m modes c.loop-mode.invariant.1 w.in_default.ensures,
+        ap (λ l. l.items) w.list-is ∙ c.loop-mode.invariant.2,
+      )
     ]
