@@ -1,0 +1,2 @@
+mod FirstAndLast
+mod Trees

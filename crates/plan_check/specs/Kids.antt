@@ -1,0 +1,31 @@
+-- What a node needs of the plans below it.
+use Rattle.std.specs.Prelude.{List, ⊤}
+use Rattle.query_core.specs.Expressions.{IsCandidate}
+use Rattle.query_core.specs.declared.query.Query.{Query}
+use Rattle.plan_space.specs.Nodes.{Kind, native, gather, broadcast, sort, gather_merge, redistribute, Tree}
+use Rattle.plan_space.specs.Gives.{Kid}
+use Rattle.plan_space.specs.Valid.{OverOne, NodeFits}
+use Rattle.plan_space.specs.Choices.{groups_of}
+use Rattle.plan_space.specs.Laws.{AreOf}
+use Rattle.plan_tree.specs.Seen.{root_node, kids_of}
+
+-- there is one kid
+abbrev pub IsOne : List Kid → Type 0
+IsOne kids = OverOne (λ kid. ⊤) kids
+
+-- an expression has a plan of each of its children, in order, and an enforcer has one kid
+abbrev pub HasKids : Kind → List Kid → Type 0
+HasKids (native e mode) kids = AreOf (groups_of e.children) kids
+HasKids gather kids = IsOne kids
+HasKids broadcast kids = IsOne kids
+HasKids (sort order) kids = IsOne kids
+HasKids (gather_merge order) kids = IsOne kids
+HasKids (redistribute list) kids = IsOne kids
+
+-- the kids of the plan's root are right in number and group
+abbrev pub RootHasKids : Query → Tree → Type 0
+RootHasKids q plan = HasKids (root_node plan) (kids_of q plan)
+
+-- the plan's root may stand over its kids: they give what it needs, and its order or list lies in their group
+abbrev pub RootFits : Query → Tree → Type 0
+RootFits q plan = NodeFits (IsCandidate q) q (root_node plan) (kids_of q plan)

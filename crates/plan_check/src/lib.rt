@@ -1,0 +1,15 @@
+//! Whether a plan that is given is a valid plan of a query that meets a request, and what it costs.
+#![tactic(auto)]
+
+mod check;
+mod fault;
+mod kids;
+mod needs;
+mod nodes;
+mod passes;
+mod places;
+#[cfg(test)]
+mod tests;
+
+pub use check::check_plan;
+pub use fault::PlanFault;

@@ -1,0 +1,208 @@
+//! Whether a node may stand over the plans below it. No call here takes memory.
+#![tactic(auto)]
+
+ghost use Rattle.std.specs.Prelude.{◌≡◌, ◌↔◌, IsTrue};
+ghost use Rattle.query_core.specs.Expressions.{IsCandidate};
+ghost use Rattle.request_props.specs.Numbered.{IsProps, order_of};
+ghost use Rattle.request_props.specs.Satisfied.{Meets, BeginsWith, given_order};
+ghost use Rattle.plan_space.specs.Valid.{IsSpread, DistNeeds, OrderNeeds, LeftNeeds, LineFits, NativeFits};
+ghost use Rattle.plan_space.specs.Valid.{CanSort, CanMerge, CanRedistribute, EnforcerFits, OverOne, NodeFits};
+ghost use Rattle.plan_tree.specs.Meanings.{left_dist_of, left_order_of, table_line_of};
+ghost use Rattle.plan_tree.specs.Nodes.{kind_of};
+ghost use Rattle.plan_tree.specs.Seen.{kid_seen, kids_seen};
+ghost use Rattle.plan_check.specs.Nodes.{IsKindOf};
+
+use plan_tree::{
+    Below, LeftDist, LeftOrder, Line, NodeKind, Seen, hash_fits, line_of, meets, order_fits,
+};
+use query_core::{Children, ExprParts, KeyParts, Query};
+use request_props::{Dist, Given, GivenDist, GivenOrder, Props, Request};
+
+/// Whether the node may stand over plans that are seen so.
+pub fn node_fits(query: &Query, props: &Props, kind: NodeKind, below: Below) -> bool
+    requires props { IsProps query.now props.now }
+    requires of_query { IsKindOf query.now (kind_of kind) }
+    ensures { IsTrue result ↔
+        NodeFits (IsCandidate query.now) query.now (kind_of kind) (kids_seen below) }
+{
+    match kind {
+        NodeKind::Native(expr, mode) => native_fits(query, props, expr, mode, below),
+        NodeKind::Gather => over_one(query, props, kind, below),
+        NodeKind::Broadcast => over_one(query, props, kind, below),
+        NodeKind::Sort(_) => over_one(query, props, kind, below),
+        NodeKind::GatherMerge(_) => over_one(query, props, kind, below),
+        NodeKind::Redistribute(_) => over_one(query, props, kind, below),
+    }
+}
+
+// ---- enforcers
+
+// Whether the enforcer stands over one plan, and may.
+fn over_one(query: &Query, props: &Props, kind: NodeKind, below: Below) -> bool
+    requires { IsProps query.now props.now }
+    ensures { IsTrue result ↔ OverOne (EnforcerFits query.now (kind_of kind)) (kids_seen below) }
+{
+    match below {
+        Below::Nothing => false,
+        Below::One(kid) => enforcer_fits(query, props, kind, kid),
+        Below::Two(_, _) => false,
+    }
+}
+
+fn enforcer_fits(query: &Query, props: &Props, kind: NodeKind, kid: Seen) -> bool
+    requires { IsProps query.now props.now }
+    ensures { IsTrue result ↔ EnforcerFits query.now (kind_of kind) (kid_seen kid) }
+{
+    match kind {
+        NodeKind::Native(_, _) => false,
+        NodeKind::Gather => is_spread(kid.given.dist),
+        NodeKind::Broadcast => is_spread(kid.given.dist),
+        NodeKind::Sort(order) => can_sort(query, props, order, kid),
+        NodeKind::GatherMerge(order) => can_merge(query, props, order, kid),
+        NodeKind::Redistribute(list) => can_redistribute(query, props, list, kid),
+    }
+}
+
+fn can_sort(query: &Query, props: &Props, order: u32, kid: Seen) -> bool
+    requires { IsProps query.now props.now }
+    ensures { IsTrue result ↔ CanSort query.now order (kid_seen kid) }
+{
+    1 <= order && order_fits(query, props, kid.group, order)
+}
+
+fn can_merge(query: &Query, props: &Props, order: u32, kid: Seen) -> bool
+    requires { IsProps query.now props.now }
+    ensures { IsTrue result ↔ CanMerge query.now order (kid_seen kid) }
+{
+    can_sort(query, props, order, kid)
+        && is_spread(kid.given.dist)
+        && has_order(query, props, kid.given.order, order)
+}
+
+fn can_redistribute(query: &Query, props: &Props, list: u32, kid: Seen) -> bool
+    requires { IsProps query.now props.now }
+    ensures { IsTrue result ↔ CanRedistribute query.now list (kid_seen kid) }
+{
+    is_spread(kid.given.dist) && hash_fits(query, props, kid.group, list)
+}
+
+// ---- expressions
+
+fn native_fits(query: &Query, props: &Props, expr: ExprParts, mode: u32, below: Below) -> bool
+    requires { IsProps query.now props.now }
+    ensures { IsTrue result ↔ NativeFits query.now expr mode (kids_seen below) }
+{
+    match line_of(query, props, expr, mode) {
+        Some(line) => line_fits(query, props, line, expr.children, below),
+        None => false,
+    }
+}
+
+// Whether the line may stand over these plans, where the children are these groups.
+fn line_fits(query: &Query, props: &Props, line: Line, children: Children, below: Below) -> bool
+    requires { IsProps query.now props.now }
+    ensures { IsTrue result ↔
+        LineFits query.now (table_line_of line) children (kids_seen below) }
+{
+    match (line, below) {
+        (Line::Alone(_, _), Below::Nothing) => children == Children::Zero,
+        (Line::Above(dist, order), Below::One(kid)) => {
+            children == Children::One(kid.group)
+                && left_needs(query, props, dist, order, kid.given)
+        }
+        (Line::Beside(dist, order, request), Below::Two(left, right)) => {
+            are_two(children, left.group, right.group)
+                && left_needs(query, props, dist, order, left.given)
+                && meets(query, props, right.given, request)
+        }
+        _ => false,
+    }
+}
+
+fn are_two(children: Children, left: KeyParts, right: KeyParts) -> bool
+    ensures { IsTrue result ↔ (children ≡ Children.Two left right) }
+{
+    children == Children::Two(left, right)
+}
+
+// Whether the left child gives what the line needs.
+fn left_needs(
+    query: &Query,
+    props: &Props,
+    dist: LeftDist,
+    order: LeftOrder,
+    given: Given,
+) -> bool
+    requires { IsProps query.now props.now }
+    ensures { IsTrue result ↔
+        LeftNeeds query.now (left_dist_of dist) (left_order_of order) given }
+{
+    dist_needs(query, props, dist, given.dist) && order_needs(query, props, order, given.order)
+}
+
+fn dist_needs(query: &Query, props: &Props, dist: LeftDist, given: GivenDist) -> bool
+    requires { IsProps query.now props.now }
+    ensures { IsTrue result ↔ DistNeeds (left_dist_of dist) given }
+{
+    match dist {
+        LeftDist::Fixed(_, asked) => has_dist(query, props, given, asked),
+        LeftDist::Same => true,
+        LeftDist::SameSpread => is_spread(given),
+    }
+}
+
+fn order_needs(query: &Query, props: &Props, order: LeftOrder, given: GivenOrder) -> bool
+    requires { IsProps query.now props.now }
+    ensures { IsTrue result ↔ OrderNeeds query.now (left_order_of order) given }
+{
+    match order {
+        LeftOrder::Fixed(_, asked) => has_order(query, props, given, asked),
+        LeftOrder::Same => true,
+    }
+}
+
+// ---- distributions and orders
+
+fn is_spread(dist: GivenDist) -> bool
+    ensures { IsTrue result ↔ IsSpread dist }
+{
+    match dist {
+        GivenDist::One => false,
+        GivenDist::Hashed(_) => true,
+        GivenDist::Random => true,
+        GivenDist::Copies => false,
+    }
+}
+
+// Whether rows that lie so are distributed as asked.
+fn has_dist(query: &Query, props: &Props, dist: GivenDist, asked: Dist) -> bool
+    requires { IsProps query.now props.now }
+    ensures { IsTrue result ↔ Meets dist asked }
+{
+    let given = Given {
+        dist,
+        order: GivenOrder::Listed(0),
+    };
+    let wanted = Request {
+        dist: asked,
+        order: 0,
+    };
+    meets(query, props, given, wanted)
+}
+
+// Whether rows in this order are in the order that is asked for.
+fn has_order(query: &Query, props: &Props, order: GivenOrder, asked: u32) -> bool
+    requires { IsProps query.now props.now }
+    ensures { IsTrue result ↔
+        BeginsWith (given_order query.now order) (order_of query.now asked) }
+{
+    let given = Given {
+        dist: GivenDist::One,
+        order,
+    };
+    let wanted = Request {
+        dist: Dist::One,
+        order: asked,
+    };
+    meets(query, props, given, wanted)
+}

@@ -1,0 +1,1 @@
+//! Plans of two tables that are joined by an equality, worked by hand.
