@@ -1,12 +1,12 @@
 #!/usr/bin/env python3
 """Compares the plans that the program prints with those of a plain program that is written on its own.
 
-It makes random small catalogues and queries, works out the text of the least plan of each (plain_plans.py), and tells
-where the program prints another one. Before that it checks the plain program against plans that were worked out by
-hand (known_plans.py), and with --trees against a listing of all plans. With --alone that is all: the program isn't
-run.
+It makes random small catalogues and queries, works out the text of the least plan of each (plain_plans.py), and with
+--memo that of its memo, and tells where the program prints another one. Before that it checks the plain program
+against plans that were worked out by hand (known_plans.py), and with --trees against a listing of all plans. With
+--alone that is all: the program isn't run.
 
-Usage: tools/compare.py [--cases N] [--seed N] [--tables N] [--parts PART,PART] [--trees NODES] [--alone]
+Usage: tools/compare.py [--cases N] [--seed N] [--tables N] [--parts PART,PART] [--memo] [--trees NODES] [--alone]
 """
 
 import argparse
@@ -17,7 +17,7 @@ import sys
 import tempfile
 
 from known_plans import KNOWN, KNOWN_COUNTS
-from plain_plans import ONE, RULES, SPREAD, Query, least_by_listing, least_by_requests, text_of
+from plain_plans import ONE, RULES, SPREAD, Query, least_by_listing, least_by_requests, memo_text, text_of
 
 COMPARISONS = ["=", "=", "=", "<", ">=", "<>"]
 FEW_ROWS, MANY_ROWS = [0, 1, 5, 10, 100, 1000], [1000, 1000, 20000, 500000, 10**12]
@@ -86,13 +86,14 @@ def random_query(pick, most_tables, parts):
 # ---- the program
 
 
-def printed(program, folder, query):
+def printed(program, folder, query, memo):
     catalog, text = os.path.join(folder, "catalog.json"), os.path.join(folder, "query.sql")
     with open(catalog, "w") as file:
         file.write(query.catalog())
     with open(text, "w") as file:
         file.write(query.sql())
-    return subprocess.run([program, "plan", catalog, text, *query.words()], capture_output=True, text=True).stdout
+    words = ["plan", catalog, text, *query.words()] + (["--memo"] if memo else [])
+    return subprocess.run([program, *words], capture_output=True, text=True).stdout
 
 
 def check_known():
@@ -127,6 +128,7 @@ def main():
     options.add_argument("--seed", type=int, default=1)
     options.add_argument("--tables", type=int, default=4, help="the most tables of a query")
     options.add_argument("--parts", default=",".join(PARTS), help="what queries may have, of " + ", ".join(PARTS))
+    options.add_argument("--memo", action="store_true", help="compare the memos, too")
     options.add_argument("--trees", type=int, default=0, metavar="NODES", help="list all plans of at most so many nodes")
     options.add_argument("--alone", action="store_true", help="only check the plain program")
     options.add_argument("--program", default=os.path.join(top, "crates", "orca", "out", "orca"))
@@ -144,7 +146,8 @@ def main():
                 listed += count
             if asked.alone:
                 continue
-            wanted, got = text_of(query, least), printed(asked.program, folder, query)
+            wanted = text_of(query, least) + (memo_text(query) if asked.memo else "")
+            got = printed(asked.program, folder, query, asked.memo)
             if wanted != got:
                 differ += 1
                 print(f"case {case}\n{told(query)}\nexpected\n{wanted}printed\n{got}")

@@ -479,14 +479,17 @@ def text_of(query, plan):
     return "\n".join([f"cost {plan.cost}", f"output {query.output_text()}", *plan.lines()]) + "\n"
 
 
-def native(query, key, member, line, kids):
+def word_of(key, member):
     op, index, children = member
     field = lambda k: children[k] + 1 if k < len(children) else 0
-    word = key * 2**36 + (OPERATORS.index(op) + 1) * 2**31 + index * 2**26 + field(0) * 2**13 + field(1)
+    return key * 2**36 + (OPERATORS.index(op) + 1) * 2**31 + index * 2**26 + field(0) * 2**13 + field(1)
+
+
+def native(query, key, member, line, kids):
     dist = kids[0].dist if isinstance(line.dist, str) else line.dist[0]
     order = kids[0].order if isinstance(line.order, str) else line.order[0]
-    local = query.native_cost(op, key, dist, kids)
-    return Plan(query, key, 2**56 + word * 2**8 + line.mode, line.name, local, dist, order, kids)
+    local = query.native_cost(member.op, key, dist, kids)
+    return Plan(query, key, 2**56 + word_of(key, member) * 2**8 + line.mode, line.name, local, dist, order, kids)
 
 
 def gather(query, kid):
@@ -511,6 +514,37 @@ def gather_merge(query, order, kid):
 def redistribute(query, number, kid):
     name, cost = f"Redistribute({query.list_text(number)})", 4 * query.share(kid.key, SPREAD) + 1
     return Plan(query, kid.key, 192 + number, name, cost, ("Hashed", number), (), (kid,))
+
+
+# ---- the memo
+
+
+def memo_text(query):
+    """The groups by their keys, each with its members by their words."""
+
+    def tables_text(mask):
+        return ", ".join(table["name"] for t, table in enumerate(query.tables) if mask >> t & 1)
+
+    def group_text(key):
+        if key in (PARTIAL, AGG):
+            return "Partial" if key == PARTIAL else "Agg"
+        return f"{'Get' if key < 16 else 'Filter' if key < 32 else 'Join'}({tables_text(tables_of(key))})"
+
+    def member_text(key, member):
+        op, index, children = member
+        if key in (PARTIAL, AGG):
+            return f"{op}({'partial' if children[0] == PARTIAL else 'input'})"
+        if len(children) == 2:
+            return f"{op}({' | '.join(tables_text(tables_of(child)) for child in children)})"
+        number = f", i{index}" if op in ("IndexScan", "IndexSeek") else ""
+        return f"{op}({tables_text(tables_of(key))}{number})"
+
+    lines = [f"memo groups={len(query.members)} members={sum(map(len, query.members.values()))}"]
+    for key in sorted(query.members):
+        lines.append(f"group {group_text(key)} rows={query.rows(key)}")
+        members = sorted(query.members[key], key=lambda member: word_of(key, member))
+        lines += [f"  {member_text(key, member)}" for member in members]
+    return "\n".join(lines) + "\n"
 
 
 # ---- the least plan by requests
