@@ -14,17 +14,12 @@ use Rattle.plan_space.specs.Numbers.{Fits}
 use Rattle.plan_space.specs.Nodes.{Tree}
 use Rattle.plan_space.specs.Least.{HasNoPlan}
 use Rattle.plan_search.specs.declared.answers.Answers.{Answers}
-use Rattle.plan_search.specs.declared.answers.Kept.{Kept}
+use Rattle.plan_search.specs.declared.choice.Choice.{Choice}
 use Rattle.plan_search.specs.Places.{place_of, most_nodes}
-use Rattle.plan_search.specs.Search.{IsKept, answer_at, IsAnswered, AreAnswered, kept_at, cost_at}
+use Rattle.plan_search.specs.Search.{IsKept, IsAnswered, AreAnswered, kept_at, cost_at}
 use Rattle.plan_search.proofs.Bounds.{request_small}
 
 module _ (q : Query) (answers : Answers) where
-  -- the plan that stands at a goal
-  pub record Holds (g : KeyParts) (r : Request) (kept : Kept) (tree : Tree) : Type 0 where
-    pub stands : answer_at answers (place_of g r) ≡ Some (Some kept)
-    pub is_kept : IsKept q g r kept tree
-
   module _ (g : KeyParts) (r : Request) where
     -- there is no plan, and none stands there
     pub none_case : IsAnswered q answers g r → kept_at answers (place_of g r) ≡ None → HasNoPlan (IsMember q) q g r
@@ -32,12 +27,12 @@ module _ (q : Query) (answers : Answers) where
     none_case (Some kept, at, is) none = let never : Some kept ≡ None = sym (ap (λ a. option_and_then (λ answer. answer) a) at) ∙ none in cc
 
     -- what stands there is a least plan
-    pub some_case : (kept : Kept) → IsAnswered q answers g r → kept_at answers (place_of g r) ≡ Some kept → (tree : Tree) × Holds g r kept tree
+    pub some_case : (kept : Choice) → IsAnswered q answers g r → kept_at answers (place_of g r) ≡ Some kept → (tree : Tree) × IsKept q answers g r kept tree
     some_case kept (None, at, is) some = let never : None ≡ Some kept = sym (ap (λ a. option_and_then (λ answer. answer) a) at) ∙ some in cc
     some_case kept (Some other, at, is) some =
         let same : Some other ≡ Some kept = sym (ap (λ a. option_and_then (λ answer. answer) a) at) ∙ some in
         let equal : other ≡ kept = cc in
-        (is.0, record { stands = at ∙ ap (λ k. Some (Some k)) equal; is_kept = subst (λ k. IsKept q g r k is.0) equal is.1 })
+        (is.0, subst (λ k. IsKept q answers g r k is.0) equal is.1)
 
     -- what stands there costs no more than so many nodes may
     pub cost_small : IsAnswered q answers g r → cost_at answers (place_of g r) ≤ most_cost * most_nodes g r
@@ -46,6 +41,10 @@ module _ (q : Query) (answers : Answers) where
         (omega (arith, is.1.cost, is.1.small))
 
   module _ (props : Props) (is_props : IsProps q props) (group : KeyParts) (wanted : Request) (answered : AreAnswered q answers (place_of group wanted)) where
-    -- a request of a group with a lesser key is answered
+    -- a request of a group with a lesser key comes before
+    pub kid_before : (g : KeyParts) (r : Request) → Fits q g r → key_number g < key_number group → place_of g r < place_of group wanted
+    kid_before g r fits less = omega (arith, less, request_small q g props r is_props fits)
+
+    -- and is answered
     pub kid_answered : (g : KeyParts) (r : Request) → IsGroup q g → Fits q g r → key_number g < key_number group → IsAnswered q answers g r
-    kid_answered g r known fits less = answered g r known fits (omega (arith, less, request_small q g props r is_props fits))
+    kid_answered g r known fits less = answered g r known fits (kid_before g r fits less)

@@ -241,20 +241,20 @@ module _ (q : Query) (answers : Answers) (group : KeyParts) (wanted : Request) w
         let plan = over e.node kid in
         let choice = choice_over node local below in
         let local_is : local ≡ local_cost (shape_of q e.node (kid_of q kid ∷ [])) =
-        cost e among refl (kid_of q kid) holds.is_kept.least.serves.of_group holds.is_kept.least.serves.satisfies in
+        cost e among refl (kid_of q kid) holds.least.serves.of_group holds.least.serves.satisfies in
         let chosen : IsChosen q answers group wanted (choice_over node local below) e.node plan =
         subst (λ b. IsChosen q answers group wanted (choice_over node local b) e.node plan) (sym is) (record {
           is_node = is_node;
-          built = (kid, (kept, holds.stands, holds.is_kept.spells), refl);
-          serves = serve group wanted plan fits (enforced_choice e kid among holds.is_kept.least refl);
-          cost = omega (arith, local_is, holds.is_kept.cost);
-          small = omega (arith, small, local_is, holds.is_kept.small, facts.nodes);
+          built = (kid, facts.place, holds.stands, refl);
+          serves = serve group wanted plan fits (enforced_choice e kid among holds.least refl);
+          cost = omega (arith, local_is, holds.cost);
+          small = omega (arith, small, local_is, holds.small, facts.nodes);
         }) in
         goes_from q answers group wanted (enforcer_number wanted n) (number_of e.node) (enforcer_number wanted (n + 1)) (IsPlaceSettled q group wanted n) old (Some (cheaper_of old choice))
         (omega (arith, numbers.0))
         (goes_to q answers group wanted (number_of e.node) (number_of e.node + 1) (enforcer_number wanted (n + 1)) (IsPlaceSettled q group wanted n) old (Some (cheaper_of old choice)) numbers.1
         (goes_as q answers group wanted (number_of e.node) (number_of e.node + 1) (λ best. Beats q best plan) (IsPlaceSettled q group wanted n) old (Some (cheaper_of old choice))
-        (λ best beats. only_this best (inl (kid, holds.is_kept.least, beats)))
+        (λ best beats. only_this best (inl (kid, holds.least, beats)))
         (goes_by_one q answers group wanted order (number_of e.node) e.node choice plan old chosen refl)))
 
 -- which enforcer was found

@@ -18,23 +18,18 @@ use Rattle.request_props.specs.declared.request.Dist.{Dist}
 use Rattle.request_props.specs.declared.request.Dist.TheVariants.{One, Spread, Copies, Hashed}
 use Rattle.request_props.specs.declared.request.Request.{Request}
 use Rattle.plan_space.specs.Numbers.{Fits}
-use Rattle.plan_space.specs.Nodes.{Kind, Tree}
-use Rattle.plan_space.specs.Least.{IsLeast, IsAnswer}
+use Rattle.plan_space.specs.Nodes.{Tree}
 use Rattle.plan_space.specs.Enforcers.{enforcers_of}
 use Rattle.plan_space.specs.Choices.{BestServes, IsModeSettled}
 use Rattle.plan_space.specs.Laws.{SettledIsLeast}
-use Rattle.plan_tree.specs.Nodes.{IsNode}
-use Rattle.plan_tree.specs.Spells.{Spells}
-use Rattle.plan_tree.specs.declared.plan.Plan.{Plan}
-use Rattle.plan_space.specs.Cost.{cost_of}
 use Rattle.plan_search.proofs.Answered.{some_case}
 use Rattle.plan_search.specs.declared.answers.Answers.{Answers}
-use Rattle.plan_search.specs.declared.answers.Kept.{Kept}
 use Rattle.plan_search.specs.declared.choice.Choice.{Choice}
 use Rattle.plan_search.specs.declared.physical.Physical.{Physical}
 use Rattle.plan_search.specs.Places.{dist_place, request_place, place_of}
-use Rattle.plan_search.specs.Search.{kept_at, IsAnswerFor, answer_at, AreAnswered, IsBuilt, IsBestSoFar, GoesOverEnforcers, GoesOverAll, AreEnforcersSettled, AreListed, AreSettledIn, HasMode}
+use Rattle.plan_search.specs.Search.{kept_at, IsKept, IsAnswerFor, answer_at, AreAnswered, IsBest, IsBestSoFar, GoesOverEnforcers, GoesOverAll, AreEnforcersSettled, AreListed, AreSettledIn, HasMode}
 use Rattle.plan_search.proofs.Bounds.{request_small}
+use Rattle.plan_search.proofs.Standing.{stands_on, built_stands}
 use Rattle.plan_search.proofs.Scanning.{IsStable, goes_on, enforcer_stable}
 
 module _ (q : Query) (answers : Answers) (group : KeyParts) (wanted : Request) where
@@ -57,7 +52,7 @@ module _ (q : Query) (answers : Answers) (group : KeyParts) (wanted : Request) w
   -- once all nodes are offered, the best is the least plan, and where there is none there is no plan
   pub best_is_answer : (list : List Physical) (some all : Option Choice) → SettledIsLeast q → Fits q group wanted → AreListed q group list
       → GoesOverEnforcers q answers group wanted None some → GoesOverAll q answers group wanted list some all
-      → (best : Option Tree) × IsBestSoFar q answers group wanted all best × IsAnswer (IsMember q) q group wanted best
+      → IsBest q answers group wanted all
   best_is_answer list some all least fits listed first second =
       let both = goes_on q answers group wanted 0 (2 ^ 56) (2 ^ 57) (AreEnforcersSettled q group (enforcers_of wanted)) (AreSettledIn q wanted list) None some all enforcers_stable first second None tt tt in
       let best = both.0 in (
@@ -71,22 +66,28 @@ module _ (q : Query) (answers : Answers) (group : KeyParts) (wanted : Request) w
         }),
       )
 
-  -- the best choice's plan is an answer
-  pub chosen_answer : (choice : Choice) (kept : Kept) (best : Option Tree) → IsBestSoFar q answers group wanted (Some choice) best → IsAnswer (IsMember q) q group wanted best
-      → ((node : Kind) (tree : Tree) → IsNode choice.node node → IsBuilt answers choice.kids node tree → Spells kept.plan tree) → kept.cost ≡ choice.cost
-      → IsAnswerFor q group wanted (Some kept)
-  chosen_answer choice kept None is answer spells cost = absurd is
-  chosen_answer choice kept (Some tree) (node, chosen) answer spells cost =
-      (tree, record { spells = spells node tree chosen.is_node chosen.built; least = answer; cost = cost ∙ chosen.cost; small = chosen.small })
+  -- the best choice, put at the goal's place, is its answer
+  pub best_answers : (new : Answers) (choice : Option Choice) → ((place : ℕ) → place < place_of group wanted → answer_at new place ≡ answer_at answers place)
+      → answer_at new (place_of group wanted) ≡ Some choice → IsBest q answers group wanted choice → IsAnswerFor q new group wanted choice
+  best_answers new None kept at (None, is, answer) = answer
+  best_answers new None kept at (Some tree, is, answer) = absurd is
+  best_answers new (Some choice) kept at (None, is, answer) = absurd is
+  best_answers new (Some choice) kept at (Some tree, (node, chosen), answer) = (
+    tree,
+    record {
+      stands = built_stands answers new (place_of group wanted) kept choice choice.kids node tree refl (record { at = at; is_node = chosen.is_node }) chosen.built;
+      least = answer;
+      cost = chosen.cost;
+      small = chosen.small;
+    },
+  )
 
-  pub chosen_built : (choice : Choice) (best : Option Tree) → IsBestSoFar q answers group wanted (Some choice) best → (node : Kind) × (tree : Tree) × IsBuilt answers choice.kids node tree
-  chosen_built choice None is = absurd is
-  chosen_built choice (Some tree) (node, chosen) = (node, tree, chosen.built)
-
-  -- no choice, no plan
-  pub none_answer : (best : Option Tree) → IsBestSoFar q answers group wanted None best → IsAnswer (IsMember q) q group wanted best → IsAnswerFor q group wanted None
-  none_answer None is answer = answer
-  none_answer (Some tree) is answer = absurd is
+-- an answer stays one where what stands before a greater place stays
+answer_stays : (q : Query) (old new : Answers) (bound : ℕ) → ((place : ℕ) → place < bound → answer_at new place ≡ answer_at old place) → (g : KeyParts) (r : Request)
+    → place_of g r < bound → (answer : Option Choice) → IsAnswerFor q old g r answer → IsAnswerFor q new g r answer
+answer_stays q old new bound kept g r before None is = is
+answer_stays q old new bound kept g r before (Some choice) (tree, is) =
+    (tree, record { stands = stands_on old new bound kept tree (place_of g r) before is.stands; least = is.least; cost = is.cost; small = is.small })
 
 differ : (x y : ℕ) → (x ≡ y → ⊥) → is_eq (nat_cmp x y) ≡ false
 differ x y not_same = elim (cases_order x y) [
@@ -138,19 +139,24 @@ module _ (q : Query) (props : Props) (is_props : IsProps q props) (in_range : (g
       )
 
   -- one more answer
-  pub answered_more : (old new : Answers) (group : KeyParts) (wanted : Request) (answer : Option Kept) → IsGroup q group → Fits q group wanted → AreAnswered q old (place_of group wanted)
-      → IsAnswerFor q group wanted answer → Updates nat_cmp old.map new.map (place_of group wanted) (Some answer) → AreAnswered q new (place_of group wanted + 1)
-  answered_more old new group wanted answer known fits answered is updates g r known_too fits_too less = elim (cases_eq (place_of g r) (place_of group wanted)) [
-    | inl same ↦
-        let one = place_is_one g group r wanted known_too known fits_too fits same in (
-          answer,
-          ap (λ p. answer_at new p) same ∙ updates.1,
-          subst (λ h. IsAnswerFor q h r answer) (sym one.0) (subst (λ s. IsAnswerFor q group s answer) (sym one.1) is),
-        )
-    | inr other ↦
-        let before = answered g r known_too fits_too (omega (arith, less, other)) in
-        (before.0, updates.2 (place_of g r) (differ (place_of group wanted) (place_of g r) (λ is. other (sym is))) ∙ before.1, before.2)
-  ]
+  pub answered_more : (old new : Answers) (group : KeyParts) (wanted : Request) (choice : Option Choice) → IsGroup q group → Fits q group wanted → AreAnswered q old (place_of group wanted)
+      → IsBest q old group wanted choice → Updates nat_cmp old.map new.map (place_of group wanted) (Some choice) → AreAnswered q new (place_of group wanted + 1)
+  answered_more old new group wanted choice known fits answered best updates g r known_too fits_too less =
+      let others : (place : ℕ) → place < place_of group wanted → answer_at new place ≡ answer_at old place =
+      λ place before. updates.2 place (differ (place_of group wanted) place (λ is. omega (arith, before, is))) in
+      elim (cases_eq (place_of g r) (place_of group wanted)) [
+        | inl same ↦
+            let one = place_is_one g group r wanted known_too known fits_too fits same in
+            let is = best_answers q old group wanted new choice others updates.1 best in (
+              choice,
+              ap (λ p. answer_at new p) same ∙ updates.1,
+              subst (λ h. IsAnswerFor q new h r choice) (sym one.0) (subst (λ s. IsAnswerFor q new group s choice) (sym one.1) is),
+            )
+        | inr other ↦
+            let earlier : place_of g r < place_of group wanted = omega (arith, less, other) in
+            let before = answered g r known_too fits_too earlier in
+            (before.0, others (place_of g r) earlier ∙ before.1, answer_stays q old new (place_of group wanted) others g r earlier before.0 before.2)
+      ]
 
   -- no request that fits has the place, so all before the next place are answered
   pub answered_past : (answers : Answers) (group : KeyParts) (place : ℕ) (at : Request) → IsGroup q group → place < 4096 → request_place at ≡ place → at.order < 64
@@ -186,12 +192,10 @@ key_small groups.Partial range = omega arith
 key_small groups.Agg range = omega arith
 
 -- the plan that stands at the root's goal is the query's least
-pub root_found : (q : Query) (props : Props) → IsProps q props → (answers : Answers) (kept : Kept) (copy : Plan) (group : KeyParts) (wanted : Request)
+pub root_found : (q : Query) (props : Props) → IsProps q props → (answers : Answers) (kept : Choice) (group : KeyParts) (wanted : Request)
     → AreAnswered q answers (2050 * 4096) → IsGroup q group → IsInRange group → Fits q group wanted → kept_at answers (place_of group wanted) ≡ Some kept
-    → ((tree : Tree) → Spells kept.plan tree → Spells copy tree)
-    → (tree : Tree) × Spells copy tree × IsLeast (IsMember q) q group wanted tree × (kept.cost ≡ cost_of q tree)
-root_found q props is_props answers kept copy group wanted answered known range fits at spells =
+    → (tree : Tree) × IsKept q answers group wanted kept tree
+root_found q props is_props answers kept group wanted answered known range fits at =
     let small = request_small q group props wanted is_props fits in
     let key = key_small group range in
-    let found = some_case q answers group wanted kept (answered group wanted known fits (omega (arith, small, key))) at in
-    (found.0, spells found.0 found.1.is_kept.spells, found.1.is_kept.least, found.1.is_kept.cost)
+    some_case q answers group wanted kept (answered group wanted known fits (omega (arith, small, key))) at

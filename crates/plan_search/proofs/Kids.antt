@@ -30,8 +30,8 @@ use Rattle.plan_tree.specs.Nodes.{IsNode}
 use Rattle.plan_tree.specs.Alternatives.{IsAltBy, IsAltIn}
 use Rattle.plan_tree.specs.Costs.{IsNativeCost}
 use Rattle.plan_search.specs.Places.{place_of, place_at, place_asked, most_nodes, most_of_all}
-use Rattle.plan_search.specs.Search.{answer_at, IsAnswered, AreAnswered, kept_at, cost_at, IsLacking, IsMade, IsPhysical, choice_over, IsPlanAt, ArePlansAt, AreFound, IsOneMissing, IsMissing, asked_cost}
-use Rattle.plan_search.proofs.Answered.{none_case, some_case, cost_small, kid_answered}
+use Rattle.plan_search.specs.Search.{StandsAt, IsAnswered, AreAnswered, kept_at, cost_at, IsLacking, IsMade, IsPhysical, choice_over, IsPlanAt, ArePlansAt, AreFound, IsOneMissing, IsMissing, asked_cost}
+use Rattle.plan_search.proofs.Answered.{none_case, some_case, cost_small, kid_before, kid_answered}
 use Rattle.plan_search.proofs.Asked.{asked_one, asked_two, asked_zero}
 use Rattle.plan_search.proofs.Bounds.{one_shape, two_shape, filter_nodes, join_nodes, some_nodes, all_nodes}
 
@@ -92,19 +92,23 @@ module _ (q : Query) (answers : Answers) (e : ExprParts) (wanted : Request) (mod
     pub asked : asked_of known.line wanted ≡ kid.1 ∷ []
     pub place : place_at kid.0.0 kid.1 ≡ place_of g kid.1
     pub is_answered : IsAnswered q answers g kid.1
+    pub before : place_asked kid < place_of e.group wanted
     pub nodes : 1 + most_nodes g kid.1 ≤ most_nodes e.group wanted
 
   pub one_kid : (kid : Key × Request) → alt.left ≡ Some kid → alt.right ≡ None → (g : KeyParts) × OneKid kid g
   one_kid kid left right =
       let found = asked_one q alt e.children (asked_of known.line wanted) kid left right known.alt_of.asks in
       let g = found.0 in
-      let bounds = filter_nodes e.group g wanted kid.1 (one_shape q e.group g e.operator mode known.line (shape_with (One g) found.1) (line_with (One g) found.1)) in (
+      let bounds = filter_nodes e.group g wanted kid.1 (one_shape q e.group g e.operator mode known.line (shape_with (One g) found.1) (line_with (One g) found.1)) in
+      let fit = (requests_fit (One g) (kid.1 ∷ []) found.1 found.2).0 in
+      let place : place_asked kid ≡ place_of g kid.1 = ap (λ k. place_at k kid.1) found.3.number in (
         g,
         record {
           children = found.1;
           asked = found.2;
-          place = ap (λ k. place_at k kid.1) found.3.number;
-          is_answered = kid_answered q answers known.props known.is_props e.group wanted known.answered g kid.1 found.3.known (requests_fit (One g) (kid.1 ∷ []) found.1 found.2).0 bounds.1;
+          place = place;
+          is_answered = kid_answered q answers known.props known.is_props e.group wanted known.answered g kid.1 found.3.known fit bounds.1;
+          before = omega (arith, place, kid_before q answers known.props known.is_props e.group wanted known.answered g kid.1 fit bounds.1);
           nodes = bounds.0;
         },
       )
@@ -119,19 +123,19 @@ module _ (q : Query) (answers : Answers) (e : ExprParts) (wanted : Request) (mod
       let plan = over (native e mode) under in
       let are_least : AreLeast (IsMember q) q (groups_of e.children) (asked_of known.line wanted) (under ∷ []) =
       subst (λ c. AreLeast (IsMember q) q (groups_of c) (asked_of known.line wanted) (under ∷ [])) (sym one.children)
-      (subst (λ a. AreLeast (IsMember q) q (g ∷ []) a (under ∷ [])) (sym one.asked) (holds.is_kept.least, tt)) in
+      (subst (λ a. AreLeast (IsMember q) q (g ∷ []) a (under ∷ [])) (sym one.asked) (holds.least, tt)) in
       let local_is : local ≡ local_cost (shape_of q (native e mode) (kid_of q under ∷ [])) =
       cost known.line (kid_of q under ∷ []) known.alt_of.is_alternative
-      (subst (λ c. AreOf (groups_of c) (kid_of q under ∷ [])) (sym one.children) (holds.is_kept.least.serves.of_group, tt))
-      (subst (λ a. KidsServe q (kid_of q under ∷ []) a) (sym one.asked) (holds.is_kept.least.serves.satisfies, tt)) in
+      (subst (λ c. AreOf (groups_of c) (kid_of q under ∷ [])) (sym one.children) (holds.least.serves.of_group, tt))
+      (subst (λ a. KidsServe q (kid_of q under ∷ []) a) (sym one.asked) (holds.least.serves.satisfies, tt)) in
       subst (λ b. IsMade q answers wanted e mode (choice_over alt.node local b)) (sym is) (
         plan,
         record {
           is_node = is_node;
-          built = (under, (kept, subst (λ p. answer_at answers p ≡ Some (Some kept)) (sym one.place) holds.stands, holds.is_kept.spells), refl);
+          built = (under, one.before, subst (λ p. StandsAt answers p under) (sym one.place) holds.stands, refl);
           serves = known.serve e.group wanted plan known.fits (native_choice e mode known.line (under ∷ []) known.member refl known.alt_of.is_alternative are_least refl);
-          cost = omega (arith, local_is, holds.is_kept.cost);
-          small = omega (arith, small, local_is, holds.is_kept.small, one.nodes);
+          cost = omega (arith, local_is, holds.cost);
+          small = omega (arith, small, local_is, holds.small, one.nodes);
         },
         λ other alternative. (under ∷ [], subst (λ l. AreLeast (IsMember q) q (groups_of e.children) (asked_of l wanted) (under ∷ [])) (sym (line_is other alternative)) are_least, refl),
       )
@@ -153,6 +157,8 @@ module _ (q : Query) (answers : Answers) (e : ExprParts) (wanted : Request) (mod
     pub other_place : place_at second.0.0 second.1 ≡ place_of h second.1
     pub is_answered : IsAnswered q answers g first.1
     pub other_answered : IsAnswered q answers h second.1
+    pub before : place_asked first < place_of e.group wanted
+    pub other_before : place_asked second < place_of e.group wanted
     pub nodes : 1 + most_nodes g first.1 + most_nodes h second.1 ≤ most_nodes e.group wanted
 
   pub two_kids : (first second : Key × Request) → alt.left ≡ Some first → alt.right ≡ Some second → (g h : KeyParts) × TwoKids first second g h
@@ -161,16 +167,20 @@ module _ (q : Query) (answers : Answers) (e : ExprParts) (wanted : Request) (mod
       let g = found.0 in
       let h = found.1 in
       let bounds = join_nodes q e.group g h wanted first.1 second.1 (two_shape q e.group g h e.operator mode known.line (shape_with (Two g h) found.2) (line_with (Two g h) found.2)) in
-      let fit = requests_fit (Two g h) (first.1 ∷ second.1 ∷ []) found.2 found.3 in (
+      let fit = requests_fit (Two g h) (first.1 ∷ second.1 ∷ []) found.2 found.3 in
+      let place : place_asked first ≡ place_of g first.1 = ap (λ k. place_at k first.1) found.4.number in
+      let other_place : place_asked second ≡ place_of h second.1 = ap (λ k. place_at k second.1) found.5.number in (
         g,
         h,
         record {
           children = found.2;
           asked = found.3;
-          place = ap (λ k. place_at k first.1) found.4.number;
-          other_place = ap (λ k. place_at k second.1) found.5.number;
+          place = place;
+          other_place = other_place;
           is_answered = kid_answered q answers known.props known.is_props e.group wanted known.answered g first.1 found.4.known fit.0 bounds.1.0;
           other_answered = kid_answered q answers known.props known.is_props e.group wanted known.answered h second.1 found.5.known fit.1.0 bounds.1.1;
+          before = omega (arith, place, kid_before q answers known.props known.is_props e.group wanted known.answered g first.1 fit.0 bounds.1.0);
+          other_before = omega (arith, other_place, kid_before q answers known.props known.is_props e.group wanted known.answered h second.1 fit.1.0 bounds.1.1);
           nodes = bounds.0;
         },
       )
@@ -186,11 +196,11 @@ module _ (q : Query) (answers : Answers) (e : ExprParts) (wanted : Request) (mod
       let plan = two (native e mode) left right in
       let are_least : AreLeast (IsMember q) q (groups_of e.children) (asked_of known.line wanted) (left ∷ right ∷ []) =
       subst (λ c. AreLeast (IsMember q) q (groups_of c) (asked_of known.line wanted) (left ∷ right ∷ [])) (sym both.children)
-      (subst (λ a. AreLeast (IsMember q) q (g ∷ h ∷ []) a (left ∷ right ∷ [])) (sym both.asked) (found.1.is_kept.least, (other.1.is_kept.least, tt))) in
+      (subst (λ a. AreLeast (IsMember q) q (g ∷ h ∷ []) a (left ∷ right ∷ [])) (sym both.asked) (found.1.least, (other.1.least, tt))) in
       let local_is : local ≡ local_cost (shape_of q (native e mode) (kid_of q left ∷ kid_of q right ∷ [])) =
       cost known.line (kid_of q left ∷ kid_of q right ∷ []) known.alt_of.is_alternative
-      (subst (λ c. AreOf (groups_of c) (kid_of q left ∷ kid_of q right ∷ [])) (sym both.children) (found.1.is_kept.least.serves.of_group, (other.1.is_kept.least.serves.of_group, tt)))
-      (subst (λ a. KidsServe q (kid_of q left ∷ kid_of q right ∷ []) a) (sym both.asked) (found.1.is_kept.least.serves.satisfies, (other.1.is_kept.least.serves.satisfies, tt))) in
+      (subst (λ c. AreOf (groups_of c) (kid_of q left ∷ kid_of q right ∷ [])) (sym both.children) (found.1.least.serves.of_group, (other.1.least.serves.of_group, tt)))
+      (subst (λ a. KidsServe q (kid_of q left ∷ kid_of q right ∷ []) a) (sym both.asked) (found.1.least.serves.satisfies, (other.1.least.serves.satisfies, tt))) in
       subst (λ b. IsMade q answers wanted e mode (choice_over alt.node local b)) (sym is) (
         plan,
         record {
@@ -198,13 +208,15 @@ module _ (q : Query) (answers : Answers) (e : ExprParts) (wanted : Request) (mod
           built = (
             left,
             right,
-            (kept, subst (λ p. answer_at answers p ≡ Some (Some kept)) (sym both.place) found.1.stands, found.1.is_kept.spells),
-            (more, subst (λ p. answer_at answers p ≡ Some (Some more)) (sym both.other_place) other.1.stands, other.1.is_kept.spells),
+            both.before,
+            both.other_before,
+            subst (λ p. StandsAt answers p left) (sym both.place) found.1.stands,
+            subst (λ p. StandsAt answers p right) (sym both.other_place) other.1.stands,
             refl,
           );
           serves = known.serve e.group wanted plan known.fits (native_choice e mode known.line (left ∷ right ∷ []) known.member refl known.alt_of.is_alternative are_least refl);
-          cost = omega (arith, local_is, found.1.is_kept.cost, other.1.is_kept.cost);
-          small = omega (arith, small, local_is, found.1.is_kept.small, other.1.is_kept.small, both.nodes);
+          cost = omega (arith, local_is, found.1.cost, other.1.cost);
+          small = omega (arith, small, local_is, found.1.small, other.1.small, both.nodes);
         },
         λ l alternative. (left ∷ right ∷ [], subst (λ m. AreLeast (IsMember q) q (groups_of e.children) (asked_of m wanted) (left ∷ right ∷ [])) (sym (line_is l alternative)) are_least, refl),
       )

@@ -4,6 +4,7 @@ pub mod Growing
 pub mod OneClosure
 pub mod Scanning
 pub mod Bounds
+pub mod Standing
 pub mod Answered
 pub mod Asked
 pub mod Kids

@@ -17,6 +17,7 @@ use Rattle.plan_search.specs.declared.choice.Kids.{Kids}
 use Rattle.plan_search.specs.declared.choice.Kids.TheVariants as kids
 use Rattle.plan_search.specs.declared.answers.Answers.{Answers}
 use Rattle.plan_search.specs.declared.choice.Choice.{Choice}
+use Rattle.plan_search.specs.Places.{place_of}
 use Rattle.plan_search.specs.Search.{IsBuilt, IsMade, IsChosen, IsRootBelow, root_number, Improves, IsLater, Goes, cheaper_of}
 
 -- plans are in order
@@ -169,10 +170,10 @@ module _ (q : Query) where
     ]
 
 -- the number at the root of a plan that is built so
-pub built_root : (answers : Answers) (below : Kids) (node : Kind) (tree : Tree) → IsBuilt answers below node tree → root_number tree ≡ number_of node
-built_root answers kids.Zero node tree is = ap root_number is
-built_root answers (kids.One place) node tree (kid, stands, is) = ap root_number is
-built_root answers (kids.Two first second) node tree (left, right, stands, also, is) = ap root_number is
+pub built_root : (answers : Answers) (bound : ℕ) (below : Kids) (node : Kind) (tree : Tree) → IsBuilt answers bound below node tree → root_number tree ≡ number_of node
+built_root answers bound kids.Zero node tree is = ap root_number is
+built_root answers bound (kids.One place) node tree (kid, before, stands, is) = ap root_number is
+built_root answers bound (kids.Two first second) node tree (left, right, before, other_before, stands, also, is) = ap root_number is
 
 module _ (q : Query) (order : IsOrder q) (answers : Answers) where
   -- a member in a mode is offered, over least plans
@@ -182,7 +183,7 @@ module _ (q : Query) (order : IsOrder q) (answers : Answers) where
       let node = native e mode in
       goes_as q answers e.group wanted (number_of node) (number_of node + 1) (λ best. Beats q best tree) (IsModeSettled (IsMember q) q wanted e mode) old (Some (cheaper_of old choice))
       (λ best beats line alternative. let over_kids = least line alternative in inl (over_kids.0, tree, over_kids.1, over_kids.2, beats))
-      (goes_by_one q answers e.group wanted order (number_of node) node choice tree old chosen (built_root answers choice.kids node tree chosen.built))
+      (goes_by_one q answers e.group wanted order (number_of node) node choice tree old chosen (built_root answers (place_of e.group wanted) choice.kids node tree chosen.built))
 
 -- what is settled stays so with a better plan
 pub mode_stable : (q : Query) (wanted : Request) (e : ExprParts) (mode : ℕ) → IsStable q (IsModeSettled (IsMember q) q wanted e mode)

@@ -15,14 +15,13 @@ use Rattle.request_props.specs.declared.request.Request.{Request}
 use Rattle.plan_space.specs.Numbers.{Fits}
 use Rattle.plan_space.specs.Nodes.{Kind, native, number_of, Tree, leaf, over, two}
 use Rattle.plan_space.specs.Cost.{cost_of}
-use Rattle.plan_space.specs.Least.{Serves, IsLeast, HasNoPlan}
+use Rattle.plan_space.specs.Least.{Serves, IsLeast, HasNoPlan, IsAnswer}
 use Rattle.plan_space.specs.Choices.{Beats, IsEnforcerSettled, IsModeSettled, LacksOne, AreLeast, IsNodeOver, groups_of}
 use Rattle.plan_space.specs.Lines.{Line, line_of}
 use Rattle.plan_space.specs.Alternatives.{IsAlternative, asked_of}
 use Rattle.plan_space.specs.Enforcers.{EnforcedBy, enforcers_of, Among}
 use Rattle.plan_tree.specs.declared.node.Node.{Node}
 use Rattle.plan_search.specs.declared.answers.Answers.{Answers}
-use Rattle.plan_search.specs.declared.answers.Kept.{Kept}
 use Rattle.plan_search.specs.declared.physical.Physical.{Physical}
 use Rattle.plan_search.specs.declared.choice.Below.{Below}
 use Rattle.plan_search.specs.declared.choice.Choice.{Choice}
@@ -31,31 +30,46 @@ use Rattle.plan_search.specs.declared.choice.Kids.TheVariants as kids
 use Rattle.plan_tree.specs.Nodes.{IsNode}
 use Rattle.plan_tree.specs.Meanings.{table_line_of}
 use Rattle.plan_tree.specs.Costs.{AreRowsOf}
-use Rattle.plan_tree.specs.Spells.{Spells}
 use Rattle.plan_search.specs.Places.{place_of, place_asked, most_nodes}
+
+-- ---- what stands at places
+
+-- the answer that stands at a place, if there is one
+abbrev pub answer_at : Answers → ℕ → Option (Option Choice)
+answer_at answers place = get nat_cmp answers.map place
+
+-- the plan's root at the place is this node
+pub record IsRootAt (answers : Answers) (place : ℕ) (kept : Choice) (node : Kind) : Type 0 where
+  pub at : answer_at answers place ≡ Some (Some kept)
+  pub is_node : IsNode kept.node node
+
+-- the tree stands at the place: its root does, and the trees below the root stand at the places that are named there, which come before
+abbrev pub StandsAt : Answers → ℕ → Tree → Type 0
+StandsAt answers place (leaf node) = (kept : Choice) × IsRootAt answers place kept node × (kept.kids ≡ kids.Zero)
+StandsAt answers place (over node kid) =
+    (kept : Choice) × (below : ℕ) × IsRootAt answers place kept node × (kept.kids ≡ kids.One below) × (below < place) × StandsAt answers below kid
+StandsAt answers place (two node left right) =
+    (kept : Choice) × (first second : ℕ) × IsRootAt answers place kept node × (kept.kids ≡ kids.Two first second)
+    × (first < place) × (second < place) × StandsAt answers first left × StandsAt answers second right
 
 -- ---- goals that are answered
 
--- the plan is this tree, the least for the request, with its cost, which fits its number
-pub record IsKept (q : Query) (group : KeyParts) (wanted : Request) (kept : Kept) (tree : Tree) : Type 0 where
-  pub spells : Spells kept.plan tree
+-- the tree that stands at the goal's place is the least for the request, and this is its cost, which fits its number
+pub record IsKept (q : Query) (answers : Answers) (group : KeyParts) (wanted : Request) (kept : Choice) (tree : Tree) : Type 0 where
+  pub stands : StandsAt answers (place_of group wanted) tree
   pub least : IsLeast (IsMember q) q group wanted tree
   pub cost : kept.cost ≡ cost_of q tree
   pub small : cost_of q tree ≤ most_cost * most_nodes group wanted
 
 -- the least plan for the request, or that there is none
-abbrev pub IsAnswerFor : Query → KeyParts → Request → Option Kept → Type 0
-IsAnswerFor q group wanted None = HasNoPlan (IsMember q) q group wanted
-IsAnswerFor q group wanted (Some kept) = (tree : Tree) × IsKept q group wanted kept tree
-
--- the answer that stands at a place, if there is one
-abbrev pub answer_at : Answers → ℕ → Option (Option Kept)
-answer_at answers place = get nat_cmp answers.map place
+abbrev pub IsAnswerFor : Query → Answers → KeyParts → Request → Option Choice → Type 0
+IsAnswerFor q answers group wanted None = HasNoPlan (IsMember q) q group wanted
+IsAnswerFor q answers group wanted (Some kept) = (tree : Tree) × IsKept q answers group wanted kept tree
 
 -- the request has its answer
 abbrev pub IsAnswered : Query → Answers → KeyParts → Request → Type 0
 IsAnswered q answers group wanted =
-    (answer : Option Kept) × (answer_at answers (place_of group wanted) ≡ Some answer) × IsAnswerFor q group wanted answer
+    (answer : Option Choice) × (answer_at answers (place_of group wanted) ≡ Some answer) × IsAnswerFor q answers group wanted answer
 
 -- each request that fits its group and has a lesser place has its answer
 abbrev pub AreAnswered : Query → Answers → ℕ → Type 0
@@ -64,21 +78,17 @@ AreAnswered q answers bound =
 
 -- ---- the best plan so far
 
--- the tree is the plan that stands at the place
-abbrev pub StandsAt : Answers → ℕ → Tree → Type 0
-StandsAt answers place tree = (kept : Kept) × (answer_at answers place ≡ Some (Some kept)) × Spells kept.plan tree
-
--- the tree is the node over the plans at these places
-abbrev pub IsBuilt : Answers → Kids → Kind → Tree → Type 0
-IsBuilt answers kids.Zero node tree = tree ≡ leaf node
-IsBuilt answers (kids.One place) node tree = (kid : Tree) × StandsAt answers place kid × (tree ≡ over node kid)
-IsBuilt answers (kids.Two first second) node tree =
-    (left right : Tree) × StandsAt answers first left × StandsAt answers second right × (tree ≡ two node left right)
+-- the tree is the node over what stands at these places, which come before the bound
+abbrev pub IsBuilt : Answers → ℕ → Kids → Kind → Tree → Type 0
+IsBuilt answers bound kids.Zero node tree = tree ≡ leaf node
+IsBuilt answers bound (kids.One place) node tree = (kid : Tree) × (place < bound) × StandsAt answers place kid × (tree ≡ over node kid)
+IsBuilt answers bound (kids.Two first second) node tree =
+    (left right : Tree) × (first < bound) × (second < bound) × StandsAt answers first left × StandsAt answers second right × (tree ≡ two node left right)
 
 -- the choice is this tree, with its cost, and meets the request
 pub record IsChosen (q : Query) (answers : Answers) (group : KeyParts) (wanted : Request) (choice : Choice) (node : Kind) (tree : Tree) : Type 0 where
   pub is_node : IsNode choice.node node
-  pub built : IsBuilt answers choice.kids node tree
+  pub built : IsBuilt answers (place_of group wanted) choice.kids node tree
   pub serves : Serves (IsMember q) q group wanted tree
   pub cost : choice.cost ≡ cost_of q tree
   pub small : cost_of q tree ≤ most_cost * most_nodes group wanted
@@ -95,6 +105,10 @@ IsBestSoFar q answers group wanted None None = ⊤
 IsBestSoFar q answers group wanted None (Some tree) = ⊥
 IsBestSoFar q answers group wanted (Some choice) None = ⊥
 IsBestSoFar q answers group wanted (Some choice) (Some tree) = (node : Kind) × IsChosen q answers group wanted choice node tree
+
+-- the choice is the least plan for the request, over what stands at lesser places, or there is none
+abbrev pub IsBest : Query → Answers → KeyParts → Request → Option Choice → Type 0
+IsBest q answers group wanted choice = (best : Option Tree) × IsBestSoFar q answers group wanted choice best × IsAnswer (IsMember q) q group wanted best
 
 -- the number of the node at its root is less than the bound
 abbrev pub IsRootBelow : Option Tree → ℕ → Type 0
@@ -138,7 +152,7 @@ abbrev pub AreModesSettled : Query → Request → ExprParts → ℕ → Option 
 AreModesSettled q wanted e bound best = (mode : ℕ) → mode < bound → IsModeSettled (IsMember q) q wanted e mode best
 
 -- the plan at a place, if there is one
-abbrev pub kept_at : Answers → ℕ → Option Kept
+abbrev pub kept_at : Answers → ℕ → Option Choice
 kept_at answers place = option_and_then (λ answer. answer) (answer_at answers place)
 
 -- some child has no plan for what is asked of it
@@ -158,12 +172,12 @@ cost_at answers place = option_map_or (λ kept. kept.cost) (kept_at answers plac
 
 -- what is below is the plan at the place
 abbrev pub IsPlanAt : Answers → ℕ → Below → Type 0
-IsPlanAt answers place below = (kept : Kept) × (kept_at answers place ≡ Some kept) × (below ≡ record { kids = kids.One place; cost = kept.cost })
+IsPlanAt answers place below = (kept : Choice) × (kept_at answers place ≡ Some kept) × (below ≡ record { kids = kids.One place; cost = kept.cost })
 
 -- what is below is the plans at the two places
 abbrev pub ArePlansAt : Answers → ℕ → ℕ → Below → Type 0
 ArePlansAt answers first second below =
-    (left right : Kept) × (kept_at answers first ≡ Some left) × (kept_at answers second ≡ Some right)
+    (left right : Choice) × (kept_at answers first ≡ Some left) × (kept_at answers second ≡ Some right)
     × (below ≡ record { kids = kids.Two first second; cost = left.cost + right.cost })
 
 -- what is below is the plans at the goals that a node asks for, none where it asks for none of a left child

@@ -97,14 +97,13 @@ fn answer_group(
     groups_are_known();
     let list = physicals(alloc, query, props, group, members_of(words, group))?;
     for place in 0..PLACES {
-        answer_place(alloc, query, props, &list, group, place, answers)?;
+        answer_place(query, props, &list, group, place, answers)?;
     }
     Ok(())
 }
 
 /// Answers the request at the place, if it fits the group.
 fn answer_place(
-    alloc: Global,
     query: &Query,
     props: &Props,
     list: &[Physical],
@@ -124,7 +123,7 @@ fn answer_place(
     expressions_are_one();
     let wanted = request_at(place);
     if fits(query, props, group, wanted) {
-        answer(alloc, query, props, list, group, wanted, answers)?;
+        answer(query, props, list, group, wanted, answers)?;
     }
     Ok(())
 }

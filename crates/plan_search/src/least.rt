@@ -8,6 +8,7 @@ ghost use Rattle.plan_tree.specs.Found.{IsFound};
 use crate::closure::plain_closure;
 use crate::goals::answer_all;
 use crate::places::place_at;
+use crate::plans::plan_at;
 use plan_space::{root_request_fits, root_request_is_collected};
 use plan_tree::Found;
 use query_core::{Query, groups_are_known};
@@ -26,9 +27,10 @@ pub fn plain_least(alloc: Global, query: &Query, props: &Props) -> Result<Found,
     root_request_is_collected();
     let words = plain_closure(alloc, query)?;
     let answers = answer_all(alloc, query, props, words.as_slice())?;
-    match answers.kept(place_at(query.root(), props.root)) {
+    let place = place_at(query.root(), props.root);
+    match answers.kept(place) {
         Some(kept) => Ok(Found::Least {
-            plan: kept.plan.copy(alloc)?,
+            plan: plan_at(alloc, &answers, place)?,
             cost: kept.cost,
         }),
         None => Ok(Found::NoPlan),

@@ -15,6 +15,7 @@ mod members;
 mod natives;
 mod physical;
 mod places;
+mod plans;
 mod word_set;
 
 pub use closure::plain_closure;

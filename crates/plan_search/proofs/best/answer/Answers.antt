@@ -12,6 +12,6 @@ returns c =
     let place = c.place_at.ensures ∙ ap (λ k. place_at k c.args.wanted) c.make.ensures.number in
     on_ok_weaker c.put.result
     (λ updates. answered_more q c.args.props.now c.requires.props (c.groups_are_known.ensures.in_range q) c.expressions_are_one.ensures.groups c.args.answers.now c.put.new.self
-    c.args.group c.args.wanted c.in_ok-found.found c.requires.known c.requires.fits c.requires.answered c.in_ok-found.ensures
-    (subst (λ p. Updates nat_cmp c.args.answers.now.map c.put.new.self.map p (Some c.in_ok-found.found)) place updates))
+    c.args.group c.args.wanted c.find-best.result c.requires.known c.requires.fits c.requires.answered c.find-best.ensures
+    (subst (λ p. Updates nat_cmp c.args.answers.now.map c.put.new.self.map p (Some c.find-best.result)) place updates))
     c.put.ensures

@@ -1,19 +1,7 @@
-use Rattle.std.proofs.Common.{subst}
-use Rattle.plan_search.specs.Search.{IsBestSoFar}
-use Rattle.plan_search.proofs.Finding.{chosen_answer, chosen_built}
+use Rattle.plan_search.proofs.Finding.{best_is_answer}
 use Rattle.plan_search.proofs.best.find.Goals as goal
 
-pub keep-requires : goal.keep-requires
-keep-requires c =
-    let best = c.best_choice.ensures in
-    record {
-      built = chosen_built c.args.query.now c.args.answers.now c.args.group c.args.wanted c.in-Some.choice best.0
-          (subst (λ r. IsBestSoFar c.args.query.now c.args.answers.now c.args.group c.args.wanted r best.0) c.in-Some.is best.1);
-    }
-
-pub returns-in_ok-keep-in-Some : goal.returns-in_ok-keep-in-Some
-returns-in_ok-keep-in-Some c =
-    let best = c.best_choice.ensures in
-    chosen_answer c.args.query.now c.args.answers.now c.args.group c.args.wanted c.in-Some.choice c.in_ok-keep-in-Some.field-0 best.0
-    (subst (λ r. IsBestSoFar c.args.query.now c.args.answers.now c.args.group c.args.wanted r best.0) c.in-Some.is best.1) best.2
-    c.in_ok-keep-in-Some.ensures.plan c.in_ok-keep-in-Some.ensures.cost
+pub returns : goal.returns
+returns c =
+    best_is_answer c.args.query.now c.args.answers.now c.args.group c.args.wanted c.args.list.now c.try_enforcers.new.best c.try_all.new.best
+    (c.settled_is_least.ensures c.args.query.now) c.requires.fits c.requires.listed c.try_enforcers.ensures c.try_all.ensures

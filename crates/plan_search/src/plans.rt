@@ -1,0 +1,35 @@
+//! Plans, made from what stands at places.
+#![tactic(auto)]
+
+ghost use Rattle.std.specs.Prelude.{IfOk};
+ghost use Rattle.plan_space.specs.Nodes.{Tree};
+ghost use Rattle.plan_tree.specs.Spells.{Spells};
+ghost use Rattle.plan_search.specs.Search.{StandsAt};
+
+use crate::answers::Answers;
+use crate::choice::Kids;
+use plan_tree::Plan;
+use std::alloc::{AllocError, Global};
+
+/// The plan that stands at the place.
+pub fn plan_at(alloc: Global, answers: &Answers, place: u64) -> Result<Plan, AllocError>
+    requires { (tree : Tree) × StandsAt answers.now place tree }
+    ensures { IfOk result (λ plan. (tree : Tree) → StandsAt answers.now place tree →
+        Spells plan tree) }
+{
+    match answers.kept(place) {
+        Some(kept) => match kept.kids {
+            Kids::Zero => Ok(Plan::Leaf(kept.node)),
+            Kids::One(below) => Ok(Plan::Over(
+                kept.node,
+                Box::new(alloc, plan_at(alloc, answers, below)?)?,
+            )),
+            Kids::Two(first, second) => Ok(Plan::Two(
+                kept.node,
+                Box::new(alloc, plan_at(alloc, answers, first)?)?,
+                Box::new(alloc, plan_at(alloc, answers, second)?)?,
+            )),
+        },
+        None => unreachable!(),
+    }
+}
