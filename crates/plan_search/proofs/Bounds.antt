@@ -1,67 +1,73 @@
 -- How groups and requests stand in order, and how many nodes plans have.
 use Rattle.std.proofs.Common.{◌≡◌, ℕ, zero, suc, ◌<◌, ◌≤◌, ◌+◌, ◌*◌, ◌-◌, subst, sym, inl, inr, arith}
-use Rattle.std.specs.Prelude.{◌^◌, None, Some, bit_or, bit_and, cond, nat_eq}
+use Rattle.std.specs.Prelude.{◌^◌, ◌⊎◌, length, None, Some, bit_or, bit_and, cond, nat_eq}
 use Rattle.std.specs.Option.{option_map_or}
 use Rattle.std.specs.Int.{trailing_zeros, w32}
 use Rattle.std.specs.Int.Bits.{or_add_and}
+use Rattle.std.proofs.Math.Nat.{pow-le-pow_right}
 use Rattle.std.proofs.lemmas.Nat.{trailing_le}
 use Rattle.std.proofs.lemmas.Bool.{cases_Bool}
-use Rattle.query_core.specs.Keys.{key_number, has_own, alone, top_of, IsInRange}
-use Rattle.query_core.specs.Expressions.{HasShape, IsFiltered, IsJoin}
+use Rattle.query_core.specs.Keys.{key_number, has_own, alone, top_of, input_of, IsInRange}
+use Rattle.query_core.specs.Expressions.{HasShape, IsFiltered, IsJoin, IsAggregated, IsPartial}
 use Rattle.query_core.specs.declared.query.Query.{Query}
 use Rattle.query_core.specs.declared.words.KeyParts.{KeyParts}
 use Rattle.query_core.specs.declared.words.KeyParts.TheVariants as groups
 use Rattle.query_core.specs.declared.expressions.Operator.{Operator}
 use Rattle.query_core.specs.declared.expressions.Operator.TheVariants as operators
-use Rattle.query_core.specs.declared.expressions.Children.TheVariants.{One, Two}
+use Rattle.query_core.specs.declared.expressions.Children.TheVariants.{Zero, One, Two}
 use Rattle.request_props.specs.Numbered.{IsProps}
 use Rattle.request_props.specs.declared.props.Props.{Props}
 use Rattle.request_props.specs.declared.request.Dist.{Dist}
 use Rattle.request_props.specs.declared.request.Dist.TheVariants as dists
 use Rattle.request_props.specs.declared.request.Request.{Request}
 use Rattle.plan_space.specs.Numbers.{Fits, DistFits}
-use Rattle.plan_space.specs.Lines.{Line, kid_line, pair_line}
 use Rattle.plan_search.specs.Places.{dist_place, request_place, dist_nodes, order_nodes, group_nodes, most_nodes}
 
--- only a filter has a line over one child, which is its table
-pub one_shape : (q : Query) (group child : KeyParts) (operator : Operator) (mode : ℕ) (line : Line) → HasShape q operator group (One child)
-    → kid_line operator mode ≡ Some line → IsFiltered group (One child)
-one_shape q group child operators.Get mode line shape is = cc
-one_shape q group child operators.Scan mode line shape is = cc
-one_shape q group child (operators.IndexScan index) mode line shape is = cc
-one_shape q group child operators.Select mode line shape is = cc
-one_shape q group child operators.Filter mode line shape is = shape
-one_shape q group child (operators.IndexSeek index) mode line shape is = cc
-one_shape q group child operators.NJoin mode line shape is = cc
-one_shape q group child operators.Join mode line shape is = cc
-one_shape q group child operators.HashJoin mode line shape is = cc
-one_shape q group child operators.MergeJoin mode line shape is = cc
-one_shape q group child operators.LoopJoin mode line shape is = cc
-one_shape q group child operators.Agg mode line shape is = cc
-one_shape q group child operators.HashAgg mode line shape is = cc
-one_shape q group child operators.StreamAgg mode line shape is = cc
-one_shape q group child operators.Partial mode line shape is = cc
-one_shape q group child operators.PartialAgg mode line shape is = cc
+-- an expression over one child filters a table's rows, or groups rows
+abbrev pub IsOverOne : Query → KeyParts → KeyParts → Type 0
+IsOverOne q group child = IsFiltered group (One child) ⊎ (IsAggregated q group (One child) ⊎ IsPartial q group (One child))
 
--- only joins have a line over two children
-pub two_shape : (q : Query) (group left right : KeyParts) (operator : Operator) (mode : ℕ) (line : Line) → HasShape q operator group (Two left right)
-    → pair_line q operator left right mode ≡ Some line → IsJoin q group (Two left right)
-two_shape q group left right operators.Get mode line shape is = cc
-two_shape q group left right operators.Scan mode line shape is = cc
-two_shape q group left right (operators.IndexScan index) mode line shape is = cc
-two_shape q group left right operators.Select mode line shape is = cc
-two_shape q group left right operators.Filter mode line shape is = cc
-two_shape q group left right (operators.IndexSeek index) mode line shape is = cc
-two_shape q group left right operators.NJoin mode line shape is = cc
-two_shape q group left right operators.Join mode line shape is = cc
-two_shape q group left right operators.HashJoin mode line shape is = shape
-two_shape q group left right operators.MergeJoin mode line shape is = shape
-two_shape q group left right operators.LoopJoin mode line shape is = shape
-two_shape q group left right operators.Agg mode line shape is = cc
-two_shape q group left right operators.HashAgg mode line shape is = cc
-two_shape q group left right operators.StreamAgg mode line shape is = cc
-two_shape q group left right operators.Partial mode line shape is = cc
-two_shape q group left right operators.PartialAgg mode line shape is = cc
+pub one_shape : (q : Query) (group child : KeyParts) (operator : Operator) → HasShape q operator group (One child) → IsOverOne q group child
+one_shape q group child operators.Get shape = let never : One child ≡ Zero = shape.2 in cc
+one_shape q group child operators.Scan shape = let never : One child ≡ Zero = shape.2 in cc
+one_shape q group child (operators.IndexScan index) shape = let never : One child ≡ Zero = shape.3 in cc
+one_shape q group child operators.Select shape = inl shape
+one_shape q group child operators.Filter shape = inl shape
+one_shape q group child (operators.IndexSeek index) shape = let never : One child ≡ Zero = shape.3 in cc
+one_shape q group child operators.NJoin shape = let never : One child ≡ Zero = shape.2 in cc
+one_shape q group child operators.Join shape = let never : One child ≡ Two (top_of q shape.1) (top_of q shape.2) = shape.5 in cc
+one_shape q group child operators.HashJoin shape = let never : One child ≡ Two (top_of q shape.1) (top_of q shape.2) = shape.5 in cc
+one_shape q group child operators.MergeJoin shape = let never : One child ≡ Two (top_of q shape.1) (top_of q shape.2) = shape.5 in cc
+one_shape q group child operators.LoopJoin shape = let never : One child ≡ Two (top_of q shape.1) (top_of q shape.2) = shape.5 in cc
+one_shape q group child operators.Agg shape = inr (inl shape)
+one_shape q group child operators.HashAgg shape = inr (inl shape)
+one_shape q group child operators.StreamAgg shape = inr (inl shape)
+one_shape q group child operators.Partial shape = inr (inr shape)
+one_shape q group child operators.PartialAgg shape = inr (inr shape)
+
+-- groups are made from one child
+two_aggregated : (q : Query) (left right : KeyParts) → (Two left right ≡ One (input_of q)) ⊎ (Two left right ≡ One groups.Partial) → ⊥
+two_aggregated q left right (inl is) = cc
+two_aggregated q left right (inr is) = cc
+
+-- an expression over two children joins them
+pub two_shape : (q : Query) (group left right : KeyParts) (operator : Operator) → HasShape q operator group (Two left right) → IsJoin q group (Two left right)
+two_shape q group left right operators.Get shape = let never : Two left right ≡ Zero = shape.2 in cc
+two_shape q group left right operators.Scan shape = let never : Two left right ≡ Zero = shape.2 in cc
+two_shape q group left right (operators.IndexScan index) shape = let never : Two left right ≡ Zero = shape.3 in cc
+two_shape q group left right operators.Select shape = let never : Two left right ≡ One (groups.Get shape.0) = shape.2 in cc
+two_shape q group left right operators.Filter shape = let never : Two left right ≡ One (groups.Get shape.0) = shape.2 in cc
+two_shape q group left right (operators.IndexSeek index) shape = let never : Two left right ≡ Zero = shape.3 in cc
+two_shape q group left right operators.NJoin shape = let never : Two left right ≡ Zero = shape.2 in cc
+two_shape q group left right operators.Join shape = shape
+two_shape q group left right operators.HashJoin shape = shape
+two_shape q group left right operators.MergeJoin shape = shape
+two_shape q group left right operators.LoopJoin shape = shape
+two_shape q group left right operators.Agg shape = absurd (two_aggregated q left right shape.1)
+two_shape q group left right operators.HashAgg shape = absurd (two_aggregated q left right shape.1)
+two_shape q group left right operators.StreamAgg shape = absurd (two_aggregated q left right shape.1)
+two_shape q group left right operators.Partial shape = let never : Two left right ≡ One (input_of q) = shape.1 in cc
+two_shape q group left right operators.PartialAgg shape = let never : Two left right ≡ One (input_of q) = shape.1 in cc
 
 -- a table's group, with or without its own predicates
 alone_nodes : (q : Query) (t : ℕ) → group_nodes (alone q t) ≤ 8
@@ -124,17 +130,40 @@ dist_few (dists.Hashed list) = omega arith
 pub most_nodes_few : (group : KeyParts) (wanted : Request) → most_nodes group wanted ≤ group_nodes group + 2
 most_nodes_few group wanted = omega (arith, order_few wanted.order, dist_few wanted.dist)
 
--- a node over its table's plan
-pub filter_nodes : (group child : KeyParts) (wanted below : Request) → IsFiltered group (One child) → (1 + most_nodes child below ≤ most_nodes group wanted) × (key_number child < key_number group)
-filter_nodes group child wanted below shape =
-    let t = shape.0 in
-    let same : child ≡ groups.Get t = child_is child (groups.Get t) shape.2 in
-    subst (λ g. (1 + most_nodes child below ≤ most_nodes g wanted) × (key_number child < key_number g)) (sym shape.1)
-    (subst (λ c. (1 + most_nodes c below ≤ most_nodes (groups.Filter t) wanted) × (key_number c < key_number (groups.Filter t))) (sym same)
-    (omega (arith, most_nodes_few (groups.Get t) below), omega arith))
-  where
-    child_is : (c d : KeyParts) → One c ≡ One d → c ≡ d
-    child_is c d same = cc
+-- the group that joins all tables has few nodes, and a lesser key than those of groups of rows
+input_few : (q : Query) → (group_nodes (input_of q) ≤ 1 + (16 * 1023 - 8)) × (key_number (input_of q) < 2048)
+input_few q =
+    let low = pow-le-pow_right {n = 2} (omega arith) {i = 1} {j = length q.tables} q.tables_valid.some in
+    let high = pow-le-pow_right {n = 2} (omega arith) {i = length q.tables} {j = 10} q.tables_valid.few in
+    let some : 0 < 2 ^ length q.tables - 1 = omega (arith, low) in
+    let most : 2 ^ length q.tables - 1 ≤ 1023 = omega (arith, high) in
+    (omega (arith, top_nodes q (2 ^ length q.tables - 1) some, most), omega (arith, top_key q (2 ^ length q.tables - 1) 1024 (omega (arith, most))))
+
+-- a child with so many nodes and such a key, as the node above it may have
+record IsFewer (group child : KeyParts) : Type 0 where
+  nodes : 3 + group_nodes child ≤ group_nodes group
+  key : key_number child < key_number group
+
+fewer : (group child other kid : KeyParts) → group ≡ other → One child ≡ One kid → IsFewer other kid → IsFewer group child
+fewer group child other kid is one few =
+    let same : child ≡ kid = cc in
+    subst (λ g. IsFewer g child) (sym is) (subst (λ k. IsFewer other k) (sym same) few)
+
+over_one_fewer : (q : Query) (group child : KeyParts) → IsOverOne q group child → IsFewer group child
+over_one_fewer q group child (inl (t, is, one)) =
+    fewer group child (groups.Filter t) (groups.Get t) is one (record { nodes = omega arith; key = omega arith })
+over_one_fewer q group child (inr (inl (is, inl one))) =
+    fewer group child groups.Agg (input_of q) is one (record { nodes = omega (arith, (input_few q).0); key = omega (arith, (input_few q).1) })
+over_one_fewer q group child (inr (inl (is, inr one))) = fewer group child groups.Agg groups.Partial is one (record { nodes = omega arith; key = omega arith })
+over_one_fewer q group child (inr (inr (is, one))) =
+    fewer group child groups.Partial (input_of q) is one (record { nodes = omega (arith, (input_few q).0); key = omega (arith, (input_few q).1) })
+
+-- a node over the plan of its one child
+pub kid_nodes : (q : Query) (group child : KeyParts) (wanted below : Request) → IsOverOne q group child
+    → (1 + most_nodes child below ≤ most_nodes group wanted) × (key_number child < key_number group)
+kid_nodes q group child wanted below shape =
+    let fewer = over_one_fewer q group child shape in
+    (omega (arith, most_nodes_few child below, fewer.nodes), fewer.key)
 
 -- a node over the plans of the two sides
 pub join_nodes : (q : Query) (group left right : KeyParts) (wanted one two : Request) → IsJoin q group (Two left right)

@@ -15,7 +15,7 @@ use Rattle.request_props.specs.declared.props.Props.{Props}
 use Rattle.request_props.specs.declared.request.Request.{Request}
 use Rattle.plan_space.specs.Numbers.{Fits}
 use Rattle.plan_space.specs.Nodes.{native, leaf, over, two}
-use Rattle.plan_space.specs.Lines.{Line, line_over}
+use Rattle.plan_space.specs.Lines.{Line}
 use Rattle.plan_space.specs.Gives.{kid_of}
 use Rattle.plan_space.specs.Cost.{shape_of}
 use Rattle.plan_space.specs.Alternatives.{IsAlternative, asked_of, KidsServe}
@@ -33,7 +33,7 @@ use Rattle.plan_search.specs.Places.{place_of, place_at, place_asked, most_nodes
 use Rattle.plan_search.specs.Search.{StandsAt, IsAnswered, AreAnswered, kept_at, cost_at, IsLacking, IsMade, IsPhysical, choice_over, IsPlanAt, ArePlansAt, AreFound, IsOneMissing, IsMissing, asked_cost}
 use Rattle.plan_search.proofs.Answered.{none_case, some_case, cost_small, kid_before, kid_answered}
 use Rattle.plan_search.proofs.Asked.{asked_one, asked_two, asked_zero}
-use Rattle.plan_search.proofs.Bounds.{one_shape, two_shape, filter_nodes, join_nodes, some_nodes, all_nodes}
+use Rattle.plan_search.proofs.Bounds.{one_shape, two_shape, kid_nodes, join_nodes, some_nodes, all_nodes}
 
 -- what is known where an alternative is looked at
 pub record IsAsked (q : Query) (answers : Answers) (e : ExprParts) (wanted : Request) (mode : ℕ) (alt : Alt) : Type 0 where
@@ -83,9 +83,6 @@ module _ (q : Query) (answers : Answers) (e : ExprParts) (wanted : Request) (mod
   shape_with : (c : Children) → e.children ≡ c → HasShape q e.operator e.group c
   shape_with c is = subst (λ d. HasShape q e.operator e.group d) is known.candidate.shape
 
-  line_with : (c : Children) → e.children ≡ c → line_over q e.group e.operator c mode ≡ Some known.line
-  line_with c is = subst (λ d. line_over q e.group e.operator d mode ≡ Some known.line) is known.alt_of.is_alternative.is_line
-
   -- what is known of the one child
   pub record OneKid (kid : Key × Request) (g : KeyParts) : Type 0 where
     pub children : e.children ≡ One g
@@ -99,7 +96,7 @@ module _ (q : Query) (answers : Answers) (e : ExprParts) (wanted : Request) (mod
   one_kid kid left right =
       let found = asked_one q alt e.children (asked_of known.line wanted) kid left right known.alt_of.asks in
       let g = found.0 in
-      let bounds = filter_nodes e.group g wanted kid.1 (one_shape q e.group g e.operator mode known.line (shape_with (One g) found.1) (line_with (One g) found.1)) in
+      let bounds = kid_nodes q e.group g wanted kid.1 (one_shape q e.group g e.operator (shape_with (One g) found.1)) in
       let fit = (requests_fit (One g) (kid.1 ∷ []) found.1 found.2).0 in
       let place : place_asked kid ≡ place_of g kid.1 = ap (λ k. place_at k kid.1) found.3.number in (
         g,
@@ -166,7 +163,7 @@ module _ (q : Query) (answers : Answers) (e : ExprParts) (wanted : Request) (mod
       let found = asked_two q alt e.children (asked_of known.line wanted) first second left right known.alt_of.asks in
       let g = found.0 in
       let h = found.1 in
-      let bounds = join_nodes q e.group g h wanted first.1 second.1 (two_shape q e.group g h e.operator mode known.line (shape_with (Two g h) found.2) (line_with (Two g h) found.2)) in
+      let bounds = join_nodes q e.group g h wanted first.1 second.1 (two_shape q e.group g h e.operator (shape_with (Two g h) found.2)) in
       let fit = requests_fit (Two g h) (first.1 ∷ second.1 ∷ []) found.2 found.3 in
       let place : place_asked first ≡ place_of g first.1 = ap (λ k. place_at k first.1) found.4.number in
       let other_place : place_asked second ≡ place_of h second.1 = ap (λ k. place_at k second.1) found.5.number in (

@@ -13,12 +13,15 @@ use Rattle.query_core.specs.Expressions.{word_of}
 use Rattle.xform_rules.specs.Closure.{IsMember}
 use Rattle.plan_space.specs.Nodes.{native, number_of}
 use Rattle.plan_space.specs.Lines.{Line, line_of}
-use Rattle.plan_space.specs.Laws.{ModesAreFew}
 use Rattle.plan_tree.specs.Meanings.{table_line_of}
 use Rattle.plan_tree.specs.Costs.{AreRowsOf}
 use Rattle.plan_search.specs.declared.physical.Physical.{Physical}
 use Rattle.plan_search.specs.Search.{IsPhysical, ArePhysical, RisesFrom, mode_number, IsIn, HasMode, IsInMode, AreInModes, AreModesOf, AddsModes, AreListed}
 use Rattle.plan_search.proofs.Tried.{rises_less}
+
+-- an expression has lines in modes below 192 only
+abbrev pub HasFewModes : Query → Type 0
+HasFewModes q = (e : ExprParts) (mode : ℕ) (line : Line) → line_of q e mode ≡ Some line → mode < 192
 
 -- all numbers of the list are below the bound
 abbrev pub AreBelow : ℕ → List Physical → Type 0
@@ -149,16 +152,16 @@ module _ (q : Query) (group : KeyParts) where
   pub made_none : (words : List ℕ) → AreMade words 0 []
   made_none words = record { up_to = record { are = tt; rises = tt; below = tt }; complete = λ k less. absurd (omega (arith, less)) }
 
-  module _ (words : List ℕ) (ascending : IsStrictlyIncreasing words) (few : ModesAreFew q) where
+  module _ (words : List ℕ) (ascending : IsStrictlyIncreasing words) where
     next_base : (i : ℕ) → i < length words → slice_index words i < 2 ^ 48 → slice_index words i + 1 ≤ slice_index_or words (i + 1) (2 ^ 48)
     next_base i within small = elim (cases_lt (i + 1) (length words)) [
       | inl more ↦ let same = get_or_default words (i + 1) 0 (2 ^ 48) more in omega (arith, ascending i more, same)
       | inr end ↦ let last = get_or-eq_default words (2 ^ 48) end in omega (arith, small, last)
     ]
 
-    pub made_more : (i : ℕ) (e : ExprParts) (list new : List Physical) → i < length words → IsMember q e → e.group ≡ group → word_of e < 2 ^ 48 → word_of e ≡ slice_index words i
+    pub made_more : HasFewModes q → (i : ℕ) (e : ExprParts) (list new : List Physical) → i < length words → IsMember q e → e.group ≡ group → word_of e < 2 ^ 48 → word_of e ≡ slice_index words i
         → ((f : ExprParts) → IsMember q f → word_of f ≡ word_of e → f ≡ e) → AreMade words i list → AddsModes q e list new → AreMade words (i + 1) new
-    made_more i e list new within member of_group small is one made (modes, of_expr, added) =
+    made_more few i e list new within member of_group small is one made (modes, of_expr, added) =
         let here : slice_index_or words i (2 ^ 48) ≡ word_of e = get_or_default words i (2 ^ 48) 0 within ∙ sym is in
         let before = subst (λ w. AreUpTo (2 ^ 56 + w * 2 ^ 8) list) here made.up_to in
         let rises : RisesFrom (2 ^ 56 + word_of e * 2 ^ 8) modes = rises_less (2 ^ 56 + word_of e * 2 ^ 8 + 0) (2 ^ 56 + word_of e * 2 ^ 8) modes (omega arith) of_expr.rises in

@@ -46,8 +46,8 @@ abbrev pub group_nodes : KeyParts → ℕ
 group_nodes (groups.Get t) = 4
 group_nodes (groups.Filter t) = 8
 group_nodes (groups.Join set) = 1 + (16 * set - 8)
-group_nodes groups.Partial = 16 * 1023
-group_nodes groups.Agg = 16 * 1023
+group_nodes groups.Partial = 4 + (16 * 1023 - 8)
+group_nodes groups.Agg = 7 + (16 * 1023 - 8)
 
 abbrev pub most_nodes : KeyParts → Request → ℕ
 most_nodes group wanted = group_nodes group + dist_nodes wanted.dist + order_nodes wanted.order

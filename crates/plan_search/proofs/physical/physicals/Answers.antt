@@ -36,4 +36,4 @@ loop-word-preserved c =
 pub returns : goal.returns
 returns c =
     let q = c.args.query.now in
-    made_all q c.args.group c.args.words.now c.requires.ascending (c.modes_are_few.ensures.few q) c.loop-word.word-index c.loop-word.list.items c.loop-word-test.false c.requires.complete c.loop-word.invariant
+    made_all q c.args.group c.args.words.now c.requires.ascending c.loop-word.word-index c.loop-word.list.items c.loop-word-test.false c.requires.complete c.loop-word.invariant
