@@ -8,7 +8,9 @@ pub mod Standing
 pub mod Answered
 pub mod Asked
 pub mod Kids
+pub mod Made
 pub mod Tried
 pub mod Listed
+pub mod EnforcerNumbers
 pub mod Enforcing
 pub mod Finding

@@ -1,6 +1,7 @@
 use Rattle.std.proofs.Common.{sym, subst}
 use Rattle.plan_search.specs.Search.{IsMade}
-use Rattle.plan_search.proofs.Kids.{asked_here, asked_small, missing_lacks, found_made}
+use Rattle.plan_search.proofs.Kids.{asked_here, asked_small}
+use Rattle.plan_search.proofs.Made.{missing_lacks, found_made}
 use Rattle.plan_search.proofs.natives.choice_of.Goals as goal
 
 pub plans_below-requires : goal.plans_below-requires

@@ -1,0 +1,77 @@
+-- The numbers of the enforcers for a request, one after the other.
+use Rattle.std.proofs.Common.{◌≡◌, ℕ, zero, suc, ◌<◌, ◌≤◌, ◌+◌, refl, subst, sym, ap, inl, inr, arith}
+use Rattle.std.specs.Option.{option_map_or}
+use Rattle.std.specs.Prelude.{◌^◌, List, [], ◌∷◌, slice_get, None, Some}
+use Rattle.request_props.specs.declared.request.Dist.{Dist}
+use Rattle.request_props.specs.declared.request.Dist.TheVariants.{One, Spread, Copies, Hashed}
+use Rattle.request_props.specs.declared.request.Request.{Request}
+use Rattle.plan_space.specs.Nodes.{sort, number_of}
+use Rattle.plan_space.specs.Lines.{request}
+use Rattle.plan_space.specs.Enforcers.{EnforcedBy, enforced, enforcers_by, enforcers_of, Among}
+use Rattle.plan_search.specs.Search.{enforcer_number}
+
+-- the n-th of a list is one of it
+pub among_at : (list : List EnforcedBy) (n : ℕ) (e : EnforcedBy) → slice_get list n ≡ Some e → Among e list
+among_at [] n e is = cc
+among_at (first ∷ others) zero e is = inl cc
+among_at (first ∷ others) (suc n) e is = inr (among_at others n e is)
+
+abbrev number_at : List EnforcedBy → ℕ → ℕ
+number_at list n = option_map_or (λ e. number_of e.node) (slice_get list n) (2 ^ 56)
+
+-- the next enforcer has a greater number
+next_at : (dist : Dist) (order n : ℕ) (e : EnforcedBy) → order ≤ 60 → slice_get (enforcers_by dist order) n ≡ Some e → number_of e.node + 1 ≤ 2 ^ 56
+    → number_of e.node + 1 ≤ number_at (enforcers_by dist order) (suc n)
+next_at One zero zero e few is small = small
+next_at One zero (suc n) e few is small = cc
+next_at Spread zero n e few is small = cc
+next_at Copies zero zero e few is small = small
+next_at Copies zero (suc n) e few is small = cc
+next_at (Hashed list) zero zero e few is small = small
+next_at (Hashed list) zero (suc n) e few is small = cc
+next_at One (suc o) zero e few is small = let same : enforced (sort (suc o)) (request One 0) ≡ e = cc in subst (λ x. number_of x.node + 1 ≤ 128 + suc o) same (omega arith)
+next_at One (suc o) (suc zero) e few is small = small
+next_at One (suc o) (suc (suc n)) e few is small = cc
+next_at Spread (suc o) zero e few is small = small
+next_at Spread (suc o) (suc n) e few is small = cc
+next_at Copies (suc o) zero e few is small = small
+next_at Copies (suc o) (suc n) e few is small = cc
+next_at (Hashed list) (suc o) zero e few is small = small
+next_at (Hashed list) (suc o) (suc n) e few is small = cc
+
+none_next : (list : List EnforcedBy) (n : ℕ) → slice_get list n ≡ None → slice_get list (suc n) ≡ None
+none_next [] n is = refl
+none_next (first ∷ others) zero is = cc
+none_next (first ∷ others) (suc n) is = none_next others n is
+
+module _ (wanted : Request) (n : ℕ) where
+  -- where there is no n-th enforcer nothing comes after
+  pub last_number : slice_get (enforcers_of wanted) n ≡ None → enforcer_number wanted n ≤ enforcer_number wanted (n + 1)
+  last_number is =
+      let next : suc n ≡ n + 1 = omega arith in
+      let none = none_next (enforcers_of wanted) n is in
+      subst (λ m. enforcer_number wanted n ≤ enforcer_number wanted m) next
+      (subst (λ x. enforcer_number wanted n ≤ option_map_or (λ e. number_of e.node) x (2 ^ 56)) (sym none)
+      (subst (λ x. option_map_or (λ e. number_of e.node) x (2 ^ 56) ≤ 2 ^ 56) (sym is) (omega arith)))
+
+  pub next_number_at : (e : EnforcedBy) → wanted.order ≤ 60 → slice_get (enforcers_of wanted) n ≡ Some e → number_of e.node < 2 ^ 56
+      → (enforcer_number wanted n ≡ number_of e.node) × (number_of e.node + 1 ≤ enforcer_number wanted (n + 1))
+  next_number_at e few is small =
+      let next : suc n ≡ n + 1 = omega arith in (
+        ap (λ x. option_map_or (λ e. number_of e.node) x (2 ^ 56)) is,
+        subst (λ m. number_of e.node + 1 ≤ enforcer_number wanted m) next (next_at wanted.dist wanted.order n e few is (omega (arith, small))),
+      )
+
+-- there are no more than two enforcers
+pub two_numbers : (wanted : Request) → enforcer_number wanted 2 ≤ 2 ^ 56
+two_numbers wanted = two_at wanted.dist wanted.order
+  where
+    two_at : (dist : Dist) (order : ℕ) → number_at (enforcers_by dist order) 2 ≤ 2 ^ 56
+    two_at One zero = omega arith
+    two_at Spread zero = omega arith
+    two_at Copies zero = omega arith
+    two_at (Hashed list) zero = omega arith
+    two_at One (suc o) = omega arith
+    two_at Spread (suc o) = omega arith
+    two_at Copies (suc o) = omega arith
+    two_at (Hashed list) (suc o) = omega arith
