@@ -10,7 +10,8 @@ use Rattle.query_core.specs.declared.words.Key.{Key}
 use Rattle.query_core.specs.declared.words.KeyParts.{KeyParts}
 use Rattle.query_core.specs.declared.expressions.ExprParts.{ExprParts}
 use Rattle.xform_rules.specs.Closure.{IsMember}
-use Rattle.cost_units.specs.Cost.{most_cost}
+use Rattle.cardinality.specs.Rows.{rows_of}
+use Rattle.cost_units.specs.Cost.{most_cost, most_rows}
 use Rattle.request_props.specs.declared.request.Request.{Request}
 use Rattle.plan_space.specs.Numbers.{Fits}
 use Rattle.plan_space.specs.Nodes.{Kind, native, number_of, Tree, leaf, over, two}
@@ -278,6 +279,11 @@ abbrev pub IsMemberWordOf : Query → KeyParts → ℕ → Type 0
 IsMemberWordOf q group word = (e : ExprParts) × IsMember q e × (e.group ≡ group) × (word_of e ≡ word)
 
 -- ---- enforcers
+
+-- the group has so many rows, no more than any may have
+pub record HasRows (q : Query) (group : KeyParts) (rows : ℕ) : Type 0 where
+  pub value : rows ≡ rows_of q group
+  pub few : rows ≤ most_rows
 
 -- the number of the n-th enforcer for the request, or one that is above all
 abbrev pub enforcer_number : Request → ℕ → ℕ

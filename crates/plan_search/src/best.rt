@@ -6,7 +6,7 @@ ghost use Rattle.query_core.specs.Keys.{IsGroup};
 ghost use Rattle.request_props.specs.Numbered.{IsProps};
 ghost use Rattle.plan_space.specs.Numbers.{Fits};
 ghost use Rattle.plan_search.specs.Places.{place_of};
-ghost use Rattle.plan_search.specs.Search.{AreAnswered, AreListed, IsBest};
+ghost use Rattle.plan_search.specs.Search.{AreAnswered, AreListed, HasRows, IsBest};
 
 use crate::answers::Answers;
 use crate::choice::Choice;
@@ -25,11 +25,13 @@ pub fn answer(
     props: &Props,
     list: &[Physical],
     group: KeyParts,
+    rows: u64,
     wanted: Request,
     answers: &mut Answers,
 ) -> Result<(), AllocError>
     requires props { IsProps query.now props.now }
     requires known { IsGroup query.now group }
+    requires rows { HasRows query.now group rows }
     requires fits { Fits query.now group wanted }
     requires listed { AreListed query.now group list.now }
     requires answered { AreAnswered query.now answers.now (place_of group wanted) }
@@ -38,7 +40,7 @@ pub fn answer(
     // For the proof: each goal has a place of its own.
     groups_are_known();
     expressions_are_one();
-    let best = find(query, props, list, group, wanted, answers);
+    let best = find(query, props, list, group, rows, wanted, answers);
     answers.put(place_at(Key::make(group), wanted), best)
 }
 
@@ -48,11 +50,13 @@ fn find(
     props: &Props,
     list: &[Physical],
     group: KeyParts,
+    rows: u64,
     wanted: Request,
     answers: &Answers,
 ) -> Option<Choice>
     requires props { IsProps query.now props.now }
     requires known { IsGroup query.now group }
+    requires rows { HasRows query.now group rows }
     requires fits { Fits query.now group wanted }
     requires listed { AreListed query.now group list.now }
     requires answered { AreAnswered query.now answers.now (place_of group wanted) }
@@ -64,6 +68,7 @@ fn find(
         query,
         props,
         answers,
+        rows,
     };
     let mut best = None;
     try_enforcers(search, group, wanted, &mut best);

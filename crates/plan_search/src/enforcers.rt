@@ -5,13 +5,13 @@ ghost use Rattle.query_core.specs.Keys.{IsGroup};
 ghost use Rattle.request_props.specs.Numbered.{IsProps};
 ghost use Rattle.plan_space.specs.Numbers.{Fits};
 ghost use Rattle.plan_search.specs.Places.{place_of};
-ghost use Rattle.plan_search.specs.Search.{AreAnswered, GoesOverEnforcers, GoesOverPlace};
+ghost use Rattle.plan_search.specs.Search.{AreAnswered, GoesOverEnforcers, GoesOverPlace, HasRows};
 
 use crate::below::one_plan;
 use crate::choice::{Choice, offer};
 use crate::natives::Search;
 use plan_space::{choices_serve, plans_are_ordered};
-use plan_tree::{enforcer, node_cost};
+use plan_tree::{enforcer, enforcer_cost_by};
 use query_core::{Key, KeyParts, groups_are_known};
 use request_props::Request;
 
@@ -24,6 +24,7 @@ pub fn try_enforcers(
 )
     requires props { IsProps search.query.now search.props.now }
     requires known { IsGroup search.query.now group }
+    requires rows { HasRows search.query.now group search.rows }
     requires fits { Fits search.query.now group wanted }
     requires answered { AreAnswered search.query.now search.answers.now (place_of group wanted) }
     ensures { GoesOverEnforcers search.entry.query.now search.entry.answers.now group wanted best.old
@@ -43,6 +44,7 @@ fn try_enforcer_at(
 )
     requires props { IsProps search.query.now search.props.now }
     requires known { IsGroup search.query.now group }
+    requires rows { HasRows search.query.now group search.rows }
     requires fits { Fits search.query.now group wanted }
     requires answered { AreAnswered search.query.now search.answers.now (place_of group wanted) }
     ensures { GoesOverPlace search.entry.query.now search.entry.answers.now group wanted n best.old
@@ -55,7 +57,7 @@ fn try_enforcer_at(
     let key = Key::make(group);
     if let Some(found) = enforcer(search.query, search.props, key, wanted, n) {
         if let Some(below) = one_plan(search.answers, (key, found.below)) {
-            let local = node_cost(search.query, search.props, key, wanted, found.node);
+            let local = enforcer_cost_by(search.query, search.rows, wanted, found.node);
             offer(best, below.under(found.node, local));
         }
     }

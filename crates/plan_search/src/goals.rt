@@ -7,12 +7,13 @@ ghost use Rattle.query_core.specs.Keys.{IsGroup, key_number};
 ghost use Rattle.request_props.specs.Numbered.{IsProps};
 ghost use Rattle.plan_search.specs.PlainClosure.{IsClosureOf};
 ghost use Rattle.plan_search.specs.Places.{dist_place as dist_place_of, request_place};
-ghost use Rattle.plan_search.specs.Search.{AreAnswered, AreListed};
+ghost use Rattle.plan_search.specs.Search.{AreAnswered, AreListed, HasRows};
 
 use crate::answers::Answers;
 use crate::best::answer;
 use crate::members::members_of;
 use crate::physical::{Physical, physicals};
+use cardinality::rows;
 use plan_tree::fits;
 use query_core::{
     Key, KeyParts, Query, candidates_are_known, expressions_are_one, groups_are_known,
@@ -96,8 +97,9 @@ fn answer_group(
     candidates_are_known();
     groups_are_known();
     let list = physicals(alloc, query, props, group, members_of(words, group))?;
+    let count = rows(query, Key::make(group));
     for place in 0..PLACES {
-        answer_place(query, props, &list, group, place, answers)?;
+        answer_place(query, props, &list, group, count, place, answers)?;
     }
     Ok(())
 }
@@ -108,11 +110,13 @@ fn answer_place(
     props: &Props,
     list: &[Physical],
     group: KeyParts,
+    rows: u64,
     place: u32,
     answers: &mut Answers,
 ) -> Result<(), AllocError>
     requires props { IsProps query.now props.now }
     requires known { IsGroup query.now group }
+    requires rows { HasRows query.now group rows }
     requires listed { AreListed query.now group list.now }
     requires place { place < 4096 }
     requires answered { AreAnswered query.now answers.now (key_number group * 4096 + place) }
@@ -123,7 +127,7 @@ fn answer_place(
     expressions_are_one();
     let wanted = request_at(place);
     if fits(query, props, group, wanted) {
-        answer(query, props, list, group, wanted, answers)?;
+        answer(query, props, list, group, rows, wanted, answers)?;
     }
     Ok(())
 }

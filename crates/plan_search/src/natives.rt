@@ -25,6 +25,8 @@ pub struct Search<'a> {
     pub query: &'a Query,
     pub props: &'a Props,
     pub answers: &'a Answers,
+    /// How many rows the group has.
+    pub rows: u64,
 }
 
 /// Offers each of the members in their modes.

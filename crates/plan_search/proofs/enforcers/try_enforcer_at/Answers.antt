@@ -10,15 +10,6 @@ use Rattle.plan_search.proofs.EnforcerNumbers.{last_number}
 use Rattle.plan_search.proofs.Scanning.{goes_not}
 use Rattle.plan_search.proofs.enforcers.try_enforcer_at.Goals as goal
 
-pub node_cost-local-requires-clause-candidate : goal.node_cost-local-requires-clause-candidate
-node_cost-local-requires-clause-candidate c e mode is =
-    let q = c.args.search.query.now in
-    let named : keys.Names q c.make-key.result c.args.group = record { number = c.make-key.ensures.number; known = c.requires.known } in
-    let found = enforced_at c.in-Some.found (slice_get (enforcers_of c.args.wanted) c.args.n)
-    (subst (λ r. IsEnforced r (slice_get (enforcers_of c.args.wanted) c.args.n)) c.in-Some.is (c.enforcer.ensures.fitting c.args.group named c.requires.fits)) in
-    let small = (facts q c.args.search.answers.now c.args.group c.args.wanted c.args.search.props.now c.requires.props c.requires.known c.requires.fits c.requires.answered c.args.n found.0 found.1).small in
-    absurd (omega (arith, is.number, found.2.number, small))
-
 pub one_plan-requires : goal.one_plan-requires
 one_plan-requires c =
     let q = c.args.search.query.now in
@@ -45,7 +36,7 @@ returns-in-Some-one_plan c =
     subst (λ new. GoesOverPlace q answers c.args.group c.args.wanted c.args.n c.args.best.now new) (sym (c.offer.ensures ∙ ap (λ choice. Some (cheaper_of c.args.best.now choice)) c.under.ensures))
     (enforcer_goes q answers c.args.group c.args.wanted c.args.search.props.now c.requires.props c.requires.known c.requires.fits c.requires.answered c.args.n found.0 found.1
     (record { itself = c.plans_are_ordered.ensures.itself q; along = c.plans_are_ordered.ensures.along q }) (c.choices_serve.ensures q) c.in-Some.found.node is_node
-    c.node_cost-local.result c.node_cost-local.ensures.most (c.node_cost-local.ensures.enforcer c.args.group found.0.node named is_node) below c.args.best.now
+    c.enforcer_cost_by-local.result c.enforcer_cost_by-local.ensures.most (c.enforcer_cost_by-local.ensures.value c.args.group found.0.node c.requires.rows.value is_node) below c.args.best.now
     (subst (λ r. IsPlanAt answers (place_of c.args.group r) below) found.3
     (subst (λ k. IsPlanAt answers (place_at k c.in-Some.found.below) below) c.make-key.ensures.number c.in-Some-one_plan.ensures.found)))
 
