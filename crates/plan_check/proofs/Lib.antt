@@ -1,2 +1,3 @@
 mod FirstAndLast
 mod Trees
+mod Verdicts

@@ -1,1 +1,450 @@
 //! Plans of two tables that are joined by an equality, worked by hand.
+
+ghost use Rattle.std.specs.Prelude.{◌≡◌, IfOk, IsTrue};
+ghost use Rattle.request_props.specs.Numbered.{IsProps};
+ghost use Rattle.plan_check.specs.Nodes.{IsRequestOf};
+
+use crate::*;
+use orca_base::{List, Text};
+use plan_tree::{Node, Plan};
+use query_core::*;
+use request_props::{Dist, Props, Request};
+use std::alloc::{AllocError, Global};
+use std::test::Fail;
+
+fn text(alloc: Global, part: &str) -> Result<Text, AllocError>
+    ensures { IfOk result (λ made. made ≡ part.now) }
+{
+    Ok(Text::of(String::from_str(alloc, part)?))
+}
+
+// `SELECT T1.a FROM T1, T2 WHERE T1.a = T2.b ORDER BY T1.a`, each table of 1,000 rows and hashed on
+// its column a, on 4 segments. The hashed lists are T1.a, T2.a and T2.b, from 0, and the orders T1.a
+// and T2.b, from 1.
+fn two_tables(alloc: Global) -> Result<Query, AllocError> {
+    let tables = vec![in alloc;
+        QueryTable {
+            alias: text(alloc, "T1")?,
+            rows: 1000,
+            hashed: Some(List::of(vec![in alloc; 0]?)),
+            indexes: List::new(alloc)
+        },
+        QueryTable {
+            alias: text(alloc, "T2")?,
+            rows: 1000,
+            hashed: Some(List::of(vec![in alloc; 1]?)),
+            indexes: List::new(alloc)
+        },
+    ]?;
+    let items = vec![in alloc;
+        Item {
+            table: 0,
+            name: text(alloc, "a")?,
+            ndv: 1000
+        },
+        Item {
+            table: 1,
+            name: text(alloc, "a")?,
+            ndv: 1000
+        },
+        Item {
+            table: 1,
+            name: text(alloc, "b")?,
+            ndv: 500
+        },
+    ]?;
+    let preds = vec![in alloc;
+        Pred {
+            left: 0,
+            op: CmpOp::Eq,
+            right: Operand::Item(2)
+        },
+    ]?;
+    let links = links_of(alloc, &tables, &items, &preds)?;
+    Ok(Query {
+        segments: 4,
+        tables: List::of(tables),
+        items: List::of(items),
+        preds: List::of(preds),
+        links,
+        grouped: false,
+        group_by: List::new(alloc),
+        aggs: List::new(alloc),
+        output: List::of(vec![in alloc;
+            OutItem {
+                item: 0,
+                name: None
+            },
+        ]?),
+        order: List::of(vec![in alloc;
+            OrderKey {
+                item: 0,
+                desc: false
+            },
+        ]?),
+        options: Options {
+            root: RootDist::One,
+            off: 0,
+        },
+    })
+}
+
+// `SELECT b.x FROM b, s WHERE b.x = s.y`, of 100,000 and 10 rows, placed at random on 4 segments
+fn large_and_small(alloc: Global) -> Result<Query, AllocError> {
+    let tables = vec![in alloc;
+        QueryTable {
+            alias: text(alloc, "b")?,
+            rows: 100000,
+            hashed: None,
+            indexes: List::new(alloc)
+        },
+        QueryTable {
+            alias: text(alloc, "s")?,
+            rows: 10,
+            hashed: None,
+            indexes: List::new(alloc)
+        },
+    ]?;
+    let items = vec![in alloc;
+        Item {
+            table: 0,
+            name: text(alloc, "x")?,
+            ndv: 1000
+        },
+        Item {
+            table: 1,
+            name: text(alloc, "y")?,
+            ndv: 10
+        },
+    ]?;
+    let preds = vec![in alloc;
+        Pred {
+            left: 0,
+            op: CmpOp::Eq,
+            right: Operand::Item(1)
+        },
+    ]?;
+    let links = links_of(alloc, &tables, &items, &preds)?;
+    Ok(Query {
+        segments: 4,
+        tables: List::of(tables),
+        items: List::of(items),
+        preds: List::of(preds),
+        links,
+        grouped: false,
+        group_by: List::new(alloc),
+        aggs: List::new(alloc),
+        output: List::of(vec![in alloc;
+            OutItem {
+                item: 0,
+                name: None
+            },
+        ]?),
+        order: List::new(alloc),
+        options: Options {
+            root: RootDist::One,
+            off: 0,
+        },
+    })
+}
+
+// ---- nodes by their numbers
+
+const GATHER: u64 = 1;
+
+const BROADCAST: u64 = 2;
+
+// A sort is numbered from 64, a merge from 128, and a redistribution from 192.
+const SORT_A: u64 = 65;
+
+const SORT_B: u64 = 66;
+
+const MERGE_A: u64 = 129;
+
+const REDISTRIBUTE_A: u64 = 192;
+
+const REDISTRIBUTE_B: u64 = 194;
+
+// A physical expression's number is 2^56, its word times 256, and its mode.
+const SCAN_1: u64 = 72_057_594_037_927_936 + 256 * 4_294_967_296;
+
+const SCAN_2: u64 = 72_057_594_037_927_936 + 256 * (68_719_476_736 + 4_294_967_296);
+
+// The keys of the join and of the tables are 1027, 0 and 1; a hash join is operator 9.
+const HASH: u64 = 72_057_594_037_927_936 + 256 * 70_594_229_968_898;
+
+const MERGE: u64 = HASH + 256 * 2_147_483_648;
+
+const LOOP: u64 = MERGE + 256 * 2_147_483_648;
+
+const COPIED: u64 = 64;
+
+const COLOCATED: u64 = 128;
+
+fn leaf(node: u64) -> Plan {
+    Plan::Leaf(Node(node))
+}
+
+fn over(alloc: Global, node: u64, kid: Plan) -> Result<Plan, AllocError> {
+    Ok(Plan::Over(Node(node), Box::new(alloc, kid)?))
+}
+
+fn two(alloc: Global, node: u64, left: Plan, right: Plan) -> Result<Plan, AllocError> {
+    Ok(Plan::Two(
+        Node(node),
+        Box::new(alloc, left)?,
+        Box::new(alloc, right)?,
+    ))
+}
+
+// So many sorts over a scan.
+fn sorts(alloc: Global, many: u32) -> Result<Plan, AllocError> {
+    let mut plan = leaf(SCAN_1);
+    for _ in 0..many {
+        plan = over(alloc, SORT_A, plan)?;
+    }
+    Ok(plan)
+}
+
+// The least plan of the two tables: a hash join of rows that are hashed alike, sorted and merged.
+fn least(alloc: Global) -> Result<Plan, AllocError> {
+    let right = over(alloc, REDISTRIBUTE_B, leaf(SCAN_2))?;
+    let join = two(alloc, HASH + COLOCATED, leaf(SCAN_1), right)?;
+    over(alloc, MERGE_A, over(alloc, SORT_A, join)?)
+}
+
+// ---- the check
+
+fn is_asked(query: &Query, props: &Props, request: Request) -> bool
+    requires { IsProps query.now props.now }
+    ensures { IsTrue result → IsRequestOf query.now request }
+{
+    let listed = match request.dist {
+        Dist::Hashed(list) => (list as usize) < props.hashed.len(),
+        _ => true,
+    };
+    listed && request.order as usize <= props.orders.len()
+}
+
+// The outcome for a distribution and an order, which the query has.
+fn outcome(
+    query: &Query,
+    props: &Props,
+    plan: &Plan,
+    dist: Dist,
+    order: u32,
+) -> Option<Result<u64, PlanFault>>
+    requires { IsProps query.now props.now }
+{
+    let request = Request { dist, order };
+    if is_asked(query, props, request) {
+        Some(check_plan(query, props, plan, request))
+    } else {
+        None
+    }
+}
+
+#[test]
+fn the_least_plan_has_its_cost(rt: HostRuntime) -> Result<(), Fail> {
+    let query = two_tables(rt.alloc())?;
+    let props = Props::collect(rt.alloc(), &query)?;
+    let plan = least(rt.alloc())?;
+    assert_eq!(rt; outcome(&query, &props, &plan, Dist::One, 1), Some(Ok(7506)));
+    assert_eq!(rt; outcome(&query, &props, &plan, Dist::One, 0), Some(Ok(7506)));
+    Ok(())
+}
+
+#[test]
+fn other_plans_cost_what_the_table_says(rt: HostRuntime) -> Result<(), Fail> {
+    let alloc = rt.alloc();
+    let query = two_tables(alloc)?;
+    let props = Props::collect(alloc, &query)?;
+    // 4,001 for the copies, and 250 + 2 * 1,000 + 250 + 1 for the join
+    let copies = over(alloc, BROADCAST, leaf(SCAN_2))?;
+    let copied = two(alloc, HASH + COPIED, leaf(SCAN_1), copies)?;
+    assert_eq!(rt;
+        outcome(&query, &props, &copied, Dist::Spread, 0),
+        Some(Ok(251 + 251 + 4001 + 2501))
+    );
+    // each side sorted at 2,001, the right one hashed by T2.b at 1,001, and 751 for the join
+    let hashed = over(alloc, REDISTRIBUTE_B, leaf(SCAN_2))?;
+    let right = over(alloc, SORT_B, hashed)?;
+    let left = over(alloc, SORT_A, leaf(SCAN_1))?;
+    let merged = two(alloc, MERGE + COLOCATED, left, right)?;
+    assert_eq!(rt;
+        outcome(&query, &props, &merged, Dist::Hashed(0), 1),
+        Some(Ok(251 + 251 + 1001 + 2001 + 2001 + 751))
+    );
+    // a gather of each side at 2,001, and 1,000 * 1,000 + 1 for the join
+    let left = over(alloc, GATHER, leaf(SCAN_1))?;
+    let right = over(alloc, GATHER, leaf(SCAN_2))?;
+    let looped = two(alloc, LOOP, left, right)?;
+    assert_eq!(rt;
+        outcome(&query, &props, &looped, Dist::One, 0),
+        Some(Ok(251 + 251 + 2001 + 2001 + 1_000_001))
+    );
+    Ok(())
+}
+
+#[test]
+fn copies_of_a_small_table_cost_little(rt: HostRuntime) -> Result<(), Fail> {
+    let alloc = rt.alloc();
+    let query = large_and_small(alloc)?;
+    let props = Props::collect(alloc, &query)?;
+    let copies = over(alloc, BROADCAST, leaf(SCAN_2))?;
+    let join = two(alloc, HASH + COPIED, leaf(SCAN_1), copies)?;
+    let plan = over(alloc, GATHER, join)?;
+    assert_eq!(rt; outcome(&query, &props, &plan, Dist::One, 0), Some(Ok(52318)));
+    Ok(())
+}
+
+#[test]
+fn redundant_sorts_and_motions_are_paid_for(rt: HostRuntime) -> Result<(), Fail> {
+    let alloc = rt.alloc();
+    let query = two_tables(alloc)?;
+    let props = Props::collect(alloc, &query)?;
+    // a sort at 2,001 and a motion at 1,001 that change nothing
+    let right = over(alloc, REDISTRIBUTE_B, leaf(SCAN_2))?;
+    let join = two(alloc, HASH + COLOCATED, leaf(SCAN_1), right)?;
+    let moved = over(alloc, REDISTRIBUTE_A, over(alloc, SORT_A, join)?)?;
+    let plan = over(alloc, MERGE_A, over(alloc, SORT_A, moved)?)?;
+    assert_eq!(rt; outcome(&query, &props, &plan, Dist::One, 1), Some(Ok(7506 + 2001 + 1001)));
+    Ok(())
+}
+
+#[test]
+fn a_thousand_nodes_are_few_enough(rt: HostRuntime) -> Result<(), Fail> {
+    let alloc = rt.alloc();
+    let query = two_tables(alloc)?;
+    let props = Props::collect(alloc, &query)?;
+    let large = sorts(alloc, 999)?;
+    assert_eq!(rt;
+        outcome(&query, &props, &large, Dist::Spread, 1),
+        Some(Ok(999 * 2001 + 251))
+    );
+    let larger = sorts(alloc, 1000)?;
+    assert_eq!(rt;
+        outcome(&query, &props, &larger, Dist::Spread, 1),
+        Some(Err(PlanFault::TooLarge { nodes: 1001 }))
+    );
+    Ok(())
+}
+
+#[test]
+fn a_number_that_no_node_of_the_query_has_is_told(rt: HostRuntime) -> Result<(), Fail> {
+    let alloc = rt.alloc();
+    let query = two_tables(alloc)?;
+    let props = Props::collect(alloc, &query)?;
+    // nothing; a sort by no order and by a third; a fourth list; a mode without a line; a table read
+    // by an index that it hasn't; and the logical expression of the table
+    for number in [
+        0,
+        64,
+        67,
+        195,
+        HASH + COLOCATED + 1,
+        SCAN_1 + 256 * 2_147_483_648,
+        SCAN_1 - 256 * 2_147_483_648,
+    ] {
+        let right = over(alloc, number, leaf(number))?;
+        let join = two(alloc, HASH + COLOCATED, leaf(SCAN_1), right)?;
+        let plan = over(alloc, SORT_A, join)?;
+        assert_eq!(rt;
+            outcome(&query, &props, &plan, Dist::Spread, 1),
+            Some(Err(PlanFault::Shape { node: 3 }))
+        );
+    }
+    Ok(())
+}
+
+#[test]
+fn the_last_node_with_wrong_kids_is_told(rt: HostRuntime) -> Result<(), Fail> {
+    let alloc = rt.alloc();
+    let query = two_tables(alloc)?;
+    let props = Props::collect(alloc, &query)?;
+    // the sides turned
+    let left = over(alloc, REDISTRIBUTE_B, leaf(SCAN_2))?;
+    let join = two(alloc, HASH + COLOCATED, left, leaf(SCAN_1))?;
+    let turned = over(alloc, SORT_A, join)?;
+    assert_eq!(rt;
+        outcome(&query, &props, &turned, Dist::Spread, 1),
+        Some(Err(PlanFault::Kids { node: 1 }))
+    );
+    // a gather of two, over a sort of nothing
+    let both = two(alloc, GATHER, leaf(SORT_A), leaf(SCAN_1))?;
+    assert_eq!(rt;
+        outcome(&query, &props, &both, Dist::One, 0),
+        Some(Err(PlanFault::Kids { node: 1 }))
+    );
+    let pair = two(alloc, GATHER, leaf(SCAN_1), leaf(SCAN_1))?;
+    assert_eq!(rt;
+        outcome(&query, &props, &pair, Dist::One, 0),
+        Some(Err(PlanFault::Kids { node: 0 }))
+    );
+    Ok(())
+}
+
+#[test]
+fn the_first_node_whose_needs_are_not_met_is_told(rt: HostRuntime) -> Result<(), Fail> {
+    let alloc = rt.alloc();
+    let query = two_tables(alloc)?;
+    let props = Props::collect(alloc, &query)?;
+    // rows that lie by another column
+    let join = two(alloc, HASH + COLOCATED, leaf(SCAN_1), leaf(SCAN_2))?;
+    let apart = over(alloc, SORT_A, join)?;
+    assert_eq!(rt;
+        outcome(&query, &props, &apart, Dist::Spread, 1),
+        Some(Err(PlanFault::Needs { node: 1 }))
+    );
+    // rows that are gathered twice, and once more
+    let once = over(alloc, GATHER, leaf(SCAN_1))?;
+    let thrice = over(alloc, GATHER, over(alloc, GATHER, once)?)?;
+    assert_eq!(rt;
+        outcome(&query, &props, &thrice, Dist::One, 0),
+        Some(Err(PlanFault::Needs { node: 0 }))
+    );
+    // an order and a list that aren't in the table, and a merge of rows in no order
+    for number in [SORT_B, REDISTRIBUTE_B, MERGE_A] {
+        let plan = over(alloc, number, leaf(SCAN_1))?;
+        assert_eq!(rt;
+            outcome(&query, &props, &plan, Dist::Spread, 0),
+            Some(Err(PlanFault::Needs { node: 0 }))
+        );
+    }
+    Ok(())
+}
+
+#[test]
+fn a_valid_plan_may_not_be_what_is_asked_for(rt: HostRuntime) -> Result<(), Fail> {
+    let query = two_tables(rt.alloc())?;
+    let props = Props::collect(rt.alloc(), &query)?;
+    let plan = least(rt.alloc())?;
+    for (dist, order) in [(Dist::Spread, 1), (Dist::One, 2), (Dist::Copies, 0)] {
+        assert_eq!(rt;
+            outcome(&query, &props, &plan, dist, order),
+            Some(Err(PlanFault::Unsatisfied))
+        );
+    }
+    Ok(())
+}
+
+#[test]
+fn the_whole_plan_is_looked_through_for_one_fault_first(rt: HostRuntime) -> Result<(), Fail> {
+    let alloc = rt.alloc();
+    let query = two_tables(alloc)?;
+    let props = Props::collect(alloc, &query)?;
+    // needs that aren't met stand above wrong kids, and these above a number of no node
+    let pair = two(alloc, SORT_A, leaf(SCAN_1), leaf(SCAN_1))?;
+    let wrong = over(alloc, REDISTRIBUTE_B, pair)?;
+    assert_eq!(rt;
+        outcome(&query, &props, &wrong, Dist::Spread, 0),
+        Some(Err(PlanFault::Kids { node: 1 }))
+    );
+    let pair = two(alloc, SORT_A, leaf(SCAN_1), leaf(0))?;
+    let unknown = over(alloc, REDISTRIBUTE_B, pair)?;
+    assert_eq!(rt;
+        outcome(&query, &props, &unknown, Dist::Spread, 0),
+        Some(Err(PlanFault::Shape { node: 3 }))
+    );
+    Ok(())
+}
