@@ -180,8 +180,8 @@ module _ {X : Type 0} (Fact : X → Type 0) where
       ap length second.parts ∙ length-append second.before (second.element ∷ second.behind) in
       let back : get_or xs (length first.before) x ≡ get_or second.behind n x =
       ap (λ zs. get_or zs (length first.before) x) second.parts
-          ∙ ap (λ k. get_or (second.before ++ second.element ∷ second.behind) k x) at
-          ∙ get_or-append-add second.before (second.element ∷ second.behind) (suc n) x in
+      ∙ ap (λ k. get_or (second.before ++ second.element ∷ second.behind) k x) at
+      ∙ get_or-append-add second.before (second.element ∷ second.behind) (suc n) x in
       first.lacks (subst Fact (sym back ∙ there) (second.others n x (omega (arith, at, long, also))))
 
   pub last_one : (xs : List X) (place other : ℕ) → IsLastWithout Fact xs place → IsLastWithout Fact xs other → place ≡ other

@@ -1,15 +1,12 @@
 -- The trees that plans are.
-use Rattle.std.proofs.Common.{Box, Global, ◌≡◌, ℕ, ◌<◌, List, [], ◌∷◌, ◌++◌, length, refl, sym, ap, subst, ◌∙◌, length-append, arith}
-use Rattle.std.specs.List.{All}
+use Rattle.std.proofs.Common.{Box, Global, ◌≡◌, List, [], ◌∷◌, ◌++◌, length, refl, sym, ap, subst, ◌∙◌, length-append, arith}
 use Rattle.std.specs.Bool.{⊤}
 use Rattle.query_core.specs.Keys.{IsGroup}
 use Rattle.query_core.specs.declared.query.Query.{Query}
-use Rattle.query_core.specs.declared.words.KeyParts.TheVariants.{Get}
 use Rattle.plan_space.specs.Nodes.{Kind, native, gather, broadcast, sort, gather_merge, redistribute, Tree, leaf, over, two}
 use Rattle.plan_space.specs.Gives.{Kid, first_group, node_group, kid_of}
-use Rattle.plan_tree.specs.Nodes.{IsNode}
 use Rattle.plan_tree.specs.Spells.{Spells}
-use Rattle.plan_tree.specs.Seen.{kid_seen, kids_seen, kids_of, HaveGroups}
+use Rattle.plan_tree.specs.Seen.{kids_seen, kids_of, HaveGroups}
 use Rattle.plan_tree.specs.declared.seen.Below.{Below}
 use Rattle.plan_tree.specs.declared.seen.Below.TheVariants as below
 use Rattle.plan_tree.specs.declared.node.Node.{Node}

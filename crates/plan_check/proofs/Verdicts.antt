@@ -1,5 +1,5 @@
 -- A plan has one outcome.
-use Rattle.std.proofs.Common.{◌≡◌, ◌↔◌, ◌+◌, ℕ, ◌≤◌, ◌<◌, List, [], ◌∷◌, ◌++◌, length, get_or, Option, None, Some, Result, Ok, Err, refl, sym, ap, subst, ◌∙◌, length-append, arith}
+use Rattle.std.proofs.Common.{◌≡◌, ◌↔◌, ◌+◌, ℕ, List, [], ◌∷◌, ◌++◌, length, Option, None, Some, Result, Ok, Err, refl, sym, ap, subst, ◌∙◌, length-append, arith}
 use Rattle.std.specs.List.{All}
 use Rattle.std.proofs.lemmas.List.{get_or_append_left, get_or-append-add}
 use Rattle.std.proofs.lemmas.List.Elements.{All-nil, All-cons, All-head, All-tail, All-append, All-weaker}
@@ -15,10 +15,9 @@ use Rattle.plan_space.specs.Valid.{OverOne, FitsBy, NodeFits, IsValid, EnforcerF
 use Rattle.plan_space.specs.Choices.{groups_of}
 use Rattle.plan_space.specs.Cost.{cost_of}
 use Rattle.plan_space.specs.Laws.{AreOf}
-use Rattle.plan_tree.specs.Nodes.{IsNode, IsInRange}
+use Rattle.plan_tree.specs.Nodes.{IsInRange}
 use Rattle.plan_tree.specs.Seen.{root_node, kids_of}
 use Rattle.plan_tree.specs.Spells.{Spells}
-use Rattle.plan_tree.specs.declared.node.Node.{Node}
 use Rattle.plan_tree.specs.declared.plan.Plan.{Plan}
 use Rattle.plan_tree.specs.declared.plan.Plan.TheVariants.{Leaf, Over', Two'}
 use Rattle.plan_check.specs.Places.{IsFirstWithout, IsLastWithout}

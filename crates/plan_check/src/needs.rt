@@ -107,8 +107,7 @@ fn line_fits(query: &Query, props: &Props, line: Line, children: Children, below
     match (line, below) {
         (Line::Alone(_, _), Below::Nothing) => children == Children::Zero,
         (Line::Above(dist, order), Below::One(kid)) => {
-            children == Children::One(kid.group)
-                && left_needs(query, props, dist, order, kid.given)
+            children == Children::One(kid.group) && left_needs(query, props, dist, order, kid.given)
         }
         (Line::Beside(dist, order, request), Below::Two(left, right)) => {
             are_two(children, left.group, right.group)
@@ -126,13 +125,7 @@ fn are_two(children: Children, left: KeyParts, right: KeyParts) -> bool
 }
 
 // Whether the left child gives what the line needs.
-fn left_needs(
-    query: &Query,
-    props: &Props,
-    dist: LeftDist,
-    order: LeftOrder,
-    given: Given,
-) -> bool
+fn left_needs(query: &Query, props: &Props, dist: LeftDist, order: LeftOrder, given: Given) -> bool
     requires { IsProps query.now props.now }
     ensures { IsTrue result ↔
         LeftNeeds query.now (left_dist_of dist) (left_order_of order) given }

@@ -190,11 +190,7 @@ fn over(alloc: Global, node: u64, kid: Plan) -> Result<Plan, AllocError> {
 }
 
 fn two(alloc: Global, node: u64, left: Plan, right: Plan) -> Result<Plan, AllocError> {
-    Ok(Plan::Two(
-        Node(node),
-        Box::new(alloc, left)?,
-        Box::new(alloc, right)?,
-    ))
+    Ok(Plan::Two(Node(node), Box::new(alloc, left)?, Box::new(alloc, right)?))
 }
 
 // So many sorts over a scan.
@@ -249,8 +245,14 @@ fn the_least_plan_has_its_cost(rt: HostRuntime) -> Result<(), Fail> {
     let query = two_tables(rt.alloc())?;
     let props = Props::collect(rt.alloc(), &query)?;
     let plan = least(rt.alloc())?;
-    assert_eq!(rt; outcome(&query, &props, &plan, Dist::One, 1), Some(Ok(7506)));
-    assert_eq!(rt; outcome(&query, &props, &plan, Dist::One, 0), Some(Ok(7506)));
+    assert_eq!(rt;
+        outcome(&query, &props, &plan, Dist::One, 1),
+        Some(Ok(7506))
+    );
+    assert_eq!(rt;
+        outcome(&query, &props, &plan, Dist::One, 0),
+        Some(Ok(7506))
+    );
     Ok(())
 }
 
@@ -294,7 +296,10 @@ fn copies_of_a_small_table_cost_little(rt: HostRuntime) -> Result<(), Fail> {
     let copies = over(alloc, BROADCAST, leaf(SCAN_2))?;
     let join = two(alloc, HASH + COPIED, leaf(SCAN_1), copies)?;
     let plan = over(alloc, GATHER, join)?;
-    assert_eq!(rt; outcome(&query, &props, &plan, Dist::One, 0), Some(Ok(52318)));
+    assert_eq!(rt;
+        outcome(&query, &props, &plan, Dist::One, 0),
+        Some(Ok(52318))
+    );
     Ok(())
 }
 
@@ -308,7 +313,10 @@ fn redundant_sorts_and_motions_are_paid_for(rt: HostRuntime) -> Result<(), Fail>
     let join = two(alloc, HASH + COLOCATED, leaf(SCAN_1), right)?;
     let moved = over(alloc, REDISTRIBUTE_A, over(alloc, SORT_A, join)?)?;
     let plan = over(alloc, MERGE_A, over(alloc, SORT_A, moved)?)?;
-    assert_eq!(rt; outcome(&query, &props, &plan, Dist::One, 1), Some(Ok(7506 + 2001 + 1001)));
+    assert_eq!(rt;
+        outcome(&query, &props, &plan, Dist::One, 1),
+        Some(Ok(7506 + 2001 + 1001))
+    );
     Ok(())
 }
 

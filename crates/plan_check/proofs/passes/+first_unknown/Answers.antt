@@ -1,5 +1,5 @@
 -- The plan's root comes before the nodes below it, and the left ones before the right ones.
-use Rattle.std.proofs.Common.{sym, subst, ap, ◌∙◌, length}
+use Rattle.std.proofs.Common.{subst, ap, ◌∙◌, length}
 use Rattle.plan_tree.specs.declared.plan.Plan.{Plan}
 use Rattle.plan_check.specs.Preorder.{nodes_of}
 use Rattle.plan_check.specs.Nodes.{IsNodeOf}
