@@ -1,5 +1,5 @@
 -- The rules, their numbers, and which of them are on.
-use Rattle.std.specs.Prelude.{ℕ, ◌≡◌}
+use Rattle.std.specs.Prelude.{ℕ, ◌≡◌, List, codes}
 use Rattle.query_core.specs.Sets.{bit}
 use Rattle.query_core.specs.declared.query.Query.{Query}
 use Rattle.xform_rules.specs.declared.rules.Rule.{Rule}
@@ -21,6 +21,23 @@ rule_number rules.JoinToLoop = 11
 rule_number rules.AggToHash = 12
 rule_number rules.AggToStream = 13
 rule_number rules.PartialToHash = 14
+
+-- the name of a rule
+abbrev pub rule_name : Rule → List ℕ
+rule_name rules.ExpandNAry = codes "ExpandNAry"
+rule_name rules.JoinCommute = codes "JoinCommute"
+rule_name rules.JoinAssociate = codes "JoinAssociate"
+rule_name rules.SplitAgg = codes "SplitAgg"
+rule_name rules.GetToScan = codes "GetToScan"
+rule_name rules.GetToIndexScan = codes "GetToIndexScan"
+rule_name rules.SelectToFilter = codes "SelectToFilter"
+rule_name rules.SelectToIndexSeek = codes "SelectToIndexSeek"
+rule_name rules.JoinToHash = codes "JoinToHash"
+rule_name rules.JoinToMerge = codes "JoinToMerge"
+rule_name rules.JoinToLoop = codes "JoinToLoop"
+rule_name rules.AggToHash = codes "AggToHash"
+rule_name rules.AggToStream = codes "AggToStream"
+rule_name rules.PartialToHash = codes "PartialToHash"
 
 -- how many results a rule can have at an expression: one for each index of a table, of which there are at most 16, or one
 abbrev pub rule_limit : Rule → ℕ

@@ -16,7 +16,7 @@ mod words;
 
 pub use laws::{members_are_candidates, results_are_candidates};
 pub use results::{applies_at, result_at};
-pub use rules::{Rule, rule_of};
+pub use rules::{Rule, rule_named, rule_of};
 pub use words::{applies, nth_result};
 
 #[cfg(test)]

@@ -2,7 +2,7 @@
 #![tactic(auto)]
 
 ghost use Rattle.std.specs.Prelude.{◌≡◌, ◌≤◌, IsTrue, ◌↔◌, IfSome, Some};
-ghost use Rattle.xform_rules.specs.Rules.{rule_number, rule_limit, IsOn};
+ghost use Rattle.xform_rules.specs.Rules.{rule_name, rule_number, rule_limit, IsOn};
 
 use query_core::{Query, sets};
 
@@ -50,6 +50,28 @@ impl Rule {
         }
     }
 
+    /// The name of the rule.
+    pub fn name(self) -> &'static str
+        ensures { result.now ≡ rule_name self }
+    {
+        match self {
+            Rule::ExpandNAry => "ExpandNAry",
+            Rule::JoinCommute => "JoinCommute",
+            Rule::JoinAssociate => "JoinAssociate",
+            Rule::SplitAgg => "SplitAgg",
+            Rule::GetToScan => "GetToScan",
+            Rule::GetToIndexScan => "GetToIndexScan",
+            Rule::SelectToFilter => "SelectToFilter",
+            Rule::SelectToIndexSeek => "SelectToIndexSeek",
+            Rule::JoinToHash => "JoinToHash",
+            Rule::JoinToMerge => "JoinToMerge",
+            Rule::JoinToLoop => "JoinToLoop",
+            Rule::AggToHash => "AggToHash",
+            Rule::AggToStream => "AggToStream",
+            Rule::PartialToHash => "PartialToHash",
+        }
+    }
+
     /// How many results it can have at an expression: one for each index of a table, or one.
     pub fn limit(self) -> u32
         ensures { result ≡ rule_limit self }
@@ -93,6 +115,30 @@ pub fn rule_of(number: u32) -> Option<Rule>
         12 => Some(Rule::AggToHash),
         13 => Some(Rule::AggToStream),
         14 => Some(Rule::PartialToHash),
+        _ => None,
+    }
+}
+
+/// The rule of a name.
+pub fn rule_named(name: &str) -> Option<Rule>
+    ensures found { IfSome result (λ rule. rule_name rule ≡ name.now) }
+    ensures only { (rule : Rule) → rule_name rule ≡ name.now → result ≡ Some rule }
+{
+    match name {
+        "ExpandNAry" => Some(Rule::ExpandNAry),
+        "JoinCommute" => Some(Rule::JoinCommute),
+        "JoinAssociate" => Some(Rule::JoinAssociate),
+        "SplitAgg" => Some(Rule::SplitAgg),
+        "GetToScan" => Some(Rule::GetToScan),
+        "GetToIndexScan" => Some(Rule::GetToIndexScan),
+        "SelectToFilter" => Some(Rule::SelectToFilter),
+        "SelectToIndexSeek" => Some(Rule::SelectToIndexSeek),
+        "JoinToHash" => Some(Rule::JoinToHash),
+        "JoinToMerge" => Some(Rule::JoinToMerge),
+        "JoinToLoop" => Some(Rule::JoinToLoop),
+        "AggToHash" => Some(Rule::AggToHash),
+        "AggToStream" => Some(Rule::AggToStream),
+        "PartialToHash" => Some(Rule::PartialToHash),
         _ => None,
     }
 }
