@@ -1,12 +1,12 @@
 -- The causes that follow from how a run ended.
-use Rattle.std.proofs.Common.{◌≡◌, ℕ, List, Option, None, Some, Ok, Err, IfSome, refl, sym, ◌∙◌, subst, inl, inr, Bool}
+use Rattle.std.proofs.Common.{◌≡◌, ℕ, List, Option, None, Some, Ok, Err, IfSome, refl, sym, ◌∙◌, subst, inl, inr}
 use Rattle.orca_base.specs.Causes.{Rose}
 use Rattle.query_core.specs.declared.catalog.Catalog.{Catalog}
 use Rattle.query_core.specs.declared.query.Query.{Query}
 use Rattle.catalog_json.specs.Outcome.{reading_of}
 use Rattle.orca_cli.specs.Asked.{SaysCatalog, IsNoCatalog, Asks, IsRefused}
 use Rattle.orca_cli.specs.Causes.{ReadRose, Holds, IsSettled, Completes, IsRefusal, Refuses}
-use Rattle.orca_cli.specs.Command.{PlanCommand}
+use Rattle.orca_cli.specs.Command.{PlanChoices, PlanCommand}
 use Rattle.orca_cli.specs.Run.{AreTold, IsAnswer, planned, unplanned, refused, IsEnding, answered, catalog_refused, catalog_unread, query_unread, IsRun, Ends}
 use Rattle.orca_cli.specs.declared.status.Status.{Status}
 use Rattle.orca_cli.specs.declared.status.Status.TheVariants.{Planned, NoPlan, Usage, QueryRefused, CatalogRefused, TooManyEntries, ReadFault, WriteFault, Memory}
@@ -23,14 +23,14 @@ usage_cause named held reads_before reads_after old new before after status ends
     of_usage (Some command) ends = absurd (never command held reads_before reads_after Usage ends.0 ends.1 tt)
 
 -- an answer isn't a read fault
-answer_read : (catalog : Catalog) (memo : Bool) (asked : List ℕ) (status : Status) (text : List ℕ) → IsAnswer catalog memo asked status text → status ≡ ReadFault → ⊥
-answer_read catalog memo asked status text (planned is query asks plan is_plan goes) fault = cc
-answer_read catalog memo asked status text (unplanned is query asks impossible goes) fault = cc
-answer_read catalog memo asked status text (refused is cause why line) fault = cc
+answer_read : (catalog : Catalog) (choices : PlanChoices) (asked : List ℕ) (status : Status) (text : List ℕ) → IsAnswer catalog choices asked status text → status ≡ ReadFault → ⊥
+answer_read catalog choices asked status text (planned is query asks plan is_plan goes) fault = cc
+answer_read catalog choices asked status text (unplanned is query asks impossible goes) fault = cc
+answer_read catalog choices asked status text (refused is cause why line) fault = cc
 
 -- a run that ends with a read fault has the count of a file risen
 rose_of : (command : PlanCommand) (held : List ℕ → Option (List ℕ)) (before after : List ℕ → ℕ) (status : Status) (text : List ℕ) → IsEnding command held before after status text → status ≡ ReadFault → ReadRose (Some command) before after
-rose_of command held before after status text (answered catalog offers is) fault = absurd (answer_read catalog command.memo is.asked status text is.answer fault)
+rose_of command held before after status text (answered catalog offers is) fault = absurd (answer_read catalog command.choices is.asked status text is.answer fault)
 rose_of command held before after status text (catalog_refused is none) fault = let other : CatalogRefused ≡ ReadFault = sym is ∙ fault in cc
 rose_of command held before after status text (catalog_unread is unread) fault = inl unread.rose
 rose_of command held before after status text (query_unread is catalog offers unread) fault = inr unread.rose
@@ -70,30 +70,30 @@ some_catalog bytes cause catalog says none =
 
 -- a run over files that hold a catalogue and a text ends with the answer to that text, where no count rose
 module _ (command : PlanCommand) (held : List ℕ → Option (List ℕ)) (catalog : Catalog) (asked : List ℕ) (holds : Holds command.files held catalog asked) where
-  pub answer_of : (before after : List ℕ → ℕ) (status : Status) (text : List ℕ) → (ReadRose (Some command) before after → ⊥) → IsEnding command held before after status text → IsAnswer catalog command.memo asked status text
+  pub answer_of : (before after : List ℕ → ℕ) (status : Status) (text : List ℕ) → (ReadRose (Some command) before after → ⊥) → IsEnding command held before after status text → IsAnswer catalog command.choices asked status text
   answer_of before after status text no_read (answered other offers is) =
       let bytes : offers.bytes ≡ holds.bytes = told_one (held command.files.catalog) offers.bytes holds.bytes offers.told holds.bytes_told in
       let says : SaysCatalog holds.bytes other = subst (λ b. SaysCatalog b other) bytes offers.says in
-      let here : IsAnswer other command.memo asked status text =
-      subst (λ t. IsAnswer other command.memo t status text) (told_one (held command.files.query) is.asked asked is.told holds.text_told) is.answer in
-      subst (λ k. IsAnswer k command.memo asked status text) (one_catalog holds.bytes other catalog says holds.says) here
+      let here : IsAnswer other command.choices asked status text =
+      subst (λ t. IsAnswer other command.choices t status text) (told_one (held command.files.query) is.asked asked is.told holds.text_told) is.answer in
+      subst (λ k. IsAnswer k command.choices asked status text) (one_catalog holds.bytes other catalog says holds.says) here
   answer_of before after status text no_read (catalog_refused is none) =
       let bytes : none.bytes ≡ holds.bytes = told_one (held command.files.catalog) none.bytes holds.bytes none.told holds.bytes_told in
       absurd (some_catalog holds.bytes none.cause catalog holds.says (subst (λ b. IsNoCatalog b none.cause) bytes none.no_catalog))
   answer_of before after status text no_read (catalog_unread is unread) = absurd (no_read (inl unread.rose))
   answer_of before after status text no_read (query_unread is k offers unread) = absurd (no_read (inr unread.rose))
 
-module _ (one : OneReading) (catalog : Catalog) (memo : Bool) (asked : List ℕ) (status : Status) (text : List ℕ) where
+module _ (one : OneReading) (catalog : Catalog) (choices : PlanChoices) (asked : List ℕ) (status : Status) (text : List ℕ) where
   -- the answer to a text that asks for a query is a plan or none
-  settled_answer : (q : Query) → Asks catalog asked q → IsAnswer catalog memo asked status text → IsSettled status
+  settled_answer : (q : Query) → Asks catalog choices.options asked q → IsAnswer catalog choices asked status text → IsSettled status
   settled_answer q asks (planned is query asks_too plan is_plan goes) = subst IsSettled (sym is) tt
   settled_answer q asks (unplanned is query asks_too impossible goes) = subst IsSettled (sym is) tt
-  settled_answer q asks (refused is cause why line) = absurd (never_refused one catalog asked q cause asks why)
+  settled_answer q asks (refused is cause why line) = absurd (never_refused one catalog choices.options asked q cause asks why)
 
   -- the answer to a text that is refused is a refusal
-  refusal_answer : (cause : List ℕ) → IsRefused catalog asked cause → IsAnswer catalog memo asked status text → IsRefusal status
-  refusal_answer cause why (planned is query asks plan is_plan goes) = absurd (never_refused one catalog asked query cause asks why)
-  refusal_answer cause why (unplanned is query asks impossible goes) = absurd (never_refused one catalog asked query cause asks why)
+  refusal_answer : (cause : List ℕ) → IsRefused catalog choices.options asked cause → IsAnswer catalog choices asked status text → IsRefusal status
+  refusal_answer cause why (planned is query asks plan is_plan goes) = absurd (never_refused one catalog choices.options asked query cause asks why)
+  refusal_answer cause why (unplanned is query asks impossible goes) = absurd (never_refused one catalog choices.options asked query cause asks why)
   refusal_answer cause why (refused is other why_too line) = subst IsRefusal (sym is) tt
 
 -- files that ask for a query are answered where no count rose
@@ -103,7 +103,7 @@ completed one named held reads_before reads_after old new before after status en
     by_status status (subst (λ n. Ends (IsRun n held reads_before reads_after) old new before after status) is ends)
   where
     settled : (s : Status) (text : List ℕ) → IsEnding command held reads_before reads_after s text → IsSettled s
-    settled s text ending = settled_answer one q.catalog command.memo q.text s text q.query q.asks (answer_of command held q.catalog q.text q.holds reads_before reads_after s text no_read ending)
+    settled s text ending = settled_answer one q.catalog command.choices q.text s text q.query q.asks (answer_of command held q.catalog q.text q.holds reads_before reads_after s text no_read ending)
 
     by_status : (s : Status) → Ends (IsRun (Some command) held reads_before reads_after) old new before after s → IsSettled s
     by_status Planned e = tt
@@ -123,7 +123,7 @@ refused_there one named held reads_before reads_after old new before after statu
     by_status status (subst (λ n. Ends (IsRun n held reads_before reads_after) old new before after status) is ends)
   where
     refusal : (s : Status) (text : List ℕ) → IsEnding command held reads_before reads_after s text → IsRefusal s
-    refusal s text ending = refusal_answer one r.catalog command.memo r.text s text r.cause r.refused (answer_of command held r.catalog r.text r.holds reads_before reads_after s text no_read ending)
+    refusal s text ending = refusal_answer one r.catalog command.choices r.text s text r.cause r.refused (answer_of command held r.catalog r.text r.holds reads_before reads_after s text no_read ending)
 
     by_status : (s : Status) → Ends (IsRun (Some command) held reads_before reads_after) old new before after s → IsRefusal s
     by_status Planned e = refusal Planned e.0 e.1

@@ -8,4 +8,9 @@ pub mod Stages
 pub mod Puts
 pub mod Causes
 pub mod Outcomes
-pub mod Commands
+pub mod RuleNames
+pub mod OffSets
+pub mod RulesOff
+pub mod Drafts
+pub mod FirstPieces
+pub mod Spelling

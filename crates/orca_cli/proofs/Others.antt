@@ -1,8 +1,8 @@
 -- The statuses with which no run over two files ends.
-use Rattle.std.proofs.Common.{ℕ, List, Option, subst, Bool}
+use Rattle.std.proofs.Common.{ℕ, List, Option, subst}
 use Rattle.std.specs.Bool.{⊤}
 use Rattle.query_core.specs.declared.catalog.Catalog.{Catalog}
-use Rattle.orca_cli.specs.Command.{PlanCommand}
+use Rattle.orca_cli.specs.Command.{PlanChoices, PlanCommand}
 use Rattle.orca_cli.specs.Run.{IsAnswer, planned, unplanned, refused, IsEnding, answered, catalog_refused, catalog_unread, query_unread}
 use Rattle.orca_cli.specs.declared.status.Status.{Status}
 use Rattle.orca_cli.specs.declared.status.Status.TheVariants.{Planned, NoPlan, Usage, QueryRefused, CatalogRefused, TooManyEntries, ReadFault, WriteFault, Memory}
@@ -19,14 +19,14 @@ IsOther ReadFault = ⊥
 IsOther WriteFault = ⊤
 IsOther Memory = ⊤
 
-never_answer : (catalog : Catalog) (memo : Bool) (asked : List ℕ) (status : Status) (text : List ℕ) → IsAnswer catalog memo asked status text → IsOther status → ⊥
-never_answer catalog memo asked status text (planned is query asks plan is_plan goes) other = subst IsOther is other
-never_answer catalog memo asked status text (unplanned is query asks impossible goes) other = subst IsOther is other
-never_answer catalog memo asked status text (refused is cause why line) other = subst IsOther is other
+never_answer : (catalog : Catalog) (choices : PlanChoices) (asked : List ℕ) (status : Status) (text : List ℕ) → IsAnswer catalog choices asked status text → IsOther status → ⊥
+never_answer catalog choices asked status text (planned is query asks plan is_plan goes) other = subst IsOther is other
+never_answer catalog choices asked status text (unplanned is query asks impossible goes) other = subst IsOther is other
+never_answer catalog choices asked status text (refused is cause why line) other = subst IsOther is other
 
 -- files decide with other statuses than these
 pub never : (command : PlanCommand) (held : List ℕ → Option (List ℕ)) (before after : List ℕ → ℕ) (status : Status) (text : List ℕ) → IsEnding command held before after status text → IsOther status → ⊥
-never command held before after status text (answered catalog offers is) other = never_answer catalog command.memo is.asked status text is.answer other
+never command held before after status text (answered catalog offers is) other = never_answer catalog command.choices is.asked status text is.answer other
 never command held before after status text (catalog_refused is no_catalog) other = subst IsOther is other
 never command held before after status text (catalog_unread is fault) other = subst IsOther is other
 never command held before after status text (query_unread is catalog offers fault) other = subst IsOther is other

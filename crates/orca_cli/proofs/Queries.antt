@@ -1,7 +1,5 @@
 -- Queries with the same parts are the same.
-use Rattle.std.proofs.Common.{◌≡◌, ◌≤◌, List, length, sym, ◌∙◌, subst}
-use Rattle.std.specs.Prelude.{IsTrue, ◌==◌}
-use Rattle.std.specs.List.{list_all}
+use Rattle.std.proofs.Common.{◌≡◌, ◌≤◌, List, sym, ◌∙◌, subst}
 use Rattle.std.proofs.Props.{props}
 use mathlib.Core.HLevel.{is_prop→PathP}
 use Rattle.query_core.specs.Tables.{AreTables}
@@ -77,10 +75,7 @@ alike_of parts catalog options q r is again = record {
 
 -- a query like one of the kind that is planned is of that kind
 pub built_again : (q r : Query) → AreAlike q r → IsBuilt q → IsBuilt r
-built_again q r same built = record {
-  not_grouped = sym same.grouped ∙ built.not_grouped;
-  no_index = subst (λ tables. IsTrue (list_all (λ table. length table.indexes == 0) tables)) same.tables built.no_index;
-}
+built_again q r same built = record { not_grouped = sym same.grouped ∙ built.not_grouped }
 
 -- what the layer of bound queries promises: the links are determined by the tables, the items and the predicates
 abbrev pub OneLinks : Type 0

@@ -1,5 +1,5 @@
 -- How the ending of a stage of a run is the ending of the stage around it.
-use Rattle.std.proofs.Common.{◌≡◌, ◌≢◌, ℕ, Bool, ◌<◌, ◌≤◌, List, [], ◌∷◌, ◌++◌, length, map, flat_map, Option, None, Some, Result, Ok, Err, IfOk, String, Global, string_bytes, ◌+◌, ◌^◌, refl, sym, subst, ap, ◌∙◌, inl, inr, arith}
+use Rattle.std.proofs.Common.{◌≡◌, ◌≢◌, ℕ, ◌<◌, ◌≤◌, List, [], ◌∷◌, ◌++◌, length, map, flat_map, Option, None, Some, Result, Ok, Err, IfOk, String, Global, string_bytes, ◌+◌, ◌^◌, refl, sym, subst, ap, ◌∙◌, inl, inr, arith}
 use Rattle.std.specs.List.{concat}
 use Rattle.std.specs.Prelude.{replicate}
 use Rattle.std.proofs.lemmas.List.{length-replicate}
@@ -29,7 +29,7 @@ use Rattle.plan_report.specs.Lines.{texts_of}
 use Rattle.orca_cli.specs.Asked.{IsNoCatalog, IsBoundAs, IsBuilt, Asks, IsUnread, IsUnbound, IsUnbuilt, IsUnnumbered, IsRefused}
 use Rattle.orca_cli.specs.Views.{EndsAs, text_of}
 use Rattle.orca_cli.specs.declared.ending.Ending.{Ending}
-use Rattle.orca_cli.specs.Command.{PlanCommand}
+use Rattle.orca_cli.specs.Command.{PlanChoices, PlanCommand}
 use Rattle.orca_cli.specs.Reading.{AreHeld}
 use Rattle.orca_cli.specs.Texts as texts
 use Rattle.orca_cli.specs.Run.{AreTold, Offers, GoesOn, IsAnswer, planned, unplanned, refused, IsReadFault, IsEnding, answered, catalog_refused, query_unread}
@@ -65,50 +65,50 @@ pub as_ended : (P : Status → List ℕ → Type 0) (ending : Ending) (status : 
 as_ended P ending status text is fact = subst (λ s. P s (text_of ending)) (sym is.status) (subst (λ t. P status t) (sym is.text) fact)
 
 -- the plan of the query that is asked for, and the memo where it is asked for
-pub plan_answer : (catalog : Catalog) (memo : Bool) (asked : List ℕ) (query : Query) (status : Status) (front text : List ℕ) → Asks catalog asked query → IsPlanOf query status front → GoesOn memo query front text
-    → IsAnswer catalog memo asked status text
-plan_answer catalog memo asked query status front text asks (stages.least is plan) goes = planned is query asks front plan goes
-plan_answer catalog memo asked query status front text asks (stages.none is impossible line) goes =
-    unplanned is query asks impossible (subst (λ line. GoesOn memo query line text) line goes)
+pub plan_answer : (catalog : Catalog) (choices : PlanChoices) (asked : List ℕ) (query : Query) (status : Status) (front text : List ℕ) → Asks catalog choices.options asked query → IsPlanOf query status front → GoesOn choices.memo query front text
+    → IsAnswer catalog choices asked status text
+plan_answer catalog choices asked query status front text asks (stages.least is plan) goes = planned is query asks front plan goes
+plan_answer catalog choices asked query status front text asks (stages.none is impossible line) goes =
+    unplanned is query asks impossible (subst (λ line. GoesOn choices.memo query line text) line goes)
 
 -- the ending with the section that is asked for behind it
-pub followed_answer : (catalog : Catalog) (memo : Bool) (asked : List ℕ) (query : Query) (front made : Ending) → Asks catalog asked query → IsPlanOf query front.status (text_of front)
-    → made.status ≡ front.status → GoesOn memo query (text_of front) (text_of made) → IsAnswer catalog memo asked made.status (text_of made)
-followed_answer catalog memo asked query front made asks plan same goes =
-    plan_answer catalog memo asked query made.status (text_of front) (text_of made) asks (subst (λ s. IsPlanOf query s (text_of front)) (sym same) plan) goes
+pub followed_answer : (catalog : Catalog) (choices : PlanChoices) (asked : List ℕ) (query : Query) (front made : Ending) → Asks catalog choices.options asked query → IsPlanOf query front.status (text_of front)
+    → made.status ≡ front.status → GoesOn choices.memo query (text_of front) (text_of made) → IsAnswer catalog choices asked made.status (text_of made)
+followed_answer catalog choices asked query front made asks plan same goes =
+    plan_answer catalog choices asked query made.status (text_of front) (text_of made) asks (subst (λ s. IsPlanOf query s (text_of front)) (sym same) plan) goes
 
 -- a query that is refused for the cause that the line gives
-pub refused_answer : (catalog : Catalog) (memo : Bool) (asked cause given : List ℕ) (ending : Ending) → IsRefused catalog asked cause → given ≡ cause → EndsAs ending QueryRefused (texts.query_refused given)
-    → IsAnswer catalog memo asked ending.status (text_of ending)
-refused_answer catalog memo asked cause given ending why same is = refused is.status cause why (is.text ∙ ap texts.query_refused same)
+pub refused_answer : (catalog : Catalog) (choices : PlanChoices) (asked cause given : List ℕ) (ending : Ending) → IsRefused catalog choices.options asked cause → given ≡ cause → EndsAs ending QueryRefused (texts.query_refused given)
+    → IsAnswer catalog choices asked ending.status (text_of ending)
+refused_answer catalog choices asked cause given ending why same is = refused is.status cause why (is.text ∙ ap texts.query_refused same)
 
 -- a query that is bound and not of the kind that is planned
-pub unbuilt_answer : (catalog : Catalog) (memo : Bool) (asked : List ℕ) (query : Query) (ending : Ending) → IsBoundAs catalog asked query → (IsBuilt query → ⊥) → EndsAs ending QueryRefused (texts.query_refused texts.not_built)
-    → IsAnswer catalog memo asked ending.status (text_of ending)
-unbuilt_answer catalog memo asked query ending bound unbuilt is =
-    let why : IsUnbuilt catalog asked texts.not_built = record { query = query; bound = bound; unbuilt = unbuilt; caused = refl } in
-    refused_answer catalog memo asked texts.not_built texts.not_built ending (inr (inr (inl why))) refl is
+pub unbuilt_answer : (catalog : Catalog) (choices : PlanChoices) (asked : List ℕ) (query : Query) (ending : Ending) → IsBoundAs catalog choices.options asked query → (IsBuilt query → ⊥) → EndsAs ending QueryRefused (texts.query_refused texts.not_built)
+    → IsAnswer catalog choices asked ending.status (text_of ending)
+unbuilt_answer catalog choices asked query ending bound unbuilt is =
+    let why : IsUnbuilt catalog choices.options asked texts.not_built = record { query = query; bound = bound; unbuilt = unbuilt; caused = refl } in
+    refused_answer catalog choices asked texts.not_built texts.not_built ending (inr (inr (inl why))) refl is
 
 -- a query of this kind with too many hashed lists or orders
-pub unnumbered_answer : (catalog : Catalog) (memo : Bool) (asked given : List ℕ) (query : Query) (fault : PropsFault) (ending : Ending) → IsBoundAs catalog asked query → IsBuilt query → IsRefusedFor query fault → fault ≢ limits.Memory
-    → given ≡ texts.props_cause fault → EndsAs ending QueryRefused (texts.query_refused given) → IsAnswer catalog memo asked ending.status (text_of ending)
-unnumbered_answer catalog memo asked given query fault ending bound built too_many not_memory same is =
-    let why : IsUnnumbered catalog asked (texts.props_cause fault) = record { query = query; bound = bound; built = built; fault = fault; too_many = too_many; not_memory = not_memory; caused = refl } in
-    refused_answer catalog memo asked (texts.props_cause fault) given ending (inr (inr (inr why))) same is
+pub unnumbered_answer : (catalog : Catalog) (choices : PlanChoices) (asked given : List ℕ) (query : Query) (fault : PropsFault) (ending : Ending) → IsBoundAs catalog choices.options asked query → IsBuilt query → IsRefusedFor query fault → fault ≢ limits.Memory
+    → given ≡ texts.props_cause fault → EndsAs ending QueryRefused (texts.query_refused given) → IsAnswer catalog choices asked ending.status (text_of ending)
+unnumbered_answer catalog choices asked given query fault ending bound built too_many not_memory same is =
+    let why : IsUnnumbered catalog choices.options asked (texts.props_cause fault) = record { query = query; bound = bound; built = built; fault = fault; too_many = too_many; not_memory = not_memory; caused = refl } in
+    refused_answer catalog choices asked (texts.props_cause fault) given ending (inr (inr (inr why))) same is
 
 -- a select whose names can't be bound
-pub unbound_answer : (catalog : Catalog) (memo : Bool) (asked given : List ℕ) (select : Select) (fault : BindFault) (ending : Ending) → IsReading asked select → binding select catalog ≡ Err fault → fault ≢ names.Memory
-    → given ≡ texts.bind_cause fault → EndsAs ending QueryRefused (texts.query_refused given) → IsAnswer catalog memo asked ending.status (text_of ending)
-unbound_answer catalog memo asked given select fault ending reading first not_memory same is =
+pub unbound_answer : (catalog : Catalog) (choices : PlanChoices) (asked given : List ℕ) (select : Select) (fault : BindFault) (ending : Ending) → IsReading asked select → binding select catalog ≡ Err fault → fault ≢ names.Memory
+    → given ≡ texts.bind_cause fault → EndsAs ending QueryRefused (texts.query_refused given) → IsAnswer catalog choices asked ending.status (text_of ending)
+unbound_answer catalog choices asked given select fault ending reading first not_memory same is =
     let why : IsUnbound catalog asked (texts.bind_cause fault) = record { select = select; reading = reading; fault = fault; first = first; not_memory = not_memory; caused = refl } in
-    refused_answer catalog memo asked (texts.bind_cause fault) given ending (inr (inl why)) same is
+    refused_answer catalog choices asked (texts.bind_cause fault) given ending (inr (inl why)) same is
 
 -- a text that is no select
-pub unread_answer : (catalog : Catalog) (memo : Bool) (asked given : List ℕ) (fault : SqlFault) (ending : Ending) → IsFirst asked fault → given ≡ texts.sql_cause fault → EndsAs ending QueryRefused (texts.query_refused given)
-    → IsAnswer catalog memo asked ending.status (text_of ending)
-unread_answer catalog memo asked given fault ending first same is =
+pub unread_answer : (catalog : Catalog) (choices : PlanChoices) (asked given : List ℕ) (fault : SqlFault) (ending : Ending) → IsFirst asked fault → given ≡ texts.sql_cause fault → EndsAs ending QueryRefused (texts.query_refused given)
+    → IsAnswer catalog choices asked ending.status (text_of ending)
+unread_answer catalog choices asked given fault ending first same is =
     let why : IsUnread asked (texts.sql_cause fault) = record { fault = fault; first = first; caused = refl } in
-    refused_answer catalog memo asked (texts.sql_cause fault) given ending (inl why) same is
+    refused_answer catalog choices asked (texts.sql_cause fault) given ending (inl why) same is
 
 -- ---- what a shelf tells
 
@@ -133,18 +133,18 @@ exceeding (Some content) limit exceeds = record { bytes = content; told = refl; 
 -- ---- the query's file
 
 -- the answer to the bytes that were read
-pub answer_read : (catalog : Catalog) (memo : Bool) (name : List ℕ) (held : Option (List ℕ)) (before after : List ℕ → ℕ) (limit : ℕ) (bytes : List ℕ) (status : Status) (text : List ℕ)
-    → AreHeld held limit bytes → IsAnswer catalog memo bytes status text → IsEndingAt catalog memo name held before after status text
-answer_read catalog memo name held before after limit bytes status text are is = stages.answered (record { asked = bytes; told = are.told; answer = is })
+pub answer_read : (catalog : Catalog) (choices : PlanChoices) (name : List ℕ) (held : Option (List ℕ)) (before after : List ℕ → ℕ) (limit : ℕ) (bytes : List ℕ) (status : Status) (text : List ℕ)
+    → AreHeld held limit bytes → IsAnswer catalog choices bytes status text → IsEndingAt catalog choices name held before after status text
+answer_read catalog choices name held before after limit bytes status text are is = stages.answered (record { asked = bytes; told = are.told; answer = is })
 
 -- a text over the limit is refused as too long
-pub long_query : (catalog : Catalog) (memo : Bool) (name : List ℕ) (held : Option (List ℕ)) (before after : List ℕ → ℕ) (ending : Ending)
+pub long_query : (catalog : Catalog) (choices : PlanChoices) (name : List ℕ) (held : Option (List ℕ)) (before after : List ℕ → ℕ) (ending : Ending)
     → ((bytes : List ℕ) → 2 ^ 16 < length bytes → IsFirst bytes selects.TooLong) → Exceeds held 65536
     → EndsAs ending QueryRefused (texts.query_refused (texts.sql_cause selects.TooLong))
-    → IsEndingAt catalog memo name held before after ending.status (text_of ending)
-long_query catalog memo name held before after ending first exceeds is =
+    → IsEndingAt catalog choices name held before after ending.status (text_of ending)
+long_query catalog choices name held before after ending first exceeds is =
     let long = exceeding held 65536 exceeds in
-    let answer = unread_answer catalog memo long.bytes (texts.sql_cause selects.TooLong) selects.TooLong ending (first long.bytes long.long) refl is in
+    let answer = unread_answer catalog choices long.bytes (texts.sql_cause selects.TooLong) selects.TooLong ending (first long.bytes long.long) refl is in
     stages.answered (record { asked = long.bytes; told = long.told; answer = answer })
 
 -- ---- the catalogue's file
@@ -164,9 +164,9 @@ long_catalog command held before after ending exceeds is =
     catalog_refused is.status (record { bytes = long.bytes; told = long.told; cause = texts.catalog_cause catalogs.TooLong; no_catalog = none; line = is.text })
 
 -- bytes that are no catalogue, for the cause that the line gives
-pub refused_over : (bytes : List ℕ) (memo : Bool) (name given : List ℕ) (held : Option (List ℕ)) (before after : List ℕ → ℕ) (fault : CatalogFault) (ending : Ending) → CatalogReads bytes (Err fault) → fault ≢ catalogs.Memory
-    → given ≡ texts.catalog_cause fault → EndsAs ending CatalogRefused (texts.catalog_refused given) → IsEndingOver bytes memo name held before after ending.status (text_of ending)
-refused_over bytes memo name given held before after fault ending reads not_memory same is =
+pub refused_over : (bytes : List ℕ) (choices : PlanChoices) (name given : List ℕ) (held : Option (List ℕ)) (before after : List ℕ → ℕ) (fault : CatalogFault) (ending : Ending) → CatalogReads bytes (Err fault) → fault ≢ catalogs.Memory
+    → given ≡ texts.catalog_cause fault → EndsAs ending CatalogRefused (texts.catalog_refused given) → IsEndingOver bytes choices name held before after ending.status (text_of ending)
+refused_over bytes choices name given held before after fault ending reads not_memory same is =
     let none : IsNoCatalog bytes (texts.catalog_cause fault) = record { fault = fault; first = sym (reads (λ e. not_memory cc)); not_memory = not_memory; caused = refl } in
     stages.refused is.status (texts.catalog_cause fault) none (is.text ∙ ap texts.catalog_refused same)
 
@@ -179,14 +179,14 @@ fault_since name before middle after text later fault = record { rose = rose_sin
 
 -- an ending over the catalogue that the bytes under a name say
 over_offer : (command : PlanCommand) (held : List ℕ → Option (List ℕ)) (before middle after : List ℕ → ℕ) (catalog : Catalog) (status : Status) (text : List ℕ)
-    → Offers (held command.files.catalog) catalog → ((n : List ℕ) → before n ≤ middle n) → IsEndingAt catalog command.memo command.files.query (held command.files.query) middle after status text
+    → Offers (held command.files.catalog) catalog → ((n : List ℕ) → before n ≤ middle n) → IsEndingAt catalog command.choices command.files.query (held command.files.query) middle after status text
     → IsEnding command held before after status text
 over_offer command held before middle after catalog status text offers later (stages.answered is) = answered catalog offers is
 over_offer command held before middle after catalog status text offers later (stages.unread is fault) = query_unread is catalog offers (fault_since command.files.query before middle after text later fault)
 
 -- an ending over the catalogue's bytes that were read, after the first file
 pub over_files : (command : PlanCommand) (held : List ℕ → Option (List ℕ)) (before middle after : List ℕ → ℕ) (limit : ℕ) (bytes : List ℕ) (status : Status) (text : List ℕ)
-    → AreHeld (held command.files.catalog) limit bytes → ((n : List ℕ) → before n ≤ middle n) → IsEndingOver bytes command.memo command.files.query (held command.files.query) middle after status text
+    → AreHeld (held command.files.catalog) limit bytes → ((n : List ℕ) → before n ≤ middle n) → IsEndingOver bytes command.choices command.files.query (held command.files.query) middle after status text
     → IsEnding command held before after status text
 over_files command held before middle after limit bytes status text are later (stages.over catalog says is) =
     over_offer command held before middle after catalog status text (record { bytes = bytes; told = are.told; says = says }) later is
@@ -194,6 +194,6 @@ over_files command held before middle after limit bytes status text are later (s
     catalog_refused is (record { bytes = bytes; told = are.told; cause = cause; no_catalog = none; line = line })
 
 -- what a shelf tells of the query's file stays the same
-pub retold_over : (bytes : List ℕ) (memo : Bool) (name : List ℕ) (held told : Option (List ℕ)) (before after : List ℕ → ℕ) (status : Status) (text : List ℕ) → told ≡ held
-    → IsEndingOver bytes memo name told before after status text → IsEndingOver bytes memo name held before after status text
-retold_over bytes memo name held told before after status text same is = subst (λ content. IsEndingOver bytes memo name content before after status text) same is
+pub retold_over : (bytes : List ℕ) (choices : PlanChoices) (name : List ℕ) (held told : Option (List ℕ)) (before after : List ℕ → ℕ) (status : Status) (text : List ℕ) → told ≡ held
+    → IsEndingOver bytes choices name told before after status text → IsEndingOver bytes choices name held before after status text
+retold_over bytes choices name held told before after status text same is = subst (λ content. IsEndingOver bytes choices name content before after status text) same is

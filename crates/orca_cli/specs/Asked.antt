@@ -1,6 +1,5 @@
 -- What a text asks for over a catalogue: a query that is planned, or the cause why it is refused.
-use Rattle.std.specs.Prelude.{ℕ, false, List, ◌≡◌, ◌≢◌, ◌≤◌, ◌==◌, ◌⊎◌, length, IsTrue, Ok, Err}
-use Rattle.std.specs.List.{list_all}
+use Rattle.std.specs.Prelude.{ℕ, false, List, ◌≡◌, ◌≢◌, ◌≤◌, ◌⊎◌, length, Ok, Err}
 use Rattle.catalog_json.specs.Outcome.{reading_of}
 use Rattle.catalog_json.specs.declared.fault.CatalogFault.{CatalogFault}
 use Rattle.catalog_json.specs.declared.fault.CatalogFault.TheVariants as catalogs
@@ -12,7 +11,6 @@ use Rattle.sql_bind.specs.declared.fault.BindFault.{BindFault}
 use Rattle.sql_bind.specs.declared.fault.BindFault.TheVariants as names
 use Rattle.query_core.specs.declared.catalog.Catalog.{Catalog}
 use Rattle.query_core.specs.declared.options.Options.{Options}
-use Rattle.query_core.specs.declared.options.RootDist.TheVariants.{One}
 use Rattle.query_core.specs.declared.query.Query.{Query}
 use Rattle.request_props.specs.Numbered.{lists_of, orders_of, IsRefusedFor}
 use Rattle.request_props.specs.declared.fault.PropsFault.{PropsFault}
@@ -34,20 +32,15 @@ pub record IsNoCatalog (bytes cause : List ℕ) : Type 0 where
 
 -- ---- the query
 
--- the result at one place, and all rules on
-abbrev pub plain_options : Options
-plain_options = record { root = One; off = 0 }
-
--- the text is read as a select, which is bound to this query
-pub record IsBoundAs (catalog : Catalog) (text : List ℕ) (query : Query) : Type 0 where
+-- the text is read as a select, which is bound to this query with the options
+pub record IsBoundAs (catalog : Catalog) (options : Options) (text : List ℕ) (query : Query) : Type 0 where
   pub select : Select
   pub reading : IsReading text select
-  pub bound : IsBound select catalog plain_options query
+  pub bound : IsBound select catalog options query
 
--- the query is of the kind that is planned: it has no grouping, and none of its tables has an index
+-- the query is of the kind that is planned: it has no grouping
 pub record IsBuilt (query : Query) : Type 0 where
   pub not_grouped : query.grouped ≡ false
-  pub no_index : IsTrue (list_all (λ table. length table.indexes == 0) query.tables)
 
 -- the query has at most 60 hashed lists and at most 60 orders
 pub record IsWithinLimits (query : Query) : Type 0 where
@@ -55,8 +48,8 @@ pub record IsWithinLimits (query : Query) : Type 0 where
   pub few_orders : length (orders_of query) ≤ 60
 
 -- the text asks for this query, and the query is of the kind that is planned and within the limits
-pub record Asks (catalog : Catalog) (text : List ℕ) (query : Query) : Type 0 where
-  pub bound : IsBoundAs catalog text query
+pub record Asks (catalog : Catalog) (options : Options) (text : List ℕ) (query : Query) : Type 0 where
+  pub bound : IsBoundAs catalog options text query
   pub built : IsBuilt query
   pub within : IsWithinLimits query
 
@@ -76,16 +69,16 @@ pub record IsUnbound (catalog : Catalog) (text cause : List ℕ) : Type 0 where
   pub caused : cause ≡ bind_cause fault
 
 -- the text is bound to a query of another kind than that which is planned
-pub record IsUnbuilt (catalog : Catalog) (text cause : List ℕ) : Type 0 where
+pub record IsUnbuilt (catalog : Catalog) (options : Options) (text cause : List ℕ) : Type 0 where
   pub query : Query
-  pub bound : IsBoundAs catalog text query
+  pub bound : IsBoundAs catalog options text query
   pub unbuilt : IsBuilt query → ⊥
   pub caused : cause ≡ not_built
 
 -- the text is bound to a query of the kind that is planned, which has too many hashed lists, or else too many orders, and this is the cause
-pub record IsUnnumbered (catalog : Catalog) (text cause : List ℕ) : Type 0 where
+pub record IsUnnumbered (catalog : Catalog) (options : Options) (text cause : List ℕ) : Type 0 where
   pub query : Query
-  pub bound : IsBoundAs catalog text query
+  pub bound : IsBoundAs catalog options text query
   pub built : IsBuilt query
   pub fault : PropsFault
   pub too_many : IsRefusedFor query fault
@@ -93,5 +86,5 @@ pub record IsUnnumbered (catalog : Catalog) (text cause : List ℕ) : Type 0 whe
   pub caused : cause ≡ props_cause fault
 
 -- the text is refused, and this is the cause
-abbrev pub IsRefused : Catalog → List ℕ → List ℕ → Type 0
-IsRefused catalog text cause = IsUnread text cause ⊎ IsUnbound catalog text cause ⊎ IsUnbuilt catalog text cause ⊎ IsUnnumbered catalog text cause
+abbrev pub IsRefused : Catalog → Options → List ℕ → List ℕ → Type 0
+IsRefused catalog options text cause = IsUnread text cause ⊎ IsUnbound catalog text cause ⊎ IsUnbuilt catalog options text cause ⊎ IsUnnumbered catalog options text cause

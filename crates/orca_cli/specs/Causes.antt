@@ -22,20 +22,20 @@ pub record Holds (files : FileNames) (held : List ℕ → Option (List ℕ)) (ca
   pub text_told : held files.query ≡ Some text
 
 -- the shelf tells a catalogue, and a text that asks for a query over it
-pub record HoldsQuery (files : FileNames) (held : List ℕ → Option (List ℕ)) : Type 0 where
+pub record HoldsQuery (command : PlanCommand) (held : List ℕ → Option (List ℕ)) : Type 0 where
   pub catalog : Catalog
   pub text : List ℕ
-  pub holds : Holds files held catalog text
+  pub holds : Holds command.files held catalog text
   pub query : Query
-  pub asks : Asks catalog text query
+  pub asks : Asks catalog command.choices.options text query
 
 -- the shelf tells a catalogue, and a text that is refused over it
-pub record HoldsRefused (files : FileNames) (held : List ℕ → Option (List ℕ)) : Type 0 where
+pub record HoldsRefused (command : PlanCommand) (held : List ℕ → Option (List ℕ)) : Type 0 where
   pub catalog : Catalog
   pub text : List ℕ
-  pub holds : Holds files held catalog text
+  pub holds : Holds command.files held catalog text
   pub cause : List ℕ
-  pub refused : IsRefused catalog text cause
+  pub refused : IsRefused catalog command.choices.options text cause
 
 -- the run ended with its plan, or without one, or for want of memory
 abbrev pub IsSettled : Status → Type 0
@@ -52,7 +52,7 @@ IsSettled Memory = ⊤
 -- a run over such files, in which neither file's count rose nor the sink's, is answered
 abbrev pub Completes : Option PlanCommand → (List ℕ → Option (List ℕ)) → (List ℕ → ℕ) → (List ℕ → ℕ) → ℕ → ℕ → Status → Type 0
 Completes named held reads_before reads_after before after status =
-    (command : PlanCommand) → named ≡ Some command → HoldsQuery command.files held → (ReadRose (Some command) reads_before reads_after → ⊥) → (Rose before after → ⊥) → IsSettled status
+    (command : PlanCommand) → named ≡ Some command → HoldsQuery command held → (ReadRose (Some command) reads_before reads_after → ⊥) → (Rose before after → ⊥) → IsSettled status
 
 -- the run ended with the query refused, or for want of memory
 abbrev pub IsRefusal : Status → Type 0
@@ -69,4 +69,4 @@ IsRefusal Memory = ⊤
 -- a run over files whose query is refused, in which neither file's count rose nor the sink's, refuses it
 abbrev pub Refuses : Option PlanCommand → (List ℕ → Option (List ℕ)) → (List ℕ → ℕ) → (List ℕ → ℕ) → ℕ → ℕ → Status → Type 0
 Refuses named held reads_before reads_after before after status =
-    (command : PlanCommand) → named ≡ Some command → HoldsRefused command.files held → (ReadRose (Some command) reads_before reads_after → ⊥) → (Rose before after → ⊥) → IsRefusal status
+    (command : PlanCommand) → named ≡ Some command → HoldsRefused command held → (ReadRose (Some command) reads_before reads_after → ⊥) → (Rose before after → ⊥) → IsRefusal status

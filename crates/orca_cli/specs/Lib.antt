@@ -5,6 +5,7 @@ pub mod Texts
 pub mod Asked
 pub mod Run
 pub mod Views
+pub mod Drafts
 pub mod Stages
 pub mod Puts
 pub mod Causes

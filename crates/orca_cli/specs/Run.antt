@@ -13,7 +13,7 @@ use Rattle.plan_space.specs.Nodes.{Tree}
 use Rattle.plan_space.specs.Least.{IsLeastPlan, QueryHasNoPlan}
 use Rattle.plan_report.specs.Text.{plan_section}
 use Rattle.orca_cli.specs.Asked.{SaysCatalog, IsNoCatalog, Asks, IsRefused}
-use Rattle.orca_cli.specs.Command.{PlanCommand}
+use Rattle.orca_cli.specs.Command.{PlanChoices, PlanCommand}
 use Rattle.orca_cli.specs.Texts as texts
 use Rattle.orca_cli.specs.declared.status.Status.{Status}
 use Rattle.orca_cli.specs.declared.status.Status.TheVariants.{Planned, NoPlan, Usage, QueryRefused, CatalogRefused, TooManyEntries, ReadFault, WriteFault, Memory}
@@ -47,11 +47,11 @@ pub record GoesOn (memo : Bool) (query : Query) (front text : List ℕ) : Type 0
   pub is_section : IsSection memo query section
   pub joined : text ≡ front ++ section
 
--- the answer to a query's bytes over a catalogue, with the memo where it is asked for
-pub data IsAnswer (catalog : Catalog) (memo : Bool) (asked : List ℕ) (status : Status) (text : List ℕ) : Type 0 where
-  planned : status ≡ Planned → (query : Query) → Asks catalog asked query → (plan : List ℕ) → IsPlanText query plan → GoesOn memo query plan text → IsAnswer catalog memo asked status text
-  unplanned : status ≡ NoPlan → (query : Query) → Asks catalog asked query → IsImpossible query → GoesOn memo query texts.no_plan text → IsAnswer catalog memo asked status text
-  refused : status ≡ QueryRefused → (cause : List ℕ) → IsRefused catalog asked cause → text ≡ texts.query_refused cause → IsAnswer catalog memo asked status text
+-- the answer to a query's bytes over a catalogue, by what the command chooses
+pub data IsAnswer (catalog : Catalog) (choices : PlanChoices) (asked : List ℕ) (status : Status) (text : List ℕ) : Type 0 where
+  planned : status ≡ Planned → (query : Query) → Asks catalog choices.options asked query → (plan : List ℕ) → IsPlanText query plan → GoesOn choices.memo query plan text → IsAnswer catalog choices asked status text
+  unplanned : status ≡ NoPlan → (query : Query) → Asks catalog choices.options asked query → IsImpossible query → GoesOn choices.memo query texts.no_plan text → IsAnswer catalog choices asked status text
+  refused : status ≡ QueryRefused → (cause : List ℕ) → IsRefused catalog choices.options asked cause → text ≡ texts.query_refused cause → IsAnswer catalog choices asked status text
 
 -- the bytes are those that the shelf tells of, where it tells
 abbrev pub AreTold : Option (List ℕ) → List ℕ → Type 0
@@ -64,10 +64,10 @@ pub record Offers (held : Option (List ℕ)) (catalog : Catalog) : Type 0 where
   pub says : SaysCatalog bytes catalog
 
 -- the answer to the bytes under a name
-pub record IsAnswered (catalog : Catalog) (memo : Bool) (held : Option (List ℕ)) (status : Status) (text : List ℕ) : Type 0 where
+pub record IsAnswered (catalog : Catalog) (choices : PlanChoices) (held : Option (List ℕ)) (status : Status) (text : List ℕ) : Type 0 where
   pub asked : List ℕ
   pub told : AreTold held asked
-  pub answer : IsAnswer catalog memo asked status text
+  pub answer : IsAnswer catalog choices asked status text
 
 -- the bytes under a name are no catalogue, and the text says why
 pub record IsCatalogRefused (held : Option (List ℕ)) (text : List ℕ) : Type 0 where
@@ -84,7 +84,7 @@ pub record IsReadFault (name : List ℕ) (before after : List ℕ → ℕ) (text
 
 -- the status and the text of a command over two files: held is what the shelf tells of each name, before and after are its counts of faults
 pub data IsEnding (command : PlanCommand) (held : List ℕ → Option (List ℕ)) (before after : List ℕ → ℕ) (status : Status) (text : List ℕ) : Type 0 where
-  answered : (catalog : Catalog) → Offers (held command.files.catalog) catalog → IsAnswered catalog command.memo (held command.files.query) status text → IsEnding command held before after status text
+  answered : (catalog : Catalog) → Offers (held command.files.catalog) catalog → IsAnswered catalog command.choices (held command.files.query) status text → IsEnding command held before after status text
   catalog_refused : status ≡ CatalogRefused → IsCatalogRefused (held command.files.catalog) text → IsEnding command held before after status text
   catalog_unread : status ≡ ReadFault → IsReadFault command.files.catalog before after text → IsEnding command held before after status text
   query_unread : status ≡ ReadFault → (catalog : Catalog) → Offers (held command.files.catalog) catalog → IsReadFault command.files.query before after text → IsEnding command held before after status text

@@ -1,8 +1,11 @@
 -- What clauses see of the program's values.
 use Rattle.std.specs.Prelude.{◌≡◌, ℕ, List, flat_map, string_bytes}
-use Rattle.orca_cli.specs.Command.{FileNames, PlanCommand}
+use Rattle.orca_cli.specs.Command.{FileNames, PlanChoices, PlanCommand, Piece, name, memo, root, off}
+use Rattle.orca_cli.specs.declared.command.Choices.{Choices}
 use Rattle.orca_cli.specs.declared.command.Command.{Command}
 use Rattle.orca_cli.specs.declared.command.Files.{Files}
+use Rattle.orca_cli.specs.declared.pieces.Word.{Word}
+use Rattle.orca_cli.specs.declared.pieces.Word.TheVariants as words
 use Rattle.orca_cli.specs.declared.status.Status.{Status}
 use Rattle.orca_cli.specs.declared.ending.Ending.{Ending}
 
@@ -10,9 +13,20 @@ use Rattle.orca_cli.specs.declared.ending.Ending.{Ending}
 abbrev pub file_names : Files → FileNames
 file_names files = record { catalog = files.catalog.now; query = files.query.now }
 
+-- what a command chooses
+abbrev pub plan_choices : Choices → PlanChoices
+plan_choices choices = record { memo = choices.memo; options = choices.options }
+
 -- what a command asks for
 abbrev pub plan_command : Command → PlanCommand
-plan_command command = record { files = file_names command.files; memo = command.memo }
+plan_command command = record { files = file_names command.files; choices = plan_choices command.choices }
+
+-- the piece that was read
+abbrev pub piece : Word → Piece
+piece (words.Name text) = name text.now
+piece words.Memo = memo
+piece (words.Root dist) = root dist
+piece (words.Off set) = off set.bits
 
 -- the text of an ending's lines
 abbrev pub text_of : Ending → List ℕ

@@ -7,14 +7,15 @@ ghost use Rattle.query_core.specs.declared.catalog.Catalog.{Catalog};
 ghost use Rattle.request_props.specs.Numbered.{IsProps};
 ghost use Rattle.orca_cli.specs.Asked.{IsBoundAs, IsBuilt};
 ghost use Rattle.orca_cli.specs.Run.{IsAnswer};
-ghost use Rattle.orca_cli.specs.Views.{text_of};
+ghost use Rattle.orca_cli.specs.Views.{plan_choices, text_of};
 
 use crate::built::is_built;
+use crate::command::Choices;
 use crate::ending::{Ending, refused_query};
 use crate::faults::{bind_fault_text, props_fault_text, sql_fault_text};
 use crate::memo::with_memo;
 use crate::planning::planned;
-use query_core::{Catalog, Options, Query, RootDist};
+use query_core::{Catalog, Query};
 use request_props::Props;
 use sql_bind::bind;
 use sql_reader::{Select, read_sql};
@@ -24,15 +25,16 @@ use std::alloc::{AllocError, Global};
 pub fn answer(
     alloc: Global,
     catalog: &Catalog,
-    memo: bool,
+    choices: Choices,
     text: &[u8],
 ) -> Result<Ending, AllocError>
     requires { IsCatalog catalog.now }
     ensures { IfOk result
-        (λ ending. IsAnswer catalog.now memo text.now ending.status (text_of ending)) }
+        (λ ending. IsAnswer catalog.now (plan_choices choices) text.now
+        ending.status (text_of ending)) }
 {
     match read_sql(alloc, text) {
-        Ok(select) => select_answer(alloc, catalog, memo, &select),
+        Ok(select) => select_answer(alloc, catalog, choices, &select),
         Err(fault) => refused_query(alloc, &sql_fault_text(alloc, fault)?),
     }
 }
@@ -41,44 +43,43 @@ pub fn answer(
 fn select_answer(
     alloc: Global,
     catalog: &Catalog,
-    memo: bool,
+    choices: Choices,
     select: &Select,
 ) -> Result<Ending, AllocError>
     requires catalogue { IsCatalog catalog.now }
     requires readable { IsReadable select.now }
     ensures { (text : List ℕ) → IsReading text select.now → IfOk result
-        (λ ending. IsAnswer catalog.now memo text ending.status (text_of ending)) }
+        (λ ending. IsAnswer catalog.now (plan_choices choices) text
+        ending.status (text_of ending)) }
 {
-    let options = Options {
-        root: RootDist::One,
-        off: 0,
-    };
-    match bind(alloc, select, catalog, options) {
-        Ok(query) => query_answer(alloc, memo, &query),
+    match bind(alloc, select, catalog, choices.options) {
+        Ok(query) => query_answer(alloc, choices, &query),
         Err(fault) => refused_query(alloc, &bind_fault_text(alloc, fault)?),
     }
 }
 
 // The answer to each text that is bound to the query.
-fn query_answer(alloc: Global, memo: bool, query: &Query) -> Result<Ending, AllocError>
-    ensures { (catalog : Catalog) (text : List ℕ) → IsBoundAs catalog text query.now → IfOk result
-        (λ ending. IsAnswer catalog memo text ending.status (text_of ending)) }
+fn query_answer(alloc: Global, choices: Choices, query: &Query) -> Result<Ending, AllocError>
+    ensures { (catalog : Catalog) (text : List ℕ)
+        → IsBoundAs catalog choices.options text query.now → IfOk result
+        (λ ending. IsAnswer catalog (plan_choices choices) text ending.status (text_of ending)) }
 {
     if is_built(query) {
-        built_answer(alloc, memo, query)
+        built_answer(alloc, choices, query)
     } else {
         refused_query(alloc, "not built")
     }
 }
 
 // The answer to each text that is bound to a query of the kind that is planned.
-fn built_answer(alloc: Global, memo: bool, query: &Query) -> Result<Ending, AllocError>
+fn built_answer(alloc: Global, choices: Choices, query: &Query) -> Result<Ending, AllocError>
     requires { IsBuilt query.now }
-    ensures { (catalog : Catalog) (text : List ℕ) → IsBoundAs catalog text query.now → IfOk result
-        (λ ending. IsAnswer catalog memo text ending.status (text_of ending)) }
+    ensures { (catalog : Catalog) (text : List ℕ)
+        → IsBoundAs catalog choices.options text query.now → IfOk result
+        (λ ending. IsAnswer catalog (plan_choices choices) text ending.status (text_of ending)) }
 {
     match Props::collect(alloc, query) {
-        Ok(props) => numbered_answer(alloc, memo, query, &props),
+        Ok(props) => numbered_answer(alloc, choices, query, &props),
         Err(fault) => refused_query(alloc, &props_fault_text(alloc, fault)?),
     }
 }
@@ -86,15 +87,16 @@ fn built_answer(alloc: Global, memo: bool, query: &Query) -> Result<Ending, Allo
 // The answer to each text that is bound to such a query, whose lists and orders have numbers.
 fn numbered_answer(
     alloc: Global,
-    memo: bool,
+    choices: Choices,
     query: &Query,
     props: &Props,
 ) -> Result<Ending, AllocError>
     requires built { IsBuilt query.now }
     requires props { IsProps query.now props.now }
-    ensures { (catalog : Catalog) (text : List ℕ) → IsBoundAs catalog text query.now → IfOk result
-        (λ ending. IsAnswer catalog memo text ending.status (text_of ending)) }
+    ensures { (catalog : Catalog) (text : List ℕ)
+        → IsBoundAs catalog choices.options text query.now → IfOk result
+        (λ ending. IsAnswer catalog (plan_choices choices) text ending.status (text_of ending)) }
 {
     let ending = planned(alloc, query, props)?;
-    with_memo(alloc, memo, query, ending)
+    with_memo(alloc, choices.memo, query, ending)
 }

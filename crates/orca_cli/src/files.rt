@@ -3,10 +3,10 @@ ghost use Rattle.std.specs.Prelude.{◌≡◌, IfOk};
 ghost use Rattle.catalog_json.specs.Catalog.{IsCatalog};
 ghost use Rattle.orca_cli.specs.Run.{IsEnding};
 ghost use Rattle.orca_cli.specs.Stages.{IsEndingAt, IsEndingOver};
-ghost use Rattle.orca_cli.specs.Views.{text_of, plan_command};
+ghost use Rattle.orca_cli.specs.Views.{text_of, plan_choices, plan_command};
 
 use crate::answer::answer;
-use crate::command::{Command, Files};
+use crate::command::{Choices, Command, Files};
 use crate::ending::{Ending, failed_read, refused_catalog, refused_query};
 use crate::faults::catalog_fault_text;
 use crate::reading::{Read, read_file};
@@ -35,7 +35,7 @@ pub fn run_files<S: Shelf>(
     match read_file(alloc, shelf, catalog, CATALOG_LIMIT)? {
         Read::Failed => failed_read(alloc, catalog),
         Read::TooLong => refused_catalog(alloc, "too long"),
-        Read::Bytes(bytes) => with_bytes(alloc, &bytes, command.memo, query, shelf),
+        Read::Bytes(bytes) => with_bytes(alloc, &bytes, command.choices, query, shelf),
     }
 }
 
@@ -43,16 +43,16 @@ pub fn run_files<S: Shelf>(
 fn with_bytes<S: Shelf>(
     alloc: Global,
     bytes: &[u8],
-    memo: bool,
+    choices: Choices,
     query: &str,
     shelf: &mut S,
 ) -> Result<Ending, AllocError>
-    ensures { IfOk result (λ ending. IsEndingOver bytes.now memo query.now
+    ensures { IfOk result (λ ending. IsEndingOver bytes.now (plan_choices choices) query.now
         (S.held shelf.old query.now)
         (S.faults shelf.old) (S.faults shelf.new) ending.status (text_of ending)) }
 {
     match read_catalog(alloc, bytes) {
-        Ok(catalog) => with_catalog(alloc, &catalog, memo, query, shelf),
+        Ok(catalog) => with_catalog(alloc, &catalog, choices, query, shelf),
         Err(fault) => refused_catalog(alloc, &catalog_fault_text(alloc, &fault)?),
     }
 }
@@ -61,12 +61,12 @@ fn with_bytes<S: Shelf>(
 fn with_catalog<S: Shelf>(
     alloc: Global,
     catalog: &Catalog,
-    memo: bool,
+    choices: Choices,
     query: &str,
     shelf: &mut S,
 ) -> Result<Ending, AllocError>
     requires { IsCatalog catalog.now }
-    ensures { IfOk result (λ ending. IsEndingAt catalog.now memo query.now
+    ensures { IfOk result (λ ending. IsEndingAt catalog.now (plan_choices choices) query.now
         (S.held shelf.old query.now)
         (S.faults shelf.old) (S.faults shelf.new) ending.status (text_of ending)) }
 {
@@ -75,6 +75,6 @@ fn with_catalog<S: Shelf>(
     match read_file(alloc, shelf, query, QUERY_LIMIT)? {
         Read::Failed => failed_read(alloc, query),
         Read::TooLong => refused_query(alloc, "too long"),
-        Read::Bytes(text) => answer(alloc, catalog, memo, &text),
+        Read::Bytes(text) => answer(alloc, catalog, choices, &text),
     }
 }

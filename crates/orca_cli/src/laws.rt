@@ -1,5 +1,5 @@
-//! What follows from how runs end.
-ghost use Rattle.orca_cli.specs.Laws.{OneOutcome};
+//! What follows from how commands are read, and how runs end.
+ghost use Rattle.orca_cli.specs.Laws.{OneOutcome, ReadsWhatIsSpelled, SpellsOne};
 
 use job_trace::members_are_known;
 use plan_search::closure_is_one;
@@ -17,3 +17,10 @@ pub fn one_outcome()
     closure_is_one();
     members_are_known();
 }
+
+/// Words are a command exactly where they spell one: `plan`, and behind it two names and the
+/// options, in whatever order.
+pub fn commands_are_spelled()
+    ensures reads { ReadsWhatIsSpelled }
+    ensures one { SpellsOne }
+{}

@@ -4,18 +4,23 @@
 mod answer;
 mod built;
 mod command;
+mod draft;
 mod ending;
 mod faults;
 mod files;
 mod laws;
 mod memo;
+mod off_rules;
+mod off_set;
+mod pieces;
 mod planning;
 mod reading;
 mod status;
 mod text;
 mod top;
+mod words;
 
-pub use laws::one_outcome;
+pub use laws::{commands_are_spelled, one_outcome};
 pub use status::Status;
 pub use top::{orca_alone, orca_run, put_usage};
 
@@ -23,5 +28,7 @@ pub use top::{orca_alone, orca_run, put_usage};
 mod join_tests;
 #[cfg(test)]
 mod memo_tests;
+#[cfg(test)]
+mod option_tests;
 #[cfg(test)]
 mod tests;

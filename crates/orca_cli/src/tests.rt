@@ -1,7 +1,7 @@
 use super::*;
-use crate::command::read_command;
 use crate::ending::refused_query;
 use crate::faults::props_fault_text;
+use crate::words::read_command;
 use orca_io::{MemShelf, MemSink, NoGate};
 use request_props::PropsFault;
 use std::alloc::{AllocError, Global};
@@ -209,12 +209,9 @@ fn a_refused_query_is_told_with_its_cause(rt: HostRuntime) -> Result<(), Fail> {
 
 #[test]
 fn a_query_of_another_kind_is_not_built(rt: HostRuntime) -> Result<(), Fail> {
-    let indexed =
-        r#"{"version":1,"segments":4,"tables":[{"name":"t","rows":1,"distribution":"random","columns":[{"name":"a","ndv":1}],"indexes":[["a"]]}]}"#;
     for (catalog, query) in [
         (CATALOG, "SELECT COUNT(*) FROM t"),
         (CATALOG, "SELECT a FROM t GROUP BY a"),
-        (indexed, "SELECT a FROM t"),
     ] {
         let (status, line) = cause(&rt, "query refused: ", catalog.as_bytes(), query.as_bytes())?;
         assert_eq!(rt; status, Status::QueryRefused, "{query}");

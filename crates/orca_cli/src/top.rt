@@ -7,11 +7,11 @@ ghost use Rattle.orca_cli.specs.Run.{IsRun, IsUsage, Ends};
 ghost use Rattle.orca_cli.specs.Views.{text_of};
 ghost use Rattle.orca_cli.specs.Puts.{IsPut};
 
-use crate::command::read_command;
 use crate::ending::Ending;
 use crate::files::run_files;
 use crate::status::Status;
 use crate::text::put_lines;
+use crate::words::read_command;
 use orca_io::{Gate, Shelf, Sink};
 use std::alloc::{AllocError, Global};
 use std::sync::Wait;
@@ -38,7 +38,8 @@ pub fn orca_run<R: Threads + Wait + Sync, S: Shelf, K: Sink, G: Gate>(
     // What an answer other than a plan comes from.
     ensures usage { result ≡ Status.Usage → command_of (map string_bytes words.now) ≡ None }
     ensures read_fault { result ≡ Status.ReadFault
-        → ReadRose (command_of (map string_bytes words.now)) (S.faults shelf.old) (S.faults shelf.new) }
+        → ReadRose (command_of (map string_bytes words.now))
+        (S.faults shelf.old) (S.faults shelf.new) }
     ensures write_fault { result ≡ Status.WriteFault → Rose (K.faults out.old) (K.faults out.new) }
 
     // Where nothing failed, a query that is asked for is answered, and a text with a cause of
@@ -70,7 +71,8 @@ pub fn orca_alone<S: Shelf, K: Sink>(
 
     ensures not_usage { result ≡ Status.Usage → ⊥ }
     ensures read_fault { result ≡ Status.ReadFault
-        → ReadRose (command_of (map string_bytes words.now)) (S.faults shelf.old) (S.faults shelf.new) }
+        → ReadRose (command_of (map string_bytes words.now))
+        (S.faults shelf.old) (S.faults shelf.new) }
     ensures write_fault { result ≡ Status.WriteFault → Rose (K.faults out.old) (K.faults out.new) }
 
     // Where nothing failed, a query that is asked for is answered, and a text with a cause of
@@ -91,7 +93,8 @@ pub fn orca_alone<S: Shelf, K: Sink>(
 
 /// Puts the line that says which commands there are, as for words that are none.
 pub fn put_usage<K: Sink>(out: &mut K) -> Status
-    ensures { Ends IsUsage (K.taken out.old) (K.taken out.new) (K.faults out.old) (K.faults out.new) result }
+    ensures { Ends IsUsage (K.taken out.old) (K.taken out.new)
+        (K.faults out.old) (K.faults out.new) result }
 {
     match out.put(USAGE.as_bytes()) {
         Ok(()) => Status::Usage,

@@ -1,12 +1,13 @@
 use Rattle.std.proofs.Common.{◌∙◌}
 use Rattle.orca_cli.specs.Asked.{IsBoundAs}
+use Rattle.orca_cli.specs.Views.{plan_choices}
 use Rattle.orca_cli.proofs.Stages.{IfOk-then, unbound_answer}
 use Rattle.orca_cli.proofs.answer.select_answer.Goals as goal
 
 -- the select is bound, so the text is
 pub returns-in-Ok : goal.returns-in-Ok
 returns-in-Ok c = λ text reading.
-    let bound : IsBoundAs c.args.catalog.now text c.in-Ok.query = record { select = c.args.select.now; reading = reading; bound = c.in-Ok.ensures } in
+    let bound : IsBoundAs c.args.catalog.now c.args.choices.options text c.in-Ok.query = record { select = c.args.select.now; reading = reading; bound = c.in-Ok.ensures } in
     c.query_answer.ensures c.args.catalog.now text bound
 
 -- the line gives the fault of the names
@@ -14,5 +15,5 @@ pub returns-in_ok-bind_fault_text-in-Err : goal.returns-in_ok-bind_fault_text-in
 returns-in_ok-bind_fault_text-in-Err c = λ text reading.
     let not_memory = c.in_ok-bind_fault_text-in-Err.ensures.not_memory in
     IfOk-then _ _ c.refused_query.result
-    (λ ending is. unbound_answer c.args.catalog.now c.args.memo text c.deref.result.now c.args.select.now c.in-Err.fault ending reading (c.in-Err.ensures not_memory) not_memory (c.deref.ensures ∙ c.in_ok-bind_fault_text-in-Err.ensures.text) is)
+    (λ ending is. unbound_answer c.args.catalog.now (plan_choices c.args.choices) text c.deref.result.now c.args.select.now c.in-Err.fault ending reading (c.in-Err.ensures not_memory) not_memory (c.deref.ensures ∙ c.in_ok-bind_fault_text-in-Err.ensures.text) is)
     c.refused_query.ensures
