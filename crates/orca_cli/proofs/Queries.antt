@@ -17,7 +17,6 @@ use Rattle.sql_bind.specs.declared.parts.Parts.{Parts}
 use Rattle.query_core.specs.Grouping.{IsGrouping}
 use Rattle.query_core.specs.Results.{IsOutput, IsOrder, AreOptions}
 use Rattle.query_core.specs.declared.query.Query.{Query}
-use Rattle.orca_cli.specs.Asked.{IsBuilt}
 
 query_same : (q r : Query) → q.segments ≡ r.segments → q.tables ≡ r.tables → q.items ≡ r.items → q.preds ≡ r.preds → q.links ≡ r.links → q.grouped ≡ r.grouped
     → q.group_by ≡ r.group_by → q.aggs ≡ r.aggs → q.output ≡ r.output → q.order ≡ r.order → q.options ≡ r.options → q ≡ r
@@ -72,10 +71,6 @@ alike_of parts catalog options q r is again = record {
   order = is.order ∙ sym again.order;
   options = is.options ∙ sym again.options;
 }
-
--- a query like one of the kind that is planned is of that kind
-pub built_again : (q r : Query) → AreAlike q r → IsBuilt q → IsBuilt r
-built_again q r same built = record { not_grouped = sym same.grouped ∙ built.not_grouped }
 
 -- what the layer of bound queries promises: the links are determined by the tables, the items and the predicates
 abbrev pub OneLinks : Type 0

@@ -7,10 +7,10 @@ use Rattle.sql_reader.specs.Faults.{IsFirst, IsReading}
 use Rattle.sql_reader.specs.declared.faults.SqlFault.{SqlFault}
 use Rattle.sql_reader.specs.declared.syntax.Select.{Select}
 use Rattle.sql_bind.specs.Binding.{binding, IsQueryOf}
-use Rattle.orca_cli.specs.Asked.{IsBoundAs, Asks, IsUnbound, IsUnbuilt, IsUnnumbered, IsRefused}
+use Rattle.orca_cli.specs.Asked.{IsBoundAs, Asks, IsUnbound, IsUnnumbered, IsRefused}
 use Rattle.orca_cli.specs.Texts.{sql_cause, bind_cause, props_cause}
 use Rattle.orca_cli.proofs.Limits.{refused_again, within_limits, one_limit}
-use Rattle.orca_cli.proofs.Queries.{OneLinks, AreAlike, alike_of, alike_same, built_again}
+use Rattle.orca_cli.proofs.Queries.{OneLinks, AreAlike, alike_of, alike_same}
 
 -- what the reader of queries promises: a text has one reading, or one first fault, and never both
 pub record OneReading : Type 0 where
@@ -44,8 +44,7 @@ module _ (one : OneReading) (catalog : Catalog) (options : Options) (text : List
   pub never_refused : (q : Query) (cause : List ℕ) → Asks catalog options text q → IsRefused catalog options text cause → ⊥
   never_refused q cause asks (inl unread) = one.either text asks.bound.select unread.fault asks.bound.reading unread.first
   never_refused q cause asks (inr (inl unbound)) = bound_or_not q cause asks.bound unbound
-  never_refused q cause asks (inr (inr (inl other))) = other.unbuilt (built_again q other.query (alike q other.query asks.bound other.bound) asks.built)
-  never_refused q cause asks (inr (inr (inr many))) =
+  never_refused q cause asks (inr (inr many)) =
       within_limits q many.fault asks.within (refused_again many.query q (alike many.query q many.bound asks.bound) many.fault many.too_many) many.not_memory
 
   -- two faults of the names are the same
@@ -56,10 +55,6 @@ module _ (one : OneReading) (catalog : Catalog) (options : Options) (text : List
       let refused_again : binding again.select catalog ≡ Err again.fault = again.first in
       let fault : is.fault ≡ again.fault = cc in
       is.caused ∙ ap bind_cause fault ∙ sym again.caused
-
-  -- a query that isn't planned isn't refused for its lists or orders
-  built_or_not : (cause other : List ℕ) → IsUnbuilt catalog options text cause → IsUnnumbered catalog options text other → ⊥
-  built_or_not cause other is many = is.unbuilt (built_again many.query is.query (alike many.query is.query many.bound is.bound) many.built)
 
   -- of too many lists or orders one count is told
   one_unnumbered : (cause other : List ℕ) → IsUnnumbered catalog options text cause → IsUnnumbered catalog options text other → cause ≡ other
@@ -72,17 +67,10 @@ module _ (one : OneReading) (catalog : Catalog) (options : Options) (text : List
   pub one_cause : (cause other : List ℕ) → IsRefused catalog options text cause → IsRefused catalog options text other → cause ≡ other
   one_cause cause other (inl is) (inl again) = is.caused ∙ ap sql_cause (one.fault text is.fault again.fault is.first again.first) ∙ sym again.caused
   one_cause cause other (inl is) (inr (inl again)) = absurd (one.either text again.select is.fault again.reading is.first)
-  one_cause cause other (inl is) (inr (inr (inl again))) = absurd (one.either text again.bound.select is.fault again.bound.reading is.first)
-  one_cause cause other (inl is) (inr (inr (inr again))) = absurd (one.either text again.bound.select is.fault again.bound.reading is.first)
+  one_cause cause other (inl is) (inr (inr again)) = absurd (one.either text again.bound.select is.fault again.bound.reading is.first)
   one_cause cause other (inr (inl is)) (inl again) = absurd (one.either text is.select again.fault is.reading again.first)
   one_cause cause other (inr (inl is)) (inr (inl again)) = one_unbound cause other is again
-  one_cause cause other (inr (inl is)) (inr (inr (inl again))) = absurd (bound_or_not again.query cause again.bound is)
-  one_cause cause other (inr (inl is)) (inr (inr (inr again))) = absurd (bound_or_not again.query cause again.bound is)
-  one_cause cause other (inr (inr (inl is))) (inl again) = absurd (one.either text is.bound.select again.fault is.bound.reading again.first)
-  one_cause cause other (inr (inr (inl is))) (inr (inl again)) = absurd (bound_or_not is.query other is.bound again)
-  one_cause cause other (inr (inr (inl is))) (inr (inr (inl again))) = is.caused ∙ sym again.caused
-  one_cause cause other (inr (inr (inl is))) (inr (inr (inr again))) = absurd (built_or_not cause other is again)
-  one_cause cause other (inr (inr (inr is))) (inl again) = absurd (one.either text is.bound.select again.fault is.bound.reading again.first)
-  one_cause cause other (inr (inr (inr is))) (inr (inl again)) = absurd (bound_or_not is.query other is.bound again)
-  one_cause cause other (inr (inr (inr is))) (inr (inr (inl again))) = absurd (built_or_not other cause again is)
-  one_cause cause other (inr (inr (inr is))) (inr (inr (inr again))) = one_unnumbered cause other is again
+  one_cause cause other (inr (inl is)) (inr (inr again)) = absurd (bound_or_not again.query cause again.bound is)
+  one_cause cause other (inr (inr is)) (inl again) = absurd (one.either text is.bound.select again.fault is.bound.reading again.first)
+  one_cause cause other (inr (inr is)) (inr (inl again)) = absurd (bound_or_not is.query other is.bound again)
+  one_cause cause other (inr (inr is)) (inr (inr again)) = one_unnumbered cause other is again

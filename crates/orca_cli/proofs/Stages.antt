@@ -26,7 +26,7 @@ use Rattle.plan_tree.specs.declared.plan.Found.{Found}
 use Rattle.plan_tree.specs.declared.plan.Found.TheVariants as founds
 use Rattle.plan_report.specs.Found.{IsFoundText}
 use Rattle.plan_report.specs.Lines.{texts_of}
-use Rattle.orca_cli.specs.Asked.{IsNoCatalog, IsBoundAs, IsBuilt, Asks, IsUnread, IsUnbound, IsUnbuilt, IsUnnumbered, IsRefused}
+use Rattle.orca_cli.specs.Asked.{IsNoCatalog, IsBoundAs, Asks, IsUnread, IsUnbound, IsUnnumbered, IsRefused}
 use Rattle.orca_cli.specs.Views.{EndsAs, text_of}
 use Rattle.orca_cli.specs.declared.ending.Ending.{Ending}
 use Rattle.orca_cli.specs.Command.{PlanChoices, PlanCommand}
@@ -82,19 +82,12 @@ pub refused_answer : (catalog : Catalog) (choices : PlanChoices) (asked cause gi
     → IsAnswer catalog choices asked ending.status (text_of ending)
 refused_answer catalog choices asked cause given ending why same is = refused is.status cause why (is.text ∙ ap texts.query_refused same)
 
--- a query that is bound and not of the kind that is planned
-pub unbuilt_answer : (catalog : Catalog) (choices : PlanChoices) (asked : List ℕ) (query : Query) (ending : Ending) → IsBoundAs catalog choices.options asked query → (IsBuilt query → ⊥) → EndsAs ending QueryRefused (texts.query_refused texts.not_built)
-    → IsAnswer catalog choices asked ending.status (text_of ending)
-unbuilt_answer catalog choices asked query ending bound unbuilt is =
-    let why : IsUnbuilt catalog choices.options asked texts.not_built = record { query = query; bound = bound; unbuilt = unbuilt; caused = refl } in
-    refused_answer catalog choices asked texts.not_built texts.not_built ending (inr (inr (inl why))) refl is
-
--- a query of this kind with too many hashed lists or orders
-pub unnumbered_answer : (catalog : Catalog) (choices : PlanChoices) (asked given : List ℕ) (query : Query) (fault : PropsFault) (ending : Ending) → IsBoundAs catalog choices.options asked query → IsBuilt query → IsRefusedFor query fault → fault ≢ limits.Memory
+-- a query with too many hashed lists or orders
+pub unnumbered_answer : (catalog : Catalog) (choices : PlanChoices) (asked given : List ℕ) (query : Query) (fault : PropsFault) (ending : Ending) → IsBoundAs catalog choices.options asked query → IsRefusedFor query fault → fault ≢ limits.Memory
     → given ≡ texts.props_cause fault → EndsAs ending QueryRefused (texts.query_refused given) → IsAnswer catalog choices asked ending.status (text_of ending)
-unnumbered_answer catalog choices asked given query fault ending bound built too_many not_memory same is =
-    let why : IsUnnumbered catalog choices.options asked (texts.props_cause fault) = record { query = query; bound = bound; built = built; fault = fault; too_many = too_many; not_memory = not_memory; caused = refl } in
-    refused_answer catalog choices asked (texts.props_cause fault) given ending (inr (inr (inr why))) same is
+unnumbered_answer catalog choices asked given query fault ending bound too_many not_memory same is =
+    let why : IsUnnumbered catalog choices.options asked (texts.props_cause fault) = record { query = query; bound = bound; fault = fault; too_many = too_many; not_memory = not_memory; caused = refl } in
+    refused_answer catalog choices asked (texts.props_cause fault) given ending (inr (inr why)) same is
 
 -- a select whose names can't be bound
 pub unbound_answer : (catalog : Catalog) (choices : PlanChoices) (asked given : List ℕ) (select : Select) (fault : BindFault) (ending : Ending) → IsReading asked select → binding select catalog ≡ Err fault → fault ≢ names.Memory

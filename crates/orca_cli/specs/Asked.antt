@@ -1,5 +1,5 @@
--- What a text asks for over a catalogue: a query that is planned, or the cause why it is refused.
-use Rattle.std.specs.Prelude.{ℕ, false, List, ◌≡◌, ◌≢◌, ◌≤◌, ◌⊎◌, length, Ok, Err}
+-- What a text asks for over a catalogue: a query, or the cause why it is refused.
+use Rattle.std.specs.Prelude.{ℕ, List, ◌≡◌, ◌≢◌, ◌≤◌, ◌⊎◌, length, Ok, Err}
 use Rattle.catalog_json.specs.Outcome.{reading_of}
 use Rattle.catalog_json.specs.declared.fault.CatalogFault.{CatalogFault}
 use Rattle.catalog_json.specs.declared.fault.CatalogFault.TheVariants as catalogs
@@ -15,7 +15,7 @@ use Rattle.query_core.specs.declared.query.Query.{Query}
 use Rattle.request_props.specs.Numbered.{lists_of, orders_of, IsRefusedFor}
 use Rattle.request_props.specs.declared.fault.PropsFault.{PropsFault}
 use Rattle.request_props.specs.declared.fault.PropsFault.TheVariants as limits
-use Rattle.orca_cli.specs.Texts.{catalog_cause, sql_cause, bind_cause, not_built, props_cause}
+use Rattle.orca_cli.specs.Texts.{catalog_cause, sql_cause, bind_cause, props_cause}
 
 -- ---- the catalogue
 
@@ -38,19 +38,14 @@ pub record IsBoundAs (catalog : Catalog) (options : Options) (text : List ℕ) (
   pub reading : IsReading text select
   pub bound : IsBound select catalog options query
 
--- the query is of the kind that is planned: it has no grouping
-pub record IsBuilt (query : Query) : Type 0 where
-  pub not_grouped : query.grouped ≡ false
-
 -- the query has at most 60 hashed lists and at most 60 orders
 pub record IsWithinLimits (query : Query) : Type 0 where
   pub few_lists : length (lists_of query) ≤ 60
   pub few_orders : length (orders_of query) ≤ 60
 
--- the text asks for this query, and the query is of the kind that is planned and within the limits
+-- the text asks for this query, and the query is within the limits
 pub record Asks (catalog : Catalog) (options : Options) (text : List ℕ) (query : Query) : Type 0 where
   pub bound : IsBoundAs catalog options text query
-  pub built : IsBuilt query
   pub within : IsWithinLimits query
 
 -- the text is no select, and this is the cause
@@ -68,18 +63,10 @@ pub record IsUnbound (catalog : Catalog) (text cause : List ℕ) : Type 0 where
   pub not_memory : fault ≢ names.Memory
   pub caused : cause ≡ bind_cause fault
 
--- the text is bound to a query of another kind than that which is planned
-pub record IsUnbuilt (catalog : Catalog) (options : Options) (text cause : List ℕ) : Type 0 where
-  pub query : Query
-  pub bound : IsBoundAs catalog options text query
-  pub unbuilt : IsBuilt query → ⊥
-  pub caused : cause ≡ not_built
-
--- the text is bound to a query of the kind that is planned, which has too many hashed lists, or else too many orders, and this is the cause
+-- the text is bound to a query that has too many hashed lists, or else too many orders, and this is the cause
 pub record IsUnnumbered (catalog : Catalog) (options : Options) (text cause : List ℕ) : Type 0 where
   pub query : Query
   pub bound : IsBoundAs catalog options text query
-  pub built : IsBuilt query
   pub fault : PropsFault
   pub too_many : IsRefusedFor query fault
   pub not_memory : fault ≢ limits.Memory
@@ -87,4 +74,4 @@ pub record IsUnnumbered (catalog : Catalog) (options : Options) (text cause : Li
 
 -- the text is refused, and this is the cause
 abbrev pub IsRefused : Catalog → Options → List ℕ → List ℕ → Type 0
-IsRefused catalog options text cause = IsUnread text cause ⊎ IsUnbound catalog text cause ⊎ IsUnbuilt catalog options text cause ⊎ IsUnnumbered catalog options text cause
+IsRefused catalog options text cause = IsUnread text cause ⊎ IsUnbound catalog text cause ⊎ IsUnnumbered catalog options text cause

@@ -67,10 +67,6 @@ bind_cause (names.NotGrouped at) = codes "not grouped at " ++ decimal at
 bind_cause (names.TooManyItems found) = codes "too many columns: " ++ decimal found
 bind_cause names.Memory = []
 
--- why a query is refused that is of a kind not planned yet
-abbrev pub not_built : List ℕ
-not_built = codes "not built"
-
 -- why the hashed lists and orders of a query have no numbers, with how many there are; want of memory has no line
 abbrev pub props_cause : PropsFault → List ℕ
 props_cause (TooManyLists found) = codes "too many hashed lists: " ++ decimal found

@@ -5,11 +5,10 @@ ghost use Rattle.sql_reader.specs.Faults.{IsReading};
 ghost use Rattle.sql_reader.specs.Readable.{IsReadable};
 ghost use Rattle.query_core.specs.declared.catalog.Catalog.{Catalog};
 ghost use Rattle.request_props.specs.Numbered.{IsProps};
-ghost use Rattle.orca_cli.specs.Asked.{IsBoundAs, IsBuilt};
+ghost use Rattle.orca_cli.specs.Asked.{IsBoundAs};
 ghost use Rattle.orca_cli.specs.Run.{IsAnswer};
 ghost use Rattle.orca_cli.specs.Views.{plan_choices, text_of};
 
-use crate::built::is_built;
 use crate::command::Choices;
 use crate::ending::{Ending, refused_query};
 use crate::faults::{bind_fault_text, props_fault_text, sql_fault_text};
@@ -64,35 +63,20 @@ fn query_answer(alloc: Global, choices: Choices, query: &Query) -> Result<Ending
         → IsBoundAs catalog choices.options text query.now → IfOk result
         (λ ending. IsAnswer catalog (plan_choices choices) text ending.status (text_of ending)) }
 {
-    if is_built(query) {
-        built_answer(alloc, choices, query)
-    } else {
-        refused_query(alloc, "not built")
-    }
-}
-
-// The answer to each text that is bound to a query of the kind that is planned.
-fn built_answer(alloc: Global, choices: Choices, query: &Query) -> Result<Ending, AllocError>
-    requires { IsBuilt query.now }
-    ensures { (catalog : Catalog) (text : List ℕ)
-        → IsBoundAs catalog choices.options text query.now → IfOk result
-        (λ ending. IsAnswer catalog (plan_choices choices) text ending.status (text_of ending)) }
-{
     match Props::collect(alloc, query) {
         Ok(props) => numbered_answer(alloc, choices, query, &props),
         Err(fault) => refused_query(alloc, &props_fault_text(alloc, fault)?),
     }
 }
 
-// The answer to each text that is bound to such a query, whose lists and orders have numbers.
+// The answer to each text that is bound to the query, whose lists and orders have numbers.
 fn numbered_answer(
     alloc: Global,
     choices: Choices,
     query: &Query,
     props: &Props,
 ) -> Result<Ending, AllocError>
-    requires built { IsBuilt query.now }
-    requires props { IsProps query.now props.now }
+    requires { IsProps query.now props.now }
     ensures { (catalog : Catalog) (text : List ℕ)
         → IsBoundAs catalog choices.options text query.now → IfOk result
         (λ ending. IsAnswer catalog (plan_choices choices) text ending.status (text_of ending)) }

@@ -2,7 +2,6 @@
 #![tactic(auto)]
 
 mod answer;
-mod built;
 mod command;
 mod draft;
 mod ending;
@@ -24,6 +23,8 @@ pub use laws::{commands_are_spelled, one_outcome};
 pub use status::Status;
 pub use top::{orca_alone, orca_run, put_usage};
 
+#[cfg(test)]
+mod grouped_tests;
 #[cfg(test)]
 mod join_tests;
 #[cfg(test)]

@@ -1,4 +1,4 @@
-//! The memos of queries that the program doesn't plan yet, by the calls that it makes for those that it plans.
+//! The memos of queries, by the calls that the program makes for them.
 
 use crate::memo::memo_section;
 use catalog_json::read_catalog;

@@ -208,19 +208,6 @@ fn a_refused_query_is_told_with_its_cause(rt: HostRuntime) -> Result<(), Fail> {
 }
 
 #[test]
-fn a_query_of_another_kind_is_not_built(rt: HostRuntime) -> Result<(), Fail> {
-    for (catalog, query) in [
-        (CATALOG, "SELECT COUNT(*) FROM t"),
-        (CATALOG, "SELECT a FROM t GROUP BY a"),
-    ] {
-        let (status, line) = cause(&rt, "query refused: ", catalog.as_bytes(), query.as_bytes())?;
-        assert_eq!(rt; status, Status::QueryRefused, "{query}");
-        assert_eq!(rt; line.as_str(), "not built", "{query}");
-    }
-    Ok(())
-}
-
-#[test]
 fn too_many_lists_or_orders_are_told_with_their_number(rt: HostRuntime) -> Result<(), Fail> {
     for (fault, told) in [
         (

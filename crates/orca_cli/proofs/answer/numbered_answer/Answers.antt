@@ -6,7 +6,7 @@ use Rattle.orca_cli.proofs.answer.numbered_answer.Goals as goal
 -- the query's least plan, or that it has none, and the section behind it
 pub returns : goal.returns
 returns c = λ catalog text bound.
-    let asks : Asks catalog c.args.choices.options text c.args.query.now = record { bound = bound; built = c.requires.built; within = record { few_lists = c.requires.props.few_lists; few_orders = c.requires.props.few_orders } } in
+    let asks : Asks catalog c.args.choices.options text c.args.query.now = record { bound = bound; within = record { few_lists = c.requires.few_lists; few_orders = c.requires.few_orders } } in
     IfOk-both _ _ _ c.with_memo.result
     (λ made same goes. followed_answer catalog (plan_choices c.args.choices) text c.args.query.now c.in_ok-ending.ending made asks c.in_ok-ending.ensures same goes)
     c.with_memo.ensures.status c.with_memo.ensures.text
