@@ -29,7 +29,7 @@ loop-word-preserved c =
     let member : IsMember q c.known_parts.result =
     subst (IsMember q) (c.known_parts.ensures.only found.0 (record { packed = packed found.0 found.1; number = found.3 })) found.1 in
     let group = subst (λ (e : ExprParts). e.group ≡ c.args.group) (c.known_parts.ensures.only found.0 (record { packed = packed found.0 found.1; number = found.3 })) found.2 in
-    made_more q c.args.group c.args.words.now c.requires.ascending (c.modes_are_few.ensures.few q) c.loop-word.word-index c.known_parts.result c.loop-word.list.items _
+    made_more q c.args.group c.args.words.now c.requires.ascending (c.modes_are_few.ensures.few q c.requires.props.few_lists) c.loop-word.word-index c.known_parts.result c.loop-word.list.items _
     c.loop-word-test.true member group (c.expressions_are_one.ensures.small c.known_parts.result (packed c.known_parts.result member)) c.known_parts.ensures.has.number
     (λ f is same. c.expressions_are_one.ensures.expressions f c.known_parts.result (packed f is) (packed c.known_parts.result member) same) c.loop-word.invariant c.in_ok-push_modes.ensures
 
