@@ -44,7 +44,7 @@ fn prints_the_least_plan_of_each_grouping(rt: HostRuntime) -> Result<(), Fail> {
 fn the_one_row_of_an_aggregate_is_never_spread(rt: HostRuntime) -> Result<(), Fail> {
     let words = ["plan", "c.json", "q.sql", "--root", "spread"];
     let (status, sink) = answered(&rt, &words, RANDOM.as_bytes(), b"SELECT COUNT(*) FROM t")?;
-    assert_eq!(rt; sink.taken(), b"no plan\n");
+    assert_eq!(rt; sink.taken(), b"no plan\n".as_slice());
     assert_eq!(rt; status, Status::NoPlan);
     Ok(())
 }
