@@ -27,8 +27,9 @@ use Rattle.plan_search.specs.declared.answers.Answers.{Answers}
 use Rattle.plan_search.specs.declared.choice.Choice.{Choice}
 use Rattle.plan_search.specs.declared.physical.Physical.{Physical}
 use Rattle.plan_search.specs.Places.{dist_place, request_place, place_of}
-use Rattle.plan_search.specs.Search.{kept_at, IsKept, IsAnswerFor, answer_at, AreAnswered, IsBest, IsBestSoFar, GoesOverEnforcers, GoesOverAll, AreEnforcersSettled, AreListed, AreSettledIn, HasMode}
+use Rattle.plan_search.specs.Search.{kept_at, IsKept, IsAnswerFor, answer_at, AreAnswered, IsBest, IsBestSoFar, GoesOverEnforcers, GoesOverAll, AreEnforcersSettled, AreListedFor, AreSettledIn, HasMode}
 use Rattle.plan_search.proofs.Bounds.{request_small}
+use Rattle.plan_search.proofs.Able.{serves_gives}
 use Rattle.plan_search.proofs.Standing.{stands_on, built_stands}
 use Rattle.plan_search.proofs.Scanning.{IsStable, goes_on, enforcer_stable}
 
@@ -50,7 +51,7 @@ module _ (q : Query) (answers : Answers) (group : KeyParts) (wanted : Request) w
       subst (λ f. IsModeSettled (IsMember q) q wanted f mode best) is_expr (subst (λ m. IsModeSettled (IsMember q) q wanted p.expr m best) is_mode (settled p among))
 
   -- once all nodes are offered, the best is the least plan, and where there is none there is no plan
-  pub best_is_answer : (list : List Physical) (some all : Option Choice) → SettledIsLeast q → Fits q group wanted → AreListed q group list
+  pub best_is_answer : (list : List Physical) (some all : Option Choice) → SettledIsLeast q → Fits q group wanted → AreListedFor q group wanted.dist list
       → GoesOverEnforcers q answers group wanted None some → GoesOverAll q answers group wanted list some all
       → IsBest q answers group wanted all
   best_is_answer list some all least fits listed first second =
@@ -62,7 +63,7 @@ module _ (q : Query) (answers : Answers) (group : KeyParts) (wanted : Request) w
           best_serves = best_serves all best both.1.is_best;
           enforcers = both.1.done.0;
           members = λ e mode member of_group line alternative.
-              settled_at list best e mode both.1.done.1 (listed.complete e mode line member of_group alternative.is_line) line alternative;
+              settled_at list best e mode both.1.done.1 (listed.complete e mode line member of_group alternative.is_line (serves_gives q line e.children wanted alternative.serves)) line alternative;
         }),
       )
 
@@ -158,16 +159,16 @@ module _ (q : Query) (props : Props) (is_props : IsProps q props) (in_range : (g
             (before.0, others (place_of g r) earlier ∙ before.1, answer_stays q old new (place_of group wanted) others g r earlier before.0 before.2)
       ]
 
-  -- no request that fits has the place, so all before the next place are answered
-  pub answered_past : (answers : Answers) (group : KeyParts) (place : ℕ) (at : Request) → IsGroup q group → place < 4096 → request_place at ≡ place → at.order < 64
-      → (Fits q group at → ⊥) → AreAnswered q answers (key_number group * 4096 + place) → AreAnswered q answers (key_number group * 4096 + place + 1)
-  answered_past answers group place at known few is small fits_not answered g r known_too fits less =
+  -- a request that doesn't fit has a place that no other has, so all before the next place are answered
+  pub answered_past : (answers : Answers) (group : KeyParts) (at : Request) → IsGroup q group → request_place at < 4096 → at.order < 64
+      → (Fits q group at → ⊥) → AreAnswered q answers (key_number group * 4096 + request_place at) → AreAnswered q answers (key_number group * 4096 + request_place at + 1)
+  answered_past answers group at known few small fits_not answered g r known_too fits less =
       let small_too = request_small q g props r is_props fits in
-      elim (cases_eq (place_of g r) (key_number group * 4096 + place)) [
+      elim (cases_eq (place_of g r) (place_of group at)) [
         | inl same ↦
             let key : key_number g ≡ key_number group = omega (arith, small_too, few, same) in
             let equal : g ≡ group = groups_one g group (in_range g known_too) (in_range group known) key in
-            let request : r ≡ at = request_is_one r at (omega (arith, fits.numbered, is_props.few_orders)) small (omega (arith, same, key, is)) in
+            let request : r ≡ at = request_is_one r at (omega (arith, fits.numbered, is_props.few_orders)) small (omega (arith, same, key)) in
             absurd (fits_not (subst (λ h. Fits q h at) equal (subst (λ s. Fits q g s) request fits)))
         | inr other ↦ answered g r known_too fits (omega (arith, less, other))
       ]

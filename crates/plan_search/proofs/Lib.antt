@@ -11,6 +11,7 @@ pub mod Kids
 pub mod Made
 pub mod Tried
 pub mod Listed
+pub mod Able
 pub mod EnforcerNumbers
 pub mod Enforcing
 pub mod Finding

@@ -43,7 +43,7 @@ first_from bound [] most rises = most
 first_from bound (p ∷ ps) most rises = rises.0
 
 -- one more of a list's first elements
-take_more : (list : List Physical) (i : ℕ) (d : Physical) → i < length list → take (suc i) list ≡ take i list ++ get_or list i d ∷ []
+pub take_more : (list : List Physical) (i : ℕ) (d : Physical) → i < length list → take (suc i) list ≡ take i list ++ get_or list i d ∷ []
 take_more [] i d within = absurd (omega (arith, within))
 take_more (p ∷ ps) zero d within = refl
 take_more (p ∷ ps) (suc i) d within = ap (λ x. p ∷ x) (take_more ps i d (omega (arith, within)))

@@ -12,6 +12,7 @@ use Rattle.query_core.specs.declared.expressions.ExprParts.{ExprParts}
 use Rattle.xform_rules.specs.Closure.{IsMember}
 use Rattle.cardinality.specs.Rows.{rows_of}
 use Rattle.cost_units.specs.Cost.{most_cost, most_rows}
+use Rattle.request_props.specs.declared.request.Dist.{Dist}
 use Rattle.request_props.specs.declared.request.Request.{Request}
 use Rattle.plan_space.specs.Numbers.{Fits}
 use Rattle.plan_space.specs.Nodes.{Kind, native, number_of, Tree, leaf, over, two}
@@ -30,6 +31,7 @@ use Rattle.plan_search.specs.declared.choice.Kids.{Kids}
 use Rattle.plan_search.specs.declared.choice.Kids.TheVariants as kids
 use Rattle.plan_tree.specs.Nodes.{IsNode}
 use Rattle.plan_tree.specs.Meanings.{table_line_of}
+use Rattle.plan_tree.specs.Alternatives.{MayGive}
 use Rattle.plan_tree.specs.Costs.{AreRowsOf}
 use Rattle.plan_search.specs.Places.{place_of, place_asked, most_nodes}
 
@@ -251,6 +253,19 @@ pub record AreListed (q : Query) (group : KeyParts) (list : List Physical) : Typ
   pub are : ArePhysical q group list
   pub rises : RisesFrom (2 ^ 56) list
   pub complete : (e : ExprParts) (mode : ℕ) (line : Line) → IsMember q e → e.group ≡ group → line_of q e mode ≡ Some line → HasMode e mode list
+
+-- those of them whose lines may give the distribution
+pub record AreListedFor (q : Query) (group : KeyParts) (dist : Dist) (list : List Physical) : Type 0 where
+  pub are : ArePhysical q group list
+  pub rises : RisesFrom (2 ^ 56) list
+  pub complete : (e : ExprParts) (mode : ℕ) (line : Line) → IsMember q e → e.group ≡ group → line_of q e mode ≡ Some line → MayGive line dist → HasMode e mode list
+
+-- those of the list whose lines may give the distribution, in the same order
+abbrev pub AreThoseFor : Dist → List Physical → List Physical → Type 0
+AreThoseFor dist [] those = those ≡ []
+AreThoseFor dist (p ∷ ps) those =
+    (MayGive (table_line_of p.line) dist × ((rest : List Physical) × AreThoseFor dist ps rest × (those ≡ p ∷ rest)))
+    ⊎ ((MayGive (table_line_of p.line) dist → ⊥) × AreThoseFor dist ps those)
 
 -- the expression in a mode below the bound, with its line there, and its rows
 pub record IsInMode (q : Query) (e : ExprParts) (bound : ℕ) (p : Physical) : Type 0 where

@@ -6,7 +6,7 @@ ghost use Rattle.query_core.specs.Keys.{IsGroup};
 ghost use Rattle.request_props.specs.Numbered.{IsProps};
 ghost use Rattle.plan_space.specs.Numbers.{Fits};
 ghost use Rattle.plan_search.specs.Places.{place_of};
-ghost use Rattle.plan_search.specs.Search.{AreAnswered, AreListed, HasRows, IsBest};
+ghost use Rattle.plan_search.specs.Search.{AreAnswered, AreListedFor, HasRows, IsBest};
 
 use crate::answers::Answers;
 use crate::choice::Choice;
@@ -33,7 +33,7 @@ pub fn answer(
     requires known { IsGroup query.now group }
     requires rows { HasRows query.now group rows }
     requires fits { Fits query.now group wanted }
-    requires listed { AreListed query.now group list.now }
+    requires listed { AreListedFor query.now group wanted.dist list.now }
     requires answered { AreAnswered query.now answers.now (place_of group wanted) }
     ensures { OnOk result (AreAnswered query.now answers.new (place_of group wanted + 1)) }
 {
@@ -58,7 +58,7 @@ fn find(
     requires known { IsGroup query.now group }
     requires rows { HasRows query.now group rows }
     requires fits { Fits query.now group wanted }
-    requires listed { AreListed query.now group list.now }
+    requires listed { AreListedFor query.now group wanted.dist list.now }
     requires answered { AreAnswered query.now answers.now (place_of group wanted) }
     ensures { IsBest query.now answers.now group wanted result }
 {

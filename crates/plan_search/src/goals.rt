@@ -7,12 +7,12 @@ ghost use Rattle.query_core.specs.Keys.{IsGroup, key_number};
 ghost use Rattle.request_props.specs.Numbered.{IsProps};
 ghost use Rattle.plan_search.specs.PlainClosure.{IsClosureOf};
 ghost use Rattle.plan_search.specs.Places.{dist_place as dist_place_of, request_place};
-ghost use Rattle.plan_search.specs.Search.{AreAnswered, AreListed, HasRows};
+ghost use Rattle.plan_search.specs.Search.{AreAnswered, AreListedFor, HasRows};
 
 use crate::answers::Answers;
 use crate::best::answer;
 use crate::members::members_of;
-use crate::physical::{Physical, physicals};
+use crate::physical::{Physical, physicals, those_for};
 use cardinality::rows;
 use plan_tree::fits;
 use query_core::{
@@ -25,8 +25,10 @@ use xform_rules::members_are_candidates;
 /// No key is as great as this.
 const KEYS: u32 = 2050;
 
-/// How many places the requests of a group have.
-const PLACES: u32 = 4096;
+/// How many places there are for distributions, and for the orders with each.
+const DISTS: u32 = 64;
+
+const ORDERS: u32 = 64;
 
 /// The answers to all requests that fit their groups. `words` are those of the query's members.
 pub fn answer_all(
@@ -98,51 +100,72 @@ fn answer_group(
     groups_are_known();
     let list = physicals(alloc, query, props, group, members_of(words, group))?;
     let count = rows(query, Key::make(group));
-    for place in 0..PLACES {
-        answer_place(query, props, &list, group, count, place, answers)?;
+    for number in 0..DISTS {
+        let dist = dist_at(number);
+        let those = those_for(alloc, &list, dist)?;
+        answer_dist(query, props, &those, group, count, dist, answers)?;
     }
     Ok(())
 }
 
-/// Answers the request at the place, if it fits the group.
-fn answer_place(
+/// Answers all requests for the distribution that fit the group.
+fn answer_dist(
     query: &Query,
     props: &Props,
     list: &[Physical],
     group: KeyParts,
     rows: u64,
-    place: u32,
+    dist: Dist,
     answers: &mut Answers,
 ) -> Result<(), AllocError>
     requires props { IsProps query.now props.now }
     requires known { IsGroup query.now group }
     requires rows { HasRows query.now group rows }
-    requires listed { AreListed query.now group list.now }
-    requires place { place < 4096 }
-    requires answered { AreAnswered query.now answers.now (key_number group * 4096 + place) }
-    ensures { OnOk result (AreAnswered query.now answers.new (key_number group * 4096 + place + 1)) }
+    requires listed { AreListedFor query.now group dist list.now }
+    requires dist { dist_place_of dist < 64 }
+    requires answered { AreAnswered query.now answers.now
+        (key_number group * 4096 + dist_place_of dist * 64) }
+    ensures { OnOk result (AreAnswered query.now answers.new
+        (key_number group * 4096 + (dist_place_of dist + 1) * 64)) }
+{
+    for order in 0..ORDERS {
+        let wanted = Request { dist, order };
+        answer_wanted(query, props, list, group, rows, wanted, answers)?;
+    }
+    Ok(())
+}
+
+/// Answers the request, if it fits the group.
+fn answer_wanted(
+    query: &Query,
+    props: &Props,
+    list: &[Physical],
+    group: KeyParts,
+    rows: u64,
+    wanted: Request,
+    answers: &mut Answers,
+) -> Result<(), AllocError>
+    requires props { IsProps query.now props.now }
+    requires known { IsGroup query.now group }
+    requires rows { HasRows query.now group rows }
+    requires listed { AreListedFor query.now group wanted.dist list.now }
+    requires place { request_place wanted < 4096 }
+    requires order { wanted.order < 64 }
+    requires answered { AreAnswered query.now answers.now
+        (key_number group * 4096 + request_place wanted) }
+    ensures { OnOk result (AreAnswered query.now answers.new
+        (key_number group * 4096 + request_place wanted + 1)) }
 {
     // For the proof: each goal has a place of its own.
     groups_are_known();
     expressions_are_one();
-    let wanted = request_at(place);
     if fits(query, props, group, wanted) {
         answer(query, props, list, group, rows, wanted, answers)?;
     }
     Ok(())
 }
 
-/// The request that has this place among those of a group.
-fn request_at(place: u32) -> Request
-    ensures value { request_place result ≡ place }
-    ensures order { result.order < 64 }
-{
-    Request {
-        dist: dist_at(place / 64),
-        order: place % 64,
-    }
-}
-
+/// The distribution that has this place.
 fn dist_at(place: u32) -> Dist
     ensures { dist_place_of result ≡ place }
 {

@@ -8,12 +8,12 @@ ghost use Rattle.query_core.specs.declared.expressions.ExprParts.{ExprParts};
 ghost use Rattle.query_core.specs.Expressions.{IsCandidate, word_of};
 ghost use Rattle.request_props.specs.Numbered.{IsProps};
 ghost use Rattle.xform_rules.specs.Closure.{IsMember};
-ghost use Rattle.plan_search.specs.Search.{AddsModes, AreListed, IsMemberWordOf};
+ghost use Rattle.plan_search.specs.Search.{AddsModes, AreListed, AreThoseFor, IsMemberWordOf};
 
 use plan_space::modes_are_few;
-use plan_tree::{ExprRows, Line, expr_rows, line_of};
+use plan_tree::{ExprRows, Line, expr_rows, line_of, may_give};
 use query_core::{Expr, ExprParts, KeyParts, Query, candidates_are_known, expressions_are_one};
-use request_props::Props;
+use request_props::{Dist, Props};
 use std::alloc::{AllocError, Global};
 use xform_rules::members_are_candidates;
 
@@ -79,4 +79,17 @@ fn push_modes(
         }
     }
     Ok(())
+}
+
+/// Those of the list whose lines may give the distribution.
+pub fn those_for(alloc: Global, list: &[Physical], dist: Dist) -> Result<Vec<Physical>, AllocError>
+    ensures { IfOk result (λ those. AreThoseFor dist list.now those.items) }
+{
+    let mut those = Vec::new(alloc);
+    for p in list {
+        if may_give(p.line, dist) {
+            those.push(*p)?;
+        }
+    }
+    Ok(those)
 }

@@ -7,13 +7,21 @@ use Rattle.query_core.specs.declared.query.Query.{Query}
 use Rattle.query_core.specs.declared.words.Key.{Key}
 use Rattle.query_core.specs.declared.words.KeyParts.{KeyParts}
 use Rattle.query_core.specs.declared.expressions.ExprParts.{ExprParts}
+use Rattle.request_props.specs.Satisfied.{Meets}
+use Rattle.request_props.specs.declared.request.Dist.{Dist}
 use Rattle.request_props.specs.declared.request.Request.{Request}
 use Rattle.plan_space.specs.Nodes.{native}
-use Rattle.plan_space.specs.Lines.{Line}
-use Rattle.plan_space.specs.Alternatives.{IsAlternative, asked_of}
+use Rattle.plan_space.specs.Lines.{Line, alone, above, beside}
+use Rattle.plan_space.specs.Alternatives.{DistServes, IsAlternative, asked_of}
 use Rattle.plan_space.specs.Choices.{groups_of}
 use Rattle.plan_tree.specs.Nodes.{IsNode}
 use Rattle.plan_tree.specs.declared.alternatives.Alt.{Alt}
+
+-- the line may give the distribution
+abbrev pub MayGive : Line → Dist → Type 0
+MayGive (alone given order) dist = Meets given dist
+MayGive (above left order) dist = DistServes left dist
+MayGive (beside left order request) dist = DistServes left dist
 
 -- the key of this group, of which this is asked
 abbrev pub Asks : Query → Option (Key × Request) → KeyParts → Request → Type 0

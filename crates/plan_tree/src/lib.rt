@@ -26,6 +26,7 @@ pub use node::{Node, NodeKind, nodes_are_one};
 pub use plan::{Found, Plan};
 pub use seen::{Below, Seen, meets, plan_seen, seen_above, seen_below};
 pub use seen_cost::cost_above;
+pub use serving::may_give;
 
 #[cfg(test)]
 mod grouped_tests;

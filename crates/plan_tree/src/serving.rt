@@ -11,6 +11,7 @@ ghost use Rattle.plan_space.specs.Choices.{groups_of};
 ghost use Rattle.plan_space.specs.Alternatives.{DistServes, OrderServes, LeftServes, LineServes};
 ghost use Rattle.plan_space.specs.Alternatives.{WantsSpread, asked_of, dist_asked as dist_by_line};
 ghost use Rattle.plan_space.specs.Alternatives.{order_asked as order_by_line, left_asked as asked_by_line};
+ghost use Rattle.plan_tree.specs.Alternatives.{MayGive};
 ghost use Rattle.plan_tree.specs.Meanings.{left_dist_of, left_order_of, table_line_of};
 
 use crate::fitting::fits;
@@ -33,6 +34,17 @@ pub fn serves(query: &Query, props: &Props, line: Line, children: Children, want
             left_serves(query, props, left, dist, order, wanted)
         }
         _ => false,
+    }
+}
+
+/// Whether the line may give the distribution. Where it doesn't, it serves no request for it.
+pub fn may_give(line: Line, wanted: Dist) -> bool
+    ensures { IsTrue result ↔ MayGive (table_line_of line) wanted }
+{
+    match line {
+        Line::Alone(dist, _) => meets(dist, wanted),
+        Line::Above(dist, _) => dist_serves(dist, wanted),
+        Line::Beside(dist, _, _) => dist_serves(dist, wanted),
     }
 }
 

@@ -1,11 +1,11 @@
-use Rattle.std.proofs.Common.{◌≡◌, ◌≤◌, ◌+◌, None, Some, ap, sym, ◌∙◌, subst, arith}
+use Rattle.std.proofs.Common.{◌≡◌, ◌≤◌, ◌+◌, None, Some, ap, sym, ◌∙◌, subst}
 use Rattle.query_core.specs.Keys as keys
 use Rattle.plan_space.specs.Enforcers.{enforcers_of}
 use Rattle.plan_tree.specs.Enforcers.{IsEnforced}
 use Rattle.std.specs.Prelude.{slice_get}
 use Rattle.plan_search.specs.Places.{place_at, place_of, most_of_all}
 use Rattle.plan_search.specs.Search.{GoesOverPlace, IsPlaceSettled, enforcer_number, cost_at, kept_at, IsPlanAt, cheaper_of}
-use Rattle.plan_search.proofs.Enforcing.{enforced_at, enforced_none, facts, below_small, lacking_goes, enforcer_goes}
+use Rattle.plan_search.proofs.Enforcing.{enforced_at, enforced_none, below_small, lacking_goes, enforcer_goes}
 use Rattle.plan_search.proofs.EnforcerNumbers.{last_number}
 use Rattle.plan_search.proofs.Scanning.{goes_not}
 use Rattle.plan_search.proofs.enforcers.try_enforcer_at.Goals as goal
