@@ -11,6 +11,7 @@ use Rattle.plan_check.specs.Passes.{IsFirst, IsLast, place_alone, sooner_of, lat
 module _ {X : Type 0} (Fact : X → Type 0) where
   -- ---- one element, and two parts
 
+  -- one element that has the fact or lacks it
   pub first_alone : (x : X) (right : Bool) → (IsTrue right ↔ Fact x) → IsFirst Fact (x ∷ []) (place_alone right)
   first_alone x true tells = All-cons Fact x [] (tells.0 refl) (All-nil Fact)
   first_alone x false tells = record {
@@ -35,7 +36,7 @@ module _ {X : Type 0} (Fact : X → Type 0) where
     others = All-nil Fact;
   }
 
-  -- the first in a front part is the first of all
+  -- what stands in a front part stands at the same place of all
   front_part : (xs ys before : List X) (x : X) (behind : List X) → xs ≡ before ++ x ∷ behind → xs ++ ys ≡ before ++ x ∷ (behind ++ ys)
   front_part xs ys before x behind parts = ap (λ zs. zs ++ ys) parts ∙ append_assoc before (x ∷ behind) ys
 
@@ -95,6 +96,7 @@ module _ {X : Type 0} (Fact : X → Type 0) where
 
   -- ---- a list as a node and those below it: none, those of one plan, and those of two
 
+  -- the first place, by those of the parts
   pub first_of_one : (list : List X) (x : X) (right : Bool) (own : Option ℕ) → list ≡ x ∷ [] → (IsTrue right ↔ Fact x) → own ≡ place_alone right
       → IsFirst Fact list own
   first_of_one list x right own parts tells own_is =
@@ -114,6 +116,7 @@ module _ {X : Type 0} (Fact : X → Type 0) where
       let joined = first_joined ys zs left count second many first other in
       first_of_more list x (ys ++ zs) right own below found parts tells own_is (subst (λ place. IsFirst Fact (ys ++ zs) place) (sym below_is) joined) found_is
 
+  -- the last place, by those of the parts
   pub last_of_one : (list : List X) (x : X) (right : Bool) (own : Option ℕ) → list ≡ x ∷ [] → (IsTrue right ↔ Fact x) → own ≡ place_alone right
       → IsLast Fact list own
   last_of_one list x right own parts tells own_is =
@@ -145,12 +148,14 @@ module _ {X : Type 0} (Fact : X → Type 0) where
       let long : length xs ≡ length before + length (x ∷ behind) = ap length parts ∙ length-append before (x ∷ behind) in
       subst Fact (stands_at xs before x behind parts) (all (length before) x (omega arith))
 
+  -- so no place is told where it does
   pub first_not_all : (xs : List X) (place : ℕ) → IsFirstWithout Fact xs place → All Fact xs → ⊥
   first_not_all xs place first all = first.lacks (has_all xs first.before first.element first.behind first.parts all)
 
   pub last_not_all : (xs : List X) (place : ℕ) → IsLastWithout Fact xs place → All Fact xs → ⊥
   last_not_all xs place last all = last.lacks (has_all xs last.before last.element last.behind last.parts all)
 
+  -- no element before the first lacks the fact
   none_before : (xs : List X) (place other : ℕ) → IsFirstWithout Fact xs place → IsFirstWithout Fact xs other → place < other → ⊥
   none_before xs place other first second less =
       let sooner : length first.before < length second.before = omega (arith, first.count, second.count) in
@@ -169,6 +174,7 @@ module _ {X : Type 0} (Fact : X → Type 0) where
     ]
   ]
 
+  -- no element behind the last lacks the fact
   none_behind : (xs : List X) (place other : ℕ) → IsLastWithout Fact xs place → IsLastWithout Fact xs other → other < place → ⊥
   none_behind xs place other first second less =
       let x = first.element in

@@ -1,3 +1,6 @@
 mod FirstAndLast
+mod Lists
 mod Trees
-mod Verdicts
+mod OneTree
+mod Validity
+mod OneOutcome

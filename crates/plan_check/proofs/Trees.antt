@@ -28,6 +28,7 @@ first_known : (q : Query) (kids : List Kid) → KidsKnown q kids → IsGroup q (
 first_known q [] known = let some = q.tables_valid.some in omega arith
 first_known q (kid ∷ kids) known = known.0
 
+-- the group of a node over kids of known groups is known
 group_known : (q : Query) (kind : Kind) (kids : List Kid) → IsKindOf q kind → KidsKnown q kids → IsGroup q (node_group kind kids)
 group_known q (native e mode) kids is known = is.0.known
 group_known q gather kids is known = first_known q kids known
@@ -59,6 +60,7 @@ seen_known q (below.Two left right) known = (known.0, known.1.0)
 abbrev pub Pointer : Type 0
 Pointer = Box (Unit {0}) Global
 
+-- the nodes of a plan are its root and those below it
 pub nodes_at_leaf : (plan : Plan) (node root : Node) → plan ≡ Leaf node → root ≡ root_of plan → nodes_of plan ≡ root ∷ []
 nodes_at_leaf plan node root is at = ap nodes_of is ∙ ap (λ n. n ∷ []) (sym (at ∙ ap root_of is))
 
@@ -69,6 +71,7 @@ pub nodes_at_two : (plan left right : Plan) (node root : Node) (pointer pointer'
     → nodes_of plan ≡ root ∷ (nodes_of left ++ nodes_of right)
 nodes_at_two plan left right node root pointer pointer' is at = ap nodes_of is ∙ ap (λ n. n ∷ (nodes_of left ++ nodes_of right)) (sym (at ∙ ap root_of is))
 
+-- a plan of one node is a tree of one
 leaf_plans : (node : Node) (tree : Tree) → Spells (Leaf node) tree → plans_in tree ≡ tree ∷ []
 leaf_plans node (leaf kind) spells = refl
 leaf_plans node (over kind kid) spells = absurd spells

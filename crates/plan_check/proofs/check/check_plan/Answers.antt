@@ -1,7 +1,7 @@
 -- An answer is given exactly where it is the plan's outcome, which is one.
 use Rattle.std.proofs.Common.{Ok, Err}
 use Rattle.plan_check.specs.declared.fault.PlanFault.TheVariants.{TooLarge, Shape, Kids, Needs, Unsatisfied}
-use Rattle.plan_check.proofs.Verdicts.{is_outcome}
+use Rattle.plan_check.proofs.OneOutcome.{is_outcome}
 use Rattle.plan_check.proofs.check.check_plan.Goals as goal
 
 pub returns-clause-ok : goal.returns-clause-ok

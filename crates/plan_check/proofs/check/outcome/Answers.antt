@@ -1,4 +1,4 @@
-use Rattle.plan_check.proofs.Verdicts.{known_all}
+use Rattle.plan_check.proofs.OneTree.{known_all}
 use Rattle.plan_check.proofs.check.outcome.Goals as goal
 
 -- no node was found that isn't one of the query

@@ -1,5 +1,5 @@
 use Rattle.plan_check.proofs.Trees.{tree_known}
-use Rattle.plan_check.proofs.Verdicts.{fits_valid}
+use Rattle.plan_check.proofs.Validity.{fits_valid}
 use Rattle.plan_check.proofs.check.tree_outcome.Goals as goal
 
 -- the plan is a tree, and its last node with wrong kids was found
