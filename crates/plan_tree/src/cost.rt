@@ -237,9 +237,9 @@ fn native_shape(
     operator_shape(expr.operator, left, right, out)
 }
 
-// What an operator has to do where so many rows come in from the left and from the right and so
-// many go out.
-fn operator_shape(operator: Operator, left: u64, right: u64, out: u64) -> CostShape
+/// What an operator has to do where so many rows come in from the left and from the right and so
+/// many go out.
+pub fn operator_shape(operator: Operator, left: u64, right: u64, out: u64) -> CostShape
     requires left { left ≤ most_rows }
     requires right { right ≤ most_rows }
     requires out { out ≤ most_rows }

@@ -25,7 +25,7 @@ pub use lines::{line_of, table_in};
 pub use node::{Node, NodeKind, nodes_are_one};
 pub use plan::{Found, Plan};
 pub use seen::{Below, Seen, meets, plan_seen, seen_above, seen_below};
-pub use seen_cost::cost_above;
+pub use seen_cost::{cost_above, cost_above_any, rows_above};
 pub use serving::may_give;
 
 #[cfg(test)]

@@ -49,7 +49,10 @@ pub fn plan_seen(query: &Query, props: &Props, plan: &Plan) -> Seen
             node_seen(query, props, *node, below)
         }
         Plan::Two(node, left, right) => {
-            let below = Below::Two(plan_seen(query, props, left), plan_seen(query, props, right));
+            let below = Below::Two(
+                plan_seen(query, props, left),
+                plan_seen(query, props, right),
+            );
             node_seen(query, props, *node, below)
         }
     }
@@ -64,7 +67,10 @@ pub fn seen_below(query: &Query, props: &Props, plan: &Plan) -> Below
         Plan::Leaf(_) => Below::Nothing,
         Plan::Over(_, kid) => Below::One(plan_seen(query, props, kid)),
         Plan::Two(_, left, right) => {
-            Below::Two(plan_seen(query, props, left), plan_seen(query, props, right))
+            Below::Two(
+                plan_seen(query, props, left),
+                plan_seen(query, props, right),
+            )
         }
     }
 }
@@ -85,7 +91,13 @@ pub fn meets(query: &Query, props: &Props, given: Given, wanted: Request) -> boo
     requires { IsProps query.now props.now }
     ensures { IsTrue result ↔ Satisfies query.now given wanted }
 {
-    gives(query, props, given.dist, given.order, known_request(query, props, wanted))
+    gives(
+        query,
+        props,
+        given.dist,
+        given.order,
+        known_request(query, props, wanted),
+    )
 }
 
 // The same of a node by its number; a number that no node has is seen as any plan.

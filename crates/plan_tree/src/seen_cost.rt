@@ -1,23 +1,24 @@
 //! What a node costs over the plans that it sees. No call here takes memory.
 #![tactic(auto)]
 
-ghost use Rattle.std.specs.Prelude.{◌≡◌, ◌≤◌};
-ghost use Rattle.query_core.specs.Keys.{IsGroup};
+ghost use Rattle.std.specs.Prelude.{◌≡◌, ◌≤◌, ◌↔◌, IsTrue};
+ghost use Rattle.query_core.specs.Keys.{IsGroup, IsInRange as IsKeyInRange};
 ghost use Rattle.cardinality.specs.Rows.{rows_of};
 ghost use Rattle.cost_units.specs.Cost.{IsBounded, local_cost, most_cost, most_rows};
 ghost use Rattle.request_props.specs.Numbered.{IsProps};
-ghost use Rattle.plan_space.specs.Gives.{first_group as group_of_first};
+ghost use Rattle.plan_space.specs.Gives.{first_group as group_of_first, node_group as group_of_node};
 ghost use Rattle.plan_space.specs.Valid.{class_of as class_by_given};
-ghost use Rattle.plan_space.specs.Cost.{operator_shape as shape_by_operator, native_shape as shape_of_native, shape_of};
+ghost use Rattle.plan_space.specs.Cost.{native_shape as shape_of_native, shape_of};
 ghost use Rattle.plan_space.specs.Cost.{share_of, first_share as share_of_first, second_share as share_of_second};
 ghost use Rattle.plan_tree.specs.Nodes.{kind_of};
 ghost use Rattle.plan_tree.specs.Seen.{kids_seen, HasGroup, HaveGroups};
 
+use crate::cost::operator_shape;
 use crate::node::NodeKind;
 use crate::seen::{Below, Seen, first_group, seen_above};
 use cardinality::rows;
 use cost_units::{Class, CostShape, local, share};
-use query_core::{ExprParts, Key, KeyParts, Operator, Query, groups_are_known};
+use query_core::{ExprParts, Key, KeyParts, Query, groups_are_known};
 use request_props::{GivenDist, Props};
 
 /// The cost of a node over plans that are seen so.
@@ -29,15 +30,40 @@ pub fn cost_above(query: &Query, props: &Props, kind: NodeKind, below: Below) ->
     ensures some { 1 ≤ result }
     ensures most { result ≤ most_cost }
 {
+    cost_above_any(query, props, kind, below)
+}
+
+/// The same, over any plans: a group that isn't the query's counts as one without rows.
+pub fn cost_above_any(query: &Query, props: &Props, kind: NodeKind, below: Below) -> u64
+    requires { IsProps query.now props.now }
+    ensures value { HasGroup query.now (kind_of kind) → HaveGroups query.now below →
+        result ≡ local_cost (shape_of query.now (kind_of kind) (kids_seen below)) }
+    ensures some { 1 ≤ result }
+    ensures most { result ≤ most_cost }
+{
     local(node_shape(query, props, kind, below))
+}
+
+/// The rows of a node's group over plans that are seen so; 0 where it isn't the query's.
+pub fn rows_above(query: &Query, kind: NodeKind, below: Below) -> u64
+    ensures { HasGroup query.now (kind_of kind) → HaveGroups query.now below →
+        result ≡ rows_of query.now (group_of_node (kind_of kind) (kids_seen below)) }
+{
+    match kind {
+        NodeKind::Native(expr, _) => group_rows(query, expr.group),
+        NodeKind::Gather => first_rows(query, below),
+        NodeKind::Broadcast => first_rows(query, below),
+        NodeKind::Sort(_) => first_rows(query, below),
+        NodeKind::GatherMerge(_) => first_rows(query, below),
+        NodeKind::Redistribute(_) => first_rows(query, below),
+    }
 }
 
 // What the node does.
 fn node_shape(query: &Query, props: &Props, kind: NodeKind, below: Below) -> CostShape
-    requires props { IsProps query.now props.now }
-    requires own_group { HasGroup query.now (kind_of kind) }
-    requires groups { HaveGroups query.now below }
-    ensures value { result ≡ shape_of query.now (kind_of kind) (kids_seen below) }
+    requires { IsProps query.now props.now }
+    ensures value { HasGroup query.now (kind_of kind) → HaveGroups query.now below →
+        result ≡ shape_of query.now (kind_of kind) (kids_seen below) }
     ensures bounded { IsBounded result }
 {
     match kind {
@@ -50,17 +76,10 @@ fn node_shape(query: &Query, props: &Props, kind: NodeKind, below: Below) -> Cos
     }
 }
 
-fn native_shape(
-    query: &Query,
-    props: &Props,
-    expr: ExprParts,
-    mode: u32,
-    below: Below,
-) -> CostShape
-    requires props { IsProps query.now props.now }
-    requires own_group { IsGroup query.now expr.group }
-    requires groups { HaveGroups query.now below }
-    ensures value { result ≡ shape_of_native query.now expr mode (kids_seen below) }
+fn native_shape(query: &Query, props: &Props, expr: ExprParts, mode: u32, below: Below) -> CostShape
+    requires { IsProps query.now props.now }
+    ensures value { IsGroup query.now expr.group → HaveGroups query.now below →
+        result ≡ shape_of_native query.now expr mode (kids_seen below) }
     ensures bounded { IsBounded result }
 {
     let above = seen_above(query, props, NodeKind::Native(expr, mode), below);
@@ -72,39 +91,10 @@ fn native_shape(
     )
 }
 
-// What an operator has to do where so many rows come in from the left and from the right and so
-// many go out.
-fn operator_shape(operator: Operator, left: u64, right: u64, out: u64) -> CostShape
-    requires left { left ≤ most_rows }
-    requires right { right ≤ most_rows }
-    requires out { out ≤ most_rows }
-    ensures value { result ≡ shape_by_operator operator left right out }
-    ensures bounded { IsBounded result }
-{
-    match operator {
-        Operator::Get => CostShape::Scan(out),
-        Operator::Scan => CostShape::Scan(out),
-        Operator::IndexScan(_) => CostShape::IndexScan(out),
-        Operator::Select => CostShape::Scan(out),
-        Operator::Filter => CostShape::Filter(left),
-        Operator::IndexSeek(_) => CostShape::IndexSeek(out),
-        Operator::NJoin => CostShape::Scan(out),
-        Operator::Join => CostShape::Scan(out),
-        Operator::HashJoin => CostShape::HashJoin(left, right, out),
-        Operator::MergeJoin => CostShape::MergeJoin(left, right, out),
-        Operator::LoopJoin => CostShape::LoopJoin(left, right),
-        Operator::Agg => CostShape::Scan(out),
-        Operator::HashAgg => CostShape::HashAgg(left, out),
-        Operator::StreamAgg => CostShape::StreamAgg(left),
-        Operator::Partial => CostShape::Scan(out),
-        Operator::PartialAgg => CostShape::PartialAgg(left),
-    }
-}
-
 // The rows of the first plan's group.
 fn first_rows(query: &Query, below: Below) -> u64
-    requires { HaveGroups query.now below }
-    ensures value { result ≡ rows_of query.now (group_of_first (kids_seen below)) }
+    ensures value { HaveGroups query.now below →
+        result ≡ rows_of query.now (group_of_first (kids_seen below)) }
     ensures most { result ≤ most_rows }
 {
     group_rows(query, first_group(below))
@@ -112,8 +102,8 @@ fn first_rows(query: &Query, below: Below) -> u64
 
 // How many rows of the first plan the busiest segment has.
 fn first_share(query: &Query, below: Below) -> u64
-    requires { HaveGroups query.now below }
-    ensures value { result ≡ share_of_first query.now (kids_seen below) }
+    ensures value { HaveGroups query.now below →
+        result ≡ share_of_first query.now (kids_seen below) }
     ensures most { result ≤ most_rows }
 {
     match below {
@@ -125,8 +115,8 @@ fn first_share(query: &Query, below: Below) -> u64
 
 // How many rows of the second plan the busiest segment has.
 fn second_share(query: &Query, below: Below) -> u64
-    requires { HaveGroups query.now below }
-    ensures value { result ≡ share_of_second query.now (kids_seen below) }
+    ensures value { HaveGroups query.now below →
+        result ≡ share_of_second query.now (kids_seen below) }
     ensures most { result ≤ most_rows }
 {
     match below {
@@ -138,21 +128,46 @@ fn second_share(query: &Query, below: Below) -> u64
 
 // How many rows of the plan the busiest segment has.
 fn seen_share(query: &Query, kid: Seen) -> u64
-    requires { IsGroup query.now kid.group }
-    ensures value { result ≡ share_of query.now kid.group (class_by_given kid.given.dist) }
+    ensures value { IsGroup query.now kid.group →
+        result ≡ share_of query.now kid.group (class_by_given kid.given.dist) }
     ensures most { result ≤ most_rows }
 {
-    share(group_rows(query, kid.group), class_of(kid.given.dist), query.segments)
+    share(
+        group_rows(query, kid.group),
+        class_of(kid.given.dist),
+        query.segments,
+    )
 }
 
+// The rows of a group; none where it isn't the query's.
 fn group_rows(query: &Query, group: KeyParts) -> u64
-    requires { IsGroup query.now group }
-    ensures value { result ≡ rows_of query.now group }
+    ensures value { IsGroup query.now group → result ≡ rows_of query.now group }
     ensures most { result ≤ most_rows }
 {
-    // For the proof: each group has a key.
+    // For the proof: each group of the query has a key.
     groups_are_known();
-    rows(query, Key::make(group))
+    if !has_key(group) {
+        return 0;
+    }
+    let key = Key::make(group);
+    if query.is_key(key) {
+        rows(query, key)
+    } else {
+        0
+    }
+}
+
+// Whether keys can name the group.
+fn has_key(group: KeyParts) -> bool
+    ensures { IsTrue result ↔ IsKeyInRange group }
+{
+    match group {
+        KeyParts::Get(table) => table < 10,
+        KeyParts::Filter(table) => table < 10,
+        KeyParts::Join(set) => set < 1024,
+        KeyParts::Partial => true,
+        KeyParts::Agg => true,
+    }
 }
 
 fn class_of(dist: GivenDist) -> Class

@@ -176,7 +176,13 @@ fn order_serves(query: &Query, props: &Props, order: LeftOrder, wanted: u32) -> 
 }
 
 /// Whether the distribution and the order are what is asked for.
-pub fn gives(query: &Query, props: &Props, dist: GivenDist, order: GivenOrder, wanted: Request) -> bool
+pub fn gives(
+    query: &Query,
+    props: &Props,
+    dist: GivenDist,
+    order: GivenOrder,
+    wanted: Request,
+) -> bool
     requires props { IsProps query.now props.now }
     requires wanted { IsNumbered query.now wanted.order }
     ensures { IsTrue result ↔ Satisfies query.now (gives_so dist order) wanted }
