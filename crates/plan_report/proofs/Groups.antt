@@ -1,15 +1,43 @@
--- The groups of a valid plan are groups of the query.
-use Rattle.std.proofs.Common.{List, [], ◌∷◌}
+-- The groups of plans.
+use Rattle.std.proofs.Common.{List, [], ◌∷◌, arith}
+use Rattle.query_core.specs.Keys.{IsGroup}
 use Rattle.query_core.specs.Expressions.{IsCandidate}
 use Rattle.query_core.specs.declared.query.Query.{Query}
+use Rattle.query_core.specs.declared.words.KeyParts.TheVariants.{Get}
 use Rattle.query_core.specs.declared.expressions.ExprParts.{ExprParts}
 use Rattle.xform_rules.specs.Closure.{IsMember}
 use Rattle.plan_space.specs.Nodes.{Kind, native, gather, broadcast, sort, gather_merge, redistribute, Tree, leaf, over, two}
-use Rattle.plan_space.specs.Gives.{Kid, kid_of}
+use Rattle.plan_space.specs.Gives.{Kid, first_group, node_group, kid_of}
 use Rattle.plan_space.specs.Valid.{NodeFits, IsValid}
-use Rattle.plan_report.specs.Sights.{HasGroup, HasGroups}
+use Rattle.plan_tree.specs.Seen.{HasGroup}
+use Rattle.plan_report.specs.Groups.{HasGroups}
+
+-- ---- plans of groups that the query has
+
+-- an enforcer stays in the group below it
+group_above : (q : Query) (node : Kind) (kids : List Kid) → HasGroup q node → IsGroup q (first_group kids) → IsGroup q (node_group node kids)
+group_above q (native e mode) kids has first = has
+group_above q gather kids has first = first
+group_above q broadcast kids has first = first
+group_above q (sort order) kids has first = first
+group_above q (gather_merge order) kids has first = first
+group_above q (redistribute list) kids has first = first
+
+-- each query has a first table
+first_table : (q : Query) → IsGroup q (Get 0)
+first_table q = let some = q.tables_valid.some in omega arith
+
+-- where the groups of the expressions are the query's, so is the plan's own
+pub plan_group : (q : Query) (tree : Tree) → HasGroups q tree → IsGroup q (kid_of q tree).group
+plan_group q (leaf node) has = group_above q node [] has (first_table q)
+plan_group q (over node kid) has = group_above q node (kid_of q kid ∷ []) has.0 (plan_group q kid has.1)
+plan_group q (two node left right) has =
+    group_above q node (kid_of q left ∷ kid_of q right ∷ []) has.0 (plan_group q left has.1)
+
+-- ---- valid plans
 
 module _ (q : Query) (known : (e : ExprParts) → IsMember q e → IsCandidate q e) where
+  -- the group of a node that fits is one of the query's
   fits_group : (node : Kind) (kids : List Kid) → NodeFits (IsMember q) q node kids → HasGroup q node
   fits_group (native e mode) kids fits = (known e fits.0).known
   fits_group gather kids fits = tt
@@ -18,6 +46,7 @@ module _ (q : Query) (known : (e : ExprParts) → IsMember q e → IsCandidate q
   fits_group (gather_merge order) kids fits = tt
   fits_group (redistribute list) kids fits = tt
 
+  -- so are those of a valid plan
   pub valid_groups : (tree : Tree) → IsValid (IsMember q) q tree → HasGroups q tree
   valid_groups (leaf node) valid = fits_group node [] valid
   valid_groups (over node kid) valid = (fits_group node (kid_of q kid ∷ []) valid.1, valid_groups kid valid.0)

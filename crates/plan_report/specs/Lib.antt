@@ -1,5 +1,4 @@
 pub mod Text
-pub mod Sights
-pub mod Costs
+pub mod Groups
 pub mod Lines
 pub mod Found

@@ -3,23 +3,23 @@ use Rattle.std.specs.Prelude.{ℕ, ◌≡◌, List, [], ◌∷◌, ◌++◌, Str
 use Rattle.std.proofs.Common.{Global}
 use Rattle.query_core.specs.declared.query.Query.{Query}
 use Rattle.plan_space.specs.Nodes.{Kind, Tree}
-use Rattle.plan_space.specs.Gives.{Kid}
 use Rattle.plan_tree.specs.Nodes.{IsNode}
 use Rattle.plan_tree.specs.Spells.{Spells}
+use Rattle.plan_tree.specs.Seen.{kids_seen, HasGroup, HaveGroups}
 use Rattle.plan_tree.specs.declared.node.Node.{Node}
 use Rattle.plan_tree.specs.declared.plan.Plan.{Plan}
+use Rattle.plan_tree.specs.declared.seen.Below.{Below}
 use Rattle.plan_report.specs.Text.{indent, node_line, plan_lines}
-use Rattle.plan_report.specs.Sights.{SeesBelow, HasGroup, HasGroups}
-use Rattle.plan_report.specs.declared.sight.Below.{Below}
+use Rattle.plan_report.specs.Groups.{HasGroups}
 
 -- the bytes of each of some strings
 abbrev pub texts_of : List (String Global) → List (List ℕ)
 texts_of lines = map string_bytes lines
 
--- the bytes are the node's line behind the spaces, over kids that are seen so
+-- the bytes are the node's line behind the spaces, over plans that are seen so, where the groups are the query's
 abbrev pub IsKindLine : Query → List ℕ → Kind → Below → List ℕ → Type 0
 IsKindLine q spaces kind below line =
-    (depth : ℕ) (kids : List Kid) → spaces ≡ indent depth → SeesBelow q below kids → HasGroup q kind → line ≡ node_line q depth kind kids
+    (depth : ℕ) → spaces ≡ indent depth → HasGroup q kind → HaveGroups q below → line ≡ node_line q depth kind (kids_seen below)
 
 -- the same of whichever node the program's node is
 abbrev pub IsNodeLine : Query → List ℕ → Node → Below → List ℕ → Type 0

@@ -1,14 +1,11 @@
 //! The text of a plan.
 #![tactic(auto)]
 
-mod below;
 mod columns;
-mod cost;
 mod lines;
 mod lists;
 mod node_text;
 mod section;
-mod sight;
 #[cfg(test)]
 mod tests;
 

@@ -3,15 +3,12 @@
 
 ghost use Rattle.std.specs.Prelude.{◌≡◌, IfOk, OnOk, string_bytes};
 ghost use Rattle.request_props.specs.Numbered.{IsProps};
-ghost use Rattle.plan_tree.specs.Nodes.{kind_of, IsInRange};
+ghost use Rattle.plan_tree.specs.Nodes.{kind_of};
 ghost use Rattle.plan_report.specs.Text as texts;
 ghost use Rattle.plan_report.specs.Lines.{AddsPlan, AddsNode, IsNodeLine, IsKindLine};
 
-use crate::below::{below_none, below_one, below_two, kind_above, sight};
-use crate::cost::node_cost;
 use crate::node_text::node_text;
-use crate::sight::Below;
-use plan_tree::{Node, NodeKind, Plan};
+use plan_tree::{Below, Node, NodeKind, Plan, cost_above_any, plan_seen, rows_above};
 use query_core::Query;
 use request_props::Props;
 use std::alloc::{AllocError, Global};
@@ -31,20 +28,19 @@ pub fn push_plan(
         (AddsPlan query.now indent.now plan.now lines.old.items lines.new.items) }
 {
     match plan {
-        Plan::Leaf(node) => {
-            push_node(alloc, query, props, indent, *node, below_none(query), lines)
-        }
+        Plan::Leaf(node) => { push_node(alloc, query, props, indent, *node, Below::Nothing, lines) }
         Plan::Over(node, kid) => {
-            let below = below_one(query, sight(query, props, kid));
+            let below = Below::One(plan_seen(query, props, kid));
             push_node(alloc, query, props, indent, *node, below, lines)?;
             let deeper = format!(in alloc; "{indent}  ")?;
             push_plan(alloc, query, props, &deeper, kid, lines)?;
             Ok(())
         }
         Plan::Two(node, left, right) => {
-            let first = sight(query, props, left);
-            let second = sight(query, props, right);
-            let below = below_two(query, first, second);
+            let below = Below::Two(
+                plan_seen(query, props, left),
+                plan_seen(query, props, right),
+            );
             push_node(alloc, query, props, indent, *node, below, lines)?;
             let deeper = format!(in alloc; "{indent}  ")?;
             push_plan(alloc, query, props, &deeper, left, lines)?;
@@ -98,15 +94,14 @@ fn kind_line(
     kind: NodeKind,
     below: Below,
 ) -> Result<String, AllocError>
-    requires props { IsProps query.now props.now }
-    requires in_range { IsInRange (kind_of kind) }
+    requires { IsProps query.now props.now }
     ensures { IfOk result (λ line.
         IsKindLine query.now indent.now (kind_of kind) below (string_bytes line)) }
 {
     let name = node_text(alloc, query, props, kind)?;
-    let above = kind_above(query, props, kind, below);
-    let cost = node_cost(query, kind, below, above);
-    Ok(numbered(alloc, indent, &name, above.rows, cost)?)
+    let rows = rows_above(query, kind, below);
+    let cost = cost_above_any(query, props, kind, below);
+    Ok(numbered(alloc, indent, &name, rows, cost)?)
 }
 
 // A name behind its indent, with its two numbers.

@@ -1,0 +1,34 @@
+-- The line of the plan's root comes before those of the plans below it, the left ones before the right ones.
+use Rattle.std.proofs.Common.{◌≡◌, ◌++◌, rules}
+use Rattle.std.specs.Prelude.{codes}
+use Rattle.plan_report.specs.Lines.{PlanFollows, texts_of}
+use Rattle.plan_report.proofs.Following.{IsSeenOf, over_follows, two_follows}
+use Rattle.plan_report.proofs.lines.+push_plan.Goals as goal
+
+-- the root stands over one plan
+pub returns-in_ok-push_plan-in-Over : goal.returns-in_ok-push_plan-in-Over
+returns-in_ok-push_plan-in-Over t c =
+    let q = c.args.query.now in
+    let kid = c.in-Over.kid.value in
+    let deeper = c.deref-in-Over.result.now in
+    let deepens : deeper ≡ c.args.indent.now ++ codes "  " = search rules in
+    let seen : IsSeenOf q kid c.plan_seen.result = search rules in
+    let next : PlanFollows q deeper kid (texts_of c.push_node-in-Over.new.lines.items) (texts_of c.push_plan.new.lines.items) = search rules in
+    over_follows q c.args.indent.now deeper deepens c.args.plan.now c.in-Over.node _ kid c.plan_seen.result _ _ _ c.in-Over.is seen
+    c.in_ok-push_node-in-Over.ensures next
+
+-- the root stands over two plans
+pub returns-in_ok-push_plan-in-Two-2 : goal.returns-in_ok-push_plan-in-Two-2
+returns-in_ok-push_plan-in-Two-2 t c =
+    let q = c.args.query.now in
+    let left = c.in-Two.left.value in
+    let right = c.in-Two.right.value in
+    let deeper = c.deref-in-Two-3.result.now in
+    let deepens : deeper ≡ c.args.indent.now ++ codes "  " = search rules in
+    let first : IsSeenOf q left c.plan_seen-in-Two.result = search rules in
+    let second : IsSeenOf q right c.plan_seen-in-Two-2.result = search rules in
+    let halfway = texts_of c.push_plan-in-Two.new.lines.items in
+    let next : PlanFollows q deeper left (texts_of c.push_node-in-Two.new.lines.items) halfway = search rules in
+    let last : PlanFollows q deeper right halfway (texts_of c.push_plan-in-Two-2.new.lines.items) = search rules in
+    two_follows q c.args.indent.now deeper deepens c.args.plan.now c.in-Two.node _ left _ right c.plan_seen-in-Two.result c.plan_seen-in-Two-2.result
+    _ _ _ _ c.in-Two.is first second c.in_ok-push_node-in-Two.ensures next last
