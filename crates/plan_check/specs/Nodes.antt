@@ -4,9 +4,6 @@ use Rattle.std.specs.Option.{IsSome}
 use Rattle.query_core.specs.Expressions.{IsCandidate}
 use Rattle.query_core.specs.declared.query.Query.{Query}
 use Rattle.request_props.specs.Numbered.{lists_of, IsNumbered}
-use Rattle.request_props.specs.declared.request.Dist.{Dist}
-use Rattle.request_props.specs.declared.request.Dist.TheVariants.{One, Spread, Copies, Hashed}
-use Rattle.request_props.specs.declared.request.Request.{Request}
 use Rattle.plan_space.specs.Nodes.{Kind, native, gather, broadcast, sort, gather_merge, redistribute}
 use Rattle.plan_space.specs.Lines.{line_of}
 use Rattle.plan_tree.specs.Nodes.{IsNode}
@@ -33,15 +30,3 @@ IsKindOf q (redistribute list) = IsList q list
 -- the number is that of a node of the query
 abbrev pub IsNodeOf : Query → Node → Type 0
 IsNodeOf q node = (kind : Kind) × IsNode node kind × IsKindOf q kind
-
--- the query has the list that is asked for, if one is
-abbrev pub IsDistOf : Query → Dist → Type 0
-IsDistOf q One = ⊤
-IsDistOf q Spread = ⊤
-IsDistOf q Copies = ⊤
-IsDistOf q (Hashed list) = IsList q list
-
--- the query has the list and the order that are asked for
-pub record IsRequestOf (q : Query) (request : Request) : Type 0 where
-  pub list : IsDistOf q request.dist
-  pub order : IsNumbered q request.order

@@ -8,7 +8,7 @@ ghost use Rattle.plan_space.specs.Nodes.{Tree};
 ghost use Rattle.plan_space.specs.Valid.{IsValid};
 ghost use Rattle.plan_tree.specs.Spells.{Spells};
 ghost use Rattle.plan_check.specs.Preorder.{nodes_of};
-ghost use Rattle.plan_check.specs.Nodes.{IsNodeOf, IsRequestOf};
+ghost use Rattle.plan_check.specs.Nodes.{IsNodeOf};
 ghost use Rattle.plan_check.specs.Passes.{AreKnown};
 ghost use Rattle.plan_check.specs.Outcome.{IsSmall, IsGood, IsTooLarge, HasShapeFault, HasKidsFault, HasNeedsFault, IsUnsatisfied, IsOutcome};
 
@@ -30,8 +30,7 @@ pub fn check_plan(
     plan: &Plan,
     request: Request,
 ) -> Result<u64, PlanFault>
-    requires props { IsProps query.now props.now }
-    requires request { IsRequestOf query.now request }
+    requires { IsProps query.now props.now }
     ensures ok { (cost : ℕ) →
         (result ≡ Ok cost) ↔ IsGood query.now plan.now request cost }
 

@@ -1,8 +1,7 @@
 //! Plans of two tables that are joined by an equality, worked by hand.
 
-ghost use Rattle.std.specs.Prelude.{◌≡◌, IfOk, IsTrue};
+ghost use Rattle.std.specs.Prelude.{◌≡◌, IfOk};
 ghost use Rattle.request_props.specs.Numbered.{IsProps};
-ghost use Rattle.plan_check.specs.Nodes.{IsRequestOf};
 
 use crate::*;
 use orca_base::{List, Text};
@@ -211,33 +210,17 @@ fn least(alloc: Global) -> Result<Plan, AllocError> {
 
 // ---- the check
 
-fn is_asked(query: &Query, props: &Props, request: Request) -> bool
-    requires { IsProps query.now props.now }
-    ensures { IsTrue result → IsRequestOf query.now request }
-{
-    let listed = match request.dist {
-        Dist::Hashed(list) => (list as usize) < props.hashed.len(),
-        _ => true,
-    };
-    listed && request.order as usize <= props.orders.len()
-}
-
-// The outcome for a distribution and an order, which the query has.
+// The outcome for a distribution and an order.
 fn outcome(
     query: &Query,
     props: &Props,
     plan: &Plan,
     dist: Dist,
     order: u32,
-) -> Option<Result<u64, PlanFault>>
+) -> Result<u64, PlanFault>
     requires { IsProps query.now props.now }
 {
-    let request = Request { dist, order };
-    if is_asked(query, props, request) {
-        Some(check_plan(query, props, plan, request))
-    } else {
-        None
-    }
+    check_plan(query, props, plan, Request { dist, order })
 }
 
 #[test]
@@ -245,14 +228,8 @@ fn the_least_plan_has_its_cost(rt: HostRuntime) -> Result<(), Fail> {
     let query = two_tables(rt.alloc())?;
     let props = Props::collect(rt.alloc(), &query)?;
     let plan = least(rt.alloc())?;
-    assert_eq!(rt;
-        outcome(&query, &props, &plan, Dist::One, 1),
-        Some(Ok(7506))
-    );
-    assert_eq!(rt;
-        outcome(&query, &props, &plan, Dist::One, 0),
-        Some(Ok(7506))
-    );
+    assert_eq!(rt; outcome(&query, &props, &plan, Dist::One, 1), Ok(7506));
+    assert_eq!(rt; outcome(&query, &props, &plan, Dist::One, 0), Ok(7506));
     Ok(())
 }
 
@@ -266,7 +243,7 @@ fn other_plans_cost_what_the_table_says(rt: HostRuntime) -> Result<(), Fail> {
     let copied = two(alloc, HASH + COPIED, leaf(SCAN_1), copies)?;
     assert_eq!(rt;
         outcome(&query, &props, &copied, Dist::Spread, 0),
-        Some(Ok(251 + 251 + 4001 + 2501))
+        Ok(251 + 251 + 4001 + 2501)
     );
     // each side sorted at 2,001, the right one hashed by T2.b at 1,001, and 751 for the join
     let hashed = over(alloc, REDISTRIBUTE_B, leaf(SCAN_2))?;
@@ -275,7 +252,7 @@ fn other_plans_cost_what_the_table_says(rt: HostRuntime) -> Result<(), Fail> {
     let merged = two(alloc, MERGE + COLOCATED, left, right)?;
     assert_eq!(rt;
         outcome(&query, &props, &merged, Dist::Hashed(0), 1),
-        Some(Ok(251 + 251 + 1001 + 2001 + 2001 + 751))
+        Ok(251 + 251 + 1001 + 2001 + 2001 + 751)
     );
     // a gather of each side at 2,001, and 1,000 * 1,000 + 1 for the join
     let left = over(alloc, GATHER, leaf(SCAN_1))?;
@@ -283,7 +260,7 @@ fn other_plans_cost_what_the_table_says(rt: HostRuntime) -> Result<(), Fail> {
     let looped = two(alloc, LOOP, left, right)?;
     assert_eq!(rt;
         outcome(&query, &props, &looped, Dist::One, 0),
-        Some(Ok(251 + 251 + 2001 + 2001 + 1_000_001))
+        Ok(251 + 251 + 2001 + 2001 + 1_000_001)
     );
     Ok(())
 }
@@ -296,10 +273,7 @@ fn copies_of_a_small_table_cost_little(rt: HostRuntime) -> Result<(), Fail> {
     let copies = over(alloc, BROADCAST, leaf(SCAN_2))?;
     let join = two(alloc, HASH + COPIED, leaf(SCAN_1), copies)?;
     let plan = over(alloc, GATHER, join)?;
-    assert_eq!(rt;
-        outcome(&query, &props, &plan, Dist::One, 0),
-        Some(Ok(52318))
-    );
+    assert_eq!(rt; outcome(&query, &props, &plan, Dist::One, 0), Ok(52318));
     Ok(())
 }
 
@@ -315,7 +289,7 @@ fn redundant_sorts_and_motions_are_paid_for(rt: HostRuntime) -> Result<(), Fail>
     let plan = over(alloc, MERGE_A, over(alloc, SORT_A, moved)?)?;
     assert_eq!(rt;
         outcome(&query, &props, &plan, Dist::One, 1),
-        Some(Ok(7506 + 2001 + 1001))
+        Ok(7506 + 2001 + 1001)
     );
     Ok(())
 }
@@ -328,12 +302,12 @@ fn a_thousand_nodes_are_few_enough(rt: HostRuntime) -> Result<(), Fail> {
     let large = sorts(alloc, 999)?;
     assert_eq!(rt;
         outcome(&query, &props, &large, Dist::Spread, 1),
-        Some(Ok(999 * 2001 + 251))
+        Ok(999 * 2001 + 251)
     );
     let larger = sorts(alloc, 1000)?;
     assert_eq!(rt;
         outcome(&query, &props, &larger, Dist::Spread, 1),
-        Some(Err(PlanFault::TooLarge { nodes: 1001 }))
+        Err(PlanFault::TooLarge { nodes: 1001 })
     );
     Ok(())
 }
@@ -359,7 +333,7 @@ fn a_number_that_no_node_of_the_query_has_is_told(rt: HostRuntime) -> Result<(),
         let plan = over(alloc, SORT_A, join)?;
         assert_eq!(rt;
             outcome(&query, &props, &plan, Dist::Spread, 1),
-            Some(Err(PlanFault::Shape { node: 3 }))
+            Err(PlanFault::Shape { node: 3 })
         );
     }
     Ok(())
@@ -376,18 +350,18 @@ fn the_last_node_with_wrong_kids_is_told(rt: HostRuntime) -> Result<(), Fail> {
     let turned = over(alloc, SORT_A, join)?;
     assert_eq!(rt;
         outcome(&query, &props, &turned, Dist::Spread, 1),
-        Some(Err(PlanFault::Kids { node: 1 }))
+        Err(PlanFault::Kids { node: 1 })
     );
     // a gather of two, over a sort of nothing
     let both = two(alloc, GATHER, leaf(SORT_A), leaf(SCAN_1))?;
     assert_eq!(rt;
         outcome(&query, &props, &both, Dist::One, 0),
-        Some(Err(PlanFault::Kids { node: 1 }))
+        Err(PlanFault::Kids { node: 1 })
     );
     let pair = two(alloc, GATHER, leaf(SCAN_1), leaf(SCAN_1))?;
     assert_eq!(rt;
         outcome(&query, &props, &pair, Dist::One, 0),
-        Some(Err(PlanFault::Kids { node: 0 }))
+        Err(PlanFault::Kids { node: 0 })
     );
     Ok(())
 }
@@ -402,21 +376,21 @@ fn the_first_node_whose_needs_are_not_met_is_told(rt: HostRuntime) -> Result<(),
     let apart = over(alloc, SORT_A, join)?;
     assert_eq!(rt;
         outcome(&query, &props, &apart, Dist::Spread, 1),
-        Some(Err(PlanFault::Needs { node: 1 }))
+        Err(PlanFault::Needs { node: 1 })
     );
     // rows that are gathered twice, and once more
     let once = over(alloc, GATHER, leaf(SCAN_1))?;
     let thrice = over(alloc, GATHER, over(alloc, GATHER, once)?)?;
     assert_eq!(rt;
         outcome(&query, &props, &thrice, Dist::One, 0),
-        Some(Err(PlanFault::Needs { node: 0 }))
+        Err(PlanFault::Needs { node: 0 })
     );
     // an order and a list that aren't in the table, and a merge of rows in no order
     for number in [SORT_B, REDISTRIBUTE_B, MERGE_A] {
         let plan = over(alloc, number, leaf(SCAN_1))?;
         assert_eq!(rt;
             outcome(&query, &props, &plan, Dist::Spread, 0),
-            Some(Err(PlanFault::Needs { node: 0 }))
+            Err(PlanFault::Needs { node: 0 })
         );
     }
     Ok(())
@@ -430,7 +404,7 @@ fn a_valid_plan_may_not_be_what_is_asked_for(rt: HostRuntime) -> Result<(), Fail
     for (dist, order) in [(Dist::Spread, 1), (Dist::One, 2), (Dist::Copies, 0)] {
         assert_eq!(rt;
             outcome(&query, &props, &plan, dist, order),
-            Some(Err(PlanFault::Unsatisfied))
+            Err(PlanFault::Unsatisfied)
         );
     }
     Ok(())
@@ -446,13 +420,13 @@ fn the_whole_plan_is_looked_through_for_one_fault_first(rt: HostRuntime) -> Resu
     let wrong = over(alloc, REDISTRIBUTE_B, pair)?;
     assert_eq!(rt;
         outcome(&query, &props, &wrong, Dist::Spread, 0),
-        Some(Err(PlanFault::Kids { node: 1 }))
+        Err(PlanFault::Kids { node: 1 })
     );
     let pair = two(alloc, SORT_A, leaf(SCAN_1), leaf(0))?;
     let unknown = over(alloc, REDISTRIBUTE_B, pair)?;
     assert_eq!(rt;
         outcome(&query, &props, &unknown, Dist::Spread, 0),
-        Some(Err(PlanFault::Shape { node: 3 }))
+        Err(PlanFault::Shape { node: 3 })
     );
     Ok(())
 }
