@@ -502,3 +502,51 @@ fn the_least_plan_is_the_least_of_all(rt: HostRuntime) -> Result<(), Fail> {
     }
     Ok(())
 }
+
+// Whether the search with these rules off finds what the listing finds, at no less than a cost.
+fn agrees_without(
+    alloc: Global,
+    tables: &str,
+    text: &str,
+    off: u32,
+    most: usize,
+    least: u64,
+) -> Result<bool, Fail> {
+    let options = Options {
+        root: RootDist::One,
+        off,
+    };
+    match query_of(alloc, 4, tables, text, options)? {
+        Some(query) => {
+            let props = Props::collect(alloc, &query)?;
+            let found = least_searched(alloc, &query, &props)?;
+            let costs_no_less = match &found {
+                Some(ranked) => ranked.cost >= least,
+                None => true,
+            };
+            Ok(costs_no_less && found == least_listed(alloc, &query, &props, most)?)
+        }
+        None => Ok(false),
+    }
+}
+
+// Each case has the greatest number of nodes that are listed, and the cost with all rules on.
+#[test]
+fn there_is_no_plan_without_some_rules_where_none_is_listed(rt: HostRuntime) -> Result<(), Fail> {
+    let cases = [
+        (INDEXED, "SELECT a FROM t WHERE a = 5 ORDER BY b", 4, 9),
+        (SMALL, "SELECT t.a FROM t, u WHERE t.a = u.b", 7, 0),
+        (ONE_TABLE, "SELECT COUNT(*) FROM t", 5, 96),
+        (INDEXED, "SELECT a, COUNT(*) FROM t GROUP BY a", 5, 278),
+    ];
+    for first in 2..15u32 {
+        for second in first..15u32 {
+            let off = 1 << first | 1 << second;
+            for (tables, text, most, least) in cases {
+                let agrees = agrees_without(rt.alloc(), tables, text, off, most, least)?;
+                assert!(rt; agrees, "{first} {second} {text}");
+            }
+        }
+    }
+    Ok(())
+}

@@ -415,15 +415,27 @@ fn a_sink_that_fails_has_a_prefix(rt: HostRuntime) -> Result<(), Fail> {
     Ok(())
 }
 
+// What one worker answers, where the words are a command.
+fn alone(
+    alloc: Global,
+    words: &[String],
+    shelf: &mut MemShelf,
+    sink: &mut MemSink,
+) -> Option<Status> {
+    if read_command(words).is_some() {
+        Some(orca_alone(alloc, words, shelf, sink))
+    } else {
+        None
+    }
+}
+
 #[test]
 fn one_worker_answers_alone(rt: HostRuntime) -> Result<(), Fail> {
     let words = words_of(rt.alloc(), &["plan", "c.json", "q.sql"])?;
     let mut shelf = shelf_of(rt.alloc(), CATALOG.as_bytes(), QUERY.as_bytes())?;
     let mut sink = MemSink::with_room(rt.alloc(), 4096)?;
-    if read_command(&words).is_some() {
-        let status = orca_alone(rt.alloc(), &words, &mut shelf, &mut sink);
-        assert_eq!(rt; status, Status::Planned);
-    }
+    let status = alone(rt.alloc(), &words, &mut shelf, &mut sink);
+    assert_eq!(rt; status, Some(Status::Planned));
     assert!(rt; sink.taken().starts_with(b"cost 5253\n"));
     Ok(())
 }

@@ -43,7 +43,8 @@ pub fn check_plan(
         (result ≡ Err (PlanFault.Kids node)) ↔ HasKidsFault query.now plan.now node }
     ensures needs { (node : ℕ) →
         (result ≡ Err (PlanFault.Needs node)) ↔ HasNeedsFault query.now plan.now node }
-    ensures unsatisfied { (result ≡ Err PlanFault.Unsatisfied) ↔ IsUnsatisfied query.now plan.now request }
+    ensures unsatisfied { (result ≡ Err PlanFault.Unsatisfied) ↔
+        IsUnsatisfied query.now plan.now request }
 {
     // For the proof: no two nodes have one number, so the plan is one tree.
     nodes_are_one();
