@@ -30,8 +30,13 @@ pub record IsTooLong (seen : ℕ) (held : Option (List ℕ)) (limit : ℕ) : Typ
   pub one_over : seen ≡ limit + 1
   pub exceeds : Exceeds held limit
 
--- why a reading was refused: the name's count of faults rose, or more is held than the limit, or memory is short
+-- more is held than the limit, and the name's count of faults stayed as it was
+pub record OnlyTooLong (seen : ℕ) (held : Option (List ℕ)) (limit before now : ℕ) : Type 0 where
+  pub too_long : IsTooLong seen held limit
+  pub no_fault : now ≡ before
+
+-- why a reading was refused: the name's count of faults rose, or there was no fault and more is held than the limit, or memory is short
 abbrev pub HasCause : ShelfError → Option (List ℕ) → ℕ → ℕ → ℕ → Type 0
 HasCause Failed held limit before now = Rose before now
-HasCause (TooLong seen) held limit before now = IsTooLong seen held limit
+HasCause (TooLong seen) held limit before now = OnlyTooLong seen held limit before now
 HasCause Memory held limit before now = ⊤

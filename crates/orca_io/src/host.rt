@@ -1,8 +1,8 @@
 // The host's files and its standard output. Of the bytes that they give and take nothing is told.
-ghost use Rattle.std.specs.Prelude.{◌≡◌, ◌⊎◌, ◌≤◌, ◌+◌, None, OnOk, IfErr, vec_len};
+ghost use Rattle.std.specs.Prelude.{◌≡◌, ◌⊎◌, ◌≤◌, ◌+◌, None, OnOk, OnErr, IfErr, vec_len};
 ghost use Rattle.std.specs.Io.{StartsWith};
 ghost use Rattle.orca_io.specs.declared.shelf.ShelfError.TheVariants.{Failed, TooLong, Memory};
-ghost use Rattle.orca_io.specs.Shelf.{AddsAtMost};
+ghost use Rattle.orca_io.specs.Shelf.{AddsAtMost, HasCause};
 ghost use Rattle.orca_io.specs.Host.{IsOverOrStopped};
 
 use crate::count::next_count;
@@ -31,7 +31,16 @@ impl<'r, R: Files + Alloc> Shelf for FileShelf<'r, R> {
 
     ghost faults = { λ shelf _. shelf.faults };
 
-    fn read_all(&mut self, name: &str, limit: u64, into: &mut Vec<u8>) -> Result<(), ShelfError> {
+    /// Reads one byte over the limit at most.
+    fn read_all(&mut self, name: &str, limit: u64, into: &mut Vec<u8>) -> Result<(), ShelfError>
+        ensures ok { OnOk result (AddsAtMost limit into.old.items into.new.items) }
+        ensures no_fault { OnOk result (self.new.faults ≡ self.old.faults) }
+
+        ensures cause { IfErr result (λ e. HasCause e None limit self.old.faults self.new.faults) }
+        ensures err { OnErr result (into.new.items ≡ into.old.items) }
+
+        ensures later { self.old.faults ≤ self.new.faults }
+    {
         let start = into.len();
         match read_file(self.rt, name, limit, into) {
             Ok(()) => Ok(()),
