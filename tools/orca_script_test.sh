@@ -1,0 +1,50 @@
+#!/usr/bin/env bash
+# Tests the script `orca` over toolchains that only pretend: what it starts, and what it says where a build fails.
+set -u
+top=$(cd "$(dirname "${BASH_SOURCE[0]}")/.." && pwd)
+failed=0
+passed=0
+
+# A checkout with one crate, whose program says that it is stale, and a command rt of these lines.
+make_checkout() {
+  checkout=$(mktemp -d)
+  mkdir -p "$checkout/crates/orca/src" "$checkout/crates/orca/out" "$checkout/bin"
+  cp "$top/orca" "$checkout/orca"
+  echo "orca:" > "$checkout/crates.txt"
+  printf '#!/bin/sh\necho stale\n' > "$checkout/crates/orca/out/orca"
+  chmod +x "$checkout/crates/orca/out/orca"
+  touch -d "1 hour ago" "$checkout/crates/orca/out/orca" "$checkout/crates.txt"
+  echo "fn main() {}" > "$checkout/crates/orca/src/main.rt"
+  printf '#!/bin/sh\n%s\n' "$1" > "$checkout/bin/rt"
+  chmod +x "$checkout/bin/rt"
+}
+
+# Runs the script there, and compares its status, its output and a word of its standard error.
+expect() {
+  local name=$1 status=$2 output=$3 word=$4 said errors
+  errors=$(mktemp)
+  said=$(PATH="$checkout/bin:$PATH" "$checkout/orca" word 2>"$errors")
+  if [ $? -eq "$status" ] && [ "$said" = "$output" ] && { [ -z "$word" ] || grep -q -- "$word" "$errors"; }; then
+    passed=$((passed + 1))
+  else
+    failed=$((failed + 1))
+    echo "failed: $name"
+  fi
+  rm -rf "$errors" "$checkout"
+}
+
+make_checkout 'echo "a proof is open"; exit 1'
+expect "a build that fails at a crate starts no stale program" 125 "" "a proof is open"
+
+make_checkout '[ "$1" = all ] && exit 0; echo "the linker failed"; exit 1'
+expect "a build that fails at the program starts no stale program" 125 "" "the linker failed"
+
+make_checkout '[ "$1" = all ] && exit 0; printf "#!/bin/sh\necho \$1\nexit 2\n" > out/orca; chmod +x out/orca; exit 2'
+expect "a program that was built is started with the words, and its status is the script's" 2 "word" "proving and building"
+
+make_checkout 'echo "never called"; exit 1'
+touch "$checkout/crates/orca/out/orca"
+expect "a program that is current is started at once" 0 "stale" ""
+
+echo "$passed passed, $failed failed"
+[ "$failed" -eq 0 ]
