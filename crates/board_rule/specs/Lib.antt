@@ -1,0 +1,9 @@
+pub mod Meaning
+pub mod Records
+pub mod Words
+pub mod Waiters
+pub mod Looks
+pub mod Seats
+pub mod May
+pub mod Rule
+pub mod Plays

@@ -1,0 +1,11 @@
+pub mod Overs
+pub mod Told
+pub mod Seen
+pub mod Probes
+pub mod Findings
+pub mod Finishing
+pub mod WokenLemmas
+pub mod ClosedLemmas
+pub mod LastSeat
+pub mod Still
+pub mod Putting

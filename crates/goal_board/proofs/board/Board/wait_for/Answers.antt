@@ -1,0 +1,235 @@
+-- A wait is put in by its bit, its next word and the child's head, in this order; where the child is finished the bit is cleared again.
+use Rattle.std.proofs.Common.{◌≡◌, ℕ, ◌+◌, ◌*◌, ◌/◌, ◌%◌, ◌<◌, List, [], ◌∷◌, ◌++◌, Some, None, sym, refl, ap, subst, ◌∙◌, inl, inr, ⊎_elim, cond, ne_eqb, arith}
+use Rattle.board_rule.specs.Words.{cell_word, head_word, run_word}
+use Rattle.board_rule.specs.Looks.{Looked}
+use Rattle.board_rule.specs.Waiters.{cleared}
+use Rattle.board_rule.specs.May.{MaySee, MayLink, MayPush, MayDrop, HasRight}
+use Rattle.board_rule.specs.Seats.{waits_at, with_wait, woken_by, wait_begun, head_seen, next_stored, wait_put, wait_dropped}
+use Rattle.board_rule.specs.declared.hands.Hands.{Hands}
+use Rattle.goal_board.specs.declared.board.Right.{Right}
+use Rattle.goal_board.specs.Seats.{hands}
+use Rattle.goal_board.specs.Calls.{waiting_right, IsRightOf}
+use Rattle.goal_board.specs.Steps.{the_wait}
+use Rattle.goal_board.proofs.Finishing.{has_right}
+use Rattle.goal_board.proofs.Seen.{looked_later}
+use Rattle.goal_board.proofs.Putting.{seen_wait, its_waits, head_bound, head_later, stays_held, nearer, waiter_parts, right_registered, right_kept}
+use Rattle.goal_board.proofs.board.Board.wait_for.Goals as goal
+
+pub begin_wait-requires-clause-may : goal.begin_wait-requires-clause-may
+begin_wait-requires-clause-may g c κs within =
+    let r = c.requires.right in record { near = r.near; held = r.held; fewer = c.requires.fewer; free = c.requires.seat.free.no_wait }
+
+pub see_head-head-requires-clause-may : goal.see_head-head-requires-clause-may
+see_head-head-requires-clause-may g c κs within =
+    let laws = g.met.R.GoalRules g.world.𝓛 g.world.𝓜 g.world.𝓡 ((λ s x. x), (λ x. x), (λ x. x), λ x. x) in
+    let b = c.args.self.now in
+    let v = hands c.args.seat.now in
+    let r = c.requires.right in
+    let child = c.requires.child in
+    let told = c.begin_wait.ensures.told in
+    let place : ℕ = c.args.right.now.place in
+    let waits = its_waits g.R.GoalRules.meaning b.key.rules b.key.room v (run_word place) c.begin_wait.result place c.args.right.now.waits c.requires.seat.over told.moment r.near r.held in
+    let few : waits_at place v.rights < 8 = subst (λ n. n < 8) (sym waits) c.requires.fewer in
+    let at : (8 * place + waits_at place v.rights) / 8 ≡ place = omega arith in
+    subst (λ (h : Hands _). MaySee (g.R.GoalRules.meaning b.key.rules) b.key.room h.looks h.pending (the_wait h) c.args.child_at) (sym told.hands_are) (record {
+      is = refl;
+      near = c.requires.near;
+      goal = c.args.right.now.goal;
+      some_goal = r.some_goal;
+      goal_stands = subst (λ p. Looked (wait_begun v place c.begin_wait.result).looks (cell_word p) c.args.right.now.goal) (sym at) (inr r.stands);
+      other = child.other;
+      some_other = child.some_other;
+      other_stands = inr child.stands;
+      is_goal = (laws.children_enter b.key.rules c.args.right.now.goal child.other r.enters child.is_child).1;
+      is_child = child.is_child;
+    })
+
+pub loop-head-init : goal.loop-head-init
+loop-head-init g c =
+    let b = c.args.self.now in
+    let v = hands c.args.seat.now in
+    let r = c.requires.right in
+    let told = c.begin_wait.ensures.told in
+    let saw = c.see_head-head.ensures.told in
+    let place : ℕ = c.args.right.now.place in
+    let head : ℕ = c.see_head-head.result in
+    let waits = its_waits g.R.GoalRules.meaning b.key.rules b.key.room v (run_word place) c.begin_wait.result place c.args.right.now.waits c.requires.seat.over told.moment r.near r.held in
+    let is : hands c.see_head-head.new.seat ≡ head_seen (wait_begun v place c.begin_wait.result) (the_wait (wait_begun v place c.begin_wait.result)) c.args.child_at head =
+    saw.hands_are ∙ ap (λ (h : Hands _). head_seen h (the_wait h) c.args.child_at head) told.hands_are in
+    record {
+      right = refl;
+      seat = c.see_head-head.ensures.seat;
+      putting = record {
+        more = (head_word c.args.child_at, head) ∷ ((run_word place, c.begin_wait.result) ∷ []);
+        quiet = λ value at. ⊎_elim (λ t. omega (arith, t.0)) (⊎_elim (λ t. omega (arith, t.0)) (λ t. t)) at;
+        saw = inl (refl, refl);
+        bound = head_bound g.R.GoalRules.meaning b.key.rules b.key.room (hands c.begin_wait.new.seat) c.args.child_at head b.sized.3 c.requires.near c.begin_wait.ensures.seat.over saw.moment;
+        hands_are = is
+            ∙ ap (λ (n : ℕ). record (head_seen (wait_begun v place c.begin_wait.result) (the_wait (wait_begun v place c.begin_wait.result)) c.args.child_at head) { pending = Some (seen_wait (8 * place + n) c.args.child_at head) }) waits
+            ∙ ap (λ (words : _). record v { alone = words; looks = (head_word c.args.child_at, head) ∷ ((run_word place, c.begin_wait.result) ∷ v.looks); pending = Some (seen_wait (8 * place + c.args.right.now.waits) c.args.child_at head) })
+            (sym (ap (λ (h : Hands _). h.alone) is));
+      };
+    }
+
+pub store_next-requires-clause-may : goal.store_next-requires-clause-may
+store_next-requires-clause-may g c κs within =
+    let p = c.loop-head.invariant.putting in
+    subst (λ (h : Hands _). MayLink h.pending (the_wait h) c.loop-head.head) (sym p.hands_are) (record { is = refl; seen = refl; was_open = c.loop-head-test.true })
+
+pub store_next-requires-clause-waiter : goal.store_next-requires-clause-waiter
+store_next-requires-clause-waiter g c κs within = ap (λ (h : Hands _). (the_wait h).waiter) c.loop-head.invariant.putting.hands_are
+
+pub put_wait-found-requires-clause-may : goal.put_wait-found-requires-clause-may
+put_wait-found-requires-clause-may g c κs within =
+    let p = c.loop-head.invariant.putting in
+    subst (λ (h : Hands _). MayPush h.pending (the_wait h) c.loop-head.head) (sym (c.store_next.ensures.hands ∙ ap (λ (h : Hands _). next_stored h (the_wait h) c.loop-head.head) p.hands_are))
+    (record { is = refl; seen = refl; linked = refl })
+
+pub put_wait-found-requires-clause-waiter : goal.put_wait-found-requires-clause-waiter
+put_wait-found-requires-clause-waiter g c κs within =
+    ap (λ (h : Hands _). (the_wait h).waiter) (c.store_next.ensures.hands ∙ ap (λ (h : Hands _). next_stored h (the_wait h) c.loop-head.head) c.loop-head.invariant.putting.hands_are)
+
+pub put_wait-found-requires-clause-child : goal.put_wait-found-requires-clause-child
+put_wait-found-requires-clause-child g c κs within =
+    ap (λ (h : Hands _). (the_wait h).child) (c.store_next.ensures.hands ∙ ap (λ (h : Hands _). next_stored h (the_wait h) c.loop-head.head) c.loop-head.invariant.putting.hands_are)
+
+pub put_wait-found-requires-clause-fits : goal.put_wait-found-requires-clause-fits
+put_wait-found-requires-clause-fits g c κs within =
+    let bound = c.loop-head.invariant.putting.bound c.loop-head-test.true in
+    let small = c.args.self.now.sized.3 in
+    let near = c.requires.right.near in
+    let few = c.requires.fewer in
+    omega arith
+
+pub loop-head-preserved : goal.loop-head-preserved
+loop-head-preserved g c =
+    let b = c.args.self.now in
+    let v = hands c.args.seat.now in
+    let p = c.loop-head.invariant.putting in
+    let told = c.put_wait-found.ensures.told in
+    let found : ℕ = c.put_wait-found.result in
+    let linked = c.store_next.ensures.hands ∙ ap (λ (h : Hands _). next_stored h (the_wait h) c.loop-head.head) p.hands_are in
+    let is = told.miss c.if-found-head.false ∙ ap (λ (h : Hands _). head_seen h (the_wait h) c.args.child_at found) linked in
+    record {
+      right = c.loop-head.invariant.right;
+      seat = c.put_wait-found.ensures.seat;
+      putting = record {
+        more = (head_word c.args.child_at, found) ∷ p.more;
+        quiet = λ value at. ⊎_elim (λ t. omega (arith, t.0)) (λ t. p.quiet value t) at;
+        saw = inl (refl, refl);
+        bound = head_bound g.R.GoalRules.meaning b.key.rules b.key.room (hands c.store_next.new.seat) c.args.child_at found b.sized.3 c.requires.near c.store_next.ensures.seat.over told.moment;
+        hands_are = is ∙ ap (λ (words : _). record v { alone = words; looks = (head_word c.args.child_at, found) ∷ (p.more ++ v.looks); pending = Some (seen_wait (8 * c.args.right.now.place + c.args.right.now.waits) c.args.child_at found) })
+            (sym (ap (λ (h : Hands _). h.alone) is));
+      };
+    }
+
+pub loop-head-smaller : goal.loop-head-smaller
+loop-head-smaller g c =
+    let b = c.args.self.now in
+    let v = hands c.args.seat.now in
+    let p = c.loop-head.invariant.putting in
+    let linked = c.store_next.ensures.hands ∙ ap (λ (h : Hands _). next_stored h (the_wait h) c.loop-head.head) p.hands_are in
+    let saw : Looked (hands c.store_next.new.seat).looks (head_word c.args.child_at) c.loop-head.head =
+    subst (λ (h : Hands _). Looked h.looks (head_word c.args.child_at) c.loop-head.head) (sym linked) (looked_later p.more v.looks (head_word c.args.child_at) c.loop-head.head p.saw) in
+    nearer b.key.room c.loop-head.head c.put_wait-found.result b.sized.3 c.loop-head-test.true (p.bound c.loop-head-test.true)
+    (head_later g.R.GoalRules.meaning b.key.rules b.key.room (hands c.store_next.new.seat) c.args.child_at c.loop-head.head c.put_wait-found.result c.store_next.ensures.seat.over c.put_wait-found.ensures.told.moment saw)
+    c.if-found-head.false
+
+pub returns-then-found-head-clause-seat : goal.returns-then-found-head-clause-seat
+returns-then-found-head-clause-seat g c =
+    let p = c.loop-head.invariant.putting in
+    let linked = c.store_next.ensures.hands ∙ ap (λ (h : Hands _). next_stored h (the_wait h) c.loop-head.head) p.hands_are in
+    let is = c.put_wait-found.ensures.told.hit c.if-found-head.true ∙ ap (λ (h : Hands _). wait_put h (the_wait h) c.loop-head.head) linked in
+    record {
+      same_table = c.put_wait-found.ensures.seat.same_table;
+      over = c.put_wait-found.ensures.seat.over;
+      free = record { no_wait = ap (λ (h : Hands _). h.pending) is; no_walk = ap (λ (h : Hands _). h.walk.waiters) is ∙ c.requires.seat.free.no_walk };
+    }
+
+pub returns-then-found-head-clause-answer : goal.returns-then-found-head-clause-answer
+returns-then-found-head-clause-answer g c =
+    let v = hands c.args.seat.now in
+    let p = c.loop-head.invariant.putting in
+    let place : ℕ = c.args.right.now.place in
+    let w = hands c.put_wait-found.new.seat in
+    let linked = c.store_next.ensures.hands ∙ ap (λ (h : Hands _). next_stored h (the_wait h) c.loop-head.head) p.hands_are in
+    let is = c.put_wait-found.ensures.told.hit c.if-found-head.true ∙ ap (λ (h : Hands _). wait_put h (the_wait h) c.loop-head.head) linked in
+    record {
+      words = w.alone;
+      more = (head_word c.args.child_at, c.loop-head.head) ∷ p.more;
+      quiet = λ value at. ⊎_elim (λ t. omega (arith, t.0)) (λ t. p.quiet value t) at;
+      hands_are = is
+          ∙ ap (λ (words : _). record v { alone = words; looks = (head_word c.args.child_at, c.loop-head.head) ∷ (p.more ++ v.looks); rights = with_wait ((8 * place + c.args.right.now.waits) / 8) v.rights; pending = None })
+          (sym (ap (λ (h : Hands _). h.alone) is))
+          ∙ ap (λ (n : ℕ). record v { alone = w.alone; looks = (head_word c.args.child_at, c.loop-head.head) ∷ (p.more ++ v.looks); rights = with_wait n v.rights; pending = None }) (waiter_parts place c.args.right.now.waits c.requires.fewer).0
+          ∙ ap (λ (o : _). record v { alone = w.alone; looks = (head_word c.args.child_at, c.loop-head.head) ∷ (p.more ++ v.looks); rights = with_wait place v.rights; pending = o }) (sym c.requires.seat.free.no_wait);
+    }
+
+pub drop_wait-requires-clause-may : goal.drop_wait-requires-clause-may
+drop_wait-requires-clause-may g c κs within =
+    let p = c.loop-head.invariant.putting in
+    subst (λ (h : Hands _). MayDrop h.pending (the_wait h)) (sym p.hands_are) (record { is = refl; head = c.loop-head.head; seen = refl; closed = c.loop-head-test.false })
+
+pub drop_wait-requires-clause-waiter : goal.drop_wait-requires-clause-waiter
+drop_wait-requires-clause-waiter g c κs within = ap (λ (h : Hands _). (the_wait h).waiter) c.loop-head.invariant.putting.hands_are
+
+pub returns-clause-seat : goal.returns-clause-seat
+returns-clause-seat g c =
+    let p = c.loop-head.invariant.putting in
+    let is = c.drop_wait.ensures.told.hands_are ∙ ap (λ (h : Hands _). wait_dropped h (the_wait h) c.drop_wait.result) p.hands_are in
+    record {
+      same_table = c.drop_wait.ensures.seat.same_table;
+      over = c.drop_wait.ensures.seat.over;
+      free = record { no_wait = ap (λ (h : Hands _). h.pending) is; no_walk = ap (λ (h : Hands _). h.walk.waiters) is ∙ c.requires.seat.free.no_walk };
+    }
+
+pub returns-clause-answer : goal.returns-clause-answer
+returns-clause-answer g c =
+    let b = c.args.self.now in
+    let v = hands c.args.seat.now in
+    let p = c.loop-head.invariant.putting in
+    let place : ℕ = c.args.right.now.place in
+    let q : ℕ = 8 * place + c.args.right.now.waits in
+    let found : ℕ = c.drop_wait.result in
+    let w = hands c.drop_wait.new.seat in
+    let told = c.drop_wait.ensures.told in
+    let is = told.hands_are ∙ ap (λ (h : Hands _). wait_dropped h (the_wait h) found) p.hands_are in
+    let parts = waiter_parts place c.args.right.now.waits c.requires.fewer in
+    let has : HasRight b.key.room v.rights (q / 8) = subst (HasRight b.key.room v.rights) (sym parts.0) (has_right b.key.room v.rights (waiting_right place c.args.right.now.waits) c.requires.right.near c.requires.right.held) in
+    let left = stays_held g.R.GoalRules.meaning b.key.rules b.key.room (hands c.loop-head.seat) q found c.loop-head.invariant.seat.over told.moment
+    (subst (λ (h : Hands _). HasRight b.key.room h.rights (q / 8)) (sym p.hands_are) has) in
+    let looks : List (ℕ × ℕ) = (run_word (q / 8), found) ∷ p.more in
+    record {
+      words = w.alone;
+      more = looks;
+      quiet = λ value at. ⊎_elim (λ t. omega (arith, t.0)) (λ t. p.quiet value t) at;
+      closed = (c.loop-head.head, inr p.saw, c.loop-head-test.false);
+      hands_are = is
+          ∙ ap (λ (words : _). record v { alone = words; looks = looks ++ v.looks; woken = woken_by found q v.woken; pending = None }) (sym (ap (λ (h : Hands _). h.alone) is))
+          ∙ ap (λ (o : _). record v { alone = w.alone; looks = looks ++ v.looks; woken = woken_by found q v.woken; pending = o }) (sym c.requires.seat.free.no_wait)
+          ∙ ap (λ x. record v { alone = w.alone; looks = looks ++ v.looks; woken = cond x (q / 8 ∷ v.woken) v.woken }) (ne_eqb (cleared found (q % 8)) 0 left);
+    }
+
+pub returns-then-found-head-clause-right : goal.returns-then-found-head-clause-right
+returns-then-found-head-clause-right g c = ap (λ (r : Right). record r { waits = r.waits + 1 }) c.loop-head.invariant.right
+
+pub returns-clause-right : goal.returns-clause-right
+returns-clause-right g c = c.loop-head.invariant.right
+
+pub returns-then-found-head-clause-its : goal.returns-then-found-head-clause-its
+returns-then-found-head-clause-its g c =
+    let b = c.args.self.now in
+    let meaning = g.R.GoalRules.meaning b.key.rules in
+    let w = hands c.put_wait-found.new.seat in
+    let a = returns-then-found-head-clause-answer g c in
+    subst (λ (r : Right). IsRightOf meaning b.key.room w (record r { waits = r.waits + 1 })) (sym c.loop-head.invariant.right)
+    (right_registered meaning b.key.room (hands c.args.seat.now) w c.args.right.now a.words a.more c.requires.fewer a.hands_are c.requires.right)
+
+pub returns-clause-its : goal.returns-clause-its
+returns-clause-its g c =
+    let b = c.args.self.now in
+    let meaning = g.R.GoalRules.meaning b.key.rules in
+    let w = hands c.drop_wait.new.seat in
+    let a = returns-clause-answer g c in
+    subst (λ (r : Right). IsRightOf meaning b.key.room w r) (sym c.loop-head.invariant.right)
+    (right_kept meaning b.key.room (hands c.args.seat.now) w c.args.right.now a.words a.more a.hands_are c.requires.right)

@@ -1,0 +1,8 @@
+-- The seat had no right before.
+use Rattle.goal_board.specs.Seats.{hands}
+use Rattle.goal_board.proofs.Still.{only_claimed}
+use Rattle.goal_board.proofs.tests.claim_goal.Goals as goal
+
+pub returns-clause-only : goal.returns-clause-only
+returns-clause-only g c =
+    only_claimed (g.R.GoalRules.meaning c.args.board.now.key.rules) c.args.board.now.key.room (hands c.args.seat.now) c.args.at c.in-Some.right (hands c.claim.new.seat) c.in-Some.ensures.answer c.requires.rights

@@ -1,0 +1,9 @@
+-- A claim in vain only looks.
+use Rattle.goal_board.specs.Seats.{hands}
+use Rattle.goal_board.proofs.Still.{right_seen}
+use Rattle.goal_board.proofs.tests.claim_in_vain.Goals as goal
+
+pub returns-clause-right : goal.returns-clause-right
+returns-clause-right g c =
+    right_seen (g.R.GoalRules.meaning c.args.board.now.key.rules) c.args.board.now.key.room (hands c.args.seat.now) (hands c.claim.new.seat) c.in-None.ensures.answer.more c.args.right.now
+    c.in-None.ensures.answer.hands_are c.requires.right

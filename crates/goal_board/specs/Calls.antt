@@ -1,0 +1,269 @@
+-- What each call does to the hands of its seat, and what its answer means.
+use Rattle.std.specs.Prelude.{◌≡◌, ◌≢◌, ◌⊎◌, ℕ, ◌+◌, ◌*◌, ◌^◌, ◌<◌, ◌≤◌, List, [], ◌∷◌, ◌++◌, length, slice_index, Option, Some, None, Bool, false, IsTrue}
+use Rattle.word_table.specs.Probing.{home_of, steps_to}
+use Rattle.word_table.specs.declared.outcome.Inserted.{Inserted}
+use Rattle.word_table.specs.declared.outcome.Inserted.TheVariants.{Fresh, Known, Full}
+use Rattle.board_rule.specs.Meaning.{Meaning}
+use Rattle.board_rule.specs.Records.{Claimed, Walk}
+use Rattle.board_rule.specs.Words.{full_word, cell_word, run_word, head_word, cost_word, node_word, who_word}
+use Rattle.board_rule.specs.Looks.{Looked, SawOther, SawOthers, ShowsFinished, ShowsEntry, ShowsFull, ShowsClosed}
+use Rattle.board_rule.specs.Waiters.{head_of}
+use Rattle.board_rule.specs.Seats.{Among, Each, without, changed, looked, placed, claimed, suspended, filled, with_wait}
+use Rattle.board_rule.specs.declared.hands.Hands.{Hands}
+use Rattle.goal_board.specs.declared.board.Right.{Right}
+use Rattle.goal_board.specs.declared.answers.Answer.{Answer}
+use Rattle.goal_board.specs.declared.answers.Woken.{Woken}
+use Rattle.goal_board.specs.declared.answers.Awaited.{Awaited}
+use Rattle.goal_board.specs.declared.answers.Awaited.TheVariants.{Registered, Finished}
+use Rattle.goal_board.specs.declared.answers.Suspended.{Suspended}
+use Rattle.goal_board.specs.declared.answers.Suspended.TheVariants.{Ready, Waiting}
+
+-- the hands with further looks
+abbrev pub seen : {R : Type 0} → List (ℕ × ℕ) → Hands R → Hands R
+seen more v = record v { looks = more ++ v.looks }
+
+-- where the seat was alone, these looks found the words that it kept
+abbrev pub AgreesAlone : {R : Type 0} → Hands R → List (ℕ × ℕ) → Type 0
+AgreesAlone v looks = (kept : List ℕ) → v.alone ≡ Some kept → (word value : ℕ) → Looked looks word value → slice_index kept word ≡ value
+
+-- a seat that is alone keeps all words of the board
+abbrev pub KeepsAll : {R : Type 0} → ℕ → Hands R → Type 0
+KeepsAll room v = (kept : List ℕ) → v.alone ≡ Some kept → length kept ≡ 14 * room + 1
+
+-- a call's looks: none at the full word, as the words that were kept, and what was seen in a cell stays
+pub record IsSeen {R : Type 0} (v : Hands R) (looks : List (ℕ × ℕ)) : Type 0 where
+  pub quiet : (value : ℕ) → Looked looks full_word value → ⊥
+  pub alone : AgreesAlone v looks
+  pub stays : (place word value : ℕ) → Looked v.looks (cell_word place) word → word ≢ 0 → Looked looks (cell_word place) value → value ≡ word
+
+-- every cell was found taken by another word
+abbrev pub SawAllOthers : ℕ → List (ℕ × ℕ) → ℕ → Type 0
+SawAllOthers room looks word = (place : ℕ) → place < room → SawOther looks word place
+
+module _ {R : Type 0} (room : ℕ) (v : Hands R) (word : ℕ) where
+  -- the word was put into an empty cell
+  pub record PutsFresh (at : ℕ) (w : Hands R) : Type 0 where
+    pub near : at < room
+    pub more : List (ℕ × ℕ)
+    pub looks : IsSeen v ((cell_word at, 0) ∷ more)
+    pub hands_are : w ≡ placed (seen more v) at word
+
+  -- a look found the word in the cell
+  pub record FindsAt (at : ℕ) (w : Hands R) : Type 0 where
+    pub near : at < room
+    pub more : List (ℕ × ℕ)
+    pub looks : IsSeen v more
+    pub stands : Looked more (cell_word at) word
+    pub hands_are : w ≡ seen more v
+
+  -- every cell was found taken by another word, and the full word was set
+  pub record FindsFull (w : Hands R) : Type 0 where
+    pub more : List (ℕ × ℕ)
+    pub looks : IsSeen v more
+    pub others : SawAllOthers room more word
+    pub hands_are : w ≡ filled (seen more v)
+
+  abbrev pub Inserts : Inserted → Hands R → Type 0
+  Inserts (Fresh at) w = PutsFresh at w
+  Inserts (Known at) w = FindsAt at w
+  Inserts Full w = FindsFull w
+
+  -- the looks from the word's home on found other words, and then an empty cell
+  pub record EndsAtGap (looks : List (ℕ × ℕ)) : Type 0 where
+    pub gap : ℕ
+    pub near : gap < room
+    pub empty : Looked looks (cell_word gap) 0
+    pub passed : SawOthers room looks word (steps_to room (home_of word room) gap)
+
+  -- the word was in no cell at the look at an empty one, or all cells held other words
+  pub record FindsNone (w : Hands R) : Type 0 where
+    pub more : List (ℕ × ℕ)
+    pub looks : IsSeen v more
+    pub nowhere : EndsAtGap more ⊎ SawAllOthers room more word
+    pub hands_are : w ≡ seen more v
+
+  abbrev pub Finds : Option ℕ → Hands R → Type 0
+  Finds (Some at) w = FindsAt at w
+  Finds None w = FindsNone w
+
+-- what was found in a cell: 0 is an empty one
+abbrev pub found_word : Option ℕ → ℕ
+found_word None = 0
+found_word (Some word) = word
+
+-- one look at the cell
+pub record ReadsCell {R : Type 0} (v : Hands R) (at : ℕ) (found : Option ℕ) (w : Hands R) : Type 0 where
+  pub hands_are : w ≡ looked v (cell_word at) (found_word found)
+  pub some_word : (word : ℕ) → found ≡ Some word → word ≢ 0
+  pub looks : IsSeen v ((cell_word at, found_word found) ∷ [])
+
+-- a right to a goal that has waits, and no answer word yet
+abbrev pub waiting_right : ℕ → ℕ → Claimed
+waiting_right place waits = record { place = place; waits = waits; cost = None; node = None; who = None }
+
+-- the seat's right to a goal
+pub record IsRightOf {R : Type 0} (meaning : Meaning) (room : ℕ) (v : Hands R) (right : Right) : Type 0 where
+  pub near : right.place < room
+  pub held : Among v.rights (waiting_right right.place right.waits)
+  pub few : right.waits ≤ 8
+  pub stands : Looked v.looks (cell_word right.place) right.goal
+  pub some_goal : right.goal ≢ 0
+  pub is_goal : IsTrue (meaning.goal right.goal)
+  pub enters : meaning.entry right.goal
+
+-- the looks found no goal in the cell, or a run word other than 0
+abbrev pub ShowsBusy : Meaning → List (ℕ × ℕ) → ℕ → Type 0
+ShowsBusy meaning looks at =
+    ((word : ℕ) × Looked looks (cell_word at) word × ((word ≡ 0) ⊎ (meaning.goal word ≡ false)))
+    ⊎ ((value : ℕ) × Looked looks (run_word at) value × (value ≢ 0))
+
+module _ {R : Type 0} (meaning : Meaning) (room : ℕ) (v : Hands R) (at : ℕ) where
+  -- the goal was found ready, and claimed
+  pub record ClaimsGoal (right : Right) (w : Hands R) : Type 0 where
+    pub there : right.place ≡ at
+    pub no_waits : right.waits ≡ 0
+    pub its : IsRightOf meaning room w right
+    pub looks : IsSeen v ((run_word at, 0) ∷ ((cell_word at, right.goal) ∷ []))
+    pub hands_are : w ≡ claimed (looked v (cell_word at) right.goal) at
+    pub all : KeepsAll room v
+
+  -- it was found busy
+  pub record FindsBusy (w : Hands R) : Type 0 where
+    pub more : List (ℕ × ℕ)
+    pub looks : IsSeen v more
+    pub busy : ShowsBusy meaning more at
+    pub hands_are : w ≡ seen more v
+
+  abbrev pub Claims : Option Right → Hands R → Type 0
+  Claims (Some right) w = ClaimsGoal right w
+  Claims None w = FindsBusy w
+
+-- the right was given up: the goal is ready exactly where no wait bit was found
+pub record SuspendsGoal {R : Type 0} (v : Hands R) (place : ℕ) (answer : Suspended) (w : Hands R) : Type 0 where
+  pub found : ℕ
+  pub hands_are : w ≡ suspended v place found
+  pub ready : answer ≡ Ready → found ≡ 256
+  pub waiting : answer ≡ Waiting → found ≢ 256
+
+-- one of the looks found a child of the goal in the cell
+pub record SeesChild (meaning : Meaning) (looks : List (ℕ × ℕ)) (goal at : ℕ) : Type 0 where
+  pub other : ℕ
+  pub some_other : other ≢ 0
+  pub stands : Looked looks (cell_word at) other
+  pub is_child : meaning.child goal other
+
+module _ {R : Type 0} (v : Hands R) (place at : ℕ) where
+  -- the goal waits for the child: its right has one wait more
+  pub record Registers (w : Hands R) : Type 0 where
+    pub words : Option (List ℕ)
+    pub more : List (ℕ × ℕ)
+    pub quiet : (value : ℕ) → Looked more full_word value → ⊥
+    pub hands_are : w ≡ record v { alone = words; looks = more ++ v.looks; rights = with_wait place v.rights }
+
+  -- the child was found finished, and no wait was added
+  pub record FindsFinished (w : Hands R) : Type 0 where
+    pub words : Option (List ℕ)
+    pub more : List (ℕ × ℕ)
+    pub quiet : (value : ℕ) → Looked more full_word value → ⊥
+    pub closed : ShowsClosed more at
+    pub hands_are : w ≡ record v { alone = words; looks = more ++ v.looks }
+
+  abbrev pub WaitsFor : Awaited → Hands R → Type 0
+  WaitsFor Registered w = Registers w
+  WaitsFor Finished w = FindsFinished w
+
+-- the right after it
+abbrev pub waited : Awaited → Right → Right
+waited Registered right = record right { waits = right.waits + 1 }
+waited Finished right = right
+
+-- the words that a seat keeps while it is alone, once it has finished a goal
+abbrev pub ended_words : ℕ → ℕ → ℕ → ℕ → Option (List ℕ) → Option (List ℕ)
+ended_words place worker cost node words =
+    changed (head_word place) (2 ^ 63) (changed (who_word place) (worker + 1) (changed (node_word place) node (changed (cost_word place) cost words)))
+
+-- the goal went from the seat's rights to what it finished, and the seat walks the list of its waiters
+abbrev pub finishes : {R : Type 0} → Hands R → ℕ → ℕ → ℕ → ℕ → List ℕ → Hands R
+finishes v place worker cost node waiters = record v {
+  alone = ended_words place worker cost node v.alone;
+  looks = (head_word place, head_of waiters) ∷ v.looks;
+  done = record { place = place; worker = worker; cost = cost; node = node } ∷ v.done;
+  rights = without place v.rights;
+  walk = record { child = place; waiters = waiters; next = None };
+}
+
+-- words of which run words alone have changed
+pub record ChangesRuns (before after : List ℕ) : Type 0 where
+  pub same_length : length after ≡ length before
+  pub others : (word : ℕ) → ((place : ℕ) → word ≢ run_word place) → slice_index after word ≡ slice_index before word
+
+-- the same of the words that a seat keeps while it is alone
+abbrev pub ChangesRunsAlone : Option (List ℕ) → Option (List ℕ) → Type 0
+ChangesRunsAlone before after = (kept : List ℕ) → after ≡ Some kept → (words : List ℕ) × (before ≡ Some words) × ChangesRuns words kept
+
+-- the seat has walked its list to the end: each waiter's bit was cleared, and those goals that this made ready are counted
+pub record Wakes {R : Type 0} (room : ℕ) (v : Hands R) (woken : Woken) (w : Hands R) : Type 0 where
+  pub more : List (ℕ × ℕ)
+  pub words : Option (List ℕ)
+  pub gained : List ℕ
+  pub left : Walk
+  pub hands_are : w ≡ record v { alone = words; looks = more ++ v.looks; woken = gained ++ v.woken; walk = left }
+  pub at_end : left.waiters ≡ []
+  pub runs : ChangesRunsAlone v.alone words
+  pub quiet : (value : ℕ) → Looked more full_word value → ⊥
+  pub near : Each (λ place. place < room) gained
+  pub counted : woken.count ≡ length gained
+  pub none : woken.one ≡ None → gained ≡ []
+  pub one : (place : ℕ) → woken.one ≡ Some place → Among gained place
+
+-- the goal was finished with this answer, and its waiters were woken
+pub record FinishesGoal {R : Type 0} (room : ℕ) (v : Hands R) (place worker cost node : ℕ) (woken : Woken) (w : Hands R) : Type 0 where
+  pub waiters : List ℕ
+  pub wakes : Wakes room (finishes v place worker cost node waiters) woken w
+
+-- the goal that was looked at in the cell is ready in these words
+pub record IsReadyIn (meaning : Meaning) (room : ℕ) (words : List ℕ) (place : ℕ) : Type 0 where
+  pub near : place < room
+  pub some_goal : slice_index words (cell_word place) ≢ 0
+  pub is_goal : IsTrue (meaning.goal (slice_index words (cell_word place)))
+  pub ready : slice_index words (run_word place) ≡ 0
+
+-- where the looks show the full word set, some entry isn't shown by them
+abbrev pub LeavesOut : Meaning → ℕ → List (ℕ × ℕ) → Type 0
+LeavesOut meaning room looks = ShowsFull looks → (word : ℕ) × meaning.entry word × (ShowsEntry meaning room looks word → ⊥)
+
+module _ {R : Type 0} (meaning : Meaning) (room : ℕ) (v : Hands R) (at : ℕ) where
+  -- the head was found closed, and the answer words then
+  pub record ReadsAnswer (answer : Answer) (w : Hands R) : Type 0 where
+    pub head : ℕ
+    pub closed : 2 ^ 63 ≤ head
+    pub looks : IsSeen v ((node_word at, answer.node) ∷ ((cost_word at, answer.cost) ∷ ((head_word at, head) ∷ [])))
+    pub hands_are : w ≡ seen ((node_word at, answer.node) ∷ ((cost_word at, answer.cost) ∷ ((head_word at, head) ∷ []))) v
+    -- it is an answer of the goal that a look found there
+    pub exact : (goal : ℕ) → goal ≢ 0 → Looked v.looks (cell_word at) goal → meaning.answer goal answer.cost answer.node
+    pub left_out : LeavesOut meaning room w.looks
+
+  -- the head was found open
+  pub record FindsOpen (w : Hands R) : Type 0 where
+    pub head : ℕ
+    pub not_closed : head < 2 ^ 63
+    pub looks : IsSeen v ((head_word at, head) ∷ [])
+    pub hands_are : w ≡ looked v (head_word at) head
+    -- the looks don't show the goal finished
+    pub unfinished : (goal : ℕ) → goal ≢ 0 → Looked v.looks (cell_word at) goal → ShowsFinished meaning room v.looks goal → ⊥
+    -- a seat that is alone and holds no right keeps some ready goal
+    pub ready : (kept : List ℕ) → v.alone ≡ Some kept → v.rights ≡ [] → (goal : ℕ) → goal ≢ 0 → Looked v.looks (cell_word at) goal → IsTrue (meaning.goal goal)
+        → (place : ℕ) × IsReadyIn meaning room kept place
+
+  abbrev pub Reads : Option Answer → Hands R → Type 0
+  Reads (Some answer) w = ReadsAnswer answer w
+  Reads None w = FindsOpen w
+
+-- one look at the full word
+pub record ReadsFull {R : Type 0} (meaning : Meaning) (room : ℕ) (v : Hands R) (full : Bool) (w : Hands R) : Type 0 where
+  pub value : ℕ
+  pub hands_are : w ≡ looked v full_word value
+  pub set : IsTrue full → value ≢ 0
+  pub unset : full ≡ false → value ≡ 0
+  pub alone : AgreesAlone v ((full_word, value) ∷ [])
+  pub left_out : LeavesOut meaning room w.looks

@@ -1,0 +1,69 @@
+-- What is read of a board's words once no thread shares it any more.
+use Rattle.std.specs.Prelude.{◌≡◌, ◌≢◌, ◌==◌, ℕ, zero, suc, ◌-◌, ◌^◌, ◌<◌, ◌≤◌, nat_le, List, [], ◌∷◌, ◌++◌, cond, true, not, Option, Some, None, IsTrue}
+use mathlib.Core.Option.{some}
+use lib.ListN.{get_elem?}
+use Rattle.board_rule.specs.Meaning.{Meaning}
+use Rattle.board_rule.specs.Records.{Ended}
+use Rattle.board_rule.specs.Words.{Mem, mem}
+use Rattle.board_rule.specs.Looks.{ShowsFull}
+use Rattle.board_rule.specs.Seats.{Among}
+use Rattle.board_rule.specs.Rule.{HoldsGoal, IsFull, IsRecorded, IsSound}
+use Rattle.board_rule.specs.declared.hands.Hands.{Hands}
+use Rattle.goal_board.specs.declared.answers.Closed.{Closed}
+use Rattle.goal_board.specs.declared.answers.Answer.{Answer}
+
+-- the words of the taken cells at places below a number, in order
+abbrev pub cells_below : Mem → ℕ → List ℕ
+cells_below m zero = []
+cells_below m (suc n) = cond (m.cell n == 0) (cells_below m n) (cells_below m n ++ m.cell n ∷ [])
+
+-- the goals at these places whose heads are closed, each with its answer words
+abbrev pub answers_below : Mem → ℕ → List (ℕ × Answer)
+answers_below m zero = []
+answers_below m (suc n) =
+    cond (nat_le (2 ^ 63) (m.head n)) (answers_below m n ++ (m.cell n, record { cost = m.cost n; node = m.node n }) ∷ []) (answers_below m n)
+
+-- the workers of these goals
+abbrev pub who_below : Mem → ℕ → List ℕ
+who_below m zero = []
+who_below m (suc n) = cond (nat_le (2 ^ 63) (m.head n)) (who_below m n ++ (m.who n - 1) ∷ []) (who_below m n)
+
+-- each finished goal has the number of one of 64 workers, plus 1
+abbrev pub HasWorkers : Mem → ℕ → Type 0
+HasWorkers m room = (p : ℕ) → p < room → 2 ^ 63 ≤ m.head p → (1 ≤ m.who p) × (m.who p ≤ 64)
+
+-- a goal that is ready stands at the place
+pub record IsReadyAt (meaning : Meaning) (m : Mem) (p : ℕ) : Type 0 where
+  pub some_goal : m.cell p ≢ 0
+  pub is_goal : IsTrue (meaning.goal (m.cell p))
+  pub ready : m.run p ≡ 0
+
+-- the goal in the least place that is ready, or none where there is none
+abbrev pub IsFirstReady : Meaning → Mem → ℕ → Option ℕ → Type 0
+IsFirstReady meaning m room None = (p : ℕ) → p < room → IsReadyAt meaning m p → ⊥
+IsFirstReady meaning m room (Some goal) = (p : ℕ) × (p < room) × (m.cell p ≡ goal) × IsReadyAt meaning m p × ((q : ℕ) → q < p → IsReadyAt meaning m q → ⊥)
+
+-- what was read of the words
+pub record ReadsBoard (meaning : Meaning) (room : ℕ) (m : Mem) (closed : Closed) : Type 0 where
+  pub cells : closed.cells ≡ cells_below m room
+  pub answers : closed.answers ≡ answers_below m room
+  pub who : closed.who ≡ who_below m room
+  pub full : closed.full ≡ not (m.full == 0)
+  pub ready : IsFirstReady meaning m room closed.ready
+
+-- The last board was sound, the seat had these hands, and this was read of it
+pub record ClosesWith {R : Type 0} (meaning_of : R → Meaning) (rules : R) (room : ℕ) (v : Hands R) (closed : Closed) : Type 0 where
+  pub words : List ℕ
+  pub views : List (Hands R)
+  pub id : ℕ
+  pub sound : IsSound (meaning_of rules) rules room words views
+  pub mine : get_elem? views id ≡ some v
+  pub reads : ReadsBoard (meaning_of rules) room (mem words) closed
+  -- no wake-up is lost: where no goal is ready, every goal in the cells is finished
+  pub none_ready : closed.ready ≡ None → (p : ℕ) → p < room → HoldsGoal (meaning_of rules) room (mem words).cell p → 2 ^ 63 ≤ (mem words).head p
+  -- what is finished stands in the seat's done, with its worker and its answer
+  pub finished_by : (p : ℕ) → p < room → 2 ^ 63 ≤ (mem words).head p
+      → (e : Ended) × Among v.done e × (e.place ≡ p) × IsRecorded room (mem words).head (mem words).cost (mem words).node (mem words).who e
+  -- a look that found the full word set, and what a full board lacks
+  pub filled : ShowsFull v.looks → closed.full ≡ true
+  pub left_out : closed.full ≡ true → IsFull (meaning_of rules) room (mem words).cell

@@ -1,0 +1,33 @@
+-- Seats of a board, and their hands.
+use Rattle.std.specs.Prelude.{◌≡◌, ◌≢◌, ℕ, ◌<◌, [], None, Some}
+use Rattle.board_rule.specs.Meaning.{Meaning}
+use Rattle.board_rule.specs.Words.{cell_word}
+use Rattle.board_rule.specs.Looks.{Looked}
+use Rattle.board_rule.specs.declared.hands.Hands.{Hands}
+use Rattle.goal_board.specs.declared.board.Seat.{Seat}
+use Rattle.goal_board.specs.declared.board.Board.{Board}
+
+abbrev pub hands : {R : Type 0} → Seat R → Hands R
+hands s = s.seat.me.0
+
+-- hands over these rules and that many cells, whose looks found entries alone
+pub record AreHandsOver {R : Type 0} (meaning_of : R → Meaning) (rules : R) (room : ℕ) (v : Hands R) : Type 0 where
+  pub its_rules : v.rules ≡ Some rules
+  pub its_room : v.room ≡ room
+  pub entries : (place word : ℕ) → place < room → Looked v.looks (cell_word place) word → word ≢ 0 → (meaning_of rules).entry word
+
+-- between two calls a seat puts no wait in, and has no list half walked
+pub record IsFree {R : Type 0} (v : Hands R) : Type 0 where
+  pub no_wait : v.pending ≡ None
+  pub no_walk : v.walk.waiters ≡ []
+
+-- the seat is one of this board
+pub record IsSeatOf {R : Type 0} (meaning_of : R → Meaning) (b : Board R) (s : Seat R) : Type 0 where
+  pub same_table : s.seat.table_id ≡ b.table.shared.table_id
+  pub over : AreHandsOver meaning_of b.key.rules b.key.room (hands s)
+  pub free : IsFree (hands s)
+
+-- the seat is one of this board, in the middle of a call
+pub record IsInCall {R : Type 0} (meaning_of : R → Meaning) (b : Board R) (s : Seat R) : Type 0 where
+  pub same_table : s.seat.table_id ≡ b.table.shared.table_id
+  pub over : AreHandsOver meaning_of b.key.rules b.key.room (hands s)

@@ -1,0 +1,49 @@
+use orca_base::List;
+
+/// What came out of a goal.
+#[derive(Debug, Clone, Copy, PartialEq, Eq)]
+pub struct Answer {
+    /// 2^64 - 1 where there is no plan.
+    pub cost: u64,
+    pub node: u64,
+}
+
+/// What came of a wait for a child.
+#[derive(Debug, Clone, Copy, PartialEq, Eq)]
+pub enum Awaited {
+    /// The goal is on the child's list.
+    Registered,
+    /// The child is finished.
+    Finished,
+}
+
+/// Whether a goal that was suspended waits for another.
+#[derive(Debug, Clone, Copy, PartialEq, Eq)]
+pub enum Suspended {
+    /// It may be claimed again at once.
+    Ready,
+    /// It is ready once what it waits for is finished.
+    Waiting,
+}
+
+/// The goals that a finish made ready: how many, and the place of one of them.
+#[derive(Debug, Clone, Copy, PartialEq, Eq)]
+pub struct Woken {
+    pub count: u32,
+    pub one: Option<u32>,
+}
+
+/// What a board held when it was closed.
+#[derive(Debug, Drop)]
+pub struct Closed {
+    /// The words of the taken cells, in the order of their places.
+    pub cells: List<u64>,
+    /// The finished goals in that order, each with its answer.
+    pub answers: List<(u64, Answer)>,
+    /// The workers that finished these goals.
+    pub who: List<u32>,
+    /// Whether some entry found every cell taken.
+    pub full: bool,
+    /// The goal in the least place that is ready.
+    pub ready: Option<u64>,
+}

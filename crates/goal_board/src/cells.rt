@@ -1,0 +1,77 @@
+ghost use Rattle.std.specs.Prelude.{◌≡◌, ◌≢◌, ℕ, ◌<◌, Option, IsSome, IsTrue, is_some};
+ghost use Rattle.board_rule.specs.Looks.{ShowsEntry};
+ghost use Rattle.goal_board.specs.Seats.{IsSeatOf, hands};
+ghost use Rattle.goal_board.specs.Calls.{Inserts, Finds, ReadsCell};
+
+use crate::board::{Board, Seat};
+use crate::steps::cell_at;
+use board_rule::GoalRules;
+use word_table::{Inserted, home, next_place};
+
+impl<R: GoalRules> Board<R> {
+    /// Puts an entry into the table. A word that stands in a cell keeps its place.
+    pub fn insert(&self, seat: &mut Seat<R>, word: u64) -> Inserted
+        requires seat { IsSeatOf R.meaning self.now seat.old }
+        requires enters { (R.meaning self.now.key.rules).entry word }
+        ensures seat { IsSeatOf R.meaning self.now seat.new }
+        ensures answer { Inserts self.now.key.room (hands seat.old) word result (hands seat.new) }
+    {
+        let room = self.key.room;
+        let mut place = home(word, room);
+        for _step in 0..room {
+            let found = self.put(seat, place, word);
+            if found == 0 {
+                return Inserted::Fresh { at: place };
+            }
+            if found == word {
+                return Inserted::Known { at: place };
+            }
+            place = next_place(place, room);
+        }
+        self.fill(seat);
+        Inserted::Full
+    }
+
+    /// The place of the cell in which a word was found.
+    pub fn find(&self, seat: &mut Seat<R>, word: u64) -> Option<u32>
+        requires { IsSeatOf R.meaning self.now seat.old }
+        ensures seat { IsSeatOf R.meaning self.now seat.new }
+        ensures answer { Finds self.now.key.room (hands seat.old) word result (hands seat.new) }
+        ensures shown { ShowsEntry (R.meaning self.now.key.rules) self.now.key.room (hands seat.old).looks word → IsSome result }
+    {
+        let cells = self.key.room;
+        let mut place = home(word, cells);
+        for _step in 0..cells {
+            let found = self.look(seat, cell_at(place));
+            if found == 0 {
+                return None;
+            }
+            if found == word {
+                return Some(place);
+            }
+            place = next_place(place, cells);
+        }
+        None
+    }
+
+    /// Whether a word was found in a cell.
+    pub fn holds(&self, seat: &mut Seat<R>, word: u64) -> bool
+        requires { IsSeatOf R.meaning self.now seat.old }
+        ensures seat { IsSeatOf R.meaning self.now seat.new }
+        ensures answer { (at : Option ℕ) × (result ≡ is_some at) × Finds self.now.key.room (hands seat.old) word at (hands seat.new) }
+        ensures shown { ShowsEntry (R.meaning self.now.key.rules) self.now.key.room (hands seat.old).looks word → IsTrue result }
+    {
+        self.find(seat, word).is_some()
+    }
+
+    /// The word that was found in the cell at a place.
+    pub fn word_at(&self, seat: &mut Seat<R>, at: u32) -> Option<u64>
+        requires seat { IsSeatOf R.meaning self.now seat.old }
+        requires near { at < self.now.key.room }
+        ensures seat { IsSeatOf R.meaning self.now seat.new }
+        ensures answer { ReadsCell (hands seat.old) at result (hands seat.new) }
+    {
+        let found = self.look(seat, cell_at(at));
+        if found == 0 { None } else { Some(found) }
+    }
+}

@@ -1,0 +1,150 @@
+ghost use Rattle.std.specs.Prelude.{◌≡◌, ◌≢◌, ◌==◌, ℕ, ◌+◌, ◌-◌, ◌*◌, ◌^◌, ◌<◌, ◌≤◌, [], ◌∷◌, ◌++◌, nat_le, cond, IfOk, OnOk, MatchOption, length, not};
+ghost use Rattle.std.specs.Slots.{slots_items, slots_len, IsFull};
+ghost use Rattle.board_rule.specs.Words.{mem};
+ghost use Rattle.goal_board.specs.Closed.{HasWorkers, cells_below, answers_below, who_below, IsReadyAt, IsFirstReady};
+
+use crate::answers::{Answer, Closed};
+use crate::steps::{CLOSED, cell_at, cost_at, head_at, node_at, run_at, who_at};
+use board_rule::{GoalRules, Key};
+use orca_base::List;
+use std::alloc::{AllocError, Global};
+
+type Words = atomic_table::Closed<(), Global>;
+
+// Adds the word of a taken cell.
+fn push_taken(cells: &mut List<u64>, word: u64) -> Result<(), AllocError>
+    ensures { OnOk result (cells.new ≡ cond (word == 0) cells.old (cells.old ++ word ∷ [])) }
+{
+    if word == 0 { Ok(()) } else { cells.push(word) }
+}
+
+// Adds the answer of a goal, where its head is closed.
+fn push_closed(
+    answers: &mut List<(u64, Answer)>,
+    head: u64,
+    goal: u64,
+    answer: Answer,
+) -> Result<(), AllocError>
+    ensures { OnOk result (answers.new ≡ cond (nat_le (2 ^ 63) head) (answers.old ++ (goal, answer) ∷ []) answers.old) }
+{
+    if head >= CLOSED {
+        answers.push((goal, answer))
+    } else {
+        Ok(())
+    }
+}
+
+// Adds the worker of a goal, where its head is closed.
+fn push_worker(workers: &mut List<u32>, head: u64, who: u64) -> Result<(), AllocError>
+    requires { 2 ^ 63 ≤ head → (1 ≤ who) × (who ≤ 64) }
+    ensures { OnOk result (workers.new ≡ cond (nat_le (2 ^ 63) head) (workers.old ++ (who - 1) ∷ []) workers.old) }
+{
+    if head >= CLOSED {
+        workers.push((who - 1) as u32)
+    } else {
+        Ok(())
+    }
+}
+
+// The words of the taken cells, in the order of their places.
+fn cells_of(alloc: Global, words: &Words, room: u32) -> Result<List<u64>, AllocError>
+    requires { IsFull words.now.words × (slots_len words.now.words ≡ 14 * room + 1) }
+    ensures { IfOk result (λ cells. cells ≡ cells_below (mem (slots_items words.now.words)) room) }
+{
+    let mut cells = List::new(alloc);
+    for place in 0..room {
+        push_taken(&mut cells, words.word(cell_at(place)))?;
+    }
+    Ok(cells)
+}
+
+// The finished goals with their answers.
+fn answers_of(alloc: Global, words: &Words, room: u32) -> Result<List<(u64, Answer)>, AllocError>
+    requires { IsFull words.now.words × (slots_len words.now.words ≡ 14 * room + 1) }
+    ensures { IfOk result (λ answers. answers ≡ answers_below (mem (slots_items words.now.words)) room) }
+{
+    let mut answers = List::new(alloc);
+    for place in 0..room {
+        let answer = Answer {
+            cost: words.word(cost_at(place)),
+            node: words.word(node_at(place)),
+        };
+        push_closed(
+            &mut answers,
+            words.word(head_at(place)),
+            words.word(cell_at(place)),
+            answer,
+        )?;
+    }
+    Ok(answers)
+}
+
+// The workers that finished these goals.
+fn workers_of(alloc: Global, words: &Words, room: u32) -> Result<List<u32>, AllocError>
+    requires read { IsFull words.now.words × (slots_len words.now.words ≡ 14 * room + 1) }
+    requires workers { HasWorkers (mem (slots_items words.now.words)) room }
+    ensures { IfOk result (λ workers. workers ≡ who_below (mem (slots_items words.now.words)) room) }
+{
+    let mut workers = List::new(alloc);
+    for place in 0..room {
+        push_worker(
+            &mut workers,
+            words.word(head_at(place)),
+            words.word(who_at(place)),
+        )?;
+    }
+    Ok(workers)
+}
+
+// The goal at a place, if it is ready.
+fn ready_at<R: GoalRules>(words: &Words, key: &Key<R>, place: u32) -> Option<u64>
+    requires read { IsFull words.now.words × (slots_len words.now.words ≡ 14 * key.now.room + 1) }
+    requires near { place < key.now.room }
+    ensures { MatchOption result (IsReadyAt (R.meaning key.now.rules) (mem (slots_items words.now.words)) place → ⊥) (λ goal. IsReadyAt (R.meaning key.now.rules) (mem (slots_items words.now.words)) place × ((mem (slots_items words.now.words)).cell place ≡ goal)) }
+{
+    let word = words.word(cell_at(place));
+    if word == 0 {
+        return None;
+    }
+    if !key.rules.is_goal(word) {
+        return None;
+    }
+    let run = words.word(run_at(place));
+    if run == 0 { Some(word) } else { None }
+}
+
+// The goal in the least place that is ready.
+fn ready_of<R: GoalRules>(words: &Words, key: &Key<R>) -> Option<u64>
+    requires { IsFull words.now.words × (slots_len words.now.words ≡ 14 * key.now.room + 1) }
+    ensures { IsFirstReady (R.meaning key.now.rules) (mem (slots_items words.now.words)) key.now.room result }
+{
+    for place in 0..key.room {
+        if let Some(goal) = ready_at(words, key, place) {
+            return Some(goal);
+        }
+    }
+    None
+}
+
+/// What a board's words say once no thread shares it any more.
+pub fn read_all<R: GoalRules>(
+    alloc: Global,
+    words: &Words,
+    key: &Key<R>,
+) -> Result<Closed, AllocError>
+    requires read { IsFull words.now.words × (slots_len words.now.words ≡ 14 * key.now.room + 1) }
+    requires workers { HasWorkers (mem (slots_items words.now.words)) key.now.room }
+    ensures cells { IfOk result (λ c. c.cells ≡ cells_below (mem (slots_items words.now.words)) key.now.room) }
+    ensures answers { IfOk result (λ c. c.answers ≡ answers_below (mem (slots_items words.now.words)) key.now.room) }
+    ensures who { IfOk result (λ c. c.who ≡ who_below (mem (slots_items words.now.words)) key.now.room) }
+    ensures full { IfOk result (λ c. c.full ≡ not ((mem (slots_items words.now.words)).full == 0)) }
+    ensures ready { IfOk result (λ c. IsFirstReady (R.meaning key.now.rules) (mem (slots_items words.now.words)) key.now.room c.ready) }
+{
+    Ok(Closed {
+        cells: cells_of(alloc, words, key.room)?,
+        answers: answers_of(alloc, words, key.room)?,
+        who: workers_of(alloc, words, key.room)?,
+        full: words.word(0) != 0,
+        ready: ready_of(words, key),
+    })
+}

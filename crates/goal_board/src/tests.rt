@@ -1,0 +1,380 @@
+ghost use Rattle.std.specs.Prelude.{◌≡◌, ℕ, ◌<◌, ◌≤◌, [], ◌∷◌};
+ghost use Rattle.board_rule.specs.Looks.{ShowsFinished, ShowsPromise};
+ghost use Rattle.goal_board.specs.Numbers.{HasOnly};
+ghost use Rattle.goal_board.specs.Seats.{IsSeatOf, hands};
+ghost use Rattle.goal_board.specs.Calls.{Inserts, IsRightOf};
+
+use crate::{Answer, Awaited, Board, GoalRules, Hints, Inserted, Right, Seat, Suspended, Woken};
+use std::process::Abort;
+use std::test::Fail;
+use std::thread;
+use std::thread::Threads;
+
+// The words from 1 to a limit. Those from 3 on are goals, and 3 is a child of 4. A goal costs ten times its number.
+#[derive(Drop)]
+struct Numbers {
+    limit: u64,
+}
+
+impl GoalRules for Numbers {
+    ghost use Rattle.goal_board.specs.Numbers.{numbers, zero_is_none, ranks_fall, children_enter, answers_are_one};
+
+    ghost meaning = { λ r. numbers r.limit };
+
+    ghost rank_of = { λ r goal. goal };
+
+    ghost zero_enters_not = { λ r. zero_is_none r.limit };
+
+    ghost ranks_fall = { λ r. ranks_fall r.limit };
+
+    ghost children_enter = { λ r. children_enter r.limit };
+
+    ghost asked_enter = { λ r goal word enters is_goal asked. absurd asked };
+
+    ghost answers_are_one = { λ r. answers_are_one r.limit };
+
+    fn is_goal(&self, word: u64) -> bool {
+        word >= 3
+    }
+
+    fn rank(&self, goal: u64) -> u64 {
+        goal
+    }
+}
+
+// Hears no hint.
+#[derive(Drop)]
+struct Deaf {
+    below: u32,
+}
+
+impl Hints for Deaf {
+    ghost capacity = { λ d. d.below };
+
+    fn hint(&mut self, _place: u32) {}
+}
+
+// An insert, after which the seat has the parts and rights that it had.
+fn put_in<R: GoalRules>(board: &Board<R>, seat: &mut Seat<R>, word: u64) -> Inserted
+    requires seat { IsSeatOf R.meaning board.now seat.old }
+    requires enters { (R.meaning board.now.key.rules).entry word }
+    ensures seat { IsSeatOf R.meaning board.now seat.new }
+    ensures answer { Inserts board.now.key.room (hands seat.old) word result (hands seat.new) }
+    ensures parts { (hands seat.new).parts ≡ (hands seat.old).parts }
+    ensures rights { (hands seat.new).rights ≡ (hands seat.old).rights }
+{
+    board.insert(seat, word)
+}
+
+// The right to a goal that is ready, for a seat with no right.
+fn claim_goal<R: GoalRules>(
+    rt: &impl Abort,
+    board: &Board<R>,
+    seat: &mut Seat<R>,
+    at: u32,
+    goal: u64,
+) -> Right
+    requires seat { IsSeatOf R.meaning board.now seat.old }
+    requires near { at < board.now.key.room }
+    requires rights { (hands seat.old).rights ≡ [] }
+    ensures seat { IsSeatOf R.meaning board.now seat.new }
+    ensures right { IsRightOf (R.meaning board.now.key.rules) board.now.key.room (hands seat.new) result }
+    ensures goal { result.goal ≡ goal }
+    ensures waits { result.waits ≡ 0 }
+    ensures only { HasOnly (hands seat.new).rights result.place }
+    ensures parts { (hands seat.new).parts ≡ (hands seat.old).parts }
+{
+    let Some(right) = board.claim(seat, at) else {
+        panic!(rt; "the goal is not ready");
+    };
+    if right.goal() != goal {
+        board.suspend(seat, right);
+        panic!(rt; "another goal stands there");
+    }
+    right
+}
+
+// A goal that is held is not claimed again.
+fn claim_in_vain<R: GoalRules>(
+    rt: &impl Abort,
+    board: &Board<R>,
+    seat: &mut Seat<R>,
+    at: u32,
+    right: &Right,
+)
+    requires seat { IsSeatOf R.meaning board.now seat.old }
+    requires near { at < board.now.key.room }
+    requires right { IsRightOf (R.meaning board.now.key.rules) board.now.key.room (hands seat.old) right.now }
+    ensures seat { IsSeatOf R.meaning board.now seat.new }
+    ensures right { IsRightOf (R.meaning board.now.key.rules) board.now.key.room (hands seat.new) right.now }
+    ensures rights { (hands seat.new).rights ≡ (hands seat.old).rights }
+    ensures parts { (hands seat.new).parts ≡ (hands seat.old).parts }
+{
+    match board.claim(seat, at) {
+        None => {}
+        Some(second) => {
+            board.suspend(seat, second);
+            panic!(rt; "the goal was claimed twice");
+        }
+    }
+}
+
+// A goal that waits is not claimed.
+fn find_busy<R: GoalRules>(rt: &impl Abort, board: &Board<R>, seat: &mut Seat<R>, at: u32)
+    requires seat { IsSeatOf R.meaning board.now seat.old }
+    requires near { at < board.now.key.room }
+    ensures seat { IsSeatOf R.meaning board.now seat.new }
+    ensures rights { (hands seat.new).rights ≡ (hands seat.old).rights }
+    ensures parts { (hands seat.new).parts ≡ (hands seat.old).parts }
+{
+    match board.claim(seat, at) {
+        None => {}
+        Some(right) => {
+            board.suspend(seat, right);
+            panic!(rt; "the goal is ready");
+        }
+    }
+}
+
+// Waits for a child that stands in the cell.
+fn wait_on<R: GoalRules>(
+    rt: &impl Abort,
+    board: &Board<R>,
+    seat: &mut Seat<R>,
+    right: &mut Right,
+    at: u32,
+    child: u64,
+) -> Awaited
+    requires seat { IsSeatOf R.meaning board.now seat.old }
+    requires near { at < board.now.key.room }
+    requires right { IsRightOf (R.meaning board.now.key.rules) board.now.key.room (hands seat.old) right.old }
+    requires only { HasOnly (hands seat.old).rights right.old.place }
+    requires child { (R.meaning board.now.key.rules).child right.old.goal child }
+    requires fewer { right.old.waits < 8 }
+    ensures seat { IsSeatOf R.meaning board.now seat.new }
+    ensures right { IsRightOf (R.meaning board.now.key.rules) board.now.key.room (hands seat.new) right.new }
+    ensures only { HasOnly (hands seat.new).rights right.new.place }
+    ensures parts { (hands seat.new).parts ≡ (hands seat.old).parts }
+{
+    let Some(word) = board.word_at(seat, at) else {
+        panic!(rt; "the cell is empty");
+    };
+    if word != child {
+        panic!(rt; "another word stands there");
+    }
+    board.wait_for(seat, right, at)
+}
+
+// Gives up the only right of a seat.
+fn pause<R: GoalRules>(board: &Board<R>, seat: &mut Seat<R>, right: Right) -> Suspended
+    requires seat { IsSeatOf R.meaning board.now seat.old }
+    requires right { IsRightOf (R.meaning board.now.key.rules) board.now.key.room (hands seat.old) right }
+    requires only { HasOnly (hands seat.old).rights right.place }
+    ensures seat { IsSeatOf R.meaning board.now seat.new }
+    ensures rights { (hands seat.new).rights ≡ [] }
+    ensures parts { (hands seat.new).parts ≡ (hands seat.old).parts }
+{
+    board.suspend(seat, right)
+}
+
+// Finishes a goal, by the only right of a seat.
+fn finish_one<R: GoalRules>(
+    board: &Board<R>,
+    seat: &mut Seat<R>,
+    right: Right,
+    worker: u32,
+    answer: Answer,
+) -> Woken
+    requires seat { IsSeatOf R.meaning board.now seat.old }
+    requires right { IsRightOf (R.meaning board.now.key.rules) board.now.key.room (hands seat.old) right }
+    requires only { HasOnly (hands seat.old).rights right.place }
+    requires waits { right.waits ≡ 0 }
+    requires worker { worker < 64 }
+    requires promise { ShowsPromise (R.meaning board.now.key.rules) board.now.key.room (hands seat.old).looks right.goal }
+    requires answer { (R.meaning board.now.key.rules).answer right.goal answer.cost answer.node }
+    ensures seat { IsSeatOf R.meaning board.now seat.new }
+    ensures rights { (hands seat.new).rights ≡ [] }
+    ensures parts { (hands seat.new).parts ≡ (hands seat.old).parts }
+{
+    let mut deaf = Deaf { below: board.cap() };
+    board.finish(seat, right, worker, answer, &mut deaf)
+}
+
+// Whether the goal is open.
+fn is_open<R: GoalRules>(board: &Board<R>, seat: &mut Seat<R>, at: u32) -> bool
+    requires seat { IsSeatOf R.meaning board.now seat.old }
+    requires near { at < board.now.key.room }
+    ensures seat { IsSeatOf R.meaning board.now seat.new }
+    ensures rights { (hands seat.new).rights ≡ (hands seat.old).rights }
+    ensures parts { (hands seat.new).parts ≡ (hands seat.old).parts }
+{
+    board.answer(seat, at).is_none()
+}
+
+// The answer of a finished goal, which the seat has seen from then on.
+fn see_finished<R: GoalRules>(
+    rt: &impl Abort,
+    board: &Board<R>,
+    seat: &mut Seat<R>,
+    at: u32,
+    goal: u64,
+    right: &Right,
+) -> Answer
+    requires seat { IsSeatOf R.meaning board.now seat.old }
+    requires near { at < board.now.key.room }
+    requires right { IsRightOf (R.meaning board.now.key.rules) board.now.key.room (hands seat.old) right.now }
+    ensures seat { IsSeatOf R.meaning board.now seat.new }
+    ensures right { IsRightOf (R.meaning board.now.key.rules) board.now.key.room (hands seat.new) right.now }
+    ensures finished { ShowsFinished (R.meaning board.now.key.rules) board.now.key.room (hands seat.new).looks goal }
+    ensures rights { (hands seat.new).rights ≡ (hands seat.old).rights }
+    ensures parts { (hands seat.new).parts ≡ (hands seat.old).parts }
+{
+    let Some(word) = board.word_at(seat, at) else {
+        panic!(rt; "the cell is empty");
+    };
+    if word != goal {
+        panic!(rt; "another word stands there");
+    }
+    let Some(answer) = board.answer(seat, at) else {
+        panic!(rt; "the goal is not finished");
+    };
+    answer
+}
+
+// One of 79 words as members and goals have them.
+fn word_of(number: u64) -> u64
+    requires { number ≤ 78 }
+    ensures { 1 ≤ result }
+{
+    if number < 30 {
+        (number + 1) << 36
+    } else {
+        (1 << 63) + (number << 12)
+    }
+}
+
+// Puts all of these words in, and says how many of them were new.
+fn put_all(board: &Board<Numbers>, mut seat: Seat<Numbers>) -> (Seat<Numbers>, u64)
+    requires seat { IsSeatOf ⟦<Numbers as GoalRules>⟧.meaning board.now seat }
+    requires limit { board.now.key.rules.limit ≡ 18446744073709551615 }
+    requires rights { (hands seat).rights ≡ [] }
+    ensures seat { IsSeatOf ⟦<Numbers as GoalRules>⟧.meaning board.now result.0 }
+    ensures parts { (hands result.0).parts ≡ (hands seat).parts }
+    ensures rights { (hands result.0).rights ≡ [] }
+{
+    let mut fresh = 0;
+    for number in 0..79 {
+        if let Inserted::Fresh { at: _ } = put_in(board, &mut seat, word_of(number)) {
+            fresh += 1;
+        }
+    }
+    (seat, fresh)
+}
+
+#[test]
+fn a_word_is_in_one_cell(rt: HostRuntime) -> Result<(), Fail> {
+    let (board, mut seat) = Board::start(rt.alloc(), Numbers { limit: 4 }, 4)?;
+    assert!(rt; matches!(put_in(&board, &mut seat, 4), Inserted::Fresh { .. }));
+    assert!(rt; matches!(put_in(&board, &mut seat, 3), Inserted::Fresh { .. }));
+    assert!(rt; matches!(put_in(&board, &mut seat, 3), Inserted::Known { .. }));
+    let mut other = board.split(&mut seat);
+    assert!(rt; matches!(put_in(&board, &mut other, 1), Inserted::Fresh { .. }));
+    board.join(&mut seat, other);
+    let closed = board.close(rt.alloc(), seat)?;
+    assert_eq!(rt; closed.cells.len(), 3);
+    assert_eq!(rt; closed.answers.len(), 0);
+    assert!(rt; !closed.full);
+    Ok(())
+}
+
+#[test]
+fn a_goal_is_claimed_by_one_at_a_time(rt: HostRuntime) -> Result<(), Fail> {
+    let (board, mut seat) = Board::start(rt.alloc(), Numbers { limit: 4 }, 4)?;
+    let Inserted::Fresh { at: three } = put_in(&board, &mut seat, 3) else {
+        panic!(rt; "3 was there");
+    };
+    let Inserted::Fresh { at: four } = put_in(&board, &mut seat, 4) else {
+        panic!(rt; "4 was there");
+    };
+    let right = claim_goal(&rt, &board, &mut seat, three, 3);
+    claim_in_vain(&rt, &board, &mut seat, three, &right);
+    assert_eq!(rt; pause(&board, &mut seat, right), Suspended::Ready);
+    let right = claim_goal(&rt, &board, &mut seat, three, 3);
+    let woken = finish_one(&board, &mut seat, right, 5, Answer { cost: 30, node: 3 });
+    assert_eq!(rt; woken.count, 0);
+    assert!(rt; is_open(&board, &mut seat, four));
+    let right = claim_goal(&rt, &board, &mut seat, four, 4);
+    let answer = see_finished(&rt, &board, &mut seat, three, 3, &right);
+    assert_eq!(rt; answer, Answer { cost: 30, node: 3 });
+    finish_one(&board, &mut seat, right, 63, Answer { cost: 40, node: 4 });
+    let closed = board.close(rt.alloc(), seat)?;
+    assert_eq!(rt; closed.answers.len(), 2);
+    assert_eq!(rt; closed.who.len(), 2);
+    assert!(rt; closed.ready.is_none() && !closed.full);
+    Ok(())
+}
+
+#[test]
+fn a_goal_waits_for_its_child(rt: HostRuntime) -> Result<(), Fail> {
+    let (board, mut seat) = Board::start(rt.alloc(), Numbers { limit: 4 }, 4)?;
+    let Inserted::Fresh { at: four } = put_in(&board, &mut seat, 4) else {
+        panic!(rt; "4 was there");
+    };
+    let Inserted::Fresh { at: three } = put_in(&board, &mut seat, 3) else {
+        panic!(rt; "3 was there");
+    };
+    let mut right = claim_goal(&rt, &board, &mut seat, four, 4);
+    assert_eq!(rt;
+        wait_on(&rt, &board, &mut seat, &mut right, three, 3),
+        Awaited::Registered
+    );
+    assert_eq!(rt; pause(&board, &mut seat, right), Suspended::Waiting);
+    find_busy(&rt, &board, &mut seat, four);
+    let right = claim_goal(&rt, &board, &mut seat, three, 3);
+    let woken = finish_one(&board, &mut seat, right, 5, Answer { cost: 30, node: 3 });
+    assert_eq!(rt; woken.count, 1);
+    assert_eq!(rt; woken.one, Some(four));
+    let mut right = claim_goal(&rt, &board, &mut seat, four, 4);
+    assert_eq!(rt;
+        wait_on(&rt, &board, &mut seat, &mut right, three, 3),
+        Awaited::Finished
+    );
+    assert_eq!(rt; pause(&board, &mut seat, right), Suspended::Ready);
+    let other = board.split(&mut seat);
+    board.join(&mut seat, other);
+    let closed = board.close(rt.alloc(), seat)?;
+    assert_eq!(rt; closed.cells.len(), 2);
+    assert_eq!(rt; closed.answers.len(), 1);
+    assert_eq!(rt; closed.ready, Some(4));
+    Ok(())
+}
+
+#[test]
+fn a_full_board_says_so(rt: HostRuntime) -> Result<(), Fail> {
+    let (board, mut seat) = Board::start(rt.alloc(), Numbers { limit: 4 }, 1)?;
+    assert!(rt; !board.full_seen(&mut seat));
+    assert!(rt; matches!(put_in(&board, &mut seat, 4), Inserted::Fresh { .. }));
+    assert!(rt; matches!(put_in(&board, &mut seat, 2), Inserted::Full));
+    assert!(rt; board.full_seen(&mut seat));
+    assert!(rt; !board.holds(&mut seat, 2));
+    assert!(rt; board.close(rt.alloc(), seat)?.full);
+    Ok(())
+}
+
+#[test]
+fn two_threads_put_each_word_once(rt: HostRuntime) -> Result<(), Fail> {
+    let rules = Numbers { limit: u64::MAX };
+    let (made, mut seat) = Board::start(rt.alloc(), rules, 79)?;
+    let board = &made;
+    let other = board.split(&mut seat);
+    let ((other, first), (mut seat, second)) = thread::join(
+        &rt,
+        || put_all(board, other),
+        || put_all(board, seat),
+    );
+    board.join(&mut seat, other);
+    assert_eq!(rt; first.wrapping_add(second), 79);
+    let closed = made.close(rt.alloc(), seat)?;
+    assert_eq!(rt; closed.cells.len(), 79);
+    Ok(())
+}
