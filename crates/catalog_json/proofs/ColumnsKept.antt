@@ -1,20 +1,22 @@
 -- The columns of a table that is read keep the limits, and their names differ.
-use Rattle.std.proofs.Common.{◌≡◌, ℕ, ◌≤◌, true, List, [], ◌∷◌, ◌++◌, length, map, codes, Option, Ok, refl, subst}
-use Rattle.std.specs.List.{AllByRecursion}
+use Rattle.std.proofs.Common.{◌≡◌, All, ℕ, ◌≤◌, true, List, [], ◌∷◌, ◌++◌, length, map, codes, Option, Ok, refl, subst}
 use Rattle.std.specs.Str.{bytes_eq}
 use Rattle.std.specs.Cmp.Lexicographic.{nat_list_eq_equiv}
 use Rattle.std.proofs.lemmas.Bool.{leb-true}
 use Rattle.std.proofs.lemmas.List.{map_push}
+use Rattle.std.proofs.lemmas.List.Elements.{All-nil, All-push}
 use Rattle.query_core.specs.declared.catalog.ColumnInfo.{ColumnInfo}
 use Rattle.serde_json.specs.Data.{Data}
 use Rattle.serde_json.specs.Find.{get}
 use Rattle.catalog_json.specs.declared.place.Place.TheVariants as places
-use Rattle.catalog_json.specs.Limits.{trillion, within}
+use Rattle.query_core.specs.Catalog.{trillion, within}
 use Rattle.query_core.specs.Differ.{all_differ}
-use Rattle.catalog_json.specs.Catalog.{IsColumn}
+use Rattle.query_core.specs.Catalog.{IsColumn}
 use Rattle.catalog_json.specs.Walk.{◌>>=◌, column_at, columns_at, each, list_at, new_name_at, number_at, object_at}
-use Rattle.catalog_json.proofs.Differ.{both_true, differ_push}
-use Rattle.catalog_json.proofs.Steps.{all_push, bind_ok, done, each_counts, each_keeps, list_kept, new_name_kept, number_kept, ok_is}
+use Rattle.query_core.proofs.Apart.{differ_push}
+use Rattle.orca_base.proofs.Truths.{both_true}
+use Rattle.orca_base.proofs.Checked.{bind_ok, done, each_counts, ok_is}
+use Rattle.catalog_json.proofs.Steps.{all_keep, list_kept, new_name_kept, number_kept}
 
 -- a number up to its limit
 pub below : (most n : ℕ) → within 0 most n ≡ true → n ≤ most
@@ -22,7 +24,7 @@ below most n e = leb-true n most (both_true _ _ e).1
 
 -- columns as those of a table, as far as they are read
 pub record AreColumns (columns : List ColumnInfo) : Type 0 where
-  pub all_are : AllByRecursion IsColumn columns
+  pub all_are : All IsColumn columns
   pub differ : all_differ bytes_eq (map (λ c. c.name) columns) ≡ true
 
 column_kept : (t : ℕ) (before : List ColumnInfo) (d : Data) (column : ColumnInfo) → AreColumns before → column_at t before d ≡ Ok column → AreColumns (before ++ column ∷ [])
@@ -35,7 +37,7 @@ column_kept t before d column so_far e =
     let new = new_name_kept (places.ColumnName t at) (map (λ c. c.name) before) (get (codes "name") object.0) name.0 name.1 in
     let made : ColumnInfo = record { name = name.0; ndv = ndv.0 } in
     subst (λ (c : ColumnInfo). AreColumns (before ++ c ∷ [])) (ok_is made column ndv.2) (record {
-      all_are = all_push IsColumn before made so_far.all_are (record { named = new.0; values = below trillion ndv.0 (number_kept 0 trillion (places.Ndv t at) (get (codes "ndv") object.0) ndv.0 ndv.1) });
+      all_are = All-push IsColumn before made so_far.all_are (record { named = new.0; values = below trillion ndv.0 (number_kept 0 trillion (places.Ndv t at) (get (codes "ndv") object.0) ndv.0 ndv.1) });
       differ = rw (map_push (λ (c : ColumnInfo). c.name) before made) (differ_push bytes_eq nat_list_eq_equiv.symm (map (λ c. c.name) before) name.0 so_far.differ new.1);
     })
 
@@ -50,5 +52,5 @@ columns_kept t found columns e =
     let ds = bind_ok (list_at 1 1000 (places.Columns t) found) (λ ds. each (column_at t) [] ds) columns e in
     record {
       width = rw (each_counts (column_at t) ds.0 columns ds.2) (list_kept 1 1000 (places.Columns t) found ds.0 ds.1);
-      are = each_keeps (column_at t) AreColumns (column_kept t) [] ds.0 columns (record { all_are = tt; differ = refl }) ds.2;
+      are = all_keep (column_at t) AreColumns (column_kept t) [] ds.0 columns (record { all_are = All-nil IsColumn; differ = refl }) ds.2;
     }

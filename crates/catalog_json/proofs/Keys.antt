@@ -6,7 +6,7 @@ use Rattle.std.specs.Str.{bytes_eq}
 use Rattle.query_core.specs.declared.catalog.ColumnInfo.{ColumnInfo}
 use Rattle.indexmap.specs.IndexMap.{insert_entry}
 use Rattle.catalog_json.specs.Columns.{column_of, names_of}
-use Rattle.catalog_json.proofs.Differ.{neither}
+use Rattle.catalog_json.proofs.Truths.{neither}
 
 pub any_shown : (name : List ℕ) (keys : List (String Global)) → list_any (λ k. bytes_eq name (string_bytes k)) keys ≡ list_any (bytes_eq name) (map string_bytes keys)
 any_shown name [] = refl

@@ -1,5 +1,4 @@
 pub mod ColumnsKept
-pub mod Differ
 pub mod Each
 pub mod Elements
 pub mod Json
@@ -9,3 +8,4 @@ pub mod Members
 pub mod Steps
 pub mod TablesKept
 pub mod Told
+pub mod Truths

@@ -1,9 +1,10 @@
 -- A list of columns that is read has 1 to 8 different places among the table's columns.
-use Rattle.std.proofs.Common.{◌≡◌, ◌==◌, ℕ, ◌≤◌, true, List, [], ◌∷◌, ◌++◌, length, position, nat_lt, codes, Option, Some, None, option_and_then, Ok, Err, refl, ◌∙◌, subst, arith}
-use Rattle.std.specs.List.{list_all, AllByRecursion}
+use Rattle.std.proofs.Common.{◌≡◌, All, ◌==◌, ℕ, ◌≤◌, true, List, [], ◌∷◌, ◌++◌, length, position, nat_lt, codes, Option, Some, None, option_and_then, Ok, Err, refl, ◌∙◌, subst, arith}
+use Rattle.std.specs.List.{list_all}
 use Rattle.std.specs.Str.{bytes_eq}
 use Rattle.std.specs.Cmp.{nat_eq_equiv}
 use Rattle.std.proofs.lemmas.List.Folds.{list_all-append}
+use Rattle.std.proofs.lemmas.List.Elements.{All-nil, All-push}
 use Rattle.query_core.specs.declared.catalog.Placing.{Placing}
 use Rattle.query_core.specs.declared.catalog.Placing.TheVariants.{Hashed, Random}
 use Rattle.serde_json.specs.Data.{Data}
@@ -14,10 +15,11 @@ use Rattle.catalog_json.specs.declared.place.Place.{Place}
 use Rattle.catalog_json.specs.declared.place.Place.TheVariants as places
 use Rattle.catalog_json.specs.declared.fault.Fault.TheVariants.{Shape}
 use Rattle.query_core.specs.Differ.{all_differ}
-use Rattle.catalog_json.specs.Catalog.{IsColumnList, IsPlacing}
+use Rattle.query_core.specs.Catalog.{IsColumnList, IsPlacing}
 use Rattle.catalog_json.specs.Walk.{Reading, each, index_at, indexes_at, list_at, listed_at, name_at, new_place, places_at, placing_at, placing_by, random_at, seen}
-use Rattle.catalog_json.proofs.Differ.{differ_push}
-use Rattle.catalog_json.proofs.Steps.{all_push, bind_ok, each_counts, each_keeps, list_kept, listed_kept, met, ok_is}
+use Rattle.query_core.proofs.Apart.{differ_push}
+use Rattle.orca_base.proofs.Checked.{bind_ok, each_counts, met, ok_is}
+use Rattle.catalog_json.proofs.Steps.{all_keep, list_kept, listed_kept}
 use Rattle.catalog_json.proofs.ColumnsKept.{below}
 
 -- places as those of a list, as far as they are read
@@ -40,7 +42,7 @@ pub places_kept : (list : NameList) (names : List (List ℕ)) (found : Option Da
 unfolding places_at
 places_kept list names found listed e =
     let ds = bind_ok (list_at 1 8 (places.Names list) found) (λ ds. each (listed_at list names) [] ds) listed e in
-    let are = each_keeps (listed_at list names) (ArePlaces (length names)) (listed_place_kept list names) [] ds.0 listed (record { known = refl; differ = refl }) ds.2 in
+    let are = all_keep (listed_at list names) (ArePlaces (length names)) (listed_place_kept list names) [] ds.0 listed (record { known = refl; differ = refl }) ds.2 in
     record {
       counted = rw (each_counts (listed_at list names) ds.0 listed ds.2) (list_kept 1 8 (places.Names list) found ds.0 ds.1);
       known = are.known;
@@ -69,16 +71,16 @@ placing_kept t names found placing e = placing_by_kept t names found (option_and
 -- the indexes of a table
 pub record AreIndexes (columns : ℕ) (indexes : List (List ℕ)) : Type 0 where
   pub count : length indexes ≤ 16
-  pub all_are : AllByRecursion (IsColumnList columns) indexes
+  pub all_are : All (IsColumnList columns) indexes
 
 pub indexes_kept : (t : ℕ) (names : List (List ℕ)) (found : Option Data) (indexes : List (List ℕ)) → indexes_at t names found ≡ Ok indexes → AreIndexes (length names) indexes
 unfolding indexes_at
-indexes_kept t names None indexes e = subst (AreIndexes (length names)) (ok_is [] indexes e) (record { count = omega arith; all_are = tt })
+indexes_kept t names None indexes e = subst (AreIndexes (length names)) (ok_is [] indexes e) (record { count = omega arith; all_are = All-nil (IsColumnList (length names)) })
 indexes_kept t names (Some d) indexes e =
     let ds = bind_ok (list_at 0 16 (places.Indexes t) (Some d)) (λ ds. each (index_at t names) [] ds) indexes e in
-    let one = λ (before : List (List ℕ)) (x : Data) (index : List ℕ) (are : AllByRecursion (IsColumnList (length names)) before) (read : index_at t names before x ≡ Ok index).
-    all_push (IsColumnList (length names)) before index are (places_kept (Index t (length before)) names (Some x) index read) in
+    let one = λ (before : List (List ℕ)) (x : Data) (index : List ℕ) (are : All (IsColumnList (length names)) before) (read : index_at t names before x ≡ Ok index).
+    All-push (IsColumnList (length names)) before index are (places_kept (Index t (length before)) names (Some x) index read) in
     record {
       count = below 16 (length indexes) (rw (each_counts (index_at t names) ds.0 indexes ds.2) (list_kept 0 16 (places.Indexes t) (Some d) ds.0 ds.1));
-      all_are = each_keeps (index_at t names) (AllByRecursion (IsColumnList (length names))) one [] ds.0 indexes tt ds.2;
+      all_are = all_keep (index_at t names) (All (IsColumnList (length names))) one [] ds.0 indexes (All-nil (IsColumnList (length names))) ds.2;
     }

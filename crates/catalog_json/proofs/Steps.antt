@@ -1,6 +1,7 @@
 -- What a reading without a fault says of its parts.
-use Rattle.std.proofs.Common.{◌≡◌, ◌==◌, ℕ, ◌+◌, ◌≤◌, IfOk, map, Bool, true, false, cond, List, [], ◌∷◌, ◌++◌, length, position, nat_lt, Option, Some, None, option_map, option_and_then, Ok, Err, refl, ap, subst, arith, length-append}
-use Rattle.std.specs.List.{list_any, position_or_len, AllByRecursion}
+use Rattle.std.proofs.Common.{◌≡◌, ◌==◌, ℕ, ◌≤◌, IfOk, map, Bool, true, false, cond, List, [], ◌∷◌, ◌++◌, length, position, nat_lt, Option, Some, None, option_map, option_and_then, Ok, Err, refl, arith}
+use Rattle.std.specs.List.{list_all, list_any, position_or_len}
+use Rattle.orca_base.proofs.Checked.{bind_ok, each_counts, each_keeps, met, not_met}
 use Rattle.std.specs.Str.{bytes_eq}
 use Rattle.serde_json.specs.Data.{Data}
 use Rattle.std.proofs.lemmas.List.{length-map}
@@ -8,31 +9,9 @@ use Rattle.serde_json.specs.Find.{as_str, as_array}
 use Rattle.serde_json.specs.View.{view}
 use Rattle.serde_json.specs.declared.value.Value.{Value}
 use Rattle.catalog_json.specs.declared.place.Place.{Place}
-use Rattle.catalog_json.specs.declared.fault.Fault.{Fault}
 use Rattle.catalog_json.specs.declared.fault.Fault.TheVariants.{Shape, Range, Twice}
-use Rattle.catalog_json.specs.Limits.{within, is_catalog_name}
-use Rattle.catalog_json.specs.Walk.{◌>>=◌, Gives, Reading, each, elements, in_limits, list_at, name_at, named, new_name_at, new_place, number_at, of_length, whole}
-
-abbrev pub done : {A : Type 0} → A → Reading A
-done x = Ok x
-
--- the value of a reading that gave both
-pub ok_is : {A : Type 0} (x y : A) → done x ≡ done y → x ≡ y
-ok_is x y e = cc
-
--- each step of a reading without a fault has a value
-pub bind_ok : {A B : Type 0} (first : Reading A) (next : A → Reading B) (y : B) → (first >>= next) ≡ Ok y → (x : A) × (first ≡ Ok x) × (next x ≡ Ok y)
-bind_ok (Ok x) next y e = (x, refl, e)
-bind_ok (Err fault) next y e = absurd cc
-
--- a test that was met, and one that was not
-pub met : {A : Type 0} (b : Bool) (fault : Fault) (x y : A) → cond b (Ok x) (Err fault) ≡ done y → (b ≡ true) × (x ≡ y)
-met true fault x y e = (refl, cc)
-met false fault x y e = absurd cc
-
-pub not_met : {A : Type 0} (b : Bool) (fault : Fault) (x y : A) → cond b (Err fault) (Ok x) ≡ done y → (b ≡ false) × (x ≡ y)
-not_met true fault x y e = absurd cc
-not_met false fault x y e = (refl, cc)
+use Rattle.query_core.specs.Catalog.{within, is_catalog_name}
+use Rattle.catalog_json.specs.Walk.{Gives, Reading, each, elements, in_limits, list_at, name_at, named, new_name_at, new_place, number_at, of_length, whole}
 
 -- ---- numbers, names and lists
 
@@ -82,33 +61,17 @@ listed_kept at before test names i e = let new = new_place_kept at before (posit
 
 -- ---- elements
 
--- P holds of one more element
-pub all_push : {A : Type 0} (P : A → Type 0) (xs : List A) (x : A) → AllByRecursion P xs → P x → AllByRecursion P (xs ++ x ∷ [])
-all_push P [] x all one = (one, tt)
-all_push P (y ∷ ys) x all one = (all.0, all_push P ys x all.1 one)
+all_pass : {X : Type 0} (xs : List X) → list_all (λ x. true) xs ≡ true
+all_pass [] = refl
+all_pass (x ∷ xs) = all_pass xs
 
 module _ {A : Type 0} (read : List A → Data → Reading A) where
-  -- as many are read as there are
-  more_counts : (before : List A) (ds : List Data) (xs : List A) → each read before ds ≡ Ok xs → length xs ≡ length before + length ds
-  unfolding each
-  more_counts before [] xs e = omega (arith, ap length (ok_is before xs e))
-  more_counts before (d ∷ ds) xs e =
-      let x = bind_ok (read before d) (λ x. each read (before ++ x ∷ []) ds) xs e in
-      omega (arith, more_counts (before ++ x.0 ∷ []) ds xs x.2, length-append before (x.0 ∷ []))
-
-  pub each_counts : (ds : List Data) (xs : List A) → each read [] ds ≡ Ok xs → length xs ≡ length ds
-  each_counts ds xs e = omega (arith, more_counts [] ds xs e)
-
   -- no more are read than there are
   pub no_more : (values : List Value) (result : Reading (List A)) (most : ℕ) → Gives (each read [] (map view values)) result → length values ≤ most → IfOk result (λ xs. length xs ≤ most)
-  no_more values (Ok xs) most gives le = omega (arith, each_counts (map view values) xs gives, length-map values view, le)
+  no_more values (Ok xs) most gives le = omega (arith, each_counts read (map view values) xs gives, length-map values view, le)
   no_more values (Err fault) most gives le = tt
 
   -- what each element keeps, all keep
-  pub each_keeps : (P : List A → Type 0) (step : (before : List A) (d : Data) (x : A) → P before → read before d ≡ Ok x → P (before ++ x ∷ []))
+  pub all_keep : (P : List A → Type 0) (step : (before : List A) (d : Data) (x : A) → P before → read before d ≡ Ok x → P (before ++ x ∷ []))
       (before : List A) (ds : List Data) (xs : List A) → P before → each read before ds ≡ Ok xs → P xs
-  unfolding each
-  each_keeps P step before [] xs p e = subst P (ok_is before xs e) p
-  each_keeps P step before (d ∷ ds) xs p e =
-      let x = bind_ok (read before d) (λ x. each read (before ++ x ∷ []) ds) xs e in
-      each_keeps P step (before ++ x.0 ∷ []) ds xs (step before d x.0 p x.1) x.2
+  all_keep P step before ds xs p e = each_keeps read (λ d. true) P (λ before d x p good e. step before d x p e) before ds xs (all_pass ds) p e

@@ -1,27 +1,28 @@
 -- A catalogue that is read keeps the limits, has names that differ, and lists its own columns.
-use Rattle.std.proofs.Common.{◌≡◌, ◌≤◌, true, List, [], ◌∷◌, ◌++◌, length, map, codes, Option, Ok, refl, subst}
-use Rattle.std.specs.List.{AllByRecursion}
+use Rattle.std.proofs.Common.{◌≡◌, All, ◌≤◌, true, List, [], ◌∷◌, ◌++◌, length, map, codes, Option, Ok, refl, subst}
 use Rattle.std.specs.Str.{bytes_eq}
 use Rattle.std.specs.Cmp.Lexicographic.{nat_list_eq_equiv}
 use Rattle.std.proofs.lemmas.List.{length-map, map_push}
+use Rattle.std.proofs.lemmas.List.Elements.{All-nil, All-push}
 use Rattle.query_core.specs.declared.catalog.ColumnInfo.{ColumnInfo}
 use Rattle.query_core.specs.declared.catalog.TableInfo.{TableInfo}
 use Rattle.query_core.specs.declared.catalog.Catalog.{Catalog}
 use Rattle.serde_json.specs.Data.{Data}
 use Rattle.serde_json.specs.Find.{get}
 use Rattle.catalog_json.specs.declared.place.Place.TheVariants as places
-use Rattle.catalog_json.specs.Limits.{trillion}
+use Rattle.query_core.specs.Catalog.{trillion}
 use Rattle.query_core.specs.Differ.{all_differ}
-use Rattle.catalog_json.specs.Catalog.{IsTable, IsCatalog}
+use Rattle.query_core.specs.Catalog.{IsTable, IsCatalog}
 use Rattle.catalog_json.specs.Walk.{◌>>=◌, catalog_at, columns_at, each, indexes_at, list_at, new_name_at, number_at, object_at, placing_at, table_at, tables_at, version_at}
-use Rattle.catalog_json.proofs.Differ.{differ_push}
-use Rattle.catalog_json.proofs.Steps.{all_push, bind_ok, done, each_counts, each_keeps, list_kept, new_name_kept, number_kept, ok_is}
+use Rattle.query_core.proofs.Apart.{differ_push}
+use Rattle.orca_base.proofs.Checked.{bind_ok, done, each_counts, ok_is}
+use Rattle.catalog_json.proofs.Steps.{all_keep, list_kept, new_name_kept, number_kept}
 use Rattle.catalog_json.proofs.ColumnsKept.{below, columns_kept}
 use Rattle.catalog_json.proofs.ListsKept.{indexes_kept, placing_kept}
 
 -- tables as those of a catalogue, as far as they are read
 record AreTables (tables : List TableInfo) : Type 0 where
-  all_are : AllByRecursion IsTable tables
+  all_are : All IsTable tables
   differ : all_differ bytes_eq (map (λ t. t.name) tables) ≡ true
 
 table_kept : (before : List TableInfo) (d : Data) (table : TableInfo) → AreTables before → table_at before d ≡ Ok table → AreTables (before ++ table ∷ [])
@@ -43,7 +44,7 @@ table_kept before d table so_far e =
     let listed = rw width at (indexes_kept t (texts columns.0) (get (codes "indexes") o) indexes.0 indexes.1) in
     let made : TableInfo = record { name = name.0; rows = rows.0; placing = placing.0; columns = columns.0; indexes = indexes.0 } in
     subst (λ (x : TableInfo). AreTables (before ++ x ∷ [])) (ok_is made table indexes.2) (record {
-      all_are = all_push IsTable before made so_far.all_are (record {
+      all_are = All-push IsTable before made so_far.all_are (record {
         named = new.0;
         counted = below trillion rows.0 (number_kept 0 trillion (places.Rows t) (get (codes "rows") o) rows.0 rows.1);
         width = are.width;
@@ -67,7 +68,7 @@ tables_kept found tables e =
     let ds = bind_ok (list_at 0 1000 places.Tables found) (λ ds. each table_at [] ds) tables e in
     record {
       count = below 1000 (length tables) (rw (each_counts table_at ds.0 tables ds.2) (list_kept 0 1000 places.Tables found ds.0 ds.1));
-      are = each_keeps table_at AreTables table_kept [] ds.0 tables (record { all_are = tt; differ = refl }) ds.2;
+      are = all_keep table_at AreTables table_kept [] ds.0 tables (record { all_are = All-nil IsTable; differ = refl }) ds.2;
     }
 
 pub catalog_kept : (d : Data) (catalog : Catalog) → catalog_at d ≡ Ok catalog → IsCatalog catalog

@@ -1,6 +1,7 @@
 -- No fault of the walk is want of memory.
-use Rattle.std.proofs.Common.{◌≢◌, ◌==◌, ℕ, Bool, true, false, cond, List, [], ◌∷◌, ◌++◌, length, map, codes, position, nat_lt, Option, Some, None, option_map, option_and_then, is_some, Ok, Err}
-use Rattle.std.specs.Bool.{⊤}
+use Rattle.std.proofs.Common.{◌≢◌, ◌==◌, ℕ, Bool, true, false, cond, List, [], length, map, codes, position, nat_lt, Option, Some, None, option_map, option_and_then, is_some, Ok, Err}
+use Rattle.orca_base.proofs.Checked as checked
+use Rattle.orca_base.proofs.Checked.{either, goes_on, seen_told, each_told}
 use Rattle.std.specs.List.{list_any}
 use Rattle.std.specs.Str.{bytes_eq}
 use Rattle.serde_json.specs.Data.{Data}
@@ -16,62 +17,39 @@ use Rattle.catalog_json.specs.declared.place.NameList.{NameList}
 use Rattle.catalog_json.specs.declared.place.NameList.TheVariants.{Distribution, Index}
 use Rattle.catalog_json.specs.declared.place.Place.{Place}
 use Rattle.catalog_json.specs.declared.place.Place.TheVariants as places
-use Rattle.catalog_json.specs.Limits.{trillion, within, is_catalog_name}
-use Rattle.catalog_json.specs.Walk.{Reading, ◌>>=◌, seen, each, elements, in_limits, whole, number_at, named, name_at, new_name_at, of_length, list_at, object_at, column_at, columns_at, new_place, listed_at, places_at, placing_by, index_at, indexes_at, table_at, version_one, tables_at, catalog_at}
+use Rattle.query_core.specs.Catalog.{trillion, within, is_catalog_name}
+use Rattle.catalog_json.specs.Walk.{Reading, elements, in_limits, whole, number_at, named, name_at, new_name_at, of_length, list_at, object_at, column_at, columns_at, new_place, listed_at, places_at, placing_by, index_at, indexes_at, table_at, version_one, tables_at, catalog_at}
 use Rattle.catalog_json.specs.Outcome.{told, told_of, of_value, json_of, most_bytes, reading_of}
 
 -- the reading has a value, or a fault other than want of memory
 abbrev IsTold : {A : Type 0} → Reading A → Type 0
-IsTold (Ok x) = ⊤
-IsTold (Err fault) = fault ≢ faults.Memory
-
--- of two readings one is told, whichever test decides
-either : {A : Type 0} (b : Bool) (x y : Reading A) → IsTold x → IsTold y → IsTold (cond b x y)
-either true x y first second = first
-either false x y first second = second
-
-module _ {A B : Type 0} where
-  -- a reading goes on to others that are told
-  goes_on : (first : Reading A) (next : A → Reading B) → IsTold first → ((x : A) → IsTold (next x)) → IsTold (first >>= next)
-  goes_on (Ok x) next is more = more x
-  goes_on (Err fault) next is more = is
-
-  -- what is seen of a reading
-  seen_told : (f : A → B) (reading : Reading A) → IsTold reading → IsTold (seen f reading)
-  seen_told f (Ok x) is = tt
-  seen_told f (Err fault) is = is
-
--- elements that are told make a list that is told
-each_told : {A : Type 0} (read : List A → Data → Reading A) → ((before : List A) (d : Data) → IsTold (read before d)) → (before : List A) (ds : List Data) → IsTold (each read before ds)
-unfolding each
-each_told read is before [] = tt
-each_told read is before (d ∷ ds) = goes_on (read before d) (λ x. each read (before ++ x ∷ []) ds) (is before d) (λ x. each_told read is (before ++ x ∷ []) ds)
+IsTold reading = checked.IsTold faults.Memory reading
 
 -- ---- numbers, names, lists and objects
 
 limits_told : (least most : ℕ) (at : Place) (found : Option ℕ) → IsTold (in_limits least most at found)
 limits_told least most at None = λ same. cc
-limits_told least most at (Some n) = either (within least most n) (Ok n) (Err (faults.Range at)) tt (λ same. cc)
+limits_told least most at (Some n) = either faults.Memory (within least most n) (Ok n) (Err (faults.Range at)) tt (λ same. cc)
 
 named_told : (at : Place) (found : Option (List ℕ)) → IsTold (named at found)
 named_told at None = λ same. cc
-named_told at (Some text) = either (is_catalog_name text) (Ok text) (Err (faults.Shape at)) tt (λ same. cc)
+named_told at (Some text) = either faults.Memory (is_catalog_name text) (Ok text) (Err (faults.Shape at)) tt (λ same. cc)
 
 new_name_told : (at : Place) (before : List (List ℕ)) (found : Option Data) → IsTold (new_name_at at before found)
 unfolding new_name_at
 new_name_told at before found =
-    goes_on (name_at at found) (λ name. cond (list_any (bytes_eq name) before) (Err (faults.Twice at)) (Ok name)) (named_told at (option_and_then as_str found))
-    (λ name. either (list_any (bytes_eq name) before) (Err (faults.Twice at)) (Ok name) (λ same. cc) tt)
+    goes_on faults.Memory (name_at at found) (λ name. cond (list_any (bytes_eq name) before) (Err (faults.Twice at)) (Ok name)) (named_told at (option_and_then as_str found))
+    (λ name. either faults.Memory (list_any (bytes_eq name) before) (Err (faults.Twice at)) (Ok name) (λ same. cc) tt)
 
 length_told : (least most : ℕ) (at : Place) (found : Option (List Data)) → IsTold (of_length least most at found)
 length_told least most at None = λ same. cc
-length_told least most at (Some ds) = either (within least most (length ds)) (Ok ds) (Err (faults.Range at)) tt (λ same. cc)
+length_told least most at (Some ds) = either faults.Memory (within least most (length ds)) (Ok ds) (Err (faults.Range at)) tt (λ same. cc)
 
 list_told : (least most : ℕ) (at : Place) (found : Option Data) → IsTold (list_at least most at found)
 list_told least most at found = length_told least most at (option_map elements (option_and_then as_array found))
 
 object_told : (at : Place) (d : Data) → IsTold (object_at at d)
-object_told at d = either (is_some (as_object d)) (Ok d) (Err (faults.Shape at)) tt (λ same. cc)
+object_told at d = either faults.Memory (is_some (as_object d)) (Ok d) (Err (faults.Shape at)) tt (λ same. cc)
 
 -- ---- columns and lists of their names
 
@@ -80,65 +58,65 @@ number_told least most at found = limits_told least most at (option_and_then who
 
 column_told : (t : ℕ) (before : List ColumnInfo) (d : Data) → IsTold (column_at t before d)
 unfolding column_at
-column_told t before d = goes_on _ _ (object_told (places.Column t (length before)) d)
-    (λ object. goes_on _ _ (new_name_told (places.ColumnName t (length before)) (map (λ c. c.name) before) (get (codes "name") object))
-    (λ name. goes_on _ _ (number_told 0 trillion (places.Ndv t (length before)) (get (codes "ndv") object)) (λ ndv. tt)))
+column_told t before d = goes_on faults.Memory _ _ (object_told (places.Column t (length before)) d)
+    (λ object. goes_on faults.Memory _ _ (new_name_told (places.ColumnName t (length before)) (map (λ c. c.name) before) (get (codes "name") object))
+    (λ name. goes_on faults.Memory _ _ (number_told 0 trillion (places.Ndv t (length before)) (get (codes "ndv") object)) (λ ndv. tt)))
 
 columns_told : (t : ℕ) (found : Option Data) → IsTold (columns_at t found)
 unfolding columns_at
-columns_told t found = goes_on _ _ (list_told 1 1000 (places.Columns t) found) (λ ds. each_told (column_at t) (column_told t) [] ds)
+columns_told t found = goes_on faults.Memory _ _ (list_told 1 1000 (places.Columns t) found) (λ ds. each_told faults.Memory (column_at t) (column_told t) [] ds)
 
 place_told : (at : Place) (before : List ℕ) (found : Option ℕ) → IsTold (new_place at before found)
 place_told at before None = λ same. cc
-place_told at before (Some i) = either (list_any (λ p. p == i) before) (Err (faults.Twice at)) (Ok i) (λ same. cc) tt
+place_told at before (Some i) = either faults.Memory (list_any (λ p. p == i) before) (Err (faults.Twice at)) (Ok i) (λ same. cc) tt
 
 listed_told : (list : NameList) (names : List (List ℕ)) (before : List ℕ) (d : Data) → IsTold (listed_at list names before d)
 unfolding listed_at
-listed_told list names before d = goes_on _ _ (named_told (places.Listed list (length before)) (option_and_then as_str (Some d)))
+listed_told list names before d = goes_on faults.Memory _ _ (named_told (places.Listed list (length before)) (option_and_then as_str (Some d)))
     (λ name. place_told (places.Listed list (length before)) before (position (bytes_eq name) names))
 
 places_told : (list : NameList) (names : List (List ℕ)) (found : Option Data) → IsTold (places_at list names found)
 unfolding places_at
-places_told list names found = goes_on _ _ (list_told 1 8 (places.Names list) found) (λ ds. each_told (listed_at list names) (listed_told list names) [] ds)
+places_told list names found = goes_on faults.Memory _ _ (list_told 1 8 (places.Names list) found) (λ ds. each_told faults.Memory (listed_at list names) (listed_told list names) [] ds)
 
 -- ---- tables
 
 placing_by_told : (t : ℕ) (names : List (List ℕ)) (found : Option Data) (text : Option (List ℕ)) → IsTold (placing_by t names found text)
 unfolding placing_by
-placing_by_told t names found (Some text) = either (bytes_eq text (codes "random")) _ _ tt (λ same. cc)
-placing_by_told t names found None = seen_told Hashed (places_at (Distribution t) names found) (places_told (Distribution t) names found)
+placing_by_told t names found (Some text) = either faults.Memory (bytes_eq text (codes "random")) _ _ tt (λ same. cc)
+placing_by_told t names found None = seen_told faults.Memory Hashed (places_at (Distribution t) names found) (places_told (Distribution t) names found)
 
 indexes_told : (t : ℕ) (names : List (List ℕ)) (found : Option Data) → IsTold (indexes_at t names found)
 unfolding indexes_at
 indexes_told t names None = tt
-indexes_told t names (Some d) = goes_on _ _ (list_told 0 16 (places.Indexes t) (Some d))
-    (λ ds. each_told (index_at t names) (λ before e. places_told (Index t (length before)) names (Some e)) [] ds)
+indexes_told t names (Some d) = goes_on faults.Memory _ _ (list_told 0 16 (places.Indexes t) (Some d))
+    (λ ds. each_told faults.Memory (index_at t names) (λ before e. places_told (Index t (length before)) names (Some e)) [] ds)
 
 table_told : (before : List TableInfo) (d : Data) → IsTold (table_at before d)
 unfolding table_at
-table_told before d = goes_on _ _ (object_told (places.Table (length before)) d)
-    (λ object. goes_on _ _ (new_name_told (places.TableName (length before)) (map (λ t. t.name) before) (get (codes "name") object))
-    (λ name. goes_on _ _ (number_told 0 trillion (places.Rows (length before)) (get (codes "rows") object))
-    (λ rows. goes_on _ _ (columns_told (length before) (get (codes "columns") object))
-    (λ columns. goes_on _ _ (placing_by_told (length before) (map (λ c. c.name) columns) (get (codes "distribution") object) (option_and_then as_str (get (codes "distribution") object)))
-    (λ placing. goes_on _ _ (indexes_told (length before) (map (λ c. c.name) columns) (get (codes "indexes") object)) (λ indexes. tt))))))
+table_told before d = goes_on faults.Memory _ _ (object_told (places.Table (length before)) d)
+    (λ object. goes_on faults.Memory _ _ (new_name_told (places.TableName (length before)) (map (λ t. t.name) before) (get (codes "name") object))
+    (λ name. goes_on faults.Memory _ _ (number_told 0 trillion (places.Rows (length before)) (get (codes "rows") object))
+    (λ rows. goes_on faults.Memory _ _ (columns_told (length before) (get (codes "columns") object))
+    (λ columns. goes_on faults.Memory _ _ (placing_by_told (length before) (map (λ c. c.name) columns) (get (codes "distribution") object) (option_and_then as_str (get (codes "distribution") object)))
+    (λ placing. goes_on faults.Memory _ _ (indexes_told (length before) (map (λ c. c.name) columns) (get (codes "indexes") object)) (λ indexes. tt))))))
 
 -- ---- the whole
 
 version_told : (found : Option ℕ) → IsTold (version_one found)
 version_told None = λ same. cc
-version_told (Some n) = either (n == 1) (Ok n) (Err (faults.Version n)) tt (λ same. cc)
+version_told (Some n) = either faults.Memory (n == 1) (Ok n) (Err (faults.Version n)) tt (λ same. cc)
 
 tables_told : (found : Option Data) → IsTold (tables_at found)
 unfolding tables_at
-tables_told found = goes_on _ _ (list_told 0 1000 places.Tables found) (λ ds. each_told table_at table_told [] ds)
+tables_told found = goes_on faults.Memory _ _ (list_told 0 1000 places.Tables found) (λ ds. each_told faults.Memory table_at table_told [] ds)
 
 catalog_told : (d : Data) → IsTold (catalog_at d)
 unfolding catalog_at
-catalog_told d = goes_on _ _ (object_told places.Whole d)
-    (λ object. goes_on _ _ (version_told (option_and_then whole (get (codes "version") object)))
-    (λ version. goes_on _ _ (number_told 1 1000 places.Segments (get (codes "segments") object))
-    (λ segments. goes_on _ _ (tables_told (get (codes "tables") object)) (λ tables. tt))))
+catalog_told d = goes_on faults.Memory _ _ (object_told places.Whole d)
+    (λ object. goes_on faults.Memory _ _ (version_told (option_and_then whole (get (codes "version") object)))
+    (λ version. goes_on faults.Memory _ _ (number_told 1 1000 places.Segments (get (codes "segments") object))
+    (λ segments. goes_on faults.Memory _ _ (tables_told (get (codes "tables") object)) (λ tables. tt))))
 
 -- a fault other than want of memory is told as one
 other_told : (fault : Fault) → fault ≢ faults.Memory → told fault ≢ outcomes.Memory

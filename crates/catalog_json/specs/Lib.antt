@@ -1,6 +1,4 @@
-pub mod Catalog
 pub mod Columns
-pub mod Limits
 pub mod Object
 pub mod Outcome
 pub mod Place

@@ -1,7 +1,10 @@
 -- Reading the parts of a catalogue in order, up to the first fault.
-use Rattle.std.specs.Prelude.{◌≡◌, ◌≢◌, ℕ, ◌==◌, List, [], ◌∷◌, ◌++◌, length, map, position, codes, if◌then◌else◌, Option, Some, None, option_map, option_and_then, is_some, Result, Ok, Err}
+pub use Rattle.orca_base.specs.Checked.{◌>>=◌, seen}
+unfoldable pub use Rattle.orca_base.specs.Checked.{each}
+use Rattle.std.specs.Prelude.{ℕ, ◌==◌, List, [], ◌∷◌, length, map, position, codes, if◌then◌else◌, Option, Some, None, option_map, option_and_then, is_some, Result, Ok, Err}
 use Rattle.std.specs.List.{list_any}
 use Rattle.std.specs.Str.{bytes_eq}
+use Rattle.orca_base.specs.Checked as checked
 use Rattle.query_core.specs.declared.catalog.ColumnInfo.{ColumnInfo}
 use Rattle.query_core.specs.declared.catalog.Placing.{Placing}
 use Rattle.query_core.specs.declared.catalog.Placing.TheVariants.{Hashed, Random}
@@ -9,7 +12,7 @@ use Rattle.query_core.specs.declared.catalog.TableInfo.{TableInfo}
 use Rattle.query_core.specs.declared.catalog.Catalog.{Catalog}
 use Rattle.serde_json.specs.Data.{Data, Items, no_items, item}
 use Rattle.serde_json.specs.Find.{get, as_number, as_u64, as_str, as_array, as_object}
-use Rattle.catalog_json.specs.Limits.{trillion, within, is_catalog_name}
+use Rattle.query_core.specs.Catalog.{trillion, within, is_catalog_name}
 use Rattle.catalog_json.specs.declared.place.NameList.{NameList}
 use Rattle.catalog_json.specs.declared.place.NameList.TheVariants.{Distribution, Index}
 use Rattle.catalog_json.specs.declared.place.Place.{Place}
@@ -21,28 +24,9 @@ use Rattle.catalog_json.specs.declared.fault.Fault.TheVariants.{Shape, Version, 
 abbrev pub Reading : Type 0 → Type 0
 Reading A = Result A Fault
 
--- the next part is read only where this one has no fault
-infixl 10 ◌>>=◌
-abbrev pub ◌>>=◌ : {A B : Type 0} → Reading A → (A → Reading B) → Reading B
-(Ok x) >>= next = next x
-(Err fault) >>= next = Err fault
-
 -- what a function returned is the reading, unless memory ran out
 abbrev pub Gives : {A : Type 0} → Reading A → Reading A → Type 0
-Gives reading (Ok x) = reading ≡ Ok x
-Gives reading (Err fault) = fault ≢ Memory → reading ≡ Err fault
-
--- what was read, seen by f
-abbrev pub seen : {A B : Type 0} → (A → B) → Reading A → Reading B
-seen f (Ok x) = Ok (f x)
-seen f (Err fault) = Err fault
-
--- the elements in order, each read after those before it
-unfoldable pub each : {A : Type 0} → (List A → Data → Reading A) → List A → List Data → Reading (List A)
-each read before [] = Ok before
-each read before (d ∷ ds) = do
-  x ← read before d
-  each read (before ++ x ∷ []) ds
+Gives reading returned = checked.Gives Memory reading returned
 
 -- ---- numbers, names, lists and objects
 

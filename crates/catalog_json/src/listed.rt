@@ -79,7 +79,8 @@ pub fn read_places(
     value: Option<&Value>,
 ) -> Result<List<u32>, Fault>
     requires { length columns.now ≤ 1000 }
-    ensures { Gives (places_at list (names_of columns.now) (option_map (λ v. view v.now) value.entry)) result }
+    ensures { Gives
+        (places_at list (names_of columns.now) (option_map (λ v. view v.now) value.entry)) result }
 {
     let values = list_at(value, 1, MOST_LISTED, Place::Names(list))?;
     read_each_listed(alloc, list, columns, values)

@@ -7,7 +7,7 @@ ghost use Rattle.serde_json.specs.View.{view};
 ghost use Rattle.catalog_json.specs.Walk.{Gives, new_name_at};
 
 use crate::fault::Fault;
-use crate::member::name_at;
+use crate::member::take_name;
 use crate::place::Place;
 use indexmap::IndexSet;
 use orca_base::Text;
@@ -55,16 +55,17 @@ impl Names {
     pub fn read_new(
         &mut self,
         alloc: Global,
-        value: Option<&Value>,
+        value: Option<Value>,
         place: Place,
     ) -> Result<Text, Fault>
-        ensures read { Gives (new_name_at place self.old (option_map (λ v. view v.now) value.entry)) result }
+        ensures read { Gives (new_name_at place self.old (option_map view value)) result }
         ensures added { IfOk result (λ name. self.new ≡ self.old ++ name ∷ []) }
     {
-        let name = name_at(value, place)?;
-        if !self.add(String::from_str(alloc, name)?)? {
+        let name = take_name(value, place)?;
+        let copied = Text::of(String::from_str(alloc, name.as_str())?);
+        if !self.add(name)? {
             return Err(Fault::Twice(place));
         }
-        Ok(Text::of(String::from_str(alloc, name)?))
+        Ok(copied)
     }
 }

@@ -3,7 +3,7 @@ ghost use Rattle.std.specs.Prelude.{◌≡◌, ◌≢◌, ◌↔◌, ◌<◌, le
 ghost use Rattle.serde_json.specs.View.{view};
 ghost use Rattle.catalog_json.specs.Walk.{Gives, catalog_at, version_at};
 ghost use Rattle.catalog_json.specs.Outcome.{CatalogReads, json_of, most_bytes, told_of};
-ghost use Rattle.catalog_json.specs.Catalog.{IsCatalog};
+ghost use Rattle.query_core.specs.Catalog.{IsCatalog};
 
 use crate::fault::{CatalogFault, Fault};
 use crate::member::{number_at, whole};

@@ -38,7 +38,8 @@ fn read_placing(
     value: Option<&Value>,
 ) -> Result<Placing, Fault>
     requires { length columns.now ≤ 1000 }
-    ensures { Gives (placing_at t (names_of columns.now) (option_map (λ v. view v.now) value.entry)) result }
+    ensures { Gives
+        (placing_at t (names_of columns.now) (option_map (λ v. view v.now) value.entry)) result }
 {
     let list = NameList::Distribution(t);
     match value.and_then(Value::as_str) {
@@ -73,7 +74,8 @@ fn read_indexes(
     value: Option<&Value>,
 ) -> Result<List<List<u32>>, Fault>
     requires { length columns.now ≤ 1000 }
-    ensures { Gives (indexes_at t (names_of columns.now) (option_map (λ v. view v.now) value.entry)) result }
+    ensures { Gives
+        (indexes_at t (names_of columns.now) (option_map (λ v. view v.now) value.entry)) result }
 {
     match value {
         None => Ok(List::new(alloc)),
@@ -98,7 +100,7 @@ fn read_table(
 {
     let t = before.len();
     let mut object = Object::of(value, Place::Table(t))?;
-    let name = names.read_new(alloc, object.get("name"), Place::TableName(t))?;
+    let name = names.read_new(alloc, object.take("name"), Place::TableName(t))?;
     let rows = number_at(object.get("rows"), 0, TRILLION, Place::Rows(t))?;
     let columns = read_columns(alloc, t, object.take("columns"))?;
     let placing = read_placing(alloc, t, &columns, object.get("distribution"))?;

@@ -59,6 +59,7 @@ fn two_tables_are_read(rt: HostRuntime) -> Result<(), Fail> {
         assert_eq!(rt; table.name.as_str(), "T2");
         assert_eq!(rt; table.rows, 1000);
         assert!(rt; table.indexes.is_empty());
+        assert_eq!(rt; table.columns.len(), 2);
         assert!(rt;
             matches!(&table.placing, Placing::Hashed(places) if places.as_slice() == [0].as_slice())
         );
@@ -227,17 +228,24 @@ fn each_proper_prefix_is_refused(rt: HostRuntime) -> Result<(), Fail> {
 
 #[test]
 fn a_hundred_and_twenty_seven_levels_are_read(rt: HostRuntime) -> Result<(), Fail> {
-    // The object itself is one level.
-    for (arrays, want) in [(126, "read"), (127, "not JSON"), (200, "not JSON")] {
-        let open = repeated(rt.alloc(), "[", arrays)?;
-        let close = repeated(rt.alloc(), "]", arrays)?;
-        let front = format!(in rt.alloc();
-            "{{\"x\":{}{},\"version\"",
-            open.as_str(),
-            close.as_str()
-        )?;
-        let line = changed(rt.alloc(), "{\"version\"", front.as_str())?;
-        assert_eq!(rt; line.as_str(), want);
+    let alloc = rt.alloc();
+    // Arrays alone, which are no object; and under the object, which is a level, where a key is
+    // passed over and where one is looked at.
+    for (arrays, alone, passed_over, looked_at) in [
+        (126, "shape at ", "read", "shape at /segments"),
+        (127, "shape at ", "not JSON", "not JSON"),
+        (128, "not JSON", "not JSON", "not JSON"),
+    ] {
+        let open = repeated(alloc, "[", arrays)?;
+        let close = repeated(alloc, "]", arrays)?;
+        let nested = format!(in alloc; "{}{}", open.as_str(), close.as_str())?;
+        assert_eq!(rt; said(alloc, nested.as_bytes())?.as_str(), alone);
+        let beside = format!(in alloc; "{{\"x\":{},\"version\"", nested.as_str())?;
+        let line = changed(alloc, "{\"version\"", beside.as_str())?;
+        assert_eq!(rt; line.as_str(), passed_over);
+        let inside = format!(in alloc; "\"segments\":{}", nested.as_str())?;
+        let line = changed(alloc, "\"segments\":4", inside.as_str())?;
+        assert_eq!(rt; line.as_str(), looked_at);
     }
     Ok(())
 }

@@ -1,17 +1,12 @@
 -- The lines of the memo's text as the program makes them.
-use Rattle.std.specs.Prelude.{ℕ, Bool, true, not, ◌≡◌, ◌==◌, List, [], ◌∷◌, Option, None, Some, String, All, map, string_bytes, if◌then◌else◌}
+use Rattle.std.specs.Prelude.{ℕ, Bool, true, not, ◌≡◌, ◌==◌, List, [], ◌∷◌, Option, None, Some, All, map, if◌then◌else◌}
 use Rattle.std.specs.List.Sorted.{IsNonDecreasingBy}
-use Rattle.std.proofs.Common.{Global}
 use Rattle.query_core.specs.Keys.{key_number}
 use Rattle.query_core.specs.Expressions.{word_of, IsPacked, IsCandidate}
 use Rattle.query_core.specs.declared.query.Query.{Query}
 use Rattle.query_core.specs.declared.words.KeyParts.{KeyParts}
 use Rattle.query_core.specs.declared.expressions.ExprParts.{ExprParts}
 use Rattle.job_trace.specs.Groups.{group_line}
-
--- the bytes of each of some strings
-abbrev pub texts_of : List (String Global) → List (List ℕ)
-texts_of lines = map string_bytes lines
 
 -- the words are those of these expressions, whose parts fit
 pub record HaveWords (words : List ℕ) (es : List ExprParts) : Type 0 where

@@ -1,6 +1,6 @@
--- The lines in which the memo is printed.
+-- The text in which the memo is printed.
 use Rattle.std.specs.Prelude.{ℕ, Bool, List, ◌∷◌, ◌++◌, ◌≡◌, ◌==◌, All, codes, decimal, filter, flat_map, length, map}
-use Rattle.std.specs.List.{dedup}
+use Rattle.std.specs.List.{concat, dedup}
 use Rattle.std.specs.List.Sorted.{IsStrictlyIncreasing}
 use Rattle.query_core.specs.Keys.{key_number}
 use Rattle.query_core.specs.Expressions.{word_of, IsCandidate}
@@ -39,3 +39,9 @@ memo_line groups members = codes "memo groups=" ++ decimal groups ++ codes " mem
 -- the lines of the memo's text: the two numbers, and then group by group
 abbrev pub memo_section : Query → List ExprParts → List (List ℕ)
 memo_section q es = memo_line (length (groups_of es)) (length es) ∷ flat_map (group_lines q es) (groups_of es)
+
+-- the text is that of the memo whose members have these words
+pub record IsMemoText (q : Query) (words text : List ℕ) : Type 0 where
+  pub members : List ExprParts
+  pub are : AreMembers q words members
+  pub lines : text ≡ concat (memo_section q members)

@@ -7,4 +7,4 @@ mod memo;
 #[cfg(test)]
 mod tests;
 
-pub use memo::{members_are_known, memo_text};
+pub use memo::{memo_text, memos_are_known};

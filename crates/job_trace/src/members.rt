@@ -1,47 +1,77 @@
 //! How a member of a group is printed.
 #![tactic(auto)]
 
-ghost use Rattle.std.specs.Prelude.{◌≡◌, IfOk, codes, string_bytes};
+ghost use Rattle.std.specs.Prelude.{◌≡◌, IfOk, string_bytes};
 ghost use Rattle.job_trace.specs.Groups as texts_of_groups;
 ghost use Rattle.job_trace.specs.Members as texts;
 
 use crate::groups::{named, tables_text};
-use query_core::{Children, ExprParts, KeyParts, Operator, Query};
+use query_core::{ExprParts, KeyParts, Logical, Operator, Physical, Query};
 use std::alloc::{AllocError, Global};
 
 /// The line of a member, two spaces before it.
 pub fn member_line(alloc: Global, query: &Query, member: ExprParts) -> Result<String, AllocError>
     ensures { IfOk result (λ s. string_bytes s ≡ texts.member_line query.now member) }
 {
-    let text = member_text(alloc, query, member)?;
+    let text = operator_text(alloc, query, member.group, member.operator)?;
     Ok(format!(in alloc; "  {text}\n")?)
 }
 
-fn member_text(alloc: Global, query: &Query, member: ExprParts) -> Result<String, AllocError>
-    ensures { IfOk result (λ s. string_bytes s ≡ texts.member_text query.now member) }
+fn operator_text(
+    alloc: Global,
+    query: &Query,
+    group: KeyParts,
+    operator: Operator,
+) -> Result<String, AllocError>
+    ensures { IfOk result (λ s. string_bytes s ≡ texts.operator_text query.now group operator) }
 {
-    let (group, children) = (member.group, member.children);
-    match member.operator {
-        Operator::Get => of_tables(alloc, query, "Get", group),
-        Operator::Scan => of_tables(alloc, query, "Scan", group),
-        Operator::IndexScan(index) => of_index(alloc, query, "IndexScan", group, index),
-        Operator::Select => of_tables(alloc, query, "Select", group),
-        Operator::Filter => of_tables(alloc, query, "Filter", group),
-        Operator::IndexSeek(index) => of_index(alloc, query, "IndexSeek", group, index),
-        Operator::NJoin => of_tables(alloc, query, "NJoin", group),
-        Operator::Join => of_sides(alloc, query, "Join", children),
-        Operator::HashJoin => of_sides(alloc, query, "HashJoin", children),
-        Operator::MergeJoin => of_sides(alloc, query, "MergeJoin", children),
-        Operator::LoopJoin => of_sides(alloc, query, "LoopJoin", children),
-        Operator::Agg => named(alloc, "Agg", source_text(children)),
-        Operator::HashAgg => named(alloc, "HashAgg", source_text(children)),
-        Operator::StreamAgg => named(alloc, "StreamAgg", source_text(children)),
-        Operator::Partial => named(alloc, "Partial", source_text(children)),
-        Operator::PartialAgg => named(alloc, "PartialAgg", source_text(children)),
+    match operator {
+        Operator::Logical(operator) => logical_text(alloc, query, group, operator),
+        Operator::Physical(operator) => physical_text(alloc, query, group, operator),
     }
 }
 
-// An expression over the tables of its group.
+fn logical_text(
+    alloc: Global,
+    query: &Query,
+    group: KeyParts,
+    operator: Logical,
+) -> Result<String, AllocError>
+    ensures { IfOk result (λ s. string_bytes s ≡ texts.logical_text query.now group operator) }
+{
+    match operator {
+        Logical::Get => of_tables(alloc, query, "Get", group),
+        Logical::Select(_) => of_tables(alloc, query, "Select", group),
+        Logical::NJoin => of_tables(alloc, query, "NJoin", group),
+        Logical::Join(left, right) => of_sides(alloc, query, "Join", left, right),
+        Logical::Agg(child) => named(alloc, "Agg", source_text(child)),
+        Logical::Partial(child) => named(alloc, "Partial", source_text(child)),
+    }
+}
+
+fn physical_text(
+    alloc: Global,
+    query: &Query,
+    group: KeyParts,
+    operator: Physical,
+) -> Result<String, AllocError>
+    ensures { IfOk result (λ s. string_bytes s ≡ texts.physical_text query.now group operator) }
+{
+    match operator {
+        Physical::Scan => of_tables(alloc, query, "Scan", group),
+        Physical::IndexScan(index) => of_index(alloc, query, "IndexScan", group, index),
+        Physical::Filter(_) => of_tables(alloc, query, "Filter", group),
+        Physical::IndexSeek(index) => of_index(alloc, query, "IndexSeek", group, index),
+        Physical::HashJoin(left, right) => of_sides(alloc, query, "HashJoin", left, right),
+        Physical::MergeJoin(left, right) => of_sides(alloc, query, "MergeJoin", left, right),
+        Physical::LoopJoin(left, right) => of_sides(alloc, query, "LoopJoin", left, right),
+        Physical::HashAgg(child) => named(alloc, "HashAgg", source_text(child)),
+        Physical::StreamAgg(child) => named(alloc, "StreamAgg", source_text(child)),
+        Physical::PartialAgg(child) => named(alloc, "PartialAgg", source_text(child)),
+    }
+}
+
+// An operator over the tables of its group.
 fn of_tables(
     alloc: Global,
     query: &Query,
@@ -55,7 +85,7 @@ fn of_tables(
     Ok(named(alloc, name, &tables)?)
 }
 
-// An expression over an index of its group's table.
+// An operator over an index of its group's table.
 fn of_index(
     alloc: Global,
     query: &Query,
@@ -71,47 +101,26 @@ fn of_index(
     Ok(named(alloc, name, &about)?)
 }
 
-// An expression over two groups.
+// An operator over two groups.
 fn of_sides(
     alloc: Global,
     query: &Query,
     name: &str,
-    children: Children,
+    left: KeyParts,
+    right: KeyParts,
 ) -> Result<String, AllocError>
     ensures { IfOk result (λ s. string_bytes s ≡
-        texts_of_groups.named name.now (texts.sides_text query.now children)) }
+        texts_of_groups.named name.now (texts.sides_text query.now left right)) }
 {
-    let sides = sides_text(alloc, query, children)?;
+    let left = tables_text(alloc, query, left)?;
+    let right = tables_text(alloc, query, right)?;
+    let sides = format!(in alloc; "{left} | {right}")?;
     Ok(named(alloc, name, &sides)?)
 }
 
-fn sides_text(alloc: Global, query: &Query, children: Children) -> Result<String, AllocError>
-    ensures { IfOk result (λ s. string_bytes s ≡ texts.sides_text query.now children) }
-{
-    match children {
-        Children::Zero => Ok(String::new(alloc)),
-        Children::One(child) => tables_text(alloc, query, child),
-        Children::Two(left, right) => {
-            let left = tables_text(alloc, query, left)?;
-            let right = tables_text(alloc, query, right)?;
-            Ok(format!(in alloc; "{left} | {right}")?)
-        }
-    }
-}
-
-// What an aggregation stands on.
-fn source_text(children: Children) -> &'static str
-    ensures { result.now ≡ texts.source_text children }
-{
-    match children {
-        Children::Zero => "",
-        Children::One(child) => child_text(child),
-        Children::Two(left, _) => child_text(left),
-    }
-}
-
-fn child_text(child: KeyParts) -> &'static str
-    ensures { result.now ≡ texts.child_text child }
+// What is aggregated.
+fn source_text(child: KeyParts) -> &'static str
+    ensures { result.now ≡ texts.source_text child }
 {
     match child {
         KeyParts::Get(_) => "input",

@@ -2,14 +2,15 @@
 #![tactic(auto)]
 
 ghost use Rattle.std.specs.Prelude.{◌≡◌, ◌+◌, ◌++◌, ℕ, List, All, IfOk, OnOk, flat_map, length, map, string_bytes};
+ghost use Rattle.std.specs.List.{concat};
 ghost use Rattle.std.specs.List.Sorted.{IsStrictlyIncreasing};
 ghost use Rattle.query_core.specs.Keys.{key_number, IsInRange, IsGroup};
 ghost use Rattle.query_core.specs.Expressions.{IsCandidateWord};
 ghost use Rattle.query_core.specs.declared.query.Query.{Query};
 ghost use Rattle.query_core.specs.declared.expressions.ExprParts.{ExprParts};
 ghost use Rattle.job_trace.specs.Memo as texts;
-ghost use Rattle.job_trace.specs.Memo.{AreMembers, groups_of, group_lines, memo_section};
-ghost use Rattle.job_trace.specs.Lines.{texts_of, HaveWords, StandByGroup, begins as does_begin, heading};
+ghost use Rattle.job_trace.specs.Memo.{AreMembers, IsMemoText, groups_of, group_lines, memo_section};
+ghost use Rattle.job_trace.specs.Lines.{HaveWords, StandByGroup, begins as does_begin, heading};
 
 use crate::groups::group_line;
 use crate::members::member_line;
@@ -19,24 +20,31 @@ use query_core::{
 };
 use std::alloc::{AllocError, Global};
 
-/// The lines of the memo's text, each with its newline. `members` are the words of all its members.
-pub fn memo_text(alloc: Global, query: &Query, members: &[u64]) -> Result<Vec<String>, AllocError>
-    requires { (es : List ExprParts) × AreMembers query.now members.now es }
-    ensures { IfOk result (λ lines. (es : List ExprParts) → AreMembers query.now members.now es
-        → texts_of lines.items ≡ memo_section query.now es) }
+/// The bytes of the memo's text. `members` are the words of all its members, ascending.
+pub fn memo_text(alloc: Global, query: &Query, members: &[u64]) -> Result<Vec<u8>, AllocError>
+    requires candidates { All (IsCandidateWord query.now) members.now }
+    requires ascending { IsStrictlyIncreasing members.now }
+    ensures { IfOk result (λ text. IsMemoText query.now members.now text.items) }
 {
+    // For the proof: the words are those of one list of expressions.
+    memos_are_known();
     candidates_are_known();
+    expressions_are_one();
     let members = expressions(alloc, members)?;
-    Ok(memo_lines(alloc, query, members.as_slice())?)
+    Ok(text_of(alloc, query, members.as_slice())?)
 }
 
-/// What all lists of members have in common.
-pub fn members_are_known()
+/// What all memos have in common.
+pub fn memos_are_known()
     // Ascending words of candidates are those of members, and of one list of them.
     ensures there { (q : Query) (words : List ℕ) → All (IsCandidateWord q) words →
         IsStrictlyIncreasing words → (es : List ExprParts) × AreMembers q words es }
     ensures one { (q : Query) (words : List ℕ) (es fs : List ExprParts) → AreMembers q words es →
         AreMembers q words fs → es ≡ fs }
+
+    // So words have one text.
+    ensures text { (q : Query) (words text other : List ℕ) → IsMemoText q words text →
+        IsMemoText q words other → text ≡ other }
 
     // No group comes twice, and there are as many lines as groups and members, and one more.
     ensures groups { (q : Query) (words : List ℕ) (es : List ExprParts) → AreMembers q words es →
@@ -61,19 +69,18 @@ fn expressions(alloc: Global, words: &[u64]) -> Result<Vec<ExprParts>, AllocErro
     Ok(made)
 }
 
-fn memo_lines(
-    alloc: Global,
-    query: &Query,
-    members: &[ExprParts],
-) -> Result<Vec<String>, AllocError>
+fn text_of(alloc: Global, query: &Query, members: &[ExprParts]) -> Result<Vec<u8>, AllocError>
     requires { StandByGroup query.now members.now }
-    ensures { IfOk result (λ lines. texts_of lines.items ≡ memo_section query.now members.now) }
+    ensures { IfOk result (λ text. text.items ≡ concat (memo_section query.now members.now)) }
 {
     groups_are_known();
-    let mut lines = Vec::new(alloc);
-    lines.push(memo_line(alloc, group_count(members), members.len())?)?;
-    push_groups(alloc, query, members, &mut lines)?;
-    Ok(lines)
+    let mut text = Vec::new(alloc);
+    push(
+        &mut text,
+        &memo_line(alloc, group_count(members), members.len())?,
+    )?;
+    push_groups(alloc, query, members, &mut text)?;
+    Ok(text)
 }
 
 // The first line.
@@ -105,17 +112,17 @@ fn push_groups(
     alloc: Global,
     query: &Query,
     members: &[ExprParts],
-    lines: &mut Vec<String>,
+    text: &mut Vec<u8>,
 ) -> Result<(), AllocError>
     requires { StandByGroup query.now members.now }
-    ensures ok { OnOk result (texts_of lines.new.items ≡ texts_of lines.old.items
-        ++ flat_map (group_lines query.now members.now) (groups_of members.now)) }
+    ensures ok { OnOk result (text.new.items ≡ text.old.items
+        ++ concat (flat_map (group_lines query.now members.now) (groups_of members.now))) }
 {
     groups_are_known();
     let mut before = None;
     for member in members {
-        push_heading(alloc, query, before, member.group, lines)?;
-        lines.push(member_line(alloc, query, *member)?)?;
+        push_heading(alloc, query, before, member.group, text)?;
+        push(text, &member_line(alloc, query, *member)?)?;
         before = Some(Key::make(member.group).0);
     }
     Ok(())
@@ -127,17 +134,24 @@ fn push_heading(
     query: &Query,
     before: Option<u32>,
     group: KeyParts,
-    lines: &mut Vec<String>,
+    text: &mut Vec<u8>,
 ) -> Result<(), AllocError>
     requires { IsGroup query.now group }
-    ensures ok { OnOk result (texts_of lines.new.items ≡ texts_of lines.old.items
-        ++ heading query.now before group) }
+    ensures ok { OnOk result (text.new.items ≡ text.old.items
+        ++ concat (heading query.now before group)) }
 {
     groups_are_known();
     if begins(before, Key::make(group).0) {
-        lines.push(group_line(alloc, query, group)?)?;
+        push(text, &group_line(alloc, query, group)?)?;
     }
     Ok(())
+}
+
+// Adds a line.
+fn push(text: &mut Vec<u8>, line: &str) -> Result<(), AllocError>
+    ensures ok { OnOk result (text.new.items ≡ text.old.items ++ line.now) }
+{
+    text.extend_from_slice(line.as_bytes())
 }
 
 // Whether a member of this key begins a group, where that before it had the other key.

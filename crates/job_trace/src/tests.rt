@@ -1,12 +1,10 @@
 //! The memo of three queries: the running example, one grouped table, and a join of three.
 
-ghost use Rattle.std.specs.Prelude.{◌≡◌, ℕ, List, IfOk, IsTrue};
+ghost use Rattle.std.specs.Prelude.{◌≡◌, All, IfOk, IsTrue};
 ghost use Rattle.std.specs.List.Sorted.{IsStrictlyIncreasing};
 ghost use Rattle.query_core.specs.Expressions.{IsCandidateWord};
-ghost use Rattle.query_core.specs.declared.expressions.ExprParts.{ExprParts};
-ghost use Rattle.job_trace.specs.Memo.{AreMembers};
 
-use crate::{members_are_known, memo_text};
+use crate::memo_text;
 use orca_base::{List, Text};
 use query_core::*;
 use std::alloc::{AllocError, Global};
@@ -18,29 +16,15 @@ fn text(alloc: Global, part: &str) -> Result<Text, AllocError>
     Ok(Text::of(String::from_str(alloc, part)?))
 }
 
-// A number from 1 on is the word of a member if it comes next after the number before it.
-fn is_member(query: &Query, word: u64) -> bool
-    ensures { IsTrue result → IsCandidateWord query.now word }
+fn are_candidates(query: &Query, words: &[u64]) -> bool
+    ensures { IsTrue result → All (IsCandidateWord query.now) words.now }
 {
-    if word == 0 {
-        return false;
+    for word in words {
+        if !query.is_candidate(Expr(*word)) {
+            return false;
+        }
     }
-    match Expr(word).parts() {
-        Some(parts) => comes_next(query, Key::make(parts.group), word),
-        None => false,
-    }
-}
-
-fn comes_next(query: &Query, key: Key, word: u64) -> bool
-    ensures { IsTrue result → IsCandidateWord query.now word }
-{
-    if word == 0 || !query.is_key(key) {
-        return false;
-    }
-    match query.next_candidate(key, Some(Expr(word - 1))) {
-        Some(next) => next.0 == word,
-        None => false,
-    }
+    true
 }
 
 fn ascend(words: &[u64]) -> bool
@@ -54,28 +38,12 @@ fn ascend(words: &[u64]) -> bool
     true
 }
 
-// Whether the words ascend and are those of expressions that groups of the query can hold.
-fn are_members(query: &Query, words: &[u64]) -> bool
-    ensures { IsTrue result → (es : List ExprParts) × AreMembers query.now words.now es }
-{
-    members_are_known();
-    for word in words {
-        if !is_member(query, *word) {
-            return false;
-        }
+// The text of the memo; nothing for words that no memo has.
+fn text_of_memo(alloc: Global, query: &Query, words: &[u64]) -> Result<Vec<u8>, AllocError> {
+    if are_candidates(query, words) && ascend(words) {
+        return memo_text(alloc, query, words);
     }
-    ascend(words)
-}
-
-// The text of the memo; nothing for words that aren't those of members.
-fn text_of_memo(alloc: Global, query: &Query, words: &[u64]) -> Result<String, AllocError> {
-    let mut text = String::new(alloc);
-    if are_members(query, words) {
-        for line in memo_text(alloc, query, words)?.as_slice() {
-            text.push_str(line.as_str())?;
-        }
-    }
-    Ok(text)
+    Ok(Vec::new(alloc))
 }
 
 // `SELECT T1.a FROM T1, T2 WHERE T1.a = T2.b ORDER BY T1.a`
@@ -162,7 +130,7 @@ fn a_memo_is_shown_group_by_group(rt: HostRuntime) -> Result<(), Fail> {
     ];
     let query = two_tables(rt.alloc())?;
     assert_eq!(rt;
-        text_of_memo(rt.alloc(), &query, &words)?.as_str(),
+        text_of_memo(rt.alloc(), &query, &words)?.as_slice(),
         "memo groups=3 members=13
 group Get(T1) rows=1000
   Get(T1)
@@ -181,6 +149,7 @@ group Join(T1, T2) rows=1000
   LoopJoin(T1 | T2)
   LoopJoin(T2 | T1)
 "
+            .as_bytes()
     );
     Ok(())
 }
@@ -270,7 +239,7 @@ fn indexes_and_aggregations_are_shown(rt: HostRuntime) -> Result<(), Fail> {
     ];
     let query = one_table(rt.alloc())?;
     assert_eq!(rt;
-        text_of_memo(rt.alloc(), &query, &words)?.as_str(),
+        text_of_memo(rt.alloc(), &query, &words)?.as_slice(),
         "memo groups=4 members=16
 group Get(t) rows=100000
   Get(t)
@@ -293,6 +262,7 @@ group Agg rows=10
   StreamAgg(input)
   StreamAgg(partial)
 "
+            .as_bytes()
     );
     Ok(())
 }
@@ -387,7 +357,7 @@ fn sides_of_several_tables_are_shown_in_order(rt: HostRuntime) -> Result<(), Fai
     ];
     let query = three_tables(rt.alloc())?;
     assert_eq!(rt;
-        text_of_memo(rt.alloc(), &query, &words)?.as_str(),
+        text_of_memo(rt.alloc(), &query, &words)?.as_slice(),
         "memo groups=1 members=4
 group Join(A, B, C) rows=1000
   NJoin(A, B, C)
@@ -395,6 +365,7 @@ group Join(A, B, C) rows=1000
   Join(A, B | C)
   MergeJoin(B | A, C)
 "
+            .as_bytes()
     );
     Ok(())
 }

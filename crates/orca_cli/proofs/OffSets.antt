@@ -1,5 +1,5 @@
 -- Which rules may be off together, and the set of their bits.
-use Rattle.std.proofs.Common.{◌≡◌, ◌≢◌, ℕ, ◌+◌, ◌^◌, ◌%◌, ◌<◌, ◌&&◌, ◌||◌, ◌==◌, ◌↔◌, Bool, true, false, not, IsTrue, List, [], ◌∷◌, ◌++◌, length, map, nat_eq, nat_le, Some, refl, sym, ap, ◌∙◌, subst, arith, inl, inr}
+use Rattle.std.proofs.Common.{◌≡◌, ℕ, ◌+◌, ◌^◌, ◌%◌, ◌<◌, ◌&&◌, ◌||◌, ◌↔◌, Bool, true, false, not, IsTrue, List, [], ◌∷◌, ◌++◌, length, map, nat_eq, nat_le, Some, refl, sym, ap, ◌∙◌, subst, arith, inl, inr}
 use Rattle.std.proofs.lemmas.List.Sums.{sum_by-append}
 use Rattle.std.specs.List.{list_any}
 use Rattle.std.proofs.Math.Bool.{and-false}
@@ -11,7 +11,7 @@ use Rattle.std.proofs.lemmas.Nat.Bits.{bit_at-zero, bit_at-lt}
 use Rattle.std.specs.Int.{bit_at}
 use Rattle.query_core.specs.Differ.{numbers_differ}
 use Rattle.query_core.specs.Sets.{bit, Has, Adds}
-use Rattle.xform_rules.specs.Rules.{rule_number}
+use Rattle.xform_rules.specs.Rules.{can_be_off, rule_number}
 use Rattle.xform_rules.specs.declared.rules.Rule.{Rule}
 use Rattle.xform_rules.specs.declared.rules.Rule.TheVariants as rules
 use Rattle.orca_cli.specs.Command.{may_be_off, off_set, set_where_off}
@@ -86,7 +86,7 @@ pub no_rules : IsOffSet [] 0
 no_rules = record {
   sum_of = refl;
   has = λ n. (λ has. absurd (empty_set n has), λ here. absurd (false≢true here));
-  other = refl;
+  can = refl;
   once = refl;
 }
 
@@ -112,20 +112,19 @@ module _ (before : List Rule) (rule : Rule) (set : ℕ) (is : IsOffSet before se
       ])
 
   -- the rule behind the others
-  pub more_rules : (new : ℕ) → rule_number rule ≢ 1 → (Has set (rule_number rule) → ⊥) → Adds set (rule_number rule) new → new ≡ set + 2 ^ rule_number rule → IsOffSet (before ++ rule ∷ []) new
-  more_rules new other fresh adds grows =
+  pub more_rules : (new : ℕ) → can_be_off rule ≡ true → (Has set (rule_number rule) → ⊥) → Adds set (rule_number rule) new → new ≡ set + 2 ^ rule_number rule → IsOffSet (before ++ rule ∷ []) new
+  more_rules new can fresh adds grows =
       let n = rule_number rule in
-      let no : (n == 1) ≡ false = grind (arith, nat_tests) in
       record {
         sum_of = grows ∙ ap (λ s. s + 2 ^ n) is.sum_of ∙ sym (one_more before rule);
         has = has_more new adds;
-        other = rw (list_all-append, is.other, no) refl;
+        can = rw (list_all-append, is.can, can) refl;
         once = rw (numbers []) (one_behind n (map rule_number before) (not_there (list_any (nat_eq n) (map rule_number before)) (λ there. fresh ((is.has n).1 there))) is.once);
       }
 
   -- a rule that must stay on, or that stands there already, refuses the whole
-  pub stays_on : (after : List Rule) → rule_number rule ≡ 1 → may_be_off (before ++ rule ∷ after) ≡ false
-  stays_on after one = rw (list_all-append, is.other, one) (false_inside (nat_le 1 (length (before ++ rule ∷ after))) (numbers_differ (map rule_number (before ++ rule ∷ after))))
+  pub stays_on : (after : List Rule) → can_be_off rule ≡ false → may_be_off (before ++ rule ∷ after) ≡ false
+  stays_on after never = rw (list_all-append, is.can, never) (false_inside (nat_le 1 (length (before ++ rule ∷ after))) (numbers_differ (map rule_number (before ++ rule ∷ after))))
 
   pub stands_there : (after : List Rule) → Has set (rule_number rule) → may_be_off (before ++ rule ∷ after) ≡ false
   stands_there after has = rw (numbers after, twice (rule_number rule) (map rule_number before) (map rule_number after) ((is.has (rule_number rule)).0 has)) (and-false _)
@@ -134,25 +133,25 @@ module _ (before : List Rule) (rule : Rule) (set : ℕ) (is : IsOffSet before se
 pub set_of_rules : (before : List Rule) (rule : Rule) (new : ℕ) → IsOffSet (before ++ rule ∷ []) new → Some new ≡ set_where_off (before ++ rule ∷ [])
 set_of_rules before rule new is =
     let some : nat_le 1 (length (before ++ rule ∷ [])) ≡ true = rw length-append (grind (arith, nat_tests)) in
-    rw (some, is.other, is.once) (ap Some is.sum_of)
+    rw (some, is.can, is.once) (ap Some is.sum_of)
 
 -- a bit that isn't set yet has room among those from 2 to 14
-pub has_room : (rule : Rule) (set : ℕ) → set < 32768 → set % 4 ≡ 0 → rule_number rule ≢ 1 → bit set (rule_number rule) ≡ 0 → (set + 2 ^ rule_number rule < 32768) × ((set + 2 ^ rule_number rule) % 4 ≡ 0)
+pub has_room : (rule : Rule) (set : ℕ) → set < 32768 → set % 4 ≡ 0 → can_be_off rule ≡ true → bit set (rule_number rule) ≡ 0 → (set + 2 ^ rule_number rule < 32768) × ((set + 2 ^ rule_number rule) % 4 ≡ 0)
 unfolding bit
-has_room rules.ExpandNAry set small whole other none = absurd (other refl)
-has_room rules.JoinCommute set small whole other none = (omega (arith, small, none), omega (arith, whole))
-has_room rules.JoinAssociate set small whole other none = (omega (arith, small, none), omega (arith, whole))
-has_room rules.SplitAgg set small whole other none = (omega (arith, small, none), omega (arith, whole))
-has_room rules.GetToScan set small whole other none = (omega (arith, small, none), omega (arith, whole))
-has_room rules.GetToIndexScan set small whole other none = (omega (arith, small, none), omega (arith, whole))
-has_room rules.SelectToFilter set small whole other none = (omega (arith, small, none), omega (arith, whole))
-has_room rules.SelectToIndexSeek set small whole other none = (omega (arith, small, none), omega (arith, whole))
-has_room rules.JoinToHash set small whole other none = (omega (arith, small, none), omega (arith, whole))
-has_room rules.JoinToMerge set small whole other none = (omega (arith, small, none), omega (arith, whole))
-has_room rules.JoinToLoop set small whole other none = (omega (arith, small, none), omega (arith, whole))
-has_room rules.AggToHash set small whole other none = (omega (arith, small, none), omega (arith, whole))
-has_room rules.AggToStream set small whole other none = (omega (arith, small, none), omega (arith, whole))
-has_room rules.PartialToHash set small whole other none = (omega (arith, small, none), omega (arith, whole))
+has_room rules.ExpandNAry set small whole can none = absurd (false≢true can)
+has_room rules.JoinCommute set small whole can none = (omega (arith, small, none), omega (arith, whole))
+has_room rules.JoinAssociate set small whole can none = (omega (arith, small, none), omega (arith, whole))
+has_room rules.SplitAgg set small whole can none = (omega (arith, small, none), omega (arith, whole))
+has_room rules.GetToScan set small whole can none = (omega (arith, small, none), omega (arith, whole))
+has_room rules.GetToIndexScan set small whole can none = (omega (arith, small, none), omega (arith, whole))
+has_room rules.SelectToFilter set small whole can none = (omega (arith, small, none), omega (arith, whole))
+has_room rules.SelectToIndexSeek set small whole can none = (omega (arith, small, none), omega (arith, whole))
+has_room rules.JoinToHash set small whole can none = (omega (arith, small, none), omega (arith, whole))
+has_room rules.JoinToMerge set small whole can none = (omega (arith, small, none), omega (arith, whole))
+has_room rules.JoinToLoop set small whole can none = (omega (arith, small, none), omega (arith, whole))
+has_room rules.AggToHash set small whole can none = (omega (arith, small, none), omega (arith, whole))
+has_room rules.AggToStream set small whole can none = (omega (arith, small, none), omega (arith, whole))
+has_room rules.PartialToHash set small whole can none = (omega (arith, small, none), omega (arith, whole))
 
 -- a bit that isn't 1 is 0
 pub unset : (set n : ℕ) → (Has set n → ⊥) → bit set n ≡ 0

@@ -1,8 +1,7 @@
 -- What a sink has taken of a text that is put piece by piece.
-use Rattle.std.proofs.Common.{◌≡◌, ℕ, suc, ◌+◌, ◌<◌, ◌≤◌, List, ◌++◌, length, take, drop, get_or, flat_map, Option, sym, ap, ◌∙◌, subst, arith, length-append, drop-cons, take-append-drop}
+use Rattle.std.proofs.Common.{◌≡◌, ℕ, ◌+◌, ◌≤◌, List, ◌++◌, length, take, Option, sym, ap, ◌∙◌, subst, arith, length-append, append_assoc}
 use Rattle.std.proofs.Math.Seq.{take-append-add}
 use Rattle.std.proofs.lemmas.List.{take-append-le}
-use Rattle.std.proofs.lemmas.Grind.{flat_map-append}
 use Rattle.std.proofs.KnownBytes.{Appends-trans}
 use Rattle.std.specs.Io.KnownBytes.{Appends}
 use Rattle.orca_io.specs.Sink.{TakesPrefix}
@@ -19,6 +18,13 @@ prefix_after old mid new front piece back before after = record {
   taken = subst (λ bytes. Appends old new bytes) (sym (take-front front piece back after.count after.within)) (Appends-trans old mid new front (take after.count piece) before after.taken);
 }
 
--- the pieces of a list: those before a place, the one there, and those behind
-pub flat_map-at : {X : Type 0} (f : X → List ℕ) (xs : List X) (i : ℕ) (d : X) → i < length xs → flat_map f xs ≡ flat_map f (take i xs) ++ (f (get_or xs i d) ++ flat_map f (drop (suc i) xs))
-flat_map-at f xs i d below = ap (flat_map f) (sym (take-append-drop i xs)) ∙ flat_map-append f (take i xs) (drop i xs) ∙ ap (λ rest. flat_map f (take i xs) ++ flat_map f rest) (drop-cons xs i d below)
+-- ---- a text whose front was taken
+
+module _ (old mid new : Option (List ℕ)) (text front rest : List ℕ) (parts : text ≡ front ++ rest) where
+  -- its next piece was taken too
+  pub piece_taken : (piece back : List ℕ) → rest ≡ piece ++ back → Appends old mid front → Appends mid new piece → (more : List ℕ) × (text ≡ more ++ back) × Appends old new more
+  piece_taken piece back cut before after = (front ++ piece, parts ∙ ap (λ behind. front ++ behind) cut ∙ sym (append_assoc front piece back), Appends-trans old mid new front piece before after)
+
+  -- of its next piece a prefix was taken
+  pub prefix_taken : (piece back : List ℕ) → rest ≡ piece ++ back → Appends old mid front → TakesPrefix mid new piece → TakesPrefix old new text
+  prefix_taken piece back cut before after = subst (TakesPrefix old new) (sym (parts ∙ ap (λ behind. front ++ behind) cut)) (prefix_after old mid new front piece back before after)

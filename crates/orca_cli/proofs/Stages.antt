@@ -1,6 +1,5 @@
 -- How the ending of a stage of a run is the ending of the stage around it.
-use Rattle.std.proofs.Common.{◌≡◌, ◌≢◌, ℕ, ◌<◌, ◌≤◌, List, [], ◌∷◌, ◌++◌, length, map, flat_map, Option, None, Some, Result, Ok, Err, IfOk, String, Global, string_bytes, ◌+◌, ◌^◌, refl, sym, subst, ap, ◌∙◌, inl, inr, arith}
-use Rattle.std.specs.List.{concat}
+use Rattle.std.proofs.Common.{◌≡◌, ◌≢◌, ℕ, ◌<◌, ◌≤◌, List, length, Option, None, Some, Result, Ok, Err, IfOk, ◌+◌, ◌^◌, refl, sym, subst, ap, ◌∙◌, inl, inr, arith}
 use Rattle.std.specs.Prelude.{replicate}
 use Rattle.std.proofs.lemmas.List.{length-replicate}
 use Rattle.std.proofs.lemmas.Bool.{lt-ltb}
@@ -25,7 +24,6 @@ use Rattle.plan_tree.specs.Found.{IsFound}
 use Rattle.plan_tree.specs.declared.plan.Found.{Found}
 use Rattle.plan_tree.specs.declared.plan.Found.TheVariants as founds
 use Rattle.plan_report.specs.Found.{IsFoundText}
-use Rattle.plan_report.specs.Lines.{texts_of}
 use Rattle.orca_cli.specs.Asked.{IsNoCatalog, IsBoundAs, Asks, IsUnread, IsUnbound, IsUnnumbered, IsRefused}
 use Rattle.orca_cli.specs.Views.{EndsAs, text_of}
 use Rattle.orca_cli.specs.declared.ending.Ending.{Ending}
@@ -48,17 +46,10 @@ pub IfOk-both : {T E : Type 0} (P Q R : T → Type 0) (r : Result T E) → ((x :
 IfOk-both P Q R (Ok x) step first second = step x first second
 IfOk-both P Q R (Err e) step first second = tt
 
--- the pieces of a list, joined
-pub flat_map-concat : {X : Type 0} (f : X → List ℕ) (xs : List X) → flat_map f xs ≡ concat (map f xs)
-flat_map-concat f [] = refl
-flat_map-concat f (x ∷ xs) = ap (λ rest. f x ++ rest) (flat_map-concat f xs)
-
--- what was found is the query's least plan, and the lines are its text
-pub plan_of_found : (query : Query) (found : Found) (status : Status) (lines : List (String Global)) → status ≡ stages.status_for found → IsFound query found
-    → IsFoundText query found (texts_of lines) → IsPlanOf query status (flat_map string_bytes lines)
-plan_of_found query (founds.Least plan cost) status lines is (tree, spells, least, costs) text =
-    stages.least is (record { plan = tree; least = least; lines = flat_map-concat string_bytes lines ∙ ap concat (text tree spells least.serves.valid costs) })
-plan_of_found query founds.NoPlan status lines is impossible text = stages.none is impossible (flat_map-concat string_bytes lines ∙ ap concat text)
+-- what was found is the query's least plan, and the bytes are its text
+pub plan_of_found : (query : Query) (found : Found) (status : Status) (text : List ℕ) → status ≡ stages.status_for found → IsFound query found → IsFoundText query found text → IsPlanOf query status text
+plan_of_found query (founds.Least plan cost) status text is (tree, spells, least, costs) told = stages.least is (record { plan = tree; least = least; lines = told tree spells least.serves.valid costs })
+plan_of_found query founds.NoPlan status text is impossible told = stages.none is impossible told
 
 -- what holds of a status and a text holds of an ending that has them
 pub as_ended : (P : Status → List ℕ → Type 0) (ending : Ending) (status : Status) (text : List ℕ) → EndsAs ending status text → P status text → P ending.status (text_of ending)

@@ -6,9 +6,8 @@ use Rattle.query_core.specs.Differ.{numbers_differ}
 use Rattle.query_core.specs.declared.options.Options.{Options}
 use Rattle.query_core.specs.declared.options.RootDist.{RootDist}
 use Rattle.query_core.specs.declared.options.RootDist.TheVariants.{One, Spread}
-use Rattle.xform_rules.specs.Rules.{rule_name, rule_number}
+use Rattle.xform_rules.specs.Rules.{all_rules, can_be_off, rule_name, rule_number}
 use Rattle.xform_rules.specs.declared.rules.Rule.{Rule}
-use Rattle.xform_rules.specs.declared.rules.Rule.TheVariants as rules
 
 -- ---- commands
 
@@ -46,9 +45,9 @@ abbrev pub root_word : RootDist → List ℕ
 root_word One = codes "one"
 root_word Spread = codes "spread"
 
--- there are some rules, each once, and ExpandNAry isn't one of them
+-- there are some rules, each once, and each can be switched off
 abbrev pub may_be_off : List Rule → Bool
-may_be_off some = nat_le 1 (length some) && list_all (λ rule. not (rule_number rule == 1)) some && numbers_differ (map rule_number some)
+may_be_off some = nat_le 1 (length some) && list_all can_be_off some && numbers_differ (map rule_number some)
 
 -- the bits of the rules' numbers
 abbrev pub off_set : List Rule → ℕ
@@ -132,13 +131,9 @@ pub record IsSpelledOut (words : List (List ℕ)) (command : PlanCommand) : Type
 
 -- ---- reading
 
--- the rules that there are
-abbrev pub every_rule : List Rule
-every_rule = rules.ExpandNAry ∷ rules.JoinCommute ∷ rules.JoinAssociate ∷ rules.SplitAgg ∷ rules.GetToScan ∷ rules.GetToIndexScan ∷ rules.SelectToFilter ∷ rules.SelectToIndexSeek ∷ rules.JoinToHash ∷ rules.JoinToMerge ∷ rules.JoinToLoop ∷ rules.AggToHash ∷ rules.AggToStream ∷ rules.PartialToHash ∷ []
-
 -- the rule of a name
 abbrev pub rule_of_name : List ℕ → Option Rule
-rule_of_name word = find (λ rule. bytes_eq (rule_name rule) word) every_rule
+rule_of_name word = find (λ rule. bytes_eq (rule_name rule) word) all_rules
 
 -- the rules of names, where each is one
 abbrev pub rules_of : List (List ℕ) → Option (List Rule)

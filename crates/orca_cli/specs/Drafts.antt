@@ -1,20 +1,20 @@
 -- What was read of a command so far.
-use Rattle.std.specs.Prelude.{ℕ, true, not, List, [], ◌∷◌, ◌≡◌, ◌==◌, ◌↔◌, map, nat_eq, option_map, option_to_list, if◌then◌else◌}
+use Rattle.std.specs.Prelude.{ℕ, true, List, [], ◌∷◌, ◌≡◌, ◌↔◌, map, nat_eq, option_map, option_to_list, if◌then◌else◌}
 use Rattle.std.specs.List.{filter_map, list_all, list_any}
 use Rattle.query_core.specs.Sets.{Has}
 use Rattle.query_core.specs.Differ.{numbers_differ}
-use Rattle.xform_rules.specs.Rules.{rule_number}
+use Rattle.xform_rules.specs.Rules.{can_be_off, rule_number}
 use Rattle.xform_rules.specs.declared.rules.Rule.{Rule}
 use Rattle.orca_cli.specs.Command.{Piece, name_in, memo_in, root_in, off_in, off_set}
 use Rattle.orca_cli.specs.declared.draft.Draft.{Draft}
 use Rattle.orca_cli.specs.declared.draft.Names.{Names}
 use Rattle.orca_cli.specs.declared.draft.Names.TheVariants.{Nothing, Catalog, Both}
 
--- the set has the bits of these rules, of which each may be off and none comes twice
+-- the set has the bits of these rules, of which each can be off and none comes twice
 pub record IsOffSet (some : List Rule) (bits : ℕ) : Type 0 where
   pub sum_of : bits ≡ off_set some
   pub has : (n : ℕ) → Has bits n ↔ (list_any (nat_eq n) (map rule_number some) ≡ true)
-  pub other : list_all (λ rule. not (rule_number rule == 1)) some ≡ true
+  pub can : list_all can_be_off some ≡ true
   pub once : numbers_differ (map rule_number some) ≡ true
 
 -- the names that were read

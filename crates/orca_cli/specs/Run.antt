@@ -6,9 +6,8 @@ use Rattle.orca_base.specs.Causes.{Rose}
 use Rattle.orca_io.specs.Sink.{TakesPrefix}
 use Rattle.query_core.specs.declared.catalog.Catalog.{Catalog}
 use Rattle.query_core.specs.declared.query.Query.{Query}
-use Rattle.query_core.specs.declared.expressions.ExprParts.{ExprParts}
-use Rattle.plan_search.specs.PlainClosure.{IsClosureOf}
-use Rattle.job_trace.specs.Memo.{AreMembers, memo_section}
+use Rattle.xform_rules.specs.Closure.{IsClosureOf}
+use Rattle.job_trace.specs.Memo as memos
 use Rattle.plan_space.specs.Nodes.{Tree}
 use Rattle.plan_space.specs.Least.{IsLeastPlan, QueryHasNoPlan}
 use Rattle.plan_report.specs.Text.{plan_section}
@@ -32,9 +31,7 @@ IsImpossible query = QueryHasNoPlan query
 pub record IsMemoText (query : Query) (text : List ℕ) : Type 0 where
   pub words : List ℕ
   pub closure : IsClosureOf query words
-  pub members : List ExprParts
-  pub are : AreMembers query words members
-  pub lines : text ≡ concat (memo_section query members)
+  pub is_text : memos.IsMemoText query words text
 
 -- the memo's text, where it is asked for
 abbrev pub IsSection : Bool → Query → List ℕ → Type 0

@@ -1,5 +1,5 @@
 -- What clauses see of the program's values.
-use Rattle.std.specs.Prelude.{◌≡◌, ℕ, List, flat_map, string_bytes}
+use Rattle.std.specs.Prelude.{◌≡◌, ℕ, List}
 use Rattle.orca_cli.specs.Command.{FileNames, PlanChoices, PlanCommand, Piece, name, memo, root, off}
 use Rattle.orca_cli.specs.declared.command.Choices.{Choices}
 use Rattle.orca_cli.specs.declared.command.Command.{Command}
@@ -28,9 +28,9 @@ piece words.Memo = memo
 piece (words.Root dist) = root dist
 piece (words.Off set) = off set.bits
 
--- the text of an ending's lines
+-- the text of an ending
 abbrev pub text_of : Ending → List ℕ
-text_of ending = flat_map string_bytes ending.lines.items
+text_of ending = ending.text.items
 
 -- the ending has this status and this text
 pub record EndsAs (ending : Ending) (ending_status : Status) (ending_text : List ℕ) : Type 0 where

@@ -1,6 +1,6 @@
 //! The answer to a query's text over a catalogue.
 ghost use Rattle.std.specs.Prelude.{◌≡◌, ℕ, List, IfOk};
-ghost use Rattle.catalog_json.specs.Catalog.{IsCatalog};
+ghost use Rattle.query_core.specs.Catalog.{IsCatalog};
 ghost use Rattle.sql_reader.specs.Faults.{IsReading};
 ghost use Rattle.sql_reader.specs.Readable.{IsReadable};
 ghost use Rattle.query_core.specs.declared.catalog.Catalog.{Catalog};

@@ -1,6 +1,6 @@
 //! The run over two files: the catalogue's, and then the query's.
 ghost use Rattle.std.specs.Prelude.{◌≡◌, IfOk};
-ghost use Rattle.catalog_json.specs.Catalog.{IsCatalog};
+ghost use Rattle.query_core.specs.Catalog.{IsCatalog};
 ghost use Rattle.orca_cli.specs.Run.{IsEnding};
 ghost use Rattle.orca_cli.specs.Stages.{IsEndingAt, IsEndingOver};
 ghost use Rattle.orca_cli.specs.Views.{text_of, plan_choices, plan_command};

@@ -53,6 +53,21 @@ fn prints_the_least_plan_of_each_join(rt: HostRuntime) -> Result<(), Fail> {
 }
 
 #[test]
+fn a_further_key_of_a_catalog_changes_nothing(rt: HostRuntime) -> Result<(), Fail> {
+    let query = "SELECT T1.a FROM T1, T2 WHERE T1.a = T2.b ORDER BY T1.a";
+    let commented = TWO_TABLES.replacen(
+        rt.alloc(),
+        "\"segments\"",
+        "\"comment\":\"x\",\"segments\"",
+        1,
+    )?;
+    let (status, sink) = planned(&rt, commented.as_bytes(), query.as_bytes())?;
+    assert_eq!(rt; sink.taken(), JOINED.as_bytes());
+    assert_eq!(rt; status, Status::Planned);
+    Ok(())
+}
+
+#[test]
 fn prints_the_plan_and_the_memo_of_a_join(rt: HostRuntime) -> Result<(), Fail> {
     let memo =
         "memo groups=3 members=13\ngroup Get(T1) rows=1000\n  Get(T1)\n  Scan(T1)\ngroup Get(T2) rows=1000\n  Get(T2)\n  Scan(T2)\ngroup Join(T1, T2) rows=1000\n  NJoin(T1, T2)\n  Join(T1 | T2)\n  Join(T2 | T1)\n  HashJoin(T1 | T2)\n  HashJoin(T2 | T1)\n  MergeJoin(T1 | T2)\n  MergeJoin(T2 | T1)\n  LoopJoin(T1 | T2)\n  LoopJoin(T2 | T1)\n";

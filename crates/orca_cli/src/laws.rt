@@ -1,10 +1,10 @@
 //! What follows from how commands are read, and how runs end.
 ghost use Rattle.orca_cli.specs.Laws.{OneOutcome, ReadsWhatIsSpelled, SpellsOne};
 
-use job_trace::members_are_known;
-use plan_search::closure_is_one;
+use job_trace::memos_are_known;
 use plan_space::least_is_one;
 use query_core::links_are_one;
+use xform_rules::members_are_known;
 
 /// The status and the text of a run are determined by what the two files hold, as long as no read
 /// fails and memory lasts: no other run over the same bytes ends in another way.
@@ -14,8 +14,8 @@ pub fn one_outcome()
     least_is_one();
     sql_reader::one_outcome();
     links_are_one();
-    closure_is_one();
     members_are_known();
+    memos_are_known();
 }
 
 /// Words are a command exactly where they spell one: `plan`, and behind it two names and the

@@ -2,13 +2,14 @@
 //! member in each of its modes and each enforcer, over all smaller valid plans.
 
 ghost use Rattle.request_props.specs.Numbered.{IsProps};
+ghost use Rattle.plan_tree.specs.Nodes.{EnforcerInRange};
 
 use catalog_json::read_catalog;
 use plan_check::{PlanFault, check_plan};
 use plan_search::{plain_closure, plain_least};
-use plan_space::{root_request_fits, root_request_is_collected};
-use plan_tree::{Found, Node, NodeKind, Plan, line_of};
-use query_core::{Children, Expr, ExprParts, KeyParts, Options, Query, RootDist};
+use plan_space::{Enforcer, NodeKind, root_request_fits, root_request_is_collected};
+use plan_tree::{Found, Node, Plan, line_of};
+use query_core::{Children, Expr, KeyParts, Options, PhysicalExpr, Query, RootDist};
 use request_props::Props;
 use sql_bind::bind;
 use sql_reader::read_sql;
@@ -89,8 +90,14 @@ struct Listed {
 // What may stand at the root of a plan: physical members in their modes, and enforcers.
 #[derive(Debug, Drop)]
 struct Roots {
-    natives: Vec<(ExprParts, Node)>,
+    natives: Vec<(PhysicalExpr, Node)>,
     enforcers: Vec<Node>,
+}
+
+fn enforced(enforcer: Enforcer) -> Node
+    requires { EnforcerInRange enforcer }
+{
+    Node::make(NodeKind::Enforcer(enforcer))
 }
 
 fn roots_of(alloc: Global, query: &Query, props: &Props) -> Result<Roots, AllocError>
@@ -98,24 +105,27 @@ fn roots_of(alloc: Global, query: &Query, props: &Props) -> Result<Roots, AllocE
 {
     let mut natives = Vec::new(alloc);
     for word in plain_closure(alloc, query)?.as_slice() {
-        if let Some(expr) = Expr(*word).parts() {
+        let Some(parts) = Expr(*word).parts() else {
+            continue;
+        };
+        if let Some(expr) = parts.as_physical() {
             for mode in 0..192 {
                 if line_of(query, props, expr, mode).is_some() {
-                    natives.push((expr, NodeKind::Native(expr, mode).node()))?;
+                    natives.push((expr, Node::make(NodeKind::Native(expr, mode))))?;
                 }
             }
         }
     }
-    let mut enforcers = vec![in alloc; NodeKind::Gather.node(), NodeKind::Broadcast.node()]?;
+    let mut enforcers = vec![in alloc; enforced(Enforcer::Gather), enforced(Enforcer::Broadcast)]?;
     for order in 1..61u32 {
         if order as usize <= props.orders.len() {
-            enforcers.push(NodeKind::Sort(order).node())?;
-            enforcers.push(NodeKind::GatherMerge(order).node())?;
+            enforcers.push(enforced(Enforcer::Sort(order)))?;
+            enforcers.push(enforced(Enforcer::GatherMerge(order)))?;
         }
     }
     for list in 0..60u32 {
         if (list as usize) < props.hashed.len() {
-            enforcers.push(NodeKind::Redistribute(list).node())?;
+            enforcers.push(enforced(Enforcer::Redistribute(list)))?;
         }
     }
     Ok(Roots { natives, enforcers })
@@ -192,7 +202,7 @@ fn larger(
         if smaller.len().saturating_add(beside(query, expr.group)) >= most {
             continue;
         }
-        match (expr.children, smaller.split_last()) {
+        match (expr.children(), smaller.split_last()) {
             (Children::Zero, None) => keep(
                 query,
                 props,

@@ -13,18 +13,28 @@ const PLAIN: Options = Options {
     off: 0,
 };
 
-// The lines of the memo of a query over a catalogue, or why there is none.
-fn memo_of(alloc: Global, catalog: &str, query: &str) -> Result<Vec<String>, AllocError> {
+// The bytes of the memo of a query over a catalogue, or why there is none.
+fn memo_text(alloc: Global, catalog: &str, query: &str) -> Result<Vec<u8>, AllocError> {
     let Ok(catalog) = read_catalog(alloc, catalog.as_bytes()) else {
-        return Ok(vec![in alloc; String::from_str(alloc, "no catalogue")?]?);
+        return b"no catalogue".to_vec(alloc);
     };
     let Ok(select) = read_sql(alloc, query.as_bytes()) else {
-        return Ok(vec![in alloc; String::from_str(alloc, "no query")?]?);
+        return b"no query".to_vec(alloc);
     };
     match bind(alloc, &select, &catalog, PLAIN) {
         Ok(query) => memo_section(alloc, &query),
-        Err(_) => Ok(vec![in alloc; String::from_str(alloc, "not bound")?]?),
+        Err(_) => b"not bound".to_vec(alloc),
     }
+}
+
+// The lines of it.
+fn memo_of(alloc: Global, catalog: &str, query: &str) -> Result<Vec<String>, Fail> {
+    let text = memo_text(alloc, catalog, query)?;
+    let mut lines = Vec::new(alloc);
+    for line in str::from_utf8(&text)?.split_inclusive('\n') {
+        lines.push(String::from_str(alloc, line)?)?;
+    }
+    Ok(lines)
 }
 
 // The first line, or nothing.
@@ -230,7 +240,7 @@ fn counts(
     shape: Shape,
     tables: &[u32],
     limit: u32,
-) -> Result<(Vec<u32>, Vec<u32>), AllocError> {
+) -> Result<(Vec<u32>, Vec<u32>), Fail> {
     let (catalog, names) = tables_text(alloc, tables.len())?;
     let (pairs, predicates) = linked(alloc, shape, tables)?;
     let query = format!(in alloc; "SELECT t0.a FROM {names}{predicates}")?;

@@ -19,7 +19,7 @@ impl OffSet {
             → may_be_off (before ++ rule ∷ after) ≡ false }
     {
         let number = rule.number();
-        if number == 1 || sets::has(self.bits, number) {
+        if !rule.can_be_off() || sets::has(self.bits, number) {
             return None;
         }
         Some(OffSet {

@@ -1,7 +1,7 @@
 //! Which rules are off.
 ghost use Rattle.std.specs.Prelude.{◌≡◌, ◌<◌, ◌%◌};
 
-/// Rules that are off, as the bits of their numbers: some of those with the numbers 2 to 14.
+/// Rules that are off, as the bits of their numbers: some of those that can be off.
 #[derive(Clone, Copy, Debug)]
 pub struct OffSet {
     pub bits: u32,

@@ -22,7 +22,7 @@ pub fn planned(alloc: Global, query: &Query, props: &Props) -> Result<Ending, Al
     let status = status_of(&found);
     Ok(Ending {
         status,
-        lines: plan_text(alloc, query, props, &found)?,
+        text: plan_text(alloc, query, props, &found)?,
     })
 }
 

@@ -221,11 +221,7 @@ fn too_many_lists_or_orders_are_told_with_their_number(rt: HostRuntime) -> Resul
     ] {
         let ending = refused_query(rt.alloc(), &props_fault_text(rt.alloc(), fault)?)?;
         assert_eq!(rt; ending.status, Status::QueryRefused);
-        let mut text = String::new(rt.alloc());
-        for line in &ending.lines {
-            text.push_str(line)?;
-        }
-        assert_eq!(rt; text.as_str(), told);
+        assert_eq!(rt; ending.text.as_slice(), told.as_bytes());
     }
     Ok(())
 }
@@ -254,10 +250,17 @@ fn a_refused_catalog_is_told_with_its_cause(rt: HostRuntime) -> Result<(), Fail>
 
 #[test]
 fn a_catalog_nests_at_most_127_levels(rt: HostRuntime) -> Result<(), Fail> {
-    let deep = vec![in rt.alloc(); b'['; 200]?;
-    let (status, line) = cause(&rt, "catalog refused: ", &deep, QUERY.as_bytes())?;
-    assert_eq!(rt; status, Status::CatalogRefused);
-    assert_eq!(rt; line.as_str(), "not JSON");
+    let opened = vec![in rt.alloc(); b'['; 200]?;
+    let closed = vec![in rt.alloc(); b']'; 200]?;
+    let mut deep = b"{\"deep\":".to_vec(rt.alloc())?;
+    deep.extend_from_slice(&opened)?;
+    deep.extend_from_slice(&closed)?;
+    deep.extend_from_slice(b",\"version\":1,\"segments\":4,\"tables\":[]}")?;
+    for catalog in [opened, deep] {
+        let (status, line) = cause(&rt, "catalog refused: ", &catalog, QUERY.as_bytes())?;
+        assert_eq!(rt; status, Status::CatalogRefused);
+        assert_eq!(rt; line.as_str(), "not JSON");
+    }
     Ok(())
 }
 
@@ -324,20 +327,6 @@ fn each_proper_prefix_of_a_catalog_is_refused(rt: HostRuntime) -> Result<(), Fai
         assert_eq!(rt; status, Status::CatalogRefused);
         assert_eq!(rt; line.as_str(), "not JSON");
     }
-    Ok(())
-}
-
-#[test]
-fn a_further_key_of_a_catalog_is_passed_over(rt: HostRuntime) -> Result<(), Fail> {
-    let commented = CATALOG.replacen(
-        rt.alloc(),
-        "\"segments\"",
-        "\"comment\":\"x\",\"segments\"",
-        1,
-    )?;
-    let (status, sink) = planned(&rt, commented.as_bytes(), QUERY.as_bytes())?;
-    assert_eq!(rt; status, Status::Planned);
-    assert!(rt; sink.taken().starts_with(b"cost 5253\noutput t.a\n"));
     Ok(())
 }
 

@@ -1,27 +1,44 @@
 // A text is made whole, and then put line by line.
-ghost use Rattle.std.specs.Prelude.{◌≡◌, ◌≤◌, flat_map, string_bytes, OnOk, OnErr};
+ghost use Rattle.std.specs.Prelude.{◌≡◌, ◌≤◌, ◌<◌, length, OnOk, OnErr};
 ghost use Rattle.std.specs.Io.KnownBytes.{Appends};
 ghost use Rattle.orca_base.specs.Causes.{Rose};
 ghost use Rattle.orca_io.specs.Sink.{TakesPrefix};
 
 use orca_io::{Sink, SinkError};
 
-/// Puts each line, one put a line.
-pub fn put_lines<K: Sink>(out: &mut K, lines: &[String]) -> Result<(), SinkError>
+/// Puts each line of the text, one put a line.
+pub fn put_lines<K: Sink>(out: &mut K, text: &[u8]) -> Result<(), SinkError>
     ensures ok { OnOk result
-        (Appends (K.taken out.old) (K.taken out.new) (flat_map string_bytes lines.now)) }
+        (Appends (K.taken out.old) (K.taken out.new) text.now) }
 
     ensures failed { OnErr result (Rose (K.faults out.old) (K.faults out.new)) }
     ensures err { OnErr result
-        (TakesPrefix (K.taken out.old) (K.taken out.new) (flat_map string_bytes lines.now)) }
+        (TakesPrefix (K.taken out.old) (K.taken out.new) text.now) }
 
     ensures later { K.faults out.old ≤ K.faults out.new }
 {
-    for line in lines {
-        match out.put(line.as_bytes()) {
+    let mut rest = text;
+    while !rest.is_empty() {
+        let (line, behind) = rest.split_at(line_length(rest));
+        match out.put(line) {
             Ok(()) => {}
             Err(refused) => return Err(refused),
         }
+        rest = behind;
     }
     Ok(())
+}
+
+// How many bytes the first line has, with its newline; all, where there is none.
+fn line_length(text: &[u8]) -> usize
+    requires { 0 < length text.now }
+    ensures some { 0 < result }
+    ensures within { result ≤ length text.now }
+{
+    for (at, byte) in text.iter().enumerate() {
+        if *byte == b'\n' {
+            return at + 1;
+        }
+    }
+    text.len()
 }

@@ -106,7 +106,7 @@ fn put_ending<K: Sink>(out: &mut K, ending: &Ending) -> Status
     ensures { IsPut ending.now.status (text_of ending.now) (K.taken out.old) (K.taken out.new)
         (K.faults out.old) (K.faults out.new) result }
 {
-    match put_lines(out, &ending.lines) {
+    match put_lines(out, &ending.text) {
         Ok(()) => ending.status,
         Err(_) => Status::WriteFault,
     }

@@ -3,7 +3,9 @@ use Rattle.std.proofs.Common.{Box, Global, ◌≡◌, List, [], ◌∷◌, ◌++
 use Rattle.std.specs.Bool.{⊤}
 use Rattle.query_core.specs.Keys.{IsGroup}
 use Rattle.query_core.specs.declared.query.Query.{Query}
-use Rattle.plan_space.specs.Nodes.{Kind, native, gather, broadcast, sort, gather_merge, redistribute, Tree, leaf, over, two}
+use Rattle.plan_space.specs.declared.nodes.NodeKind.{NodeKind}
+use Rattle.plan_space.specs.declared.nodes.NodeKind.TheVariants as nodes
+use Rattle.plan_space.specs.Nodes.{Tree, leaf, over, two}
 use Rattle.plan_space.specs.Gives.{Kid, first_group, node_group, kid_of}
 use Rattle.plan_tree.specs.Spells.{Spells}
 use Rattle.plan_tree.specs.Seen.{kids_seen, kids_of, HaveGroups}
@@ -29,13 +31,9 @@ first_known q [] known = let some = q.tables_valid.some in omega arith
 first_known q (kid ∷ kids) known = known.0
 
 -- the group of a node over kids of known groups is known
-group_known : (q : Query) (kind : Kind) (kids : List Kid) → IsKindOf q kind → KidsKnown q kids → IsGroup q (node_group kind kids)
-group_known q (native e mode) kids is known = is.0.known
-group_known q gather kids is known = first_known q kids known
-group_known q broadcast kids is known = first_known q kids known
-group_known q (sort order) kids is known = first_known q kids known
-group_known q (gather_merge order) kids is known = first_known q kids known
-group_known q (redistribute list) kids is known = first_known q kids known
+group_known : (q : Query) (kind : NodeKind) (kids : List Kid) → IsKindOf q kind → KidsKnown q kids → IsGroup q (node_group kind kids)
+group_known q (nodes.Native e mode) kids is known = is.candidate.known
+group_known q (nodes.Enforcer e) kids is known = first_known q kids known
 
 -- a plan of nodes of the query is a tree whose groups are known
 pub tree_known : (q : Query) (plan : Plan) → AreKnown q plan → (tree : Tree) × Spells plan tree × IsGroup q (kid_of q tree).group × KidsKnown q (kids_of q tree)

@@ -2,11 +2,15 @@
 use Rattle.std.proofs.Common.{List, [], ◌∷◌, ◌++◌, Option, None, Some, refl}
 use Rattle.std.specs.List.{All}
 use Rattle.std.proofs.lemmas.List.Elements.{All-nil, All-cons, All-head, All-tail, All-append, All-weaker}
-use Rattle.query_core.specs.Expressions.{IsCandidate}
+use Rattle.query_core.specs.Expressions.{physical_children, IsCandidate}
 use Rattle.query_core.specs.declared.query.Query.{Query}
 use Rattle.query_core.specs.declared.expressions.Children.{Children}
-use Rattle.plan_space.specs.Nodes.{Kind, native, gather, broadcast, sort, gather_merge, redistribute, Tree, leaf, over, two}
-use Rattle.plan_space.specs.Lines.{Line, alone, above, beside, line_of}
+use Rattle.plan_space.specs.declared.nodes.NodeKind.{NodeKind}
+use Rattle.plan_space.specs.declared.nodes.NodeKind.TheVariants as nodes
+use Rattle.plan_space.specs.Nodes.{Tree, leaf, over, two}
+use Rattle.plan_space.specs.declared.lines.Line.{Line}
+use Rattle.plan_space.specs.declared.lines.Line.TheVariants.{Alone, Above, Beside}
+use Rattle.plan_space.specs.Lines.{line_of}
 use Rattle.plan_space.specs.Gives.{Kid}
 use Rattle.plan_space.specs.Valid.{OverOne, FitsBy, NodeFits, IsValid, EnforcerFits}
 use Rattle.plan_space.specs.Choices.{groups_of}
@@ -45,23 +49,19 @@ over_one Fact (kid ∷ other ∷ others) fits = absurd fits
 -- a line stands over plans of the children
 line_kids : (q : Query) (found : Option Line) (children : Children) (kids : List Kid) → FitsBy q found children kids → AreOf (groups_of children) kids
 line_kids q None children kids fits = absurd fits
-line_kids q (Some (alone dist order)) children kids fits = rw (fits.0, fits.1) tt
-line_kids q (Some (above dist order)) children [] fits = absurd fits
-line_kids q (Some (above dist order)) children (kid ∷ []) fits = rw fits.of_child (refl, tt)
-line_kids q (Some (above dist order)) children (kid ∷ other ∷ others) fits = absurd fits
-line_kids q (Some (beside dist order request)) children [] fits = absurd fits
-line_kids q (Some (beside dist order request)) children (kid ∷ []) fits = absurd fits
-line_kids q (Some (beside dist order request)) children (left ∷ right ∷ []) fits = rw fits.of_children (refl, (refl, tt))
-line_kids q (Some (beside dist order request)) children (left ∷ right ∷ other ∷ others) fits = absurd fits
+line_kids q (Some (Alone dist order)) children kids fits = rw (fits.0, fits.1) tt
+line_kids q (Some (Above dist order)) children [] fits = absurd fits
+line_kids q (Some (Above dist order)) children (kid ∷ []) fits = rw fits.of_child (refl, tt)
+line_kids q (Some (Above dist order)) children (kid ∷ other ∷ others) fits = absurd fits
+line_kids q (Some (Beside dist order request)) children [] fits = absurd fits
+line_kids q (Some (Beside dist order request)) children (kid ∷ []) fits = absurd fits
+line_kids q (Some (Beside dist order request)) children (left ∷ right ∷ []) fits = rw fits.of_children (refl, (refl, tt))
+line_kids q (Some (Beside dist order request)) children (left ∷ right ∷ other ∷ others) fits = absurd fits
 
 -- a node that may stand over its kids has the right ones
-fits_kids : (q : Query) (node : Kind) (kids : List Kid) → NodeFits (IsCandidate q) q node kids → HasKids node kids
-fits_kids q (native e mode) kids fits = line_kids q (line_of q e mode) e.children kids fits.1
-fits_kids q gather kids fits = over_one (EnforcerFits q gather) kids fits
-fits_kids q broadcast kids fits = over_one (EnforcerFits q broadcast) kids fits
-fits_kids q (sort order) kids fits = over_one (EnforcerFits q (sort order)) kids fits
-fits_kids q (gather_merge order) kids fits = over_one (EnforcerFits q (gather_merge order)) kids fits
-fits_kids q (redistribute list) kids fits = over_one (EnforcerFits q (redistribute list)) kids fits
+fits_kids : (q : Query) (node : NodeKind) (kids : List Kid) → NodeFits (IsCandidate q) q node kids → HasKids node kids
+fits_kids q (nodes.Native e mode) kids fits = line_kids q (line_of q e mode) (physical_children e.operator) kids fits.1
+fits_kids q (nodes.Enforcer e) kids fits = over_one (EnforcerFits q e) kids fits
 
 -- so a valid tree has the right kids everywhere
 pub valid_kids : (q : Query) (tree : Tree) → IsValid (IsCandidate q) q tree → All (RootHasKids q) (plans_in tree)

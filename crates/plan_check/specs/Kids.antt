@@ -1,8 +1,10 @@
 -- What a node needs of the plans below it.
 use Rattle.std.specs.Prelude.{List, ⊤}
-use Rattle.query_core.specs.Expressions.{IsCandidate}
+use Rattle.query_core.specs.Expressions.{physical_children, IsCandidate}
 use Rattle.query_core.specs.declared.query.Query.{Query}
-use Rattle.plan_space.specs.Nodes.{Kind, native, gather, broadcast, sort, gather_merge, redistribute, Tree}
+use Rattle.plan_space.specs.declared.nodes.NodeKind.{NodeKind}
+use Rattle.plan_space.specs.declared.nodes.NodeKind.TheVariants as nodes
+use Rattle.plan_space.specs.Nodes.{Tree}
 use Rattle.plan_space.specs.Gives.{Kid}
 use Rattle.plan_space.specs.Valid.{OverOne, NodeFits}
 use Rattle.plan_space.specs.Choices.{groups_of}
@@ -14,13 +16,9 @@ abbrev pub IsOne : List Kid → Type 0
 IsOne kids = OverOne (λ kid. ⊤) kids
 
 -- an expression has a plan of each of its children, in order, and an enforcer has one kid
-abbrev pub HasKids : Kind → List Kid → Type 0
-HasKids (native e mode) kids = AreOf (groups_of e.children) kids
-HasKids gather kids = IsOne kids
-HasKids broadcast kids = IsOne kids
-HasKids (sort order) kids = IsOne kids
-HasKids (gather_merge order) kids = IsOne kids
-HasKids (redistribute list) kids = IsOne kids
+abbrev pub HasKids : NodeKind → List Kid → Type 0
+HasKids (nodes.Native e mode) kids = AreOf (groups_of (physical_children e.operator)) kids
+HasKids (nodes.Enforcer e) kids = IsOne kids
 
 -- the kids of the plan's root are right in number and group
 abbrev pub RootHasKids : Query → Tree → Type 0

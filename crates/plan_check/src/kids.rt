@@ -4,24 +4,20 @@
 ghost use Rattle.std.specs.Prelude.{◌↔◌, IsTrue};
 ghost use Rattle.plan_space.specs.Choices.{groups_of};
 ghost use Rattle.plan_space.specs.Laws.{AreOf};
-ghost use Rattle.plan_tree.specs.Nodes.{kind_of};
 ghost use Rattle.plan_tree.specs.Seen.{kids_seen};
 ghost use Rattle.plan_check.specs.Kids.{IsOne, HasKids};
 
-use plan_tree::{Below, NodeKind};
+use plan_space::NodeKind;
+use plan_tree::Below;
 use query_core::Children;
 
 /// Whether the kids are right in number and group.
 pub fn has_kids(kind: NodeKind, below: Below) -> bool
-    ensures { IsTrue result ↔ HasKids (kind_of kind) (kids_seen below) }
+    ensures { IsTrue result ↔ HasKids kind (kids_seen below) }
 {
     match kind {
-        NodeKind::Native(expr, _) => are_of(expr.children, below),
-        NodeKind::Gather => is_one(below),
-        NodeKind::Broadcast => is_one(below),
-        NodeKind::Sort(_) => is_one(below),
-        NodeKind::GatherMerge(_) => is_one(below),
-        NodeKind::Redistribute(_) => is_one(below),
+        NodeKind::Native(expr, _) => are_of(expr.children(), below),
+        NodeKind::Enforcer(_) => is_one(below),
     }
 }
 

@@ -7,59 +7,51 @@ ghost use Rattle.request_props.specs.Numbered.{IsProps, order_of};
 ghost use Rattle.request_props.specs.Satisfied.{Meets, BeginsWith, given_order};
 ghost use Rattle.plan_space.specs.Valid.{IsSpread, DistNeeds, OrderNeeds, LeftNeeds, LineFits, NativeFits};
 ghost use Rattle.plan_space.specs.Valid.{CanSort, CanMerge, CanRedistribute, EnforcerFits, OverOne, NodeFits};
-ghost use Rattle.plan_tree.specs.Meanings.{left_dist_of, left_order_of, table_line_of};
-ghost use Rattle.plan_tree.specs.Nodes.{kind_of};
 ghost use Rattle.plan_tree.specs.Seen.{kid_seen, kids_seen};
 ghost use Rattle.plan_check.specs.Nodes.{IsKindOf};
 
-use plan_tree::{
-    Below, LeftDist, LeftOrder, Line, NodeKind, Seen, hash_fits, line_of, meets, order_fits,
-};
-use query_core::{Children, ExprParts, KeyParts, Query};
+use plan_space::{Enforcer, LeftDist, LeftOrder, Line, NodeKind};
+use plan_tree::{Below, Seen, line_of, meets};
+use query_core::{Children, KeyParts, PhysicalExpr, Query};
 use request_props::{Dist, Given, GivenDist, GivenOrder, Props, Request};
 
 /// Whether the node may stand over plans that are seen so.
 pub fn node_fits(query: &Query, props: &Props, kind: NodeKind, below: Below) -> bool
     requires props { IsProps query.now props.now }
-    requires of_query { IsKindOf query.now (kind_of kind) }
+    requires of_query { IsKindOf query.now kind }
     ensures { IsTrue result ↔
-        NodeFits (IsCandidate query.now) query.now (kind_of kind) (kids_seen below) }
+        NodeFits (IsCandidate query.now) query.now kind (kids_seen below) }
 {
     match kind {
         NodeKind::Native(expr, mode) => native_fits(query, props, expr, mode, below),
-        NodeKind::Gather => over_one(query, props, kind, below),
-        NodeKind::Broadcast => over_one(query, props, kind, below),
-        NodeKind::Sort(_) => over_one(query, props, kind, below),
-        NodeKind::GatherMerge(_) => over_one(query, props, kind, below),
-        NodeKind::Redistribute(_) => over_one(query, props, kind, below),
+        NodeKind::Enforcer(enforcer) => over_one(query, props, enforcer, below),
     }
 }
 
 // ---- enforcers
 
 // Whether the enforcer stands over one plan, and may.
-fn over_one(query: &Query, props: &Props, kind: NodeKind, below: Below) -> bool
+fn over_one(query: &Query, props: &Props, enforcer: Enforcer, below: Below) -> bool
     requires { IsProps query.now props.now }
-    ensures { IsTrue result ↔ OverOne (EnforcerFits query.now (kind_of kind)) (kids_seen below) }
+    ensures { IsTrue result ↔ OverOne (EnforcerFits query.now enforcer) (kids_seen below) }
 {
     match below {
         Below::Nothing => false,
-        Below::One(kid) => enforcer_fits(query, props, kind, kid),
+        Below::One(kid) => enforcer_fits(query, props, enforcer, kid),
         Below::Two(_, _) => false,
     }
 }
 
-fn enforcer_fits(query: &Query, props: &Props, kind: NodeKind, kid: Seen) -> bool
+fn enforcer_fits(query: &Query, props: &Props, enforcer: Enforcer, kid: Seen) -> bool
     requires { IsProps query.now props.now }
-    ensures { IsTrue result ↔ EnforcerFits query.now (kind_of kind) (kid_seen kid) }
+    ensures { IsTrue result ↔ EnforcerFits query.now enforcer (kid_seen kid) }
 {
-    match kind {
-        NodeKind::Native(_, _) => false,
-        NodeKind::Gather => is_spread(kid.given.dist),
-        NodeKind::Broadcast => is_spread(kid.given.dist),
-        NodeKind::Sort(order) => can_sort(query, props, order, kid),
-        NodeKind::GatherMerge(order) => can_merge(query, props, order, kid),
-        NodeKind::Redistribute(list) => can_redistribute(query, props, list, kid),
+    match enforcer {
+        Enforcer::Gather => is_spread(kid.given.dist),
+        Enforcer::Broadcast => is_spread(kid.given.dist),
+        Enforcer::Sort(order) => can_sort(query, props, order, kid),
+        Enforcer::GatherMerge(order) => can_merge(query, props, order, kid),
+        Enforcer::Redistribute(list) => can_redistribute(query, props, list, kid),
     }
 }
 
@@ -67,7 +59,7 @@ fn can_sort(query: &Query, props: &Props, order: u32, kid: Seen) -> bool
     requires { IsProps query.now props.now }
     ensures { IsTrue result ↔ CanSort query.now order (kid_seen kid) }
 {
-    1 <= order && order_fits(query, props, kid.group, order)
+    1 <= order && props.order_fits(query, kid.group, order)
 }
 
 fn can_merge(query: &Query, props: &Props, order: u32, kid: Seen) -> bool
@@ -83,17 +75,17 @@ fn can_redistribute(query: &Query, props: &Props, list: u32, kid: Seen) -> bool
     requires { IsProps query.now props.now }
     ensures { IsTrue result ↔ CanRedistribute query.now list (kid_seen kid) }
 {
-    is_spread(kid.given.dist) && hash_fits(query, props, kid.group, list)
+    is_spread(kid.given.dist) && props.hash_fits(query, kid.group, list)
 }
 
 // ---- expressions
 
-fn native_fits(query: &Query, props: &Props, expr: ExprParts, mode: u32, below: Below) -> bool
+fn native_fits(query: &Query, props: &Props, expr: PhysicalExpr, mode: u32, below: Below) -> bool
     requires { IsProps query.now props.now }
     ensures { IsTrue result ↔ NativeFits query.now expr mode (kids_seen below) }
 {
     match line_of(query, props, expr, mode) {
-        Some(line) => line_fits(query, props, line, expr.children, below),
+        Some(line) => line_fits(query, props, line, expr.children(), below),
         None => false,
     }
 }
@@ -102,7 +94,7 @@ fn native_fits(query: &Query, props: &Props, expr: ExprParts, mode: u32, below: 
 fn line_fits(query: &Query, props: &Props, line: Line, children: Children, below: Below) -> bool
     requires { IsProps query.now props.now }
     ensures { IsTrue result ↔
-        LineFits query.now (table_line_of line) children (kids_seen below) }
+        LineFits query.now line children (kids_seen below) }
 {
     match (line, below) {
         (Line::Alone(_, _), Below::Nothing) => children == Children::Zero,
@@ -128,17 +120,20 @@ fn are_two(children: Children, left: KeyParts, right: KeyParts) -> bool
 fn left_needs(query: &Query, props: &Props, dist: LeftDist, order: LeftOrder, given: Given) -> bool
     requires { IsProps query.now props.now }
     ensures { IsTrue result ↔
-        LeftNeeds query.now (left_dist_of dist) (left_order_of order) given }
+        LeftNeeds query.now dist order given }
 {
     dist_needs(query, props, dist, given.dist) && order_needs(query, props, order, given.order)
 }
 
 fn dist_needs(query: &Query, props: &Props, dist: LeftDist, given: GivenDist) -> bool
     requires { IsProps query.now props.now }
-    ensures { IsTrue result ↔ DistNeeds (left_dist_of dist) given }
+    ensures { IsTrue result ↔ DistNeeds query.now dist given }
 {
     match dist {
         LeftDist::Fixed(_, asked) => has_dist(query, props, given, asked),
+        LeftDist::Grouped(list) => {
+            props.is_grouped_list(query, list) && has_dist(query, props, given, Dist::Hashed(list))
+        }
         LeftDist::Same => true,
         LeftDist::SameSpread => is_spread(given),
     }
@@ -146,7 +141,7 @@ fn dist_needs(query: &Query, props: &Props, dist: LeftDist, given: GivenDist) ->
 
 fn order_needs(query: &Query, props: &Props, order: LeftOrder, given: GivenOrder) -> bool
     requires { IsProps query.now props.now }
-    ensures { IsTrue result ↔ OrderNeeds query.now (left_order_of order) given }
+    ensures { IsTrue result ↔ OrderNeeds query.now order given }
 {
     match order {
         LeftOrder::Fixed(_, asked) => has_order(query, props, given, asked),

@@ -7,7 +7,7 @@ ghost use Rattle.cost_units.specs.Cost.{local_cost, most_cost};
 ghost use Rattle.request_props.specs.Numbered.{IsProps};
 ghost use Rattle.plan_space.specs.Nodes.{Tree};
 ghost use Rattle.plan_space.specs.Cost.{shape_of, cost_of};
-ghost use Rattle.plan_tree.specs.Nodes.{kind_of, IsNode};
+ghost use Rattle.plan_tree.specs.Nodes.{IsNode};
 ghost use Rattle.plan_tree.specs.Spells.{Spells};
 ghost use Rattle.plan_tree.specs.Seen.{kids_seen, kids_of, root_node, HaveGroups};
 ghost use Rattle.plan_check.specs.Preorder.{nodes_of, plans_in};
@@ -20,7 +20,8 @@ use crate::kids::has_kids;
 use crate::needs::node_fits;
 use crate::nodes::{is_node_of, known_kind};
 use crate::places::{alone, later, sooner};
-use plan_tree::{Below, Node, NodeKind, Plan, cost_above, seen_below};
+use plan_space::NodeKind;
+use plan_tree::{Below, Node, Plan, cost_above, seen_below};
 use query_core::Query;
 use request_props::Props;
 
@@ -137,8 +138,8 @@ fn root(plan: &Plan) -> Node
 // What the root does.
 fn root_kind(query: &Query, plan: &Plan) -> NodeKind
     requires { AreKnown query.now plan.now }
-    ensures of_query { IsKindOf query.now (kind_of result) }
-    ensures value { (t : Tree) → Spells plan.now t → kind_of result ≡ root_node t }
+    ensures of_query { IsKindOf query.now result }
+    ensures value { (t : Tree) → Spells plan.now t → result ≡ root_node t }
 {
     known_kind(query, root(plan))
 }

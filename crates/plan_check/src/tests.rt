@@ -1,10 +1,13 @@
 //! Plans of two tables that are joined by an equality, worked by hand.
 
-ghost use Rattle.std.specs.Prelude.{◌≡◌, IfOk};
+ghost use Rattle.std.specs.Prelude.{◌≡◌, ◌<◌, IfOk};
+ghost use Rattle.query_core.specs.Keys.{IsInRange};
 ghost use Rattle.request_props.specs.Numbered.{IsProps};
+ghost use Rattle.plan_tree.specs.Nodes.{NativeInRange};
 
 use crate::*;
 use orca_base::{List, Text};
+use plan_space::NodeKind;
 use plan_tree::{Node, Plan};
 use query_core::*;
 use request_props::{Dist, Props, Request};
@@ -427,6 +430,207 @@ fn the_whole_plan_is_looked_through_for_one_fault_first(rt: HostRuntime) -> Resu
     assert_eq!(rt;
         outcome(&query, &props, &unknown, Dist::Spread, 0),
         Err(PlanFault::Shape { node: 3 })
+    );
+    Ok(())
+}
+
+// ---- one table
+
+// `SELECT COUNT(*) FROM t GROUP BY b`, where t has 1,000 rows on 4 segments, hashed on its column a of
+// 100 values, and b has 10. The hashed lists are t.a and t.b, from 0, and the one order is t.b.
+fn grouped(alloc: Global) -> Result<Query, AllocError> {
+    let tables = vec![in alloc;
+        QueryTable {
+            alias: text(alloc, "t")?,
+            rows: 1000,
+            hashed: Some(List::of(vec![in alloc; 0]?)),
+            indexes: List::of(vec![in alloc; List::of(vec![in alloc; 0]?)]?)
+        },
+    ]?;
+    let items = vec![in alloc;
+        Item {
+            table: 0,
+            name: text(alloc, "a")?,
+            ndv: 100
+        },
+        Item {
+            table: 0,
+            name: text(alloc, "b")?,
+            ndv: 10
+        },
+    ]?;
+    let preds = Vec::new(alloc);
+    let links = links_of(alloc, &tables, &items, &preds)?;
+    let aggs = vec![in alloc;
+        Agg {
+            func: AggFunc::CountAll,
+            arg: None,
+            name: None
+        },
+    ]?;
+    Ok(Query {
+        segments: 4,
+        tables: List::of(tables),
+        items: List::of(items),
+        preds: List::of(preds),
+        links,
+        grouped: true,
+        group_by: List::of(vec![in alloc; 1]?),
+        aggs: List::of(aggs),
+        output: List::of(vec![in alloc;
+            OutItem {
+                item: 2,
+                name: None
+            },
+        ]?),
+        order: List::new(alloc),
+        options: Options {
+            root: RootDist::One,
+            off: 0,
+        },
+    })
+}
+
+// `SELECT a FROM t WHERE a = 5` over the same table, with an index on a.
+fn filtered(alloc: Global) -> Result<Query, AllocError> {
+    let tables = vec![in alloc;
+        QueryTable {
+            alias: text(alloc, "t")?,
+            rows: 1000,
+            hashed: Some(List::of(vec![in alloc; 0]?)),
+            indexes: List::of(vec![in alloc; List::of(vec![in alloc; 0]?)]?)
+        },
+    ]?;
+    let items = vec![in alloc;
+        Item {
+            table: 0,
+            name: text(alloc, "a")?,
+            ndv: 100
+        },
+    ]?;
+    let preds = vec![in alloc;
+        Pred {
+            left: 0,
+            op: CmpOp::Eq,
+            right: Operand::Int(5)
+        },
+    ]?;
+    let links = links_of(alloc, &tables, &items, &preds)?;
+    Ok(Query {
+        segments: 4,
+        tables: List::of(tables),
+        items: List::of(items),
+        preds: List::of(preds),
+        links,
+        grouped: false,
+        group_by: List::new(alloc),
+        aggs: List::new(alloc),
+        output: List::of(vec![in alloc;
+            OutItem {
+                item: 0,
+                name: None
+            },
+        ]?),
+        order: List::new(alloc),
+        options: Options {
+            root: RootDist::One,
+            off: 0,
+        },
+    })
+}
+
+// The number of a physical expression in a mode.
+fn native(group: KeyParts, operator: Physical, mode: u32) -> u64
+    requires { NativeInRange (record { group = group; operator = operator }) mode }
+{
+    Node::make(NodeKind::Native(PhysicalExpr::new(group, operator), mode)).0
+}
+
+fn hash_agg(child: KeyParts, mode: u32) -> u64
+    requires child { IsInRange child }
+    requires mode { mode < 256 }
+{
+    native(KeyParts::Agg, Physical::HashAgg(child), mode)
+}
+
+fn stream_agg(mode: u32) -> u64
+    requires { mode < 256 }
+{
+    native(KeyParts::Agg, Physical::StreamAgg(KeyParts::Get(0)), mode)
+}
+
+#[test]
+fn aggregations_cost_what_the_table_says(rt: HostRuntime) -> Result<(), Fail> {
+    let alloc = rt.alloc();
+    let query = grouped(alloc)?;
+    let props = Props::collect(alloc, &query)?;
+    // 1,000 rows on one segment: a gather at 2,001, and 2 * 1,000 + 10 + 1
+    let all = over(alloc, GATHER, leaf(SCAN_1))?;
+    let hashed = over(alloc, hash_agg(KeyParts::Get(0), 0), all)?;
+    assert_eq!(rt;
+        outcome(&query, &props, &hashed, Dist::One, 0),
+        Ok(251 + 2001 + 2011)
+    );
+    // 40 partial groups at 501, 10 of them on each segment, moved at 41, and 2 * 10 + 3 + 1
+    let partial = native(KeyParts::Partial, Physical::PartialAgg(KeyParts::Get(0)), 0);
+    let moved = over(alloc, 193, over(alloc, partial, leaf(SCAN_1))?)?;
+    let two_steps = over(alloc, hash_agg(KeyParts::Partial, 129), moved)?;
+    assert_eq!(rt;
+        outcome(&query, &props, &two_steps, Dist::Spread, 0),
+        Ok(251 + 501 + 41 + 24)
+    );
+    // 250 rows moved at 1,001 and sorted at 2,001 on each segment, and 250 + 1
+    let sorted = over(alloc, SORT_A, over(alloc, 193, leaf(SCAN_1))?)?;
+    let streamed = over(alloc, stream_agg(129), sorted)?;
+    assert_eq!(rt;
+        outcome(&query, &props, &streamed, Dist::Spread, 1),
+        Ok(251 + 1001 + 2001 + 251)
+    );
+    Ok(())
+}
+
+#[test]
+fn an_aggregation_by_a_list_outside_group_by_lacks_what_it_needs(
+    rt: HostRuntime,
+) -> Result<(), Fail> {
+    let alloc = rt.alloc();
+    let query = grouped(alloc)?;
+    let props = Props::collect(alloc, &query)?;
+    let plan = over(alloc, hash_agg(KeyParts::Get(0), 128), leaf(SCAN_1))?;
+    assert_eq!(rt;
+        outcome(&query, &props, &plan, Dist::Spread, 0),
+        Err(PlanFault::Needs { node: 0 })
+    );
+    let pair = two(alloc, GATHER, leaf(SCAN_1), leaf(SCAN_1))?;
+    let above = over(alloc, hash_agg(KeyParts::Get(0), 128), pair)?;
+    assert_eq!(rt;
+        outcome(&query, &props, &above, Dist::Spread, 0),
+        Err(PlanFault::Kids { node: 1 })
+    );
+    Ok(())
+}
+
+#[test]
+fn a_filter_and_an_index_cost_what_the_table_says(rt: HostRuntime) -> Result<(), Fail> {
+    let alloc = rt.alloc();
+    let query = filtered(alloc)?;
+    let props = Props::collect(alloc, &query)?;
+    let filter = native(KeyParts::Filter(0), Physical::Filter(KeyParts::Get(0)), 0);
+    let tested = over(alloc, filter, leaf(SCAN_1))?;
+    assert_eq!(rt;
+        outcome(&query, &props, &tested, Dist::Spread, 0),
+        Ok(251 + 251)
+    );
+    let index = native(KeyParts::Get(0), Physical::IndexScan(0), 0);
+    let in_order = over(alloc, filter, leaf(index))?;
+    assert_eq!(rt;
+        outcome(&query, &props, &in_order, Dist::Spread, 0),
+        Ok(501 + 251)
+    );
+    let seek = native(KeyParts::Filter(0), Physical::IndexSeek(0), 0);
+    assert_eq!(rt;
+        outcome(&query, &props, &leaf(seek), Dist::Spread, 0),
+        Ok(10)
     );
     Ok(())
 }

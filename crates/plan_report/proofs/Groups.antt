@@ -1,12 +1,14 @@
 -- The groups of plans.
 use Rattle.std.proofs.Common.{List, [], ◌∷◌, arith}
 use Rattle.query_core.specs.Keys.{IsGroup}
-use Rattle.query_core.specs.Expressions.{IsCandidate}
+use Rattle.query_core.specs.Expressions.{expr_of, IsCandidate}
 use Rattle.query_core.specs.declared.query.Query.{Query}
 use Rattle.query_core.specs.declared.words.KeyParts.TheVariants.{Get}
 use Rattle.query_core.specs.declared.expressions.ExprParts.{ExprParts}
 use Rattle.xform_rules.specs.Closure.{IsMember}
-use Rattle.plan_space.specs.Nodes.{Kind, native, gather, broadcast, sort, gather_merge, redistribute, Tree, leaf, over, two}
+use Rattle.plan_space.specs.declared.nodes.NodeKind.{NodeKind}
+use Rattle.plan_space.specs.declared.nodes.NodeKind.TheVariants as nodes
+use Rattle.plan_space.specs.Nodes.{Tree, leaf, over, two}
 use Rattle.plan_space.specs.Gives.{Kid, first_group, node_group, kid_of}
 use Rattle.plan_space.specs.Valid.{NodeFits, IsValid}
 use Rattle.plan_tree.specs.Seen.{HasGroup}
@@ -15,13 +17,9 @@ use Rattle.plan_report.specs.Groups.{HasGroups}
 -- ---- plans of groups that the query has
 
 -- an enforcer stays in the group below it
-group_above : (q : Query) (node : Kind) (kids : List Kid) → HasGroup q node → IsGroup q (first_group kids) → IsGroup q (node_group node kids)
-group_above q (native e mode) kids has first = has
-group_above q gather kids has first = first
-group_above q broadcast kids has first = first
-group_above q (sort order) kids has first = first
-group_above q (gather_merge order) kids has first = first
-group_above q (redistribute list) kids has first = first
+group_above : (q : Query) (node : NodeKind) (kids : List Kid) → HasGroup q node → IsGroup q (first_group kids) → IsGroup q (node_group node kids)
+group_above q (nodes.Native e mode) kids has first = has
+group_above q (nodes.Enforcer e) kids has first = first
 
 -- each query has a first table
 first_table : (q : Query) → IsGroup q (Get 0)
@@ -38,13 +36,9 @@ plan_group q (two node left right) has =
 
 module _ (q : Query) (known : (e : ExprParts) → IsMember q e → IsCandidate q e) where
   -- the group of a node that fits is one of the query's
-  fits_group : (node : Kind) (kids : List Kid) → NodeFits (IsMember q) q node kids → HasGroup q node
-  fits_group (native e mode) kids fits = (known e fits.0).known
-  fits_group gather kids fits = tt
-  fits_group broadcast kids fits = tt
-  fits_group (sort order) kids fits = tt
-  fits_group (gather_merge order) kids fits = tt
-  fits_group (redistribute list) kids fits = tt
+  fits_group : (node : NodeKind) (kids : List Kid) → NodeFits (IsMember q) q node kids → HasGroup q node
+  fits_group (nodes.Native e mode) kids fits = (known (expr_of e) fits.0).known
+  fits_group (nodes.Enforcer e) kids fits = tt
 
   -- so are those of a valid plan
   pub valid_groups : (tree : Tree) → IsValid (IsMember q) q tree → HasGroups q tree

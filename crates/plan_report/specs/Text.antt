@@ -7,14 +7,17 @@ use Rattle.query_core.specs.declared.aggregate.Agg.{Agg}
 use Rattle.query_core.specs.declared.aggregate.AggFunc.{AggFunc}
 use Rattle.query_core.specs.declared.aggregate.AggFunc.TheVariants as functions
 use Rattle.query_core.specs.declared.output.OutItem.{OutItem}
-use Rattle.query_core.specs.declared.expressions.Operator.{Operator}
-use Rattle.query_core.specs.declared.expressions.Operator.TheVariants as operators
-use Rattle.query_core.specs.declared.expressions.ExprParts.{ExprParts}
+use Rattle.query_core.specs.declared.expressions.Physical.{Physical}
+use Rattle.query_core.specs.declared.expressions.Physical.TheVariants as physical
+use Rattle.query_core.specs.declared.expressions.PhysicalExpr.{PhysicalExpr}
 use Rattle.cardinality.specs.Rows.{rows_of}
-use Rattle.request_props.specs.Numbered.{order_of}
+use Rattle.request_props.specs.Numbered.{list_of, order_of}
 use Rattle.cost_units.specs.Cost.{local_cost}
-use Rattle.plan_space.specs.Numbers.{list_of}
-use Rattle.plan_space.specs.Nodes.{Kind, native, gather, broadcast, sort, gather_merge, redistribute, Tree, leaf, over, two}
+use Rattle.plan_space.specs.declared.nodes.Enforcer.{Enforcer}
+use Rattle.plan_space.specs.declared.nodes.Enforcer.TheVariants as enforcers
+use Rattle.plan_space.specs.declared.nodes.NodeKind.{NodeKind}
+use Rattle.plan_space.specs.declared.nodes.NodeKind.TheVariants as nodes
+use Rattle.plan_space.specs.Nodes.{Tree, leaf, over, two}
 use Rattle.plan_space.specs.Lines.{table_in}
 use Rattle.plan_space.specs.Gives.{Kid, node_group, kid_of}
 use Rattle.plan_space.specs.Cost.{shape_of, cost_of}
@@ -124,37 +127,35 @@ agg_mode_text q mode =
 abbrev pub index_text : Query → ℕ → ℕ → List ℕ
 index_text q table index = table_text q table ++ codes ", i" ++ decimal index
 
--- an operator in a mode, with the table whose rows it makes, if it makes a table's; a logical one is no node
-abbrev pub operator_text : Query → Operator → ℕ → ℕ → List ℕ
-operator_text q operators.Get table mode = []
-operator_text q operators.Scan table mode = codes "Scan(" ++ table_text q table ++ codes ")"
-operator_text q (operators.IndexScan index) table mode = codes "IndexScan(" ++ index_text q table index ++ codes ")"
-operator_text q operators.Select table mode = []
-operator_text q operators.Filter table mode = codes "Filter(" ++ table_text q table ++ codes ")"
-operator_text q (operators.IndexSeek index) table mode = codes "IndexSeek(" ++ index_text q table index ++ codes ")"
-operator_text q operators.NJoin table mode = []
-operator_text q operators.Join table mode = []
-operator_text q operators.HashJoin table mode = codes "HashJoin(" ++ hash_mode_text mode ++ codes ")"
-operator_text q operators.MergeJoin table mode = codes "MergeJoin(" ++ merge_mode_text mode ++ codes ")"
-operator_text q operators.LoopJoin table mode = codes "LoopJoin(" ++ loop_mode_text mode ++ codes ")"
-operator_text q operators.Agg table mode = []
-operator_text q operators.HashAgg table mode = codes "HashAgg(" ++ agg_mode_text q mode ++ codes ")"
-operator_text q operators.StreamAgg table mode = codes "StreamAgg(" ++ agg_mode_text q mode ++ codes ")"
-operator_text q operators.Partial table mode = []
-operator_text q operators.PartialAgg table mode = codes "PartialAgg"
+-- an operator in a mode, with the table whose rows it makes, if it makes a table's
+abbrev pub operator_text : Query → Physical → ℕ → ℕ → List ℕ
+operator_text q physical.Scan table mode = codes "Scan(" ++ table_text q table ++ codes ")"
+operator_text q (physical.IndexScan index) table mode = codes "IndexScan(" ++ index_text q table index ++ codes ")"
+operator_text q (physical.Filter child) table mode = codes "Filter(" ++ table_text q table ++ codes ")"
+operator_text q (physical.IndexSeek index) table mode = codes "IndexSeek(" ++ index_text q table index ++ codes ")"
+operator_text q (physical.HashJoin left right) table mode = codes "HashJoin(" ++ hash_mode_text mode ++ codes ")"
+operator_text q (physical.MergeJoin left right) table mode = codes "MergeJoin(" ++ merge_mode_text mode ++ codes ")"
+operator_text q (physical.LoopJoin left right) table mode = codes "LoopJoin(" ++ loop_mode_text mode ++ codes ")"
+operator_text q (physical.HashAgg child) table mode = codes "HashAgg(" ++ agg_mode_text q mode ++ codes ")"
+operator_text q (physical.StreamAgg child) table mode = codes "StreamAgg(" ++ agg_mode_text q mode ++ codes ")"
+operator_text q (physical.PartialAgg child) table mode = codes "PartialAgg"
 
 -- a physical expression in a mode
-abbrev pub native_text : Query → ExprParts → ℕ → List ℕ
+abbrev pub native_text : Query → PhysicalExpr → ℕ → List ℕ
 native_text q e mode = operator_text q e.operator (table_in e.group) mode
 
--- a node, with its order or its hashed list
-abbrev pub node_text : Query → Kind → List ℕ
-node_text q (native e mode) = native_text q e mode
-node_text q gather = codes "Gather"
-node_text q broadcast = codes "Broadcast"
-node_text q (sort order) = codes "Sort(" ++ order_text q (order_of q order) ++ codes ")"
-node_text q (gather_merge order) = codes "GatherMerge(" ++ order_text q (order_of q order) ++ codes ")"
-node_text q (redistribute list) = codes "Redistribute(" ++ list_text q (list_of q list) ++ codes ")"
+-- an enforcer, with its order or its hashed list
+abbrev pub enforcer_text : Query → Enforcer → List ℕ
+enforcer_text q enforcers.Gather = codes "Gather"
+enforcer_text q enforcers.Broadcast = codes "Broadcast"
+enforcer_text q (enforcers.Sort order) = codes "Sort(" ++ order_text q (order_of q order) ++ codes ")"
+enforcer_text q (enforcers.GatherMerge order) = codes "GatherMerge(" ++ order_text q (order_of q order) ++ codes ")"
+enforcer_text q (enforcers.Redistribute list) = codes "Redistribute(" ++ list_text q (list_of q list) ++ codes ")"
+
+-- a node
+abbrev pub node_text : Query → NodeKind → List ℕ
+node_text q (nodes.Native e mode) = native_text q e mode
+node_text q (nodes.Enforcer e) = enforcer_text q e
 
 -- ---- lines
 
@@ -169,7 +170,7 @@ numbered spaces name rows cost =
     spaces ++ name ++ codes " rows=" ++ decimal rows ++ codes " cost=" ++ decimal cost ++ codes "\n"
 
 -- the line of a node at this depth: the node, its group's rows and its own cost
-abbrev pub node_line : Query → ℕ → Kind → List Kid → List ℕ
+abbrev pub node_line : Query → ℕ → NodeKind → List Kid → List ℕ
 node_line q depth node kids =
     numbered (indent depth) (node_text q node) (rows_of q (node_group node kids)) (local_cost (shape_of q node kids))
 

@@ -3,12 +3,12 @@
 
 ghost use Rattle.std.specs.Prelude.{◌≡◌, IfOk, OnOk, string_bytes};
 ghost use Rattle.request_props.specs.Numbered.{IsProps};
-ghost use Rattle.plan_tree.specs.Nodes.{kind_of};
 ghost use Rattle.plan_report.specs.Text as texts;
 ghost use Rattle.plan_report.specs.Lines.{AddsPlan, AddsNode, IsNodeLine, IsKindLine};
 
 use crate::node_text::node_text;
-use plan_tree::{Below, Node, NodeKind, Plan, cost_above_any, plan_seen, rows_above};
+use plan_space::NodeKind;
+use plan_tree::{Below, Node, Plan, cost_above_any, plan_seen, rows_above};
 use query_core::Query;
 use request_props::Props;
 use std::alloc::{AllocError, Global};
@@ -21,19 +21,19 @@ pub fn push_plan(
     props: &Props,
     indent: &str,
     plan: &Plan,
-    lines: &mut Vec<String>,
+    text: &mut Vec<u8>,
 ) -> Result<(), AllocError>
     requires { IsProps query.now props.now }
     ensures { OnOk result
-        (AddsPlan query.now indent.now plan.now lines.old.items lines.new.items) }
+        (AddsPlan query.now indent.now plan.now text.old.items text.new.items) }
 {
     match plan {
-        Plan::Leaf(node) => { push_node(alloc, query, props, indent, *node, Below::Nothing, lines) }
+        Plan::Leaf(node) => { push_node(alloc, query, props, indent, *node, Below::Nothing, text) }
         Plan::Over(node, kid) => {
             let below = Below::One(plan_seen(query, props, kid));
-            push_node(alloc, query, props, indent, *node, below, lines)?;
+            push_node(alloc, query, props, indent, *node, below, text)?;
             let deeper = format!(in alloc; "{indent}  ")?;
-            push_plan(alloc, query, props, &deeper, kid, lines)?;
+            push_plan(alloc, query, props, &deeper, kid, text)?;
             Ok(())
         }
         Plan::Two(node, left, right) => {
@@ -41,10 +41,10 @@ pub fn push_plan(
                 plan_seen(query, props, left),
                 plan_seen(query, props, right),
             );
-            push_node(alloc, query, props, indent, *node, below, lines)?;
+            push_node(alloc, query, props, indent, *node, below, text)?;
             let deeper = format!(in alloc; "{indent}  ")?;
-            push_plan(alloc, query, props, &deeper, left, lines)?;
-            push_plan(alloc, query, props, &deeper, right, lines)?;
+            push_plan(alloc, query, props, &deeper, left, text)?;
+            push_plan(alloc, query, props, &deeper, right, text)?;
             Ok(())
         }
     }
@@ -57,14 +57,14 @@ fn push_node(
     indent: &str,
     node: Node,
     below: Below,
-    lines: &mut Vec<String>,
+    text: &mut Vec<u8>,
 ) -> Result<(), AllocError>
     requires { IsProps query.now props.now }
     ensures { OnOk result
-        (AddsNode query.now indent.now node below lines.old.items lines.new.items) }
+        (AddsNode query.now indent.now node below text.old.items text.new.items) }
 {
     let line = node_line(alloc, query, props, indent, node, below)?;
-    lines.push(line)?;
+    text.extend_from_slice(line.as_bytes())?;
     Ok(())
 }
 
@@ -96,10 +96,10 @@ fn kind_line(
 ) -> Result<String, AllocError>
     requires { IsProps query.now props.now }
     ensures { IfOk result (λ line.
-        IsKindLine query.now indent.now (kind_of kind) below (string_bytes line)) }
+        IsKindLine query.now indent.now kind below (string_bytes line)) }
 {
     let name = node_text(alloc, query, props, kind)?;
-    let rows = rows_above(query, kind, below);
+    let rows = rows_above(query, props, kind, below);
     let cost = cost_above_any(query, props, kind, below);
     Ok(numbered(alloc, indent, &name, rows, cost)?)
 }

@@ -3,8 +3,7 @@
 
 ghost use Rattle.std.specs.Prelude.{◌≡◌, IfOk, string_bytes};
 ghost use Rattle.request_props.specs.Found.{element_of, elements_of};
-ghost use Rattle.request_props.specs.Numbered.{IsProps, order_of};
-ghost use Rattle.plan_space.specs.Numbers.{list_of};
+ghost use Rattle.request_props.specs.Numbered.{IsProps, list_of, order_of};
 ghost use Rattle.plan_report.specs.Text as texts;
 
 use crate::columns::{column_text, sorted_text};

@@ -3,13 +3,13 @@
 
 ghost use Rattle.std.specs.Prelude.{◌≡◌, ◌++◌, IfOk, codes, string_bytes};
 ghost use Rattle.request_props.specs.Numbered.{IsProps};
-ghost use Rattle.plan_tree.specs.Nodes.{kind_of};
 ghost use Rattle.plan_report.specs.Text as texts;
 
 use crate::columns::table_text;
 use crate::lists::{list_text, order_text};
-use plan_tree::{NodeKind, table_in};
-use query_core::{ExprParts, Operator, Query};
+use plan_space::{Enforcer, NodeKind};
+use plan_tree::table_in;
+use query_core::{Physical, PhysicalExpr, Query};
 use request_props::Props;
 use std::alloc::{AllocError, Global};
 
@@ -21,95 +21,82 @@ pub fn node_text(
     kind: NodeKind,
 ) -> Result<String, AllocError>
     requires { IsProps query.now props.now }
-    ensures { IfOk result (λ s. string_bytes s ≡ texts.node_text query.now (kind_of kind)) }
+    ensures { IfOk result (λ s. string_bytes s ≡ texts.node_text query.now kind) }
 {
     match kind {
         NodeKind::Native(expr, mode) => native_text(alloc, query, props, expr, mode),
-        NodeKind::Gather => Ok(String::from_str(alloc, "Gather")?),
-        NodeKind::Broadcast => Ok(String::from_str(alloc, "Broadcast")?),
-        NodeKind::Sort(order) => {
+        NodeKind::Enforcer(enforcer) => enforcer_text(alloc, query, props, enforcer),
+    }
+}
+
+fn enforcer_text(
+    alloc: Global,
+    query: &Query,
+    props: &Props,
+    enforcer: Enforcer,
+) -> Result<String, AllocError>
+    requires { IsProps query.now props.now }
+    ensures { IfOk result (λ s. string_bytes s ≡ texts.enforcer_text query.now enforcer) }
+{
+    match enforcer {
+        Enforcer::Gather => Ok(String::from_str(alloc, "Gather")?),
+        Enforcer::Broadcast => Ok(String::from_str(alloc, "Broadcast")?),
+        Enforcer::Sort(order) => {
             let keys = order_text(alloc, query, props, order)?;
             Ok(format!(in alloc; "Sort({keys})")?)
         }
-        NodeKind::GatherMerge(order) => {
+        Enforcer::GatherMerge(order) => {
             let keys = order_text(alloc, query, props, order)?;
             Ok(format!(in alloc; "GatherMerge({keys})")?)
         }
-        NodeKind::Redistribute(list) => {
+        Enforcer::Redistribute(list) => {
             let columns = list_text(alloc, query, props, list)?;
             Ok(format!(in alloc; "Redistribute({columns})")?)
         }
     }
 }
 
+// A physical expression in a mode, with the table whose rows it makes.
 fn native_text(
     alloc: Global,
     query: &Query,
     props: &Props,
-    expr: ExprParts,
+    expr: PhysicalExpr,
     mode: u32,
 ) -> Result<String, AllocError>
     requires { IsProps query.now props.now }
     ensures { IfOk result (λ s. string_bytes s ≡ texts.native_text query.now expr mode) }
 {
-    operator_text(
-        alloc,
-        query,
-        props,
-        expr.operator,
-        table_in(expr.group),
-        mode,
-    )
-}
-
-// An operator in a mode, with the table whose rows it makes; nothing for a logical one.
-fn operator_text(
-    alloc: Global,
-    query: &Query,
-    props: &Props,
-    operator: Operator,
-    table: u32,
-    mode: u32,
-) -> Result<String, AllocError>
-    requires { IsProps query.now props.now }
-    ensures { IfOk result (λ s.
-        string_bytes s ≡ texts.operator_text query.now operator table mode) }
-{
-    match operator {
-        Operator::Get => Ok(String::new(alloc)),
-        Operator::Scan => {
+    let table = table_in(expr.group);
+    match expr.operator {
+        Physical::Scan => {
             let alias = table_text(query, table);
             Ok(format!(in alloc; "Scan({alias})")?)
         }
-        Operator::IndexScan(index) => {
+        Physical::IndexScan(index) => {
             let place = index_text(alloc, query, table, index)?;
             Ok(format!(in alloc; "IndexScan({place})")?)
         }
-        Operator::Select => Ok(String::new(alloc)),
-        Operator::Filter => {
+        Physical::Filter(_) => {
             let alias = table_text(query, table);
             Ok(format!(in alloc; "Filter({alias})")?)
         }
-        Operator::IndexSeek(index) => {
+        Physical::IndexSeek(index) => {
             let place = index_text(alloc, query, table, index)?;
             Ok(format!(in alloc; "IndexSeek({place})")?)
         }
-        Operator::NJoin => Ok(String::new(alloc)),
-        Operator::Join => Ok(String::new(alloc)),
-        Operator::HashJoin => hash_text(alloc, mode),
-        Operator::MergeJoin => merge_text(alloc, mode),
-        Operator::LoopJoin => loop_text(alloc, mode),
-        Operator::Agg => Ok(String::new(alloc)),
-        Operator::HashAgg => {
+        Physical::HashJoin(_, _) => hash_text(alloc, mode),
+        Physical::MergeJoin(_, _) => merge_text(alloc, mode),
+        Physical::LoopJoin(_, _) => loop_text(alloc, mode),
+        Physical::HashAgg(_) => {
             let work = agg_mode_text(alloc, query, props, mode)?;
             Ok(format!(in alloc; "HashAgg({work})")?)
         }
-        Operator::StreamAgg => {
+        Physical::StreamAgg(_) => {
             let work = agg_mode_text(alloc, query, props, mode)?;
             Ok(format!(in alloc; "StreamAgg({work})")?)
         }
-        Operator::Partial => Ok(String::new(alloc)),
-        Operator::PartialAgg => Ok(String::from_str(alloc, "PartialAgg")?),
+        Physical::PartialAgg(_) => Ok(String::from_str(alloc, "PartialAgg")?),
     }
 }
 

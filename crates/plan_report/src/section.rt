@@ -2,9 +2,9 @@
 #![tactic(auto)]
 
 ghost use Rattle.std.specs.Prelude.{◌≡◌, ◌++◌, IfOk, OnOk, string_bytes};
+ghost use Rattle.std.specs.List.{concat};
 ghost use Rattle.request_props.specs.Numbered.{IsProps};
 ghost use Rattle.plan_report.specs.Text as texts;
-ghost use Rattle.plan_report.specs.Lines.{texts_of};
 ghost use Rattle.plan_report.specs.Found.{IsFoundText, IsLeastText};
 
 use crate::columns::computed_text;
@@ -15,15 +15,15 @@ use request_props::Props;
 use std::alloc::{AllocError, Global};
 use xform_rules::members_are_candidates;
 
-/// The lines of a plan's text, each with its newline.
+/// The bytes of a plan's text, each line with its newline.
 pub fn plan_text(
     alloc: Global,
     query: &Query,
     props: &Props,
     found: &Found,
-) -> Result<Vec<String>, AllocError>
+) -> Result<Vec<u8>, AllocError>
     requires { IsProps query.now props.now }
-    ensures { IfOk result (λ lines. IsFoundText query.now found.now (texts_of lines.items)) }
+    ensures { IfOk result (λ text. IsFoundText query.now found.now text.items) }
 {
     match found {
         Found::Least { plan, cost } => least_text(alloc, query, props, plan, *cost),
@@ -31,12 +31,10 @@ pub fn plan_text(
     }
 }
 
-fn no_plan_text(alloc: Global) -> Result<Vec<String>, AllocError>
-    ensures { IfOk result (λ lines. texts_of lines.items ≡ texts.no_plan_section) }
+fn no_plan_text(alloc: Global) -> Result<Vec<u8>, AllocError>
+    ensures { IfOk result (λ text. text.items ≡ concat texts.no_plan_section) }
 {
-    let mut lines = Vec::new(alloc);
-    lines.push(String::from_str(alloc, "no plan\n")?)?;
-    Ok(lines)
+    "no plan\n".as_bytes().to_vec(alloc)
 }
 
 fn least_text(
@@ -45,17 +43,26 @@ fn least_text(
     props: &Props,
     plan: &Plan,
     cost: u64,
-) -> Result<Vec<String>, AllocError>
+) -> Result<Vec<u8>, AllocError>
     requires { IsProps query.now props.now }
-    ensures { IfOk result (λ lines.
-        IsLeastText query.now plan.now cost (texts_of lines.items)) }
+    ensures { IfOk result (λ text. IsLeastText query.now plan.now cost text.items) }
 {
     members_are_candidates();
-    let mut lines = Vec::new(alloc);
-    lines.push(format!(in alloc; "cost {cost}\n")?)?;
-    lines.push(output_line(alloc, query)?)?;
-    push_plan(alloc, query, props, "", plan, &mut lines)?;
-    Ok(lines)
+    let mut text = first_lines(alloc, query, cost)?;
+    push_plan(alloc, query, props, "", plan, &mut text)?;
+    Ok(text)
+}
+
+// The line of the cost, and that of the output.
+fn first_lines(alloc: Global, query: &Query, cost: u64) -> Result<Vec<u8>, AllocError>
+    ensures { IfOk result (λ text.
+        text.items ≡ texts.cost_line cost ++ texts.output_line query.now) }
+{
+    let output = output_line(alloc, query)?;
+    let lines = format!(in alloc; "cost {cost}\n{output}")?;
+    let mut text = Vec::new(alloc);
+    text.extend_from_slice(lines.as_bytes())?;
+    Ok(text)
 }
 
 fn output_line(alloc: Global, query: &Query) -> Result<String, AllocError>

@@ -1,4 +1,4 @@
--- What stands at a goal that is answered.
+-- What stands at a request that is answered.
 use Rattle.std.proofs.Common.{◌≡◌, ◌<◌, ◌≤◌, ◌*◌, subst, sym, ◌∙◌, ap, arith}
 use Rattle.std.specs.Prelude.{None, Some}
 use Rattle.std.specs.Option.{option_and_then, option_map_or}
@@ -10,7 +10,7 @@ use Rattle.cost_units.specs.Cost.{most_cost}
 use Rattle.request_props.specs.Numbered.{IsProps}
 use Rattle.request_props.specs.declared.props.Props.{Props}
 use Rattle.request_props.specs.declared.request.Request.{Request}
-use Rattle.plan_space.specs.Numbers.{Fits}
+use Rattle.request_props.specs.Fitting.{Fits}
 use Rattle.plan_space.specs.Nodes.{Tree}
 use Rattle.plan_space.specs.Least.{HasNoPlan}
 use Rattle.plan_search.specs.declared.answers.Answers.{Answers}

@@ -8,66 +8,56 @@ use Rattle.std.proofs.Math.Nat.{pow-le-pow_right}
 use Rattle.std.proofs.lemmas.Nat.{trailing_le}
 use Rattle.std.proofs.lemmas.Bool.{cases_Bool}
 use Rattle.query_core.specs.Keys.{key_number, has_own, alone, top_of, input_of, IsInRange}
-use Rattle.query_core.specs.Expressions.{HasShape, IsFiltered, IsJoin, IsAggregated, IsPartial}
+use Rattle.query_core.specs.Expressions.{physical_children, HasPhysical, IsFiltered, IsJoin, IsAggregated, IsPartial}
 use Rattle.query_core.specs.declared.query.Query.{Query}
 use Rattle.query_core.specs.declared.words.KeyParts.{KeyParts}
 use Rattle.query_core.specs.declared.words.KeyParts.TheVariants as groups
-use Rattle.query_core.specs.declared.expressions.Operator.{Operator}
-use Rattle.query_core.specs.declared.expressions.Operator.TheVariants as operators
-use Rattle.query_core.specs.declared.expressions.Children.TheVariants.{Zero, One, Two}
+use Rattle.query_core.specs.declared.expressions.Physical.{Physical}
+use Rattle.query_core.specs.declared.expressions.Physical.TheVariants as physical
+use Rattle.query_core.specs.declared.expressions.Children.TheVariants.{One, Two}
 use Rattle.request_props.specs.Numbered.{IsProps}
 use Rattle.request_props.specs.declared.props.Props.{Props}
 use Rattle.request_props.specs.declared.request.Dist.{Dist}
 use Rattle.request_props.specs.declared.request.Dist.TheVariants as dists
 use Rattle.request_props.specs.declared.request.Request.{Request}
-use Rattle.plan_space.specs.Numbers.{Fits, DistFits}
+use Rattle.request_props.specs.Fitting.{Fits, DistFits}
 use Rattle.plan_search.specs.Places.{dist_place, request_place, dist_nodes, order_nodes, group_nodes, most_nodes}
 
 -- an expression over one child filters a table's rows, or groups rows
 abbrev pub IsOverOne : Query → KeyParts → KeyParts → Type 0
-IsOverOne q group child = IsFiltered group (One child) ⊎ (IsAggregated q group (One child) ⊎ IsPartial q group (One child))
+IsOverOne q group child = IsFiltered group child ⊎ (IsAggregated q group child ⊎ IsPartial q group child)
 
-pub one_shape : (q : Query) (group child : KeyParts) (operator : Operator) → HasShape q operator group (One child) → IsOverOne q group child
-one_shape q group child operators.Get shape = let never : One child ≡ Zero = shape.2 in cc
-one_shape q group child operators.Scan shape = let never : One child ≡ Zero = shape.2 in cc
-one_shape q group child (operators.IndexScan index) shape = let never : One child ≡ Zero = shape.3 in cc
-one_shape q group child operators.Select shape = inl shape
-one_shape q group child operators.Filter shape = inl shape
-one_shape q group child (operators.IndexSeek index) shape = let never : One child ≡ Zero = shape.3 in cc
-one_shape q group child operators.NJoin shape = let never : One child ≡ Zero = shape.2 in cc
-one_shape q group child operators.Join shape = let never : One child ≡ Two (top_of q shape.1) (top_of q shape.2) = shape.5 in cc
-one_shape q group child operators.HashJoin shape = let never : One child ≡ Two (top_of q shape.1) (top_of q shape.2) = shape.5 in cc
-one_shape q group child operators.MergeJoin shape = let never : One child ≡ Two (top_of q shape.1) (top_of q shape.2) = shape.5 in cc
-one_shape q group child operators.LoopJoin shape = let never : One child ≡ Two (top_of q shape.1) (top_of q shape.2) = shape.5 in cc
-one_shape q group child operators.Agg shape = inr (inl shape)
-one_shape q group child operators.HashAgg shape = inr (inl shape)
-one_shape q group child operators.StreamAgg shape = inr (inl shape)
-one_shape q group child operators.Partial shape = inr (inr shape)
-one_shape q group child operators.PartialAgg shape = inr (inr shape)
+pub one_shape : (q : Query) (group child : KeyParts) (operator : Physical) → HasPhysical q group operator → physical_children operator ≡ One child → IsOverOne q group child
+one_shape q group child physical.Scan shape is = cc
+one_shape q group child (physical.IndexScan index) shape is = cc
+one_shape q group child (physical.Filter kid) shape is = let same : kid ≡ child = cc in inl (subst (IsFiltered group) same shape)
+one_shape q group child (physical.IndexSeek index) shape is = cc
+one_shape q group child (physical.HashJoin left right) shape is = cc
+one_shape q group child (physical.MergeJoin left right) shape is = cc
+one_shape q group child (physical.LoopJoin left right) shape is = cc
+one_shape q group child (physical.HashAgg kid) shape is = let same : kid ≡ child = cc in inr (inl (subst (IsAggregated q group) same shape))
+one_shape q group child (physical.StreamAgg kid) shape is = let same : kid ≡ child = cc in inr (inl (subst (IsAggregated q group) same shape))
+one_shape q group child (physical.PartialAgg kid) shape is = let same : kid ≡ child = cc in inr (inr (subst (IsPartial q group) same shape))
 
--- groups are made from one child
-two_aggregated : (q : Query) (left right : KeyParts) → (Two left right ≡ One (input_of q)) ⊎ (Two left right ≡ One groups.Partial) → ⊥
-two_aggregated q left right (inl is) = cc
-two_aggregated q left right (inr is) = cc
+joined : (q : Query) (group l r left right : KeyParts) → Two l r ≡ Two left right → IsJoin q group l r → IsJoin q group left right
+joined q group l r left right is join =
+    let first : l ≡ left = cc in
+    let second : r ≡ right = cc in
+    subst (λ x. IsJoin q group x right) first (subst (λ x. IsJoin q group l x) second join)
 
 -- an expression over two children joins them
-pub two_shape : (q : Query) (group left right : KeyParts) (operator : Operator) → HasShape q operator group (Two left right) → IsJoin q group (Two left right)
-two_shape q group left right operators.Get shape = let never : Two left right ≡ Zero = shape.2 in cc
-two_shape q group left right operators.Scan shape = let never : Two left right ≡ Zero = shape.2 in cc
-two_shape q group left right (operators.IndexScan index) shape = let never : Two left right ≡ Zero = shape.3 in cc
-two_shape q group left right operators.Select shape = let never : Two left right ≡ One (groups.Get shape.0) = shape.2 in cc
-two_shape q group left right operators.Filter shape = let never : Two left right ≡ One (groups.Get shape.0) = shape.2 in cc
-two_shape q group left right (operators.IndexSeek index) shape = let never : Two left right ≡ Zero = shape.3 in cc
-two_shape q group left right operators.NJoin shape = let never : Two left right ≡ Zero = shape.2 in cc
-two_shape q group left right operators.Join shape = shape
-two_shape q group left right operators.HashJoin shape = shape
-two_shape q group left right operators.MergeJoin shape = shape
-two_shape q group left right operators.LoopJoin shape = shape
-two_shape q group left right operators.Agg shape = absurd (two_aggregated q left right shape.1)
-two_shape q group left right operators.HashAgg shape = absurd (two_aggregated q left right shape.1)
-two_shape q group left right operators.StreamAgg shape = absurd (two_aggregated q left right shape.1)
-two_shape q group left right operators.Partial shape = let never : Two left right ≡ One (input_of q) = shape.1 in cc
-two_shape q group left right operators.PartialAgg shape = let never : Two left right ≡ One (input_of q) = shape.1 in cc
+pub two_shape : (q : Query) (group left right : KeyParts) (operator : Physical) → HasPhysical q group operator → physical_children operator ≡ Two left right
+    → IsJoin q group left right
+two_shape q group left right physical.Scan shape is = cc
+two_shape q group left right (physical.IndexScan index) shape is = cc
+two_shape q group left right (physical.Filter kid) shape is = cc
+two_shape q group left right (physical.IndexSeek index) shape is = cc
+two_shape q group left right (physical.HashJoin l r) shape is = joined q group l r left right is shape
+two_shape q group left right (physical.MergeJoin l r) shape is = joined q group l r left right is shape
+two_shape q group left right (physical.LoopJoin l r) shape is = joined q group l r left right is shape
+two_shape q group left right (physical.HashAgg kid) shape is = cc
+two_shape q group left right (physical.StreamAgg kid) shape is = cc
+two_shape q group left right (physical.PartialAgg kid) shape is = cc
 
 -- a table's group, with or without its own predicates
 alone_nodes : (q : Query) (t : ℕ) → group_nodes (alone q t) ≤ 8
@@ -144,10 +134,8 @@ record IsFewer (group child : KeyParts) : Type 0 where
   nodes : 3 + group_nodes child ≤ group_nodes group
   key : key_number child < key_number group
 
-fewer : (group child other kid : KeyParts) → group ≡ other → One child ≡ One kid → IsFewer other kid → IsFewer group child
-fewer group child other kid is one few =
-    let same : child ≡ kid = cc in
-    subst (λ g. IsFewer g child) (sym is) (subst (λ k. IsFewer other k) (sym same) few)
+fewer : (group child other kid : KeyParts) → group ≡ other → child ≡ kid → IsFewer other kid → IsFewer group child
+fewer group child other kid is one few = subst (λ g. IsFewer g child) (sym is) (subst (λ k. IsFewer other k) (sym one) few)
 
 over_one_fewer : (q : Query) (group child : KeyParts) → IsOverOne q group child → IsFewer group child
 over_one_fewer q group child (inl (t, is, one)) =
@@ -166,24 +154,16 @@ kid_nodes q group child wanted below shape =
     (omega (arith, most_nodes_few child below, fewer.nodes), fewer.key)
 
 -- a node over the plans of the two sides
-pub join_nodes : (q : Query) (group left right : KeyParts) (wanted one two : Request) → IsJoin q group (Two left right)
+pub join_nodes : (q : Query) (group left right : KeyParts) (wanted one two : Request) → IsJoin q group left right
     → (1 + most_nodes left one + most_nodes right two ≤ most_nodes group wanted) × ((key_number left < key_number group) × (key_number right < key_number group))
-join_nodes q group left right wanted one two (set, a, b, is, falls, sides) =
+join_nodes q group left right wanted one two (set, a, b, is, falls, first, second) =
     let add = parts_add a b set falls.whole falls.disjoint in
-    let first : left ≡ top_of q a = left_is left right (top_of q a) (top_of q b) sides in
-    let second : right ≡ top_of q b = right_is left right (top_of q a) (top_of q b) sides in
     subst (λ g. (1 + most_nodes left one + most_nodes right two ≤ most_nodes g wanted) × ((key_number left < key_number g) × (key_number right < key_number g))) (sym is)
     (subst (λ l. (1 + most_nodes l one + most_nodes right two ≤ most_nodes (groups.Join set) wanted) × ((key_number l < 1024 + set) × (key_number right < 1024 + set))) (sym first)
     (subst (λ r. (1 + most_nodes (top_of q a) one + most_nodes r two ≤ most_nodes (groups.Join set) wanted) × ((key_number (top_of q a) < 1024 + set) × (key_number r < 1024 + set))) (sym second) (
       omega (arith, add, falls.some_left, falls.some_right, most_nodes_few (top_of q a) one, most_nodes_few (top_of q b) two, top_nodes q a falls.some_left, top_nodes q b falls.some_right),
       (top_key q a set (omega (arith, add, falls.some_right)), top_key q b set (omega (arith, add, falls.some_left))),
     )))
-  where
-    left_is : (c d e f : KeyParts) → Two c d ≡ Two e f → c ≡ e
-    left_is c d e f same = cc
-
-    right_is : (c d e f : KeyParts) → Two c d ≡ Two e f → d ≡ f
-    right_is c d e f same = cc
 
 -- each plan may have a node
 pub some_nodes : (group : KeyParts) (wanted : Request) → 1 ≤ most_nodes group wanted

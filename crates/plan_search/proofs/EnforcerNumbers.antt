@@ -5,7 +5,9 @@ use Rattle.std.specs.Prelude.{◌^◌, List, [], ◌∷◌, slice_get, None, Som
 use Rattle.request_props.specs.declared.request.Dist.{Dist}
 use Rattle.request_props.specs.declared.request.Dist.TheVariants.{One, Spread, Copies, Hashed}
 use Rattle.request_props.specs.declared.request.Request.{Request}
-use Rattle.plan_space.specs.Nodes.{sort, number_of}
+use Rattle.plan_space.specs.declared.nodes.Enforcer.TheVariants as enforcing
+use Rattle.plan_space.specs.declared.nodes.NodeKind.TheVariants as nodes
+use Rattle.plan_space.specs.Nodes.{number_of}
 use Rattle.plan_space.specs.Lines.{request}
 use Rattle.plan_space.specs.Enforcers.{EnforcedBy, enforced, enforcers_by, enforcers_of, Among}
 use Rattle.plan_search.specs.Search.{enforcer_number}
@@ -17,11 +19,11 @@ among_at (first ∷ others) zero e is = inl cc
 among_at (first ∷ others) (suc n) e is = inr (among_at others n e is)
 
 abbrev number_at : List EnforcedBy → ℕ → ℕ
-number_at list n = option_map_or (λ e. number_of e.node) (slice_get list n) (2 ^ 56)
+number_at list n = option_map_or (λ e. number_of (nodes.Enforcer e.node)) (slice_get list n) (2 ^ 56)
 
 -- the next enforcer has a greater number
-next_at : (dist : Dist) (order n : ℕ) (e : EnforcedBy) → order ≤ 60 → slice_get (enforcers_by dist order) n ≡ Some e → number_of e.node + 1 ≤ 2 ^ 56
-    → number_of e.node + 1 ≤ number_at (enforcers_by dist order) (suc n)
+next_at : (dist : Dist) (order n : ℕ) (e : EnforcedBy) → order ≤ 60 → slice_get (enforcers_by dist order) n ≡ Some e → number_of (nodes.Enforcer e.node) + 1 ≤ 2 ^ 56
+    → number_of (nodes.Enforcer e.node) + 1 ≤ number_at (enforcers_by dist order) (suc n)
 next_at One zero zero e few is small = small
 next_at One zero (suc n) e few is small = cc
 next_at Spread zero n e few is small = cc
@@ -29,7 +31,7 @@ next_at Copies zero zero e few is small = small
 next_at Copies zero (suc n) e few is small = cc
 next_at (Hashed list) zero zero e few is small = small
 next_at (Hashed list) zero (suc n) e few is small = cc
-next_at One (suc o) zero e few is small = let same : enforced (sort (suc o)) (request One 0) ≡ e = cc in subst (λ x. number_of x.node + 1 ≤ 128 + suc o) same (omega arith)
+next_at One (suc o) zero e few is small = let same : enforced (enforcing.Sort (suc o)) (request One 0) ≡ e = cc in subst (λ x. number_of (nodes.Enforcer x.node) + 1 ≤ 128 + suc o) same (omega arith)
 next_at One (suc o) (suc zero) e few is small = small
 next_at One (suc o) (suc (suc n)) e few is small = cc
 next_at Spread (suc o) zero e few is small = small
@@ -51,15 +53,15 @@ module _ (wanted : Request) (n : ℕ) where
       let next : suc n ≡ n + 1 = omega arith in
       let none = none_next (enforcers_of wanted) n is in
       subst (λ m. enforcer_number wanted n ≤ enforcer_number wanted m) next
-      (subst (λ x. enforcer_number wanted n ≤ option_map_or (λ e. number_of e.node) x (2 ^ 56)) (sym none)
-      (subst (λ x. option_map_or (λ e. number_of e.node) x (2 ^ 56) ≤ 2 ^ 56) (sym is) (omega arith)))
+      (subst (λ x. enforcer_number wanted n ≤ option_map_or (λ e. number_of (nodes.Enforcer e.node)) x (2 ^ 56)) (sym none)
+      (subst (λ x. option_map_or (λ e. number_of (nodes.Enforcer e.node)) x (2 ^ 56) ≤ 2 ^ 56) (sym is) (omega arith)))
 
-  pub next_number_at : (e : EnforcedBy) → wanted.order ≤ 60 → slice_get (enforcers_of wanted) n ≡ Some e → number_of e.node < 2 ^ 56
-      → (enforcer_number wanted n ≡ number_of e.node) × (number_of e.node + 1 ≤ enforcer_number wanted (n + 1))
+  pub next_number_at : (e : EnforcedBy) → wanted.order ≤ 60 → slice_get (enforcers_of wanted) n ≡ Some e → number_of (nodes.Enforcer e.node) < 2 ^ 56
+      → (enforcer_number wanted n ≡ number_of (nodes.Enforcer e.node)) × (number_of (nodes.Enforcer e.node) + 1 ≤ enforcer_number wanted (n + 1))
   next_number_at e few is small =
       let next : suc n ≡ n + 1 = omega arith in (
-        ap (λ x. option_map_or (λ e. number_of e.node) x (2 ^ 56)) is,
-        subst (λ m. number_of e.node + 1 ≤ enforcer_number wanted m) next (next_at wanted.dist wanted.order n e few is (omega (arith, small))),
+        ap (λ x. option_map_or (λ e. number_of (nodes.Enforcer e.node)) x (2 ^ 56)) is,
+        subst (λ m. number_of (nodes.Enforcer e.node) + 1 ≤ enforcer_number wanted m) next (next_at wanted.dist wanted.order n e few is (omega (arith, small))),
       )
 
 -- there are no more than two enforcers

@@ -11,8 +11,11 @@ use Rattle.request_props.specs.declared.props.Props.{Props}
 use Rattle.request_props.specs.declared.request.Dist.{Dist}
 use Rattle.request_props.specs.declared.request.Dist.TheVariants.{One, Spread, Copies, Hashed}
 use Rattle.request_props.specs.declared.request.Request.{Request}
-use Rattle.plan_space.specs.Numbers.{OrderLiesIn, Fits}
-use Rattle.plan_space.specs.Nodes.{sort, number_of, Tree, over}
+use Rattle.request_props.specs.Lying.{OrderLiesIn}
+use Rattle.request_props.specs.Fitting.{Fits}
+use Rattle.plan_space.specs.declared.nodes.Enforcer.TheVariants as enforcing
+use Rattle.plan_space.specs.declared.nodes.NodeKind.TheVariants as nodes
+use Rattle.plan_space.specs.Nodes.{number_of, Tree, over}
 use Rattle.plan_space.specs.Lines.{request}
 use Rattle.plan_space.specs.Gives.{kid_of}
 use Rattle.plan_space.specs.Cost.{shape_of}
@@ -25,7 +28,7 @@ use Rattle.plan_tree.specs.Costs.{IsCostAmong}
 use Rattle.plan_tree.specs.Enforcers.{IsEnforced}
 use Rattle.plan_tree.specs.declared.enforcers.Enforced.{Enforced}
 use Rattle.plan_search.specs.declared.answers.Answers.{Answers}
-use Rattle.plan_search.specs.declared.choice.Below.{Below}
+use Rattle.plan_search.specs.declared.choice.PlansBelow.{PlansBelow}
 use Rattle.plan_search.specs.declared.choice.Choice.{Choice}
 use Rattle.plan_search.specs.Places.{place_of, most_nodes, most_of_all}
 use Rattle.plan_search.specs.Search.{IsAnswered, AreAnswered, IsChosen, kept_at, cost_at, choice_over, IsPlanAt, cheaper_of, GoesOverPlace, GoesOverEnforcers, IsPlaceSettled, AreEnforcersSettled, enforcer_number}
@@ -37,17 +40,17 @@ use Rattle.plan_search.proofs.Scanning.{IsOrder, IsStable, goes_on, goes_as, goe
 -- what an enforcer for the request asks for fits the group, comes before it, and has a node less
 pub record IsBelow (q : Query) (group : KeyParts) (wanted : Request) (e : EnforcedBy) : Type 0 where
   pub place : place_of group e.below < place_of group wanted
-  pub nodes : 1 + most_nodes group e.below ≤ most_nodes group wanted
   pub fits : Fits q group e.below
-  pub in_range : kinds.IsInRange e.node
-  pub small : number_of e.node < 2 ^ 56
+  pub in_range : kinds.EnforcerInRange e.node
+  pub small : number_of (nodes.Enforcer e.node) < 2 ^ 56
+  pub nodes : 1 + most_nodes group e.below ≤ most_nodes group wanted
 
 empty_lies : (q : Query) (group : KeyParts) → OrderLiesIn q group []
 empty_lies q group k d below = absurd (omega (arith, below))
 
 module _ (q : Query) (props : Props) (is_props : IsProps q props) (group : KeyParts) where
   -- a sort, over the same distribution in no order
-  sort_below : (dist : Dist) (o : ℕ) (e : EnforcedBy) → Fits q group (request dist (suc o)) → e ≡ enforced (sort (suc o)) (request dist 0) → IsBelow q group (request dist (suc o)) e
+  sort_below : (dist : Dist) (o : ℕ) (e : EnforcedBy) → Fits q group (request dist (suc o)) → e ≡ enforced (enforcing.Sort (suc o)) (request dist 0) → IsBelow q group (request dist (suc o)) e
   sort_below dist o e fits is = subst (IsBelow q group (request dist (suc o))) (sym is) (record {
     place = omega arith;
     nodes = omega arith;
@@ -148,7 +151,7 @@ module _ (q : Query) (answers : Answers) (group : KeyParts) (wanted : Request) w
     pub below_answered : IsAnswered q answers group e.below
     below_answered = answered group e.below known facts.fits facts.place
 
-    numbers : (enforcer_number wanted n ≡ number_of e.node) × (number_of e.node + 1 ≤ enforcer_number wanted (n + 1))
+    numbers : (enforcer_number wanted n ≡ number_of (nodes.Enforcer e.node)) × (number_of (nodes.Enforcer e.node) + 1 ≤ enforcer_number wanted (n + 1))
     numbers = next_number_at wanted n e (omega (arith, fits.numbered, is_props.few_orders)) is_at facts.small
 
     only_this : (best : Option Tree) → IsEnforcerSettled (IsMember q) q group e best → IsPlaceSettled q group wanted n best
@@ -165,35 +168,35 @@ module _ (q : Query) (answers : Answers) (group : KeyParts) (wanted : Request) w
         (λ tree. only_this tree (inr (none_case q answers group e.below below_answered none)))
 
     -- the enforcer is offered over the plan for what it asks
-    pub enforcer_goes : IsOrder q → ChoicesServe q → (node : Node) → kinds.IsNode node e.node → (local : ℕ) → local ≤ most_cost → IsCostAmong q e.node group wanted local
-        → (below : Below) (old : Option Choice) → IsPlanAt answers (place_of group e.below) below
+    pub enforcer_goes : IsOrder q → ChoicesServe q → (node : Node) → kinds.IsNode node (nodes.Enforcer e.node) → (local : ℕ) → local ≤ most_cost → IsCostAmong q e.node group wanted local
+        → (below : PlansBelow) (old : Option Choice) → IsPlanAt answers (place_of group e.below) below
         → GoesOverPlace q answers group wanted n old (Some (cheaper_of old (choice_over node local below)))
     enforcer_goes order serve node is_node local small cost below old (kept, at, is) =
         let found = some_case q answers group e.below kept below_answered at in
         let kid = found.0 in
         let holds = found.1 in
-        let plan = over e.node kid in
+        let plan = over (nodes.Enforcer e.node) kid in
         let choice = choice_over node local below in
-        let local_is : local ≡ local_cost (shape_of q e.node (kid_of q kid ∷ [])) =
+        let local_is : local ≡ local_cost (shape_of q (nodes.Enforcer e.node) (kid_of q kid ∷ [])) =
         cost e among refl (kid_of q kid) holds.least.serves.of_group holds.least.serves.satisfies in
-        let chosen : IsChosen q answers group wanted (choice_over node local below) e.node plan =
-        subst (λ b. IsChosen q answers group wanted (choice_over node local b) e.node plan) (sym is) (record {
+        let chosen : IsChosen q answers group wanted (choice_over node local below) (nodes.Enforcer e.node) plan =
+        subst (λ b. IsChosen q answers group wanted (choice_over node local b) (nodes.Enforcer e.node) plan) (sym is) (record {
           is_node = is_node;
           built = (kid, facts.place, holds.stands, refl);
           serves = serve group wanted plan fits (enforced_choice e kid among holds.least refl);
           cost = omega (arith, local_is, holds.cost);
           small = omega (arith, small, local_is, holds.small, facts.nodes);
         }) in
-        goes_from q answers group wanted (enforcer_number wanted n) (number_of e.node) (enforcer_number wanted (n + 1)) (IsPlaceSettled q group wanted n) old (Some (cheaper_of old choice))
+        goes_from q answers group wanted (enforcer_number wanted n) (number_of (nodes.Enforcer e.node)) (enforcer_number wanted (n + 1)) (IsPlaceSettled q group wanted n) old (Some (cheaper_of old choice))
         (omega (arith, numbers.0))
-        (goes_to q answers group wanted (number_of e.node) (number_of e.node + 1) (enforcer_number wanted (n + 1)) (IsPlaceSettled q group wanted n) old (Some (cheaper_of old choice)) numbers.1
-        (goes_as q answers group wanted (number_of e.node) (number_of e.node + 1) (λ best. Beats q best plan) (IsPlaceSettled q group wanted n) old (Some (cheaper_of old choice))
+        (goes_to q answers group wanted (number_of (nodes.Enforcer e.node)) (number_of (nodes.Enforcer e.node) + 1) (enforcer_number wanted (n + 1)) (IsPlaceSettled q group wanted n) old (Some (cheaper_of old choice)) numbers.1
+        (goes_as q answers group wanted (number_of (nodes.Enforcer e.node)) (number_of (nodes.Enforcer e.node) + 1) (λ best. Beats q best plan) (IsPlaceSettled q group wanted n) old (Some (cheaper_of old choice))
         (λ best beats. only_this best (inl (kid, holds.least, beats)))
-        (goes_by_one q answers group wanted order (number_of e.node) e.node choice plan old chosen refl)))
+        (goes_by_one q answers group wanted order (number_of (nodes.Enforcer e.node)) (nodes.Enforcer e.node) choice plan old chosen refl)))
 
 -- which enforcer was found
 pub enforced_at : (found : Enforced) (x : Option EnforcedBy) → IsEnforced (Some found) x
-    → (e : EnforcedBy) × (x ≡ Some e) × kinds.IsNode found.node e.node × (found.below ≡ e.below)
+    → (e : EnforcedBy) × (x ≡ Some e) × kinds.IsNode found.node (nodes.Enforcer e.node) × (found.below ≡ e.below)
 enforced_at found None is = absurd is
 enforced_at found (Some e) is = (e, refl, is.0, is.1)
 

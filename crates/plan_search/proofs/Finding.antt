@@ -1,4 +1,4 @@
--- The least plan for one goal, and what it adds to the answers.
+-- The least plan for one request, and what it adds to the answers.
 use Rattle.std.proofs.Common.{◌≡◌, ℕ, false, ◌<◌, ◌+◌, ◌*◌, refl, subst, sym, ◌∙◌, ap, inl, inr, arith}
 use Rattle.std.specs.Prelude.{◌^◌, List, Option, None, Some}
 use Rattle.std.specs.Ordering.{nat_cmp, is_eq}
@@ -10,14 +10,14 @@ use Rattle.query_core.specs.Keys.{key_number, IsGroup, IsInRange}
 use Rattle.query_core.specs.declared.query.Query.{Query}
 use Rattle.query_core.specs.declared.words.KeyParts.{KeyParts}
 use Rattle.query_core.specs.declared.words.KeyParts.TheVariants as groups
-use Rattle.query_core.specs.declared.expressions.ExprParts.{ExprParts}
+use Rattle.query_core.specs.declared.expressions.PhysicalExpr.{PhysicalExpr}
 use Rattle.xform_rules.specs.Closure.{IsMember}
 use Rattle.request_props.specs.Numbered.{IsProps}
 use Rattle.request_props.specs.declared.props.Props.{Props}
 use Rattle.request_props.specs.declared.request.Dist.{Dist}
 use Rattle.request_props.specs.declared.request.Dist.TheVariants.{One, Spread, Copies, Hashed}
 use Rattle.request_props.specs.declared.request.Request.{Request}
-use Rattle.plan_space.specs.Numbers.{Fits}
+use Rattle.request_props.specs.Fitting.{Fits}
 use Rattle.plan_space.specs.Nodes.{Tree}
 use Rattle.plan_space.specs.Enforcers.{enforcers_of}
 use Rattle.plan_space.specs.Choices.{BestServes, IsModeSettled}
@@ -25,13 +25,14 @@ use Rattle.plan_space.specs.Laws.{SettledIsLeast}
 use Rattle.plan_search.proofs.Answered.{some_case}
 use Rattle.plan_search.specs.declared.answers.Answers.{Answers}
 use Rattle.plan_search.specs.declared.choice.Choice.{Choice}
-use Rattle.plan_search.specs.declared.physical.Physical.{Physical}
+use Rattle.plan_search.specs.declared.native.Native.{Native}
 use Rattle.plan_search.specs.Places.{dist_place, request_place, place_of}
 use Rattle.plan_search.specs.Search.{kept_at, IsKept, IsAnswerFor, answer_at, AreAnswered, IsBest, IsBestSoFar, GoesOverEnforcers, GoesOverAll, AreEnforcersSettled, AreListedFor, AreSettledIn, HasMode}
 use Rattle.plan_search.proofs.Bounds.{request_small}
 use Rattle.plan_search.proofs.Able.{serves_gives}
 use Rattle.plan_search.proofs.Standing.{stands_on, built_stands}
 use Rattle.plan_search.proofs.Scanning.{IsStable, goes_on, enforcer_stable}
+use Rattle.query_core.specs.Expressions.{physical_children}
 
 module _ (q : Query) (answers : Answers) (group : KeyParts) (wanted : Request) where
   -- the best so far meets the request
@@ -45,13 +46,13 @@ module _ (q : Query) (answers : Answers) (group : KeyParts) (wanted : Request) w
   enforcers_stable best other improves settled e among = enforcer_stable q group e best other improves (settled e among)
 
   -- a mode that the list has is settled
-  settled_at : (list : List Physical) (best : Option Tree) (e : ExprParts) (mode : ℕ) → AreSettledIn q wanted list best → HasMode e mode list
+  settled_at : (list : List Native) (best : Option Tree) (e : PhysicalExpr) (mode : ℕ) → AreSettledIn q wanted list best → HasMode e mode list
       → IsModeSettled (IsMember q) q wanted e mode best
   settled_at list best e mode settled (p, among, is_expr, is_mode) =
       subst (λ f. IsModeSettled (IsMember q) q wanted f mode best) is_expr (subst (λ m. IsModeSettled (IsMember q) q wanted p.expr m best) is_mode (settled p among))
 
   -- once all nodes are offered, the best is the least plan, and where there is none there is no plan
-  pub best_is_answer : (list : List Physical) (some all : Option Choice) → SettledIsLeast q → Fits q group wanted → AreListedFor q group wanted.dist list
+  pub best_is_answer : (list : List Native) (some all : Option Choice) → SettledIsLeast q → Fits q group wanted → AreListedFor q group wanted.dist list
       → GoesOverEnforcers q answers group wanted None some → GoesOverAll q answers group wanted list some all
       → IsBest q answers group wanted all
   best_is_answer list some all least fits listed first second =
@@ -63,11 +64,11 @@ module _ (q : Query) (answers : Answers) (group : KeyParts) (wanted : Request) w
           best_serves = best_serves all best both.1.is_best;
           enforcers = both.1.done.0;
           members = λ e mode member of_group line alternative.
-              settled_at list best e mode both.1.done.1 (listed.complete e mode line member of_group alternative.is_line (serves_gives q line e.children wanted alternative.serves)) line alternative;
+              settled_at list best e mode both.1.done.1 (listed.complete e mode line member of_group alternative.is_line (serves_gives q line (physical_children e.operator) wanted alternative.serves)) line alternative;
         }),
       )
 
-  -- the best choice, put at the goal's place, is its answer
+  -- the best choice, put at the request's place, is its answer
   pub best_answers : (new : Answers) (choice : Option Choice) → ((place : ℕ) → place < place_of group wanted → answer_at new place ≡ answer_at answers place)
       → answer_at new (place_of group wanted) ≡ Some choice → IsBest q answers group wanted choice → IsAnswerFor q new group wanted choice
   best_answers new None kept at (None, is, answer) = answer
@@ -192,7 +193,7 @@ key_small (groups.Join set) range = omega (arith, range)
 key_small groups.Partial range = omega arith
 key_small groups.Agg range = omega arith
 
--- the plan that stands at the root's goal is the query's least
+-- the plan that stands at the root's request is the query's least
 pub root_found : (q : Query) (props : Props) → IsProps q props → (answers : Answers) (kept : Choice) (group : KeyParts) (wanted : Request)
     → AreAnswered q answers (2050 * 4096) → IsGroup q group → IsInRange group → Fits q group wanted → kept_at answers (place_of group wanted) ≡ Some kept
     → (tree : Tree) × IsKept q answers group wanted kept tree

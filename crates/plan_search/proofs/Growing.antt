@@ -1,6 +1,6 @@
 -- What comes to a list of words, and that at the end nothing is left to come.
-use Rattle.std.proofs.Common.{◌≡◌, ℕ, ◌<◌, ◌≤◌, List, length, get_or, refl, ap, sym, subst, ◌∙◌, arith, inl, inr}
-use Rattle.std.specs.Prelude.{slice_index, Option, None, Some, IfSome, Result, Ok, Err, OnOk, ◌+◌, ◌-◌, ◌^◌}
+use Rattle.std.proofs.Common.{◌≡◌, ℕ, ◌<◌, ◌≤◌, List, [], length, get_or, refl, sym, subst, ◌∙◌, arith, inl, inr}
+use Rattle.std.specs.Prelude.{slice_index, slice_index_or, Option, None, Some, IfSome, Result, Ok, Err, OnOk, ◌+◌, ◌-◌, ◌^◌}
 use Rattle.std.specs.List.{All, Contains}
 use Rattle.std.specs.BTreeSet.{insert_key}
 use Rattle.std.specs.Ordering.{nat_cmp}
@@ -8,21 +8,17 @@ use Rattle.std.proofs.lemmas.Bool.{cases_eq}
 use Rattle.std.proofs.lemmas.List.{get_or_default}
 use Rattle.std.proofs.lemmas.List.Elements.{All-contains, Contains-get_or}
 use Rattle.query_core.specs.Keys.{root_of}
-use Rattle.query_core.specs.Expressions.{word_of, origin_of, IsChild}
+use Rattle.query_core.specs.Expressions.{word_of, children_of, origin_of, IsChild}
 use Rattle.query_core.specs.declared.words.KeyParts.{KeyParts}
-use Rattle.query_core.specs.declared.words.KeyParts.TheVariants as groups
 use Rattle.query_core.specs.declared.expressions.Children.TheVariants.{Two}
 use Rattle.query_core.specs.declared.query.Query.{Query}
 use Rattle.query_core.specs.declared.expressions.ExprParts.{ExprParts}
 use Rattle.xform_rules.specs.declared.rules.Rule.{Rule}
-use Rattle.xform_rules.specs.declared.rules.Rule.TheVariants as rules
-use Rattle.xform_rules.specs.Rules.{rule_number, IsOn}
-use Rattle.xform_rules.specs.JoinAssociate.{Associates}
+use Rattle.xform_rules.specs.Forms.{IsLeftSide}
 use Rattle.xform_rules.specs.Results.{HasResult}
-use Rattle.xform_rules.specs.Closure.{IsMember, root_origin, child_origin, result, bound_result}
+use Rattle.xform_rules.specs.Closure.{IsMember, root_origin, child_origin, result, bound_result, IsMemberWord, IsClosureOf}
 use Rattle.std.specs.List.Sorted.{IsStrictlyIncreasing}
-use Rattle.plan_search.specs.PlainClosure.{IsMemberWord, IsClosureOf}
-use Rattle.plan_search.specs.Steps.{Grows, IsFound, HasOrigins, HasResultsOf, HasResultsWith, HasSteps, AreSteps}
+use Rattle.plan_search.specs.Steps.{Grows, ContainsWordOf, HasOrigins, HasResultsOf, HasResults, HasBoundResults, HasSteps, AreSteps, AreBoundSteps, Covers}
 use Rattle.plan_search.proofs.WordLists.{insert_keeps, insert_longer, insert_same, insert_cases, insert_there}
 
 module _ (q : Query) where
@@ -75,18 +71,38 @@ module _ (q : Query) where
     bound_results = λ bound member there rule n other has. grows.kept _ (steps.bound_results bound member there rule n other has);
   }
 
-  module _ (words : List ℕ) (root : IsFound words (origin_of q (root_of q))) (steps : AreSteps q words (length words) words) where
-    -- the steps from a member whose word is found
-    steps_at : (e : ExprParts) → IsMember q e → IsFound words e → HasSteps q words e words
-    steps_at e member (k, within, is) = steps k within e member (sym (get_or_default words k 0 (word_of e) within ∙ is))
-
+  module _ (words : List ℕ) (root : ContainsWordOf words (origin_of q (root_of q))) (steps : AreSteps q words words words) where
     -- where all steps from all words are found, all members are
-    pub complete : (e : ExprParts) → IsMember q e → IsFound words e
+    pub complete : (e : ExprParts) → IsMember q e → ContainsWordOf words e
     complete e root_origin = root
-    complete e (child_origin before group member child) = (steps_at before member (complete before member)).origins group child
-    complete e (result before other rule n member has) = (steps_at before member (complete before member)).results rule n e has
+    complete e (child_origin before group member child) = (steps before member (complete before member)).origins group child
+    complete e (result before other rule n member has) = (steps before member (complete before member)).results rule n e has
     complete e (bound_result before bound other rule n member member_bound has) =
-        (steps_at before member (complete before member)).bound_results bound member_bound (complete bound member_bound) rule n e has
+        (steps before member (complete before member)).bound_results bound member_bound (complete bound member_bound) rule n e has
+
+  -- where nothing is done, nothing is missing
+  pub none_done : (found : List ℕ) → AreSteps q [] [] found
+  none_done found e member (k, within, is) = absurd (omega (arith, within))
+
+  -- a member that was done before has all its steps once those with new members are found
+  more_steps : (words done new xs ys : List ℕ) (e : ExprParts) → Covers words done new → Grows q xs ys → HasSteps q done e xs → HasBoundResults q new e ys
+      → HasSteps q words e ys
+  more_steps words done new xs ys e covers grows steps results = record {
+    origins = λ g child. grows.kept _ (steps.origins g child);
+    results = λ rule n other has. grows.kept _ (steps.results rule n other has);
+    bound_results = λ bound member there rule n other has. elim (covers (word_of bound) there) [
+      | inl before ↦ grows.kept _ (steps.bound_results bound member before rule n other has)
+      | inr fresh ↦ results bound member fresh rule n other has
+    ];
+  }
+
+  -- what was done before, and what is done from the new words, is all
+  pub all_done : (words done new xs ys zs : List ℕ) → Covers words done new → Grows q xs ys → Grows q ys zs → AreSteps q done done xs → AreSteps q words new ys
+      → AreBoundSteps q new words zs → AreSteps q words words zs
+  all_done words done new xs ys zs covers first second before fresh bound e member there = elim (covers (word_of e) there) [
+    | inl old ↦ more_steps words done new xs zs e covers (grows_on xs ys zs first second) (before e member old) (bound e member there)
+    | inr now ↦ steps_on words ys zs e second (fresh e member now)
+  ]
 
 -- two facts that hold of a success together
 pub on_ok_two : {T E P Q R : Type 0} (r : Result T E) → (P → Q → R) → OnOk r P → OnOk r Q → OnOk r R
@@ -94,20 +110,28 @@ on_ok_two (Ok x) both p q = both p q
 on_ok_two (Err y) both p q = p
 
 -- a member's word that comes is found
-pub added_there : (old new : List ℕ) (word : ℕ) (e : ExprParts) → word ≡ word_of e → new ≡ insert_key nat_cmp old word → IsFound new e
+pub added_there : (old new : List ℕ) (word : ℕ) (e : ExprParts) → word ≡ word_of e → new ≡ insert_key nat_cmp old word → ContainsWordOf new e
 added_there old new word e is comes =
-    subst (λ xs. IsFound xs e) (sym comes) (subst (λ w. Contains (insert_key nat_cmp old word) w) is (insert_there old word))
+    subst (λ xs. ContainsWordOf xs e) (sym comes) (subst (λ w. Contains (insert_key nat_cmp old word) w) is (insert_there old word))
 
 pub added_grows : (q : Query) (old new : List ℕ) (word : ℕ) (e : ExprParts) → word ≡ word_of e → IsMember q e → new ≡ insert_key nat_cmp old word → Grows q old new
 added_grows q old new word e is member comes = subst (Grows q old) (sym comes) (grows_by_one q old word (e, member, sym is))
 
 -- both origins are found, the first from before the second came
-pub two_origins : (q : Query) (e : ExprParts) (xs ys : List ℕ) (left right : KeyParts) → e.children ≡ Two left right → IsFound xs (origin_of q left)
-    → Grows q xs ys → IsFound ys (origin_of q right) → HasOrigins q e ys
+pub two_origins : (q : Query) (e : ExprParts) (xs ys : List ℕ) (left right : KeyParts) → children_of e.operator ≡ Two left right → ContainsWordOf xs (origin_of q left)
+    → Grows q xs ys → ContainsWordOf ys (origin_of q right) → HasOrigins q e ys
 two_origins q e xs ys left right is first grows second g child = elim (subst (λ x. IsChild x g) is child) [
-  | inl same ↦ subst (λ x. IsFound ys (origin_of q x)) (sym same) (grows.kept _ first)
-  | inr same ↦ subst (λ x. IsFound ys (origin_of q x)) (sym same) second
+  | inl same ↦ subst (λ x. ContainsWordOf ys (origin_of q x)) (sym same) (grows.kept _ first)
+  | inr same ↦ subst (λ x. ContainsWordOf ys (origin_of q x)) (sym same) second
 ]
+
+-- words that are among those of members are such words
+pub part_members : (q : Query) (words new : List ℕ) → All (IsMemberWord q) words → All (Contains words) new → All (IsMemberWord q) new
+part_members q words new members part k d within = All-contains (IsMemberWord q) words (get_or new k d) members (part k d within)
+
+-- a logical join has one left group
+pub left_one : (e : ExprParts) (g h : KeyParts) → IsLeftSide e g → IsLeftSide e h → g ≡ h
+left_one e g h (right, is) (other, also) = cc
 
 -- a result of a member is a member, also with a member bound
 pub member_result : (q : Query) (rule : Rule) (e : ExprParts) (bound : Option ExprParts) (n : ℕ) (other : ExprParts) → IsMember q e
@@ -126,73 +150,54 @@ done_more xs ys n Done kept before this k below = elim (cases_eq k n) [
 ]
 
 -- the result of this number is found
-abbrev pub HasResultAt : Query → ExprParts → Rule → ℕ → List ℕ → Type 0
-HasResultAt q e rule n found = (other : ExprParts) → HasResult q rule e None n other → IsFound found other
+abbrev pub HasResultAt : Query → ExprParts → Option ExprParts → Rule → ℕ → List ℕ → Type 0
+HasResultAt q e bound rule n found = (other : ExprParts) → HasResult q rule e bound n other → ContainsWordOf found other
 
--- the results of the rule of this number are found
-abbrev pub HasResultsAt : Query → ExprParts → ℕ → List ℕ → Type 0
-HasResultsAt q e number found = (rule : Rule) → rule_number rule ≡ number → HasResultsOf q e rule found
+-- the results of the rule at this place are found
+abbrev pub HasResultsAt : Query → ExprParts → Option ExprParts → List Rule → ℕ → List ℕ → Type 0
+HasResultsAt q e bound list k found = (rule : Rule) → slice_index_or list k rule ≡ rule → HasResultsOf q e bound rule found
 
 -- the results with the member at this place are found
 abbrev pub HasResultsWithAt : Query → ExprParts → List ℕ → ℕ → List ℕ → Type 0
-HasResultsWithAt q e members k found = (bound : ExprParts) → IsMember q bound → word_of bound ≡ slice_index members k → HasResultsWith q e bound found
+HasResultsWithAt q e members k found = (bound : ExprParts) → IsMember q bound → word_of bound ≡ slice_index members k → HasResults q e (Some bound) found
 
 -- the steps from the word at this place are found
-abbrev pub HasStepsAt : Query → List ℕ → ℕ → List ℕ → Type 0
-HasStepsAt q words k found = (e : ExprParts) → IsMember q e → word_of e ≡ slice_index words k → HasSteps q words e found
+abbrev pub HasStepsAt : Query → List ℕ → List ℕ → ℕ → List ℕ → Type 0
+HasStepsAt q words from k found = (e : ExprParts) → IsMember q e → word_of e ≡ slice_index from k → HasSteps q words e found
 
-module _ (q : Query) (e : ExprParts) where
-  pub result_kept : (rule : Rule) (xs ys : List ℕ) → Grows q xs ys → (k : ℕ) → HasResultAt q e rule k xs → HasResultAt q e rule k ys
-  result_kept rule xs ys grows k done other has = grows.kept _ (done other has)
+-- so are the results at it with members among the words
+abbrev pub HasBoundAt : Query → List ℕ → List ℕ → ℕ → List ℕ → Type 0
+HasBoundAt q words from k found = (e : ExprParts) → IsMember q e → word_of e ≡ slice_index from k → HasBoundResults q words e found
 
-  pub results_kept : (xs ys : List ℕ) → Grows q xs ys → (k : ℕ) → HasResultsAt q e k xs → HasResultsAt q e k ys
-  results_kept xs ys grows k done rule is n other has = grows.kept _ (done rule is n other has)
+-- the rule at a place is one, whatever is read where the list ends
+pub at_place : (q : Query) (e : ExprParts) (bound : Option ExprParts) (list : List Rule) (k : ℕ) (rule default : Rule) (found : List ℕ) → k < length list
+    → slice_index_or list k rule ≡ rule → HasResultsOf q e bound (slice_index_or list k default) found → HasResultsOf q e bound rule found
+at_place q e bound list k rule default found within is results = subst (λ r. HasResultsOf q e bound r found) (get_or_default list k default rule within ∙ is) results
 
-  pub results_with_kept : (members xs ys : List ℕ) → Grows q xs ys → (k : ℕ) → HasResultsWithAt q e members k xs → HasResultsWithAt q e members k ys
-  results_with_kept members xs ys grows k done bound member is rule n other has = grows.kept _ (done bound member is rule n other has)
+module _ (q : Query) (xs ys : List ℕ) (grows : Grows q xs ys) (k : ℕ) where
+  pub result_kept : (e : ExprParts) (bound : Option ExprParts) (rule : Rule) → HasResultAt q e bound rule k xs → HasResultAt q e bound rule k ys
+  result_kept e bound rule done other has = grows.kept _ (done other has)
 
-  -- a result with a bound member is JoinAssociate's first
-  pub with_this : (this bound : ExprParts) (found : List ℕ) → bound ≡ this
-      → ((other : ExprParts) → HasResult q rules.JoinAssociate e (Some this) 0 other → IsFound found other) → HasResultsWith q e bound found
-  with_this this bound found same done rule n other (on, (is_rule, first, made)) =
-      done other (subst (IsOn q) is_rule on, (refl, refl, subst (λ b. Associates q e b other) same made))
+  pub results_kept : (e : ExprParts) (bound : Option ExprParts) (list : List Rule) → HasResultsAt q e bound list k xs → HasResultsAt q e bound list k ys
+  results_kept e bound list done rule is n other has = grows.kept _ (done rule is n other has)
 
-  -- a bound member is one of the left group
-  pub bound_group : (left right : KeyParts) → e.children ≡ Two left right → (rule : Rule) (bound : ExprParts) (n : ℕ) (other : ExprParts)
-      → HasResult q rule e (Some bound) n other → bound.group ≡ left
-  bound_group left right is rule bound n other (on, (is_rule, first, (set, r, a, b, joins, is_bound, linked, made))) =
-      let same : Two (groups.Join set) r ≡ Two left right = sym joins.1 ∙ is in
-      let is_left : groups.Join set ≡ left = cc in
-      ap (λ (x : ExprParts). x.group) is_bound ∙ is_left
+  pub results_with_kept : (e : ExprParts) (members : List ℕ) → HasResultsWithAt q e members k xs → HasResultsWithAt q e members k ys
+  results_with_kept e members done bound member is rule n other has = grows.kept _ (done bound member is rule n other has)
 
-  -- the steps of all three kinds are found
-  pub all_steps : (words xs ys zs : List ℕ) → Grows q xs ys → Grows q ys zs → HasOrigins q e xs → ((rule : Rule) → HasResultsOf q e rule ys)
-      → ((bound : ExprParts) → IsMember q bound → IsFound words bound → HasResultsWith q e bound zs) → HasSteps q words e zs
-  all_steps words xs ys zs first second origins results bound_results = record {
-    origins = λ g child. second.kept _ (first.kept _ (origins g child));
-    results = λ rule n other has. second.kept _ (results rule n other has);
-    bound_results = bound_results;
-  }
+  pub steps_kept : (words from : List ℕ) → HasStepsAt q words from k xs → HasStepsAt q words from k ys
+  steps_kept words from done e member is = steps_on q words xs ys e grows (done e member is)
 
-pub steps_kept : (q : Query) (words xs ys : List ℕ) → Grows q xs ys → (k : ℕ) → HasStepsAt q words k xs → HasStepsAt q words k ys
-steps_kept q words xs ys grows k done e member is = steps_on q words xs ys e grows (done e member is)
+  pub bound_kept : (words from : List ℕ) → HasBoundAt q words from k xs → HasBoundAt q words from k ys
+  bound_kept words from done e member is bound member_bound there rule n other has = grows.kept _ (done e member is bound member_bound there rule n other has)
 
--- the numbers of rules are 1 to 14
-pub rule_between : (rule : Rule) → (1 ≤ rule_number rule) × (rule_number rule ≤ 14)
-rule_between rules.ExpandNAry = (omega arith, omega arith)
-rule_between rules.JoinCommute = (omega arith, omega arith)
-rule_between rules.JoinAssociate = (omega arith, omega arith)
-rule_between rules.SplitAgg = (omega arith, omega arith)
-rule_between rules.GetToScan = (omega arith, omega arith)
-rule_between rules.GetToIndexScan = (omega arith, omega arith)
-rule_between rules.SelectToFilter = (omega arith, omega arith)
-rule_between rules.SelectToIndexSeek = (omega arith, omega arith)
-rule_between rules.JoinToHash = (omega arith, omega arith)
-rule_between rules.JoinToMerge = (omega arith, omega arith)
-rule_between rules.JoinToLoop = (omega arith, omega arith)
-rule_between rules.AggToHash = (omega arith, omega arith)
-rule_between rules.AggToStream = (omega arith, omega arith)
-rule_between rules.PartialToHash = (omega arith, omega arith)
+-- the steps of all three kinds are found
+pub all_steps : (q : Query) (e : ExprParts) (words xs ys zs : List ℕ) → Grows q xs ys → Grows q ys zs → HasOrigins q e xs → HasResults q e None ys
+    → HasBoundResults q words e zs → HasSteps q words e zs
+all_steps q e words xs ys zs first second origins results bound_results = record {
+  origins = λ g child. second.kept _ (first.kept _ (origins g child));
+  results = λ rule n other has. second.kept _ (results rule n other has);
+  bound_results = bound_results;
+}
 
 -- ---- the end
 
@@ -205,14 +210,14 @@ all_small q small xs members k d within =
 
 -- where a pass over the words found adds none, they are those of all members
 pub closed : (q : Query) (words old new : List ℕ) → words ≡ old → Grows q old new → length new ≡ length old → All (IsMemberWord q) old
-    → IsStrictlyIncreasing new → IsFound old (origin_of q (root_of q)) → AreSteps q words (length words) new → IsClosureOf q words
+    → IsStrictlyIncreasing new → ContainsWordOf old (origin_of q (root_of q)) → AreSteps q words words new → IsClosureOf q words
 closed q words old new read grows no_longer members ascending root steps =
     let same : new ≡ words = grows.same (omega (arith, no_longer)) ∙ sym read in
     record {
       ascending = subst IsStrictlyIncreasing same ascending;
       sound = subst (All (IsMemberWord q)) (sym read) members;
-      complete = complete q words (subst (λ xs. IsFound xs (origin_of q (root_of q))) (sym read) root)
-          (subst (AreSteps q words (length words)) same steps);
+      complete = complete q words (subst (λ xs. ContainsWordOf xs (origin_of q (root_of q))) (sym read) root)
+          (subst (AreSteps q words words) same steps);
     }
 
 -- a longer list leaves less room under a bound

@@ -1,50 +1,51 @@
--- What the search finds at the goals that an expression in a mode asks for.
+-- What the search finds at the requests that an expression in a mode asks for.
 use Rattle.std.proofs.Common.{◌≡◌, ℕ, ◌<◌, ◌≤◌, ◌+◌, refl, subst, sym, ◌∙◌, ap, arith}
 use Rattle.std.specs.Prelude.{List, [], ◌∷◌, Option, None, Some}
 use Rattle.query_core.specs.declared.words.Key.{Key}
-use Rattle.query_core.specs.Expressions.{IsPacked, HasShape, IsCandidate}
+use Rattle.query_core.specs.Expressions.{expr_of, physical_children, IsPacked, IsCandidate}
+use Rattle.query_core.specs.declared.expressions.ExprParts.{ExprParts}
 use Rattle.query_core.specs.declared.query.Query.{Query}
 use Rattle.query_core.specs.declared.words.KeyParts.{KeyParts}
 use Rattle.query_core.specs.declared.expressions.Children.{Children}
 use Rattle.query_core.specs.declared.expressions.Children.TheVariants.{One, Two}
-use Rattle.query_core.specs.declared.expressions.ExprParts.{ExprParts}
+use Rattle.query_core.specs.declared.expressions.PhysicalExpr.{PhysicalExpr}
 use Rattle.xform_rules.specs.Closure.{IsMember}
 use Rattle.request_props.specs.Numbered.{IsProps}
 use Rattle.request_props.specs.declared.props.Props.{Props}
 use Rattle.request_props.specs.declared.request.Request.{Request}
-use Rattle.plan_space.specs.Numbers.{Fits}
-use Rattle.plan_space.specs.Lines.{Line}
+use Rattle.request_props.specs.Fitting.{Fits}
+use Rattle.plan_space.specs.declared.lines.Line.{Line}
 use Rattle.plan_space.specs.Alternatives.{IsAlternative, asked_of}
 use Rattle.plan_space.specs.Choices.{groups_of}
 use Rattle.plan_space.specs.Laws.{AsksWhatFits, ChoicesServe, RequestsFit}
 use Rattle.plan_search.specs.declared.answers.Answers.{Answers}
-use Rattle.plan_search.specs.declared.physical.Physical.{Physical}
+use Rattle.plan_search.specs.declared.native.Native.{Native}
 use Rattle.plan_tree.specs.declared.alternatives.Alt.{Alt}
 use Rattle.plan_tree.specs.Alternatives.{IsAltBy, IsAltIn}
 use Rattle.plan_search.specs.Places.{place_of, place_at, place_asked, most_nodes, most_of_all}
-use Rattle.plan_search.specs.Search.{IsAnswered, AreAnswered, cost_at, IsPhysical, asked_cost}
+use Rattle.plan_search.specs.Search.{IsAnswered, AreAnswered, cost_at, IsNative, asked_cost}
 use Rattle.plan_search.proofs.Answered.{cost_small, kid_before, kid_answered}
 use Rattle.plan_search.proofs.Asked.{asked_one, asked_two}
 use Rattle.plan_search.proofs.Bounds.{one_shape, two_shape, kid_nodes, join_nodes, all_nodes}
 
 -- what is known where an alternative is looked at
-pub record IsAsked (q : Query) (answers : Answers) (e : ExprParts) (wanted : Request) (mode : ℕ) (alt : Alt) : Type 0 where
+pub record IsAsked (q : Query) (answers : Answers) (e : PhysicalExpr) (wanted : Request) (mode : ℕ) (alt : Alt) : Type 0 where
   pub props : Props
   pub is_props : IsProps q props
   pub asks : AsksWhatFits q
   pub serve : ChoicesServe q
   pub line : Line
   pub alt_of : IsAltBy q e wanted mode alt line
-  pub packed : IsPacked e
-  pub candidate : IsCandidate q e
-  pub member : IsMember q e
+  pub packed : IsPacked (expr_of e)
+  pub candidate : IsCandidate q (expr_of e)
+  pub member : IsMember q (expr_of e)
   pub fits : Fits q e.group wanted
   pub few : mode < 192
   pub answered : AreAnswered q answers (place_of e.group wanted)
 
 -- it is known of a member in its mode
-pub asked_here : (q : Query) (answers : Answers) (p : Physical) (wanted : Request) (alt : Alt) (props : Props) → IsProps q props → AsksWhatFits q → ChoicesServe q
-    → ((e : ExprParts) → IsMember q e → IsCandidate q e) → ((e : ExprParts) → IsCandidate q e → IsPacked e) → IsPhysical q p.expr.group p → Fits q p.expr.group wanted
+pub asked_here : (q : Query) (answers : Answers) (p : Native) (wanted : Request) (alt : Alt) (props : Props) → IsProps q props → AsksWhatFits q → ChoicesServe q
+    → ((e : ExprParts) → IsMember q e → IsCandidate q e) → ((e : ExprParts) → IsCandidate q e → IsPacked e) → IsNative q p.expr.group p → Fits q p.expr.group wanted
     → AreAnswered q answers (place_of p.expr.group wanted) → IsAltIn q p.expr wanted p.mode (Some alt) → IsAsked q answers p.expr wanted p.mode alt
 asked_here q answers p wanted alt props is_props asks serve candidates packed is fits answered alt_in = record {
   props = props;
@@ -53,28 +54,25 @@ asked_here q answers p wanted alt props is_props asks serve candidates packed is
   serve = serve;
   line = alt_in.0;
   alt_of = alt_in.1;
-  candidate = candidates p.expr is.member;
-  packed = packed p.expr (candidates p.expr is.member);
+  candidate = candidates (expr_of p.expr) is.member;
+  packed = packed (expr_of p.expr) (candidates (expr_of p.expr) is.member);
   member = is.member;
   fits = fits;
   few = is.few;
   answered = answered;
 }
 
-module _ (q : Query) (answers : Answers) (e : ExprParts) (wanted : Request) (mode : ℕ) (alt : Alt) (known : IsAsked q answers e wanted mode alt) where
+module _ (q : Query) (answers : Answers) (e : PhysicalExpr) (wanted : Request) (mode : ℕ) (alt : Alt) (known : IsAsked q answers e wanted mode alt) where
   -- a mode has one line
   pub line_is : (other : Line) → IsAlternative q e wanted mode other → other ≡ known.line
   line_is other alternative = let same : Some other ≡ Some known.line = sym alternative.is_line ∙ known.alt_of.is_alternative.is_line in cc
 
-  requests_fit : (c : Children) (asked : List Request) → e.children ≡ c → asked_of known.line wanted ≡ asked → RequestsFit q (groups_of c) asked
-  requests_fit c asked is are = subst (λ a. RequestsFit q (groups_of c) a) are (subst (λ d. RequestsFit q (groups_of d) (asked_of known.line wanted)) is (known.asks e mode known.line wanted known.candidate known.alt_of.is_alternative))
-
-  shape_with : (c : Children) → e.children ≡ c → HasShape q e.operator e.group c
-  shape_with c is = subst (λ d. HasShape q e.operator e.group d) is known.candidate.shape
+  requests_fit : (c : Children) (asked : List Request) → physical_children e.operator ≡ c → asked_of known.line wanted ≡ asked → RequestsFit q (groups_of c) asked
+  requests_fit c asked is are = subst (λ a. RequestsFit q (groups_of c) a) are (subst (λ d. RequestsFit q (groups_of d) (asked_of known.line wanted)) is (known.asks e mode known.line wanted known.candidate known.fits known.alt_of.is_alternative))
 
   -- what is known of the one child
   pub record OneKid (kid : Key × Request) (g : KeyParts) : Type 0 where
-    pub children : e.children ≡ One g
+    pub children : physical_children e.operator ≡ One g
     pub asked : asked_of known.line wanted ≡ kid.1 ∷ []
     pub place : place_at kid.0.0 kid.1 ≡ place_of g kid.1
     pub is_answered : IsAnswered q answers g kid.1
@@ -83,9 +81,9 @@ module _ (q : Query) (answers : Answers) (e : ExprParts) (wanted : Request) (mod
 
   pub one_kid : (kid : Key × Request) → alt.left ≡ Some kid → alt.right ≡ None → (g : KeyParts) × OneKid kid g
   one_kid kid left right =
-      let found = asked_one q alt e.children (asked_of known.line wanted) kid left right known.alt_of.asks in
+      let found = asked_one q alt (physical_children e.operator) (asked_of known.line wanted) kid left right known.alt_of.asks in
       let g = found.0 in
-      let bounds = kid_nodes q e.group g wanted kid.1 (one_shape q e.group g e.operator (shape_with (One g) found.1)) in
+      let bounds = kid_nodes q e.group g wanted kid.1 (one_shape q e.group g e.operator known.candidate.shape found.1) in
       let fit = (requests_fit (One g) (kid.1 ∷ []) found.1 found.2).0 in
       let place : place_asked kid ≡ place_of g kid.1 = ap (λ k. place_at k kid.1) found.3.number in (
         g,
@@ -101,7 +99,7 @@ module _ (q : Query) (answers : Answers) (e : ExprParts) (wanted : Request) (mod
 
   -- what is known of the two children
   pub record TwoKids (first second : Key × Request) (g h : KeyParts) : Type 0 where
-    pub children : e.children ≡ Two g h
+    pub children : physical_children e.operator ≡ Two g h
     pub asked : asked_of known.line wanted ≡ first.1 ∷ second.1 ∷ []
     pub place : place_at first.0.0 first.1 ≡ place_of g first.1
     pub other_place : place_at second.0.0 second.1 ≡ place_of h second.1
@@ -113,10 +111,10 @@ module _ (q : Query) (answers : Answers) (e : ExprParts) (wanted : Request) (mod
 
   pub two_kids : (first second : Key × Request) → alt.left ≡ Some first → alt.right ≡ Some second → (g h : KeyParts) × TwoKids first second g h
   two_kids first second left right =
-      let found = asked_two q alt e.children (asked_of known.line wanted) first second left right known.alt_of.asks in
+      let found = asked_two q alt (physical_children e.operator) (asked_of known.line wanted) first second left right known.alt_of.asks in
       let g = found.0 in
       let h = found.1 in
-      let bounds = join_nodes q e.group g h wanted first.1 second.1 (two_shape q e.group g h e.operator (shape_with (Two g h) found.2)) in
+      let bounds = join_nodes q e.group g h wanted first.1 second.1 (two_shape q e.group g h e.operator known.candidate.shape found.2) in
       let fit = requests_fit (Two g h) (first.1 ∷ second.1 ∷ []) found.2 found.3 in
       let place : place_asked first ≡ place_of g first.1 = ap (λ k. place_at k first.1) found.4.number in
       let other_place : place_asked second ≡ place_of h second.1 = ap (λ k. place_at k second.1) found.5.number in (

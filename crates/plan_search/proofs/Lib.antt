@@ -1,7 +1,5 @@
 pub mod WordLists
-pub mod Ranges
 pub mod Growing
-pub mod OneClosure
 pub mod Scanning
 pub mod Bounds
 pub mod Standing

@@ -8,109 +8,121 @@ use Rattle.std.specs.List.Sorted.{IsStrictlyIncreasing}
 use Rattle.std.proofs.lemmas.List.{append-nil, append_assoc, get_or_default}
 use Rattle.query_core.specs.declared.query.Query.{Query}
 use Rattle.query_core.specs.declared.words.KeyParts.{KeyParts}
+use Rattle.query_core.specs.declared.expressions.PhysicalExpr.{PhysicalExpr}
 use Rattle.query_core.specs.declared.expressions.ExprParts.{ExprParts}
-use Rattle.query_core.specs.Expressions.{word_of}
+use Rattle.query_core.specs.declared.expressions.Operator.TheVariants as operators
+use Rattle.query_core.specs.Expressions.{expr_of, word_of}
 use Rattle.xform_rules.specs.Closure.{IsMember}
-use Rattle.plan_space.specs.Nodes.{native, number_of}
-use Rattle.plan_space.specs.Lines.{Line, line_of}
-use Rattle.plan_tree.specs.Meanings.{table_line_of}
+use Rattle.plan_space.specs.declared.nodes.NodeKind.TheVariants as nodes
+use Rattle.plan_space.specs.Nodes.{number_of}
+use Rattle.plan_space.specs.declared.lines.Line.{Line}
+use Rattle.plan_space.specs.Lines.{line_of}
 use Rattle.plan_tree.specs.Costs.{AreRowsOf}
-use Rattle.plan_search.specs.declared.physical.Physical.{Physical}
-use Rattle.plan_search.specs.Search.{IsPhysical, ArePhysical, RisesFrom, mode_number, IsIn, HasMode, IsInMode, AreInModes, AreModesOf, AddsModes, AreListed}
+use Rattle.plan_tree.specs.Walks.{AreNone}
+use Rattle.plan_search.specs.declared.native.Native.{Native}
+use Rattle.plan_search.specs.Search.{IsNative, AreNative, RisesFrom, mode_number, IsIn, HasMode, IsInMode, AreInModes, AreModesOf, AddsModes, AreListed}
 use Rattle.plan_search.proofs.Tried.{rises_less}
 
 -- an expression has lines in modes below 192 only
 abbrev pub HasFewModes : Query → Type 0
-HasFewModes q = (e : ExprParts) (mode : ℕ) (line : Line) → line_of q e mode ≡ Some line → mode < 192
+HasFewModes q = (e : PhysicalExpr) (mode : ℕ) (line : Line) → line_of q e mode ≡ Some line → mode < 192
 
 -- all numbers of the list are below the bound
-abbrev pub AreBelow : ℕ → List Physical → Type 0
+abbrev pub AreBelow : ℕ → List Native → Type 0
 AreBelow bound [] = ⊤
 AreBelow bound (p ∷ ps) = (mode_number p < bound) × AreBelow bound ps
 
-below_more : (bound more : ℕ) (list : List Physical) → bound ≤ more → AreBelow bound list → AreBelow more list
+below_more : (bound more : ℕ) (list : List Native) → bound ≤ more → AreBelow bound list → AreBelow more list
 below_more bound more [] less below = tt
 below_more bound more (p ∷ ps) less below = (omega (arith, less, below.0), below_more bound more ps less below.1)
 
-rises_push : (from : ℕ) (list : List Physical) (p : Physical) → from ≤ mode_number p → RisesFrom from list → AreBelow (mode_number p) list → RisesFrom from (list ++ p ∷ [])
+rises_push : (from : ℕ) (list : List Native) (p : Native) → from ≤ mode_number p → RisesFrom from list → AreBelow (mode_number p) list → RisesFrom from (list ++ p ∷ [])
 rises_push from [] p least rises below = (least, tt)
 rises_push from (first ∷ others) p least rises below = (rises.0, rises_push (mode_number first + 1) others p (omega (arith, below.0)) rises.1 below.1)
 
-below_push : (bound : ℕ) (list : List Physical) (p : Physical) → mode_number p < bound → AreBelow bound list → AreBelow bound (list ++ p ∷ [])
+below_push : (bound : ℕ) (list : List Native) (p : Native) → mode_number p < bound → AreBelow bound list → AreBelow bound (list ++ p ∷ [])
 below_push bound [] p less below = (less, tt)
 below_push bound (first ∷ others) p less below = (below.0, below_push bound others p less below.1)
 
-in_front : (p : Physical) (list others : List Physical) → IsIn p list → IsIn p (list ++ others)
+in_front : (p : Native) (list others : List Native) → IsIn p list → IsIn p (list ++ others)
 in_front p [] others is = absurd is
 in_front p (first ∷ rest) others (inl is) = inl is
 in_front p (first ∷ rest) others (inr later) = inr (in_front p rest others later)
 
-in_behind : (p : Physical) (list others : List Physical) → IsIn p others → IsIn p (list ++ others)
+in_behind : (p : Native) (list others : List Native) → IsIn p others → IsIn p (list ++ others)
 in_behind p [] others is = is
 in_behind p (first ∷ rest) others is = inr (in_behind p rest others is)
 
-in_end : (list : List Physical) (p : Physical) → IsIn p (list ++ p ∷ [])
+in_end : (list : List Native) (p : Native) → IsIn p (list ++ p ∷ [])
 in_end [] p = inl refl
 in_end (first ∷ others) p = inr (in_end others p)
 
-module _ (q : Query) (e : ExprParts) where
-  are_more : (bound more : ℕ) (list : List Physical) → bound ≤ more → AreInModes q e bound list → AreInModes q e more list
+-- a physical expression is known by its parts
+pub physical_one : (f e : PhysicalExpr) → expr_of f ≡ expr_of e → f ≡ e
+physical_one f e same =
+    let group : f.group ≡ e.group = ap (λ (x : ExprParts). x.group) same in
+    let wrapped : operators.Physical f.operator ≡ operators.Physical e.operator = ap (λ (x : ExprParts). x.operator) same in
+    let operator : f.operator ≡ e.operator = cc in
+    ap (λ g. record { group = g; operator = f.operator }) group ∙ ap (λ o. record { group = e.group; operator = o }) operator
+
+module _ (q : Query) (e : PhysicalExpr) where
+  are_more : (bound more : ℕ) (list : List Native) → bound ≤ more → AreInModes q e bound list → AreInModes q e more list
   are_more bound more [] less are = tt
   are_more bound more (p ∷ ps) less are =
       (record { expr = are.0.expr; below = omega (arith, are.0.below, less); line = are.0.line; rows = are.0.rows }, are_more bound more ps less are.1)
 
-  are_behind : (bound : ℕ) (list : List Physical) (p : Physical) → AreInModes q e bound list → IsInMode q e bound p → AreInModes q e bound (list ++ p ∷ [])
+  are_behind : (bound : ℕ) (list : List Native) (p : Native) → AreInModes q e bound list → IsInMode q e bound p → AreInModes q e bound (list ++ p ∷ [])
   are_behind bound [] p are is = (is, tt)
   are_behind bound (first ∷ others) p are is = (are.0, are_behind bound others p are.1 is)
 
-  numbers_below : (bound : ℕ) (list : List Physical) → AreInModes q e bound list → AreBelow (number_of (native e bound)) list
+  numbers_below : (bound : ℕ) (list : List Native) → AreInModes q e bound list → AreBelow (number_of (nodes.Native e bound)) list
   numbers_below bound [] are = tt
-  numbers_below bound (p ∷ ps) are = let number : word_of p.expr ≡ word_of e = ap word_of are.0.expr in (omega (arith, number, are.0.below), numbers_below bound ps are.1)
+  numbers_below bound (p ∷ ps) are = let number : word_of (expr_of p.expr) ≡ word_of (expr_of e) = ap (λ x. word_of (expr_of x)) are.0.expr in (omega (arith, number, are.0.below), numbers_below bound ps are.1)
 
   pub modes_none : AreModesOf q e 0 []
   modes_none = record { are = tt; rises = tt; complete = λ mode line less. absurd (omega (arith, less)) }
 
-  module _ (m : ℕ) (modes : List Physical) (so_far : AreModesOf q e m modes) where
-    -- the mode is added where it has a line
-    pub mode_pushed : (p : Physical) → p.expr ≡ e → p.mode ≡ m → Some (table_line_of p.line) ≡ line_of q e m → AreRowsOf q e p.rows → AreModesOf q e (m + 1) (modes ++ p ∷ [])
+  module _ (m : ℕ) (modes : List Native) (so_far : AreModesOf q e m modes) where
+    -- a mode that has a line is added
+    pub mode_pushed : (p : Native) → p.expr ≡ e → p.mode ≡ m → line_of q e m ≡ Some p.line → AreRowsOf q e p.rows → AreModesOf q e (m + 1) (modes ++ p ∷ [])
     mode_pushed p is_expr is_mode is_line rows =
-        let number : mode_number p ≡ number_of (native e m) = ap (λ x. number_of (native x p.mode)) is_expr ∙ ap (λ n. number_of (native e n)) is_mode in
+        let number : mode_number p ≡ number_of (nodes.Native e m) = ap (λ x. number_of (nodes.Native x p.mode)) is_expr ∙ ap (λ n. number_of (nodes.Native e n)) is_mode in
         record {
           are = are_behind (m + 1) modes p (are_more m (m + 1) modes (omega arith) so_far.are)
-              (record { expr = is_expr; below = omega (arith, is_mode); line = ap (λ n. line_of q e n) is_mode ∙ sym is_line; rows = rows });
-          rises = rises_push (number_of (native e 0)) modes p (omega (arith, number)) so_far.rises (subst (λ n. AreBelow n modes) (sym number) (numbers_below m modes so_far.are));
+              (record { expr = is_expr; below = omega (arith, is_mode); line = ap (λ n. line_of q e n) is_mode ∙ is_line; rows = rows });
+          rises = rises_push (number_of (nodes.Native e 0)) modes p (omega (arith, number)) so_far.rises (subst (λ n. AreBelow n modes) (sym number) (numbers_below m modes so_far.are));
           complete = λ mode line less has. elim (cases_eq mode m) [
             | inl same ↦ (p, in_end modes p, is_expr, is_mode ∙ sym same)
             | inr other ↦ let there = so_far.complete mode line (omega (arith, less, other)) has in (there.0, in_front there.0 modes (p ∷ []) there.1, there.2, there.3)
           ];
         }
 
-    -- and passed where it has none
-    pub mode_passed : None ≡ line_of q e m → AreModesOf q e (m + 1) modes
-    mode_passed none = record {
-      are = are_more m (m + 1) modes (omega arith) so_far.are;
-      rises = so_far.rises;
-      complete = λ mode line less has. elim (cases_eq mode m) [
-        | inl same ↦ let never : None ≡ Some line = none ∙ ap (λ n. line_of q e n) (sym same) ∙ has in cc
-        | inr other ↦ so_far.complete mode line (omega (arith, less, other)) has
-      ];
-    }
+  -- modes without a line are passed over
+  pub modes_passed : (from to : ℕ) (modes : List Native) → from ≤ to → AreNone q e from to → AreModesOf q e from modes → AreModesOf q e to modes
+  modes_passed from to modes later none so_far = record {
+    are = are_more from to modes later so_far.are;
+    rises = so_far.rises;
+    complete = λ mode line less has. elim (cases_lt mode from) [
+      | inl before ↦ so_far.complete mode line before has
+      | inr after ↦ let never : None ≡ Some line = sym (none mode after less) ∙ has in cc
+    ];
+  }
 
 module _ (q : Query) (group : KeyParts) where
-  are_push : (list : List Physical) (p : Physical) → IsPhysical q group p → ArePhysical q group list → ArePhysical q group (list ++ p ∷ [])
+  are_push : (list : List Native) (p : Native) → IsNative q group p → AreNative q group list → AreNative q group (list ++ p ∷ [])
   are_push [] p is are = (is, tt)
   are_push (first ∷ others) p is are = (are.0, are_push others p is are.1)
 
   -- such members, whose numbers rise up to the bound
-  pub record AreUpTo (bound : ℕ) (list : List Physical) : Type 0 where
-    pub are : ArePhysical q group list
+  pub record AreUpTo (bound : ℕ) (list : List Native) : Type 0 where
+    pub are : AreNative q group list
     pub rises : RisesFrom (2 ^ 56) list
     pub below : AreBelow bound list
 
-  pub up_to_more : (bound more : ℕ) (list : List Physical) → bound ≤ more → AreUpTo bound list → AreUpTo more list
+  pub up_to_more : (bound more : ℕ) (list : List Native) → bound ≤ more → AreUpTo bound list → AreUpTo more list
   up_to_more bound more list less up_to = record { are = up_to.are; rises = up_to.rises; below = below_more bound more list less up_to.below }
 
-  up_to_push : (bound : ℕ) (list : List Physical) (p : Physical) → 2 ^ 56 ≤ mode_number p → bound ≤ mode_number p → IsPhysical q group p → AreUpTo bound list
+  up_to_push : (bound : ℕ) (list : List Native) (p : Native) → 2 ^ 56 ≤ mode_number p → bound ≤ mode_number p → IsNative q group p → AreUpTo bound list
       → AreUpTo (mode_number p + 1) (list ++ p ∷ [])
   up_to_push bound list p least less is up_to = record {
     are = are_push list p is up_to.are;
@@ -119,34 +131,34 @@ module _ (q : Query) (group : KeyParts) where
   }
 
   -- an expression's modes come behind lesser ones
-  module _ (e : ExprParts) (member : IsMember q e) (of_group : e.group ≡ group) (small : word_of e < 2 ^ 48) where
-    is_physical_in : (p : Physical) → IsInMode q e 192 p → IsPhysical q group p
-    is_physical_in p is =
-        let number : word_of p.expr ≡ word_of e = ap word_of is.expr in
+  module _ (e : PhysicalExpr) (member : IsMember q (expr_of e)) (of_group : e.group ≡ group) (small : word_of (expr_of e) < 2 ^ 48) where
+    is_native_in : (p : Native) → IsInMode q e 192 p → IsNative q group p
+    is_native_in p is =
+        let number : word_of (expr_of p.expr) ≡ word_of (expr_of e) = ap (λ x. word_of (expr_of x)) is.expr in
         record {
-          member = subst (IsMember q) (sym is.expr) member;
-          of_group = ap (λ (x : ExprParts). x.group) is.expr ∙ of_group;
-          line = subst (λ x. line_of q x p.mode ≡ Some (table_line_of p.line)) (sym is.expr) is.line;
+          member = subst (λ x. IsMember q (expr_of x)) (sym is.expr) member;
+          of_group = ap (λ (x : PhysicalExpr). x.group) is.expr ∙ of_group;
+          line = subst (λ x. line_of q x p.mode ≡ Some p.line) (sym is.expr) is.line;
           rows = subst (λ x. AreRowsOf q x p.rows) (sym is.expr) is.rows;
           few = is.below;
           small = omega (arith, number, small, is.below);
         }
 
-    up_to_modes : (bound : ℕ) (list modes : List Physical) → 2 ^ 56 ≤ bound → bound ≤ 2 ^ 56 + word_of e * 2 ^ 8 + 192 → AreUpTo bound list → AreInModes q e 192 modes → RisesFrom bound modes
-        → AreUpTo (2 ^ 56 + word_of e * 2 ^ 8 + 192) (list ++ modes)
+    up_to_modes : (bound : ℕ) (list modes : List Native) → 2 ^ 56 ≤ bound → bound ≤ 2 ^ 56 + word_of (expr_of e) * 2 ^ 8 + 192 → AreUpTo bound list → AreInModes q e 192 modes → RisesFrom bound modes
+        → AreUpTo (2 ^ 56 + word_of (expr_of e) * 2 ^ 8 + 192) (list ++ modes)
     up_to_modes bound list [] least most up_to are rises =
-        subst (λ l. AreUpTo (2 ^ 56 + word_of e * 2 ^ 8 + 192) l) (sym (append-nil list)) (up_to_more bound (2 ^ 56 + word_of e * 2 ^ 8 + 192) list most up_to)
+        subst (λ l. AreUpTo (2 ^ 56 + word_of (expr_of e) * 2 ^ 8 + 192) l) (sym (append-nil list)) (up_to_more bound (2 ^ 56 + word_of (expr_of e) * 2 ^ 8 + 192) list most up_to)
     up_to_modes bound list (p ∷ ps) least most up_to are rises =
         let is = are.0 in
-        let number : word_of p.expr ≡ word_of e = ap word_of is.expr in
-        subst (λ l. AreUpTo (2 ^ 56 + word_of e * 2 ^ 8 + 192) l) (append_assoc list (p ∷ []) ps)
+        let number : word_of (expr_of p.expr) ≡ word_of (expr_of e) = ap (λ x. word_of (expr_of x)) is.expr in
+        subst (λ l. AreUpTo (2 ^ 56 + word_of (expr_of e) * 2 ^ 8 + 192) l) (append_assoc list (p ∷ []) ps)
         (up_to_modes (mode_number p + 1) (list ++ p ∷ []) ps (omega (arith, least, rises.0)) (omega (arith, number, is.below))
-        (up_to_push bound list p (omega (arith, least, rises.0)) rises.0 (is_physical_in p is) up_to) are.1 rises.1)
+        (up_to_push bound list p (omega (arith, least, rises.0)) rises.0 (is_native_in p is) up_to) are.1 rises.1)
 
   -- the members with the first so many words, in all modes in which they have a line
-  pub record AreMade (words : List ℕ) (i : ℕ) (list : List Physical) : Type 0 where
+  pub record AreMade (words : List ℕ) (i : ℕ) (list : List Native) : Type 0 where
     pub up_to : AreUpTo (2 ^ 56 + slice_index_or words i (2 ^ 48) * 2 ^ 8) list
-    pub complete : (k : ℕ) → k < i → (e : ExprParts) (mode : ℕ) (line : Line) → IsMember q e → word_of e ≡ slice_index words k → line_of q e mode ≡ Some line
+    pub complete : (k : ℕ) → k < i → (e : PhysicalExpr) (mode : ℕ) (line : Line) → IsMember q (expr_of e) → word_of (expr_of e) ≡ slice_index words k → line_of q e mode ≡ Some line
         → HasMode e mode list
 
   pub made_none : (words : List ℕ) → AreMade words 0 []
@@ -159,15 +171,15 @@ module _ (q : Query) (group : KeyParts) where
       | inr end ↦ let last = get_or-eq_default words (2 ^ 48) end in omega (arith, small, last)
     ]
 
-    pub made_more : HasFewModes q → (i : ℕ) (e : ExprParts) (list new : List Physical) → i < length words → IsMember q e → e.group ≡ group → word_of e < 2 ^ 48 → word_of e ≡ slice_index words i
-        → ((f : ExprParts) → IsMember q f → word_of f ≡ word_of e → f ≡ e) → AreMade words i list → AddsModes q e list new → AreMade words (i + 1) new
+    pub made_more : HasFewModes q → (i : ℕ) (e : PhysicalExpr) (list new : List Native) → i < length words → IsMember q (expr_of e) → e.group ≡ group → word_of (expr_of e) < 2 ^ 48
+        → word_of (expr_of e) ≡ slice_index words i → ((f : PhysicalExpr) → IsMember q (expr_of f) → word_of (expr_of f) ≡ word_of (expr_of e) → f ≡ e) → AreMade words i list → AddsModes q e list new → AreMade words (i + 1) new
     made_more few i e list new within member of_group small is one made (modes, of_expr, added) =
-        let here : slice_index_or words i (2 ^ 48) ≡ word_of e = get_or_default words i (2 ^ 48) 0 within ∙ sym is in
+        let here : slice_index_or words i (2 ^ 48) ≡ word_of (expr_of e) = get_or_default words i (2 ^ 48) 0 within ∙ sym is in
         let before = subst (λ w. AreUpTo (2 ^ 56 + w * 2 ^ 8) list) here made.up_to in
-        let rises : RisesFrom (2 ^ 56 + word_of e * 2 ^ 8) modes = rises_less (2 ^ 56 + word_of e * 2 ^ 8 + 0) (2 ^ 56 + word_of e * 2 ^ 8) modes (omega arith) of_expr.rises in
-        let up_to = up_to_modes e member of_group small (2 ^ 56 + word_of e * 2 ^ 8) list modes (omega arith) (omega arith) before of_expr.are rises in
+        let rises : RisesFrom (2 ^ 56 + word_of (expr_of e) * 2 ^ 8) modes = rises_less (2 ^ 56 + word_of (expr_of e) * 2 ^ 8 + 0) (2 ^ 56 + word_of (expr_of e) * 2 ^ 8) modes (omega arith) of_expr.rises in
+        let up_to = up_to_modes e member of_group small (2 ^ 56 + word_of (expr_of e) * 2 ^ 8) list modes (omega arith) (omega arith) before of_expr.are rises in
         subst (AreMade words (i + 1)) (sym added) (record {
-          up_to = up_to_more (2 ^ 56 + word_of e * 2 ^ 8 + 192) (2 ^ 56 + slice_index_or words (i + 1) (2 ^ 48) * 2 ^ 8) (list ++ modes)
+          up_to = up_to_more (2 ^ 56 + word_of (expr_of e) * 2 ^ 8 + 192) (2 ^ 56 + slice_index_or words (i + 1) (2 ^ 48) * 2 ^ 8) (list ++ modes)
               (omega (arith, next_base i within (omega (arith, is, small)), is)) up_to;
           complete = λ k less f mode line is_member of_word has. elim (cases_eq k i) [
             | inl same ↦
@@ -180,13 +192,25 @@ module _ (q : Query) (group : KeyParts) where
           ];
         })
 
+    -- a logical expression adds nothing
+    pub made_past : (i : ℕ) (e : ExprParts) (list : List Native) → i < length words → word_of e < 2 ^ 48 → word_of e ≡ slice_index words i
+        → ((f : PhysicalExpr) → IsMember q (expr_of f) → word_of (expr_of f) ≡ word_of e → ⊥) → AreMade words i list → AreMade words (i + 1) list
+    made_past i e list within small is never made = record {
+      up_to = up_to_more (2 ^ 56 + slice_index_or words i (2 ^ 48) * 2 ^ 8) (2 ^ 56 + slice_index_or words (i + 1) (2 ^ 48) * 2 ^ 8) list
+          (omega (arith, next_base i within (omega (arith, is, small)), get_or_default words i (2 ^ 48) 0 within)) made.up_to;
+      complete = λ k less f mode line is_member of_word has. elim (cases_eq k i) [
+        | inl same ↦ absurd (never f is_member (of_word ∙ ap (λ n. slice_index words n) same ∙ sym is))
+        | inr other ↦ made.complete k (omega (arith, less, other)) f mode line is_member of_word has
+      ];
+    }
+
     -- at the end they are all that the group has
-    pub made_all : (i : ℕ) (list : List Physical) → length words ≤ i → ((e : ExprParts) → IsMember q e → e.group ≡ group → Contains words (word_of e)) → AreMade words i list
+    pub made_all : (i : ℕ) (list : List Native) → length words ≤ i → ((e : ExprParts) → IsMember q e → e.group ≡ group → Contains words (word_of e)) → AreMade words i list
         → AreListed q group list
     made_all i list end all made = record {
       are = made.up_to.are;
       rises = made.up_to.rises;
       complete = λ e mode line member of_group has.
-          let found = all e member of_group in
-          made.complete found.0 (omega (arith, end, found.1)) e mode line member (sym found.2 ∙ get_or_default words found.0 (word_of e) 0 found.1) has;
+          let found = all (expr_of e) member of_group in
+          made.complete found.0 (omega (arith, end, found.1)) e mode line member (sym found.2 ∙ get_or_default words found.0 (word_of (expr_of e)) 0 found.1) has;
     }

@@ -6,10 +6,12 @@ use Rattle.std.proofs.lemmas.Bool.{cases_lt, cond_below, cond_above}
 use Rattle.query_core.specs.declared.query.Query.{Query}
 use Rattle.query_core.specs.declared.words.KeyParts.{KeyParts}
 use Rattle.request_props.specs.declared.request.Request.{Request}
-use Rattle.query_core.specs.declared.expressions.ExprParts.{ExprParts}
+use Rattle.query_core.specs.declared.expressions.PhysicalExpr.{PhysicalExpr}
 use Rattle.xform_rules.specs.Closure.{IsMember}
 use Rattle.plan_space.specs.Enforcers.{EnforcedBy}
-use Rattle.plan_space.specs.Nodes.{Kind, native, number_of, Tree, leaf, over, two, code_of}
+use Rattle.plan_space.specs.declared.nodes.NodeKind.{NodeKind}
+use Rattle.plan_space.specs.declared.nodes.NodeKind.TheVariants as nodes
+use Rattle.plan_space.specs.Nodes.{number_of, Tree, leaf, over, two, code_of}
 use Rattle.plan_space.specs.Cost.{cost_of}
 use Rattle.plan_space.specs.Order.{AtMost, IsAtMost}
 use Rattle.plan_space.specs.Choices.{Beats, IsModeSettled, IsEnforcerSettled}
@@ -132,7 +134,7 @@ module _ (q : Query) where
     )
 
     -- a choice is offered, whose root has a greater number than the best so far
-    pub goes_by_one : IsOrder q → (from : ℕ) → (node : Kind) → (choice : Choice) → (tree : Tree) → (old : Option Choice)
+    pub goes_by_one : IsOrder q → (from : ℕ) → (node : NodeKind) → (choice : Choice) → (tree : Tree) → (old : Option Choice)
         → IsChosen q answers group wanted choice node tree → root_number tree ≡ from
         → Goes q answers group wanted from (from + 1) (λ best. Beats q best tree) old (Some (cheaper_of old choice))
     goes_by_one order from node choice tree None chosen root None is below = (
@@ -170,28 +172,28 @@ module _ (q : Query) where
     ]
 
 -- the number at the root of a plan that is built so
-pub built_root : (answers : Answers) (bound : ℕ) (below : Kids) (node : Kind) (tree : Tree) → IsBuilt answers bound below node tree → root_number tree ≡ number_of node
+pub built_root : (answers : Answers) (bound : ℕ) (below : Kids) (node : NodeKind) (tree : Tree) → IsBuilt answers bound below node tree → root_number tree ≡ number_of node
 built_root answers bound kids.Zero node tree is = ap root_number is
 built_root answers bound (kids.One place) node tree (kid, before, stands, is) = ap root_number is
 built_root answers bound (kids.Two first second) node tree (left, right, before, other_before, stands, also, is) = ap root_number is
 
 module _ (q : Query) (order : IsOrder q) (answers : Answers) where
   -- a member in a mode is offered, over least plans
-  pub made_goes : (e : ExprParts) (wanted : Request) (mode : ℕ) (choice : Choice) (old : Option Choice) → IsMade q answers wanted e mode choice
-      → Goes q answers e.group wanted (number_of (native e mode)) (number_of (native e mode) + 1) (IsModeSettled (IsMember q) q wanted e mode) old (Some (cheaper_of old choice))
+  pub made_goes : (e : PhysicalExpr) (wanted : Request) (mode : ℕ) (choice : Choice) (old : Option Choice) → IsMade q answers wanted e mode choice
+      → Goes q answers e.group wanted (number_of (nodes.Native e mode)) (number_of (nodes.Native e mode) + 1) (IsModeSettled (IsMember q) q wanted e mode) old (Some (cheaper_of old choice))
   made_goes e wanted mode choice old (tree, chosen, least) =
-      let node = native e mode in
+      let node = nodes.Native e mode in
       goes_as q answers e.group wanted (number_of node) (number_of node + 1) (λ best. Beats q best tree) (IsModeSettled (IsMember q) q wanted e mode) old (Some (cheaper_of old choice))
       (λ best beats line alternative. let over_kids = least line alternative in inl (over_kids.0, tree, over_kids.1, over_kids.2, beats))
       (goes_by_one q answers e.group wanted order (number_of node) node choice tree old chosen (built_root answers (place_of e.group wanted) choice.kids node tree chosen.built))
 
 -- what is settled stays so with a better plan
-pub mode_stable : (q : Query) (wanted : Request) (e : ExprParts) (mode : ℕ) → IsStable q (IsModeSettled (IsMember q) q wanted e mode)
+pub mode_stable : (q : Query) (wanted : Request) (e : PhysicalExpr) (mode : ℕ) → IsStable q (IsModeSettled (IsMember q) q wanted e mode)
 mode_stable q wanted e mode best other improves settled line alternative = elim (settled line alternative) [
   | inl (plans, plan, least, over_plans, beats) ↦ inl (plans, plan, least, over_plans, improves plan beats)
   | inr lacks ↦ inr lacks
 ]
 
 pub enforcer_stable : (q : Query) (group : KeyParts) (e : EnforcedBy) → IsStable q (IsEnforcerSettled (IsMember q) q group e)
-enforcer_stable q group e best other improves (inl (kid, least, beats)) = inl (kid, least, improves (over e.node kid) beats)
+enforcer_stable q group e best other improves (inl (kid, least, beats)) = inl (kid, least, improves (over (nodes.Enforcer e.node) kid) beats)
 enforcer_stable q group e best other improves (inr none) = inr none

@@ -2,7 +2,8 @@
 use Rattle.std.proofs.Common.{◌≡◌, ℕ, ◌<◌, refl, subst, sym, ◌∙◌, ap, arith}
 use Rattle.std.specs.Prelude.{Option, None, Some}
 use Rattle.std.specs.Option.{option_and_then}
-use Rattle.plan_space.specs.Nodes.{Kind, Tree, leaf, over, two}
+use Rattle.plan_space.specs.declared.nodes.NodeKind.{NodeKind}
+use Rattle.plan_space.specs.Nodes.{Tree, leaf, over, two}
 use Rattle.plan_tree.specs.Nodes.{IsNode}
 use Rattle.plan_search.specs.declared.answers.Answers.{Answers}
 use Rattle.plan_search.specs.declared.choice.Choice.{Choice}
@@ -22,20 +23,20 @@ stands_some answers place (over node kid) (kept, below, root, is, before, stands
 stands_some answers place (two node left right) (kept, first, second, root, is, before, also, stands, stand) = (kept, ap (option_and_then (λ a. a)) root.at)
 
 module _ (answers : Answers) (place : ℕ) (kept : Choice) (at : kept_at answers place ≡ Some kept) where
-  same_kids : (other : Choice) (node : Kind) (below also : Kids) → IsRootAt answers place other node → other.kids ≡ also → kept.kids ≡ below → also ≡ below
+  same_kids : (other : Choice) (node : NodeKind) (below also : Kids) → IsRootAt answers place other node → other.kids ≡ also → kept.kids ≡ below → also ≡ below
   same_kids other node below also root is is_kept =
       let same : Some (Some other) ≡ Some (Some kept) = sym root.at ∙ answer_is (answer_at answers place) kept at in
       let equal : other ≡ kept = cc in
       sym is ∙ ap (λ (c : Choice). c.kids) equal ∙ is_kept
 
-  same_node : (other : Choice) (node : Kind) → IsRootAt answers place other node → IsNode kept.node node
+  same_node : (other : Choice) (node : NodeKind) → IsRootAt answers place other node → IsNode kept.node node
   same_node other node root =
       let same : Some (Some other) ≡ Some (Some kept) = sym root.at ∙ answer_is (answer_at answers place) kept at in
       let equal : other ≡ kept = cc in
       subst (λ (c : Choice). IsNode c.node node) equal root.is_node
 
   -- a tree with no places below it is a leaf
-  pub zero_below : kept.kids ≡ kids.Zero → (tree : Tree) → StandsAt answers place tree → (node : Kind) × IsNode kept.node node × (tree ≡ leaf node)
+  pub zero_below : kept.kids ≡ kids.Zero → (tree : Tree) → StandsAt answers place tree → (node : NodeKind) × IsNode kept.node node × (tree ≡ leaf node)
   zero_below is (leaf node) (other, root, also) = (node, same_node other node root, refl)
   zero_below is (over node kid) (other, below, root, also, before, stands) = let never : kids.One below ≡ kids.Zero = same_kids other node kids.Zero (kids.One below) root also is in cc
   zero_below is (two node left right) (other, first, second, root, also, before, too, stands, stand) =
@@ -43,7 +44,7 @@ module _ (answers : Answers) (place : ℕ) (kept : Choice) (at : kept_at answers
 
   -- one with a place below it is a node over what stands there
   pub one_below : (below : ℕ) → kept.kids ≡ kids.One below → (tree : Tree) → StandsAt answers place tree
-      → (node : Kind) × (kid : Tree) × IsNode kept.node node × (tree ≡ over node kid) × (below < place) × StandsAt answers below kid
+      → (node : NodeKind) × (kid : Tree) × IsNode kept.node node × (tree ≡ over node kid) × (below < place) × StandsAt answers below kid
   one_below below is (leaf node) (other, root, also) = let never : kids.Zero ≡ kids.One below = same_kids other node (kids.One below) kids.Zero root also is in cc
   one_below below is (over node kid) (other, under, root, also, before, stands) =
       let one : kids.One under ≡ kids.One below = same_kids other node (kids.One below) (kids.One under) root also is in
@@ -54,7 +55,7 @@ module _ (answers : Answers) (place : ℕ) (kept : Choice) (at : kept_at answers
 
   -- and one with two places below it a node over what stands at these
   pub two_below : (first second : ℕ) → kept.kids ≡ kids.Two first second → (tree : Tree) → StandsAt answers place tree
-      → (node : Kind) × (left right : Tree) × IsNode kept.node node × (tree ≡ two node left right) × (first < place) × (second < place)
+      → (node : NodeKind) × (left right : Tree) × IsNode kept.node node × (tree ≡ two node left right) × (first < place) × (second < place)
       × StandsAt answers first left × StandsAt answers second right
   two_below first second is (leaf node) (other, root, also) = let never : kids.Zero ≡ kids.Two first second = same_kids other node (kids.Two first second) kids.Zero root also is in cc
   two_below first second is (over node kid) (other, under, root, also, before, stands) =
@@ -77,7 +78,7 @@ module _ (answers : Answers) (place : ℕ) (kept : Choice) (at : kept_at answers
 -- ---- answers that come later
 
 module _ (old new : Answers) (bound : ℕ) (kept : (place : ℕ) → place < bound → answer_at new place ≡ answer_at old place) where
-  root_stays : (place : ℕ) (choice : Choice) (node : Kind) → place < bound → IsRootAt old place choice node → IsRootAt new place choice node
+  root_stays : (place : ℕ) (choice : Choice) (node : NodeKind) → place < bound → IsRootAt old place choice node → IsRootAt new place choice node
   root_stays place choice node before root = record { at = kept place before ∙ root.at; is_node = root.is_node }
 
   -- a tree that stands before them stays
@@ -98,7 +99,7 @@ module _ (old new : Answers) (bound : ℕ) (kept : (place : ℕ) → place < bou
   )
 
   -- and a tree that was built over such trees stands at the place of its root
-  pub built_stands : (choice : Choice) (below : Kids) (node : Kind) (tree : Tree) → choice.kids ≡ below → IsRootAt new bound choice node → IsBuilt old bound below node tree
+  pub built_stands : (choice : Choice) (below : Kids) (node : NodeKind) (tree : Tree) → choice.kids ≡ below → IsRootAt new bound choice node → IsBuilt old bound below node tree
       → StandsAt new bound tree
   built_stands choice kids.Zero node tree is root built = subst (StandsAt new bound) (sym built) (choice, root, is)
   built_stands choice (kids.One place) node tree is root (kid, before, stands, built) =

@@ -1,11 +1,16 @@
 -- Lists of words to which one word comes.
-use Rattle.std.proofs.Common.{◌≡◌, ℕ, ◌+◌, ◌<◌, ◌≤◌, List, [], ◌∷◌, length, get_or, refl, ap, sym, subst, arith, zero, suc, inl, inr, ◌⊎◌}
-use Rattle.std.specs.Prelude.{◌-◌}
-use Rattle.std.specs.List.{Contains, All}
-use Rattle.std.specs.List.Sorted.{IsStrictlyIncreasing}
+use Rattle.std.proofs.Common.{◌≡◌, ℕ, ◌+◌, ◌<◌, ◌≤◌, List, [], ◌∷◌, ◌++◌, length, take, get_or, refl, ap, sym, subst, ◌∙◌, arith, zero, suc, inl, inr, ◌⊎◌, length-take}
+use Rattle.std.specs.Prelude.{◌-◌, false, Result, Ok, Err, IfOk}
+use Rattle.std.specs.Result.{is_err}
+use Rattle.std.specs.List.{Contains, All, HoldsAt}
+use Rattle.std.specs.List.Sorted.{IsStrictlyIncreasing, IsSearchInRange}
 use Rattle.std.specs.BTreeSet.{insert_key}
 use Rattle.std.specs.Ordering.{nat_cmp, match_ordering}
 use Rattle.std.specs.declared.cmp.Ordering.{Ordering}
+use Rattle.std.proofs.lemmas.List.{get_or-take, get_or_default, take_more}
+use Rattle.std.proofs.lemmas.List.Elements.{All-contains, Contains-get_or, Contains-push, Contains-push_cases}
+use Rattle.std.proofs.lemmas.List.Kept.{AllPairs-from_increasing}
+use Rattle.plan_search.specs.Steps.{Covers}
 use Rattle.std.proofs.Math.Nat.{eq-zero-or-pos}
 use Rattle.std.proofs.lemmas.Map.Lookups.{exact_unsigned}
 use Rattle.std.specs.declared.cmp.Ordering.TheVariants.{Less, Equal, Greater}
@@ -22,6 +27,12 @@ contains_later x xs w (k, within, is) = (suc k, omega (arith, within), is)
 pub contains_cases : (x : ℕ) (xs : List ℕ) (w : ℕ) → Contains (x ∷ xs) w → (x ≡ w) ⊎ Contains xs w
 contains_cases x xs w (zero, within, is) = inl is
 contains_cases x xs w (suc k, within, is) = inr (k, omega (arith, within), is)
+
+-- what stands in a list stays there when one word comes behind
+pub contains_before : (xs : List ℕ) (x w : ℕ) → Contains xs w → Contains (xs ++ x ∷ []) w
+contains_before [] x w (k, within, is) = absurd (omega (arith, within))
+contains_before (y ∷ ys) x w (zero, within, is) = (zero, omega arith, is)
+contains_before (y ∷ ys) x w (suc k, within, is) = contains_later y (ys ++ x ∷ []) w (contains_before ys x w (k, omega (arith, within), is))
 
 -- a word that comes leaves the others there
 pub insert_keeps : (xs : List ℕ) (k w : ℕ) → Contains xs w → Contains (insert_key nat_cmp xs k) w
@@ -111,3 +122,71 @@ insert_cases (x ∷ xs) k w has =
       ]
     ] in
     at_place has
+
+-- ---- those of ascending words that aren't among others
+
+-- what a search finds is there
+pub found_there : (some : List ℕ) (w : ℕ) (found : Result ℕ ℕ) → is_err found ≡ false → IsSearchInRange found (length some)
+    → IfOk found (HoldsAt (λ y. nat_cmp y w ≡ Equal) some) → Contains some w
+found_there some w (Ok k) fine within holds = (k, within, exact_unsigned (get_or some k w) w (holds w))
+found_there some w (Err k) fails within holds = absurd (cc)
+
+-- a greater word behind ascending ones
+pub rises_push : (xs : List ℕ) (x : ℕ) → IsStrictlyIncreasing xs → ((w : ℕ) → Contains xs w → w < x) → IsStrictlyIncreasing (xs ++ x ∷ [])
+rises_push [] x rises below k within = absurd (omega (arith, within))
+rises_push (y ∷ []) x rises below zero within = below y (zero, omega arith, refl)
+rises_push (y ∷ []) x rises below (suc k) within = absurd (omega (arith, within))
+rises_push (y ∷ (z ∷ zs)) x rises below zero within = rises zero (omega arith)
+rises_push (y ∷ (z ∷ zs)) x rises below (suc k) within =
+    let next : suc k + 1 ≡ suc (k + 1) = omega arith in
+    let tail : IsStrictlyIncreasing (z ∷ zs) = λ j inside. (let step : suc j + 1 ≡ suc (j + 1) = omega arith in rw step at (rises (suc j) (omega (arith, inside)))) in
+    rw next (rises_push (z ∷ zs) x tail (λ w there. below w (contains_later y (z ∷ zs) w there)) k (omega (arith, within)))
+
+module _ (words : List ℕ) (i : ℕ) (within : i < length words) where
+  -- the words up to one more place
+  pub take_cases : (w : ℕ) → Contains (take (i + 1) words) w → Contains (take i words) w ⊎ (get_or words i 0 ≡ w)
+  take_cases w there = Contains-push_cases (take i words) (get_or words i 0) w (subst (λ xs. Contains xs w) (take_more words i 0 within) there)
+
+  pub take_earlier : (w : ℕ) → Contains (take i words) w → Contains (take (i + 1) words) w
+  take_earlier w there = subst (λ xs. Contains xs w) (sym (take_more words i 0 within)) (contains_before (take i words) (get_or words i 0) w there)
+
+  pub take_here : Contains (take (i + 1) words) (get_or words i 0)
+  take_here = subst (λ xs. Contains xs (get_or words i 0)) (sym (take_more words i 0 within)) (Contains-push (take i words) (get_or words i 0))
+
+  -- earlier ones are below
+  pub below_here : IsStrictlyIncreasing words → (w : ℕ) → Contains (take i words) w → w < get_or words i 0
+  below_here ascending w (k, inside, is) =
+      let before : k < i = omega (arith, inside, length-take i words) in
+      let value : get_or words k 0 ≡ w = sym (get_or-take i words k 0 before) ∙ get_or_default (take i words) k 0 w inside ∙ is in
+      omega (arith, value, AllPairs-from_increasing words ascending k i 0 before within)
+
+  module _ (some new : List ℕ) (covers : Covers (take i words) some new) (part : All (Contains (take i words)) new) where
+    -- the word is one of some
+    pub covers_same : Contains some (get_or words i 0) → Covers (take (i + 1) words) some new
+    covers_same known w there = elim (take_cases w there) [
+      | inl before ↦ covers w before
+      | inr here ↦ inl (subst (Contains some) here known)
+    ]
+
+    pub part_same : All (Contains (take (i + 1) words)) new
+    part_same k d inside = take_earlier (get_or new k d) (part k d inside)
+
+    -- the word comes
+    pub covers_more : Covers (take (i + 1) words) some (new ++ get_or words i 0 ∷ [])
+    covers_more w there = elim (take_cases w there) [
+      | inl before ↦ elim (covers w before) [
+        | inl known ↦ inl known
+        | inr taken ↦ inr (contains_before new (get_or words i 0) w taken)
+      ]
+      | inr here ↦ inr (subst (Contains (new ++ get_or words i 0 ∷ [])) here (Contains-push new (get_or words i 0)))
+    ]
+
+    pub part_more : All (Contains (take (i + 1) words)) (new ++ get_or words i 0 ∷ [])
+    part_more k d inside = elim (Contains-push_cases new (get_or words i 0) _ (Contains-get_or (new ++ get_or words i 0 ∷ []) k d inside)) [
+      | inl before ↦ take_earlier _ (All-contains (Contains (take i words)) new _ part before)
+      | inr here ↦ subst (Contains (take (i + 1) words)) here take_here
+    ]
+
+    pub rises_more : IsStrictlyIncreasing words → IsStrictlyIncreasing new → IsStrictlyIncreasing (new ++ get_or words i 0 ∷ [])
+    rises_more ascending rises =
+        rises_push new (get_or words i 0) rises (λ w there. below_here ascending w (All-contains (Contains (take i words)) new w part there))

@@ -1,4 +1,3 @@
-pub mod PlainClosure
 pub mod Steps
 pub mod Places
 pub mod Search

@@ -24,9 +24,9 @@ request_place wanted = dist_place wanted.dist * 64 + wanted.order
 abbrev pub place_at : ℕ → Request → ℕ
 place_at key wanted = key * 4096 + request_place wanted
 
--- the place of a goal that a node asks for
+-- the place of a request that a node asks for
 abbrev pub place_asked : Key × Request → ℕ
-place_asked goal = place_at goal.0.0 goal.1
+place_asked asked = place_at asked.0.0 asked.1
 
 abbrev pub place_of : KeyParts → Request → ℕ
 place_of group wanted = place_at (key_number group) wanted

@@ -1,36 +1,38 @@
--- What the search knows of the goals that are answered, and of the best plan so far for one more.
+-- What the search knows of the requests that are answered, and of the best plan so far for one more.
 use Rattle.std.specs.Prelude.{ℕ, ◌++◌, slice_get, ◌≡◌, ◌<◌, ◌≤◌, ◌⊎◌, ◌+◌, ◌*◌, ◌^◌, List, [], ◌∷◌, Option, None, Some, nat_lt, if◌then◌else◌, ⊤}
 use Rattle.std.specs.Ordering.{nat_cmp}
 use Rattle.std.specs.BTreeMap.{get}
 use Rattle.std.specs.Option.{option_and_then, option_map_or}
 use Rattle.query_core.specs.Keys.{IsGroup}
-use Rattle.query_core.specs.Expressions.{word_of}
+use Rattle.query_core.specs.Expressions.{expr_of, physical_children}
 use Rattle.query_core.specs.declared.query.Query.{Query}
 use Rattle.query_core.specs.declared.words.Key.{Key}
 use Rattle.query_core.specs.declared.words.KeyParts.{KeyParts}
-use Rattle.query_core.specs.declared.expressions.ExprParts.{ExprParts}
+use Rattle.query_core.specs.declared.expressions.PhysicalExpr.{PhysicalExpr}
 use Rattle.xform_rules.specs.Closure.{IsMember}
 use Rattle.cardinality.specs.Rows.{rows_of}
 use Rattle.cost_units.specs.Cost.{most_cost, most_rows}
 use Rattle.request_props.specs.declared.request.Dist.{Dist}
 use Rattle.request_props.specs.declared.request.Request.{Request}
-use Rattle.plan_space.specs.Numbers.{Fits}
-use Rattle.plan_space.specs.Nodes.{Kind, native, number_of, Tree, leaf, over, two}
+use Rattle.request_props.specs.Fitting.{Fits}
+use Rattle.plan_space.specs.declared.nodes.NodeKind.{NodeKind}
+use Rattle.plan_space.specs.declared.nodes.NodeKind.TheVariants as nodes
+use Rattle.plan_space.specs.Nodes.{number_of, Tree, leaf, over, two}
 use Rattle.plan_space.specs.Cost.{cost_of}
 use Rattle.plan_space.specs.Least.{Serves, IsLeast, HasNoPlan, IsAnswer}
 use Rattle.plan_space.specs.Choices.{Beats, IsEnforcerSettled, IsModeSettled, LacksOne, AreLeast, IsNodeOver, groups_of}
-use Rattle.plan_space.specs.Lines.{Line, line_of}
+use Rattle.plan_space.specs.declared.lines.Line.{Line}
+use Rattle.plan_space.specs.Lines.{line_of}
 use Rattle.plan_space.specs.Alternatives.{IsAlternative, asked_of}
 use Rattle.plan_space.specs.Enforcers.{EnforcedBy, enforcers_of, Among}
 use Rattle.plan_tree.specs.declared.node.Node.{Node}
 use Rattle.plan_search.specs.declared.answers.Answers.{Answers}
-use Rattle.plan_search.specs.declared.physical.Physical.{Physical}
-use Rattle.plan_search.specs.declared.choice.Below.{Below}
+use Rattle.plan_search.specs.declared.native.Native.{Native}
+use Rattle.plan_search.specs.declared.choice.PlansBelow.{PlansBelow}
 use Rattle.plan_search.specs.declared.choice.Choice.{Choice}
 use Rattle.plan_search.specs.declared.choice.Kids.{Kids}
 use Rattle.plan_search.specs.declared.choice.Kids.TheVariants as kids
 use Rattle.plan_tree.specs.Nodes.{IsNode}
-use Rattle.plan_tree.specs.Meanings.{table_line_of}
 use Rattle.plan_tree.specs.Alternatives.{MayGive}
 use Rattle.plan_tree.specs.Costs.{AreRowsOf}
 use Rattle.plan_search.specs.Places.{place_of, place_asked, most_nodes}
@@ -42,7 +44,7 @@ abbrev pub answer_at : Answers → ℕ → Option (Option Choice)
 answer_at answers place = get nat_cmp answers.map place
 
 -- the plan's root at the place is this node
-pub record IsRootAt (answers : Answers) (place : ℕ) (kept : Choice) (node : Kind) : Type 0 where
+pub record IsRootAt (answers : Answers) (place : ℕ) (kept : Choice) (node : NodeKind) : Type 0 where
   pub at : answer_at answers place ≡ Some (Some kept)
   pub is_node : IsNode kept.node node
 
@@ -55,9 +57,9 @@ StandsAt answers place (two node left right) =
     (kept : Choice) × (first second : ℕ) × IsRootAt answers place kept node × (kept.kids ≡ kids.Two first second)
     × (first < place) × (second < place) × StandsAt answers first left × StandsAt answers second right
 
--- ---- goals that are answered
+-- ---- requests that are answered
 
--- the tree that stands at the goal's place is the least for the request, and this is its cost, which fits its number
+-- the tree that stands at the request's place is the least for the request, and this is its cost, which fits its number
 pub record IsKept (q : Query) (answers : Answers) (group : KeyParts) (wanted : Request) (kept : Choice) (tree : Tree) : Type 0 where
   pub stands : StandsAt answers (place_of group wanted) tree
   pub least : IsLeast (IsMember q) q group wanted tree
@@ -82,14 +84,14 @@ AreAnswered q answers bound =
 -- ---- the best plan so far
 
 -- the tree is the node over what stands at these places, which come before the bound
-abbrev pub IsBuilt : Answers → ℕ → Kids → Kind → Tree → Type 0
+abbrev pub IsBuilt : Answers → ℕ → Kids → NodeKind → Tree → Type 0
 IsBuilt answers bound kids.Zero node tree = tree ≡ leaf node
 IsBuilt answers bound (kids.One place) node tree = (kid : Tree) × (place < bound) × StandsAt answers place kid × (tree ≡ over node kid)
 IsBuilt answers bound (kids.Two first second) node tree =
     (left right : Tree) × (first < bound) × (second < bound) × StandsAt answers first left × StandsAt answers second right × (tree ≡ two node left right)
 
 -- the choice is this tree, with its cost, and meets the request
-pub record IsChosen (q : Query) (answers : Answers) (group : KeyParts) (wanted : Request) (choice : Choice) (node : Kind) (tree : Tree) : Type 0 where
+pub record IsChosen (q : Query) (answers : Answers) (group : KeyParts) (wanted : Request) (choice : Choice) (node : NodeKind) (tree : Tree) : Type 0 where
   pub is_node : IsNode choice.node node
   pub built : IsBuilt answers (place_of group wanted) choice.kids node tree
   pub serves : Serves (IsMember q) q group wanted tree
@@ -107,7 +109,7 @@ abbrev pub IsBestSoFar : Query → Answers → KeyParts → Request → Option C
 IsBestSoFar q answers group wanted None None = ⊤
 IsBestSoFar q answers group wanted None (Some tree) = ⊥
 IsBestSoFar q answers group wanted (Some choice) None = ⊥
-IsBestSoFar q answers group wanted (Some choice) (Some tree) = (node : Kind) × IsChosen q answers group wanted choice node tree
+IsBestSoFar q answers group wanted (Some choice) (Some tree) = (node : NodeKind) × IsChosen q answers group wanted choice node tree
 
 -- the choice is the least plan for the request, over what stands at lesser places, or there is none
 abbrev pub IsBest : Query → Answers → KeyParts → Request → Option Choice → Type 0
@@ -136,7 +138,7 @@ Goes q answers group wanted from to Done old new =
     → (after : Option Tree) × IsLater q answers group wanted before to Done new after
 
 -- the node, which costs so much by itself, over the plans below
-abbrev pub choice_over : Node → ℕ → Below → Choice
+abbrev pub choice_over : Node → ℕ → PlansBelow → Choice
 choice_over node local below = record { node = node; cost = local + below.cost; kids = below.kids }
 
 -- of the two the one that costs less, and of equal ones the first
@@ -151,7 +153,7 @@ abbrev pub AreEnforcersSettled : Query → KeyParts → List EnforcedBy → Opti
 AreEnforcersSettled q group enforcers best = (e : EnforcedBy) → Among e enforcers → IsEnforcerSettled (IsMember q) q group e best
 
 -- the modes below the bound are settled
-abbrev pub AreModesSettled : Query → Request → ExprParts → ℕ → Option Tree → Type 0
+abbrev pub AreModesSettled : Query → Request → PhysicalExpr → ℕ → Option Tree → Type 0
 AreModesSettled q wanted e bound best = (mode : ℕ) → mode < bound → IsModeSettled (IsMember q) q wanted e mode best
 
 -- the plan at a place, if there is one
@@ -159,32 +161,32 @@ abbrev pub kept_at : Answers → ℕ → Option Choice
 kept_at answers place = option_and_then (λ answer. answer) (answer_at answers place)
 
 -- some child has no plan for what is asked of it
-abbrev pub IsLacking : Query → Request → ExprParts → ℕ → Type 0
-IsLacking q wanted e mode = (line : Line) → IsAlternative q e wanted mode line → LacksOne (IsMember q) q (groups_of e.children) (asked_of line wanted)
+abbrev pub IsLacking : Query → Request → PhysicalExpr → ℕ → Type 0
+IsLacking q wanted e mode = (line : Line) → IsAlternative q e wanted mode line → LacksOne (IsMember q) q (groups_of (physical_children e.operator)) (asked_of line wanted)
 
 -- the choice is the expression in this mode over least plans
-abbrev pub IsMade : Query → Answers → Request → ExprParts → ℕ → Choice → Type 0
+abbrev pub IsMade : Query → Answers → Request → PhysicalExpr → ℕ → Choice → Type 0
 IsMade q answers wanted e mode choice =
-    (tree : Tree) × IsChosen q answers e.group wanted choice (native e mode) tree
+    (tree : Tree) × IsChosen q answers e.group wanted choice (nodes.Native e mode) tree
     × ((line : Line) → IsAlternative q e wanted mode line
-    → (kids : List Tree) × AreLeast (IsMember q) q (groups_of e.children) (asked_of line wanted) kids × IsNodeOver (native e mode) kids tree)
+    → (kids : List Tree) × AreLeast (IsMember q) q (groups_of (physical_children e.operator)) (asked_of line wanted) kids × IsNodeOver (nodes.Native e mode) kids tree)
 
 -- the cost of the plan at a place, or 0
 abbrev pub cost_at : Answers → ℕ → ℕ
 cost_at answers place = option_map_or (λ kept. kept.cost) (kept_at answers place) 0
 
 -- what is below is the plan at the place
-abbrev pub IsPlanAt : Answers → ℕ → Below → Type 0
+abbrev pub IsPlanAt : Answers → ℕ → PlansBelow → Type 0
 IsPlanAt answers place below = (kept : Choice) × (kept_at answers place ≡ Some kept) × (below ≡ record { kids = kids.One place; cost = kept.cost })
 
 -- what is below is the plans at the two places
-abbrev pub ArePlansAt : Answers → ℕ → ℕ → Below → Type 0
+abbrev pub ArePlansAt : Answers → ℕ → ℕ → PlansBelow → Type 0
 ArePlansAt answers first second below =
     (left right : Choice) × (kept_at answers first ≡ Some left) × (kept_at answers second ≡ Some right)
     × (below ≡ record { kids = kids.Two first second; cost = left.cost + right.cost })
 
--- what is below is the plans at the goals that a node asks for, none where it asks for none of a left child
-abbrev pub AreFound : Answers → Option (Key × Request) → Option (Key × Request) → Below → Type 0
+-- what is below is the plans at the requests that a node asks for, none where it asks for none of a left child
+abbrev pub AreFound : Answers → Option (Key × Request) → Option (Key × Request) → PlansBelow → Type 0
 AreFound answers None right below = below ≡ record { kids = kids.Zero; cost = 0 }
 AreFound answers (Some left) None below = IsPlanAt answers (place_asked left) below
 AreFound answers (Some left) (Some right) below = ArePlansAt answers (place_asked left) (place_asked right) below
@@ -193,13 +195,13 @@ AreFound answers (Some left) (Some right) below = ArePlansAt answers (place_aske
 abbrev pub IsOneMissing : Answers → ℕ → ℕ → Type 0
 IsOneMissing answers first second = (kept_at answers first ≡ None) ⊎ (kept_at answers second ≡ None)
 
--- no plan stands at one of the goals that a node asks for
+-- no plan stands at one of the requests that a node asks for
 abbrev pub IsMissing : Answers → Option (Key × Request) → Option (Key × Request) → Type 0
 IsMissing answers None right = ⊥
 IsMissing answers (Some left) None = kept_at answers (place_asked left) ≡ None
 IsMissing answers (Some left) (Some right) = IsOneMissing answers (place_asked left) (place_asked right)
 
--- what the plans at the goals that a node asks for cost together
+-- what the plans at the requests that a node asks for cost together
 abbrev pub asked_cost : Answers → Option (Key × Request) → Option (Key × Request) → ℕ
 asked_cost answers None right = 0
 asked_cost answers (Some left) None = cost_at answers (place_asked left)
@@ -208,90 +210,86 @@ asked_cost answers (Some left) (Some right) = cost_at answers (place_asked left)
 -- ---- expressions in modes
 
 -- the number of an expression in a mode
-abbrev pub mode_number : Physical → ℕ
-mode_number p = number_of (native p.expr p.mode)
+abbrev pub mode_number : Native → ℕ
+mode_number p = number_of (nodes.Native p.expr p.mode)
 
 -- a member of the group in one of its few modes, with its line there, and its rows
-pub record IsPhysical (q : Query) (group : KeyParts) (p : Physical) : Type 0 where
-  pub member : IsMember q p.expr
+pub record IsNative (q : Query) (group : KeyParts) (p : Native) : Type 0 where
+  pub member : IsMember q (expr_of p.expr)
   pub of_group : p.expr.group ≡ group
-  pub line : line_of q p.expr p.mode ≡ Some (table_line_of p.line)
+  pub line : line_of q p.expr p.mode ≡ Some p.line
   pub rows : AreRowsOf q p.expr p.rows
   pub few : p.mode < 192
   pub small : mode_number p + 1 ≤ 2 ^ 57
 
 -- so is each of the list
-abbrev pub ArePhysical : Query → KeyParts → List Physical → Type 0
-ArePhysical q group [] = ⊤
-ArePhysical q group (p ∷ ps) = IsPhysical q group p × ArePhysical q group ps
+abbrev pub AreNative : Query → KeyParts → List Native → Type 0
+AreNative q group [] = ⊤
+AreNative q group (p ∷ ps) = IsNative q group p × AreNative q group ps
 
 -- the numbers rise, from the bound on
-abbrev pub RisesFrom : ℕ → List Physical → Type 0
+abbrev pub RisesFrom : ℕ → List Native → Type 0
 RisesFrom bound [] = ⊤
 RisesFrom bound (p ∷ ps) = (bound ≤ mode_number p) × RisesFrom (mode_number p + 1) ps
 
 -- the number of the first, or one that is above all
-abbrev pub next_number : List Physical → ℕ
+abbrev pub next_number : List Native → ℕ
 next_number [] = 2 ^ 57
 next_number (p ∷ ps) = mode_number p
 
 -- it is one of the list
-abbrev pub IsIn : Physical → List Physical → Type 0
+abbrev pub IsIn : Native → List Native → Type 0
 IsIn p [] = ⊥
 IsIn p (first ∷ others) = (p ≡ first) ⊎ IsIn p others
 
 -- each of the list is settled
-abbrev pub AreSettledIn : Query → Request → List Physical → Option Tree → Type 0
-AreSettledIn q wanted list best = (p : Physical) → IsIn p list → IsModeSettled (IsMember q) q wanted p.expr p.mode best
+abbrev pub AreSettledIn : Query → Request → List Native → Option Tree → Type 0
+AreSettledIn q wanted list best = (p : Native) → IsIn p list → IsModeSettled (IsMember q) q wanted p.expr p.mode best
 
 -- the expression in this mode is one of the list
-abbrev pub HasMode : ExprParts → ℕ → List Physical → Type 0
-HasMode e mode list = (p : Physical) × IsIn p list × (p.expr ≡ e) × (p.mode ≡ mode)
+abbrev pub HasMode : PhysicalExpr → ℕ → List Native → Type 0
+HasMode e mode list = (p : Native) × IsIn p list × (p.expr ≡ e) × (p.mode ≡ mode)
 
 -- members of the group in all modes in which they have a line, by their numbers
-pub record AreListed (q : Query) (group : KeyParts) (list : List Physical) : Type 0 where
-  pub are : ArePhysical q group list
+pub record AreListed (q : Query) (group : KeyParts) (list : List Native) : Type 0 where
+  pub are : AreNative q group list
   pub rises : RisesFrom (2 ^ 56) list
-  pub complete : (e : ExprParts) (mode : ℕ) (line : Line) → IsMember q e → e.group ≡ group → line_of q e mode ≡ Some line → HasMode e mode list
+  pub complete : (e : PhysicalExpr) (mode : ℕ) (line : Line) → IsMember q (expr_of e) → e.group ≡ group → line_of q e mode ≡ Some line → HasMode e mode list
 
 -- those of them whose lines may give the distribution
-pub record AreListedFor (q : Query) (group : KeyParts) (dist : Dist) (list : List Physical) : Type 0 where
-  pub are : ArePhysical q group list
+pub record AreListedFor (q : Query) (group : KeyParts) (dist : Dist) (list : List Native) : Type 0 where
+  pub are : AreNative q group list
   pub rises : RisesFrom (2 ^ 56) list
-  pub complete : (e : ExprParts) (mode : ℕ) (line : Line) → IsMember q e → e.group ≡ group → line_of q e mode ≡ Some line → MayGive line dist → HasMode e mode list
+  pub complete : (e : PhysicalExpr) (mode : ℕ) (line : Line) → IsMember q (expr_of e) → e.group ≡ group → line_of q e mode ≡ Some line → MayGive q line dist → HasMode e mode list
 
 -- those of the list whose lines may give the distribution, in the same order
-abbrev pub AreThoseFor : Dist → List Physical → List Physical → Type 0
-AreThoseFor dist [] those = those ≡ []
-AreThoseFor dist (p ∷ ps) those =
-    (MayGive (table_line_of p.line) dist × ((rest : List Physical) × AreThoseFor dist ps rest × (those ≡ p ∷ rest)))
-    ⊎ ((MayGive (table_line_of p.line) dist → ⊥) × AreThoseFor dist ps those)
+abbrev pub AreThoseFor : Query → Dist → List Native → List Native → Type 0
+AreThoseFor q dist [] those = those ≡ []
+AreThoseFor q dist (p ∷ ps) those =
+    (MayGive q p.line dist × ((rest : List Native) × AreThoseFor q dist ps rest × (those ≡ p ∷ rest)))
+    ⊎ ((MayGive q p.line dist → ⊥) × AreThoseFor q dist ps those)
 
 -- the expression in a mode below the bound, with its line there, and its rows
-pub record IsInMode (q : Query) (e : ExprParts) (bound : ℕ) (p : Physical) : Type 0 where
+pub record IsInMode (q : Query) (e : PhysicalExpr) (bound : ℕ) (p : Native) : Type 0 where
   pub expr : p.expr ≡ e
   pub below : p.mode < bound
-  pub line : line_of q e p.mode ≡ Some (table_line_of p.line)
+  pub line : line_of q e p.mode ≡ Some p.line
   pub rows : AreRowsOf q e p.rows
 
 -- so is each of the list
-abbrev pub AreInModes : Query → ExprParts → ℕ → List Physical → Type 0
+abbrev pub AreInModes : Query → PhysicalExpr → ℕ → List Native → Type 0
 AreInModes q e bound [] = ⊤
 AreInModes q e bound (p ∷ ps) = IsInMode q e bound p × AreInModes q e bound ps
 
 -- the expression in all modes below the bound in which it has a line, by their numbers
-pub record AreModesOf (q : Query) (e : ExprParts) (bound : ℕ) (list : List Physical) : Type 0 where
+pub record AreModesOf (q : Query) (e : PhysicalExpr) (bound : ℕ) (list : List Native) : Type 0 where
   pub are : AreInModes q e bound list
-  pub rises : RisesFrom (number_of (native e 0)) list
+  pub rises : RisesFrom (number_of (nodes.Native e 0)) list
   pub complete : (mode : ℕ) (line : Line) → mode < bound → line_of q e mode ≡ Some line → HasMode e mode list
 
 -- the expression in all its modes comes behind the list
-abbrev pub AddsModes : Query → ExprParts → List Physical → List Physical → Type 0
-AddsModes q e old new = (modes : List Physical) × AreModesOf q e 192 modes × (new ≡ old ++ modes)
-
--- the word is that of a member of the group
-abbrev pub IsMemberWordOf : Query → KeyParts → ℕ → Type 0
-IsMemberWordOf q group word = (e : ExprParts) × IsMember q e × (e.group ≡ group) × (word_of e ≡ word)
+abbrev pub AddsModes : Query → PhysicalExpr → List Native → List Native → Type 0
+AddsModes q e old new = (modes : List Native) × AreModesOf q e 192 modes × (new ≡ old ++ modes)
 
 -- ---- enforcers
 
@@ -302,7 +300,7 @@ pub record HasRows (q : Query) (group : KeyParts) (rows : ℕ) : Type 0 where
 
 -- the number of the n-th enforcer for the request, or one that is above all
 abbrev pub enforcer_number : Request → ℕ → ℕ
-enforcer_number wanted n = option_map_or (λ e. number_of e.node) (slice_get (enforcers_of wanted) n) (2 ^ 56)
+enforcer_number wanted n = option_map_or (λ e. number_of (nodes.Enforcer e.node)) (slice_get (enforcers_of wanted) n) (2 ^ 56)
 
 -- the n-th enforcer for the request is settled, if there are so many
 abbrev pub IsPlaceSettled : Query → KeyParts → Request → ℕ → Option Tree → Type 0
@@ -311,11 +309,11 @@ IsPlaceSettled q group wanted n best = (e : EnforcedBy) → slice_get (enforcers
 -- ---- how the best so far goes on
 
 -- over a member in its mode
-abbrev pub GoesOver : Query → Answers → Physical → Request → Option Choice → Option Choice → Type 0
+abbrev pub GoesOver : Query → Answers → Native → Request → Option Choice → Option Choice → Type 0
 GoesOver q answers p wanted old new = Goes q answers p.expr.group wanted (mode_number p) (mode_number p + 1) (IsModeSettled (IsMember q) q wanted p.expr p.mode) old new
 
 -- over the members of the group in their modes
-abbrev pub GoesOverAll : Query → Answers → KeyParts → Request → List Physical → Option Choice → Option Choice → Type 0
+abbrev pub GoesOverAll : Query → Answers → KeyParts → Request → List Native → Option Choice → Option Choice → Type 0
 GoesOverAll q answers group wanted list old new = Goes q answers group wanted (2 ^ 56) (2 ^ 57) (AreSettledIn q wanted list) old new
 
 -- over the n-th enforcer for the request, if there are so many

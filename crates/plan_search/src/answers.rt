@@ -1,4 +1,4 @@
-//! The answers to goals, by their places.
+//! The answers to requests, by their places.
 #![tactic(auto)]
 
 ghost use Rattle.std.specs.Prelude.{◌≡◌, Some, OnOk};

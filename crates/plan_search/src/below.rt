@@ -7,17 +7,17 @@ ghost use Rattle.plan_search.specs.Search.{kept_at, cost_at, asked_cost, AreFoun
 ghost use Rattle.plan_search.specs.Search.{IsPlanAt};
 
 use crate::answers::Answers;
-use crate::choice::{Below, Kids};
+use crate::choice::{Kids, PlansBelow};
 use crate::places::place_at;
 use query_core::Key;
 use request_props::Request;
 
-/// The plans that stand at the goals that are asked for, if they are there.
+/// The plans that stand at the requests that are asked for, if they are there.
 pub fn plans_below(
     answers: &Answers,
     left: Option<(Key, Request)>,
     right: Option<(Key, Request)>,
-) -> Option<Below>
+) -> Option<PlansBelow>
     requires small { asked_cost answers.now left right ≤ most_of_all }
     ensures found { MatchOption result (IsMissing answers.now left right)
         (AreFound answers.now left right) }
@@ -26,30 +26,30 @@ pub fn plans_below(
     match (left, right) {
         (Some(left), Some(right)) => two_plans(answers, left, right),
         (Some(left), None) => one_plan(answers, left),
-        (None, _) => Some(Below {
+        (None, _) => Some(PlansBelow {
             kids: Kids::Zero,
             cost: 0,
         }),
     }
 }
 
-/// The plan that stands at the goal, if there is one.
-pub fn one_plan(answers: &Answers, goal: (Key, Request)) -> Option<Below>
-    requires small { cost_at answers.now (place_asked goal) ≤ most_of_all }
-    ensures found { MatchOption result (kept_at answers.now (place_asked goal) ≡ None)
-        (IsPlanAt answers.now (place_asked goal)) }
+/// The plan that stands at the request, if there is one.
+pub fn one_plan(answers: &Answers, asked: (Key, Request)) -> Option<PlansBelow>
+    requires small { cost_at answers.now (place_asked asked) ≤ most_of_all }
+    ensures found { MatchOption result (kept_at answers.now (place_asked asked) ≡ None)
+        (IsPlanAt answers.now (place_asked asked)) }
     ensures small { IfSome result (λ below. below.cost ≤ most_of_all) }
 {
-    let place = place_at(goal.0, goal.1);
+    let place = place_at(asked.0, asked.1);
     let kept = answers.kept(place)?;
-    Some(Below {
+    Some(PlansBelow {
         kids: Kids::One(place),
         cost: kept.cost,
     })
 }
 
-/// The two plans that stand at the goals, if both are there.
-fn two_plans(answers: &Answers, left: (Key, Request), right: (Key, Request)) -> Option<Below>
+/// The two plans that stand at the requests, if both are there.
+fn two_plans(answers: &Answers, left: (Key, Request), right: (Key, Request)) -> Option<PlansBelow>
     requires small { cost_at answers.now (place_asked left) +
         cost_at answers.now (place_asked right) ≤ most_of_all }
     ensures found { MatchOption result
@@ -60,7 +60,7 @@ fn two_plans(answers: &Answers, left: (Key, Request), right: (Key, Request)) -> 
     let (first, second) = (place_at(left.0, left.1), place_at(right.0, right.1));
     let a = answers.kept(first)?;
     let b = answers.kept(second)?;
-    Some(Below {
+    Some(PlansBelow {
         kids: Kids::Two(first, second),
         cost: a.cost + b.cost,
     })

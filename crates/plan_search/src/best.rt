@@ -1,18 +1,18 @@
-//! The least plan for one goal, from those of the goals that it stands on.
+//! The least plan for one request of a group, from those of the requests that it stands on.
 #![tactic(auto)]
 
 ghost use Rattle.std.specs.Prelude.{◌+◌, OnOk};
 ghost use Rattle.query_core.specs.Keys.{IsGroup};
 ghost use Rattle.request_props.specs.Numbered.{IsProps};
-ghost use Rattle.plan_space.specs.Numbers.{Fits};
+ghost use Rattle.request_props.specs.Fitting.{Fits};
 ghost use Rattle.plan_search.specs.Places.{place_of};
 ghost use Rattle.plan_search.specs.Search.{AreAnswered, AreListedFor, HasRows, IsBest};
 
 use crate::answers::Answers;
 use crate::choice::Choice;
 use crate::enforcers::try_enforcers;
+use crate::native::Native;
 use crate::natives::{Search, try_all};
-use crate::physical::Physical;
 use crate::places::place_at;
 use plan_space::settled_is_least;
 use query_core::{Key, KeyParts, Query, expressions_are_one, groups_are_known};
@@ -23,7 +23,7 @@ use std::alloc::AllocError;
 pub fn answer(
     query: &Query,
     props: &Props,
-    list: &[Physical],
+    list: &[Native],
     group: KeyParts,
     rows: u64,
     wanted: Request,
@@ -37,7 +37,7 @@ pub fn answer(
     requires answered { AreAnswered query.now answers.now (place_of group wanted) }
     ensures { OnOk result (AreAnswered query.now answers.new (place_of group wanted + 1)) }
 {
-    // For the proof: each goal has a place of its own.
+    // For the proof: each request of a group has a place of its own.
     groups_are_known();
     expressions_are_one();
     let best = find(query, props, list, group, rows, wanted, answers);
@@ -48,7 +48,7 @@ pub fn answer(
 fn find(
     query: &Query,
     props: &Props,
-    list: &[Physical],
+    list: &[Native],
     group: KeyParts,
     rows: u64,
     wanted: Request,

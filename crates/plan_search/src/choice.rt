@@ -18,12 +18,12 @@ pub enum Kids {
 
 /// The plans below a node: where they stand, and what they cost together.
 #[derive(Clone, Copy, Debug, PartialEq, Eq)]
-pub struct Below {
+pub struct PlansBelow {
     pub kids: Kids,
     pub cost: u64,
 }
 
-impl Below {
+impl PlansBelow {
     /// The node, which costs so much by itself, over these plans.
     pub fn under(self, node: Node, local: u64) -> Choice
         requires local { local ≤ most_cost }

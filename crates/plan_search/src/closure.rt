@@ -1,30 +1,25 @@
-//! The words of all members, by passes that add each step from the words so far.
+//! The words of all members, by passes that add the steps from what is new.
 #![tactic(auto)]
 
-ghost use Rattle.std.specs.Prelude.{◌≡◌, ◌<◌, ◌^◌, IfOk, OnOk, IfSome, length};
-ghost use Rattle.std.specs.List.{All};
+ghost use Rattle.std.specs.Prelude.{◌≡◌, ℕ, IfOk, OnOk, IfSome, MatchOption};
+ghost use Rattle.std.specs.List.{All, Contains};
 ghost use Rattle.std.specs.List.Sorted.{IsStrictlyIncreasing};
 ghost use Rattle.query_core.specs.declared.expressions.ExprParts.{ExprParts};
-ghost use Rattle.query_core.specs.declared.query.Query.{Query};
 ghost use Rattle.query_core.specs.Keys.{root_of};
-ghost use Rattle.query_core.specs.Expressions.{word_of, origin_of, IsChild, IsPacked};
-ghost use Rattle.xform_rules.specs.declared.rules.Rule.{Rule};
-ghost use Rattle.xform_rules.specs.Rules.{rule_number};
+ghost use Rattle.query_core.specs.Expressions.{word_of, children_of, origin_of, IsChild};
+ghost use Rattle.query_core.specs.declared.words.KeyParts.{KeyParts};
+ghost use Rattle.xform_rules.specs.Forms.{IsLeftSide};
 ghost use Rattle.xform_rules.specs.Results.{HasResult};
-ghost use Rattle.xform_rules.specs.Closure.{IsMember};
-ghost use Rattle.plan_search.specs.PlainClosure.{IsMemberWord, IsClosureOf};
-ghost use Rattle.plan_search.specs.Steps.{Grows, IsFound, HasOrigins, HasResultsOf};
-ghost use Rattle.plan_search.specs.Steps.{HasAllResults, HasAllResultsWith, HasSteps, AreSteps};
+ghost use Rattle.xform_rules.specs.Closure.{IsMember, IsMemberWord, IsClosureOf};
+ghost use Rattle.plan_search.specs.Steps.{Grows, ContainsWordOf, HasOrigins, HasResultsOf, HasResults};
+ghost use Rattle.plan_search.specs.Steps.{HasBoundResults, HasSteps, AreSteps, AreBoundSteps, Covers};
 
-use crate::members::members_of;
 use crate::word_set::WordSet;
 use orca_base::List;
-use query_core::{
-    Children, Expr, ExprParts, KeyParts, Query, candidates_are_known, expressions_are_one,
-};
+use query_core::{Children, Expr, ExprParts, KeyParts, Logical, Operator, Query};
 use std::alloc::{AllocError, Global};
 use xform_rules::{
-    Rule, applies_at, members_are_candidates, result_at, results_are_candidates, rule_of,
+    Rule, members_are_known, result_at, results_are_candidates, results_are_known, words_of,
 };
 
 /// The words of all members of the query's groups, ascending.
@@ -32,38 +27,119 @@ pub fn plain_closure(alloc: Global, query: &Query) -> Result<List<u64>, AllocErr
     ensures { IfOk result (IsClosureOf query.now) }
 {
     // For the proof: there are no more words than numbers of 48 bits.
-    members_have_words();
+    members_are_known();
     let mut found = WordSet::new(alloc);
+    let mut done = Vec::new(alloc);
     add_root(query, &mut found)?;
     loop {
         let words = found.words(alloc)?;
-        add_all_steps(query, &words, &mut found)?;
+        add_new_steps(alloc, query, &words, &done, &mut found)?;
         if found.len() == words.len() {
             return Ok(List::of(words));
         }
+        done = words;
     }
+}
+
+/// Adds what is left to add of the steps from the words, where those from some, among these, are
+/// found.
+fn add_new_steps(
+    alloc: Global,
+    query: &Query,
+    words: &[u64],
+    done: &[u64],
+    found: &mut WordSet,
+) -> Result<(), AllocError>
+    requires members { All (IsMemberWord query.now) words.now }
+    requires ascending { IsStrictlyIncreasing words.now }
+    requires done { AreSteps query.now done.now done.now found.now }
+    ensures grows { OnOk result (Grows query.now found.old found.new) }
+    ensures steps { OnOk result (AreSteps query.now words.now words.now found.new) }
+{
+    let new = others(alloc, words, done)?;
+    add_all_steps(query, words, &new, found)?;
+    add_all_bound_results(query, words, &new, found)
+}
+
+/// Those of the words that aren't among some.
+fn others(alloc: Global, words: &[u64], some: &[u64]) -> Result<Vec<u64>, AllocError>
+    requires { IsStrictlyIncreasing words.now }
+    ensures covers { IfOk result (λ new. Covers words.now some.now new.items) }
+    ensures part { IfOk result (λ new. All (Contains words.now) new.items) }
+    ensures ascending { IfOk result (λ new. IsStrictlyIncreasing new.items) }
+{
+    let mut new = Vec::new(alloc);
+    for word in words {
+        if some.binary_search(word).is_err() {
+            new.push(*word)?;
+        }
+    }
+    Ok(new)
 }
 
 /// Adds the expression with which the root begins.
 fn add_root(query: &Query, found: &mut WordSet) -> Result<(), AllocError>
     ensures grows { OnOk result (Grows query.now found.old found.new) }
-    ensures root { OnOk result (IsFound found.new (origin_of query.now (root_of query.now))) }
+    ensures root { OnOk result (ContainsWordOf found.new (origin_of query.now (root_of query.now))) }
 {
     let root = query.group(query.root());
     add(query, query.origin_of_group(root), found)
 }
 
-/// Adds each step from the words.
-fn add_all_steps(query: &Query, words: &[u64], found: &mut WordSet) -> Result<(), AllocError>
+/// Adds each step from the new words, where members among the words are bound.
+fn add_all_steps(
+    query: &Query,
+    words: &[u64],
+    new: &[u64],
+    found: &mut WordSet,
+) -> Result<(), AllocError>
     requires members { All (IsMemberWord query.now) words.now }
     requires ascending { IsStrictlyIncreasing words.now }
+    requires new { All (IsMemberWord query.now) new.now }
     ensures grows { OnOk result (Grows query.now found.old found.new) }
-    ensures steps { OnOk result (AreSteps query.now words.now (length words.now) found.new) }
+    ensures steps { OnOk result (AreSteps query.now words.now new.now found.new) }
 {
-    for word in words {
+    for word in new {
         add_steps(query, words, Expr(*word), found)?;
     }
     Ok(())
+}
+
+/// Adds each result at the words with a bound member among the new ones.
+fn add_all_bound_results(
+    query: &Query,
+    words: &[u64],
+    new: &[u64],
+    found: &mut WordSet,
+) -> Result<(), AllocError>
+    requires members { All (IsMemberWord query.now) words.now }
+    requires ascending { IsStrictlyIncreasing new.now }
+    requires new { All (IsMemberWord query.now) new.now }
+    ensures grows { OnOk result (Grows query.now found.old found.new) }
+    ensures results { OnOk result (AreBoundSteps query.now new.now words.now found.new) }
+{
+    for word in words {
+        add_bound_results_at(query, new, Expr(*word), found)?;
+    }
+    Ok(())
+}
+
+/// Adds each result at one word with a bound member among the words.
+fn add_bound_results_at(
+    query: &Query,
+    words: &[u64],
+    expr: Expr,
+    found: &mut WordSet,
+) -> Result<(), AllocError>
+    requires member { IsMemberWord query.now expr.0 }
+    requires members { All (IsMemberWord query.now) words.now }
+    requires ascending { IsStrictlyIncreasing words.now }
+    ensures grows { OnOk result (Grows query.now found.old found.new) }
+    ensures results { OnOk result ((e : ExprParts) → IsMember query.now e →
+        word_of e ≡ expr.0 → HasBoundResults query.now words.now e found.new) }
+{
+    let e = member_of(query, expr);
+    add_bound_results(query, words, e, found)
 }
 
 /// Adds each step from one word, where members among the words are bound.
@@ -82,7 +158,7 @@ fn add_steps(
 {
     let e = member_of(query, expr);
     add_origins(query, e, found)?;
-    add_results(query, e, found)?;
+    add_results(query, e, None, found)?;
     add_bound_results(query, words, e, found)
 }
 
@@ -92,7 +168,7 @@ fn add_origins(query: &Query, e: ExprParts, found: &mut WordSet) -> Result<(), A
     ensures grows { OnOk result (Grows query.now found.old found.new) }
     ensures origins { OnOk result (HasOrigins query.now e found.new) }
 {
-    match e.children {
+    match e.children() {
         Children::Zero => Ok(()),
         Children::One(child) => add_origin(query, e, child, found),
         Children::Two(left, right) => {
@@ -110,58 +186,71 @@ fn add_origin(
     found: &mut WordSet,
 ) -> Result<(), AllocError>
     requires member { IsMember query.now e }
-    requires child { IsChild e.children child }
+    requires child { IsChild (children_of e.operator) child }
     ensures grows { OnOk result (Grows query.now found.old found.new) }
-    ensures there { OnOk result (IsFound found.new (origin_of query.now child)) }
+    ensures there { OnOk result (ContainsWordOf found.new (origin_of query.now child)) }
 {
     add(query, query.origin_of_group(child), found)
 }
 
-/// Adds each result of the rules that bind no member.
-fn add_results(query: &Query, e: ExprParts, found: &mut WordSet) -> Result<(), AllocError>
-    requires { IsMember query.now e }
+/// Adds each result of the rules, with this bound member or without one.
+fn add_results(
+    query: &Query,
+    e: ExprParts,
+    bound: Option<ExprParts>,
+    found: &mut WordSet,
+) -> Result<(), AllocError>
+    requires member { IsMember query.now e }
+    requires bound { IfSome bound (IsMember query.now) }
     ensures grows { OnOk result (Grows query.now found.old found.new) }
-    ensures results { OnOk result (HasAllResults query.now e found.new) }
+    ensures results { OnOk result (HasResults query.now e bound found.new) }
 {
-    for number in 1..15 {
-        add_results_at(query, number, e, found)?;
+    let rules = Rule::all();
+    for rule in &rules {
+        add_results_by(query, *rule, e, bound, found)?;
     }
     Ok(())
 }
 
-/// Adds each result of the rule of this number, where no member is bound.
-fn add_results_at(
+/// Adds each result of one rule, where it binds a member as there is one, or none as there is none.
+fn add_results_by(
     query: &Query,
-    number: u32,
+    rule: Rule,
     e: ExprParts,
+    bound: Option<ExprParts>,
     found: &mut WordSet,
 ) -> Result<(), AllocError>
-    requires { IsMember query.now e }
+    requires member { IsMember query.now e }
+    requires bound { IfSome bound (IsMember query.now) }
     ensures grows { OnOk result (Grows query.now found.old found.new) }
-    ensures results { OnOk result ((rule : Rule) → rule_number rule ≡ number →
-        HasResultsOf query.now e rule found.new) }
+    ensures results { OnOk result (HasResultsOf query.now e bound rule found.new) }
 {
-    match rule_of(number) {
-        Some(rule) => add_results_of(query, rule, e, found),
-        None => Ok(()),
+    // For the proof: else it has no results.
+    results_are_known();
+    if rule.binds() == bound.is_some() {
+        add_results_of(query, rule, e, bound, found)
+    } else {
+        Ok(())
     }
 }
 
-/// Adds each result of one rule, where no member is bound.
+/// Adds each result of one rule, by their numbers.
 fn add_results_of(
     query: &Query,
     rule: Rule,
     e: ExprParts,
+    bound: Option<ExprParts>,
     found: &mut WordSet,
 ) -> Result<(), AllocError>
-    requires { IsMember query.now e }
+    requires member { IsMember query.now e }
+    requires bound { IfSome bound (IsMember query.now) }
     ensures grows { OnOk result (Grows query.now found.old found.new) }
-    ensures results { OnOk result (HasResultsOf query.now e rule found.new) }
+    ensures results { OnOk result (HasResultsOf query.now e bound rule found.new) }
 {
     // For the proof: it has no more results.
     results_are_candidates();
     for n in 0..rule.limit() {
-        add_result(query, rule, e, None, n, found)?;
+        add_result(query, rule, e, bound, n, found)?;
     }
     Ok(())
 }
@@ -177,15 +266,24 @@ fn add_bound_results(
     requires members { All (IsMemberWord query.now) words.now }
     requires ascending { IsStrictlyIncreasing words.now }
     ensures grows { OnOk result (Grows query.now found.old found.new) }
-    ensures results { OnOk result (HasAllResultsWith query.now words.now e found.new) }
+    ensures results { OnOk result (HasBoundResults query.now words.now e found.new) }
 {
-    // For the proof: the keys of children fit a word.
-    members_have_words();
-    match e.children {
-        Children::Two(left, _) if applies_at(query, Rule::JoinAssociate, e) => {
-            add_results_with_each(query, members_of(words, left), e, found)
-        }
-        _ => Ok(()),
+    // For the proof: a bound member is one of the left group, whose key fits a word.
+    results_are_known();
+    members_are_known();
+    match left_side(e) {
+        Some(left) => add_results_with_each(query, words_of(words, left), e, found),
+        None => Ok(()),
+    }
+}
+
+/// The left group of a logical join.
+fn left_side(e: ExprParts) -> Option<KeyParts>
+    ensures { MatchOption result ((left : KeyParts) → IsLeftSide e left → ⊥) (IsLeftSide e) }
+{
+    match e.operator {
+        Operator::Logical(Logical::Join(left, _)) => Some(left),
+        _ => None,
     }
 }
 
@@ -199,11 +297,11 @@ fn add_results_with_each(
     requires member { IsMember query.now e }
     requires members { All (IsMemberWord query.now) members.now }
     ensures grows { OnOk result (Grows query.now found.old found.new) }
-    ensures results { OnOk result (HasAllResultsWith query.now members.now e found.new) }
+    ensures results { OnOk result (HasBoundResults query.now members.now e found.new) }
 {
     for word in members {
         let bound = member_of(query, Expr(*word));
-        add_result(query, Rule::JoinAssociate, e, Some(bound), 0, found)?;
+        add_results(query, e, Some(bound), found)?;
     }
     Ok(())
 }
@@ -221,10 +319,10 @@ fn add_result(
     requires bound { IfSome bound (IsMember query.now) }
     ensures grows { OnOk result (Grows query.now found.old found.new) }
     ensures there { OnOk result ((other : ExprParts) →
-        HasResult query.now rule e bound n other → IsFound found.new other) }
+        HasResult query.now rule e bound n other → ContainsWordOf found.new other) }
 {
     // For the proof: members have words, and a number is that of one result.
-    members_have_words();
+    members_are_known();
     results_are_candidates();
     match result_at(query, rule, e, bound, n) {
         Some(other) => add(query, other, found),
@@ -236,10 +334,10 @@ fn add_result(
 fn add(query: &Query, e: ExprParts, found: &mut WordSet) -> Result<(), AllocError>
     requires { IsMember query.now e }
     ensures grows { OnOk result (Grows query.now found.old found.new) }
-    ensures there { OnOk result (IsFound found.new e) }
+    ensures there { OnOk result (ContainsWordOf found.new e) }
 {
     // For the proof: each member has a word.
-    members_have_words();
+    members_are_known();
     found.insert(Expr::make(e).0)
 }
 
@@ -251,16 +349,6 @@ fn member_of(query: &Query, expr: Expr) -> ExprParts
         e ≡ result }
 {
     // For the proof: each member has a word.
-    members_have_words();
+    members_are_known();
     expr.known_parts()
-}
-
-/// What the words of members have in common.
-fn members_have_words()
-    ensures packed { (q : Query) (e : ExprParts) → IsMember q e → IsPacked e }
-    ensures small { (q : Query) (e : ExprParts) → IsMember q e → word_of e < 2 ^ 48 }
-{
-    members_are_candidates();
-    candidates_are_known();
-    expressions_are_one();
 }

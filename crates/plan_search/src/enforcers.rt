@@ -3,7 +3,7 @@
 
 ghost use Rattle.query_core.specs.Keys.{IsGroup};
 ghost use Rattle.request_props.specs.Numbered.{IsProps};
-ghost use Rattle.plan_space.specs.Numbers.{Fits};
+ghost use Rattle.request_props.specs.Fitting.{Fits};
 ghost use Rattle.plan_search.specs.Places.{place_of};
 ghost use Rattle.plan_search.specs.Search.{AreAnswered, GoesOverEnforcers, GoesOverPlace, HasRows};
 

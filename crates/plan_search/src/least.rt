@@ -6,9 +6,9 @@ ghost use Rattle.request_props.specs.Numbered.{IsProps};
 ghost use Rattle.plan_tree.specs.Found.{IsFound};
 
 use crate::closure::plain_closure;
-use crate::goals::answer_all;
 use crate::places::place_at;
 use crate::plans::plan_at;
+use crate::requests::answer_all;
 use plan_space::{root_request_fits, root_request_is_collected};
 use plan_tree::Found;
 use query_core::{Query, groups_are_known};
@@ -21,7 +21,7 @@ pub fn plain_least(alloc: Global, query: &Query, props: &Props) -> Result<Found,
     requires { IsProps query.now props.now }
     ensures { IfOk result (IsFound query.now) }
 {
-    // For the proof: what is asked of the whole plan is among the goals.
+    // For the proof: what is asked of the whole plan is among the requests.
     groups_are_known();
     root_request_fits();
     root_request_is_collected();

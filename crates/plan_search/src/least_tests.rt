@@ -4,29 +4,31 @@ ghost use Rattle.std.specs.Prelude.{◌≤◌};
 
 use crate::plain_least;
 use crate::worked::{ascending, column, compared, equality, hashed_table, query_of, table, text};
-use plan_tree::{Found, Node, NodeKind, Plan};
+use plan_space::{Enforcer, NodeKind};
+use plan_tree::{Found, Plan};
 use query_core::*;
 use request_props::Props;
 use std::alloc::{AllocError, Global};
 use std::test::Fail;
 
-/// What the node at the root of a plan does.
-#[derive(Clone, Copy, Debug, PartialEq, Eq)]
-enum Root {
-    Native(Operator, u32),
-    Enforcer(NodeKind),
+// What the node at the root of a plan does.
+fn root_of(plan: &Plan) -> Option<NodeKind> {
+    match plan {
+        Plan::Leaf(node) => node.kind(),
+        Plan::Over(node, _) => node.kind(),
+        Plan::Two(node, _, _) => node.kind(),
+    }
 }
 
-fn root_of(plan: &Plan) -> Option<Root> {
-    let node = match plan {
-        Plan::Leaf(node) => *node,
-        Plan::Over(node, _) => *node,
-        Plan::Two(node, _, _) => *node,
-    };
-    match node.kind()? {
-        NodeKind::Native(e, mode) => Some(Root::Native(e.operator, mode)),
-        kind => Some(Root::Enforcer(kind)),
-    }
+// The two tables joined by a loop, rows of the left one outside, on one segment.
+fn loop_of(left: u32, right: u32) -> NodeKind {
+    NodeKind::Native(
+        PhysicalExpr::new(
+            KeyParts::Join(3),
+            Physical::LoopJoin(KeyParts::Get(left), KeyParts::Get(right)),
+        ),
+        0,
+    )
 }
 
 fn nodes_of(plan: &Plan) -> u64 {
@@ -40,7 +42,7 @@ fn nodes_of(plan: &Plan) -> u64 {
 }
 
 // The cost of the least plan, its root, and how many nodes it has.
-fn least_of(alloc: Global, query: &Query) -> Result<Option<(u64, Option<Root>, u64)>, Fail> {
+fn least_of(alloc: Global, query: &Query) -> Result<Option<(u64, Option<NodeKind>, u64)>, Fail> {
     let props = Props::collect(alloc, query)?;
     match plain_least(alloc, query, &props)? {
         Found::Least { plan, cost } => Ok(Some((cost, root_of(&plan), nodes_of(&plan)))),
@@ -65,7 +67,7 @@ fn one_side_is_redistributed_and_sorted_segments_are_merged(rt: HostRuntime) -> 
     let query = query_of(alloc, tables, items, preds, vec![in alloc; ascending(0)]?)?;
     assert_eq!(rt;
         least_of(alloc, &query)?,
-        Some((7506, Some(Root::Enforcer(NodeKind::GatherMerge(1))), 6))
+        Some((7506, Some(NodeKind::Enforcer(Enforcer::GatherMerge(1))), 6))
     );
     Ok(())
 }
@@ -86,7 +88,7 @@ fn tables_that_are_hashed_alike_are_joined_where_they_lie(rt: HostRuntime) -> Re
     let query = query_of(alloc, tables, items, preds, Vec::new(alloc))?;
     assert_eq!(rt;
         least_of(alloc, &query)?,
-        Some((3504, Some(Root::Enforcer(NodeKind::Gather)), 4))
+        Some((3504, Some(NodeKind::Enforcer(Enforcer::Gather)), 4))
     );
     Ok(())
 }
@@ -103,7 +105,7 @@ fn small_tables_without_a_predicate_are_joined_on_one_segment(rt: HostRuntime) -
     let query = query_of(alloc, tables, items, Vec::new(alloc), Vec::new(alloc))?;
     assert_eq!(rt;
         least_of(alloc, &query)?,
-        Some((1253, Some(Root::Native(Operator::LoopJoin, 0)), 5))
+        Some((1253, Some(loop_of(0, 1)), 5))
     );
     Ok(())
 }
@@ -124,7 +126,7 @@ fn a_small_table_is_broadcast_to_a_large_one(rt: HostRuntime) -> Result<(), Fail
     let query = query_of(alloc, tables, items, preds, Vec::new(alloc))?;
     assert_eq!(rt;
         least_of(alloc, &query)?,
-        Some((52_318, Some(Root::Enforcer(NodeKind::Gather)), 5))
+        Some((52_318, Some(NodeKind::Enforcer(Enforcer::Gather)), 5))
     );
     Ok(())
 }
@@ -145,11 +147,7 @@ fn the_cost_of_a_huge_join_is_capped(rt: HostRuntime) -> Result<(), Fail> {
     let query = query_of(alloc, tables, items, preds, Vec::new(alloc))?;
     assert_eq!(rt;
         least_of(alloc, &query)?,
-        Some((
-            1_004_500_000_000_004,
-            Some(Root::Native(Operator::LoopJoin, 0)),
-            5
-        ))
+        Some((1_004_500_000_000_004, Some(loop_of(0, 1)), 5))
     );
     Ok(())
 }
@@ -169,7 +167,7 @@ fn one_table_is_sorted_on_its_segments_and_merged(rt: HostRuntime) -> Result<(),
     )?;
     assert_eq!(rt;
         least_of(alloc, &query)?,
-        Some((5253, Some(Root::Enforcer(NodeKind::GatherMerge(1))), 3))
+        Some((5253, Some(NodeKind::Enforcer(Enforcer::GatherMerge(1))), 3))
     );
     Ok(())
 }

@@ -1,5 +1,5 @@
 //! The plain search: what the rules lead to, by passes over a set until nothing is new; and the
-//! least plan, by the least plans of all goals, each behind those that it stands on.
+//! least plan, by the answers to all requests, each behind those that it stands on.
 #![tactic(auto)]
 
 mod answers;
@@ -8,18 +8,15 @@ mod best;
 mod choice;
 mod closure;
 mod enforcers;
-mod goals;
-mod laws;
 mod least;
-mod members;
+mod native;
 mod natives;
-mod physical;
 mod places;
 mod plans;
+mod requests;
 mod word_set;
 
 pub use closure::plain_closure;
-pub use laws::closure_is_one;
 pub use least::plain_least;
 
 #[cfg(test)]

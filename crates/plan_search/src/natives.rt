@@ -3,16 +3,16 @@
 
 ghost use Rattle.std.specs.Prelude.{◌^◌, Some, MatchOption};
 ghost use Rattle.request_props.specs.Numbered.{IsProps};
-ghost use Rattle.plan_space.specs.Numbers.{Fits};
+ghost use Rattle.request_props.specs.Fitting.{Fits};
 ghost use Rattle.plan_tree.specs.Alternatives.{IsAltIn};
 ghost use Rattle.plan_search.specs.Places.{place_of};
 ghost use Rattle.plan_search.specs.Search.{AreAnswered, GoesOver, GoesOverAll, IsLacking, IsMade};
-ghost use Rattle.plan_search.specs.Search.{ArePhysical, IsPhysical, RisesFrom};
+ghost use Rattle.plan_search.specs.Search.{AreNative, IsNative, RisesFrom};
 
 use crate::answers::Answers;
 use crate::below::plans_below;
 use crate::choice::{Choice, offer};
-use crate::physical::Physical;
+use crate::native::Native;
 use plan_space::{choices_serve, plans_are_ordered, what_is_asked_fits};
 use plan_tree::{Alt, alternative_by, native_cost_by};
 use query_core::{KeyParts, Query, candidates_are_known};
@@ -34,13 +34,13 @@ pub fn try_all(
     search: Search<'_>,
     group: KeyParts,
     wanted: Request,
-    list: &[Physical],
+    list: &[Native],
     best: &mut Option<Choice>,
 )
     requires props { IsProps search.query.now search.props.now }
     requires fits { Fits search.query.now group wanted }
     requires answered { AreAnswered search.query.now search.answers.now (place_of group wanted) }
-    requires are { ArePhysical search.query.now group list.now }
+    requires are { AreNative search.query.now group list.now }
     requires rises { RisesFrom (2 ^ 56) list.now }
     ensures { GoesOverAll search.entry.query.now search.entry.answers.now group wanted list.now
         best.old best.new }
@@ -51,9 +51,9 @@ pub fn try_all(
 }
 
 /// Offers the member in the mode, where it can meet the request.
-pub fn try_mode(search: Search<'_>, p: &Physical, wanted: Request, best: &mut Option<Choice>)
+pub fn try_mode(search: Search<'_>, p: &Native, wanted: Request, best: &mut Option<Choice>)
     requires props { IsProps search.query.now search.props.now }
-    requires is { IsPhysical search.query.now p.now.expr.group p.now }
+    requires is { IsNative search.query.now p.now.expr.group p.now }
     requires fits { Fits search.query.now p.now.expr.group wanted }
     requires answered { AreAnswered search.query.now search.answers.now
         (place_of p.now.expr.group wanted) }
@@ -71,9 +71,9 @@ pub fn try_mode(search: Search<'_>, p: &Physical, wanted: Request, best: &mut Op
 }
 
 /// The member in the mode over the least plans of what it asks for, where these are there.
-fn choice_of(search: Search<'_>, p: &Physical, wanted: Request, alt: Alt) -> Option<Choice>
+fn choice_of(search: Search<'_>, p: &Native, wanted: Request, alt: Alt) -> Option<Choice>
     requires props { IsProps search.query.now search.props.now }
-    requires is { IsPhysical search.query.now p.now.expr.group p.now }
+    requires is { IsNative search.query.now p.now.expr.group p.now }
     requires fits { Fits search.query.now p.now.expr.group wanted }
     requires answered { AreAnswered search.query.now search.answers.now
         (place_of p.now.expr.group wanted) }

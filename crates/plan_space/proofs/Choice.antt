@@ -2,16 +2,21 @@
 use Rattle.std.proofs.Common.{◌≡◌, ℕ, List, [], ◌∷◌, inl, inr, sym, ap, ◌∙◌, subst, arith}
 use Rattle.std.specs.Prelude.{Option, Some, None}
 use Rattle.std.specs.Bool.{⊤}
-use Rattle.query_core.specs.Expressions.{IsCandidate}
+use Rattle.query_core.specs.Expressions.{expr_of, physical_children, IsCandidate}
 use Rattle.query_core.specs.declared.query.Query.{Query}
 use Rattle.query_core.specs.declared.words.KeyParts.{KeyParts}
 use Rattle.query_core.specs.declared.expressions.ExprParts.{ExprParts}
+use Rattle.query_core.specs.declared.expressions.PhysicalExpr.{PhysicalExpr}
 use Rattle.cost_units.specs.Cost.{local_cost}
 use Rattle.request_props.specs.Satisfied.{Satisfies}
 use Rattle.request_props.specs.declared.request.Request.{Request}
-use Rattle.plan_space.specs.Numbers.{Fits}
-use Rattle.plan_space.specs.Nodes.{Kind, native, gather, broadcast, sort, gather_merge, redistribute, Tree, leaf, over, two}
-use Rattle.plan_space.specs.Lines.{Line, line_of}
+use Rattle.request_props.specs.Fitting.{Fits}
+use Rattle.plan_space.specs.Nodes.{Tree, leaf, over, two}
+use Rattle.plan_space.specs.declared.nodes.NodeKind.{NodeKind}
+use Rattle.plan_space.specs.declared.nodes.NodeKind.TheVariants as nodes
+use Rattle.plan_space.specs.declared.nodes.Enforcer.{Enforcer}
+use Rattle.plan_space.specs.Lines.{line_of}
+use Rattle.plan_space.specs.declared.lines.Line.{Line}
 use Rattle.plan_space.specs.Gives.{kid_of, gives, native_gives}
 use Rattle.plan_space.specs.Valid.{NativeFits, IsValid}
 use Rattle.plan_space.specs.Alternatives.{asked_of, KidsServe}
@@ -21,7 +26,7 @@ use Rattle.plan_space.specs.Order.{IsAtMost}
 use Rattle.plan_space.specs.Choices.{groups_of, AreLeast, IsNodeOver, Beats, IsEnforcerSettled, LacksOne, IsLineSettled, IsSettled}
 use Rattle.plan_space.specs.Laws.{GivenFits, KidsFit, AreOf, SatisfactionSplits}
 use Rattle.plan_space.proofs.Plans.{IsAtMost-trans, IsAtMost-not_less, kid_at_most, over_at_most, two_at_most}
-use Rattle.plan_space.proofs.Exchange.{IsEnforcer, IsOrdered, Replaces, same_class, same_shape, enforcer_group, exchange}
+use Rattle.plan_space.proofs.Exchange.{IsOrdered, Replaces, same_class, same_shape, exchange}
 use Rattle.plan_space.proofs.Kids.{sights, AreValid, AreAlike, same_native_shape, kids_of_children}
 
 -- each plan is at most the other at its place
@@ -31,7 +36,7 @@ AreAtMost q [] (other ∷ others) = ⊥
 AreAtMost q (plan ∷ plans) [] = ⊥
 AreAtMost q (plan ∷ plans) (other ∷ others) = IsAtMost q plan other × AreAtMost q plans others
 
-Beats-over : (q : Query) (best : Option Tree) (node : Kind) (kid : Tree) → Beats q best kid → Beats q best (over node kid)
+Beats-over : (q : Query) (best : Option Tree) (node : NodeKind) (kid : Tree) → Beats q best kid → Beats q best (over node kid)
 Beats-over q None node kid beats = absurd beats
 Beats-over q (Some plan) node kid beats = kid_at_most q node plan kid beats
 
@@ -73,56 +78,55 @@ module _ (Member : ExprParts → Type 0) (q : Query) (settled : AreSettled Membe
       )
 
   module _ (group : KeyParts) (wanted : Request) (best : Option Tree) (is : IsSettled Member q group wanted best) where
-    module _ (e : ExprParts) (mode : ℕ) where
-      at_leaf : (plans : List Tree) (plan : Tree) → AreAtMost q plans [] → IsNodeOver (native e mode) plans plan → Beats q best plan
-          → Beats q best (leaf (native e mode))
+    module _ (e : PhysicalExpr) (mode : ℕ) where
+      at_leaf : (plans : List Tree) (plan : Tree) → AreAtMost q plans [] → IsNodeOver (nodes.Native e mode) plans plan → Beats q best plan
+          → Beats q best (leaf (nodes.Native e mode))
       at_leaf [] plan at_most over_plans beats = subst (Beats q best) over_plans beats
       at_leaf (first ∷ plans) plan at_most over_plans beats = absurd at_most
 
       at_one : (kid : Tree) (plans : List Tree) (plan : Tree) → AreAtMost q plans (kid ∷ []) → AreAlike (sights q plans) (kid_of q kid ∷ [])
-          → IsNodeOver (native e mode) plans plan → Beats q best plan → Beats q best (over (native e mode) kid)
+          → IsNodeOver (nodes.Native e mode) plans plan → Beats q best plan → Beats q best (over (nodes.Native e mode) kid)
       at_one kid [] plan at_most alike over_plans beats = absurd at_most
       at_one kid (first ∷ []) plan at_most alike over_plans beats =
           let shape = same_native_shape q e mode (kid_of q first ∷ []) (kid_of q kid ∷ []) alike in
           let cost = ap local_cost shape in
-          Beats-then q best (over (native e mode) first) (over (native e mode) kid) (subst (Beats q best) over_plans beats)
-          (over_at_most q (native e mode) (native e mode) first kid (omega arith) (omega arith) at_most.0)
+          Beats-then q best (over (nodes.Native e mode) first) (over (nodes.Native e mode) kid) (subst (Beats q best) over_plans beats)
+          (over_at_most q (nodes.Native e mode) (nodes.Native e mode) first kid (omega arith) (omega arith) at_most.0)
       at_one kid (first ∷ other ∷ others) plan at_most alike over_plans beats = absurd at_most.1
 
       at_two : (left right : Tree) (plans : List Tree) (plan : Tree) → AreAtMost q plans (left ∷ right ∷ [])
-          → AreAlike (sights q plans) (kid_of q left ∷ kid_of q right ∷ []) → IsNodeOver (native e mode) plans plan → Beats q best plan
-          → Beats q best (two (native e mode) left right)
+          → AreAlike (sights q plans) (kid_of q left ∷ kid_of q right ∷ []) → IsNodeOver (nodes.Native e mode) plans plan → Beats q best plan
+          → Beats q best (two (nodes.Native e mode) left right)
       at_two left right [] plan at_most alike over_plans beats = absurd at_most
       at_two left right (first ∷ []) plan at_most alike over_plans beats = absurd at_most.1
       at_two left right (first ∷ second ∷ []) plan at_most alike over_plans beats =
           let shape = same_native_shape q e mode (kid_of q first ∷ kid_of q second ∷ []) (kid_of q left ∷ kid_of q right ∷ []) alike in
           let cost = ap local_cost shape in
-          Beats-then q best (two (native e mode) first second) (two (native e mode) left right) (subst (Beats q best) over_plans beats)
-          (two_at_most q (native e mode) first left second right (omega arith) at_most.0 at_most.1.0)
+          Beats-then q best (two (nodes.Native e mode) first second) (two (nodes.Native e mode) left right) (subst (Beats q best) over_plans beats)
+          (two_at_most q (nodes.Native e mode) first left second right (omega arith) at_most.0 at_most.1.0)
       at_two left right (first ∷ second ∷ other ∷ others) plan at_most alike over_plans beats = absurd at_most.1.1
 
     -- an enforcer of the request over the least plan does as well as the one that it replaces
-    at_replaced : (node : Kind) (kid : Tree) (e : EnforcedBy) → Replaces q wanted node (kid_of q kid) e → Serves Member q group e.below kid
-        → IsEnforcerSettled Member q group e best → Beats q best (over node kid)
+    at_replaced : (node : Enforcer) (kid : Tree) (e : EnforcedBy) → Replaces q wanted node (kid_of q kid) e → Serves Member q group e.below kid
+        → IsEnforcerSettled Member q group e best → Beats q best (over (nodes.Enforcer node) kid)
     at_replaced node kid e replaces serves (inl (plan, below, beats)) =
         let class = same_class (gives q plan).dist (gives q kid).dist e.below.dist below.serves.satisfies.dist serves.satisfies.dist in
         let of_group = below.serves.of_group ∙ sym serves.of_group in
-        let shape = same_shape q e.node (kid_of q plan) (kid_of q kid) replaces.enforcer of_group class in
+        let shape = same_shape q e.node (kid_of q plan) (kid_of q kid) of_group class in
         let same_cost = ap local_cost shape in
         let cost = replaces.cost in
-        Beats-then q best (over e.node plan) (over node kid) beats
-        (over_at_most q e.node node plan kid replaces.number (omega arith) (settled group e.below plan kid below serves))
+        Beats-then q best (over (nodes.Enforcer e.node) plan) (over (nodes.Enforcer node) kid) beats
+        (over_at_most q (nodes.Enforcer e.node) (nodes.Enforcer node) plan kid replaces.number (omega arith) (settled group e.below plan kid below serves))
     at_replaced node kid e replaces serves (inr none) = absurd (none kid serves)
 
     module _ (ordered : IsOrdered q) (fits : Fits q group wanted) where
-      at_enforcer : (node : Kind) (kid : Tree) → IsEnforcer node → (Serves Member q group wanted kid → Beats q best kid)
-          → Serves Member q group wanted (over node kid) → Beats q best (over node kid)
-      at_enforcer node kid enforcer wins serves =
-          let of_group = sym (enforcer_group node (kid_of q kid) enforcer) ∙ serves.of_group in
-          elim (exchange q ordered (kid_of q kid) Member node wanted enforcer serves.valid.1 fits.numbered serves.satisfies) [
-            | inl satisfies ↦ Beats-over q best node kid (wins (record { valid = serves.valid.0; of_group = of_group; satisfies = satisfies }))
+      at_enforcer : (node : Enforcer) (kid : Tree) → (Serves Member q group wanted kid → Beats q best kid)
+          → Serves Member q group wanted (over (nodes.Enforcer node) kid) → Beats q best (over (nodes.Enforcer node) kid)
+      at_enforcer node kid wins serves =
+          elim (exchange q ordered (kid_of q kid) node wanted serves.valid.1 fits.numbered serves.satisfies) [
+            | inl satisfies ↦ Beats-over q best (nodes.Enforcer node) kid (wins (record { valid = serves.valid.0; of_group = serves.of_group; satisfies = satisfies }))
             | inr (e, replaces) ↦
-                at_replaced node kid e replaces (record { valid = serves.valid.0; of_group = of_group; satisfies = replaces.satisfies })
+                at_replaced node kid e replaces (record { valid = serves.valid.0; of_group = serves.of_group; satisfies = replaces.satisfies })
                 (is.enforcers e replaces.among)
           ]
 
@@ -133,57 +137,45 @@ module _ (Member : ExprParts → Type 0) (q : Query) (settled : AreSettled Membe
         kids_fit (kid ∷ kids) valid = (given_fits kid valid.0, kids_fit kids valid.1)
 
         -- least plans for what the line asks by which an expression at the root serves
-        record IsFoundBelow (e : ExprParts) (mode : ℕ) (kids : List Tree) : Type 0 where
+        record IsFoundBelow (e : PhysicalExpr) (mode : ℕ) (kids : List Tree) : Type 0 where
           plans : List Tree
           plan : Tree
           at_most : AreAtMost q plans kids
           alike : AreAlike (sights q plans) (sights q kids)
-          over_plans : IsNodeOver (native e mode) plans plan
+          over_plans : IsNodeOver (nodes.Native e mode) plans plan
           beats : Beats q best plan
 
-        settled_below : (e : ExprParts) (mode : ℕ) (kids : List Tree) (line : Line) → AreOf (groups_of e.children) (sights q kids)
+        settled_below : (e : PhysicalExpr) (mode : ℕ) (kids : List Tree) (line : Line) → AreOf (groups_of (physical_children e.operator)) (sights q kids)
             → KidsServe q (sights q kids) (asked_of line wanted) → AreValid Member q kids → IsLineSettled Member q e mode line wanted best
             → IsFoundBelow e mode kids
         settled_below e mode kids line of_children serve valid (inl (plans, plan, least, over_plans, beats)) =
-            let facts = least_kids (groups_of e.children) (asked_of line wanted) plans kids least of_children serve valid in
+            let facts = least_kids (groups_of (physical_children e.operator)) (asked_of line wanted) plans kids least of_children serve valid in
             record { plans = plans; plan = plan; at_most = facts.0; alike = facts.1; over_plans = over_plans; beats = beats }
         settled_below e mode kids line of_children serve valid (inr lacks) =
-            absurd (lacks_kids (groups_of e.children) (asked_of line wanted) kids of_children serve valid lacks)
+            absurd (lacks_kids (groups_of (physical_children e.operator)) (asked_of line wanted) kids of_children serve valid lacks)
 
-        found_below : (e : ExprParts) (mode : ℕ) (kids : List Tree) → Member e → e.group ≡ group → AreValid Member q kids
+        found_below : (e : PhysicalExpr) (mode : ℕ) (kids : List Tree) → Member (expr_of e) → e.group ≡ group → AreValid Member q kids
             → NativeFits q e mode (sights q kids) → Satisfies q (native_gives q e mode (sights q kids)) wanted → IsFoundBelow e mode kids
         found_below e mode kids member of_group valid native_fits satisfies =
             let e_fits = subst (λ (g : KeyParts). Fits q g wanted) (sym of_group) fits in
-            let split = splits e mode (sights q kids) wanted (candidates e member) (kids_fit kids valid) e_fits native_fits satisfies in
-            let of_children = kids_of_children q e.children (line_of q e mode) (sights q kids) native_fits in
+            let split = splits e mode (sights q kids) wanted (candidates (expr_of e) member) (kids_fit kids valid) e_fits native_fits satisfies in
+            let of_children = kids_of_children q (physical_children e.operator) (line_of q e mode) (sights q kids) native_fits in
             settled_below e mode kids split.0 of_children split.2 valid (is.members e mode member of_group split.0 split.1)
 
         -- the best is at most every plan that serves
         at_most_all : (plan : Tree) → Serves Member q group wanted plan → Beats q best plan
-        at_most_all (leaf (native e mode)) serves =
+        at_most_all (leaf (nodes.Native e mode)) serves =
             let found = found_below e mode [] serves.valid.0 serves.of_group tt serves.valid.1 serves.satisfies in
             at_leaf e mode found.plans found.plan found.at_most found.over_plans found.beats
-        at_most_all (leaf gather) serves = absurd serves.valid
-        at_most_all (leaf broadcast) serves = absurd serves.valid
-        at_most_all (leaf (sort o)) serves = absurd serves.valid
-        at_most_all (leaf (gather_merge o)) serves = absurd serves.valid
-        at_most_all (leaf (redistribute l)) serves = absurd serves.valid
-        at_most_all (over (native e mode) kid) serves =
+        at_most_all (leaf (nodes.Enforcer node)) serves = absurd serves.valid
+        at_most_all (over (nodes.Native e mode) kid) serves =
             let found = found_below e mode (kid ∷ []) serves.valid.1.0 serves.of_group (serves.valid.0, tt) serves.valid.1.1 serves.satisfies in
             at_one e mode kid found.plans found.plan found.at_most found.alike found.over_plans found.beats
-        at_most_all (over gather kid) serves = at_enforcer gather kid tt (at_most_all kid) serves
-        at_most_all (over broadcast kid) serves = at_enforcer broadcast kid tt (at_most_all kid) serves
-        at_most_all (over (sort o) kid) serves = at_enforcer (sort o) kid tt (at_most_all kid) serves
-        at_most_all (over (gather_merge o) kid) serves = at_enforcer (gather_merge o) kid tt (at_most_all kid) serves
-        at_most_all (over (redistribute l) kid) serves = at_enforcer (redistribute l) kid tt (at_most_all kid) serves
-        at_most_all (two (native e mode) left right) serves =
+        at_most_all (over (nodes.Enforcer node) kid) serves = at_enforcer node kid (at_most_all kid) serves
+        at_most_all (two (nodes.Native e mode) left right) serves =
             let found = found_below e mode (left ∷ right ∷ []) serves.valid.2.0 serves.of_group (serves.valid.0, (serves.valid.1, tt)) serves.valid.2.1 serves.satisfies in
             at_two e mode left right found.plans found.plan found.at_most found.alike found.over_plans found.beats
-        at_most_all (two gather left right) serves = absurd serves.valid.2
-        at_most_all (two broadcast left right) serves = absurd serves.valid.2
-        at_most_all (two (sort o) left right) serves = absurd serves.valid.2
-        at_most_all (two (gather_merge o) left right) serves = absurd serves.valid.2
-        at_most_all (two (redistribute l) left right) serves = absurd serves.valid.2
+        at_most_all (two (nodes.Enforcer node) left right) serves = absurd serves.valid.2
 
 module _ (Member : ExprParts → Type 0) (q : Query) (settled : AreSettled Member q) (ordered : IsOrdered q)
     (candidates : (e : ExprParts) → Member e → IsCandidate q e)

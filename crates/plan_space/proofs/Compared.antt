@@ -7,7 +7,8 @@ use Rattle.query_core.specs.declared.query.Query.{Query}
 use Rattle.query_core.specs.declared.words.KeyParts.{KeyParts}
 use Rattle.query_core.specs.declared.expressions.ExprParts.{ExprParts}
 use Rattle.request_props.specs.declared.request.Request.{Request}
-use Rattle.plan_space.specs.Nodes.{Kind, number_of, Tree, leaf, over, two, code_of}
+use Rattle.plan_space.specs.Nodes.{number_of, Tree, leaf, over, two, code_of}
+use Rattle.plan_space.specs.declared.nodes.NodeKind.{NodeKind}
 use Rattle.plan_space.specs.Gives.{Kid, kid_of}
 use Rattle.plan_space.specs.Valid.{NodeFits, IsValid}
 use Rattle.plan_space.specs.Cost.{cost_of}
@@ -19,14 +20,14 @@ use Rattle.plan_space.proofs.NodeNumbers.{IsInRange, fits_in_range, fits_arity, 
 
 module _ (Member : ExprParts → Type 0) (packed : (e : ExprParts) → Member e → IsPacked e)
     (expressions : (e f : ExprParts) → IsPacked e → IsPacked f → word_of e ≡ word_of f → e ≡ f) (q : Query) where
-  in_range : (node : Kind) (kids : List Kid) → NodeFits Member q node kids → IsInRange 91 node
+  in_range : (node : NodeKind) (kids : List Kid) → NodeFits Member q node kids → IsInRange 91 node
   in_range node kids fits =
       let orders = orders_few q in
       let lists = lists_few q in
       fits_in_range Member packed q 91 (omega arith) (omega arith) node kids fits
 
   -- nodes with one number stand over as many kids
-  pub as_many : (a b : Kind) (kids others : List Kid) → NodeFits Member q a kids → NodeFits Member q b others → number_of a ≡ number_of b
+  pub as_many : (a b : NodeKind) (kids others : List Kid) → NodeFits Member q a kids → NodeFits Member q b others → number_of a ≡ number_of b
       → length kids ≡ length others
   as_many a b kids others x y same =
       fits_arity Member q a kids x ∙ number_arity expressions 91 (omega arith) a b (in_range a kids x) (in_range b others y) same

@@ -3,7 +3,6 @@
 use Rattle.std.proofs.Common.{◌≡◌, ℕ, zero, suc, ◌≤◌, List, [], ◌∷◌, ◌⊎◌, inl, inr, refl, arith}
 use Rattle.std.specs.Bool.{⊤}
 use Rattle.query_core.specs.declared.query.Query.{Query}
-use Rattle.query_core.specs.declared.expressions.ExprParts.{ExprParts}
 use Rattle.cost_units.specs.declared.shape.Class.{Class}
 use Rattle.cost_units.specs.declared.shape.Class.TheVariants as classes
 use Rattle.cost_units.specs.declared.shape.CostShape.TheVariants as shapes
@@ -16,21 +15,15 @@ use Rattle.request_props.specs.declared.given.GivenDist.TheVariants as given
 use Rattle.request_props.specs.declared.request.Dist.{Dist}
 use Rattle.request_props.specs.declared.request.Dist.TheVariants.{One, Spread, Copies, Hashed}
 use Rattle.request_props.specs.declared.request.Request.{Request}
-use Rattle.plan_space.specs.Nodes.{Kind, native, gather, broadcast, sort, gather_merge, redistribute, number_of}
+use Rattle.plan_space.specs.Nodes.{enforcer_number}
+use Rattle.plan_space.specs.declared.nodes.Enforcer.{Enforcer}
+use Rattle.plan_space.specs.declared.nodes.Enforcer.TheVariants as enforcers
 use Rattle.plan_space.specs.Lines.{request}
-use Rattle.plan_space.specs.Gives.{Kid, node_gives, node_group}
-use Rattle.plan_space.specs.Valid.{class_of, IsSpread, CanSort, CanMerge, NodeFits}
+use Rattle.plan_space.specs.Gives.{Kid, enforcer_gives}
+use Rattle.plan_space.specs.Valid.{IsSpread, CanSort, CanMerge, EnforcerFits}
+use Rattle.request_props.specs.Classes.{class_of}
 use Rattle.plan_space.specs.Enforcers.{EnforcedBy, enforced, enforcers_of, Among}
-use Rattle.plan_space.specs.Cost.{shape_of}
-
--- the node moves or sorts, and is no physical expression
-abbrev pub IsEnforcer : Kind → Type 0
-IsEnforcer (native e mode) = ⊥
-IsEnforcer gather = ⊤
-IsEnforcer broadcast = ⊤
-IsEnforcer (sort order) = ⊤
-IsEnforcer (gather_merge order) = ⊤
-IsEnforcer (redistribute list) = ⊤
+use Rattle.plan_space.specs.Cost.{enforcer_shape}
 
 -- longer orders have greater numbers, and no numbered order is empty
 pub record IsOrdered (q : Query) : Type 0 where
@@ -39,15 +32,14 @@ pub record IsOrdered (q : Query) : Type 0 where
 
 -- an enforcer over the same kid meets the request too, is one of those that are looked at for it, and
 -- has no greater number and no greater cost
-pub record Replaces (q : Query) (wanted : Request) (node : Kind) (kid : Kid) (e : EnforcedBy) : Type 0 where
+pub record Replaces (q : Query) (wanted : Request) (node : Enforcer) (kid : Kid) (e : EnforcedBy) : Type 0 where
   pub among : Among e (enforcers_of wanted)
-  pub enforcer : IsEnforcer e.node
   pub satisfies : Satisfies q kid.given e.below
-  pub number : number_of e.node ≤ number_of node
-  pub cost : local_cost (shape_of q e.node (kid ∷ [])) ≤ local_cost (shape_of q node (kid ∷ []))
+  pub number : enforcer_number e.node ≤ enforcer_number node
+  pub cost : local_cost (enforcer_shape q e.node (kid ∷ [])) ≤ local_cost (enforcer_shape q node (kid ∷ []))
 
 -- the kid serves alone, or a listed enforcer replaces this one
-abbrev pub CanExchange : Query → Kind → Kid → Request → Type 0
+abbrev pub CanExchange : Query → Enforcer → Kid → Request → Type 0
 CanExchange q node kid wanted = Satisfies q kid.given wanted ⊎ ((e : EnforcedBy) × Replaces q wanted node kid e)
 
 BeginsWith-trans : (xs ys zs : List ℕ) → BeginsWith xs ys → BeginsWith ys zs → BeginsWith xs zs
@@ -102,38 +94,27 @@ pub same_class : (a b : GivenDist) (asked : Dist) → Meets a asked → Meets b 
 same_class a b asked x y = let e = met_class a asked x in let f = met_class b asked y in cc
 
 -- an enforcer has the same shape over kids of one group and one class
-pub same_shape : (q : Query) (node : Kind) (a b : Kid) → IsEnforcer node → a.group ≡ b.group → class_of a.given.dist ≡ class_of b.given.dist
-    → shape_of q node (a ∷ []) ≡ shape_of q node (b ∷ [])
-same_shape q (native e mode) a b enforcer group class = absurd enforcer
-same_shape q gather a b enforcer group class = cc
-same_shape q broadcast a b enforcer group class = cc
-same_shape q (sort order) a b enforcer group class = cc
-same_shape q (gather_merge order) a b enforcer group class = cc
-same_shape q (redistribute list) a b enforcer group class = cc
+pub same_shape : (q : Query) (e : Enforcer) (a b : Kid) → a.group ≡ b.group → class_of a.given.dist ≡ class_of b.given.dist
+    → enforcer_shape q e (a ∷ []) ≡ enforcer_shape q e (b ∷ [])
+same_shape q enforcers.Gather a b group class = cc
+same_shape q enforcers.Broadcast a b group class = cc
+same_shape q (enforcers.Sort order) a b group class = cc
+same_shape q (enforcers.GatherMerge order) a b group class = cc
+same_shape q (enforcers.Redistribute list) a b group class = cc
 
 -- a gather costs no more than a merge of as many rows
 gather_cheaper : (rows : ℕ) → local_cost (shapes.Gather rows) ≤ local_cost (shapes.GatherMerge rows)
 unfolding local_cost
 gather_cheaper rows = omega arith
 
--- an enforcer stays in the group of its kid
-pub enforcer_group : (node : Kind) (kid : Kid) → IsEnforcer node → node_group node (kid ∷ []) ≡ kid.group
-enforcer_group (native e mode) kid enforcer = absurd enforcer
-enforcer_group gather kid enforcer = refl
-enforcer_group broadcast kid enforcer = refl
-enforcer_group (sort order) kid enforcer = refl
-enforcer_group (gather_merge order) kid enforcer = refl
-enforcer_group (redistribute list) kid enforcer = refl
-
 module _ (q : Query) (ordered : IsOrdered q) (kid : Kid) where
   exchange_gather : (dist : Dist) (o : ℕ) → IsSpread kid.given.dist → IsNumbered q o
-      → Satisfies q (node_gives q gather (kid ∷ [])) (request dist o)
-      → CanExchange q gather kid (request dist o)
+      → Satisfies q (enforcer_gives enforcers.Gather kid.given) (request dist o)
+      → CanExchange q enforcers.Gather kid (request dist o)
   exchange_gather One zero is_spread numbered satisfies = inr (
-    enforced gather (request Spread 0),
+    enforced enforcers.Gather (request Spread 0),
     record {
       among = inl refl;
-      enforcer = tt;
       satisfies = record { dist = spread_meets kid.given.dist is_spread; order = tt };
       number = omega arith;
       cost = omega arith;
@@ -145,13 +126,12 @@ module _ (q : Query) (ordered : IsOrdered q) (kid : Kid) where
   exchange_gather (Hashed list) o is_spread numbered satisfies = absurd satisfies.dist
 
   exchange_broadcast : (dist : Dist) (o : ℕ) → IsSpread kid.given.dist → IsNumbered q o
-      → Satisfies q (node_gives q broadcast (kid ∷ [])) (request dist o)
-      → CanExchange q broadcast kid (request dist o)
+      → Satisfies q (enforcer_gives enforcers.Broadcast kid.given) (request dist o)
+      → CanExchange q enforcers.Broadcast kid (request dist o)
   exchange_broadcast Copies zero is_spread numbered satisfies = inr (
-    enforced broadcast (request Spread 0),
+    enforced enforcers.Broadcast (request Spread 0),
     record {
       among = inl refl;
-      enforcer = tt;
       satisfies = record { dist = spread_meets kid.given.dist is_spread; order = tt };
       number = omega arith;
       cost = omega arith;
@@ -163,17 +143,16 @@ module _ (q : Query) (ordered : IsOrdered q) (kid : Kid) where
   exchange_broadcast (Hashed list) o is_spread numbered satisfies = absurd satisfies.dist
 
   exchange_redistribute : (list : ℕ) (dist : Dist) (o : ℕ) → IsSpread kid.given.dist → IsNumbered q o
-      → Satisfies q (node_gives q (redistribute list) (kid ∷ [])) (request dist o)
-      → CanExchange q (redistribute list) kid (request dist o)
+      → Satisfies q (enforcer_gives (enforcers.Redistribute list) kid.given) (request dist o)
+      → CanExchange q (enforcers.Redistribute list) kid (request dist o)
   exchange_redistribute list Spread zero is_spread numbered satisfies = inl (record { dist = spread_meets kid.given.dist is_spread; order = tt })
   exchange_redistribute list Spread (suc o) is_spread numbered satisfies = absurd (ordered.none_empty o numbered satisfies.order)
   exchange_redistribute list (Hashed other) zero is_spread numbered satisfies =
       let same : list ≡ other = satisfies.dist in
       inr (
-        enforced (redistribute other) (request Spread 0),
+        enforced (enforcers.Redistribute other) (request Spread 0),
         record {
           among = inl refl;
-          enforcer = tt;
           satisfies = record { dist = spread_meets kid.given.dist is_spread; order = tt };
           number = omega arith;
           cost = omega arith;
@@ -184,16 +163,15 @@ module _ (q : Query) (ordered : IsOrdered q) (kid : Kid) where
   exchange_redistribute list Copies o is_spread numbered satisfies = absurd satisfies.dist
 
   exchange_sort : (p : ℕ) (dist : Dist) (o : ℕ) → CanSort q p kid → IsNumbered q o
-      → Satisfies q (node_gives q (sort p) (kid ∷ [])) (request dist o)
-      → CanExchange q (sort p) kid (request dist o)
+      → Satisfies q (enforcer_gives (enforcers.Sort p) kid.given) (request dist o)
+      → CanExchange q (enforcers.Sort p) kid (request dist o)
   exchange_sort p dist zero can numbered satisfies = inl (record { dist = satisfies.dist; order = tt })
   exchange_sort p dist (suc o) can numbered satisfies =
       let shorter = ordered.by_length (suc o) p numbered can.numbered satisfies.order in
       inr (
-        enforced (sort (suc o)) (request dist 0),
+        enforced (enforcers.Sort (suc o)) (request dist 0),
         record {
           among = inl refl;
-          enforcer = tt;
           satisfies = record { dist = satisfies.dist; order = tt };
           number = omega arith;
           cost = omega arith;
@@ -201,13 +179,12 @@ module _ (q : Query) (ordered : IsOrdered q) (kid : Kid) where
       )
 
   exchange_merge : (p : ℕ) (dist : Dist) (o : ℕ) → CanMerge q p kid → IsNumbered q o
-      → Satisfies q (node_gives q (gather_merge p) (kid ∷ [])) (request dist o)
-      → CanExchange q (gather_merge p) kid (request dist o)
+      → Satisfies q (enforcer_gives (enforcers.GatherMerge p) kid.given) (request dist o)
+      → CanExchange q (enforcers.GatherMerge p) kid (request dist o)
   exchange_merge p One zero can numbered satisfies = inr (
-    enforced gather (request Spread 0),
+    enforced enforcers.Gather (request Spread 0),
     record {
       among = inl refl;
-      enforcer = tt;
       satisfies = record { dist = spread_meets kid.given.dist can.is_spread; order = tt };
       number = omega arith;
       cost = gather_cheaper (rows_of q kid.group);
@@ -216,10 +193,9 @@ module _ (q : Query) (ordered : IsOrdered q) (kid : Kid) where
   exchange_merge p One (suc o) can numbered satisfies =
       let shorter = ordered.by_length (suc o) p numbered can.can_sort.numbered satisfies.order in
       inr (
-        enforced (gather_merge (suc o)) (request Spread (suc o)),
+        enforced (enforcers.GatherMerge (suc o)) (request Spread (suc o)),
         record {
           among = inr (inl refl);
-          enforcer = tt;
           satisfies = record {
             dist = spread_meets kid.given.dist can.is_spread;
             order = BeginsWith-trans (given_order q kid.given.order) (order_of q p) (order_of q (suc o)) can.has_order satisfies.order;
@@ -233,13 +209,10 @@ module _ (q : Query) (ordered : IsOrdered q) (kid : Kid) where
   exchange_merge p (Hashed list) o can numbered satisfies = absurd satisfies.dist
 
   -- an enforcer at the root of a plan is not needed, or one that is looked at does as well
-  pub exchange : (Member : ExprParts → Type 0) (node : Kind) (wanted : Request) → IsEnforcer node → NodeFits Member q node (kid ∷ [])
-      → IsNumbered q wanted.order → Satisfies q (node_gives q node (kid ∷ [])) wanted
-      → CanExchange q node kid wanted
-  exchange Member (native e mode) wanted enforcer node_fits numbered satisfies = absurd enforcer
-  exchange Member gather wanted enforcer node_fits numbered satisfies = exchange_gather wanted.dist wanted.order node_fits numbered satisfies
-  exchange Member broadcast wanted enforcer node_fits numbered satisfies = exchange_broadcast wanted.dist wanted.order node_fits numbered satisfies
-  exchange Member (sort p) wanted enforcer node_fits numbered satisfies = exchange_sort p wanted.dist wanted.order node_fits numbered satisfies
-  exchange Member (gather_merge p) wanted enforcer node_fits numbered satisfies = exchange_merge p wanted.dist wanted.order node_fits numbered satisfies
-  exchange Member (redistribute list) wanted enforcer node_fits numbered satisfies =
-      exchange_redistribute list wanted.dist wanted.order node_fits.is_spread numbered satisfies
+  pub exchange : (node : Enforcer) (wanted : Request) → EnforcerFits q node kid → IsNumbered q wanted.order
+      → Satisfies q (enforcer_gives node kid.given) wanted → CanExchange q node kid wanted
+  exchange enforcers.Gather wanted fits numbered satisfies = exchange_gather wanted.dist wanted.order fits numbered satisfies
+  exchange enforcers.Broadcast wanted fits numbered satisfies = exchange_broadcast wanted.dist wanted.order fits numbered satisfies
+  exchange (enforcers.Sort p) wanted fits numbered satisfies = exchange_sort p wanted.dist wanted.order fits numbered satisfies
+  exchange (enforcers.GatherMerge p) wanted fits numbered satisfies = exchange_merge p wanted.dist wanted.order fits numbered satisfies
+  exchange (enforcers.Redistribute list) wanted fits numbered satisfies = exchange_redistribute list wanted.dist wanted.order fits.is_spread numbered satisfies

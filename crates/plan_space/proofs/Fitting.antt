@@ -1,4 +1,4 @@
--- What it says that a line fixes what fits its children and gives what lies in its group, and when the parts of a line do.
+-- What it says that a line asks what fits its children and gives what lies in its group, and when the parts of a line do.
 use Rattle.std.proofs.Common.{◌≡◌, ℕ, ◌*◌, ◌/◌, ◌^◌, List, [], sym, subst, arith, IsTrue}
 use Rattle.std.specs.Prelude.{Some, None, ◌==◌, ⊤}
 use Rattle.std.specs.List.{Contains}
@@ -15,12 +15,22 @@ use Rattle.query_core.specs.declared.expressions.Children.TheVariants.{Zero, One
 use Rattle.request_props.specs.Found.{joined_columns}
 use Rattle.request_props.specs.declared.given.GivenDist.{GivenDist}
 use Rattle.request_props.specs.declared.given.GivenDist.TheVariants as given
-use Rattle.request_props.specs.Numbered.{IsNumbered, order_of}
+use Rattle.request_props.specs.Numbered.{IsNumbered, order_of, list_of, is_grouped_list, column_order, column_list}
 use Rattle.request_props.specs.Satisfied.{given_order}
 use Rattle.request_props.specs.declared.request.Dist.{Dist}
+use Rattle.request_props.specs.declared.request.Dist.TheVariants as dists
+use Rattle.request_props.specs.declared.request.Request.{Request}
 use Rattle.plan_space.specs.Gives.{gives_so}
-use Rattle.plan_space.specs.Numbers.{list_of, ListLiesIn, OrderLiesIn, HashFits, DistFits, Fits}
-use Rattle.plan_space.specs.Lines.{LeftDist, fixed_dist, same_dist, same_spread, LeftOrder, fixed_order, same_order, Line, alone, above, beside, request, column_order, column_list, in_order, on_hashed}
+use Rattle.request_props.specs.Lying.{ListLiesIn, OrderLiesIn}
+use Rattle.request_props.specs.Fitting.{HashFits, DistFits, Fits}
+use Rattle.plan_space.specs.Lines.{request, in_order, on_hashed}
+use Rattle.plan_space.specs.declared.lines.LeftDist.{LeftDist}
+use Rattle.plan_space.specs.declared.lines.LeftDist.TheVariants as left_dists
+use Rattle.plan_space.specs.declared.lines.LeftOrder.{LeftOrder}
+use Rattle.plan_space.specs.declared.lines.LeftOrder.TheVariants as left_orders
+use Rattle.plan_space.specs.declared.lines.Line.{Line}
+use Rattle.plan_space.specs.declared.lines.Line.TheVariants as lines
+use Rattle.plan_space.specs.Alternatives.{left_asked, LeftServes}
 use Rattle.plan_space.specs.Laws.{GivenDistFits, DistLiesIn, GivenFits}
 use Rattle.plan_space.proofs.Numbers.{ListingIsOne, column_list_numbered, column_order_numbered}
 
@@ -30,44 +40,50 @@ DistsFit q group = (dist : GivenDist) → DistLiesIn q group dist → GivenDistF
 
 -- a fixed distribution fits the left child, as it is given and as it is asked for; one that is passed on does where the child's rows lie by its items
 abbrev pub FixedDistFits : Query → KeyParts → LeftDist → Type 0
-FixedDistFits q left (fixed_dist given asked) = GivenDistFits q left given × DistFits q left asked
-FixedDistFits q left same_dist = DistsFit q left
-FixedDistFits q left same_spread = DistsFit q left
+FixedDistFits q left (left_dists.Fixed given asked) = GivenDistFits q left given × DistFits q left asked
+FixedDistFits q left (left_dists.Grouped list) = HashFits q left list
+FixedDistFits q left left_dists.Same = DistsFit q left
+FixedDistFits q left left_dists.SameSpread = DistsFit q left
 
 -- and so does a fixed order
 abbrev pub FixedOrderFits : Query → KeyParts → LeftOrder → Type 0
-FixedOrderFits q left (fixed_order given asked) = OrderLiesIn q left (given_order q given) × IsNumbered q asked × OrderLiesIn q left (order_of q asked)
-FixedOrderFits q left same_order = ⊤
+FixedOrderFits q left (left_orders.Fixed given asked) = OrderLiesIn q left (given_order q given) × IsNumbered q asked × OrderLiesIn q left (order_of q asked)
+FixedOrderFits q left left_orders.Same = ⊤
 
--- what is fixed over the left child fits it
+-- what is fixed over the left child of a join fits it
 pub record LeftFits (q : Query) (left : KeyParts) (dist : LeftDist) (order : LeftOrder) : Type 0 where
   pub dist_fits : FixedDistFits q left dist
   pub order_fits : FixedOrderFits q left order
 
--- what the line fixes fits the children
-abbrev pub FixesWhatFits : Query → Line → Children → Type 0
-FixesWhatFits q (alone dist order) children = ⊤
-FixesWhatFits q (above dist order) Zero = ⊤
-FixesWhatFits q (above dist order) (One child) = LeftFits q child dist order
-FixesWhatFits q (above dist order) (Two left right) = ⊤
-FixesWhatFits q (beside dist order request) Zero = ⊤
-FixesWhatFits q (beside dist order request) (One child) = ⊤
-FixesWhatFits q (beside dist order request) (Two left right) = LeftFits q left dist order × Fits q right request
+-- for a request that fits the group and that the line can give, what is asked of the one child fits that
+abbrev pub AsksAbove : Query → KeyParts → KeyParts → LeftDist → LeftOrder → Type 0
+AsksAbove q group child dist order = (wanted : Request) → Fits q group wanted → LeftServes q dist order wanted → Fits q child (left_asked dist order wanted)
+
+-- what the line asks fits the children: of one child for what fits the group, and of two where the line fixes it
+abbrev pub AsksFitting : Query → KeyParts → Line → Children → Type 0
+AsksFitting q group (lines.Alone dist order) children = ⊤
+AsksFitting q group (lines.Above dist order) Zero = ⊤
+AsksFitting q group (lines.Above dist order) (One child) = AsksAbove q group child dist order
+AsksFitting q group (lines.Above dist order) (Two left right) = ⊤
+AsksFitting q group (lines.Beside dist order request) Zero = ⊤
+AsksFitting q group (lines.Beside dist order request) (One child) = ⊤
+AsksFitting q group (lines.Beside dist order request) (Two left right) = LeftFits q left dist order × Fits q right request
 
 -- the group has the items of the other one
 abbrev pub HasItemsOf : Query → KeyParts → KeyParts → Type 0
 HasItemsOf q group other = (i : ℕ) → IsTrue (has_item q other i) → IsTrue (has_item q group i)
 
--- a fixed distribution lies in the group, and so does each that fits the left child, where it is passed on
+-- a fixed distribution lies in the group, and so does each that lies in the left child, where it is passed on
 abbrev pub DistWithin : Query → KeyParts → KeyParts → LeftDist → Type 0
-DistWithin q group left (fixed_dist given asked) = DistLiesIn q group given
-DistWithin q group left same_dist = (dist : GivenDist) → GivenDistFits q left dist → DistLiesIn q group dist
-DistWithin q group left same_spread = (dist : GivenDist) → GivenDistFits q left dist → DistLiesIn q group dist
+DistWithin q group left (left_dists.Fixed given asked) = DistLiesIn q group given
+DistWithin q group left (left_dists.Grouped list) = IsTrue (is_grouped_list q list) → DistLiesIn q group (given.Hashed list)
+DistWithin q group left left_dists.Same = (dist : GivenDist) → DistLiesIn q left dist → DistLiesIn q group dist
+DistWithin q group left left_dists.SameSpread = (dist : GivenDist) → DistLiesIn q left dist → DistLiesIn q group dist
 
 -- likewise the order
 abbrev pub OrderWithin : Query → KeyParts → KeyParts → LeftOrder → Type 0
-OrderWithin q group left (fixed_order given asked) = OrderLiesIn q group (given_order q given)
-OrderWithin q group left same_order = (order : List ℕ) → OrderLiesIn q left order → OrderLiesIn q group order
+OrderWithin q group left (left_orders.Fixed given asked) = OrderLiesIn q group (given_order q given)
+OrderWithin q group left left_orders.Same = (order : List ℕ) → OrderLiesIn q left order → OrderLiesIn q group order
 
 -- what is given over the left child lies in the group
 pub record LeftWithin (q : Query) (group left : KeyParts) (dist : LeftDist) (order : LeftOrder) : Type 0 where
@@ -76,17 +92,17 @@ pub record LeftWithin (q : Query) (group left : KeyParts) (dist : LeftDist) (ord
 
 -- what the line gives over its children lies in the group
 abbrev pub GivesWithin : Query → KeyParts → Line → Children → Type 0
-GivesWithin q group (alone dist order) children = GivenFits q group (gives_so dist order)
-GivesWithin q group (above dist order) Zero = ⊤
-GivesWithin q group (above dist order) (One child) = LeftWithin q group child dist order
-GivesWithin q group (above dist order) (Two left right) = ⊤
-GivesWithin q group (beside dist order request) Zero = ⊤
-GivesWithin q group (beside dist order request) (One child) = ⊤
-GivesWithin q group (beside dist order request) (Two left right) = LeftWithin q group left dist order
+GivesWithin q group (lines.Alone dist order) children = GivenFits q group (gives_so dist order)
+GivesWithin q group (lines.Above dist order) Zero = ⊤
+GivesWithin q group (lines.Above dist order) (One child) = LeftWithin q group child dist order
+GivesWithin q group (lines.Above dist order) (Two left right) = ⊤
+GivesWithin q group (lines.Beside dist order request) Zero = ⊤
+GivesWithin q group (lines.Beside dist order request) (One child) = ⊤
+GivesWithin q group (lines.Beside dist order request) (Two left right) = LeftWithin q group left dist order
 
 -- the line does both
 pub record IsFitting (q : Query) (group : KeyParts) (children : Children) (line : Line) : Type 0 where
-  pub fixes : FixesWhatFits q line children
+  pub asks : AsksFitting q group line children
   pub gives : GivesWithin q group line children
 
 -- ---- distributions and orders of a group
@@ -110,7 +126,7 @@ top_dists_fit q set =
 
 module _ (q : Query) (group left : KeyParts) (kept : HasItemsOf q group left) where
   -- what fits the left child fits each group that has its items
-  dist_kept : (dist : GivenDist) → GivenDistFits q left dist → GivenDistFits q group dist
+  pub dist_kept : (dist : GivenDist) → GivenDistFits q left dist → GivenDistFits q group dist
   dist_kept given.One fits = tt
   dist_kept (given.Hashed list) fits = record {
     numbered = fits.numbered;
@@ -119,23 +135,24 @@ module _ (q : Query) (group left : KeyParts) (kept : HasItemsOf q group left) wh
   dist_kept given.Random fits = tt
   dist_kept given.Copies fits = tt
 
-  -- so it lies there
-  dist_passes : (dist : GivenDist) → GivenDistFits q left dist → DistLiesIn q group dist
-  dist_passes dist fits = dist_lies q group dist (dist_kept dist fits)
+  -- so it lies there, where the rows of the left child lie by its items
+  pub dist_passes : DistsFit q left → (dist : GivenDist) → DistLiesIn q left dist → DistLiesIn q group dist
+  dist_passes fit dist lies = dist_lies q group dist (dist_kept dist (fit dist lies))
 
   -- likewise an order
-  order_passes : (order : List ℕ) → OrderLiesIn q left order → OrderLiesIn q group order
+  pub order_passes : (order : List ℕ) → OrderLiesIn q left order → OrderLiesIn q group order
   order_passes order =
       All-weaker (λ element. IsTrue (has_item q left (element / 2))) (λ element. IsTrue (has_item q group (element / 2))) (λ element item. kept (element / 2) item) order
 
   dist_within : (dist : LeftDist) → FixedDistFits q left dist → DistWithin q group left dist
-  dist_within (fixed_dist given asked) fits = dist_passes given fits.0
-  dist_within same_dist fits = dist_passes
-  dist_within same_spread fits = dist_passes
+  dist_within (left_dists.Fixed given asked) fits = dist_lies q group given (dist_kept given fits.0)
+  dist_within (left_dists.Grouped list) fits = λ grouped. dist_lies q group (given.Hashed list) (dist_kept (given.Hashed list) fits)
+  dist_within left_dists.Same fits = dist_passes fits
+  dist_within left_dists.SameSpread fits = dist_passes fits
 
   order_within : (order : LeftOrder) → FixedOrderFits q left order → OrderWithin q group left order
-  order_within (fixed_order given asked) fits = order_passes (given_order q given) fits.0
-  order_within same_order fits = order_passes
+  order_within (left_orders.Fixed given asked) fits = order_passes (given_order q given) fits.0
+  order_within left_orders.Same fits = order_passes
 
   -- where the group has the items of the left child, what fits that child lies in the group
   pub items_within : (dist : LeftDist) (order : LeftOrder) → LeftFits q left dist order → LeftWithin q group left dist order
@@ -177,6 +194,18 @@ module _ (q : Query) (left : KeyParts) where
   -- so does a hashed distribution
   pub on_hashed_fits : (list : ℕ) → HashFits q left list → FixedDistFits q left (on_hashed list)
   on_hashed_fits list fits = (fits, fits)
+
+module _ (q : Query) (group child : KeyParts) (kept : HasItemsOf q child group) where
+  -- a distribution that is asked of a group fits each child that has the group's items
+  pub dist_asked_kept : (dist : Dist) → DistFits q group dist → DistFits q child dist
+  dist_asked_kept dists.One fits = tt
+  dist_asked_kept dists.Spread fits = tt
+  dist_asked_kept dists.Copies fits = tt
+  dist_asked_kept (dists.Hashed list) fits = dist_kept q child group kept (given.Hashed list) fits
+
+  -- so does an order
+  pub order_asked_kept : (order : List ℕ) → OrderLiesIn q group order → OrderLiesIn q child order
+  order_asked_kept = order_passes q child group kept
 
 -- a request in no order fits where its distribution does
 pub plain_fits : (q : Query) (group : KeyParts) (dist : Dist) → DistFits q group dist → Fits q group (request dist 0)

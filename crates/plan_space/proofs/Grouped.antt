@@ -11,11 +11,18 @@ use Rattle.query_core.specs.declared.words.KeyParts.{KeyParts}
 use Rattle.query_core.specs.declared.words.KeyParts.TheVariants as groups
 use Rattle.query_core.specs.declared.expressions.Children.TheVariants.{One}
 use Rattle.request_props.specs.Found.{ascending, joined_columns, alone, unless_empty, wanted_order}
-use Rattle.request_props.specs.Numbered.{IsNumbered, order_of}
-use Rattle.plan_space.specs.Numbers.{list_of, order_number, OrderLiesIn, HashFits}
-use Rattle.plan_space.specs.Lines.{LeftDist, same_spread, Line, above, in_order, on_one, on_hashed, group_order, is_grouped_list, agg_line}
+use Rattle.request_props.specs.Numbered.{lists_of, IsNumbered, order_of, list_of, order_number, group_order, is_grouped_list}
+use Rattle.request_props.specs.declared.request.Dist.{Dist}
+use Rattle.request_props.specs.Lying.{OrderLiesIn}
+use Rattle.request_props.specs.Fitting.{HashFits, DistFits}
+use Rattle.plan_space.specs.Alternatives.{dist_asked, DistServes}
+use Rattle.plan_space.specs.Lines.{in_order, on_one, agg_line}
+use Rattle.plan_space.specs.declared.lines.LeftDist.{LeftDist}
+use Rattle.plan_space.specs.declared.lines.LeftDist.TheVariants as left_dists
+use Rattle.plan_space.specs.declared.lines.Line.{Line}
+use Rattle.plan_space.specs.declared.lines.Line.TheVariants as lines
 use Rattle.plan_space.proofs.Numbers.{ListingIsOne, contains_here, order_numbered}
-use Rattle.plan_space.proofs.Fitting.{FixedDistFits, DistWithin, IsFitting, half, top_dists_fit, no_order_fits, in_order_fits, on_hashed_fits}
+use Rattle.plan_space.proofs.Fitting.{DistWithin, IsFitting, half, no_order_fits, dist_asked_kept}
 use Rattle.plan_space.proofs.Root.{input_item}
 
 -- ---- the columns of GROUP BY
@@ -99,38 +106,45 @@ module _ (one : ListingIsOne) (q : Query) where
 module _ (q : Query) (from : KeyParts) (has : HasGrouped q from) (order : ℕ)
     (order_fits : (group : KeyParts) → HasGrouped q group → IsNumbered q order × OrderLiesIn q group (order_of q order)) where
   -- an aggregation that gives this order fits where its distribution does
-  agg_fits : (dist : LeftDist) → FixedDistFits q from dist → DistWithin q groups.Agg from dist → IsFitting q groups.Agg (One from) (above dist (in_order order))
-  agg_fits dist dist_fits within = record {
-    fixes = record { dist_fits = dist_fits; order_fits = in_order_fits q from order (order_fits from has) };
+  agg_fits : (dist : LeftDist) → ((wanted : Dist) → DistServes q dist wanted → DistFits q from (dist_asked dist wanted)) → DistWithin q groups.Agg from dist
+      → IsFitting q groups.Agg (One from) (lines.Above dist (in_order order))
+  agg_fits dist asked within = record {
+    asks = λ wanted fits serves.
+        let own = order_fits from has in
+        record { dist = asked wanted.dist serves.dist_served; numbered = own.0; order = own.1 };
     gives = record { dist_within = within; order_within = (order_fits groups.Agg (agg_has_grouped q)).1 };
   }
 
-  -- by the hash of a list within GROUP BY it does
-  hashed_fits : (list : ℕ) → IsTrue (is_grouped_list q list) → IsFitting q groups.Agg (One from) (above (on_hashed list) (in_order order))
-  hashed_fits list grouped =
-      agg_fits (on_hashed list) (on_hashed_fits q from list (grouped_list_fits q from has list grouped))
-      (grouped_list_fits q groups.Agg (agg_has_grouped q) list grouped)
+  -- one by the hash of a list does, where the list lies in GROUP BY
+  hashed_fits : (list : ℕ) → IsFitting q groups.Agg (One from) (lines.Above (left_dists.Grouped list) (in_order order))
+  hashed_fits list =
+      agg_fits (left_dists.Grouped list) (λ wanted serves. grouped_list_fits q from has list serves.0)
+      (λ grouped. grouped_list_fits q groups.Agg (agg_has_grouped q) list grouped)
 
   -- so each line of an aggregation fits
   pub agg_line_fits : (mode : ℕ) (line : Line) → agg_line q order mode ≡ Some line → IsFitting q groups.Agg (One from) line
   agg_line_fits mode line =
-      cond_both (mode == 0) (Some (above on_one (in_order order))) _ (λ found. found ≡ Some line → IsFitting q groups.Agg (One from) line)
+      cond_both (mode == 0) (Some (lines.Above on_one (in_order order))) _ (λ found. found ≡ Some line → IsFitting q groups.Agg (One from) line)
       (λ first is.
-      let same : above on_one (in_order order) ≡ line = cc in
-      subst (IsFitting q groups.Agg (One from)) same (agg_fits on_one (tt, tt) tt))
+      let same : lines.Above on_one (in_order order) ≡ line = cc in
+      subst (IsFitting q groups.Agg (One from)) same (agg_fits on_one (λ wanted serves. tt) tt))
       (λ later.
       cond_both (nat_lt mode 128) None _ (λ found. found ≡ Some line → IsFitting q groups.Agg (One from) line) (λ below is. let never : None ≡ Some line = is in cc)
       (λ beyond.
-      cond_both (is_grouped_list q (mode - 128)) (Some (above (on_hashed (mode - 128)) (in_order order))) None
+      cond_both (nat_lt (mode - 128) (length (lists_of q))) (Some (lines.Above (left_dists.Grouped (mode - 128)) (in_order order))) None
       (λ found. found ≡ Some line → IsFitting q groups.Agg (One from) line)
-      (λ grouped is.
-      let same : above (on_hashed (mode - 128)) (in_order order) ≡ line = cc in
-      subst (IsFitting q groups.Agg (One from)) same (hashed_fits (mode - 128) grouped))
+      (λ numbered is.
+      let same : lines.Above (left_dists.Grouped (mode - 128)) (in_order order) ≡ line = cc in
+      subst (IsFitting q groups.Agg (One from)) same (hashed_fits (mode - 128)))
       (λ other is. let never : None ≡ Some line = is in cc)))
 
 -- an aggregation of partial groups leaves the rows of the input where they lie
-pub partial_fits : (q : Query) → IsFitting q groups.Partial (One (input_of q)) (above same_spread (in_order 0))
+pub partial_fits : (q : Query) → IsFitting q groups.Partial (One (input_of q)) (lines.Above left_dists.SameSpread (in_order 0))
 partial_fits q = record {
-  fixes = record { dist_fits = top_dists_fit q (2 ^ length q.tables - 1); order_fits = in_order_fits q (input_of q) 0 (no_order_fits q (input_of q)) };
-  gives = record { dist_within = λ dist fits. tt; order_within = (no_order_fits q groups.Partial).1 };
+  asks = λ wanted fits serves. record {
+    dist = dist_asked_kept q groups.Partial (input_of q) (input_has_grouped q) wanted.dist fits.dist;
+    numbered = (no_order_fits q (input_of q)).0;
+    order = (no_order_fits q (input_of q)).1;
+  };
+  gives = record { dist_within = λ dist lies. tt; order_within = (no_order_fits q groups.Partial).1 };
 }

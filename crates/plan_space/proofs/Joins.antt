@@ -1,4 +1,4 @@
--- The lines of joins fix what fits their children, and give what lies in their group.
+-- The lines of joins ask what fits their children, and give what lies in their group.
 use Rattle.std.proofs.Common.{◌≡◌, ℕ, ◌-◌, Bool, refl, subst, nat_lt}
 use Rattle.std.specs.Prelude.{Option, Some, None, ◌==◌, if◌then◌else◌}
 use Rattle.std.specs.Option.{option_map}
@@ -6,14 +6,19 @@ use Rattle.std.proofs.lemmas.Bool.{cond_both}
 use Rattle.query_core.specs.Crossing.{crossing_of}
 use Rattle.query_core.specs.declared.query.Query.{Query}
 use Rattle.query_core.specs.declared.words.KeyParts.{KeyParts}
-use Rattle.query_core.specs.declared.expressions.Operator.{Operator}
-use Rattle.query_core.specs.declared.expressions.Operator.TheVariants as operators
 use Rattle.query_core.specs.declared.expressions.Children.TheVariants.{Two}
 use Rattle.request_props.specs.declared.request.Request.{Request}
 use Rattle.request_props.specs.declared.request.Dist.{Dist}
 use Rattle.request_props.specs.declared.request.Dist.TheVariants as dists
-use Rattle.plan_space.specs.Numbers.{DistFits, Fits}
-use Rattle.plan_space.specs.Lines.{LeftDist, same_spread, LeftOrder, same_order, Line, beside, request, column_order, column_list, in_order, on_one, on_hashed, hash_colocated, hash_line, merge_with, merge_colocated, merge_line, loop_line, pair_line}
+use Rattle.request_props.specs.Fitting.{DistFits, Fits}
+use Rattle.plan_space.specs.Lines.{request, in_order, on_one, on_hashed, hash_colocated, hash_line, merge_with, merge_colocated, merge_line, loop_line}
+use Rattle.request_props.specs.Numbered.{column_order, column_list}
+use Rattle.plan_space.specs.declared.lines.LeftDist.{LeftDist}
+use Rattle.plan_space.specs.declared.lines.LeftDist.TheVariants as left_dists
+use Rattle.plan_space.specs.declared.lines.LeftOrder.{LeftOrder}
+use Rattle.plan_space.specs.declared.lines.LeftOrder.TheVariants as left_orders
+use Rattle.plan_space.specs.declared.lines.Line.{Line}
+use Rattle.plan_space.specs.declared.lines.Line.TheVariants as lines
 use Rattle.plan_space.proofs.Numbers.{ListingIsOne}
 use Rattle.plan_space.proofs.Items.{AreSides, JoinsGroups}
 use Rattle.plan_space.proofs.Fitting.{FixedDistFits, FixedOrderFits, LeftFits, DistsFit, IsFitting, column_hash_fits, column_order_fits, no_order_fits, in_order_fits, on_hashed_fits, plain_fits, items_within}
@@ -25,10 +30,10 @@ module _ (one : ListingIsOne) (q : Query) (group left right : KeyParts) (lists_f
 
   -- it does where what it fixes fits
   join_fits : (dist : LeftDist) (order : LeftOrder) (asked : Request) → FixedDistFits q left dist → FixedOrderFits q left order → Fits q right asked
-      → JoinFits (beside dist order asked)
+      → JoinFits (lines.Beside dist order asked)
   join_fits dist order asked dist_fits order_fits right_fits =
       let left_fits : LeftFits q left dist order = record { dist_fits = dist_fits; order_fits = order_fits } in
-      record { fixes = (left_fits, right_fits); gives = items_within q group left joins.kept dist order left_fits }
+      record { asks = (left_fits, right_fits); gives = items_within q group left joins.kept dist order left_fits }
 
   -- a hash join by a crossing equality, of rows hashed alike
   hash_colocated_fits : (sides : ℕ × ℕ) → AreSides q left right sides → JoinFits (hash_colocated q sides)
@@ -60,9 +65,9 @@ module _ (one : ListingIsOne) (q : Query) (group left right : KeyParts) (lists_f
 
     -- a line on one segment or over copies, in an order that fits
     plain_line : (dist : LeftDist) (order : LeftOrder) (asked : Dist) → FixedDistFits q left dist → FixedOrderFits q left order → DistFits q right asked
-        → Some (beside dist order (request asked 0)) ≡ Some line → JoinFits line
+        → Some (lines.Beside dist order (request asked 0)) ≡ Some line → JoinFits line
     plain_line dist order asked dist_fits order_fits right_fits is =
-        let same : beside dist order (request asked 0) ≡ line = cc in
+        let same : lines.Beside dist order (request asked 0) ≡ line = cc in
         subst JoinFits same (join_fits dist order (request asked 0) dist_fits order_fits (plain_fits q right asked right_fits))
 
     -- the line of the sides that are found
@@ -83,27 +88,20 @@ module _ (one : ListingIsOne) (q : Query) (group left right : KeyParts) (lists_f
         → (if test then first else second) ≡ Some line → JoinFits line
     chosen_line test first second by_first by_second = cond_both test first second (λ found. found ≡ Some line → JoinFits line) (λ passes. by_first) (λ fails. by_second)
 
-    hash_line_fits : hash_line q left right mode ≡ Some line → JoinFits line
+    pub hash_line_fits : hash_line q left right mode ≡ Some line → JoinFits line
     hash_line_fits =
         chosen_line (mode == 0) _ _ (plain_line on_one (in_order 0) dists.One (tt, tt) (in_order_fits q left 0 (no_order_fits q left)) tt)
-        (chosen_line (mode == 64) _ _ (plain_line same_spread (in_order 0) dists.Copies lists_fit (in_order_fits q left 0 (no_order_fits q left)) tt)
+        (chosen_line (mode == 64) _ _ (plain_line left_dists.SameSpread (in_order 0) dists.Copies lists_fit (in_order_fits q left 0 (no_order_fits q left)) tt)
         (chosen_line (nat_lt mode 128) _ _ no_line
         (crossing_line (hash_colocated q) hash_colocated_fits (mode - 128))))
 
-    merge_line_fits : merge_line q left right mode ≡ Some line → JoinFits line
+    pub merge_line_fits : merge_line q left right mode ≡ Some line → JoinFits line
     merge_line_fits =
         chosen_line (nat_lt mode 64) _ _ (crossing_line (merge_with q on_one dists.One) (merge_fits on_one dists.One (tt, tt) tt) mode)
-        (chosen_line (nat_lt mode 128) _ _ (crossing_line (merge_with q same_spread dists.Copies) (merge_fits same_spread dists.Copies lists_fit tt) (mode - 64))
+        (chosen_line (nat_lt mode 128) _ _ (crossing_line (merge_with q left_dists.SameSpread dists.Copies) (merge_fits left_dists.SameSpread dists.Copies lists_fit tt) (mode - 64))
         (crossing_line (merge_colocated q) merge_colocated_fits (mode - 128)))
 
-    loop_line_fits : loop_line mode ≡ Some line → JoinFits line
+    pub loop_line_fits : loop_line mode ≡ Some line → JoinFits line
     loop_line_fits =
-        chosen_line (mode == 0) _ _ (plain_line on_one same_order dists.One (tt, tt) tt tt)
-        (chosen_line (mode == 64) _ _ (plain_line same_spread same_order dists.Copies lists_fit tt tt) no_line)
-
-    -- a join's lines
-    pub pair_fits : (operator : Operator) → pair_line q operator left right mode ≡ Some line → JoinFits line
-    pair_fits operators.HashJoin = hash_line_fits
-    pair_fits operators.MergeJoin = merge_line_fits
-    pair_fits operators.LoopJoin = loop_line_fits
-    pair_fits operator = no_line
+        chosen_line (mode == 0) _ _ (plain_line on_one left_orders.Same dists.One (tt, tt) tt tt)
+        (chosen_line (mode == 64) _ _ (plain_line left_dists.SameSpread left_orders.Same dists.Copies lists_fit tt tt) no_line)

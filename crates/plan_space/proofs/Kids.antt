@@ -6,11 +6,18 @@ use Rattle.std.specs.Bool.{⊤}
 use Rattle.query_core.specs.declared.query.Query.{Query}
 use Rattle.query_core.specs.declared.expressions.Children.{Children}
 use Rattle.query_core.specs.declared.expressions.ExprParts.{ExprParts}
+use Rattle.query_core.specs.declared.expressions.PhysicalExpr.{PhysicalExpr}
 use Rattle.request_props.specs.declared.request.Request.{Request}
 use Rattle.plan_space.specs.Nodes.{Tree}
-use Rattle.plan_space.specs.Lines.{LeftDist, fixed_dist, same_dist, same_spread, LeftOrder, Line, alone, above, beside, line_of}
+use Rattle.plan_space.specs.Lines.{line_of}
+use Rattle.plan_space.specs.declared.lines.LeftDist.{LeftDist}
+use Rattle.plan_space.specs.declared.lines.LeftDist.TheVariants as left_dists
+use Rattle.plan_space.specs.declared.lines.LeftOrder.{LeftOrder}
+use Rattle.plan_space.specs.declared.lines.Line.{Line}
+use Rattle.plan_space.specs.declared.lines.Line.TheVariants as lines
 use Rattle.plan_space.specs.Gives.{Kid, kid_of, first_given, left_dist, gives_by, native_gives}
-use Rattle.plan_space.specs.Valid.{class_of, OneFits, TwoFit, OverOne, OverTwo, FitsBy, IsValid}
+use Rattle.plan_space.specs.Valid.{OneFits, TwoFit, OverOne, OverTwo, FitsBy, IsValid}
+use Rattle.request_props.specs.Classes.{class_of}
 use Rattle.plan_space.specs.Cost.{share_of, first_share, second_share, operator_shape, native_shape}
 use Rattle.plan_space.specs.Choices.{groups_of}
 use Rattle.plan_space.specs.Laws.{AreOf}
@@ -51,19 +58,20 @@ same_first_class (kid ∷ kids) (other ∷ others) alike = alike.1
 
 same_left_class : (dist : LeftDist) (kids others : List Kid) → AreAlike kids others
     → class_of (left_dist dist (first_given kids).dist) ≡ class_of (left_dist dist (first_given others).dist)
-same_left_class (fixed_dist given asked) kids others alike = refl
-same_left_class same_dist kids others alike = same_first_class kids others alike
-same_left_class same_spread kids others alike = same_first_class kids others alike
+same_left_class (left_dists.Fixed given asked) kids others alike = refl
+same_left_class (left_dists.Grouped list) kids others alike = refl
+same_left_class left_dists.Same kids others alike = same_first_class kids others alike
+same_left_class left_dists.SameSpread kids others alike = same_first_class kids others alike
 
 same_given_class : (found : Option Line) (kids others : List Kid) → AreAlike kids others
     → class_of (gives_by found kids).dist ≡ class_of (gives_by found others).dist
 same_given_class None kids others alike = refl
-same_given_class (Some (alone dist order)) kids others alike = refl
-same_given_class (Some (above dist order)) kids others alike = same_left_class dist kids others alike
-same_given_class (Some (beside dist order wanted)) kids others alike = same_left_class dist kids others alike
+same_given_class (Some (lines.Alone dist order)) kids others alike = refl
+same_given_class (Some (lines.Above dist order)) kids others alike = same_left_class dist kids others alike
+same_given_class (Some (lines.Beside dist order wanted)) kids others alike = same_left_class dist kids others alike
 
 -- an expression does the same over kids that are alike
-pub same_native_shape : (q : Query) (e : ExprParts) (mode : ℕ) (kids others : List Kid) → AreAlike kids others
+pub same_native_shape : (q : Query) (e : PhysicalExpr) (mode : ℕ) (kids others : List Kid) → AreAlike kids others
     → native_shape q e mode kids ≡ native_shape q e mode others
 same_native_shape q e mode kids others alike =
     let first = same_first_share q kids others alike in
@@ -90,7 +98,7 @@ module _ (q : Query) (children : Children) where
 
   pub kids_of_children : (found : Option Line) (kids : List Kid) → FitsBy q found children kids → AreOf (groups_of children) kids
   kids_of_children None kids fits = absurd fits
-  kids_of_children (Some (alone dist order)) kids fits =
+  kids_of_children (Some (lines.Alone dist order)) kids fits =
       subst (λ (c : Children). AreOf (groups_of c) kids) (sym fits.0) (subst (λ (k : List Kid). AreOf [] k) (sym fits.1) tt)
-  kids_of_children (Some (above dist order)) kids fits = one_of dist order kids fits
-  kids_of_children (Some (beside dist order wanted)) kids fits = two_of dist order wanted kids fits
+  kids_of_children (Some (lines.Above dist order)) kids fits = one_of dist order kids fits
+  kids_of_children (Some (lines.Beside dist order wanted)) kids fits = two_of dist order wanted kids fits

@@ -11,7 +11,8 @@ use Rattle.query_core.specs.declared.words.KeyParts.{KeyParts}
 use Rattle.request_props.specs.Found.{ascending}
 use Rattle.request_props.specs.declared.given.GivenOrder.TheVariants.{Listed, Index}
 use Rattle.plan_space.specs.Gives.{gives_so}
-use Rattle.plan_space.specs.Numbers.{dist_by, table_dist, ListLiesIn, OrderLiesIn}
+use Rattle.request_props.specs.Numbered.{dist_by, table_dist}
+use Rattle.request_props.specs.Lying.{ListLiesIn, OrderLiesIn}
 use Rattle.plan_space.specs.Laws.{GivenDistFits, DistLiesIn, GivenFits}
 use Rattle.plan_space.proofs.Numbers.{ListingIsOne, table_list_numbered}
 use Rattle.plan_space.proofs.Items.{hashed_columns, index_of_columns}

@@ -2,23 +2,20 @@
 use Rattle.std.proofs.Common.{◌≡◌, ℕ, ◌+◌, ◌-◌, ◌<◌, ◌≤◌, Bool, true, length, refl, arith}
 use Rattle.std.specs.Prelude.{Option, Some, None, ◌==◌, nat_lt, slice_get, if◌then◌else◌}
 use Rattle.std.specs.Option.{option_map}
-use Rattle.std.proofs.lemmas.Bool.{cond_both, and_parts, ltb-true, eqb-true}
+use Rattle.std.proofs.lemmas.Bool.{cond_both, ltb-true, eqb-true}
 use Rattle.std.proofs.lemmas.Option.{slice_get_within}
-use Rattle.std.specs.List.{list_all}
 use Rattle.query_core.specs.Crossing.{crossing_at, crossing_of}
-use Rattle.query_core.specs.Keys.{is_grouped_by}
-use Rattle.query_core.specs.declared.expressions.Children.{Children}
-use Rattle.query_core.specs.declared.expressions.Children.TheVariants.{Zero, One, Two}
-use Rattle.query_core.specs.declared.expressions.ExprParts.{ExprParts}
-use Rattle.query_core.specs.declared.expressions.Operator.{Operator}
-use Rattle.query_core.specs.declared.expressions.Operator.TheVariants as operators
+use Rattle.query_core.specs.declared.expressions.Physical.{Physical}
+use Rattle.query_core.specs.declared.expressions.Physical.TheVariants as physical
+use Rattle.query_core.specs.declared.expressions.PhysicalExpr.{PhysicalExpr}
 use Rattle.query_core.specs.declared.predicate.Pred.{Pred}
 use Rattle.query_core.specs.declared.query.Query.{Query}
 use Rattle.query_core.specs.declared.words.KeyParts.{KeyParts}
 use Rattle.request_props.specs.declared.request.Dist.TheVariants as dists
-use Rattle.request_props.specs.Numbered.{lists_of}
-use Rattle.plan_space.specs.Numbers.{list_of}
-use Rattle.plan_space.specs.Lines.{Line, same_spread, on_one, only_line, hash_colocated, hash_line, merge_with, merge_colocated, merge_line, loop_line, group_order, is_grouped_list, agg_line, leaf_line, kid_line, pair_line, line_over, line_of}
+use Rattle.request_props.specs.Numbered.{lists_of, group_order}
+use Rattle.plan_space.specs.Lines.{on_one, only_line, hash_colocated, hash_line, merge_with, merge_colocated, merge_line, loop_line, agg_line, operator_line, line_of}
+use Rattle.plan_space.specs.declared.lines.Line.{Line}
+use Rattle.plan_space.specs.declared.lines.LeftDist.TheVariants as left_dists
 use Rattle.plan_space.proofs.Few.{lists_few}
 
 module _ (q : Query) (most : ℕ) (lists_fit : length (lists_of q) ≤ most) (preds_fit : 40 ≤ most) (line : Line) where
@@ -41,31 +38,16 @@ module _ (q : Query) (most : ℕ) (lists_fit : length (lists_of q) ≤ most) (pr
   only_line_few : (own : Line) (mode : ℕ) → IsFew (only_line own mode) mode
   only_line_few own mode = chosen_line mode (mode == 0) (Some own) None (mode_line mode 0 (omega arith) (Some own)) (no_line mode)
 
-  leaf_few : (group : KeyParts) (operator : Operator) (mode : ℕ) → IsFew (leaf_line q group operator mode) mode
-  leaf_few group operators.Scan mode = only_line_few _ mode
-  leaf_few group (operators.IndexScan index) mode = only_line_few _ mode
-  leaf_few group (operators.IndexSeek index) mode = only_line_few _ mode
-  leaf_few group operator mode = no_line mode
-
   -- the line of a list
-  listed_line : (mode : ℕ) → is_grouped_list q (mode - 128) ≡ true → (found : Option Line) → IsFew found mode
-  listed_line mode grouped found is =
-      let numbered = and_parts (nat_lt (mode - 128) (length (lists_of q))) (list_all (is_grouped_by q) (list_of q (mode - 128))) grouped in
-      omega (arith, ltb-true (mode - 128) (length (lists_of q)) numbered.0, lists_fit)
+  listed_line : (mode : ℕ) → nat_lt (mode - 128) (length (lists_of q)) ≡ true → (found : Option Line) → IsFew found mode
+  listed_line mode numbered found is = omega (arith, ltb-true (mode - 128) (length (lists_of q)) numbered, lists_fit)
 
   -- an aggregation has a mode for each list at most
   agg_few : (order mode : ℕ) → IsFew (agg_line q order mode) mode
   agg_few order mode =
       chosen_line mode (mode == 0) _ _ (mode_line mode 0 (omega arith) _)
       (chosen_line mode (nat_lt mode 128) _ _ (λ below. no_line mode)
-      (chosen_line mode (is_grouped_list q (mode - 128)) _ _ (λ grouped. listed_line mode grouped _) (no_line mode)))
-
-  kid_few : (operator : Operator) (mode : ℕ) → IsFew (kid_line q operator mode) mode
-  kid_few operators.Filter mode = only_line_few _ mode
-  kid_few operators.HashAgg mode = agg_few 0 mode
-  kid_few operators.StreamAgg mode = agg_few (group_order q) mode
-  kid_few operators.PartialAgg mode = only_line_few _ mode
-  kid_few operator mode = no_line mode
+      (chosen_line mode (nat_lt (mode - 128) (length (lists_of q))) _ _ (λ numbered. listed_line mode numbered _) (no_line mode)))
 
   module _ (left right : KeyParts) where
     -- there are at most 40 predicates
@@ -92,7 +74,7 @@ module _ (q : Query) (most : ℕ) (lists_fit : length (lists_of q) ≤ most) (pr
     merge_few : (mode : ℕ) → IsFew (merge_line q left right mode) mode
     merge_few mode =
         chosen_line mode (nat_lt mode 64) _ _ (λ below. crossing_line (merge_with q on_one dists.One) mode mode (λ few. omega (arith, few, preds_fit)))
-        (chosen_line mode (nat_lt mode 128) _ _ (λ below. crossing_line (merge_with q same_spread dists.Copies) mode (mode - 64) (λ few. omega (arith, few, preds_fit)))
+        (chosen_line mode (nat_lt mode 128) _ _ (λ below. crossing_line (merge_with q left_dists.SameSpread dists.Copies) mode (mode - 64) (λ few. omega (arith, few, preds_fit)))
         (crossing_line (merge_colocated q) mode (mode - 128) (λ few. omega (arith, few, preds_fit))))
 
     loop_few : (mode : ℕ) → IsFew (loop_line mode) mode
@@ -100,21 +82,22 @@ module _ (q : Query) (most : ℕ) (lists_fit : length (lists_of q) ≤ most) (pr
         chosen_line mode (mode == 0) _ _ (mode_line mode 0 (omega arith) _)
         (chosen_line mode (mode == 64) _ _ (mode_line mode 64 (omega arith) _) (no_line mode))
 
-    pair_few : (operator : Operator) (mode : ℕ) → IsFew (pair_line q operator left right mode) mode
-    pair_few operators.HashJoin mode = hash_few mode
-    pair_few operators.MergeJoin mode = merge_few mode
-    pair_few operators.LoopJoin mode = loop_few mode
-    pair_few operator mode = no_line mode
-
-  line_few : (group : KeyParts) (operator : Operator) (children : Children) (mode : ℕ) → IsFew (line_over q group operator children mode) mode
-  line_few group operator Zero mode = leaf_few group operator mode
-  line_few group operator (One child) mode = kid_few operator mode
-  line_few group operator (Two left right) mode = pair_few left right operator mode
+  line_few : (group : KeyParts) (operator : Physical) (mode : ℕ) → IsFew (operator_line q group operator mode) mode
+  line_few group physical.Scan mode = only_line_few _ mode
+  line_few group (physical.IndexScan index) mode = only_line_few _ mode
+  line_few group (physical.Filter child) mode = only_line_few _ mode
+  line_few group (physical.IndexSeek index) mode = only_line_few _ mode
+  line_few group (physical.HashJoin left right) mode = hash_few left right mode
+  line_few group (physical.MergeJoin left right) mode = merge_few left right mode
+  line_few group (physical.LoopJoin left right) mode = loop_few left right mode
+  line_few group (physical.HashAgg child) mode = agg_few 0 mode
+  line_few group (physical.StreamAgg child) mode = agg_few (group_order q) mode
+  line_few group (physical.PartialAgg child) mode = only_line_few _ mode
 
 -- an expression has lines in modes below 192 only, where the query has few hashed lists
-pub few_modes : (q : Query) → length (lists_of q) ≤ 60 → (e : ExprParts) (mode : ℕ) (line : Line) → line_of q e mode ≡ Some line → mode < 192
-few_modes q few e mode line = line_few q 64 (omega (arith, few)) (omega arith) line e.group e.operator e.children mode
+pub few_modes : (q : Query) → length (lists_of q) ≤ 60 → (e : PhysicalExpr) (mode : ℕ) (line : Line) → line_of q e mode ≡ Some line → mode < 192
+few_modes q few e mode line = line_few q 64 (omega (arith, few)) (omega arith) line e.group e.operator mode
 
 -- and below 256 in each query
-pub byte_modes : (q : Query) (e : ExprParts) (mode : ℕ) (line : Line) → line_of q e mode ≡ Some line → mode < 256
-byte_modes q e mode line = line_few q 128 (omega (arith, lists_few q)) (omega arith) line e.group e.operator e.children mode
+pub byte_modes : (q : Query) (e : PhysicalExpr) (mode : ℕ) (line : Line) → line_of q e mode ≡ Some line → mode < 256
+byte_modes q e mode line = line_few q 128 (omega (arith, lists_few q)) (omega arith) line e.group e.operator mode

@@ -11,9 +11,7 @@ use Rattle.query_core.specs.declared.query.Query.{Query}
 use Rattle.query_core.specs.declared.table.QueryTable.{QueryTable}
 use Rattle.request_props.specs.Listing.{IsListing, listing_of}
 use Rattle.request_props.specs.Found.{ascending, alone, unless_empty, wanted_order, table_lists, joined_columns, found_lists, found_orders}
-use Rattle.request_props.specs.Numbered.{lists_of, orders_of, IsNumbered, order_of}
-use Rattle.plan_space.specs.Numbers.{list_number, list_of, order_number}
-use Rattle.plan_space.specs.Lines.{column_list, column_order}
+use Rattle.request_props.specs.Numbered.{lists_of, orders_of, IsNumbered, order_of, list_number, list_of, order_number, column_list, column_order}
 
 -- ---- places in lists
 

@@ -7,7 +7,8 @@ use Rattle.query_core.specs.declared.words.KeyParts.{KeyParts}
 use Rattle.query_core.specs.declared.expressions.ExprParts.{ExprParts}
 use Rattle.request_props.specs.Numbered.{lists_of, orders_of}
 use Rattle.request_props.specs.declared.request.Request.{Request}
-use Rattle.plan_space.specs.Nodes.{Kind, number_of, Tree, leaf, over, two, code_of}
+use Rattle.plan_space.specs.Nodes.{number_of, Tree, leaf, over, two, code_of}
+use Rattle.plan_space.specs.declared.nodes.NodeKind.{NodeKind}
 use Rattle.plan_space.specs.Gives.{Kid, kid_of}
 use Rattle.plan_space.specs.Valid.{NodeFits, IsValid}
 use Rattle.plan_space.specs.Least.{IsLeast}
@@ -20,9 +21,9 @@ module _ (Member : ExprParts → Type 0) (packed : (e : ExprParts) → Member e 
     (expressions : (e f : ExprParts) → IsPacked e → IsPacked f → word_of e ≡ word_of f → e ≡ f) (q : Query)
     (few_lists : length (lists_of q) ≤ 60) (few_orders : length (orders_of q) ≤ 60) where
   -- nodes of valid plans with one number are one
-  same_node : (a b : Kind) (kids others : List Kid) → NodeFits Member q a kids → NodeFits Member q b others → number_of a ≡ number_of b → a ≡ b
+  same_node : (a b : NodeKind) (kids others : List Kid) → NodeFits Member q a kids → NodeFits Member q b others → number_of a ≡ number_of b → a ≡ b
   same_node a b kids others x y same =
-      number_names_one expressions 60 (omega arith) a b (fits_in_range Member packed q 60 few_orders few_lists a kids x)
+      number_names_one expressions a b (fits_in_range Member packed q 60 few_orders few_lists a kids x)
       (fits_in_range Member packed q 60 few_orders few_lists b others y) same
 
   -- a code with anything behind it is that of one plan

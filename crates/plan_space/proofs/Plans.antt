@@ -2,7 +2,8 @@
 use Rattle.std.proofs.Common.{◌≤◌, [], ◌∷◌, inl, inr, refl, arith}
 use Rattle.std.proofs.Math.Nat.{eq-or-lt_of_le}
 use Rattle.query_core.specs.declared.query.Query.{Query}
-use Rattle.plan_space.specs.Nodes.{Kind, number_of, Tree, over, two, code_of}
+use Rattle.plan_space.specs.Nodes.{number_of, Tree, over, two, code_of}
+use Rattle.plan_space.specs.declared.nodes.NodeKind.{NodeKind}
 use Rattle.plan_space.specs.Gives.{kid_of}
 use Rattle.cost_units.specs.declared.shape.CostShape.{CostShape}
 use Rattle.cost_units.specs.declared.shape.CostShape.TheVariants.{Scan, IndexScan, IndexSeek, Filter, HashJoin, MergeJoin, LoopJoin, HashAgg, StreamAgg, PartialAgg, Sort, Gather, GatherMerge, Redistribute, Broadcast}
@@ -48,12 +49,12 @@ costs_some (Redistribute rows) = omega arith
 costs_some (Broadcast rows) = omega arith
 
 -- a plan is less than the same plan under one more node
-pub kid_at_most : (q : Query) (node : Kind) (a kid : Tree) → IsAtMost q a kid → IsAtMost q a (over node kid)
+pub kid_at_most : (q : Query) (node : NodeKind) (a kid : Tree) → IsAtMost q a kid → IsAtMost q a (over node kid)
 kid_at_most q node a kid (inl x) = let some = costs_some (shape_of q node (kid_of q kid ∷ [])) in inl (omega arith)
 kid_at_most q node a kid (inr x) = let some = costs_some (shape_of q node (kid_of q kid ∷ [])) in inl (omega arith)
 
 -- a node of no greater number and no greater cost over a plan that is at most the other
-pub over_at_most : (q : Query) (node other : Kind) (a b : Tree)
+pub over_at_most : (q : Query) (node other : NodeKind) (a b : Tree)
     → number_of node ≤ number_of other
     → local_cost (shape_of q node (kid_of q a ∷ [])) ≤ local_cost (shape_of q other (kid_of q b ∷ []))
     → IsAtMost q a b
@@ -65,7 +66,7 @@ over_at_most q node other a b number cost (inr x) = elim (eq-or-lt_of_le cost) [
 ]
 
 -- one node over two plans that are each at most the other
-pub two_at_most : (q : Query) (node : Kind) (a b c d : Tree)
+pub two_at_most : (q : Query) (node : NodeKind) (a b c d : Tree)
     → local_cost (shape_of q node (kid_of q a ∷ kid_of q c ∷ [])) ≤ local_cost (shape_of q node (kid_of q b ∷ kid_of q d ∷ []))
     → IsAtMost q a b
     → IsAtMost q c d

@@ -30,10 +30,11 @@ use Rattle.query_core.specs.declared.words.KeyParts.TheVariants as groups
 use Rattle.request_props.specs.Found.{element_of, ascending, joined_columns, unless_empty, wanted_order, found_orders}
 use Rattle.request_props.specs.Found.{alone as each_alone}
 use Rattle.request_props.specs.Listing.{list_cmp}
-use Rattle.request_props.specs.Numbered.{orders_of, IsNumbered, order_of, root_dist, IsNumberOf, IsProps}
+use Rattle.request_props.specs.Numbered.{orders_of, IsNumbered, order_of, root_dist, IsNumberOf, IsProps, order_number, root_request}
 use Rattle.request_props.specs.declared.props.Props.{Props}
 use Rattle.plan_space.specs.Lines.{request}
-use Rattle.plan_space.specs.Numbers.{order_number, OrderLiesIn, DistFits, Fits, root_request}
+use Rattle.request_props.specs.Lying.{OrderLiesIn}
+use Rattle.request_props.specs.Fitting.{DistFits, Fits}
 use Rattle.plan_space.proofs.Numbers.{ListingIsOne, contains_here, order_numbered}
 
 -- ---- items of the root

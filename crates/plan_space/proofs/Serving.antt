@@ -1,15 +1,20 @@
 -- A choice serves the request.
 use Rattle.std.proofs.Common.{◌≡◌, ℕ, zero, suc, List, [], ◌∷◌, inl, inr, refl, sym, subst, arith}
+use Rattle.query_core.specs.Expressions.{expr_of, physical_children}
 use Rattle.query_core.specs.declared.query.Query.{Query}
 use Rattle.query_core.specs.declared.words.KeyParts.{KeyParts}
 use Rattle.query_core.specs.declared.expressions.ExprParts.{ExprParts}
+use Rattle.query_core.specs.declared.expressions.PhysicalExpr.{PhysicalExpr}
 use Rattle.request_props.specs.Numbered.{order_of}
 use Rattle.request_props.specs.Satisfied.{Satisfies}
 use Rattle.request_props.specs.declared.request.Dist.{Dist}
 use Rattle.request_props.specs.declared.request.Dist.TheVariants.{One, Spread, Copies, Hashed}
 use Rattle.request_props.specs.declared.request.Request.{Request}
-use Rattle.plan_space.specs.Numbers.{OrderLiesIn, HashFits, Fits}
-use Rattle.plan_space.specs.Nodes.{native, gather, broadcast, sort, gather_merge, redistribute, Tree, over}
+use Rattle.request_props.specs.Lying.{OrderLiesIn}
+use Rattle.request_props.specs.Fitting.{HashFits, Fits}
+use Rattle.plan_space.specs.Nodes.{Tree, over}
+use Rattle.plan_space.specs.declared.nodes.NodeKind.TheVariants as nodes
+use Rattle.plan_space.specs.declared.nodes.Enforcer.TheVariants as enforcers
 use Rattle.plan_space.specs.Lines.{request}
 use Rattle.plan_space.specs.Gives.{gives, native_gives}
 use Rattle.plan_space.specs.Valid.{NativeFits}
@@ -23,14 +28,14 @@ use Rattle.plan_space.proofs.Kids.{sights, AreValid}
 
 module _ (Member : ExprParts → Type 0) (q : Query) (group : KeyParts) where
   module _ (kid : Tree) where
-    gather_serves : Serves Member q group (request Spread 0) kid → Serves Member q group (request One 0) (over gather kid)
+    gather_serves : Serves Member q group (request Spread 0) kid → Serves Member q group (request One 0) (over (nodes.Enforcer enforcers.Gather) kid)
     gather_serves serves = record {
       valid = (serves.valid, met_spread (gives q kid).dist serves.satisfies.dist);
       of_group = serves.of_group;
       satisfies = record { dist = tt; order = tt };
     }
 
-    broadcast_serves : Serves Member q group (request Spread 0) kid → Serves Member q group (request Copies 0) (over broadcast kid)
+    broadcast_serves : Serves Member q group (request Spread 0) kid → Serves Member q group (request Copies 0) (over (nodes.Enforcer enforcers.Broadcast) kid)
     broadcast_serves serves = record {
       valid = (serves.valid, met_spread (gives q kid).dist serves.satisfies.dist);
       of_group = serves.of_group;
@@ -38,7 +43,7 @@ module _ (Member : ExprParts → Type 0) (q : Query) (group : KeyParts) where
     }
 
     redistribute_serves : (list : ℕ) → HashFits q group list → Serves Member q group (request Spread 0) kid
-        → Serves Member q group (request (Hashed list) 0) (over (redistribute list) kid)
+        → Serves Member q group (request (Hashed list) 0) (over (nodes.Enforcer (enforcers.Redistribute list)) kid)
     redistribute_serves list fits serves = record {
       valid = (
         serves.valid,
@@ -52,7 +57,7 @@ module _ (Member : ExprParts → Type 0) (q : Query) (group : KeyParts) where
     }
 
     sort_serves : (dist : Dist) (o : ℕ) → Fits q group (request dist (suc o)) → Serves Member q group (request dist 0) kid
-        → Serves Member q group (request dist (suc o)) (over (sort (suc o)) kid)
+        → Serves Member q group (request dist (suc o)) (over (nodes.Enforcer (enforcers.Sort (suc o))) kid)
     sort_serves dist o fits serves = record {
       valid = (
         serves.valid,
@@ -67,7 +72,7 @@ module _ (Member : ExprParts → Type 0) (q : Query) (group : KeyParts) where
     }
 
     merge_serves : (o : ℕ) → Fits q group (request One (suc o)) → Serves Member q group (request Spread (suc o)) kid
-        → Serves Member q group (request One (suc o)) (over (gather_merge (suc o)) kid)
+        → Serves Member q group (request One (suc o)) (over (nodes.Enforcer (enforcers.GatherMerge (suc o))) kid)
     merge_serves o fits serves = record {
       valid = (
         serves.valid,
@@ -86,13 +91,13 @@ module _ (Member : ExprParts → Type 0) (q : Query) (group : KeyParts) where
     }
 
     named_serves : (wanted : Request) (e first : EnforcedBy) → e ≡ first
-        → (Serves Member q group first.below kid → Serves Member q group wanted (over first.node kid))
-        → Serves Member q group e.below kid → Serves Member q group wanted (over e.node kid)
+        → (Serves Member q group first.below kid → Serves Member q group wanted (over (nodes.Enforcer first.node) kid))
+        → Serves Member q group e.below kid → Serves Member q group wanted (over (nodes.Enforcer e.node) kid)
     named_serves wanted e first same =
-        subst (λ (x : EnforcedBy). Serves Member q group x.below kid → Serves Member q group wanted (over x.node kid)) (sym same)
+        subst (λ (x : EnforcedBy). Serves Member q group x.below kid → Serves Member q group wanted (over (nodes.Enforcer x.node) kid)) (sym same)
 
     enforcer_serves : (dist : Dist) (o : ℕ) (e : EnforcedBy) → Fits q group (request dist o) → Among e (enforcers_by dist o)
-        → Serves Member q group e.below kid → Serves Member q group (request dist o) (over e.node kid)
+        → Serves Member q group e.below kid → Serves Member q group (request dist o) (over (nodes.Enforcer e.node) kid)
     enforcer_serves One zero e fits (inl same) = named_serves (request One 0) e _ same gather_serves
     enforcer_serves One zero e fits (inr none) = absurd none
     enforcer_serves Spread zero e fits none = absurd none
@@ -136,8 +141,8 @@ module _ (Member : ExprParts → Type 0) (q : Query) (group : KeyParts) where
   least_serve (g ∷ groups) (wanted ∷ wishes) (plan ∷ plans) least = (least.0.serves.satisfies, least_serve groups wishes plans least.1)
 
   -- the node over these plans, where it may stand over them and meets the request
-  node_serves : (e : ExprParts) (mode : ℕ) (wanted : Request) (kids : List Tree) (plan : Tree) → Member e → e.group ≡ group → AreValid Member q kids
-      → NativeFits q e mode (sights q kids) → Satisfies q (native_gives q e mode (sights q kids)) wanted → IsNodeOver (native e mode) kids plan
+  node_serves : (e : PhysicalExpr) (mode : ℕ) (wanted : Request) (kids : List Tree) (plan : Tree) → Member (expr_of e) → e.group ≡ group → AreValid Member q kids
+      → NativeFits q e mode (sights q kids) → Satisfies q (native_gives q e mode (sights q kids)) wanted → IsNodeOver (nodes.Native e mode) kids plan
       → Serves Member q group wanted plan
   node_serves e mode wanted [] plan member of_group valid fits satisfies is =
       subst (λ (t : Tree). Serves Member q group wanted t) (sym is) (record { valid = (member, fits); of_group = of_group; satisfies = satisfies })
@@ -154,7 +159,7 @@ module _ (Member : ExprParts → Type 0) (q : Query) (group : KeyParts) where
   choice_serves joins wanted plan fits (enforced_choice e kid among least is) =
       subst (λ (t : Tree). Serves Member q group wanted t) (sym is) (enforcer_serves kid wanted.dist wanted.order e fits among least.serves)
   choice_serves joins wanted plan fits (native_choice e mode line kids member of_group alternative least is) =
-      let of_children = least_of (groups_of e.children) (asked_of line wanted) kids least in
-      let serve = least_serve (groups_of e.children) (asked_of line wanted) kids least in
+      let of_children = least_of (groups_of (physical_children e.operator)) (asked_of line wanted) kids least in
+      let serve = least_serve (groups_of (physical_children e.operator)) (asked_of line wanted) kids least in
       let joined = joins e mode line (sights q kids) wanted alternative of_children serve in
-      node_serves e mode wanted kids plan member of_group (valid_least (groups_of e.children) (asked_of line wanted) kids least) joined.0 joined.1 is
+      node_serves e mode wanted kids plan member of_group (valid_least (groups_of (physical_children e.operator)) (asked_of line wanted) kids least) joined.0 joined.1 is

@@ -2,17 +2,21 @@
 use Rattle.std.specs.Prelude.{ℕ, ◌+◌, List, [], ◌∷◌}
 use Rattle.query_core.specs.declared.query.Query.{Query}
 use Rattle.query_core.specs.declared.words.KeyParts.{KeyParts}
-use Rattle.query_core.specs.declared.expressions.Operator.{Operator}
-use Rattle.query_core.specs.declared.expressions.Operator.TheVariants as operators
-use Rattle.query_core.specs.declared.expressions.ExprParts.{ExprParts}
+use Rattle.query_core.specs.declared.expressions.Physical.{Physical}
+use Rattle.query_core.specs.declared.expressions.Physical.TheVariants as physical
+use Rattle.query_core.specs.declared.expressions.PhysicalExpr.{PhysicalExpr}
 use Rattle.cardinality.specs.Rows.{rows_of}
 use Rattle.cost_units.specs.declared.shape.Class.{Class}
 use Rattle.cost_units.specs.declared.shape.CostShape.{CostShape}
 use Rattle.cost_units.specs.declared.shape.CostShape.TheVariants as shapes
 use Rattle.cost_units.specs.Cost.{share, local_cost}
-use Rattle.plan_space.specs.Nodes.{Kind, native, gather, broadcast, sort, gather_merge, redistribute, Tree, leaf, over, two}
+use Rattle.plan_space.specs.Nodes.{Tree, leaf, over, two}
+use Rattle.plan_space.specs.declared.nodes.NodeKind.{NodeKind}
+use Rattle.plan_space.specs.declared.nodes.NodeKind.TheVariants as nodes
+use Rattle.plan_space.specs.declared.nodes.Enforcer.{Enforcer}
+use Rattle.plan_space.specs.declared.nodes.Enforcer.TheVariants as enforcers
 use Rattle.plan_space.specs.Gives.{Kid, first_group, native_gives, kid_of}
-use Rattle.plan_space.specs.Valid.{class_of}
+use Rattle.request_props.specs.Classes.{class_of}
 
 -- how many of a group's rows the busiest segment has
 abbrev pub share_of : Query → KeyParts → Class → ℕ
@@ -28,38 +32,36 @@ abbrev pub second_share : Query → List Kid → ℕ
 second_share q [] = 0
 second_share q (kid ∷ others) = first_share q others
 
--- what an operator has to do where so many rows come in from the left and from the right and so many go out; a logical operator is no node
-abbrev pub operator_shape : Operator → ℕ → ℕ → ℕ → CostShape
-operator_shape operators.Get left right out = shapes.Scan out
-operator_shape operators.Scan left right out = shapes.Scan out
-operator_shape (operators.IndexScan index) left right out = shapes.IndexScan out
-operator_shape operators.Select left right out = shapes.Scan out
-operator_shape operators.Filter left right out = shapes.Filter left
-operator_shape (operators.IndexSeek index) left right out = shapes.IndexSeek out
-operator_shape operators.NJoin left right out = shapes.Scan out
-operator_shape operators.Join left right out = shapes.Scan out
-operator_shape operators.HashJoin left right out = shapes.HashJoin left right out
-operator_shape operators.MergeJoin left right out = shapes.MergeJoin left right out
-operator_shape operators.LoopJoin left right out = shapes.LoopJoin left right
-operator_shape operators.Agg left right out = shapes.Scan out
-operator_shape operators.HashAgg left right out = shapes.HashAgg left out
-operator_shape operators.StreamAgg left right out = shapes.StreamAgg left
-operator_shape operators.Partial left right out = shapes.Scan out
-operator_shape operators.PartialAgg left right out = shapes.PartialAgg left
+-- what an operator has to do where so many rows come in from the left and from the right and so many go out
+abbrev pub operator_shape : Physical → ℕ → ℕ → ℕ → CostShape
+operator_shape physical.Scan left right out = shapes.Scan out
+operator_shape (physical.IndexScan index) left right out = shapes.IndexScan out
+operator_shape (physical.Filter child) left right out = shapes.Filter left
+operator_shape (physical.IndexSeek index) left right out = shapes.IndexSeek out
+operator_shape (physical.HashJoin first second) left right out = shapes.HashJoin left right out
+operator_shape (physical.MergeJoin first second) left right out = shapes.MergeJoin left right out
+operator_shape (physical.LoopJoin first second) left right out = shapes.LoopJoin left right
+operator_shape (physical.HashAgg child) left right out = shapes.HashAgg left out
+operator_shape (physical.StreamAgg child) left right out = shapes.StreamAgg left
+operator_shape (physical.PartialAgg child) left right out = shapes.PartialAgg left
 
 -- what a physical expression has to do in a mode; each side's share is by its own distribution
-abbrev pub native_shape : Query → ExprParts → ℕ → List Kid → CostShape
+abbrev pub native_shape : Query → PhysicalExpr → ℕ → List Kid → CostShape
 native_shape q e mode kids =
     operator_shape e.operator (first_share q kids) (second_share q kids) (share_of q e.group (class_of (native_gives q e mode kids).dist))
 
--- what a node has to do over its kids; a gather, a merge and a broadcast handle all rows of the group
-abbrev pub shape_of : Query → Kind → List Kid → CostShape
-shape_of q (native e mode) kids = native_shape q e mode kids
-shape_of q gather kids = shapes.Gather (rows_of q (first_group kids))
-shape_of q broadcast kids = shapes.Broadcast (rows_of q (first_group kids))
-shape_of q (sort order) kids = shapes.Sort (first_share q kids)
-shape_of q (gather_merge order) kids = shapes.GatherMerge (rows_of q (first_group kids))
-shape_of q (redistribute list) kids = shapes.Redistribute (first_share q kids)
+-- what an enforcer has to do over its kid; a gather, a merge and a broadcast handle all rows of the group
+abbrev pub enforcer_shape : Query → Enforcer → List Kid → CostShape
+enforcer_shape q enforcers.Gather kids = shapes.Gather (rows_of q (first_group kids))
+enforcer_shape q enforcers.Broadcast kids = shapes.Broadcast (rows_of q (first_group kids))
+enforcer_shape q (enforcers.Sort order) kids = shapes.Sort (first_share q kids)
+enforcer_shape q (enforcers.GatherMerge order) kids = shapes.GatherMerge (rows_of q (first_group kids))
+enforcer_shape q (enforcers.Redistribute list) kids = shapes.Redistribute (first_share q kids)
+
+-- what a node has to do over its kids
+abbrev pub shape_of : Query → NodeKind → List Kid → CostShape
+shape_of q (nodes.Native e mode) kids = native_shape q e mode kids
+shape_of q (nodes.Enforcer e) kids = enforcer_shape q e kids
 
 -- the sum of the costs of the nodes
 abbrev pub cost_of : Query → Tree → ℕ

@@ -3,14 +3,24 @@ use Rattle.std.specs.Prelude.{ℕ, List, [], ◌∷◌, Option, None, Some}
 use Rattle.query_core.specs.declared.query.Query.{Query}
 use Rattle.query_core.specs.declared.words.KeyParts.{KeyParts}
 use Rattle.query_core.specs.declared.words.KeyParts.TheVariants.{Get}
-use Rattle.query_core.specs.declared.expressions.ExprParts.{ExprParts}
+use Rattle.query_core.specs.declared.expressions.PhysicalExpr.{PhysicalExpr}
 use Rattle.request_props.specs.declared.given.Given.{Given}
 use Rattle.request_props.specs.declared.given.GivenDist.{GivenDist}
 use Rattle.request_props.specs.declared.given.GivenDist.TheVariants.{One, Hashed, Copies}
 use Rattle.request_props.specs.declared.given.GivenOrder.{GivenOrder}
 use Rattle.request_props.specs.declared.given.GivenOrder.TheVariants.{Listed}
-use Rattle.plan_space.specs.Nodes.{Kind, native, gather, broadcast, sort, gather_merge, redistribute, Tree, leaf, over, two}
-use Rattle.plan_space.specs.Lines.{LeftDist, fixed_dist, same_dist, same_spread, LeftOrder, fixed_order, same_order, Line, alone, above, beside, line_of}
+use Rattle.plan_space.specs.Nodes.{Tree, leaf, over, two}
+use Rattle.plan_space.specs.declared.nodes.NodeKind.{NodeKind}
+use Rattle.plan_space.specs.declared.nodes.NodeKind.TheVariants as nodes
+use Rattle.plan_space.specs.declared.nodes.Enforcer.{Enforcer}
+use Rattle.plan_space.specs.declared.nodes.Enforcer.TheVariants as enforcers
+use Rattle.plan_space.specs.Lines.{line_of}
+use Rattle.plan_space.specs.declared.lines.LeftDist.{LeftDist}
+use Rattle.plan_space.specs.declared.lines.LeftDist.TheVariants as left_dists
+use Rattle.plan_space.specs.declared.lines.LeftOrder.{LeftOrder}
+use Rattle.plan_space.specs.declared.lines.LeftOrder.TheVariants as left_orders
+use Rattle.plan_space.specs.declared.lines.Line.{Line}
+use Rattle.plan_space.specs.declared.lines.Line.TheVariants as lines
 
 -- what a node sees of a plan below it
 pub record Kid : Type 0 where
@@ -32,14 +42,15 @@ first_given (kid ∷ others) = kid.given
 
 -- the distribution that a line gives over a left child of this one
 abbrev pub left_dist : LeftDist → GivenDist → GivenDist
-left_dist (fixed_dist given asked) dist = given
-left_dist same_dist dist = dist
-left_dist same_spread dist = dist
+left_dist (left_dists.Fixed given asked) dist = given
+left_dist (left_dists.Grouped list) dist = Hashed list
+left_dist left_dists.Same dist = dist
+left_dist left_dists.SameSpread dist = dist
 
 -- the order that a line gives over a left child in this one
 abbrev pub left_order : LeftOrder → GivenOrder → GivenOrder
-left_order (fixed_order given asked) order = given
-left_order same_order order = order
+left_order (left_orders.Fixed given asked) order = given
+left_order left_orders.Same order = order
 
 -- what a line gives over a left child that gives this
 abbrev pub left_gives : LeftDist → LeftOrder → Given → Given
@@ -47,9 +58,9 @@ left_gives dist order given = gives_so (left_dist dist given.dist) (left_order o
 
 -- what a line gives over its kids
 abbrev pub line_gives : Line → List Kid → Given
-line_gives (alone dist order) kids = gives_so dist order
-line_gives (above dist order) kids = left_gives dist order (first_given kids)
-line_gives (beside dist order right) kids = left_gives dist order (first_given kids)
+line_gives (lines.Alone dist order) kids = gives_so dist order
+line_gives (lines.Above dist order) kids = left_gives dist order (first_given kids)
+line_gives (lines.Beside dist order right) kids = left_gives dist order (first_given kids)
 
 -- the same for a mode that may not be there
 abbrev pub gives_by : Option Line → List Kid → Given
@@ -57,28 +68,28 @@ gives_by None kids = first_given []
 gives_by (Some line) kids = line_gives line kids
 
 -- what a physical expression gives in a mode
-abbrev pub native_gives : Query → ExprParts → ℕ → List Kid → Given
+abbrev pub native_gives : Query → PhysicalExpr → ℕ → List Kid → Given
 native_gives q e mode kids = gives_by (line_of q e mode) kids
 
+-- what an enforcer gives over a plan that gives this
+abbrev pub enforcer_gives : Enforcer → Given → Given
+enforcer_gives enforcers.Gather given = gives_so One (Listed 0)
+enforcer_gives enforcers.Broadcast given = gives_so Copies (Listed 0)
+enforcer_gives (enforcers.Sort order) given = gives_so given.dist (Listed order)
+enforcer_gives (enforcers.GatherMerge order) given = gives_so One (Listed order)
+enforcer_gives (enforcers.Redistribute list) given = gives_so (Hashed list) (Listed 0)
+
 -- the group of a plan with this node at its root: an enforcer stays in the group of its kid
-abbrev pub node_group : Kind → List Kid → KeyParts
-node_group (native e mode) kids = e.group
-node_group gather kids = first_group kids
-node_group broadcast kids = first_group kids
-node_group (sort order) kids = first_group kids
-node_group (gather_merge order) kids = first_group kids
-node_group (redistribute list) kids = first_group kids
+abbrev pub node_group : NodeKind → List Kid → KeyParts
+node_group (nodes.Native e mode) kids = e.group
+node_group (nodes.Enforcer e) kids = first_group kids
 
 -- what a node gives over its kids
-abbrev pub node_gives : Query → Kind → List Kid → Given
-node_gives q (native e mode) kids = native_gives q e mode kids
-node_gives q gather kids = gives_so One (Listed 0)
-node_gives q broadcast kids = gives_so Copies (Listed 0)
-node_gives q (sort order) kids = gives_so (first_given kids).dist (Listed order)
-node_gives q (gather_merge order) kids = gives_so One (Listed order)
-node_gives q (redistribute list) kids = gives_so (Hashed list) (Listed 0)
+abbrev pub node_gives : Query → NodeKind → List Kid → Given
+node_gives q (nodes.Native e mode) kids = native_gives q e mode kids
+node_gives q (nodes.Enforcer e) kids = enforcer_gives e (first_given kids)
 
-abbrev pub kid_under : Query → Kind → List Kid → Kid
+abbrev pub kid_under : Query → NodeKind → List Kid → Kid
 kid_under q node kids = record { group = node_group node kids; given = node_gives q node kids }
 
 -- what is seen of a plan

@@ -1,22 +1,24 @@
 -- What holds of all plans of a query.
 use Rattle.std.specs.Prelude.{ℕ, ◌≡◌, ◌<◌, ◌≤◌, List, [], ◌∷◌, length, Option, Some, ⊤}
 use Rattle.query_core.specs.Keys.{root_of}
-use Rattle.query_core.specs.Expressions.{IsCandidate}
+use Rattle.query_core.specs.Expressions.{expr_of, physical_children, IsCandidate}
 use Rattle.query_core.specs.declared.query.Query.{Query}
 use Rattle.query_core.specs.declared.words.KeyParts.{KeyParts}
 use Rattle.query_core.specs.declared.words.KeyParts.TheVariants as groups
-use Rattle.query_core.specs.declared.expressions.ExprParts.{ExprParts}
+use Rattle.query_core.specs.declared.expressions.PhysicalExpr.{PhysicalExpr}
 use Rattle.xform_rules.specs.Closure.{IsMember}
-use Rattle.request_props.specs.Numbered.{lists_of, orders_of, IsProps}
+use Rattle.request_props.specs.Numbered.{lists_of, orders_of, IsProps, root_request}
 use Rattle.request_props.specs.declared.props.Props.{Props}
 use Rattle.request_props.specs.Satisfied.{given_order, Satisfies}
 use Rattle.request_props.specs.declared.given.Given.{Given}
 use Rattle.request_props.specs.declared.given.GivenDist.{GivenDist}
 use Rattle.request_props.specs.declared.given.GivenDist.TheVariants.{One, Hashed, Random, Copies}
 use Rattle.request_props.specs.declared.request.Request.{Request}
-use Rattle.plan_space.specs.Numbers.{OrderLiesIn, HashFits, Fits, root_request}
+use Rattle.request_props.specs.Lying.{OrderLiesIn}
+use Rattle.request_props.specs.Fitting.{HashFits, Fits}
 use Rattle.plan_space.specs.Nodes.{Tree}
-use Rattle.plan_space.specs.Lines.{Line, line_of}
+use Rattle.plan_space.specs.Lines.{line_of}
+use Rattle.plan_space.specs.declared.lines.Line.{Line}
 use Rattle.plan_space.specs.Gives.{Kid, kid_of, gives, native_gives}
 use Rattle.plan_space.specs.Valid.{NativeFits, IsValid}
 use Rattle.plan_space.specs.Alternatives.{IsAlternative, asked_of, KidsServe}
@@ -69,22 +71,22 @@ GivesWhatFits q = (plan : Tree) → IsValid (IsMember q) q plan → GivenFits q 
 -- a physical expression over kids meets a request that fits its group only in a mode that is there for the request, over kids that give what is asked of them
 abbrev pub SatisfactionSplits : Query → Type 0
 SatisfactionSplits q =
-    (e : ExprParts) (mode : ℕ) (kids : List Kid) (wanted : Request) → IsCandidate q e → KidsFit q kids → Fits q e.group wanted
+    (e : PhysicalExpr) (mode : ℕ) (kids : List Kid) (wanted : Request) → IsCandidate q (expr_of e) → KidsFit q kids → Fits q e.group wanted
     → NativeFits q e mode kids → Satisfies q (native_gives q e mode kids) wanted
     → (line : Line) × IsAlternative q e wanted mode line × KidsServe q kids (asked_of line wanted)
 
 -- a physical expression in a mode that is there for a request, over kids that give what is asked of them, may stand over them and meets the request
 abbrev pub SatisfactionJoins : Query → Type 0
 SatisfactionJoins q =
-    (e : ExprParts) (mode : ℕ) (line : Line) (kids : List Kid) (wanted : Request) → IsAlternative q e wanted mode line
-    → AreOf (groups_of e.children) kids → KidsServe q kids (asked_of line wanted)
+    (e : PhysicalExpr) (mode : ℕ) (line : Line) (kids : List Kid) (wanted : Request) → IsAlternative q e wanted mode line
+    → AreOf (groups_of (physical_children e.operator)) kids → KidsServe q kids (asked_of line wanted)
     → NativeFits q e mode kids × Satisfies q (native_gives q e mode kids) wanted
 
--- what is asked of the children fits their groups
+-- for a request that fits the group, what is asked of the children fits their groups
 abbrev pub AsksWhatFits : Query → Type 0
 AsksWhatFits q =
-    (e : ExprParts) (mode : ℕ) (line : Line) (wanted : Request) → IsCandidate q e → IsAlternative q e wanted mode line
-    → RequestsFit q (groups_of e.children) (asked_of line wanted)
+    (e : PhysicalExpr) (mode : ℕ) (line : Line) (wanted : Request) → IsCandidate q (expr_of e) → Fits q e.group wanted
+    → IsAlternative q e wanted mode line → RequestsFit q (groups_of (physical_children e.operator)) (asked_of line wanted)
 
 -- of all plans for a request one is least; with more than 60 lists or orders the numbers of two nodes could be one
 abbrev pub LeastIsOne : Query → Type 0
@@ -115,4 +117,4 @@ RootRequestIsCollected q = (props : Props) → IsProps q props → props.root �
 -- where a query has at most 60 hashed lists, an expression has lines in modes below 192 only
 abbrev pub ModesAreFew : Query → Type 0
 ModesAreFew q =
-    length (lists_of q) ≤ 60 → (e : ExprParts) (mode : ℕ) (line : Line) → line_of q e mode ≡ Some line → mode < 192
+    length (lists_of q) ≤ 60 → (e : PhysicalExpr) (mode : ℕ) (line : Line) → line_of q e mode ≡ Some line → mode < 192

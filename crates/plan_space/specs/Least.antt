@@ -10,7 +10,7 @@ use Rattle.query_core.specs.declared.expressions.ExprParts.{ExprParts}
 use Rattle.xform_rules.specs.Closure.{IsMember}
 use Rattle.request_props.specs.Satisfied.{Satisfies}
 use Rattle.request_props.specs.declared.request.Request.{Request}
-use Rattle.plan_space.specs.Numbers.{root_request}
+use Rattle.request_props.specs.Numbered.{root_request}
 use Rattle.plan_space.specs.Nodes.{Tree, code_of}
 use Rattle.plan_space.specs.Gives.{kid_of, gives}
 use Rattle.plan_space.specs.Valid.{IsValid}

@@ -1,4 +1,3 @@
-pub mod Numbers
 pub mod Nodes
 pub mod Lines
 pub mod Gives

@@ -1,31 +1,29 @@
--- The nodes of a plan, their numbers, and plan trees.
+-- The numbers of the nodes of a plan, and plan trees.
 use Rattle.std.specs.Prelude.{ℕ, ◌+◌, ◌*◌, ◌^◌, List, [], ◌∷◌, ◌++◌}
-use Rattle.query_core.specs.Expressions.{word_of}
-use Rattle.query_core.specs.declared.expressions.ExprParts.{ExprParts}
+use Rattle.query_core.specs.Expressions.{expr_of, word_of}
+use Rattle.plan_space.specs.declared.nodes.Enforcer.{Enforcer}
+use Rattle.plan_space.specs.declared.nodes.Enforcer.TheVariants as enforcers
+use Rattle.plan_space.specs.declared.nodes.NodeKind.{NodeKind}
+use Rattle.plan_space.specs.declared.nodes.NodeKind.TheVariants as nodes
 
--- a node: a physical expression in a mode, or an enforcer, which moves or sorts the rows of a plan; sorts and merges have the number of their order, and a redistribution that of its list
-pub data Kind : Type 0 where
-  native : ExprParts → ℕ → Kind
-  gather : Kind
-  broadcast : Kind
-  sort : ℕ → Kind
-  gather_merge : ℕ → Kind
-  redistribute : ℕ → Kind
+-- the number of an enforcer: sorts and merges have that of their order, and a redistribution that of its list
+abbrev pub enforcer_number : Enforcer → ℕ
+enforcer_number enforcers.Gather = 1
+enforcer_number enforcers.Broadcast = 2
+enforcer_number (enforcers.Sort order) = 64 + order
+enforcer_number (enforcers.GatherMerge order) = 128 + order
+enforcer_number (enforcers.Redistribute list) = 192 + list
 
 -- the number of a node, by which plans of one cost are told apart
-abbrev pub number_of : Kind → ℕ
-number_of (native e mode) = 2 ^ 56 + word_of e * 2 ^ 8 + mode
-number_of gather = 1
-number_of broadcast = 2
-number_of (sort order) = 64 + order
-number_of (gather_merge order) = 128 + order
-number_of (redistribute list) = 192 + list
+abbrev pub number_of : NodeKind → ℕ
+number_of (nodes.Native e mode) = 2 ^ 56 + word_of (expr_of e) * 2 ^ 8 + mode
+number_of (nodes.Enforcer e) = enforcer_number e
 
 -- a plan: a node over none, one or two plans
 pub data Tree : Type 0 where
-  leaf : Kind → Tree
-  over : Kind → Tree → Tree
-  two : Kind → Tree → Tree → Tree
+  leaf : NodeKind → Tree
+  over : NodeKind → Tree → Tree
+  two : NodeKind → Tree → Tree → Tree
 
 -- the numbers of the nodes, each before those below it
 abbrev pub code_of : Tree → List ℕ

@@ -1,29 +1,35 @@
 -- When a tree is a plan of the query.
-use Rattle.std.specs.Prelude.{ℕ, ◌≡◌, ◌≤◌, List, [], ◌∷◌, Option, None, Some, ⊤}
+use Rattle.std.specs.Prelude.{ℕ, ◌≡◌, IsTrue, ◌≤◌, List, [], ◌∷◌, Option, None, Some, ⊤}
+use Rattle.query_core.specs.Expressions.{expr_of, physical_children}
 use Rattle.query_core.specs.declared.query.Query.{Query}
 use Rattle.query_core.specs.declared.expressions.Children.{Children}
 use Rattle.query_core.specs.declared.expressions.Children.TheVariants as arities
 use Rattle.query_core.specs.declared.expressions.ExprParts.{ExprParts}
-use Rattle.cost_units.specs.declared.shape.Class.{Class}
+use Rattle.query_core.specs.declared.expressions.PhysicalExpr.{PhysicalExpr}
 use Rattle.cost_units.specs.declared.shape.Class.TheVariants as classes
-use Rattle.request_props.specs.Numbered.{IsNumbered, order_of}
+use Rattle.request_props.specs.Numbered.{IsNumbered, order_of, is_grouped_list}
 use Rattle.request_props.specs.Satisfied.{Meets, BeginsWith, given_order, Satisfies}
 use Rattle.request_props.specs.declared.given.Given.{Given}
 use Rattle.request_props.specs.declared.given.GivenDist.{GivenDist}
-use Rattle.request_props.specs.declared.given.GivenDist.TheVariants.{One, Hashed, Random, Copies}
 use Rattle.request_props.specs.declared.given.GivenOrder.{GivenOrder}
+use Rattle.request_props.specs.declared.request.Dist.TheVariants as dists
 use Rattle.request_props.specs.declared.request.Request.{Request}
-use Rattle.plan_space.specs.Numbers.{OrderLiesIn, HashFits}
-use Rattle.plan_space.specs.Nodes.{Kind, native, gather, broadcast, sort, gather_merge, redistribute, Tree, leaf, over, two}
-use Rattle.plan_space.specs.Lines.{LeftDist, fixed_dist, same_dist, same_spread, LeftOrder, fixed_order, same_order, Line, alone, above, beside, line_of}
+use Rattle.request_props.specs.Lying.{OrderLiesIn}
+use Rattle.request_props.specs.Fitting.{HashFits}
+use Rattle.request_props.specs.Classes.{class_of}
+use Rattle.plan_space.specs.Nodes.{Tree, leaf, over, two}
+use Rattle.plan_space.specs.declared.nodes.NodeKind.{NodeKind}
+use Rattle.plan_space.specs.declared.nodes.NodeKind.TheVariants as nodes
+use Rattle.plan_space.specs.declared.nodes.Enforcer.{Enforcer}
+use Rattle.plan_space.specs.declared.nodes.Enforcer.TheVariants as enforcers
+use Rattle.plan_space.specs.Lines.{line_of}
+use Rattle.plan_space.specs.declared.lines.LeftDist.{LeftDist}
+use Rattle.plan_space.specs.declared.lines.LeftDist.TheVariants as left_dists
+use Rattle.plan_space.specs.declared.lines.LeftOrder.{LeftOrder}
+use Rattle.plan_space.specs.declared.lines.LeftOrder.TheVariants as left_orders
+use Rattle.plan_space.specs.declared.lines.Line.{Line}
+use Rattle.plan_space.specs.declared.lines.Line.TheVariants as lines
 use Rattle.plan_space.specs.Gives.{Kid, kid_of}
-
--- how many segments have a share of rows that lie so
-abbrev pub class_of : GivenDist → Class
-class_of One = classes.One
-class_of (Hashed list) = classes.Spread
-class_of Random = classes.Spread
-class_of Copies = classes.Copies
 
 -- rows that lie so are shared out among the segments
 abbrev pub IsSpread : GivenDist → Type 0
@@ -31,20 +37,21 @@ IsSpread dist = class_of dist ≡ classes.Spread
 
 -- ---- what is needed of the kids
 
--- the left child's distribution is one that the line needs
-abbrev pub DistNeeds : LeftDist → GivenDist → Type 0
-DistNeeds (fixed_dist given asked) dist = Meets dist asked
-DistNeeds same_dist dist = ⊤
-DistNeeds same_spread dist = IsSpread dist
+-- the left child's distribution is one that the line needs; that of an aggregation is by GROUP BY columns only
+abbrev pub DistNeeds : Query → LeftDist → GivenDist → Type 0
+DistNeeds q (left_dists.Fixed given asked) dist = Meets dist asked
+DistNeeds q (left_dists.Grouped list) dist = IsTrue (is_grouped_list q list) × Meets dist (dists.Hashed list)
+DistNeeds q left_dists.Same dist = ⊤
+DistNeeds q left_dists.SameSpread dist = IsSpread dist
 
 -- the left child's order is one that the line needs
 abbrev pub OrderNeeds : Query → LeftOrder → GivenOrder → Type 0
-OrderNeeds q (fixed_order given asked) order = BeginsWith (given_order q order) (order_of q asked)
-OrderNeeds q same_order order = ⊤
+OrderNeeds q (left_orders.Fixed given asked) order = BeginsWith (given_order q order) (order_of q asked)
+OrderNeeds q left_orders.Same order = ⊤
 
 -- what the left child gives is what the line needs
 pub record LeftNeeds (q : Query) (dist : LeftDist) (order : LeftOrder) (given : Given) : Type 0 where
-  pub dist_met : DistNeeds dist given.dist
+  pub dist_met : DistNeeds q dist given.dist
   pub order_met : OrderNeeds q order given.order
 
 -- there is one kid, and the fact holds of it
@@ -73,9 +80,9 @@ pub record TwoFit (q : Query) (children : Children) (dist : LeftDist) (order : L
 
 -- the line may stand over kids like these, where the children are these groups
 abbrev pub LineFits : Query → Line → Children → List Kid → Type 0
-LineFits q (alone dist order) children kids = (children ≡ arities.Zero) × (kids ≡ [])
-LineFits q (above dist order) children kids = OverOne (OneFits q children dist order) kids
-LineFits q (beside dist order request) children kids = OverTwo (TwoFit q children dist order request) kids
+LineFits q (lines.Alone dist order) children kids = (children ≡ arities.Zero) × (kids ≡ [])
+LineFits q (lines.Above dist order) children kids = OverOne (OneFits q children dist order) kids
+LineFits q (lines.Beside dist order request) children kids = OverTwo (TwoFit q children dist order request) kids
 
 -- the same for a mode that may not be there
 abbrev pub FitsBy : Query → Option Line → Children → List Kid → Type 0
@@ -83,8 +90,8 @@ FitsBy q None children kids = ⊥
 FitsBy q (Some line) children kids = LineFits q line children kids
 
 -- the expression may stand in the mode over kids like these
-abbrev pub NativeFits : Query → ExprParts → ℕ → List Kid → Type 0
-NativeFits q e mode kids = FitsBy q (line_of q e mode) e.children kids
+abbrev pub NativeFits : Query → PhysicalExpr → ℕ → List Kid → Type 0
+NativeFits q e mode kids = FitsBy q (line_of q e mode) (physical_children e.operator) kids
 
 -- ---- enforcers
 
@@ -105,25 +112,20 @@ pub record CanRedistribute (q : Query) (list : ℕ) (kid : Kid) : Type 0 where
   pub is_spread : IsSpread kid.given.dist
   pub hash_fits : HashFits q kid.group list
 
--- the enforcer may stand over a kid like this; a physical expression is none
-abbrev pub EnforcerFits : Query → Kind → Kid → Type 0
-EnforcerFits q (native e mode) kid = ⊥
-EnforcerFits q gather kid = IsSpread kid.given.dist
-EnforcerFits q broadcast kid = IsSpread kid.given.dist
-EnforcerFits q (sort order) kid = CanSort q order kid
-EnforcerFits q (gather_merge order) kid = CanMerge q order kid
-EnforcerFits q (redistribute list) kid = CanRedistribute q list kid
+-- the enforcer may stand over a kid like this
+abbrev pub EnforcerFits : Query → Enforcer → Kid → Type 0
+EnforcerFits q enforcers.Gather kid = IsSpread kid.given.dist
+EnforcerFits q enforcers.Broadcast kid = IsSpread kid.given.dist
+EnforcerFits q (enforcers.Sort order) kid = CanSort q order kid
+EnforcerFits q (enforcers.GatherMerge order) kid = CanMerge q order kid
+EnforcerFits q (enforcers.Redistribute list) kid = CanRedistribute q list kid
 
 -- ---- valid plans
 
 -- the node may stand over kids like these: a member in a mode, or an enforcer over one kid
-abbrev pub NodeFits : (ExprParts → Type 0) → Query → Kind → List Kid → Type 0
-NodeFits Member q (native e mode) kids = Member e × NativeFits q e mode kids
-NodeFits Member q gather kids = OverOne (EnforcerFits q gather) kids
-NodeFits Member q broadcast kids = OverOne (EnforcerFits q broadcast) kids
-NodeFits Member q (sort order) kids = OverOne (EnforcerFits q (sort order)) kids
-NodeFits Member q (gather_merge order) kids = OverOne (EnforcerFits q (gather_merge order)) kids
-NodeFits Member q (redistribute list) kids = OverOne (EnforcerFits q (redistribute list)) kids
+abbrev pub NodeFits : (ExprParts → Type 0) → Query → NodeKind → List Kid → Type 0
+NodeFits Member q (nodes.Native e mode) kids = Member (expr_of e) × NativeFits q e mode kids
+NodeFits Member q (nodes.Enforcer e) kids = OverOne (EnforcerFits q e) kids
 
 -- each node may stand over its kids; Member says which group expressions are there
 abbrev pub IsValid : (ExprParts → Type 0) → Query → Tree → Type 0

@@ -1,94 +1,118 @@
 -- What the rows of a plan cost by what is asked of it.
-use Rattle.std.proofs.Common.{◌≡◌, ℕ, List, [], ◌∷◌, refl}
+use Rattle.std.proofs.Common.{◌≡◌, ℕ, zero, suc, List, [], ◌∷◌, inl, inr, refl, sym, ap, ◌∙◌, subst}
+use Rattle.query_core.specs.Expressions.{physical_children}
 use Rattle.query_core.specs.declared.query.Query.{Query}
 use Rattle.query_core.specs.declared.words.KeyParts.{KeyParts}
 use Rattle.query_core.specs.declared.expressions.Children.{Children}
 use Rattle.query_core.specs.declared.expressions.Children.TheVariants as arities
-use Rattle.query_core.specs.declared.expressions.ExprParts.{ExprParts}
+use Rattle.query_core.specs.declared.expressions.PhysicalExpr.{PhysicalExpr}
+use Rattle.request_props.specs.Classes.{class_of, class_asked}
 use Rattle.request_props.specs.Satisfied.{Meets, Satisfies}
 use Rattle.request_props.specs.declared.given.GivenDist.{GivenDist}
 use Rattle.request_props.specs.declared.given.GivenDist.TheVariants as given
 use Rattle.request_props.specs.declared.request.Dist.{Dist}
 use Rattle.request_props.specs.declared.request.Dist.TheVariants.{One, Spread, Copies, Hashed}
 use Rattle.request_props.specs.declared.request.Request.{Request}
-use Rattle.plan_space.specs.Lines.{LeftDist, fixed_dist, same_dist, same_spread, Line, alone, above, beside}
+use Rattle.plan_space.specs.declared.lines.LeftDist.{LeftDist}
+use Rattle.plan_space.specs.declared.lines.LeftDist.TheVariants as left_dists
+use Rattle.plan_space.specs.declared.lines.Line.{Line}
+use Rattle.plan_space.specs.declared.lines.Line.TheVariants.{Alone, Above, Beside}
+use Rattle.plan_space.specs.declared.nodes.Enforcer.{Enforcer}
+use Rattle.plan_space.specs.Enforcers.{EnforcedBy, Among, enforcers_by}
+use Rattle.plan_space.specs.Lines.{request}
 use Rattle.plan_space.specs.Gives.{Kid, left_dist, line_gives, native_gives}
-use Rattle.plan_space.specs.Valid.{class_of}
 use Rattle.plan_space.specs.Alternatives.{DistServes, dist_asked, LineServes, IsAlternative, asked_of, KidsServe}
 use Rattle.plan_space.specs.Choices.{groups_of}
 use Rattle.plan_space.specs.Laws.{AreOf}
 use Rattle.plan_space.specs.Cost.{share_of, first_share, second_share}
-use Rattle.plan_tree.specs.Costs.{class_asked, first_asked, second_asked}
+use Rattle.plan_tree.specs.Costs.{first_asked, second_asked, below_of, IsEnforcerCost, IsCostAmong}
 
--- what is asked says how many segments have a share
-pub class_met : (dist : GivenDist) (asked : Dist) → Meets dist asked → class_of dist ≡ class_asked asked
-class_met given.One One met = refl
-class_met given.One Spread met = absurd met
-class_met given.One Copies met = absurd met
-class_met given.One (Hashed list) met = absurd met
-class_met (given.Hashed other) One met = absurd met
-class_met (given.Hashed other) Spread met = refl
-class_met (given.Hashed other) Copies met = absurd met
-class_met (given.Hashed other) (Hashed list) met = refl
-class_met given.Random One met = absurd met
-class_met given.Random Spread met = refl
-class_met given.Random Copies met = absurd met
-class_met given.Random (Hashed list) met = absurd met
-class_met given.Copies One met = absurd met
-class_met given.Copies Spread met = absurd met
-class_met given.Copies Copies met = refl
-class_met given.Copies (Hashed list) met = absurd met
+module _ (agree : (dist : GivenDist) (asked : Dist) → Meets dist asked → class_of dist ≡ class_asked asked) where
+  -- the share of a kid's rows
+  pub share_met : (q : Query) (kid : Kid) (group : KeyParts) (wanted : Request) → kid.group ≡ group → Satisfies q kid.given wanted
+      → share_of q kid.group (class_of kid.given.dist) ≡ share_of q group (class_asked wanted.dist)
+  share_met q kid group wanted of met = let class = agree kid.given.dist wanted.dist met.dist in rw (of, class)
 
--- the share of a kid's rows
-pub share_met : (q : Query) (kid : Kid) (group : KeyParts) (wanted : Request) → kid.group ≡ group → Satisfies q kid.given wanted
-    → share_of q kid.group (class_of kid.given.dist) ≡ share_of q group (class_asked wanted.dist)
-share_met q kid group wanted of met = let class = class_met kid.given.dist wanted.dist met.dist in rw (of, class)
+  -- of the first kid's
+  pub first_met : (q : Query) (groups : List KeyParts) (kids : List Kid) (wishes : List Request) → AreOf groups kids → KidsServe q kids wishes
+      → first_share q kids ≡ first_asked q groups wishes
+  first_met q [] [] wishes of serve = refl
+  first_met q [] (kid ∷ kids) wishes of serve = absurd of
+  first_met q (group ∷ groups) [] wishes of serve = absurd of
+  first_met q (group ∷ groups) (kid ∷ kids) [] of serve = absurd serve
+  first_met q (group ∷ groups) (kid ∷ kids) (wanted ∷ wishes) of serve = share_met q kid group wanted of.0 serve.0
 
--- of the first kid's
-pub first_met : (q : Query) (groups : List KeyParts) (kids : List Kid) (wishes : List Request) → AreOf groups kids → KidsServe q kids wishes
-    → first_share q kids ≡ first_asked q groups wishes
-first_met q [] [] wishes of serve = refl
-first_met q [] (kid ∷ kids) wishes of serve = absurd of
-first_met q (group ∷ groups) [] wishes of serve = absurd of
-first_met q (group ∷ groups) (kid ∷ kids) [] of serve = absurd serve
-first_met q (group ∷ groups) (kid ∷ kids) (wanted ∷ wishes) of serve = share_met q kid group wanted of.0 serve.0
+  -- and of the second's
+  pub second_met : (q : Query) (groups : List KeyParts) (kids : List Kid) (wishes : List Request) → AreOf groups kids → KidsServe q kids wishes
+      → second_share q kids ≡ second_asked q groups wishes
+  second_met q [] [] wishes of serve = refl
+  second_met q [] (kid ∷ kids) wishes of serve = absurd of
+  second_met q (group ∷ groups) [] wishes of serve = absurd of
+  second_met q (group ∷ groups) (kid ∷ kids) [] of serve = absurd serve
+  second_met q (group ∷ []) (kid ∷ []) (wanted ∷ wishes) of serve = refl
+  second_met q (group ∷ []) (kid ∷ second ∷ kids) (wanted ∷ wishes) of serve = absurd of.1
+  second_met q (group ∷ other ∷ groups) (kid ∷ []) (wanted ∷ wishes) of serve = absurd of.1
+  second_met q (group ∷ other ∷ groups) (kid ∷ second ∷ kids) (wanted ∷ []) of serve = absurd serve.1
+  second_met q (group ∷ other ∷ groups) (kid ∷ second ∷ kids) (wanted ∷ next ∷ wishes) of serve = share_met q second other next of.1.0 serve.1.0
 
--- and of the second's
-pub second_met : (q : Query) (groups : List KeyParts) (kids : List Kid) (wishes : List Request) → AreOf groups kids → KidsServe q kids wishes
-    → second_share q kids ≡ second_asked q groups wishes
-second_met q [] [] wishes of serve = refl
-second_met q [] (kid ∷ kids) wishes of serve = absurd of
-second_met q (group ∷ groups) [] wishes of serve = absurd of
-second_met q (group ∷ groups) (kid ∷ kids) [] of serve = absurd serve
-second_met q (group ∷ []) (kid ∷ []) (wanted ∷ wishes) of serve = refl
-second_met q (group ∷ []) (kid ∷ second ∷ kids) (wanted ∷ wishes) of serve = absurd of.1
-second_met q (group ∷ other ∷ groups) (kid ∷ []) (wanted ∷ wishes) of serve = absurd of.1
-second_met q (group ∷ other ∷ groups) (kid ∷ second ∷ kids) (wanted ∷ []) of serve = absurd serve.1
-second_met q (group ∷ other ∷ groups) (kid ∷ second ∷ kids) (wanted ∷ next ∷ wishes) of serve = share_met q second other next of.1.0 serve.1.0
+  -- over a left child as asked
+  left_met : (q : Query) (dist : LeftDist) (gives : GivenDist) (wanted : Dist) → DistServes q dist wanted → Meets gives (dist_asked dist wanted)
+      → class_of (left_dist dist gives) ≡ class_asked wanted
+  left_met q (left_dists.Fixed made asked) gives wanted serves met = agree made wanted serves
+  left_met q (left_dists.Grouped list) gives wanted serves met = agree (given.Hashed list) wanted serves.1
+  left_met q left_dists.Same gives wanted serves met = agree gives wanted met
+  left_met q left_dists.SameSpread gives wanted serves met = agree gives wanted met
 
--- over a left child as asked
-left_met : (dist : LeftDist) (given : GivenDist) (wanted : Dist) → DistServes dist wanted → Meets given (dist_asked dist wanted)
-    → class_of (left_dist dist given) ≡ class_asked wanted
-left_met (fixed_dist gives asked) given wanted serves met = class_met gives wanted serves
-left_met same_dist given wanted serves met = class_met given wanted met
-left_met same_spread given wanted serves met = class_met given wanted met
+  -- by a line that is there
+  line_met : (q : Query) (line : Line) (children : Children) (kids : List Kid) (wanted : Request) → LineServes q line children wanted
+      → AreOf (groups_of children) kids → KidsServe q kids (asked_of line wanted) → class_of (line_gives line kids).dist ≡ class_asked wanted.dist
+  line_met q (Alone dist order) arities.Zero kids wanted serves of serve = agree dist wanted.dist serves.dist
+  line_met q (Alone dist order) (arities.One child) kids wanted serves of serve = absurd serves
+  line_met q (Alone dist order) (arities.Two left right) kids wanted serves of serve = absurd serves
+  line_met q (Above dist order) arities.Zero kids wanted serves of serve = absurd serves
+  line_met q (Above dist order) (arities.One child) [] wanted serves of serve = absurd of
+  line_met q (Above dist order) (arities.One child) (kid ∷ kids) wanted serves of serve =
+      left_met q dist kid.given.dist wanted.dist serves.dist_served serve.0.dist
+  line_met q (Above dist order) (arities.Two left right) kids wanted serves of serve = absurd serves
+  line_met q (Beside dist order request) arities.Zero kids wanted serves of serve = absurd serves
+  line_met q (Beside dist order request) (arities.One child) kids wanted serves of serve = absurd serves
+  line_met q (Beside dist order request) (arities.Two left right) [] wanted serves of serve = absurd of
+  line_met q (Beside dist order request) (arities.Two left right) (kid ∷ kids) wanted serves of serve =
+      left_met q dist kid.given.dist wanted.dist serves.serves.dist_served serve.0.dist
 
--- by a line that is there
-line_met : (q : Query) (line : Line) (children : Children) (kids : List Kid) (wanted : Request) → LineServes q line children wanted
-    → AreOf (groups_of children) kids → KidsServe q kids (asked_of line wanted) → class_of (line_gives line kids).dist ≡ class_asked wanted.dist
-line_met q (alone dist order) arities.Zero kids wanted serves of serve = class_met dist wanted.dist serves.dist
-line_met q (alone dist order) (arities.One child) kids wanted serves of serve = absurd serves
-line_met q (alone dist order) (arities.Two left right) kids wanted serves of serve = absurd serves
-line_met q (above dist order) arities.Zero kids wanted serves of serve = absurd serves
-line_met q (above dist order) (arities.One child) [] wanted serves of serve = absurd of
-line_met q (above dist order) (arities.One child) (kid ∷ kids) wanted serves of serve = left_met dist kid.given.dist wanted.dist serves.dist_served serve.0.dist
-line_met q (above dist order) (arities.Two left right) kids wanted serves of serve = absurd serves
-line_met q (beside dist order request) arities.Zero kids wanted serves of serve = absurd serves
-line_met q (beside dist order request) (arities.One child) kids wanted serves of serve = absurd serves
-line_met q (beside dist order request) (arities.Two left right) [] wanted serves of serve = absurd of
-line_met q (beside dist order request) (arities.Two left right) (kid ∷ kids) wanted serves of serve = left_met dist kid.given.dist wanted.dist serves.dist_served serve.0.dist
+  -- an expression's own rows lie as asked
+  pub out_met : (q : Query) (e : PhysicalExpr) (mode : ℕ) (line : Line) (kids : List Kid) (wanted : Request) → IsAlternative q e wanted mode line
+      → AreOf (groups_of (physical_children e.operator)) kids → KidsServe q kids (asked_of line wanted)
+      → class_of (native_gives q e mode kids).dist ≡ class_asked wanted.dist
+  out_met q e mode line kids wanted is of serve = rw is.is_line (line_met q line (physical_children e.operator) kids wanted is.serves of serve)
 
--- an expression's own rows lie as asked
-pub out_met : (q : Query) (e : ExprParts) (mode : ℕ) (line : Line) (kids : List Kid) (wanted : Request) → IsAlternative q e wanted mode line
-    → AreOf (groups_of e.children) kids → KidsServe q kids (asked_of line wanted) → class_of (native_gives q e mode kids).dist ≡ class_asked wanted.dist
-out_met q e mode line kids wanted is of serve = rw is.is_line (line_met q line e.children kids wanted is.serves of serve)
+-- ---- what an enforcer for a request asks for
+
+asks_so : (wanted : Request) (e made : EnforcedBy) → e ≡ made → made.below ≡ below_of made.node wanted → e.below ≡ below_of e.node wanted
+asks_so wanted e made is asks = subst (λ (x : EnforcedBy). x.below ≡ below_of x.node wanted) (sym is) asks
+
+asks_by : (dist : Dist) (order : ℕ) (e : EnforcedBy) → Among e (enforcers_by dist order) → e.below ≡ below_of e.node (request dist order)
+asks_by One zero e (inl is) = asks_so (request One zero) e _ is refl
+asks_by One zero e (inr none) = absurd none
+asks_by Spread zero e none = absurd none
+asks_by Copies zero e (inl is) = asks_so (request Copies zero) e _ is refl
+asks_by Copies zero e (inr none) = absurd none
+asks_by (Hashed list) zero e (inl is) = asks_so (request (Hashed list) zero) e _ is refl
+asks_by (Hashed list) zero e (inr none) = absurd none
+asks_by One (suc o) e (inl is) = asks_so (request One (suc o)) e _ is refl
+asks_by One (suc o) e (inr (inl is)) = asks_so (request One (suc o)) e _ is refl
+asks_by One (suc o) e (inr (inr none)) = absurd none
+asks_by Spread (suc o) e (inl is) = asks_so (request Spread (suc o)) e _ is refl
+asks_by Spread (suc o) e (inr none) = absurd none
+asks_by Copies (suc o) e (inl is) = asks_so (request Copies (suc o)) e _ is refl
+asks_by Copies (suc o) e (inr none) = absurd none
+asks_by (Hashed list) (suc o) e (inl is) = asks_so (request (Hashed list) (suc o)) e _ is refl
+asks_by (Hashed list) (suc o) e (inr none) = absurd none
+
+-- the cost over what an enforcer asks for is that of the enforcer among those for the request
+pub cost_by : (q : Query) (enforcer : Enforcer) (group : KeyParts) (wanted below : Request) (price : ℕ) → below ≡ below_of enforcer wanted
+    → IsEnforcerCost q enforcer group below price → IsCostAmong q enforcer group wanted price
+cost_by q enforcer group wanted below price asked cost e among is =
+    let same : below ≡ e.below = asked ∙ ap (λ (x : Enforcer). below_of x wanted) (sym is) ∙ sym (asks_by wanted.dist wanted.order e among) in
+    subst (λ (x : Enforcer). IsEnforcerCost q x group e.below price) (sym is)
+    (subst (λ (b : Request). IsEnforcerCost q enforcer group b price) same cost)

@@ -9,8 +9,9 @@ use Rattle.query_core.specs.declared.query.Query.{Query}
 use Rattle.query_core.specs.declared.words.KeyParts.{KeyParts}
 use Rattle.query_core.specs.declared.expressions.Children.{Children}
 use Rattle.query_core.specs.declared.expressions.Children.TheVariants as arities
-use Rattle.query_core.specs.declared.expressions.ExprParts.{ExprParts}
-use Rattle.request_props.specs.Numbered.{lists_of, orders_of, IsNumbered, order_of}
+use Rattle.query_core.specs.Expressions.{physical_children}
+use Rattle.query_core.specs.declared.expressions.PhysicalExpr.{PhysicalExpr}
+use Rattle.request_props.specs.Numbered.{lists_of, orders_of, IsNumbered, order_of, list_of, is_grouped_list}
 use Rattle.request_props.specs.Satisfied.{Meets, BeginsWith, given_order, Satisfies}
 use Rattle.request_props.specs.declared.given.Given.{Given}
 use Rattle.request_props.specs.declared.given.GivenDist.{GivenDist}
@@ -18,10 +19,17 @@ use Rattle.request_props.specs.declared.given.GivenDist.TheVariants as given
 use Rattle.request_props.specs.declared.request.Dist.{Dist}
 use Rattle.request_props.specs.declared.request.Dist.TheVariants.{One, Spread, Copies, Hashed}
 use Rattle.request_props.specs.declared.request.Request.{Request}
-use Rattle.plan_space.specs.Numbers.{list_of, ListLiesIn, OrderLiesIn, HashFits, DistFits, Fits}
-use Rattle.plan_space.specs.Lines.{LeftDist, fixed_dist, same_dist, same_spread, LeftOrder, fixed_order, same_order, Line, alone, above, beside, line_of}
+use Rattle.request_props.specs.Lying.{ListLiesIn, OrderLiesIn}
+use Rattle.request_props.specs.Fitting.{HashFits, DistFits, Fits}
+use Rattle.plan_space.specs.declared.lines.LeftDist.{LeftDist}
+use Rattle.plan_space.specs.declared.lines.LeftDist.TheVariants as left_dists
+use Rattle.plan_space.specs.declared.lines.LeftOrder.{LeftOrder}
+use Rattle.plan_space.specs.declared.lines.LeftOrder.TheVariants as left_orders
+use Rattle.plan_space.specs.declared.lines.Line.{Line}
+use Rattle.plan_space.specs.declared.lines.Line.TheVariants.{Alone, Above, Beside}
+use Rattle.plan_space.specs.Lines.{line_of}
 use Rattle.plan_space.specs.Gives.{gives_so}
-use Rattle.plan_space.specs.Alternatives.{WantsSpread, DistServes, OrderServes, LeftServes, left_asked, LineServes}
+use Rattle.plan_space.specs.Alternatives.{WantsSpread, DistServes, OrderServes, LeftServes, JoinServes, left_asked, LineServes}
 use Rattle.plan_tree.specs.Alternatives.{HasAlternative}
 
 abbrev pub IsDecided : Type 0 → Type 0
@@ -103,42 +111,49 @@ spread Spread = inl tt
 spread Copies = inr (λ wants. wants)
 spread (Hashed list) = inl tt
 
-dist_serves : (dist : LeftDist) (wanted : Dist) → IsDecided (DistServes dist wanted)
-dist_serves (fixed_dist gives asked) wanted = meets gives wanted
-dist_serves same_dist wanted = inl tt
-dist_serves same_spread wanted = spread wanted
+dist_serves : (q : Query) (dist : LeftDist) (wanted : Dist) → IsDecided (DistServes q dist wanted)
+dist_serves q (left_dists.Fixed gives asked) wanted = meets gives wanted
+dist_serves q (left_dists.Grouped list) wanted = both (passes (is_grouped_list q list)) (meets (given.Hashed list) wanted)
+dist_serves q left_dists.Same wanted = inl tt
+dist_serves q left_dists.SameSpread wanted = spread wanted
 
 order_serves : (q : Query) (order : LeftOrder) (wanted : ℕ) → IsDecided (OrderServes q order wanted)
-order_serves q (fixed_order gives asked) wanted = begins (given_order q gives) (order_of q wanted)
-order_serves q same_order wanted = inl tt
+order_serves q (left_orders.Fixed gives asked) wanted = begins (given_order q gives) (order_of q wanted)
+order_serves q left_orders.Same wanted = inl tt
 
-left_serves : (q : Query) (left : KeyParts) (dist : LeftDist) (order : LeftOrder) (wanted : Request) → IsDecided (LeftServes q left dist order wanted)
-left_serves q left dist order wanted =
-    like {P = DistServes dist wanted.dist × (OrderServes q order wanted.order × Fits q left (left_asked dist order wanted))} {Q = LeftServes q left dist order wanted}
-    (λ all. record { dist_served = all.0; order_served = all.1.0; fits = all.1.1 }) (λ all. (all.dist_served, (all.order_served, all.fits)))
-    (both (dist_serves dist wanted.dist) (both (order_serves q order wanted.order) (fits q left (left_asked dist order wanted))))
+left_serves : (q : Query) (dist : LeftDist) (order : LeftOrder) (wanted : Request) → IsDecided (LeftServes q dist order wanted)
+left_serves q dist order wanted =
+    like {P = DistServes q dist wanted.dist × OrderServes q order wanted.order} {Q = LeftServes q dist order wanted}
+    (λ all. record { dist_served = all.0; order_served = all.1 }) (λ all. (all.dist_served, all.order_served))
+    (both (dist_serves q dist wanted.dist) (order_serves q order wanted.order))
+
+join_serves : (q : Query) (left : KeyParts) (dist : LeftDist) (order : LeftOrder) (wanted : Request) → IsDecided (JoinServes q left dist order wanted)
+join_serves q left dist order wanted =
+    like {P = LeftServes q dist order wanted × Fits q left (left_asked dist order wanted)} {Q = JoinServes q left dist order wanted}
+    (λ all. record { serves = all.0; fits = all.1 }) (λ all. (all.serves, all.fits))
+    (both (left_serves q dist order wanted) (fits q left (left_asked dist order wanted)))
 
 line_serves : (q : Query) (line : Line) (children : Children) (wanted : Request) → IsDecided (LineServes q line children wanted)
-line_serves q (alone dist order) arities.Zero wanted = satisfies q (gives_so dist order) wanted
-line_serves q (alone dist order) (arities.One child) wanted = inr (λ serves. serves)
-line_serves q (alone dist order) (arities.Two left right) wanted = inr (λ serves. serves)
-line_serves q (above dist order) arities.Zero wanted = inr (λ serves. serves)
-line_serves q (above dist order) (arities.One child) wanted = left_serves q child dist order wanted
-line_serves q (above dist order) (arities.Two left right) wanted = inr (λ serves. serves)
-line_serves q (beside dist order right) arities.Zero wanted = inr (λ serves. serves)
-line_serves q (beside dist order right) (arities.One child) wanted = inr (λ serves. serves)
-line_serves q (beside dist order right) (arities.Two left other) wanted = left_serves q left dist order wanted
+line_serves q (Alone dist order) arities.Zero wanted = satisfies q (gives_so dist order) wanted
+line_serves q (Alone dist order) (arities.One child) wanted = inr (λ serves. serves)
+line_serves q (Alone dist order) (arities.Two left right) wanted = inr (λ serves. serves)
+line_serves q (Above dist order) arities.Zero wanted = inr (λ serves. serves)
+line_serves q (Above dist order) (arities.One child) wanted = left_serves q dist order wanted
+line_serves q (Above dist order) (arities.Two left right) wanted = inr (λ serves. serves)
+line_serves q (Beside dist order right) arities.Zero wanted = inr (λ serves. serves)
+line_serves q (Beside dist order right) (arities.One child) wanted = inr (λ serves. serves)
+line_serves q (Beside dist order right) (arities.Two left other) wanted = join_serves q left dist order wanted
 
-found_serves : (q : Query) (e : ExprParts) (wanted : Request) (mode : ℕ) (found : Option Line) → line_of q e mode ≡ found → IsDecided (HasAlternative q e wanted mode)
+found_serves : (q : Query) (e : PhysicalExpr) (wanted : Request) (mode : ℕ) (found : Option Line) → line_of q e mode ≡ found → IsDecided (HasAlternative q e wanted mode)
 found_serves q e wanted mode None is = inr (λ has. let same = sym is ∙ has.1.is_line in let never : ⊥ = cc in never)
 found_serves q e wanted mode (Some line) is =
-    like {P = LineServes q line e.children wanted} {Q = HasAlternative q e wanted mode}
+    like {P = LineServes q line (physical_children e.operator) wanted} {Q = HasAlternative q e wanted mode}
     (λ serves. (line, record { is_line = is; serves = serves }))
     (λ has. let same : line ≡ has.0 = cc (sym is ∙ has.1.is_line) in rw same has.1.serves)
-    (line_serves q line e.children wanted)
+    (line_serves q line (physical_children e.operator) wanted)
 
 -- the expression may serve the request in the mode, or it may not
-pub has_decided : (q : Query) (e : ExprParts) (wanted : Request) (mode : ℕ) → IsDecided (HasAlternative q e wanted mode)
+pub has_decided : (q : Query) (e : PhysicalExpr) (wanted : Request) (mode : ℕ) → IsDecided (HasAlternative q e wanted mode)
 has_decided q e wanted mode = found_serves q e wanted mode (line_of q e mode) refl
 
 -- the same as a test
@@ -162,17 +177,21 @@ told_never (inl p) never = absurd (never p)
 told_never (inr no_one) never = refl
 
 -- whether the expression may serve the request in the mode
-pub has : Query → ExprParts → Request → ℕ → Bool
+pub has : Query → PhysicalExpr → Request → ℕ → Bool
 has q e wanted mode = told (has_decided q e wanted mode)
 
-pub alternative_from_has : (q : Query) (e : ExprParts) (wanted : Request) (mode : ℕ) → has q e wanted mode ≡ true → HasAlternative q e wanted mode
+pub alternative_from_has : (q : Query) (e : PhysicalExpr) (wanted : Request) (mode : ℕ) → has q e wanted mode ≡ true → HasAlternative q e wanted mode
 unfolding has
 alternative_from_has q e wanted mode is = yes_told (has_decided q e wanted mode) is
 
-pub has_alternative : (q : Query) (e : ExprParts) (wanted : Request) (mode : ℕ) → HasAlternative q e wanted mode → has q e wanted mode ≡ true
+pub has_alternative : (q : Query) (e : PhysicalExpr) (wanted : Request) (mode : ℕ) → HasAlternative q e wanted mode → has q e wanted mode ≡ true
 unfolding has
 has_alternative q e wanted mode there = told_yes (has_decided q e wanted mode) there
 
-pub has_none : (q : Query) (e : ExprParts) (wanted : Request) (mode : ℕ) → (HasAlternative q e wanted mode → ⊥) → has q e wanted mode ≡ false
+pub has_none : (q : Query) (e : PhysicalExpr) (wanted : Request) (mode : ℕ) → (HasAlternative q e wanted mode → ⊥) → has q e wanted mode ≡ false
 unfolding has
 has_none q e wanted mode never = told_never (has_decided q e wanted mode) never
+
+-- without a line it may not
+pub has_no_line : (q : Query) (e : PhysicalExpr) (wanted : Request) (mode : ℕ) → line_of q e mode ≡ None → has q e wanted mode ≡ false
+has_no_line q e wanted mode none = has_none q e wanted mode (λ there. let same = sym none ∙ there.1.is_line in let never : ⊥ = cc in never)

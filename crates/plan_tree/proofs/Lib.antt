@@ -1,8 +1,8 @@
-pub mod Places
-pub mod Keys
+pub mod Asked
 pub mod Kept
 pub mod Costs
 pub mod NodeNumbers
 pub mod Decided
+pub mod Lined
 pub mod Modes
-pub mod Grouped
+pub mod Walked

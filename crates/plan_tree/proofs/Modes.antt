@@ -1,12 +1,12 @@
 -- The modes in which an expression may serve a request, ascending.
-use Rattle.std.proofs.Common.{◌≡◌, ◌≤◌, ◌<◌, ◌⊎◌, ◌+◌, ℕ, zero, suc, Bool, true, false, List, [], ◌∷◌, Some, inl, inr, length, slice_get, slice_index, slice_index_or, refl, ap, sym, subst, add-one, arith, if◌then◌else◌}
+use Rattle.std.proofs.Common.{◌≡◌, ◌≤◌, ◌<◌, ◌⊎◌, ◌+◌, ◌-◌, ℕ, zero, suc, Bool, true, false, List, [], ◌∷◌, Some, None, inl, inr, length, slice_get, slice_index, slice_index_or, refl, ap, sym, ◌∙◌, subst, add-one, arith, if◌then◌else◌}
 use Rattle.std.specs.List.{Contains}
 use Rattle.std.specs.List.Sorted.{IsStrictlyIncreasing}
 use Rattle.std.proofs.lemmas.Bool.{cases_lt}
 use Rattle.std.proofs.lemmas.List.Elements.{Contains-get_or}
 use Rattle.std.proofs.lemmas.List.Kept.{AllPairs-from_increasing}
 use Rattle.query_core.specs.declared.query.Query.{Query}
-use Rattle.query_core.specs.declared.expressions.ExprParts.{ExprParts}
+use Rattle.query_core.specs.declared.expressions.PhysicalExpr.{PhysicalExpr}
 use Rattle.request_props.specs.declared.request.Request.{Request}
 use Rattle.request_props.specs.Numbered.{lists_of}
 use Rattle.plan_space.specs.Laws.{ModesAreFew}
@@ -95,7 +95,7 @@ passing_rises p from (suc left) = elim (either (p from)) [
 -- ---- the modes
 
 -- where there are no others, those of the first 192 that are alternatives
-pub modes_are : (q : Query) → ModesAreFew q → length (lists_of q) ≤ 60 → (e : ExprParts) (wanted : Request)
+pub modes_are : (q : Query) → ModesAreFew q → length (lists_of q) ≤ 60 → (e : PhysicalExpr) (wanted : Request)
     → AreModes q e wanted (passing (has q e wanted) 0 192)
 modes_are q few few_lists e wanted = record {
   rises = passing_rises (has q e wanted) 0 192;
@@ -107,10 +107,27 @@ modes_are q few few_lists e wanted = record {
   );
 }
 
--- a mode that is none changes no place
-pub skipped : (p : ℕ → Bool) (mode left more place : ℕ) → more ≡ suc left → p mode ≡ false
-    → slice_get (passing p (mode + 1) left) place ≡ slice_get (passing p mode more) place
-skipped p mode left more place is none = rw (is, passing-pass p mode left none)
+-- modes that are none change no place
+skipped_by : (p : ℕ → Bool) (gap from left place : ℕ) → ((m : ℕ) → from ≤ m → m < from + gap → p m ≡ false)
+    → slice_get (passing p (from + gap) left) place ≡ slice_get (passing p from (gap + left)) place
+skipped_by p zero from left place none =
+    let start : from + zero ≡ from = omega arith in
+    let many : zero + left ≡ left = omega arith in
+    rw (start, many)
+skipped_by p (suc gap) from left place none =
+    let first = passing-pass p from (gap + left) (none from (omega arith) (omega arith)) in
+    let later = skipped_by p gap (from + 1) left place (λ m at below. none m (omega arith) (omega arith)) in
+    let start : from + 1 + gap ≡ from + suc gap = omega arith in
+    let many : suc gap + left ≡ suc (gap + left) = omega arith in
+    rw (← start, many, first) later
+
+pub skipped_to : (p : ℕ → Bool) (from mode left more place : ℕ) → from ≤ mode → from + more ≡ mode + left → ((m : ℕ) → from ≤ m → m < mode → p m ≡ false)
+    → slice_get (passing p mode left) place ≡ slice_get (passing p from more) place
+skipped_to p from mode left more place at same none =
+    let gap : from + (mode - from) ≡ mode = omega arith in
+    let many : mode - from + left ≡ more = omega arith in
+    let past = skipped_by p (mode - from) from left place (λ m above below. none m above (omega arith)) in
+    rw gap at (rw many at past)
 
 -- a mode is at the next place
 pub at_first : (p : ℕ → Bool) (mode left more place : ℕ) → more ≡ suc left → p mode ≡ true → place ≡ 0
@@ -121,6 +138,13 @@ at_first p mode left more place is holds first = rw (is, passing-yes p mode left
 pub after_first : (p : ℕ → Bool) (mode left more place next : ℕ) → more ≡ suc left → p mode ≡ true → place ≡ suc next
     → slice_get (passing p (mode + 1) left) next ≡ slice_get (passing p mode more) place
 after_first p mode left more place next is holds later = rw (is, passing-yes p mode left holds, later)
+
+-- where none is left, none is at the place
+pub at_end : (p : ℕ → Bool) (from more place : ℕ) → ((m : ℕ) → from ≤ m → p m ≡ false) → slice_get (passing p from more) place ≡ None
+at_end p from more place none =
+    let past = skipped_to p from (from + more) zero more place (omega arith) (omega arith) (λ m at within. none m at) in
+    let end = passing-end p (from + more) in
+    sym past ∙ ap (λ (xs : List ℕ). slice_get xs place) end
 
 -- ---- there is one list of them
 
@@ -158,6 +182,6 @@ one_list (x ∷ xs) (y ∷ ys) rises also to from =
     let others = one_list xs ys (tail_rises x xs rises) (tail_rises y ys also) (tail_there x y xs ys same rises to) (tail_there y x ys xs (sym same) also from) in
     cc
 
-pub modes_same : (q : Query) (e : ExprParts) (wanted : Request) (modes others : List ℕ) → AreModes q e wanted modes → AreModes q e wanted others → modes ≡ others
+pub modes_same : (q : Query) (e : PhysicalExpr) (wanted : Request) (modes others : List ℕ) → AreModes q e wanted modes → AreModes q e wanted others → modes ≡ others
 modes_same q e wanted modes others are also =
     one_list modes others are.rises also.rises (λ m there. (also.exact m).1 ((are.exact m).0 there)) (λ m there. (are.exact m).1 ((also.exact m).0 there))

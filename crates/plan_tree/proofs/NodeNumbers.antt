@@ -1,67 +1,96 @@
 -- No two nodes in range have one number.
-use Rattle.std.proofs.Common.{◌≡◌, ◌≤◌, ◌<◌, ◌+◌, ◌*◌, ◌≢◌, ℕ, refl, arith}
-use Rattle.query_core.specs.Expressions.{word_of, IsPacked}
+use Rattle.std.proofs.Common.{◌≡◌, ◌≤◌, ◌<◌, ◌+◌, ◌-◌, ◌*◌, ◌/◌, ◌≢◌, ℕ, refl, ap, ◌∙◌, arith}
+use Rattle.query_core.specs.Expressions.{word_of, IsPacked, expr_of}
 use Rattle.query_core.specs.declared.expressions.ExprParts.{ExprParts}
-use Rattle.plan_space.specs.Nodes.{Kind, native, gather, broadcast, sort, gather_merge, redistribute, number_of}
-use Rattle.plan_tree.specs.Nodes.{IsInRange, NativeInRange}
+use Rattle.query_core.specs.declared.expressions.Operator.TheVariants as operators
+use Rattle.query_core.specs.declared.expressions.Physical.{Physical}
+use Rattle.query_core.specs.declared.expressions.PhysicalExpr.{PhysicalExpr}
+use Rattle.query_core.specs.declared.words.KeyParts.{KeyParts}
+use Rattle.plan_space.specs.Nodes.{enforcer_number, number_of}
+use Rattle.plan_space.specs.declared.nodes.Enforcer.{Enforcer}
+use Rattle.plan_space.specs.declared.nodes.Enforcer.TheVariants.{Gather, Broadcast, Sort, GatherMerge, Redistribute}
+use Rattle.plan_space.specs.declared.nodes.NodeKind.{NodeKind}
+use Rattle.plan_space.specs.declared.nodes.NodeKind.TheVariants as nodes
+use Rattle.plan_tree.specs.Nodes.{EnforcerInRange, IsInRange, NativeInRange}
 
 same_fields : (w v m o : ℕ) → m < 256 → o < 256 → 72057594037927936 + w * 256 + m ≡ 72057594037927936 + v * 256 + o → (w ≡ v) × (m ≡ o)
 same_fields w v m o few fewer same = (omega arith, omega arith)
 
-native_one : ((e f : ExprParts) → IsPacked e → IsPacked f → word_of e ≡ word_of f → e ≡ f) → (e f : ExprParts) (mode other : ℕ)
-    → NativeInRange e mode → NativeInRange f other → number_of (native e mode) ≡ number_of (native f other) → native e mode ≡ native f other
+abbrev made : KeyParts → Physical → PhysicalExpr
+made group operator = record { group = group; operator = operator }
+
+made_same : (g h : KeyParts) (o p : Physical) → g ≡ h → o ≡ p → made g o ≡ made h p
+made_same g h o p groups operators_same = ap (λ (x : KeyParts). made x o) groups ∙ ap (λ (x : Physical). made h x) operators_same
+
+physical_same : (e f : PhysicalExpr) → expr_of e ≡ expr_of f → e ≡ f
+physical_same e f same =
+    let groups : e.group ≡ f.group = ap (λ (x : ExprParts). x.group) same in
+    let tagged : operators.Physical e.operator ≡ operators.Physical f.operator = ap (λ (x : ExprParts). x.operator) same in
+    let operators_same : e.operator ≡ f.operator = cc in
+    made_same e.group f.group e.operator f.operator groups operators_same
+
+native_one : ((e f : ExprParts) → IsPacked e → IsPacked f → word_of e ≡ word_of f → e ≡ f) → (e f : PhysicalExpr) (mode other : ℕ)
+    → NativeInRange e mode → NativeInRange f other → number_of (nodes.Native e mode) ≡ number_of (nodes.Native f other)
+    → nodes.Native e mode ≡ nodes.Native f other
 native_one one e f mode other x y same =
-    let fields = same_fields (word_of e) (word_of f) mode other x.few y.few same in
-    let e_is = one e f x.packed y.packed fields.0 in
+    let fields = same_fields (word_of (expr_of e)) (word_of (expr_of f)) mode other x.few y.few same in
+    let e_is = physical_same e f (one (expr_of e) (expr_of f) x.packed y.packed fields.0) in
     let mode_is = fields.1 in
     cc
 
-pub number_names_one : ((e f : ExprParts) → IsPacked e → IsPacked f → word_of e ≡ word_of f → e ≡ f) → (k l : Kind)
+-- the numbers of enforcers are small
+enforcer_small : (e : Enforcer) → EnforcerInRange e → enforcer_number e < 256
+enforcer_small Gather x = omega arith
+enforcer_small Broadcast x = omega arith
+enforcer_small (Sort o) x = let few = x.few in omega arith
+enforcer_small (GatherMerge o) x = let few = x.few in omega arith
+enforcer_small (Redistribute o) x = omega arith
+
+enforcer_one : (e f : Enforcer) → EnforcerInRange e → EnforcerInRange f → enforcer_number e ≡ enforcer_number f → e ≡ f
+enforcer_one Gather Gather x y same = refl
+enforcer_one Gather Broadcast x y same = absurd (omega arith)
+enforcer_one Gather (Sort p) x y same = absurd (omega arith)
+enforcer_one Gather (GatherMerge p) x y same = absurd (omega arith)
+enforcer_one Gather (Redistribute p) x y same = absurd (omega arith)
+enforcer_one Broadcast Gather x y same = absurd (omega arith)
+enforcer_one Broadcast Broadcast x y same = refl
+enforcer_one Broadcast (Sort p) x y same = absurd (omega arith)
+enforcer_one Broadcast (GatherMerge p) x y same = absurd (omega arith)
+enforcer_one Broadcast (Redistribute p) x y same = absurd (omega arith)
+enforcer_one (Sort o) Gather x y same = absurd (omega arith)
+enforcer_one (Sort o) Broadcast x y same = absurd (omega arith)
+enforcer_one (Sort o) (Sort p) x y same = let number_is : o ≡ p = omega arith in cc
+enforcer_one (Sort o) (GatherMerge p) x y same = absurd (omega arith)
+enforcer_one (Sort o) (Redistribute p) x y same = absurd (omega arith)
+enforcer_one (GatherMerge o) Gather x y same = absurd (omega arith)
+enforcer_one (GatherMerge o) Broadcast x y same = absurd (omega arith)
+enforcer_one (GatherMerge o) (Sort p) x y same = absurd (omega arith)
+enforcer_one (GatherMerge o) (GatherMerge p) x y same = let number_is : o ≡ p = omega arith in cc
+enforcer_one (GatherMerge o) (Redistribute p) x y same = absurd (omega arith)
+enforcer_one (Redistribute o) Gather x y same = absurd (omega arith)
+enforcer_one (Redistribute o) Broadcast x y same = absurd (omega arith)
+enforcer_one (Redistribute o) (Sort p) x y same = absurd (omega arith)
+enforcer_one (Redistribute o) (GatherMerge p) x y same = absurd (omega arith)
+enforcer_one (Redistribute o) (Redistribute p) x y same = let number_is : o ≡ p = omega arith in cc
+
+pub number_names_one : ((e f : ExprParts) → IsPacked e → IsPacked f → word_of e ≡ word_of f → e ≡ f) → (k l : NodeKind)
     → IsInRange k → IsInRange l → number_of k ≡ number_of l → k ≡ l
-number_names_one one (native e mode) (native f other) x y same = native_one one e f mode other x y same
-number_names_one one (native e mode) gather x y same = absurd (omega arith)
-number_names_one one (native e mode) broadcast x y same = absurd (omega arith)
-number_names_one one (native e mode) (sort p) x y same = absurd (omega arith)
-number_names_one one (native e mode) (gather_merge p) x y same = absurd (omega arith)
-number_names_one one (native e mode) (redistribute p) x y same = absurd (omega arith)
-number_names_one one gather (native f other) x y same = absurd (omega arith)
-number_names_one one gather gather x y same = refl
-number_names_one one gather broadcast x y same = absurd (omega arith)
-number_names_one one gather (sort p) x y same = absurd (omega arith)
-number_names_one one gather (gather_merge p) x y same = absurd (omega arith)
-number_names_one one gather (redistribute p) x y same = absurd (omega arith)
-number_names_one one broadcast (native f other) x y same = absurd (omega arith)
-number_names_one one broadcast gather x y same = absurd (omega arith)
-number_names_one one broadcast broadcast x y same = refl
-number_names_one one broadcast (sort p) x y same = absurd (omega arith)
-number_names_one one broadcast (gather_merge p) x y same = absurd (omega arith)
-number_names_one one broadcast (redistribute p) x y same = absurd (omega arith)
-number_names_one one (sort o) (native f other) x y same = absurd (omega arith)
-number_names_one one (sort o) gather x y same = absurd (omega arith)
-number_names_one one (sort o) broadcast x y same = absurd (omega arith)
-number_names_one one (sort o) (sort p) x y same = let number_is : o ≡ p = omega arith in cc
-number_names_one one (sort o) (gather_merge p) x y same = absurd (omega arith)
-number_names_one one (sort o) (redistribute p) x y same = absurd (omega arith)
-number_names_one one (gather_merge o) (native f other) x y same = absurd (omega arith)
-number_names_one one (gather_merge o) gather x y same = absurd (omega arith)
-number_names_one one (gather_merge o) broadcast x y same = absurd (omega arith)
-number_names_one one (gather_merge o) (sort p) x y same = absurd (omega arith)
-number_names_one one (gather_merge o) (gather_merge p) x y same = let number_is : o ≡ p = omega arith in cc
-number_names_one one (gather_merge o) (redistribute p) x y same = absurd (omega arith)
-number_names_one one (redistribute o) (native f other) x y same = absurd (omega arith)
-number_names_one one (redistribute o) gather x y same = absurd (omega arith)
-number_names_one one (redistribute o) broadcast x y same = absurd (omega arith)
-number_names_one one (redistribute o) (sort p) x y same = absurd (omega arith)
-number_names_one one (redistribute o) (gather_merge p) x y same = absurd (omega arith)
-number_names_one one (redistribute o) (redistribute p) x y same = let number_is : o ≡ p = omega arith in cc
+number_names_one one (nodes.Native e mode) (nodes.Native f other) x y same = native_one one e f mode other x y same
+number_names_one one (nodes.Native e mode) (nodes.Enforcer f) x y same = let small = enforcer_small f y in absurd (omega arith)
+number_names_one one (nodes.Enforcer e) (nodes.Native f other) x y same = let small = enforcer_small e x in absurd (omega arith)
+number_names_one one (nodes.Enforcer e) (nodes.Enforcer f) x y same = ap nodes.Enforcer (enforcer_one e f x y same)
 
 -- a number that is in none of the parts is that of no node
-pub no_kind : (n : ℕ) → ((e : ExprParts) (mode : ℕ) → NativeInRange e mode → n ≢ number_of (native e mode)) → n ≢ 1 → n ≢ 2
+pub no_kind : (n : ℕ) → ((e : PhysicalExpr) (mode : ℕ) → NativeInRange e mode → n ≢ number_of (nodes.Native e mode)) → n ≢ 1 → n ≢ 2
     → ((o : ℕ) → 1 ≤ o → o ≤ 60 → n ≢ 64 + o) → ((o : ℕ) → 1 ≤ o → o ≤ 60 → n ≢ 128 + o) → ((o : ℕ) → o < 60 → n ≢ 192 + o)
-    → (kind : Kind) → IsInRange kind → n ≢ number_of kind
-no_kind n no_native no_gather no_broadcast no_sort no_merge no_move (native e mode) in_range is = no_native e mode in_range is
-no_kind n no_native no_gather no_broadcast no_sort no_merge no_move gather in_range is = no_gather is
-no_kind n no_native no_gather no_broadcast no_sort no_merge no_move broadcast in_range is = no_broadcast is
-no_kind n no_native no_gather no_broadcast no_sort no_merge no_move (sort o) in_range is = no_sort o in_range.some in_range.few is
-no_kind n no_native no_gather no_broadcast no_sort no_merge no_move (gather_merge o) in_range is = no_merge o in_range.some in_range.few is
-no_kind n no_native no_gather no_broadcast no_sort no_merge no_move (redistribute o) in_range is = no_move o in_range is
+    → (kind : NodeKind) → IsInRange kind → n ≢ number_of kind
+no_kind n no_native no_gather no_broadcast no_sort no_merge no_move (nodes.Native e mode) in_range is = no_native e mode in_range is
+no_kind n no_native no_gather no_broadcast no_sort no_merge no_move (nodes.Enforcer Gather) in_range is = no_gather is
+no_kind n no_native no_gather no_broadcast no_sort no_merge no_move (nodes.Enforcer Broadcast) in_range is = no_broadcast is
+no_kind n no_native no_gather no_broadcast no_sort no_merge no_move (nodes.Enforcer (Sort o)) in_range is = no_sort o in_range.some in_range.few is
+no_kind n no_native no_gather no_broadcast no_sort no_merge no_move (nodes.Enforcer (GatherMerge o)) in_range is = no_merge o in_range.some in_range.few is
+no_kind n no_native no_gather no_broadcast no_sort no_merge no_move (nodes.Enforcer (Redistribute o)) in_range is = no_move o in_range is
+
+-- a number from 2^56 on is that of the expression whose word stands there
+pub word_at : (n word mode : ℕ) → mode < 256 → n ≡ 72057594037927936 + word * 256 + mode → (n - 72057594037927936) / 256 ≡ word
+word_at n word mode few is = omega arith

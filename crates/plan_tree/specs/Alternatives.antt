@@ -6,22 +6,24 @@ use Rattle.query_core.specs.Keys.{Names}
 use Rattle.query_core.specs.declared.query.Query.{Query}
 use Rattle.query_core.specs.declared.words.Key.{Key}
 use Rattle.query_core.specs.declared.words.KeyParts.{KeyParts}
-use Rattle.query_core.specs.declared.expressions.ExprParts.{ExprParts}
+use Rattle.query_core.specs.Expressions.{physical_children}
+use Rattle.query_core.specs.declared.expressions.PhysicalExpr.{PhysicalExpr}
 use Rattle.request_props.specs.Satisfied.{Meets}
 use Rattle.request_props.specs.declared.request.Dist.{Dist}
 use Rattle.request_props.specs.declared.request.Request.{Request}
-use Rattle.plan_space.specs.Nodes.{native}
-use Rattle.plan_space.specs.Lines.{Line, alone, above, beside}
+use Rattle.plan_space.specs.declared.nodes.NodeKind.TheVariants.{Native}
+use Rattle.plan_space.specs.declared.lines.Line.{Line}
+use Rattle.plan_space.specs.declared.lines.Line.TheVariants.{Alone, Above, Beside}
 use Rattle.plan_space.specs.Alternatives.{DistServes, IsAlternative, asked_of}
 use Rattle.plan_space.specs.Choices.{groups_of}
 use Rattle.plan_tree.specs.Nodes.{IsNode}
 use Rattle.plan_tree.specs.declared.alternatives.Alt.{Alt}
 
 -- the line may give the distribution
-abbrev pub MayGive : Line → Dist → Type 0
-MayGive (alone given order) dist = Meets given dist
-MayGive (above left order) dist = DistServes left dist
-MayGive (beside left order request) dist = DistServes left dist
+abbrev pub MayGive : Query → Line → Dist → Type 0
+MayGive q (Alone given order) dist = Meets given dist
+MayGive q (Above left order) dist = DistServes q left dist
+MayGive q (Beside left order request) dist = DistServes q left dist
 
 -- the key of this group, of which this is asked
 abbrev pub Asks : Query → Option (Key × Request) → KeyParts → Request → Type 0
@@ -48,33 +50,33 @@ AreAsked q alt (group ∷ second ∷ []) (wanted ∷ other ∷ third ∷ wishes)
 AreAsked q alt (group ∷ second ∷ third ∷ groups) wishes = ⊥
 
 -- the node of the expression in the mode, and what its line asks of the children
-pub record IsAltBy (q : Query) (e : ExprParts) (wanted : Request) (mode : ℕ) (alt : Alt) (line : Line) : Type 0 where
+pub record IsAltBy (q : Query) (e : PhysicalExpr) (wanted : Request) (mode : ℕ) (alt : Alt) (line : Line) : Type 0 where
   pub is_alternative : IsAlternative q e wanted mode line
-  pub is_node : IsNode alt.node (native e mode)
-  pub asks : AreAsked q alt (groups_of e.children) (asked_of line wanted)
+  pub is_node : IsNode alt.node (Native e mode)
+  pub asks : AreAsked q alt (groups_of (physical_children e.operator)) (asked_of line wanted)
 
 -- the line of the mode is there for the request, and asks this; or none is there
-abbrev pub IsAltIn : Query → ExprParts → Request → ℕ → Option Alt → Type 0
+abbrev pub IsAltIn : Query → PhysicalExpr → Request → ℕ → Option Alt → Type 0
 IsAltIn q e wanted mode None = (line : Line) → IsAlternative q e wanted mode line → ⊥
 IsAltIn q e wanted mode (Some alt) = (line : Line) × IsAltBy q e wanted mode alt line
 
 -- the expression may serve the request in this mode
-abbrev pub HasAlternative : Query → ExprParts → Request → ℕ → Type 0
+abbrev pub HasAlternative : Query → PhysicalExpr → Request → ℕ → Type 0
 HasAlternative q e wanted mode = (line : Line) × IsAlternative q e wanted mode line
 
 -- the modes in which the expression may serve the request, ascending
-pub record AreModes (q : Query) (e : ExprParts) (wanted : Request) (modes : List ℕ) : Type 0 where
+pub record AreModes (q : Query) (e : PhysicalExpr) (wanted : Request) (modes : List ℕ) : Type 0 where
   pub rises : IsStrictlyIncreasing modes
   pub exact : (mode : ℕ) → Contains modes mode ↔ HasAlternative q e wanted mode
 
 -- the alternative in this mode, or none where there is no mode
-abbrev pub IsAltOf : Query → ExprParts → Request → Option ℕ → Option Alt → Type 0
+abbrev pub IsAltOf : Query → PhysicalExpr → Request → Option ℕ → Option Alt → Type 0
 IsAltOf q e wanted None found = found ≡ None
 IsAltOf q e wanted (Some mode) None = ⊥
 IsAltOf q e wanted (Some mode) (Some alt) = (line : Line) × IsAltBy q e wanted mode alt line
 
 -- of the modes in which the expression may serve the request, ascending, the alternative in the one at this place
-pub record IsAltAt (q : Query) (e : ExprParts) (wanted : Request) (place : ℕ) (found : Option Alt) : Type 0 where
+pub record IsAltAt (q : Query) (e : PhysicalExpr) (wanted : Request) (place : ℕ) (found : Option Alt) : Type 0 where
   pub modes : List ℕ
   pub are_modes : AreModes q e wanted modes
   pub at_place : IsAltOf q e wanted (slice_get modes place) found

@@ -1,4 +1,3 @@
-pub mod Meanings
 pub mod Nodes
 pub mod Alternatives
 pub mod Enforcers
@@ -6,3 +5,4 @@ pub mod Costs
 pub mod Spells
 pub mod Found
 pub mod Seen
+pub mod Walks

@@ -2,7 +2,9 @@
 use Rattle.std.specs.Prelude.{List, [], ◌∷◌, ⊤}
 use Rattle.query_core.specs.Keys.{IsGroup}
 use Rattle.query_core.specs.declared.query.Query.{Query}
-use Rattle.plan_space.specs.Nodes.{Kind, native, gather, broadcast, sort, gather_merge, redistribute, Tree, leaf, over, two}
+use Rattle.plan_space.specs.Nodes.{Tree, leaf, over, two}
+use Rattle.plan_space.specs.declared.nodes.NodeKind.{NodeKind}
+use Rattle.plan_space.specs.declared.nodes.NodeKind.TheVariants as nodes
 use Rattle.plan_space.specs.Gives.{Kid, kid_of}
 use Rattle.plan_tree.specs.declared.seen.Seen.{Seen}
 use Rattle.plan_tree.specs.declared.seen.Below.{Below}
@@ -19,7 +21,7 @@ kids_seen (One kid) = kid_seen kid ∷ []
 kids_seen (Two left right) = kid_seen left ∷ kid_seen right ∷ []
 
 -- the node at the root of a plan
-abbrev pub root_node : Tree → Kind
+abbrev pub root_node : Tree → NodeKind
 root_node (leaf node) = node
 root_node (over node kid) = node
 root_node (two node left right) = node
@@ -31,13 +33,9 @@ kids_of q (over node kid) = kid_of q kid ∷ []
 kids_of q (two node left right) = kid_of q left ∷ kid_of q right ∷ []
 
 -- the group of an expression is one of the query's
-abbrev pub HasGroup : Query → Kind → Type 0
-HasGroup q (native e mode) = IsGroup q e.group
-HasGroup q gather = ⊤
-HasGroup q broadcast = ⊤
-HasGroup q (sort order) = ⊤
-HasGroup q (gather_merge order) = ⊤
-HasGroup q (redistribute list) = ⊤
+abbrev pub HasGroup : Query → NodeKind → Type 0
+HasGroup q (nodes.Native e mode) = IsGroup q e.group
+HasGroup q (nodes.Enforcer e) = ⊤
 
 -- the groups of the plans below are groups of the query
 abbrev pub HaveGroups : Query → Below → Type 0

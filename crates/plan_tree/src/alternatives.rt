@@ -3,25 +3,24 @@
 
 ghost use Rattle.std.specs.Prelude.{ℕ, ◌≡◌, ◌<◌, List, Some, IfSome};
 ghost use Rattle.query_core.specs.declared.query.Query.{Query as AnyQuery};
-ghost use Rattle.query_core.specs.declared.expressions.ExprParts.{ExprParts as Parts};
+ghost use Rattle.query_core.specs.declared.expressions.PhysicalExpr.{PhysicalExpr as Parts};
 ghost use Rattle.request_props.specs.declared.request.Request.{Request as AnyRequest};
 ghost use Rattle.query_core.specs.Keys.{IsGroup};
 ghost use Rattle.query_core.specs.declared.words.KeyParts.{KeyParts as Group};
-ghost use Rattle.query_core.specs.Expressions.{IsCandidate, IsChild};
+ghost use Rattle.query_core.specs.Expressions.{IsCandidate, IsChild, expr_of};
 ghost use Rattle.request_props.specs.Numbered.{IsProps, IsNumbered};
 ghost use Rattle.plan_space.specs.Alternatives.{LineServes, asked_of};
 ghost use Rattle.plan_space.specs.Lines.{line_of as line_by_table};
 ghost use Rattle.plan_space.specs.Choices.{groups_of};
-ghost use Rattle.plan_tree.specs.Meanings.{table_line_of};
 ghost use Rattle.plan_tree.specs.Alternatives.{AreAsked, AreModes, IsAltAt, IsAltIn, IsAsk};
 
-use crate::line::Line;
 use crate::lines::line_of;
-use crate::node::{Node, NodeKind};
+use crate::node::Node;
 use crate::serving::{asked_left, asked_right, left_child, right_child, serves};
-use plan_space::modes_are_few;
+use crate::walks::next_line;
+use plan_space::{Line, NodeKind, modes_are_few};
 use query_core::{
-    Children, ExprParts, Key, KeyParts, Query, candidates_are_known, groups_are_known,
+    Children, Key, KeyParts, PhysicalExpr, Query, candidates_are_known, groups_are_known,
 };
 use request_props::{Props, Request};
 
@@ -37,12 +36,12 @@ pub struct Alt {
 pub fn alternative_in(
     query: &Query,
     props: &Props,
-    expr: ExprParts,
+    expr: PhysicalExpr,
     request: Request,
     mode: u32,
 ) -> Option<Alt>
     requires props { IsProps query.now props.now }
-    requires candidate { IsCandidate query.now expr }
+    requires candidate { IsCandidate query.now (expr_of expr) }
     requires numbered { IsNumbered query.now request.order }
     requires few { mode < 256 }
     ensures { IsAltIn query.now expr request mode result }
@@ -55,43 +54,48 @@ pub fn alternative_in(
 pub fn alternative_by(
     query: &Query,
     props: &Props,
-    expr: ExprParts,
+    expr: PhysicalExpr,
     request: Request,
     mode: u32,
     line: Line,
 ) -> Option<Alt>
     requires props { IsProps query.now props.now }
-    requires candidate { IsCandidate query.now expr }
+    requires candidate { IsCandidate query.now (expr_of expr) }
     requires numbered { IsNumbered query.now request.order }
     requires few { mode < 256 }
-    requires line { line_by_table query.now expr mode ≡ Some (table_line_of line) }
+    requires line { line_by_table query.now expr mode ≡ Some line }
     ensures { IsAltIn query.now expr request mode result }
 {
     candidates_are_known();
-    if !serves(query, props, line, expr.children, request) {
+    if !serves(query, props, line, expr.children(), request) {
         return None;
     }
-    let node = NodeKind::Native(expr, mode).node();
-    Some(alt_over(query, node, line, expr.children, request))
+    let node = Node::make(NodeKind::Native(expr, mode));
+    Some(alt_over(query, node, line, expr.children(), request))
 }
 
 /// The alternative at this place, of those for the request, ascending by their modes.
 pub fn alternative(
     query: &Query,
     props: &Props,
-    expr: ExprParts,
+    expr: PhysicalExpr,
     request: Request,
     n: u32,
 ) -> Option<Alt>
     requires props { IsProps query.now props.now }
-    requires candidate { IsCandidate query.now expr }
+    requires candidate { IsCandidate query.now (expr_of expr) }
     requires numbered { IsNumbered query.now request.order }
     ensures { IsAltAt query.now expr request n result }
 {
     modes_are_few();
     let mut seen = 0;
-    for mode in 0..192 {
-        match alternative_in(query, props, expr, request, mode) {
+    let mut from = 0;
+    'modes: loop {
+        let (mode, line) = match next_line(query, props, expr, from) {
+            Some(next) => next,
+            None => return None,
+        };
+        match alternative_by(query, props, expr, request, mode, line) {
             Some(alt) => {
                 if seen == n {
                     return Some(alt);
@@ -100,8 +104,8 @@ pub fn alternative(
             }
             None => {}
         }
+        from = mode + 1;
     }
-    None
 }
 
 /// The modes in which an expression may serve a request are one list.
@@ -113,10 +117,10 @@ pub fn modes_are_one()
 // What the line asks of the children.
 fn alt_over(query: &Query, node: Node, line: Line, children: Children, request: Request) -> Alt
     requires known { (g : Group) → IsChild children g → IsGroup query.now g }
-    requires serves { LineServes query.now (table_line_of line) children request }
+    requires serves { LineServes query.now line children request }
     ensures node { result.node ≡ node }
     ensures asks { AreAsked query.now result (groups_of children)
-        (asked_of (table_line_of line) request) }
+        (asked_of line request) }
 {
     Alt {
         node,

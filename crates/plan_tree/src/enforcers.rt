@@ -1,17 +1,18 @@
 //! The enforcers that may meet a request. No call here takes memory.
 #![tactic(auto)]
 
-ghost use Rattle.std.specs.Prelude.{◌≡◌, ◌≤◌, None, slice_get};
+ghost use Rattle.std.specs.Prelude.{◌≡◌, None, slice_get};
 ghost use Rattle.query_core.specs.Keys.{IsKey, Names};
 ghost use Rattle.query_core.specs.declared.words.KeyParts.{KeyParts as Group};
 ghost use Rattle.request_props.specs.Numbered.{IsProps};
-ghost use Rattle.plan_space.specs.Numbers.{Fits};
+ghost use Rattle.request_props.specs.Fitting.{Fits};
 ghost use Rattle.plan_space.specs.Enforcers.{enforcers_of, movers_of};
-ghost use Rattle.plan_tree.specs.Nodes.{kind_of, IsInRange, IsNode};
+ghost use Rattle.plan_space.specs.declared.nodes.NodeKind.TheVariants.{Enforcer as enforcing};
+ghost use Rattle.plan_tree.specs.Nodes.{EnforcerInRange, IsNode};
 ghost use Rattle.plan_tree.specs.Enforcers.{AreBoth, IsEnforced, IsEnforcerAt};
 
-use crate::fitting::{hash_fits, order_fits};
-use crate::node::{Node, NodeKind};
+use crate::node::Node;
+use plan_space::{Enforcer, NodeKind};
 use query_core::{Key, KeyParts, Query};
 use request_props::{Dist, Props, Request};
 
@@ -58,13 +59,13 @@ fn both(
     if request.order == 0 {
         return (mover(query, props, group, request.dist), None);
     }
-    if !order_fits(query, props, group, request.order) {
+    if !props.order_fits(query, group, request.order) {
         return (None, None);
     }
-    let sorted = over(NodeKind::Sort(request.order), request.dist, 0);
+    let sorted = over(Enforcer::Sort(request.order), request.dist, 0);
     match request.dist {
         Dist::One => {
-            let merge = NodeKind::GatherMerge(request.order);
+            let merge = Enforcer::GatherMerge(request.order);
             (Some(sorted), Some(over(merge, Dist::Spread, request.order)))
         }
         Dist::Spread => (Some(sorted), None),
@@ -79,26 +80,26 @@ fn mover(query: &Query, props: &Props, group: KeyParts, dist: Dist) -> Option<En
     ensures { AreBoth query.now group (movers_of dist) result None }
 {
     match dist {
-        Dist::One => Some(over(NodeKind::Gather, Dist::Spread, 0)),
+        Dist::One => Some(over(Enforcer::Gather, Dist::Spread, 0)),
         Dist::Spread => None,
-        Dist::Copies => Some(over(NodeKind::Broadcast, Dist::Spread, 0)),
+        Dist::Copies => Some(over(Enforcer::Broadcast, Dist::Spread, 0)),
         Dist::Hashed(list) => {
-            if !hash_fits(query, props, group, list) {
+            if !props.hash_fits(query, group, list) {
                 return None;
             }
-            Some(over(NodeKind::Redistribute(list), Dist::Spread, 0))
+            Some(over(Enforcer::Redistribute(list), Dist::Spread, 0))
         }
     }
 }
 
 // The enforcer over a plan for this distribution and this order.
-fn over(kind: NodeKind, dist: Dist, order: u32) -> Enforced
-    requires { IsInRange (kind_of kind) }
-    ensures node { IsNode result.node (kind_of kind) }
+fn over(enforcer: Enforcer, dist: Dist, order: u32) -> Enforced
+    requires { EnforcerInRange enforcer }
+    ensures node { IsNode result.node (enforcing enforcer) }
     ensures below { result.below ≡ record { dist = dist; order = order } }
 {
     Enforced {
-        node: kind.node(),
+        node: Node::make(NodeKind::Enforcer(enforcer)),
         below: Request { dist, order },
     }
 }

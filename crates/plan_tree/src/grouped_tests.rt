@@ -1,10 +1,10 @@
 //! A grouped query over one table with an index, worked by hand.
 
 ghost use Rattle.std.specs.Prelude.{◌≤◌, IfSome};
-ghost use Rattle.query_core.specs.Expressions.{IsCandidate};
+ghost use Rattle.query_core.specs.Expressions.{IsCandidate, expr_of};
 ghost use Rattle.request_props.specs.Numbered.{IsProps};
 
-use crate::tests::{ask, origin, step, text};
+use crate::tests::{ask, made, origin, step, text};
 use crate::*;
 use orca_base::List;
 use query_core::*;
@@ -114,15 +114,15 @@ fn first_of(query: &Query, key: u32) -> Option<ExprParts>
 }
 
 // The aggregation by this rule, of the rows or of partial groups.
-fn aggregation(query: &Query, rule: Rule, of_partial: bool) -> Option<ExprParts>
-    ensures { IfSome result (IsCandidate query.now) }
+fn aggregation(query: &Query, rule: Rule, of_partial: bool) -> Option<PhysicalExpr>
+    ensures { IfSome result (λ made. IsCandidate query.now (expr_of made)) }
 {
     let whole = first_of(query, AGG)?;
     if of_partial {
         let split = step(query, Rule::SplitAgg, whole)?;
-        step(query, rule, split)
+        made(query, rule, split)
     } else {
-        step(query, rule, whole)
+        made(query, rule, whole)
     }
 }
 
@@ -131,12 +131,12 @@ fn aggregation(query: &Query, rule: Rule, of_partial: bool) -> Option<ExprParts>
 fn serving(
     query: &Query,
     props: &Props,
-    e: ExprParts,
+    e: PhysicalExpr,
     request: Request,
     mode: u32,
 ) -> Option<(Option<Request>, u64)>
     requires props { IsProps query.now props.now }
-    requires candidate { IsCandidate query.now e }
+    requires candidate { IsCandidate query.now (expr_of e) }
 {
     if mode >= 256 || request.order as usize > props.orders.len() {
         return None;
@@ -181,7 +181,7 @@ fn made_serving(
     serving(
         query,
         props,
-        step(query, rule, first_of(query, key)?)?,
+        made(query, rule, first_of(query, key)?)?,
         request,
         0,
     )

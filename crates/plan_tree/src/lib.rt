@@ -4,29 +4,26 @@
 mod alternatives;
 mod cost;
 mod enforcers;
-mod fitting;
-mod line;
 mod lines;
 mod node;
-mod numbers;
 mod plan;
 mod seen;
 mod seen_cost;
 mod serving;
+mod walks;
 
 pub use alternatives::{Alt, alternative, alternative_by, alternative_in, modes_are_one};
 pub use cost::{
     ExprRows, enforcer_cost, enforcer_cost_by, expr_rows, native_cost, native_cost_by, node_cost,
 };
 pub use enforcers::{Enforced, enforcer};
-pub use fitting::{fits, hash_fits, order_fits};
-pub use line::{LeftDist, LeftOrder, Line};
 pub use lines::{line_of, table_in};
-pub use node::{Node, NodeKind, nodes_are_one};
+pub use node::{Node, nodes_are_one};
 pub use plan::{Found, Plan};
 pub use seen::{Below, Seen, meets, plan_seen, seen_above, seen_below};
 pub use seen_cost::{cost_above, cost_above_any, rows_above};
 pub use serving::may_give;
+pub use walks::next_line;
 
 #[cfg(test)]
 mod grouped_tests;

@@ -1,125 +1,46 @@
 //! The line of an expression in a mode. No call here takes memory.
 #![tactic(auto)]
 
-ghost use Rattle.std.specs.Prelude.{◌≡◌};
-ghost use Rattle.std.specs.Option.{option_map};
-ghost use Rattle.request_props.specs.Numbered.{IsProps};
-ghost use Rattle.plan_space.specs.Lines.{line_of as line_by_table, leaf_line as leaf_line_by_table};
-ghost use Rattle.plan_space.specs.Lines.{pair_line as pair_line_by_table, kid_line as kid_line_by_table};
+ghost use Rattle.std.specs.Prelude.{ℕ, ◌≡◌};
+ghost use Rattle.request_props.specs.Numbered.{IsProps, side_of};
+ghost use Rattle.plan_space.specs.Lines.{line_of as line_by_table, table_line as line_of_table};
 ghost use Rattle.plan_space.specs.Lines.{hash_line as hash_line_by_table, merge_line as merge_line_by_table};
-ghost use Rattle.plan_space.specs.Lines.{loop_line as loop_line_by_table, table_line as line_of_table};
-ghost use Rattle.plan_space.specs.Lines.{agg_line as agg_line_by_table};
+ghost use Rattle.plan_space.specs.Lines.{loop_line as loop_line_by_table, agg_line as agg_line_by_table};
 ghost use Rattle.plan_space.specs.Lines.{hash_colocated as hash_line_with, merge_with as merge_line_with};
-ghost use Rattle.plan_space.specs.Lines.{table_in as table_of_group, on_one, on_hashed, in_order};
 ghost use Rattle.plan_space.specs.Lines.{only_line as only_by_table, merge_colocated as merge_line_hashed};
-ghost use Rattle.plan_tree.specs.Meanings.{left_dist_of, left_order_of, table_line_of};
+ghost use Rattle.plan_space.specs.Lines.{table_in as table_of_group, on_one, on_hashed, in_order};
 
-use crate::fitting::is_grouped_list;
-use crate::line::{LeftDist, LeftOrder, Line};
-use crate::numbers::{column_list, column_order, group_order, table_dist};
-use query_core::{Children, ExprParts, KeyParts, Operator, Query};
-use request_props::{Dist, GivenDist, GivenOrder, Props, Request};
+use plan_space::{LeftDist, LeftOrder, Line};
+use query_core::{KeyParts, Physical, PhysicalExpr, Query};
+use request_props::{Dist, GivenDist, GivenOrder, Props, Request, Side};
 
 /// The line of an expression in a mode, if it has the mode.
-pub fn line_of(query: &Query, props: &Props, expr: ExprParts, mode: u32) -> Option<Line>
+pub fn line_of(query: &Query, props: &Props, expr: PhysicalExpr, mode: u32) -> Option<Line>
     requires { IsProps query.now props.now }
-    ensures { option_map table_line_of result ≡ line_by_table query.now expr mode }
+    ensures { result ≡ line_by_table query.now expr mode }
 {
-    match expr.children {
-        Children::Zero => leaf_line(query, props, expr.group, expr.operator, mode),
-        Children::One(_) => kid_line(query, props, expr.operator, mode),
-        Children::Two(left, right) => { pair_line(query, props, expr.operator, left, right, mode) }
-    }
-}
-
-// The line of an operator without children.
-fn leaf_line(
-    query: &Query,
-    props: &Props,
-    group: KeyParts,
-    operator: Operator,
-    mode: u32,
-) -> Option<Line>
-    requires { IsProps query.now props.now }
-    ensures { option_map table_line_of result ≡
-        leaf_line_by_table query.now group operator mode }
-{
-    let order = match operator {
-        Operator::Scan => GivenOrder::Listed(0),
-        Operator::IndexScan(index) => GivenOrder::Index(table_in(group), index),
-        Operator::IndexSeek(index) => GivenOrder::Index(table_in(group), index),
-        _ => return None,
-    };
-    only_line(table_line(query, props, group, order), mode)
-}
-
-// The line of an operator over one child.
-fn kid_line(query: &Query, props: &Props, operator: Operator, mode: u32) -> Option<Line>
-    requires { IsProps query.now props.now }
-    ensures { option_map table_line_of result ≡ kid_line_by_table query.now operator mode }
-{
-    match operator {
-        Operator::Filter => only_line(Line::Above(LeftDist::Same, LeftOrder::Same), mode),
-        Operator::HashAgg => agg_line(query, props, 0, mode),
-        Operator::StreamAgg => agg_line(query, props, group_order(query, props), mode),
-        Operator::PartialAgg => {
+    let group = expr.group;
+    let table = table_in(group);
+    match expr.operator {
+        Physical::Scan => only_line(table_line(query, props, group, GivenOrder::Listed(0)), mode),
+        Physical::IndexScan(index) => {
+            let order = GivenOrder::Index(table, index);
+            only_line(table_line(query, props, group, order), mode)
+        }
+        Physical::Filter(_) => only_line(Line::Above(LeftDist::Same, LeftOrder::Same), mode),
+        Physical::IndexSeek(index) => {
+            let order = GivenOrder::Index(table, index);
+            only_line(table_line(query, props, group, order), mode)
+        }
+        Physical::HashJoin(left, right) => hash_line(query, props, left, right, mode),
+        Physical::MergeJoin(left, right) => merge_line(query, props, left, right, mode),
+        Physical::LoopJoin(_, _) => loop_line(mode),
+        Physical::HashAgg(_) => agg_line(query, props, 0, mode),
+        Physical::StreamAgg(_) => agg_line(query, props, props.group_order(query), mode),
+        Physical::PartialAgg(_) => {
             only_line(Line::Above(LeftDist::SameSpread, left_in_order(0)), mode)
         }
-        _ => None,
     }
-}
-
-// An aggregation that gives this order, over a child in the same order: on one segment, or for
-// each list within GROUP BY over rows that are hashed by it.
-fn agg_line(query: &Query, props: &Props, order: u32, mode: u32) -> Option<Line>
-    requires { IsProps query.now props.now }
-    ensures { option_map table_line_of result ≡ agg_line_by_table query.now order mode }
-{
-    if mode == 0 {
-        Some(Line::Above(left_on_one(), left_in_order(order)))
-    } else if mode < 128 {
-        None
-    } else if is_grouped_list(query, props, mode - 128) {
-        Some(Line::Above(left_on_hashed(mode - 128), left_in_order(order)))
-    } else {
-        None
-    }
-}
-
-// The line of an operator over two children.
-fn pair_line(
-    query: &Query,
-    props: &Props,
-    operator: Operator,
-    left: KeyParts,
-    right: KeyParts,
-    mode: u32,
-) -> Option<Line>
-    requires { IsProps query.now props.now }
-    ensures { option_map table_line_of result ≡
-        pair_line_by_table query.now operator left right mode }
-{
-    match operator {
-        Operator::HashJoin => hash_line(query, props, left, right, mode),
-        Operator::MergeJoin => merge_line(query, props, left, right, mode),
-        Operator::LoopJoin => loop_line(mode),
-        _ => None,
-    }
-}
-
-// One line, in mode 0.
-fn only_line(line: Line, mode: u32) -> Option<Line>
-    ensures { option_map table_line_of result ≡ only_by_table (table_line_of line) mode }
-{
-    if mode == 0 { Some(line) } else { None }
-}
-
-// The rows of a group's table where they lie, in this order.
-fn table_line(query: &Query, props: &Props, group: KeyParts, order: GivenOrder) -> Line
-    requires { IsProps query.now props.now }
-    ensures { table_line_of result ≡ line_of_table query.now group order }
-{
-    Line::Alone(table_dist(query, props, table_in(group)), order)
 }
 
 /// The table whose rows a group has.
@@ -135,6 +56,38 @@ pub fn table_in(group: KeyParts) -> u32
     }
 }
 
+// One line, in mode 0.
+fn only_line(line: Line, mode: u32) -> Option<Line>
+    ensures { result ≡ only_by_table line mode }
+{
+    if mode == 0 { Some(line) } else { None }
+}
+
+// The rows of a group's table where they lie, in this order.
+fn table_line(query: &Query, props: &Props, group: KeyParts, order: GivenOrder) -> Line
+    requires { IsProps query.now props.now }
+    ensures { result ≡ line_of_table query.now group order }
+{
+    Line::Alone(props.table_dist(query, table_in(group)), order)
+}
+
+// An aggregation that gives this order, over a child in the same order: on one segment, or for
+// each list over rows that are hashed by it.
+fn agg_line(query: &Query, props: &Props, order: u32, mode: u32) -> Option<Line>
+    requires { IsProps query.now props.now }
+    ensures { result ≡ agg_line_by_table query.now order mode }
+{
+    if mode == 0 {
+        Some(Line::Above(left_on_one(), left_in_order(order)))
+    } else if mode < 128 {
+        None
+    } else if ((mode - 128) as usize) < props.hashed.len() {
+        Some(Line::Above(LeftDist::Grouped(mode - 128), left_in_order(order)))
+    } else {
+        None
+    }
+}
+
 // A hash join: on one segment, with copies of the right side, or for each crossing equality of
 // rows hashed alike.
 fn hash_line(
@@ -145,7 +98,7 @@ fn hash_line(
     mode: u32,
 ) -> Option<Line>
     requires { IsProps query.now props.now }
-    ensures { option_map table_line_of result ≡ hash_line_by_table query.now left right mode }
+    ensures { result ≡ hash_line_by_table query.now left right mode }
 {
     if mode == 0 {
         Some(Line::Beside(left_on_one(), left_in_order(0), unordered(Dist::One)))
@@ -158,22 +111,20 @@ fn hash_line(
     } else if mode < 128 {
         None
     } else {
-        let equated = query.crossing_groups(left, right, mode - 128)?;
-        Some(hash_colocated(query, props, equated))
+        let sides = props.crossing(query, left, right, mode - 128)?;
+        Some(hash_colocated(query, sides.0, sides.1))
     }
 }
 
 // A hash join of rows that are hashed alike on the two sides of an equality.
-fn hash_colocated(query: &Query, props: &Props, sides: (u32, u32)) -> Line
-    requires { IsProps query.now props.now }
-    ensures { table_line_of result ≡ hash_line_with query.now sides }
+fn hash_colocated(query: &Query, left: Side, right: Side) -> Line
+    ensures { (a b : ℕ) → left ≡ side_of query.now a → right ≡ side_of query.now b →
+        result ≡ hash_line_with query.now (a, b) }
 {
-    let left = column_list(query, props, sides.0);
-    let right = column_list(query, props, sides.1);
     Line::Beside(
-        left_on_hashed(left),
+        left_on_hashed(left.list),
         left_in_order(0),
-        unordered(Dist::Hashed(right)),
+        unordered(Dist::Hashed(right.list)),
     )
 }
 
@@ -187,53 +138,49 @@ fn merge_line(
     mode: u32,
 ) -> Option<Line>
     requires { IsProps query.now props.now }
-    ensures { option_map table_line_of result ≡ merge_line_by_table query.now left right mode }
+    ensures { result ≡ merge_line_by_table query.now left right mode }
 {
     if mode < 64 {
-        let sides = query.crossing_groups(left, right, mode)?;
-        Some(merge_with(query, props, left_on_one(), Dist::One, sides))
+        let sides = props.crossing(query, left, right, mode)?;
+        Some(merge_with(query, left_on_one(), Dist::One, sides.0, sides.1))
     } else if mode < 128 {
-        let sides = query.crossing_groups(left, right, mode - 64)?;
-        Some(merge_with(query, props, LeftDist::SameSpread, Dist::Copies, sides))
+        let sides = props.crossing(query, left, right, mode - 64)?;
+        Some(merge_with(query, LeftDist::SameSpread, Dist::Copies, sides.0, sides.1))
     } else {
-        let sides = query.crossing_groups(left, right, mode - 128)?;
-        Some(merge_colocated(query, props, sides))
+        let sides = props.crossing(query, left, right, mode - 128)?;
+        Some(merge_colocated(query, sides.0, sides.1))
     }
 }
 
 // A merge join of rows in the order of the two sides of an equality.
-fn merge_with(query: &Query, props: &Props, dist: LeftDist, right: Dist, sides: (u32, u32)) -> Line
-    requires { IsProps query.now props.now }
-    ensures { table_line_of result ≡
-        merge_line_with query.now (left_dist_of dist) right sides }
+fn merge_with(query: &Query, dist: LeftDist, asked: Dist, left: Side, right: Side) -> Line
+    ensures { (a b : ℕ) → left ≡ side_of query.now a → right ≡ side_of query.now b →
+        result ≡ merge_line_with query.now dist asked (a, b) }
 {
-    let order = column_order(query, props, sides.0);
-    let asked = Request {
-        dist: right,
-        order: column_order(query, props, sides.1),
+    let needed = Request {
+        dist: asked,
+        order: right.order,
     };
-    Line::Beside(dist, left_in_order(order), asked)
+    Line::Beside(dist, left_in_order(left.order), needed)
 }
 
 // And that are hashed alike on them.
-fn merge_colocated(query: &Query, props: &Props, sides: (u32, u32)) -> Line
-    requires { IsProps query.now props.now }
-    ensures { table_line_of result ≡ merge_line_hashed query.now sides }
+fn merge_colocated(query: &Query, left: Side, right: Side) -> Line
+    ensures { (a b : ℕ) → left ≡ side_of query.now a → right ≡ side_of query.now b →
+        result ≡ merge_line_hashed query.now (a, b) }
 {
-    let left = column_list(query, props, sides.0);
-    let right = column_list(query, props, sides.1);
     merge_with(
         query,
-        props,
-        left_on_hashed(left),
-        Dist::Hashed(right),
-        sides,
+        left_on_hashed(left.list),
+        Dist::Hashed(right.list),
+        left,
+        right,
     )
 }
 
 // A loop join: on one segment, or with copies of the right side; it keeps the left child's order.
 fn loop_line(mode: u32) -> Option<Line>
-    ensures { option_map table_line_of result ≡ loop_line_by_table mode }
+    ensures { result ≡ loop_line_by_table mode }
 {
     if mode == 0 {
         Some(Line::Beside(left_on_one(), LeftOrder::Same, unordered(Dist::One)))
@@ -250,21 +197,21 @@ fn loop_line(mode: u32) -> Option<Line>
 
 // All rows on one segment, over a left child that is so.
 fn left_on_one() -> LeftDist
-    ensures { left_dist_of result ≡ on_one }
+    ensures { result ≡ on_one }
 {
     LeftDist::Fixed(GivenDist::One, Dist::One)
 }
 
 // Rows by the hash of the list, over a left child that is so.
 fn left_on_hashed(list: u32) -> LeftDist
-    ensures { left_dist_of result ≡ on_hashed list }
+    ensures { result ≡ on_hashed list }
 {
     LeftDist::Fixed(GivenDist::Hashed(list), Dist::Hashed(list))
 }
 
 // An order that is given, over a left child in the same order.
 fn left_in_order(order: u32) -> LeftOrder
-    ensures { left_order_of result ≡ in_order order }
+    ensures { result ≡ in_order order }
 {
     LeftOrder::Fixed(GivenOrder::Listed(order), order)
 }

@@ -1,31 +1,19 @@
 //! Nodes as numbers. Nothing else packs or unpacks a node.
 #![tactic(auto)]
 
-ghost use Rattle.std.specs.Prelude.{ℕ, ◌≡◌, ◌≢◌, ◌↔◌, Some, IfNone, IfSome, option_map};
-ghost use Rattle.query_core.specs.declared.expressions.ExprParts.{ExprParts as Parts};
-ghost use Rattle.plan_space.specs.Nodes.{Kind, native, number_of};
-ghost use Rattle.plan_tree.specs.Nodes.{kind_of, IsInRange, IsNode, NativeInRange};
+ghost use Rattle.std.specs.Prelude.{ℕ, ◌≡◌, ◌≢◌, ◌↔◌, Some, IfNone, IfSome};
+ghost use Rattle.query_core.specs.declared.expressions.PhysicalExpr.{PhysicalExpr as Physical};
+ghost use Rattle.plan_space.specs.Nodes.{enforcer_number as number_of_enforcer, number_of};
+ghost use Rattle.plan_space.specs.declared.nodes.NodeKind.{NodeKind as Kind};
+ghost use Rattle.plan_space.specs.declared.nodes.NodeKind.TheVariants.{Native};
+ghost use Rattle.plan_tree.specs.Nodes.{EnforcerInRange, IsInRange, IsNode, NativeInRange};
 
-use query_core::{Expr, ExprParts, expressions_are_one};
+use plan_space::{Enforcer, NodeKind};
+use query_core::{Expr, PhysicalExpr, expressions_are_one};
 
 /// A node of a plan, in one word.
 #[derive(Clone, Copy, Debug, PartialEq, Eq)]
 pub struct Node(pub u64);
-
-/// What a node does.
-#[derive(Clone, Copy, Debug, PartialEq, Eq)]
-pub enum NodeKind {
-    /// A physical expression in a mode.
-    Native(ExprParts, u32),
-    Gather,
-    Broadcast,
-    /// A sort into the order of this number, 1 to 60.
-    Sort(u32),
-    /// A merge of the segments that keeps the order of this number, 1 to 60.
-    GatherMerge(u32),
-    /// Each row goes to where the hash of the list of this number says, 0 to 59.
-    Redistribute(u32),
-}
 
 const GATHER: u64 = 1;
 
@@ -39,34 +27,35 @@ const REDISTRIBUTE: u64 = 192;
 
 const NATIVE: u64 = 1 << 56;
 
-impl NodeKind {
-    pub fn node(self) -> Node
-        requires { IsInRange (kind_of self) }
-        ensures { IsNode result (kind_of self) }
+impl Node {
+    /// The node that does this.
+    pub fn make(kind: NodeKind) -> Node
+        requires { IsInRange kind }
+        ensures { IsNode result kind }
     {
-        Node(match self {
-            NodeKind::Native(expr, mode) => NATIVE + (Expr::make(expr).0 << 8) + mode as u64,
-            NodeKind::Gather => GATHER,
-            NodeKind::Broadcast => BROADCAST,
-            NodeKind::Sort(order) => SORT + order as u64,
-            NodeKind::GatherMerge(order) => GATHER_MERGE + order as u64,
-            NodeKind::Redistribute(list) => REDISTRIBUTE + list as u64,
+        Node(match kind {
+            NodeKind::Native(e, mode) => NATIVE + (Expr::make(e.parts()).0 << 8) + mode as u64,
+            NodeKind::Enforcer(enforcer) => enforcer_number(enforcer),
         })
     }
-}
 
-impl Node {
     /// What the node does; none for a number that no node has.
     pub fn kind(self) -> Option<NodeKind>
-        ensures exact { (k : Kind) → IsNode self k ↔ (option_map kind_of result ≡ Some k) }
+        ensures exact { (k : Kind) → IsNode self k ↔ (result ≡ Some k) }
     {
         nodes_are_one();
         match self.0 {
-            GATHER => Some(NodeKind::Gather),
-            BROADCAST => Some(NodeKind::Broadcast),
-            65..=124 => Some(NodeKind::Sort((self.0 - SORT) as u32)),
-            129..=188 => Some(NodeKind::GatherMerge((self.0 - GATHER_MERGE) as u32)),
-            192..=251 => Some(NodeKind::Redistribute((self.0 - REDISTRIBUTE) as u32)),
+            GATHER => Some(NodeKind::Enforcer(Enforcer::Gather)),
+            BROADCAST => Some(NodeKind::Enforcer(Enforcer::Broadcast)),
+            65..=124 => Some(NodeKind::Enforcer(Enforcer::Sort((self.0 - SORT) as u32))),
+            129..=188 => {
+                let order = (self.0 - GATHER_MERGE) as u32;
+                Some(NodeKind::Enforcer(Enforcer::GatherMerge(order)))
+            }
+            192..=251 => {
+                let list = (self.0 - REDISTRIBUTE) as u32;
+                Some(NodeKind::Enforcer(Enforcer::Redistribute(list)))
+            }
             number => match native_of(number) {
                 Some((expr, mode)) => Some(NodeKind::Native(expr, mode)),
                 None => None,
@@ -82,15 +71,30 @@ pub fn nodes_are_one()
     expressions_are_one();
 }
 
-// The expression and the mode that have this number.
-fn native_of(number: u64) -> Option<(ExprParts, u32)>
-    ensures number { IfSome result (λ n. number ≡ number_of (native n.0 n.1)) }
-    ensures in_range { IfSome result (λ n. NativeInRange n.0 n.1) }
-    ensures none { IfNone result ((e : Parts) (mode : ℕ) → NativeInRange e mode →
-        number ≢ number_of (native e mode)) }
+fn enforcer_number(enforcer: Enforcer) -> u64
+    requires { EnforcerInRange enforcer }
+    ensures { result ≡ number_of_enforcer enforcer }
 {
+    match enforcer {
+        Enforcer::Gather => GATHER,
+        Enforcer::Broadcast => BROADCAST,
+        Enforcer::Sort(order) => SORT + order as u64,
+        Enforcer::GatherMerge(order) => GATHER_MERGE + order as u64,
+        Enforcer::Redistribute(list) => REDISTRIBUTE + list as u64,
+    }
+}
+
+// The expression and the mode that have this number.
+fn native_of(number: u64) -> Option<(PhysicalExpr, u32)>
+    ensures number { IfSome result (λ n. number ≡ number_of (Native n.0 n.1)) }
+    ensures in_range { IfSome result (λ n. NativeInRange n.0 n.1) }
+    ensures none { IfNone result ((e : Physical) (mode : ℕ) → NativeInRange e mode →
+        number ≢ number_of (Native e mode)) }
+{
+    expressions_are_one();
     let past = number.checked_sub(NATIVE)?;
-    match Expr(past >> 8).parts() {
+    let expr = Expr(past >> 8).parts()?;
+    match expr.as_physical() {
         Some(expr) => Some((expr, (past % 256) as u32)),
         None => None,
     }

@@ -1,7 +1,7 @@
 //! Plans.
 #![tactic(auto)]
 
-ghost use Rattle.std.specs.Prelude.{◌≡◌, IfOk};
+ghost use Rattle.std.specs.Prelude.{IfOk};
 ghost use Rattle.plan_space.specs.Nodes.{Tree};
 ghost use Rattle.plan_tree.specs.Spells.{Spells};
 

@@ -4,21 +4,21 @@
 ghost use Rattle.std.specs.Prelude.{◌≡◌, ◌↔◌, IsTrue};
 ghost use Rattle.request_props.specs.Numbered.{IsProps, IsNumbered, order_of};
 ghost use Rattle.request_props.specs.Satisfied.{Satisfies};
-ghost use Rattle.plan_space.specs.Nodes.{Kind, Tree};
+ghost use Rattle.plan_space.specs.Nodes.{Tree};
+ghost use Rattle.plan_space.specs.declared.nodes.NodeKind.{NodeKind as Kind};
 ghost use Rattle.plan_space.specs.Gives.{kid_of, kid_under, first_group as group_of_first, first_given as given_by_first};
-ghost use Rattle.plan_space.specs.Gives.{node_group as group_of_node, node_gives as given_by_node, native_gives as given_by_native};
+ghost use Rattle.plan_space.specs.Gives.{node_group as group_of_node, node_gives as given_by_node, native_gives as given_by_native, enforcer_gives as given_by_enforcer};
 ghost use Rattle.plan_space.specs.Gives.{line_gives as given_by_line, left_gives as given_by_left, left_dist as dist_by_left, left_order as order_by_left};
-ghost use Rattle.plan_tree.specs.Meanings.{left_dist_of, left_order_of, table_line_of};
-ghost use Rattle.plan_tree.specs.Nodes.{kind_of, IsNode};
+ghost use Rattle.plan_tree.specs.Nodes.{IsNode};
 ghost use Rattle.plan_tree.specs.Spells.{Spells};
 ghost use Rattle.plan_tree.specs.Seen.{kid_seen, kids_seen, kids_of};
 
-use crate::line::{LeftDist, LeftOrder, Line};
 use crate::lines::line_of;
-use crate::node::{Node, NodeKind};
+use crate::node::Node;
 use crate::plan::Plan;
 use crate::serving::gives;
-use query_core::{ExprParts, KeyParts, Query};
+use plan_space::{Enforcer, LeftDist, LeftOrder, Line, NodeKind};
+use query_core::{KeyParts, PhysicalExpr, Query};
 use request_props::{Given, GivenDist, GivenOrder, Props, Request};
 
 /// What a node sees of a plan below it: the plan's group, and what it gives.
@@ -78,7 +78,7 @@ pub fn seen_below(query: &Query, props: &Props, plan: &Plan) -> Below
 /// What is seen of a node over plans that are seen so.
 pub fn seen_above(query: &Query, props: &Props, kind: NodeKind, below: Below) -> Seen
     requires { IsProps query.now props.now }
-    ensures { kid_seen result ≡ kid_under query.now (kind_of kind) (kids_seen below) }
+    ensures { kid_seen result ≡ kid_under query.now kind (kids_seen below) }
 {
     Seen {
         group: node_group(kind, below),
@@ -116,15 +116,11 @@ fn node_seen(query: &Query, props: &Props, node: Node, below: Below) -> Seen
 }
 
 fn node_group(kind: NodeKind, below: Below) -> KeyParts
-    ensures { result ≡ group_of_node (kind_of kind) (kids_seen below) }
+    ensures { result ≡ group_of_node kind (kids_seen below) }
 {
     match kind {
         NodeKind::Native(expr, _) => expr.group,
-        NodeKind::Gather => first_group(below),
-        NodeKind::Broadcast => first_group(below),
-        NodeKind::Sort(_) => first_group(below),
-        NodeKind::GatherMerge(_) => first_group(below),
-        NodeKind::Redistribute(_) => first_group(below),
+        NodeKind::Enforcer(_) => first_group(below),
     }
 }
 
@@ -152,15 +148,23 @@ fn first_given(below: Below) -> Given
 
 fn node_gives(query: &Query, props: &Props, kind: NodeKind, below: Below) -> Given
     requires { IsProps query.now props.now }
-    ensures { result ≡ given_by_node query.now (kind_of kind) (kids_seen below) }
+    ensures { result ≡ given_by_node query.now kind (kids_seen below) }
 {
     match kind {
         NodeKind::Native(expr, mode) => native_gives(query, props, expr, mode, below),
-        NodeKind::Gather => unordered(GivenDist::One),
-        NodeKind::Broadcast => unordered(GivenDist::Copies),
-        NodeKind::Sort(order) => ordered(first_given(below).dist, order),
-        NodeKind::GatherMerge(order) => ordered(GivenDist::One, order),
-        NodeKind::Redistribute(list) => unordered(GivenDist::Hashed(list)),
+        NodeKind::Enforcer(enforcer) => enforcer_gives(enforcer, first_given(below)),
+    }
+}
+
+fn enforcer_gives(enforcer: Enforcer, given: Given) -> Given
+    ensures { result ≡ given_by_enforcer enforcer given }
+{
+    match enforcer {
+        Enforcer::Gather => unordered(GivenDist::One),
+        Enforcer::Broadcast => unordered(GivenDist::Copies),
+        Enforcer::Sort(order) => ordered(given.dist, order),
+        Enforcer::GatherMerge(order) => ordered(GivenDist::One, order),
+        Enforcer::Redistribute(list) => unordered(GivenDist::Hashed(list)),
     }
 }
 
@@ -179,7 +183,7 @@ fn ordered(dist: GivenDist, order: u32) -> Given
     }
 }
 
-fn native_gives(query: &Query, props: &Props, expr: ExprParts, mode: u32, below: Below) -> Given
+fn native_gives(query: &Query, props: &Props, expr: PhysicalExpr, mode: u32, below: Below) -> Given
     requires { IsProps query.now props.now }
     ensures { result ≡ given_by_native query.now expr mode (kids_seen below) }
 {
@@ -190,7 +194,7 @@ fn native_gives(query: &Query, props: &Props, expr: ExprParts, mode: u32, below:
 }
 
 fn line_gives(line: Line, below: Below) -> Given
-    ensures { result ≡ given_by_line (table_line_of line) (kids_seen below) }
+    ensures { result ≡ given_by_line line (kids_seen below) }
 {
     match line {
         Line::Alone(dist, order) => Given { dist, order },
@@ -200,7 +204,7 @@ fn line_gives(line: Line, below: Below) -> Given
 }
 
 fn left_gives(dist: LeftDist, order: LeftOrder, given: Given) -> Given
-    ensures { result ≡ given_by_left (left_dist_of dist) (left_order_of order) given }
+    ensures { result ≡ given_by_left dist order given }
 {
     Given {
         dist: left_dist(dist, given.dist),
@@ -209,17 +213,18 @@ fn left_gives(dist: LeftDist, order: LeftOrder, given: Given) -> Given
 }
 
 fn left_dist(dist: LeftDist, given: GivenDist) -> GivenDist
-    ensures { result ≡ dist_by_left (left_dist_of dist) given }
+    ensures { result ≡ dist_by_left dist given }
 {
     match dist {
         LeftDist::Fixed(gives, _) => gives,
+        LeftDist::Grouped(list) => GivenDist::Hashed(list),
         LeftDist::Same => given,
         LeftDist::SameSpread => given,
     }
 }
 
 fn left_order(order: LeftOrder, given: GivenOrder) -> GivenOrder
-    ensures { result ≡ order_by_left (left_order_of order) given }
+    ensures { result ≡ order_by_left order given }
 {
     match order {
         LeftOrder::Fixed(gives, _) => gives,

@@ -7,26 +7,24 @@ ghost use Rattle.cardinality.specs.Rows.{rows_of};
 ghost use Rattle.cost_units.specs.Cost.{IsBounded, local_cost, most_cost, most_rows};
 ghost use Rattle.request_props.specs.Numbered.{IsProps};
 ghost use Rattle.plan_space.specs.Gives.{first_group as group_of_first, node_group as group_of_node};
-ghost use Rattle.plan_space.specs.Valid.{class_of as class_by_given};
-ghost use Rattle.plan_space.specs.Cost.{native_shape as shape_of_native, shape_of};
+ghost use Rattle.request_props.specs.Classes.{class_of as class_by_given};
+ghost use Rattle.plan_space.specs.Cost.{native_shape as shape_of_native, enforcer_shape as shape_of_enforcer, shape_of};
 ghost use Rattle.plan_space.specs.Cost.{share_of, first_share as share_of_first, second_share as share_of_second};
-ghost use Rattle.plan_tree.specs.Nodes.{kind_of};
 ghost use Rattle.plan_tree.specs.Seen.{kids_seen, HasGroup, HaveGroups};
 
 use crate::cost::operator_shape;
-use crate::node::NodeKind;
 use crate::seen::{Below, Seen, first_group, seen_above};
-use cardinality::rows;
-use cost_units::{Class, CostShape, local, share};
-use query_core::{ExprParts, Key, KeyParts, Query, groups_are_known};
-use request_props::{GivenDist, Props};
+use cost_units::{CostShape, local, share};
+use plan_space::{Enforcer, NodeKind};
+use query_core::{Key, KeyParts, PhysicalExpr, Query, groups_are_known};
+use request_props::{Props, class_of};
 
 /// The cost of a node over plans that are seen so.
 pub fn cost_above(query: &Query, props: &Props, kind: NodeKind, below: Below) -> u64
     requires props { IsProps query.now props.now }
-    requires own_group { HasGroup query.now (kind_of kind) }
+    requires own_group { HasGroup query.now kind }
     requires groups { HaveGroups query.now below }
-    ensures value { result ≡ local_cost (shape_of query.now (kind_of kind) (kids_seen below)) }
+    ensures value { result ≡ local_cost (shape_of query.now kind (kids_seen below)) }
     ensures some { 1 ≤ result }
     ensures most { result ≤ most_cost }
 {
@@ -36,8 +34,8 @@ pub fn cost_above(query: &Query, props: &Props, kind: NodeKind, below: Below) ->
 /// The same, over any plans: a group that isn't the query's counts as one without rows.
 pub fn cost_above_any(query: &Query, props: &Props, kind: NodeKind, below: Below) -> u64
     requires { IsProps query.now props.now }
-    ensures value { HasGroup query.now (kind_of kind) → HaveGroups query.now below →
-        result ≡ local_cost (shape_of query.now (kind_of kind) (kids_seen below)) }
+    ensures value { HasGroup query.now kind → HaveGroups query.now below →
+        result ≡ local_cost (shape_of query.now kind (kids_seen below)) }
     ensures some { 1 ≤ result }
     ensures most { result ≤ most_cost }
 {
@@ -45,38 +43,52 @@ pub fn cost_above_any(query: &Query, props: &Props, kind: NodeKind, below: Below
 }
 
 /// The rows of a node's group over plans that are seen so; 0 where it isn't the query's.
-pub fn rows_above(query: &Query, kind: NodeKind, below: Below) -> u64
-    ensures { HasGroup query.now (kind_of kind) → HaveGroups query.now below →
-        result ≡ rows_of query.now (group_of_node (kind_of kind) (kids_seen below)) }
+pub fn rows_above(query: &Query, props: &Props, kind: NodeKind, below: Below) -> u64
+    requires { IsProps query.now props.now }
+    ensures { HasGroup query.now kind → HaveGroups query.now below →
+        result ≡ rows_of query.now (group_of_node kind (kids_seen below)) }
 {
     match kind {
-        NodeKind::Native(expr, _) => group_rows(query, expr.group),
-        NodeKind::Gather => first_rows(query, below),
-        NodeKind::Broadcast => first_rows(query, below),
-        NodeKind::Sort(_) => first_rows(query, below),
-        NodeKind::GatherMerge(_) => first_rows(query, below),
-        NodeKind::Redistribute(_) => first_rows(query, below),
+        NodeKind::Native(expr, _) => group_rows(query, props, expr.group),
+        NodeKind::Enforcer(_) => first_rows(query, props, below),
     }
 }
 
 // What the node does.
 fn node_shape(query: &Query, props: &Props, kind: NodeKind, below: Below) -> CostShape
     requires { IsProps query.now props.now }
-    ensures value { HasGroup query.now (kind_of kind) → HaveGroups query.now below →
-        result ≡ shape_of query.now (kind_of kind) (kids_seen below) }
+    ensures value { HasGroup query.now kind → HaveGroups query.now below →
+        result ≡ shape_of query.now kind (kids_seen below) }
     ensures bounded { IsBounded result }
 {
     match kind {
         NodeKind::Native(expr, mode) => native_shape(query, props, expr, mode, below),
-        NodeKind::Gather => CostShape::Gather(first_rows(query, below)),
-        NodeKind::Broadcast => CostShape::Broadcast(first_rows(query, below)),
-        NodeKind::Sort(_) => CostShape::Sort(first_share(query, below)),
-        NodeKind::GatherMerge(_) => CostShape::GatherMerge(first_rows(query, below)),
-        NodeKind::Redistribute(_) => CostShape::Redistribute(first_share(query, below)),
+        NodeKind::Enforcer(enforcer) => enforcer_shape(query, props, enforcer, below),
     }
 }
 
-fn native_shape(query: &Query, props: &Props, expr: ExprParts, mode: u32, below: Below) -> CostShape
+fn enforcer_shape(query: &Query, props: &Props, enforcer: Enforcer, below: Below) -> CostShape
+    requires { IsProps query.now props.now }
+    ensures value { HaveGroups query.now below →
+        result ≡ shape_of_enforcer query.now enforcer (kids_seen below) }
+    ensures bounded { IsBounded result }
+{
+    match enforcer {
+        Enforcer::Gather => CostShape::Gather(first_rows(query, props, below)),
+        Enforcer::Broadcast => CostShape::Broadcast(first_rows(query, props, below)),
+        Enforcer::Sort(_) => CostShape::Sort(first_share(query, props, below)),
+        Enforcer::GatherMerge(_) => CostShape::GatherMerge(first_rows(query, props, below)),
+        Enforcer::Redistribute(_) => CostShape::Redistribute(first_share(query, props, below)),
+    }
+}
+
+fn native_shape(
+    query: &Query,
+    props: &Props,
+    expr: PhysicalExpr,
+    mode: u32,
+    below: Below,
+) -> CostShape
     requires { IsProps query.now props.now }
     ensures value { IsGroup query.now expr.group → HaveGroups query.now below →
         result ≡ shape_of_native query.now expr mode (kids_seen below) }
@@ -85,36 +97,39 @@ fn native_shape(query: &Query, props: &Props, expr: ExprParts, mode: u32, below:
     let above = seen_above(query, props, NodeKind::Native(expr, mode), below);
     operator_shape(
         expr.operator,
-        first_share(query, below),
-        second_share(query, below),
-        seen_share(query, above),
+        first_share(query, props, below),
+        second_share(query, props, below),
+        seen_share(query, props, above),
     )
 }
 
 // The rows of the first plan's group.
-fn first_rows(query: &Query, below: Below) -> u64
+fn first_rows(query: &Query, props: &Props, below: Below) -> u64
+    requires { IsProps query.now props.now }
     ensures value { HaveGroups query.now below →
         result ≡ rows_of query.now (group_of_first (kids_seen below)) }
     ensures most { result ≤ most_rows }
 {
-    group_rows(query, first_group(below))
+    group_rows(query, props, first_group(below))
 }
 
 // How many rows of the first plan the busiest segment has.
-fn first_share(query: &Query, below: Below) -> u64
+fn first_share(query: &Query, props: &Props, below: Below) -> u64
+    requires { IsProps query.now props.now }
     ensures value { HaveGroups query.now below →
         result ≡ share_of_first query.now (kids_seen below) }
     ensures most { result ≤ most_rows }
 {
     match below {
         Below::Nothing => 0,
-        Below::One(kid) => seen_share(query, kid),
-        Below::Two(left, _) => seen_share(query, left),
+        Below::One(kid) => seen_share(query, props, kid),
+        Below::Two(left, _) => seen_share(query, props, left),
     }
 }
 
 // How many rows of the second plan the busiest segment has.
-fn second_share(query: &Query, below: Below) -> u64
+fn second_share(query: &Query, props: &Props, below: Below) -> u64
+    requires { IsProps query.now props.now }
     ensures value { HaveGroups query.now below →
         result ≡ share_of_second query.now (kids_seen below) }
     ensures most { result ≤ most_rows }
@@ -122,36 +137,34 @@ fn second_share(query: &Query, below: Below) -> u64
     match below {
         Below::Nothing => 0,
         Below::One(_) => 0,
-        Below::Two(_, right) => seen_share(query, right),
+        Below::Two(_, right) => seen_share(query, props, right),
     }
 }
 
 // How many rows of the plan the busiest segment has.
-fn seen_share(query: &Query, kid: Seen) -> u64
+fn seen_share(query: &Query, props: &Props, kid: Seen) -> u64
+    requires { IsProps query.now props.now }
     ensures value { IsGroup query.now kid.group →
         result ≡ share_of query.now kid.group (class_by_given kid.given.dist) }
     ensures most { result ≤ most_rows }
 {
     share(
-        group_rows(query, kid.group),
+        group_rows(query, props, kid.group),
         class_of(kid.given.dist),
         query.segments,
     )
 }
 
 // The rows of a group; none where it isn't the query's.
-fn group_rows(query: &Query, group: KeyParts) -> u64
+fn group_rows(query: &Query, props: &Props, group: KeyParts) -> u64
+    requires { IsProps query.now props.now }
     ensures value { IsGroup query.now group → result ≡ rows_of query.now group }
     ensures most { result ≤ most_rows }
 {
     // For the proof: each group of the query has a key.
     groups_are_known();
-    if !has_key(group) {
-        return 0;
-    }
-    let key = Key::make(group);
-    if query.is_key(key) {
-        rows(query, key)
+    if has_key(group) {
+        props.rows(query, Key::make(group))
     } else {
         0
     }
@@ -167,16 +180,5 @@ fn has_key(group: KeyParts) -> bool
         KeyParts::Join(set) => set < 1024,
         KeyParts::Partial => true,
         KeyParts::Agg => true,
-    }
-}
-
-fn class_of(dist: GivenDist) -> Class
-    ensures { result ≡ class_by_given dist }
-{
-    match dist {
-        GivenDist::One => Class::One,
-        GivenDist::Hashed(_) => Class::Spread,
-        GivenDist::Random => Class::Spread,
-        GivenDist::Copies => Class::Copies,
     }
 }

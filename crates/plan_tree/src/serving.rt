@@ -8,14 +8,12 @@ ghost use Rattle.request_props.specs.Numbered.{IsProps, IsNumbered};
 ghost use Rattle.request_props.specs.Satisfied.{Satisfies, IsOrderKnown, given_order};
 ghost use Rattle.plan_space.specs.Gives.{gives_so};
 ghost use Rattle.plan_space.specs.Choices.{groups_of};
-ghost use Rattle.plan_space.specs.Alternatives.{DistServes, OrderServes, LeftServes, LineServes};
+ghost use Rattle.plan_space.specs.Alternatives.{DistServes, OrderServes, LeftServes, JoinServes, LineServes};
 ghost use Rattle.plan_space.specs.Alternatives.{WantsSpread, asked_of, dist_asked as dist_by_line};
 ghost use Rattle.plan_space.specs.Alternatives.{order_asked as order_by_line, left_asked as asked_by_line};
 ghost use Rattle.plan_tree.specs.Alternatives.{MayGive};
-ghost use Rattle.plan_tree.specs.Meanings.{left_dist_of, left_order_of, table_line_of};
 
-use crate::fitting::fits;
-use crate::line::{LeftDist, LeftOrder, Line};
+use plan_space::{LeftDist, LeftOrder, Line};
 use query_core::{Children, KeyParts, Query};
 use request_props::{Dist, Given, GivenDist, GivenOrder, Props, Request, meets, satisfies};
 
@@ -23,34 +21,35 @@ use request_props::{Dist, Given, GivenDist, GivenOrder, Props, Request, meets, s
 pub fn serves(query: &Query, props: &Props, line: Line, children: Children, wanted: Request) -> bool
     requires props { IsProps query.now props.now }
     requires wanted { IsNumbered query.now wanted.order }
-    ensures { IsTrue result ↔ LineServes query.now (table_line_of line) children wanted }
+    ensures { IsTrue result ↔ LineServes query.now line children wanted }
 {
     match (line, children) {
         (Line::Alone(dist, order), Children::Zero) => gives(query, props, dist, order, wanted),
-        (Line::Above(dist, order), Children::One(child)) => {
-            left_serves(query, props, child, dist, order, wanted)
+        (Line::Above(dist, order), Children::One(_)) => {
+            left_serves(query, props, dist, order, wanted)
         }
         (Line::Beside(dist, order, _), Children::Two(left, _)) => {
-            left_serves(query, props, left, dist, order, wanted)
+            join_serves(query, props, left, dist, order, wanted)
         }
         _ => false,
     }
 }
 
 /// Whether the line may give the distribution. Where it doesn't, it serves no request for it.
-pub fn may_give(line: Line, wanted: Dist) -> bool
-    ensures { IsTrue result ↔ MayGive (table_line_of line) wanted }
+pub fn may_give(query: &Query, props: &Props, line: Line, wanted: Dist) -> bool
+    requires { IsProps query.now props.now }
+    ensures { IsTrue result ↔ MayGive query.now line wanted }
 {
     match line {
         Line::Alone(dist, _) => meets(dist, wanted),
-        Line::Above(dist, _) => dist_serves(dist, wanted),
-        Line::Beside(dist, _, _) => dist_serves(dist, wanted),
+        Line::Above(dist, _) => dist_serves(query, props, dist, wanted),
+        Line::Beside(dist, _, _) => dist_serves(query, props, dist, wanted),
     }
 }
 
 /// What the line asks of the left child.
 pub fn asked_left(line: Line, wanted: Request) -> Option<Request>
-    ensures { result ≡ slice_get (asked_of (table_line_of line) wanted) 0 }
+    ensures { result ≡ slice_get (asked_of line wanted) 0 }
 {
     match line {
         Line::Alone(_, _) => None,
@@ -61,7 +60,7 @@ pub fn asked_left(line: Line, wanted: Request) -> Option<Request>
 
 /// What the line asks of the right child.
 pub fn asked_right(line: Line, wanted: Request) -> Option<Request>
-    ensures { result ≡ slice_get (asked_of (table_line_of line) wanted) 1 }
+    ensures { result ≡ slice_get (asked_of line wanted) 1 }
 {
     match line {
         Line::Alone(_, _) => None,
@@ -91,7 +90,7 @@ pub fn right_child(children: Children) -> Option<KeyParts>
 }
 
 fn left_asked(dist: LeftDist, order: LeftOrder, wanted: Request) -> Request
-    ensures { result ≡ asked_by_line (left_dist_of dist) (left_order_of order) wanted }
+    ensures { result ≡ asked_by_line dist order wanted }
 {
     Request {
         dist: dist_asked(dist, wanted.dist),
@@ -100,17 +99,18 @@ fn left_asked(dist: LeftDist, order: LeftOrder, wanted: Request) -> Request
 }
 
 fn dist_asked(dist: LeftDist, wanted: Dist) -> Dist
-    ensures { result ≡ dist_by_line (left_dist_of dist) wanted }
+    ensures { result ≡ dist_by_line dist wanted }
 {
     match dist {
         LeftDist::Fixed(_, asked) => asked,
+        LeftDist::Grouped(list) => Dist::Hashed(list),
         LeftDist::Same => wanted,
         LeftDist::SameSpread => wanted,
     }
 }
 
 fn order_asked(order: LeftOrder, wanted: u32) -> u32
-    ensures { result ≡ order_by_line (left_order_of order) wanted }
+    ensures { result ≡ order_by_line order wanted }
 {
     match order {
         LeftOrder::Fixed(_, asked) => asked,
@@ -121,6 +121,20 @@ fn order_asked(order: LeftOrder, wanted: u32) -> u32
 fn left_serves(
     query: &Query,
     props: &Props,
+    dist: LeftDist,
+    order: LeftOrder,
+    wanted: Request,
+) -> bool
+    requires props { IsProps query.now props.now }
+    requires wanted { IsNumbered query.now wanted.order }
+    ensures { IsTrue result ↔ LeftServes query.now dist order wanted }
+{
+    dist_serves(query, props, dist, wanted.dist) && order_serves(query, props, order, wanted.order)
+}
+
+fn join_serves(
+    query: &Query,
+    props: &Props,
     left: KeyParts,
     dist: LeftDist,
     order: LeftOrder,
@@ -128,19 +142,21 @@ fn left_serves(
 ) -> bool
     requires props { IsProps query.now props.now }
     requires wanted { IsNumbered query.now wanted.order }
-    ensures { IsTrue result ↔
-        LeftServes query.now left (left_dist_of dist) (left_order_of order) wanted }
+    ensures { IsTrue result ↔ JoinServes query.now left dist order wanted }
 {
-    dist_serves(dist, wanted.dist)
-        && order_serves(query, props, order, wanted.order)
-        && fits(query, props, left, left_asked(dist, order, wanted))
+    left_serves(query, props, dist, order, wanted)
+        && props.fits(query, left, left_asked(dist, order, wanted))
 }
 
-fn dist_serves(dist: LeftDist, wanted: Dist) -> bool
-    ensures { IsTrue result ↔ DistServes (left_dist_of dist) wanted }
+fn dist_serves(query: &Query, props: &Props, dist: LeftDist, wanted: Dist) -> bool
+    requires { IsProps query.now props.now }
+    ensures { IsTrue result ↔ DistServes query.now dist wanted }
 {
     match dist {
         LeftDist::Fixed(given, _) => meets(given, wanted),
+        LeftDist::Grouped(list) => {
+            meets(GivenDist::Hashed(list), wanted) && props.is_grouped_list(query, list)
+        }
         LeftDist::Same => true,
         LeftDist::SameSpread => wants_spread(wanted),
     }
@@ -160,7 +176,7 @@ fn wants_spread(dist: Dist) -> bool
 fn order_serves(query: &Query, props: &Props, order: LeftOrder, wanted: u32) -> bool
     requires props { IsProps query.now props.now }
     requires wanted { IsNumbered query.now wanted }
-    ensures { IsTrue result ↔ OrderServes query.now (left_order_of order) wanted }
+    ensures { IsTrue result ↔ OrderServes query.now order wanted }
 {
     match order {
         _ if wanted == 0 => true,

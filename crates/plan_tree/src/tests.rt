@@ -1,12 +1,13 @@
 //! Two tables that are joined by an equality, worked by hand.
 
-ghost use Rattle.std.specs.Prelude.{◌≡◌, ◌≤◌, IfOk, IfSome};
+ghost use Rattle.std.specs.Prelude.{◌≡◌, IfOk, IfSome};
 ghost use Rattle.query_core.specs.Keys.{IsGroup};
-ghost use Rattle.query_core.specs.Expressions.{IsCandidate};
+ghost use Rattle.query_core.specs.Expressions.{IsCandidate, expr_of};
 ghost use Rattle.request_props.specs.Numbered.{IsProps};
 
 use crate::*;
 use orca_base::{List, Text};
+use plan_space::{Enforcer, NodeKind};
 use query_core::*;
 use request_props::{Dist, Props, Request};
 use std::alloc::{AllocError, Global};
@@ -83,6 +84,7 @@ fn two_tables(alloc: Global, op: CmpOp) -> Result<Query, AllocError> {
     })
 }
 
+// The result of the rule at the expression.
 pub fn step(query: &Query, rule: Rule, e: ExprParts) -> Option<ExprParts>
     requires { IsCandidate query.now e }
     ensures { IfSome result (IsCandidate query.now) }
@@ -94,6 +96,14 @@ pub fn step(query: &Query, rule: Rule, e: ExprParts) -> Option<ExprParts>
     Some(other)
 }
 
+// The physical expression that the rule makes.
+pub fn made(query: &Query, rule: Rule, e: ExprParts) -> Option<PhysicalExpr>
+    requires { IsCandidate query.now e }
+    ensures { IfSome result (λ made. IsCandidate query.now (expr_of made)) }
+{
+    step(query, rule, e)?.as_physical()
+}
+
 pub fn origin(query: &Query, group: KeyParts) -> ExprParts
     requires { IsGroup query.now group }
     ensures { IsCandidate query.now result }
@@ -103,12 +113,12 @@ pub fn origin(query: &Query, group: KeyParts) -> ExprParts
 }
 
 // The join of the two tables by this rule.
-fn join_by(query: &Query, rule: Rule) -> Option<ExprParts>
-    ensures { IfSome result (IsCandidate query.now) }
+fn join_by(query: &Query, rule: Rule) -> Option<PhysicalExpr>
+    ensures { IfSome result (λ made. IsCandidate query.now (expr_of made)) }
 {
     let whole = origin(query, query.group(query.root()));
     let join = step(query, Rule::ExpandNAry, whole)?;
-    step(query, rule, join)
+    made(query, rule, join)
 }
 
 pub fn ask(dist: Dist, order: u32) -> Request {
@@ -160,6 +170,13 @@ fn a_hash_join_with_one_crossing_equality_has_three_modes(rt: HostRuntime) -> Re
                     line_of(&query, &props, join, mode).is_some(),
                     mode == 0 || mode == 64 || mode == 128
                 );
+            }
+            for (from, mode) in [(0, Some(0)), (1, Some(64)), (65, Some(128)), (129, None)] {
+                let next = match next_line(&query, &props, join, from) {
+                    Some((mode, _)) => Some(mode),
+                    None => None,
+                };
+                assert_eq!(rt; next, mode);
             }
         }
     }
@@ -239,29 +256,29 @@ fn costs_are_those_of_worked_examples(rt: HostRuntime) -> Result<(), Fail> {
     let spread = ask(Dist::Spread, 0);
     if query.is_key(Key(0)) {
         let table = query.group(Key(0));
-        let scan = step(&query, Rule::GetToScan, origin(&query, table));
+        let scan = made(&query, Rule::GetToScan, origin(&query, table));
         assert!(rt; scan.is_some());
         if let Some(scan) = scan {
             assert_eq!(rt; native_cost(&query, &props, scan, 0, spread), 251);
         }
         assert_eq!(rt;
-            enforcer_cost(&query, NodeKind::Sort(1), table, spread),
+            enforcer_cost(&query, &props, Enforcer::Sort(1), table, spread),
             2001
         );
         assert_eq!(rt;
-            enforcer_cost(&query, NodeKind::Broadcast, table, spread),
+            enforcer_cost(&query, &props, Enforcer::Broadcast, table, spread),
             4001
         );
         assert_eq!(rt;
-            enforcer_cost(&query, NodeKind::Gather, table, spread),
+            enforcer_cost(&query, &props, Enforcer::Gather, table, spread),
             2001
         );
         assert_eq!(rt;
-            enforcer_cost(&query, NodeKind::GatherMerge(1), table, spread),
+            enforcer_cost(&query, &props, Enforcer::GatherMerge(1), table, spread),
             3001
         );
         assert_eq!(rt;
-            enforcer_cost(&query, NodeKind::Redistribute(0), table, spread),
+            enforcer_cost(&query, &props, Enforcer::Redistribute(0), table, spread),
             1001
         );
     }
@@ -313,20 +330,24 @@ fn a_sort_comes_before_a_merge(rt: HostRuntime) -> Result<(), Fail> {
 
 #[test]
 fn nodes_are_told_by_their_numbers(rt: HostRuntime) {
-    let kinds = [
-        (1, Some(NodeKind::Gather)),
-        (2, Some(NodeKind::Broadcast)),
-        (65, Some(NodeKind::Sort(1))),
-        (124, Some(NodeKind::Sort(60))),
-        (188, Some(NodeKind::GatherMerge(60))),
-        (192, Some(NodeKind::Redistribute(0))),
-        (251, Some(NodeKind::Redistribute(59))),
+    let enforcers = [
+        (1, Some(Enforcer::Gather)),
+        (2, Some(Enforcer::Broadcast)),
+        (65, Some(Enforcer::Sort(1))),
+        (124, Some(Enforcer::Sort(60))),
+        (188, Some(Enforcer::GatherMerge(60))),
+        (192, Some(Enforcer::Redistribute(0))),
+        (251, Some(Enforcer::Redistribute(59))),
         (64, None),
         (125, None),
         (252, None),
         (1 << 56, None),
     ];
-    for (number, kind) in kinds {
+    for (number, enforcer) in enforcers {
+        let kind = match enforcer {
+            Some(enforcer) => Some(NodeKind::Enforcer(enforcer)),
+            None => None,
+        };
         assert_eq!(rt; Node(number).kind(), kind);
     }
 }

@@ -6,13 +6,17 @@ use Rattle.std.proofs.lemmas.Bool.{and_parts, leb-true, cond_both}
 use Rattle.std.proofs.lemmas.Nat.{le_or_l, le_or_r}
 use Rattle.query_core.specs.Items.{has_own_lists}
 use Rattle.query_core.specs.Keys.{IsGroup, top_of, input_of, root_of}
-use Rattle.query_core.specs.Expressions.{index_number, AreInRange, IsChild, IsPacked, FallsInto, HasIndex, IsFiltered, IsJoin, IsAggregated, HasShape, IsCandidate, origin_of}
-use Rattle.query_core.specs.ByKind.{index_count, index_operator}
+use Rattle.query_core.specs.Expressions.{logical_fields, physical_fields, fields_of, children_of, AreInRange, IsChild, IsPacked, FallsInto, HasIndex, IsFiltered, IsJoin, IsAggregated, HasLogical, HasPhysical, HasShape, IsCandidate, origin_of}
+use Rattle.query_core.specs.ByKind.{index_count}
 use Rattle.query_core.specs.declared.table.Item.{Item}
 use Rattle.query_core.specs.declared.table.QueryTable.{QueryTable}
 use Rattle.query_core.specs.declared.query.Query.{Query}
 use Rattle.query_core.specs.declared.words.KeyParts.{KeyParts}
 use Rattle.query_core.specs.declared.words.KeyParts.TheVariants as groups
+use Rattle.query_core.specs.declared.expressions.Logical.{Logical}
+use Rattle.query_core.specs.declared.expressions.Logical.TheVariants as logical
+use Rattle.query_core.specs.declared.expressions.Physical.{Physical}
+use Rattle.query_core.specs.declared.expressions.Physical.TheVariants as physical
 use Rattle.query_core.specs.declared.expressions.Operator.{Operator}
 use Rattle.query_core.specs.declared.expressions.Operator.TheVariants as operators
 use Rattle.query_core.specs.declared.expressions.Children.{Children}
@@ -52,14 +56,6 @@ index_few q t index (table, found, within) = omega (arith, table_few q.items 0 q
 pub count_few : (q : Query) (t index : ℕ) → index < index_count q t → index < 16
 count_few q t index below = index_few q t index ((index_there q t index).0 below)
 
--- an operator that reads an index has its number
-pub index_of : (group : KeyParts) (index : ℕ) → index_number (index_operator group index) ≡ index
-index_of (groups.Get t) index = refl
-index_of (groups.Filter t) index = refl
-index_of (groups.Join set) index = refl
-index_of groups.Partial index = refl
-index_of groups.Agg index = refl
-
 -- both parts of a set of the query's tables have their groups
 pub part_groups : (q : Query) (set a b : ℕ) → set < 2 ^ length q.tables → FallsInto q set a b → IsGroup q (top_of q a) × IsGroup q (top_of q b)
 part_groups q set a b small falls = (
@@ -77,44 +73,61 @@ AreGroups q Zero = IsTrue true
 AreGroups q (One child) = IsGroup q child
 AreGroups q (Two left right) = IsGroup q left × IsGroup q right
 
--- the one child of a filter is its table
-filter_child : (q : Query) (group : KeyParts) (children : Children) → IsGroup q group → IsFiltered group children → AreGroups q children
-filter_child q group children known (t, filtered, same) = subst (AreGroups q) (sym same) (subst (IsGroup q) filtered known).0
+-- the child of a filter is its table
+filter_child : (q : Query) (group child : KeyParts) → IsGroup q group → IsFiltered group child → IsGroup q child
+filter_child q group child known (t, filtered, same) = subst (IsGroup q) (sym same) (subst (IsGroup q) filtered known).0
 
 -- the two children of a join are the groups of the parts
-join_children : (q : Query) (group : KeyParts) (children : Children) → IsGroup q group → IsJoin q group children → AreGroups q children
-join_children q group children known (set, a, b, joined, falls, same) =
-    subst (AreGroups q) (sym same) (part_groups q set a b (subst (IsGroup q) joined known).0 falls)
+join_children : (q : Query) (group left right : KeyParts) → IsGroup q group → IsJoin q group left right → IsGroup q left × IsGroup q right
+join_children q group left right known (set, a, b, joined, falls, first, second) =
+    let parts = part_groups q set a b (subst (IsGroup q) joined known).0 falls in
+    (subst (IsGroup q) (sym first) parts.0, subst (IsGroup q) (sym second) parts.1)
 
--- the one child of an aggregation joins all tables, or is the other aggregation
-aggregate_child : (q : Query) (group : KeyParts) (children : Children) → IsGroup q group → IsAggregated q group children → AreGroups q children
-aggregate_child q group children known (aggregated, inl same) = subst (AreGroups q) (sym same) (input_group q)
-aggregate_child q group children known (aggregated, inr same) = subst (AreGroups q) (sym same) (subst (IsGroup q) aggregated known)
+-- the child of an aggregation joins all tables, or is the other aggregation
+aggregate_child : (q : Query) (group child : KeyParts) → IsGroup q group → IsAggregated q group child → IsGroup q child
+aggregate_child q group child known (aggregated, inl same) = subst (IsGroup q) (sym same) (input_group q)
+aggregate_child q group child known (aggregated, inr same) = subst (IsGroup q) (sym same) (subst (IsGroup q) aggregated known)
 
--- the children of an expression that a group can hold are groups of the query
-shape_groups : (q : Query) (o : Operator) (group : KeyParts) (children : Children) → IsGroup q group → HasShape q o group children → AreGroups q children
-shape_groups q operators.Get group children known (t, of_table, same) = subst (AreGroups q) (sym same) refl
-shape_groups q operators.Scan group children known (t, of_table, same) = subst (AreGroups q) (sym same) refl
-shape_groups q (operators.IndexScan i) group children known (t, of_table, there, same) = subst (AreGroups q) (sym same) refl
-shape_groups q operators.Select group children known shape = filter_child q group children known shape
-shape_groups q operators.Filter group children known shape = filter_child q group children known shape
-shape_groups q (operators.IndexSeek i) group children known (t, filtered, there, same) = subst (AreGroups q) (sym same) refl
-shape_groups q operators.NJoin group children known (set, joined, same) = subst (AreGroups q) (sym same) refl
-shape_groups q operators.Join group children known shape = join_children q group children known shape
-shape_groups q operators.HashJoin group children known shape = join_children q group children known shape
-shape_groups q operators.MergeJoin group children known shape = join_children q group children known shape
-shape_groups q operators.LoopJoin group children known shape = join_children q group children known shape
-shape_groups q operators.Agg group children known shape = aggregate_child q group children known shape
-shape_groups q operators.HashAgg group children known shape = aggregate_child q group children known shape
-shape_groups q operators.StreamAgg group children known shape = aggregate_child q group children known shape
-shape_groups q operators.Partial group children known (partial, same) = subst (AreGroups q) (sym same) (input_group q)
-shape_groups q operators.PartialAgg group children known (partial, same) = subst (AreGroups q) (sym same) (input_group q)
+-- the children of a logical operator that a group can have are groups of the query
+logical_groups : (q : Query) (group : KeyParts) (o : Logical) → IsGroup q group → HasLogical q group o → AreGroups q (logical_fields o).children
+logical_groups q group logical.Get known shape = refl
+logical_groups q group (logical.Select child) known shape = filter_child q group child known shape
+logical_groups q group logical.NJoin known shape = refl
+logical_groups q group (logical.Join left right) known shape = join_children q group left right known shape
+logical_groups q group (logical.Agg child) known shape = aggregate_child q group child known shape
+logical_groups q group (logical.Partial child) known (partial, same) = subst (IsGroup q) (sym same) (input_group q)
 
--- the index that such an expression reads has a number below 16
-shape_index : (q : Query) (o : Operator) (group : KeyParts) (children : Children) → HasShape q o group children → index_number o < 16
-shape_index q (operators.IndexScan i) group children (t, of_table, there, same) = index_few q t i there
-shape_index q (operators.IndexSeek i) group children (t, filtered, there, same) = index_few q t i there
-shape_index q o group children shape = omega arith
+-- so are those of a physical one
+physical_groups : (q : Query) (group : KeyParts) (o : Physical) → IsGroup q group → HasPhysical q group o → AreGroups q (physical_fields o).children
+physical_groups q group physical.Scan known shape = refl
+physical_groups q group (physical.IndexScan i) known shape = refl
+physical_groups q group (physical.Filter child) known shape = filter_child q group child known shape
+physical_groups q group (physical.IndexSeek i) known shape = refl
+physical_groups q group (physical.HashJoin left right) known shape = join_children q group left right known shape
+physical_groups q group (physical.MergeJoin left right) known shape = join_children q group left right known shape
+physical_groups q group (physical.LoopJoin left right) known shape = join_children q group left right known shape
+physical_groups q group (physical.HashAgg child) known shape = aggregate_child q group child known shape
+physical_groups q group (physical.StreamAgg child) known shape = aggregate_child q group child known shape
+physical_groups q group (physical.PartialAgg child) known (partial, same) = subst (IsGroup q) (sym same) (input_group q)
+
+-- the children of an operator that a group can have are groups of the query
+shape_groups : (q : Query) (group : KeyParts) (o : Operator) → IsGroup q group → HasShape q group o → AreGroups q (children_of o)
+shape_groups q group (operators.Logical o) known shape = logical_groups q group o known shape
+shape_groups q group (operators.Physical o) known shape = physical_groups q group o known shape
+
+-- a logical operator reads no index
+logical_index : (o : Logical) → (logical_fields o).index ≡ 0
+logical_index o = grind arith
+
+-- the index that a physical one reads has a number below 16
+physical_index : (q : Query) (group : KeyParts) (o : Physical) → HasPhysical q group o → (physical_fields o).index < 16
+physical_index q group (physical.IndexScan i) (t, of_table, there) = index_few q t i there
+physical_index q group (physical.IndexSeek i) (t, filtered, there) = index_few q t i there
+physical_index q group o shape = omega arith
+
+shape_index : (q : Query) (group : KeyParts) (o : Operator) → HasShape q group o → (fields_of o).index < 16
+shape_index q group (operators.Logical o) shape = omega (arith, logical_index o)
+shape_index q group (operators.Physical o) shape = physical_index q group o shape
 
 -- each child is a group
 each_group : (q : Query) (children : Children) (group : KeyParts) → AreGroups q children → IsChild children group → IsGroup q group
@@ -130,16 +143,16 @@ groups_in_range q (One child) known = group_in_range q child known
 groups_in_range q (Two left right) known = (group_in_range q left known.0, group_in_range q right known.1)
 
 -- a child of an expression that a group can hold is a group of the query
-pub child_known : (q : Query) (e : ExprParts) (group : KeyParts) → IsCandidate q e → IsChild e.children group → IsGroup q group
+pub child_known : (q : Query) (e : ExprParts) (group : KeyParts) → IsCandidate q e → IsChild (children_of e.operator) group → IsGroup q group
 child_known q e group candidate child =
-    each_group q e.children group (shape_groups q e.operator e.group e.children candidate.known candidate.shape) child
+    each_group q (children_of e.operator) group (shape_groups q e.group e.operator candidate.known candidate.shape) child
 
 -- its parts fit a word
 pub candidate_packed : (q : Query) (e : ExprParts) → IsCandidate q e → IsPacked e
 candidate_packed q e candidate = record {
   group = group_in_range q e.group candidate.known;
-  index = omega (arith, shape_index q e.operator e.group e.children candidate.shape);
-  children = groups_in_range q e.children (shape_groups q e.operator e.group e.children candidate.known candidate.shape);
+  index = omega (arith, shape_index q e.group e.operator candidate.shape);
+  children = groups_in_range q (children_of e.operator) (shape_groups q e.group e.operator candidate.known candidate.shape);
 }
 
 -- a group of the query can hold its origin

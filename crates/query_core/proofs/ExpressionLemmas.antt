@@ -1,40 +1,26 @@
 -- Laws of group expressions and their words.
-use Rattle.std.proofs.Common.{◌≡◌, ℕ, ◌+◌, ◌*◌, ◌≤◌, ◌<◌, ◌^◌, refl, ap, ◌∙◌, arith}
+use Rattle.std.proofs.Common.{◌≡◌, ℕ, ◌+◌, ◌*◌, ◌/◌, ◌%◌, ◌≤◌, ◌<◌, ◌^◌, refl, ap, sym, ◌∙◌, ◌↔◌, arith}
 use Rattle.query_core.specs.Keys.{key_number, IsInRange}
-use Rattle.query_core.specs.Expressions.{operator_number, index_number, left_number, right_number, packed, word_of, AreInRange, IsPacked}
+use Rattle.query_core.specs.Expressions.{fields, logical_fields, physical_fields, fields_of, left_number, right_number, packed, word_of, AreInRange, IsPacked}
 use Rattle.query_core.specs.declared.words.KeyParts.{KeyParts}
+use Rattle.query_core.specs.declared.expressions.Logical.{Logical}
+use Rattle.query_core.specs.declared.expressions.Logical.TheVariants as logical
+use Rattle.query_core.specs.declared.expressions.Physical.{Physical}
+use Rattle.query_core.specs.declared.expressions.Physical.TheVariants as physical
 use Rattle.query_core.specs.declared.expressions.Operator.{Operator}
 use Rattle.query_core.specs.declared.expressions.Operator.TheVariants as operators
 use Rattle.query_core.specs.declared.expressions.Children.{Children}
 use Rattle.query_core.specs.declared.expressions.Children.TheVariants.{Zero, One, Two}
+use Rattle.query_core.specs.declared.expressions.Fields.{Fields}
 use Rattle.query_core.specs.declared.expressions.ExprParts.{ExprParts}
 use Rattle.query_core.proofs.GroupLemmas.{key_one}
 
--- the fields of two words are the same
-record AreSame (k o i l r k2 o2 i2 l2 r2 : ℕ) : Type 0 where
-  key : k ≡ k2
-  operator : o ≡ o2
-  index : i ≡ i2
-  left : l ≡ l2
-  right : r ≡ r2
-
--- a word has one list of fields
-fields_one : (k o i l r k2 o2 i2 l2 r2 : ℕ) → o < 32 → i < 32 → l < 2 ^ 13 → r < 2 ^ 13 → o2 < 32 → i2 < 32 → l2 < 2 ^ 13 → r2 < 2 ^ 13
-    → packed k o i l r ≡ packed k2 o2 i2 l2 r2 → AreSame k o i l r k2 o2 i2 l2 r2
-fields_one k o i l r k2 o2 i2 l2 r2 o_in i_in l_in r_in o2_in i2_in l2_in r2_in same = record {
-  key = omega arith;
-  operator = omega arith;
-  index = omega arith;
-  left = omega arith;
-  right = omega arith;
-}
-
 -- operators have numbers below 32
-pub operator_small : (o : Operator) → operator_number o < 32
+pub operator_small : (o : Operator) → (fields_of o).number < 32
 operator_small o = grind arith
 
--- keys have numbers below 2 ^ 12
-pub key_small : (g : KeyParts) → IsInRange g → key_number g < 2 ^ 12
+-- keys have numbers below 2050
+pub key_small : (g : KeyParts) → IsInRange g → key_number g < 2050
 key_small g in_g = grind arith
 
 pub left_small : (c : Children) → AreInRange c → left_number c < 2 ^ 13
@@ -47,26 +33,6 @@ right_small Zero in_c = omega arith
 right_small (One child) in_c = omega arith
 right_small (Two left right) in_c = omega (arith, key_small right in_c.1)
 
--- an operator has its own number, and an index only where it has one
-operator_one : (o p : Operator) → operator_number o ≡ operator_number p → index_number o ≡ index_number p → o ≡ p
-operator_one operators.Get operators.Get number index = refl
-operator_one operators.Scan operators.Scan number index = refl
-operator_one (operators.IndexScan i) (operators.IndexScan j) number index = ap operators.IndexScan index
-operator_one operators.Select operators.Select number index = refl
-operator_one operators.Filter operators.Filter number index = refl
-operator_one (operators.IndexSeek i) (operators.IndexSeek j) number index = ap operators.IndexSeek index
-operator_one operators.NJoin operators.NJoin number index = refl
-operator_one operators.Join operators.Join number index = refl
-operator_one operators.HashJoin operators.HashJoin number index = refl
-operator_one operators.MergeJoin operators.MergeJoin number index = refl
-operator_one operators.LoopJoin operators.LoopJoin number index = refl
-operator_one operators.Agg operators.Agg number index = refl
-operator_one operators.HashAgg operators.HashAgg number index = refl
-operator_one operators.StreamAgg operators.StreamAgg number index = refl
-operator_one operators.Partial operators.Partial number index = refl
-operator_one operators.PartialAgg operators.PartialAgg number index = refl
-operator_one o p number index = absurd (omega (arith, number))
-
 -- children have their own two numbers
 children_one : (c d : Children) → AreInRange c → AreInRange d → left_number c ≡ left_number d → right_number c ≡ right_number d → c ≡ d
 children_one Zero Zero in_c in_d left right = refl
@@ -77,27 +43,108 @@ children_one (Two a b) (Two x y) in_c in_d left right =
     cc
 children_one c d in_c in_d left right = absurd (omega (arith, left, right))
 
+-- the key and the fields of two words are the same
+record AreSame (k : ℕ) (f : Fields) (k2 : ℕ) (f2 : Fields) : Type 0 where
+  key : k ≡ k2
+  number : f.number ≡ f2.number
+  index : f.index ≡ f2.index
+  left : left_number f.children ≡ left_number f2.children
+  right : right_number f.children ≡ right_number f2.children
+
+-- each of the fields fits its place
+record AreSmall (f : Fields) : Type 0 where
+  number : f.number < 32
+  index : f.index < 32
+  left : left_number f.children < 2 ^ 13
+  right : right_number f.children < 2 ^ 13
+
+-- a word has one key and one list of fields
+fields_one : (k : ℕ) (f : Fields) (k2 : ℕ) (f2 : Fields) → AreSmall f → AreSmall f2 → packed k f ≡ packed k2 f2 → AreSame k f k2 f2
+fields_one k f k2 f2 small small2 same = record {
+  key = omega arith;
+  number = omega arith;
+  index = omega arith;
+  left = omega arith;
+  right = omega arith;
+}
+
+-- the fields of an expression whose parts fit
+fields_small : (e : ExprParts) → IsPacked e → AreSmall (fields_of e.operator)
+fields_small e in_e = record {
+  number = operator_small e.operator;
+  index = in_e.index;
+  left = left_small _ in_e.children;
+  right = right_small _ in_e.children;
+}
+
+-- fields with the same values are the same
+fields_same : (f g : Fields) → f.number ≡ g.number → f.index ≡ g.index → f.children ≡ g.children → f ≡ g
+fields_same f g number index children =
+    ap (λ x. fields x f.index f.children) number ∙ ap (λ x. fields g.number x f.children) index ∙ ap (λ x. fields g.number g.index x) children
+
+-- logical operators have their own fields
+logical_one : (o p : Logical) → logical_fields o ≡ logical_fields p → o ≡ p
+logical_one logical.Get logical.Get same = refl
+logical_one (logical.Select a) (logical.Select b) same = cc (ap (λ f. f.children) same)
+logical_one logical.NJoin logical.NJoin same = refl
+logical_one (logical.Join a b) (logical.Join x y) same = cc (ap (λ f. f.children) same)
+logical_one (logical.Agg a) (logical.Agg b) same = cc (ap (λ f. f.children) same)
+logical_one (logical.Partial a) (logical.Partial b) same = cc (ap (λ f. f.children) same)
+logical_one o p same = absurd (omega (arith, ap (λ f. f.number) same))
+
+-- physical operators have their own fields
+physical_one : (o p : Physical) → physical_fields o ≡ physical_fields p → o ≡ p
+physical_one physical.Scan physical.Scan same = refl
+physical_one (physical.IndexScan i) (physical.IndexScan j) same = cc (ap (λ f. f.index) same)
+physical_one (physical.Filter a) (physical.Filter b) same = cc (ap (λ f. f.children) same)
+physical_one (physical.IndexSeek i) (physical.IndexSeek j) same = cc (ap (λ f. f.index) same)
+physical_one (physical.HashJoin a b) (physical.HashJoin x y) same = cc (ap (λ f. f.children) same)
+physical_one (physical.MergeJoin a b) (physical.MergeJoin x y) same = cc (ap (λ f. f.children) same)
+physical_one (physical.LoopJoin a b) (physical.LoopJoin x y) same = cc (ap (λ f. f.children) same)
+physical_one (physical.HashAgg a) (physical.HashAgg b) same = cc (ap (λ f. f.children) same)
+physical_one (physical.StreamAgg a) (physical.StreamAgg b) same = cc (ap (λ f. f.children) same)
+physical_one (physical.PartialAgg a) (physical.PartialAgg b) same = cc (ap (λ f. f.children) same)
+physical_one o p same = absurd (omega (arith, ap (λ f. f.number) same))
+
+-- and no number is that of a logical and a physical one
+apart : (o : Logical) (p : Physical) → (logical_fields o).number ≡ (physical_fields p).number → ⊥
+apart o p same = grind arith
+
+-- an operator has its own fields
+operator_one : (o p : Operator) → fields_of o ≡ fields_of p → o ≡ p
+operator_one (operators.Logical o) (operators.Logical p) same = ap operators.Logical (logical_one o p same)
+operator_one (operators.Logical o) (operators.Physical p) same = absurd (apart o p (ap (λ f. f.number) same))
+operator_one (operators.Physical o) (operators.Logical p) same = absurd (apart p o (ap (λ f. f.number) (sym same)))
+operator_one (operators.Physical o) (operators.Physical p) same = ap operators.Physical (physical_one o p same)
+
 -- the word of an expression whose parts fit is that of no other such expression
 pub word_one : (e f : ExprParts) → IsPacked e → IsPacked f → word_of e ≡ word_of f → e ≡ f
 word_one e f in_e in_f same =
-    let fields = fields_one _ _ _ _ _ _ _ _ _ _
-    (operator_small e.operator) in_e.index (left_small e.children in_e.children) (right_small e.children in_e.children)
-    (operator_small f.operator) in_f.index (left_small f.children in_f.children) (right_small f.children in_f.children) same in
-    let group : e.group ≡ f.group = key_one e.group f.group in_e.group in_f.group fields.key in
-    let operator : e.operator ≡ f.operator = operator_one e.operator f.operator fields.operator fields.index in
-    let children : e.children ≡ f.children = children_one e.children f.children in_e.children in_f.children fields.left fields.right in
-    let make : KeyParts → Operator → Children → ExprParts = λ g o c. record { group = g; operator = o; children = c } in
-    ap (λ g. make g e.operator e.children) group ∙ ap (λ o. make f.group o e.children) operator ∙ ap (λ c. make f.group f.operator c) children
+    let same_fields = fields_one (key_number e.group) (fields_of e.operator) (key_number f.group) (fields_of f.operator)
+    (fields_small e in_e) (fields_small f in_f) same in
+    let group : e.group ≡ f.group = key_one e.group f.group in_e.group in_f.group same_fields.key in
+    let children : (fields_of e.operator).children ≡ (fields_of f.operator).children = children_one _ _ in_e.children in_f.children same_fields.left same_fields.right in
+    let operator : e.operator ≡ f.operator =
+    operator_one e.operator f.operator (fields_same (fields_of e.operator) (fields_of f.operator) same_fields.number same_fields.index children) in
+    let make : KeyParts → Operator → ExprParts = λ g o. record { group = g; operator = o } in
+    ap (λ g. make g e.operator) group ∙ ap (make f.group) operator
+
+-- the fields of an expression's operator are what its word has in their places
+pub word_fields : (e : ExprParts) (word : ℕ) (f : Fields) → IsPacked e → word_of e ≡ word → AreInRange f.children
+    → f.number ≡ word / 2 ^ 31 % 2 ^ 5 → f.index ≡ word / 2 ^ 26 % 2 ^ 5
+    → left_number f.children ≡ word / 2 ^ 13 % 2 ^ 13 → right_number f.children ≡ word / 2 ^ 0 % 2 ^ 13 → fields_of e.operator ≡ f
+word_fields e word f in_e is in_f number index left right =
+    let small = fields_small e in_e in
+    fields_same (fields_of e.operator) f (omega arith) (omega arith) (children_one _ _ in_e.children in_f (omega arith) (omega arith))
 
 -- and takes at most 48 bits
 pub word_small : (e : ExprParts) → IsPacked e → word_of e < 2 ^ 48
-word_small e in_e =
-    omega (arith, key_small e.group in_e.group, operator_small e.operator, in_e.index, left_small e.children in_e.children, right_small e.children in_e.children)
+word_small e in_e = let small = fields_small e in_e in omega (arith, key_small e.group in_e.group)
 
--- words of a group lie between its key and the next
-pub word_from : (e : ExprParts) → IsPacked e → key_number e.group * 2 ^ 36 ≤ word_of e
-word_from e in_e = omega arith
+-- the words of a key and of those after it stand from its power on
+pub word_from : (e : ExprParts) (key : ℕ) → IsPacked e → (key * 2 ^ 36 ≤ word_of e) ↔ (key ≤ key_number e.group)
+word_from e key in_e = let small = fields_small e in_e in (λ from. omega arith, λ less. omega arith)
 
-pub word_to : (e : ExprParts) → IsPacked e → word_of e < (key_number e.group + 1) * 2 ^ 36
-word_to e in_e =
-    omega (arith, operator_small e.operator, in_e.index, left_small e.children in_e.children, right_small e.children in_e.children)
+-- groups stand in the order of their keys
+pub word_ordered : (e f : ExprParts) → IsPacked e → IsPacked f → key_number e.group < key_number f.group → word_of e < word_of f
+word_ordered e f in_e in_f less = let small = fields_small e in_e in omega arith

@@ -1,92 +1,102 @@
 -- The expressions of a group are those that its kind has.
-use Rattle.std.proofs.Common.{◌≡◌, ℕ, ◌≤◌, Option, None, Some, refl, sym, subst, inl, inr, ◌↔◌}
+use Rattle.std.proofs.Common.{◌≡◌, ℕ, ◌≤◌, Option, None, Some, refl, ap, sym, subst, inl, inr, ◌↔◌}
 use Rattle.std.specs.Prelude.{MatchOption}
 use Rattle.query_core.specs.Keys.{IsGroup}
-use Rattle.query_core.specs.Expressions.{HasShape, IsCandidate}
+use Rattle.query_core.specs.Expressions.{HasLogical, HasPhysical, HasShape, IsCandidate}
 use Rattle.query_core.specs.Candidates.{IsAfter, IsNext, IsLast}
-use Rattle.query_core.specs.ByKind.{expr, IsOf, FindsFrom}
+use Rattle.query_core.specs.ByKind.{expr, aggregate_by, IsOf, FindsFrom}
 use Rattle.query_core.specs.declared.query.Query.{Query}
 use Rattle.query_core.specs.declared.words.Expr.{Expr}
 use Rattle.query_core.specs.declared.words.KeyParts.{KeyParts}
 use Rattle.query_core.specs.declared.words.KeyParts.TheVariants as groups
+use Rattle.query_core.specs.declared.expressions.Logical.{Logical}
+use Rattle.query_core.specs.declared.expressions.Logical.TheVariants as logical
+use Rattle.query_core.specs.declared.expressions.Physical.{Physical}
+use Rattle.query_core.specs.declared.expressions.Physical.TheVariants as physical
 use Rattle.query_core.specs.declared.expressions.Operator.{Operator}
 use Rattle.query_core.specs.declared.expressions.Operator.TheVariants as operators
-use Rattle.query_core.specs.declared.expressions.Children.{Children}
-use Rattle.query_core.specs.declared.expressions.Children.TheVariants.{Zero, One}
+use Rattle.query_core.specs.declared.kinds.JoinKind.TheVariants as joins
+use Rattle.query_core.specs.declared.kinds.AggKind.TheVariants as aggregations
 use Rattle.query_core.specs.declared.expressions.ExprParts.{ExprParts}
+use Rattle.query_core.proofs.Joins.{joins_sets}
 
 -- what a group has by one name it has by the other
-kind_as : (q : Query) (group g : KeyParts) (o : Operator) (children c : Children) → group ≡ g → children ≡ c → IsOf q g (expr g o c)
-    → IsOf q group (expr group o children)
-kind_as q group g o children c same_group same_children kind =
-    subst (λ x. IsOf q x (expr x o children)) (sym same_group) (subst (λ x. IsOf q g (expr g o x)) (sym same_children) kind)
+kind_as : (q : Query) (group g : KeyParts) (o p : Operator) → group ≡ g → o ≡ p → IsOf q g (expr g p) → IsOf q group (expr group o)
+kind_as q group g o p same_group same kind = subst (λ x. IsOf q x (expr x o)) (sym same_group) (subst (λ x. IsOf q g (expr g x)) (sym same) kind)
 
--- an operator, a group and children that fit make an expression of the group's kind
-shape_kind : (q : Query) (o : Operator) (group : KeyParts) (children : Children) → HasShape q o group children → IsOf q group (expr group o children)
-shape_kind q operators.Get group children (t, is, none) = kind_as q group (groups.Get t) operators.Get children Zero is none (inl refl)
-shape_kind q operators.Scan group children (t, is, none) = kind_as q group (groups.Get t) operators.Scan children Zero is none (inr (inl refl))
-shape_kind q (operators.IndexScan i) group children (t, is, there, none) =
-    kind_as q group (groups.Get t) (operators.IndexScan i) children Zero is none (inr (inr (i, there, refl)))
-shape_kind q operators.Select group children (t, is, same) = kind_as q group (groups.Filter t) operators.Select children (One (groups.Get t)) is same (inl refl)
-shape_kind q operators.Filter group children (t, is, same) =
-    kind_as q group (groups.Filter t) operators.Filter children (One (groups.Get t)) is same (inr (inl refl))
-shape_kind q (operators.IndexSeek i) group children (t, is, there, none) =
-    kind_as q group (groups.Filter t) (operators.IndexSeek i) children Zero is none (inr (inr (i, there, refl)))
-shape_kind q operators.NJoin group children (set, is, none) = kind_as q group (groups.Join set) operators.NJoin children Zero is none (inl refl)
-shape_kind q operators.Join group children (set, a, b, is, falls, same) =
-    kind_as q group (groups.Join set) operators.Join children _ is same (inr (inl (inl (a, b, falls, refl))))
-shape_kind q operators.HashJoin group children (set, a, b, is, falls, same) =
-    kind_as q group (groups.Join set) operators.HashJoin children _ is same (inr (inl (inr (a, b, falls, refl))))
-shape_kind q operators.MergeJoin group children (set, a, b, is, falls, same) =
-    kind_as q group (groups.Join set) operators.MergeJoin children _ is same (inr (inr (inl (a, b, falls, refl))))
-shape_kind q operators.LoopJoin group children (set, a, b, is, falls, same) =
-    kind_as q group (groups.Join set) operators.LoopJoin children _ is same (inr (inr (inr (a, b, falls, refl))))
-shape_kind q operators.Agg group children (is, inl same) = kind_as q group groups.Agg operators.Agg children _ is same (inl (inl refl))
-shape_kind q operators.Agg group children (is, inr same) = kind_as q group groups.Agg operators.Agg children _ is same (inl (inr refl))
-shape_kind q operators.HashAgg group children (is, inl same) = kind_as q group groups.Agg operators.HashAgg children _ is same (inr (inl (inl refl)))
-shape_kind q operators.HashAgg group children (is, inr same) = kind_as q group groups.Agg operators.HashAgg children _ is same (inr (inl (inr refl)))
-shape_kind q operators.StreamAgg group children (is, inl same) = kind_as q group groups.Agg operators.StreamAgg children _ is same (inr (inr (inl refl)))
-shape_kind q operators.StreamAgg group children (is, inr same) = kind_as q group groups.Agg operators.StreamAgg children _ is same (inr (inr (inr refl)))
-shape_kind q operators.Partial group children (is, same) = kind_as q group groups.Partial operators.Partial children _ is same (inl refl)
-shape_kind q operators.PartialAgg group children (is, same) = kind_as q group groups.Partial operators.PartialAgg children _ is same (inr refl)
+-- a logical operator that a group can have makes an expression of the group's kind
+logical_kind : (q : Query) (group : KeyParts) (o : Logical) → HasLogical q group o → IsOf q group (expr group (operators.Logical o))
+logical_kind q group logical.Get (t, is) = kind_as q group (groups.Get t) _ _ is refl (inl refl)
+logical_kind q group (logical.Select child) (t, is, same) =
+    kind_as q group (groups.Filter t) _ _ is (ap (λ x. operators.Logical (logical.Select x)) same) (inl refl)
+logical_kind q group logical.NJoin (set, is) = kind_as q group (groups.Join set) _ _ is refl (inl refl)
+logical_kind q group (logical.Join left right) (set, a, b, is, falls, first, second) =
+    kind_as q group (groups.Join set) _ _ is (joins_sets q joins.Logical left right a b first second) (inr (inl (inl (a, b, falls, refl))))
+logical_kind q group (logical.Agg child) (is, inl same) =
+    kind_as q group groups.Agg _ _ is (ap (aggregate_by aggregations.Logical) same) (inl (inl refl))
+logical_kind q group (logical.Agg child) (is, inr same) =
+    kind_as q group groups.Agg _ _ is (ap (aggregate_by aggregations.Logical) same) (inl (inr refl))
+logical_kind q group (logical.Partial child) (is, same) =
+    kind_as q group groups.Partial _ _ is (ap (λ x. operators.Logical (logical.Partial x)) same) (inl refl)
+
+-- so does a physical one
+physical_kind : (q : Query) (group : KeyParts) (o : Physical) → HasPhysical q group o → IsOf q group (expr group (operators.Physical o))
+physical_kind q group physical.Scan (t, is) = kind_as q group (groups.Get t) _ _ is refl (inr (inl refl))
+physical_kind q group (physical.IndexScan i) (t, is, there) = kind_as q group (groups.Get t) _ _ is refl (inr (inr (i, there, refl)))
+physical_kind q group (physical.Filter child) (t, is, same) =
+    kind_as q group (groups.Filter t) _ _ is (ap (λ x. operators.Physical (physical.Filter x)) same) (inr (inl refl))
+physical_kind q group (physical.IndexSeek i) (t, is, there) = kind_as q group (groups.Filter t) _ _ is refl (inr (inr (i, there, refl)))
+physical_kind q group (physical.HashJoin left right) (set, a, b, is, falls, first, second) =
+    kind_as q group (groups.Join set) _ _ is (joins_sets q joins.Hash left right a b first second) (inr (inl (inr (a, b, falls, refl))))
+physical_kind q group (physical.MergeJoin left right) (set, a, b, is, falls, first, second) =
+    kind_as q group (groups.Join set) _ _ is (joins_sets q joins.Merge left right a b first second) (inr (inr (inl (a, b, falls, refl))))
+physical_kind q group (physical.LoopJoin left right) (set, a, b, is, falls, first, second) =
+    kind_as q group (groups.Join set) _ _ is (joins_sets q joins.Loop left right a b first second) (inr (inr (inr (a, b, falls, refl))))
+physical_kind q group (physical.HashAgg child) (is, inl same) =
+    kind_as q group groups.Agg _ _ is (ap (aggregate_by aggregations.Hash) same) (inr (inl (inl refl)))
+physical_kind q group (physical.HashAgg child) (is, inr same) =
+    kind_as q group groups.Agg _ _ is (ap (aggregate_by aggregations.Hash) same) (inr (inl (inr refl)))
+physical_kind q group (physical.StreamAgg child) (is, inl same) =
+    kind_as q group groups.Agg _ _ is (ap (aggregate_by aggregations.Stream) same) (inr (inr (inl refl)))
+physical_kind q group (physical.StreamAgg child) (is, inr same) =
+    kind_as q group groups.Agg _ _ is (ap (aggregate_by aggregations.Stream) same) (inr (inr (inr refl)))
+physical_kind q group (physical.PartialAgg child) (is, same) =
+    kind_as q group groups.Partial _ _ is (ap (λ x. operators.Physical (physical.PartialAgg x)) same) (inr refl)
+
+shape_kind : (q : Query) (group : KeyParts) (o : Operator) → HasShape q group o → IsOf q group (expr group o)
+shape_kind q group (operators.Logical o) shape = logical_kind q group o shape
+shape_kind q group (operators.Physical o) shape = physical_kind q group o shape
 
 -- what a group can hold is of its kind
 pub candidate_kind : (q : Query) (group : KeyParts) (e : ExprParts) → IsCandidate q e → e.group ≡ group → IsOf q group e
-candidate_kind q group e candidate same = subst (λ g. IsOf q g e) same (shape_kind q e.operator e.group e.children candidate.shape)
+candidate_kind q group e candidate same = subst (λ g. IsOf q g e) same (shape_kind q e.group e.operator candidate.shape)
 
 -- the expression of parts that fit is one that the group can hold
-held : (q : Query) (group : KeyParts) (o : Operator) (children : Children) (e : ExprParts) → IsGroup q group → HasShape q o group children
-    → e ≡ expr group o children → IsCandidate q e × (e.group ≡ group)
-held q group o children e known shape same =
-    subst (λ x. IsCandidate q x × (x.group ≡ group)) (sym same) (record { known = known; shape = shape }, refl)
+held : (q : Query) (group : KeyParts) (o : Operator) (e : ExprParts) → IsGroup q group → HasShape q group o → e ≡ expr group o
+    → IsCandidate q e × (e.group ≡ group)
+held q group o e known shape same = subst (λ x. IsCandidate q x × (x.group ≡ group)) (sym same) (record { known = known; shape = shape }, refl)
 
 -- what is of the kind of a group of the query is an expression that it can hold
 pub kind_candidate : (q : Query) (group : KeyParts) (e : ExprParts) → IsGroup q group → IsOf q group e → IsCandidate q e × (e.group ≡ group)
-kind_candidate q (groups.Get t) e known (inl same) = held q (groups.Get t) operators.Get Zero e known (t, refl, refl) same
-kind_candidate q (groups.Get t) e known (inr (inl same)) = held q (groups.Get t) operators.Scan Zero e known (t, refl, refl) same
-kind_candidate q (groups.Get t) e known (inr (inr (i, there, same))) =
-    held q (groups.Get t) (operators.IndexScan i) Zero e known (t, refl, there, refl) same
-kind_candidate q (groups.Filter t) e known (inl same) = held q (groups.Filter t) operators.Select (One (groups.Get t)) e known (t, refl, refl) same
-kind_candidate q (groups.Filter t) e known (inr (inl same)) = held q (groups.Filter t) operators.Filter (One (groups.Get t)) e known (t, refl, refl) same
-kind_candidate q (groups.Filter t) e known (inr (inr (i, there, same))) =
-    held q (groups.Filter t) (operators.IndexSeek i) Zero e known (t, refl, there, refl) same
-kind_candidate q (groups.Join set) e known (inl same) = held q (groups.Join set) operators.NJoin Zero e known (set, refl, refl) same
-kind_candidate q (groups.Join set) e known (inr (inl (inl (a, b, falls, same)))) =
-    held q (groups.Join set) operators.Join _ e known (set, a, b, refl, falls, refl) same
-kind_candidate q (groups.Join set) e known (inr (inl (inr (a, b, falls, same)))) =
-    held q (groups.Join set) operators.HashJoin _ e known (set, a, b, refl, falls, refl) same
-kind_candidate q (groups.Join set) e known (inr (inr (inl (a, b, falls, same)))) =
-    held q (groups.Join set) operators.MergeJoin _ e known (set, a, b, refl, falls, refl) same
-kind_candidate q (groups.Join set) e known (inr (inr (inr (a, b, falls, same)))) =
-    held q (groups.Join set) operators.LoopJoin _ e known (set, a, b, refl, falls, refl) same
-kind_candidate q groups.Partial e known (inl same) = held q groups.Partial operators.Partial _ e known (refl, refl) same
-kind_candidate q groups.Partial e known (inr same) = held q groups.Partial operators.PartialAgg _ e known (refl, refl) same
-kind_candidate q groups.Agg e known (inl (inl same)) = held q groups.Agg operators.Agg _ e known (refl, inl refl) same
-kind_candidate q groups.Agg e known (inl (inr same)) = held q groups.Agg operators.Agg _ e known (refl, inr refl) same
-kind_candidate q groups.Agg e known (inr (inl (inl same))) = held q groups.Agg operators.HashAgg _ e known (refl, inl refl) same
-kind_candidate q groups.Agg e known (inr (inl (inr same))) = held q groups.Agg operators.HashAgg _ e known (refl, inr refl) same
-kind_candidate q groups.Agg e known (inr (inr (inl same))) = held q groups.Agg operators.StreamAgg _ e known (refl, inl refl) same
-kind_candidate q groups.Agg e known (inr (inr (inr same))) = held q groups.Agg operators.StreamAgg _ e known (refl, inr refl) same
+kind_candidate q (groups.Get t) e known (inl same) = held q (groups.Get t) _ e known (t, refl) same
+kind_candidate q (groups.Get t) e known (inr (inl same)) = held q (groups.Get t) _ e known (t, refl) same
+kind_candidate q (groups.Get t) e known (inr (inr (i, there, same))) = held q (groups.Get t) _ e known (t, refl, there) same
+kind_candidate q (groups.Filter t) e known (inl same) = held q (groups.Filter t) _ e known (t, refl, refl) same
+kind_candidate q (groups.Filter t) e known (inr (inl same)) = held q (groups.Filter t) _ e known (t, refl, refl) same
+kind_candidate q (groups.Filter t) e known (inr (inr (i, there, same))) = held q (groups.Filter t) _ e known (t, refl, there) same
+kind_candidate q (groups.Join set) e known (inl same) = held q (groups.Join set) _ e known (set, refl) same
+kind_candidate q (groups.Join set) e known (inr (inl (inl (a, b, falls, same)))) = held q (groups.Join set) _ e known (set, a, b, refl, falls, refl, refl) same
+kind_candidate q (groups.Join set) e known (inr (inl (inr (a, b, falls, same)))) = held q (groups.Join set) _ e known (set, a, b, refl, falls, refl, refl) same
+kind_candidate q (groups.Join set) e known (inr (inr (inl (a, b, falls, same)))) = held q (groups.Join set) _ e known (set, a, b, refl, falls, refl, refl) same
+kind_candidate q (groups.Join set) e known (inr (inr (inr (a, b, falls, same)))) = held q (groups.Join set) _ e known (set, a, b, refl, falls, refl, refl) same
+kind_candidate q groups.Partial e known (inl same) = held q groups.Partial _ e known (refl, refl) same
+kind_candidate q groups.Partial e known (inr same) = held q groups.Partial _ e known (refl, refl) same
+kind_candidate q groups.Agg e known (inl (inl same)) = held q groups.Agg _ e known (refl, inl refl) same
+kind_candidate q groups.Agg e known (inl (inr same)) = held q groups.Agg _ e known (refl, inr refl) same
+kind_candidate q groups.Agg e known (inr (inl (inl same))) = held q groups.Agg _ e known (refl, inl refl) same
+kind_candidate q groups.Agg e known (inr (inl (inr same))) = held q groups.Agg _ e known (refl, inr refl) same
+kind_candidate q groups.Agg e known (inr (inr (inl same))) = held q groups.Agg _ e known (refl, inl refl) same
+kind_candidate q groups.Agg e known (inr (inr (inr same))) = held q groups.Agg _ e known (refl, inr refl) same
 
 -- the least of the kind from the bound on is the next candidate, where the words from the bound on are those after the one before
 pub next_is : (q : Query) (group : KeyParts) (before : Option Expr) (bound : ℕ) (found : Option Expr) → IsGroup q group

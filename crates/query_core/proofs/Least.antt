@@ -2,12 +2,14 @@
 use Rattle.std.proofs.Common.{rules, ◌≡◌, ℕ, ◌+◌, ◌<◌, ◌≤◌, ◌^◌, Option, None, Some, refl, ap, sym, subst, ◌∙◌, arith, ◌⊎◌, inl, inr}
 use Rattle.std.specs.Prelude.{nat_lt}
 use Rattle.std.proofs.lemmas.Bool.{cond_both, cases_lt, ltb-true, ltb-false}
-use Rattle.query_core.specs.Expressions.{word_of}
-use Rattle.query_core.specs.ByKind.{expr, index_operator, IsLeastFrom, FindsFrom, sooner_of}
+use Rattle.query_core.specs.Keys.{IsInRange}
+use Rattle.query_core.specs.Expressions.{word_of, IsPacked}
+use Rattle.query_core.specs.ByKind.{expr, read_by, IsLeastFrom, FindsFrom, sooner_of}
 use Rattle.query_core.specs.declared.words.Expr.{Expr}
 use Rattle.query_core.specs.declared.words.KeyParts.{KeyParts}
-use Rattle.query_core.specs.declared.expressions.Children.TheVariants.{Zero}
 use Rattle.query_core.specs.declared.expressions.ExprParts.{ExprParts}
+use Rattle.query_core.specs.declared.kinds.IndexKind.{IndexKind}
+use Rattle.query_core.specs.declared.kinds.IndexKind.TheVariants as indexes
 use Rattle.query_core.proofs.GroupLemmas.{group_in_range}
 
 -- the same kind in other words
@@ -66,22 +68,27 @@ pub sooner_is : (S T : ExprParts → Type 0) (bound : ℕ) (a b found : Option E
 sooner_is S T bound a b found is first second = subst (FindsFrom (λ e. S e ⊎ T e) bound) (sym is) (sooner_finds S T bound a b first second)
 
 -- the group is read from an index of a number below the limit
-abbrev pub IsReadBelow : KeyParts → ℕ → ExprParts → Type 0
-IsReadBelow group limit e = (index : ℕ) × (index < limit) × (e ≡ expr group (index_operator group index) Zero)
+abbrev pub IsReadBelow : KeyParts → IndexKind → ℕ → ExprParts → Type 0
+IsReadBelow group kind limit e = (index : ℕ) × (index < limit) × (e ≡ expr group (read_by kind index))
 
 -- or from the one at the limit
-pub read_more : (group : KeyParts) (bound limit : ℕ) (before this : Option Expr) → FindsFrom (IsReadBelow group limit) bound before
-    → FindsFrom (λ e. e ≡ expr group (index_operator group limit) Zero) bound this → FindsFrom (IsReadBelow group (limit + 1)) bound (sooner_of before this)
-read_more group bound limit before this first second =
-    let Last : ExprParts → Type 0 = λ e. e ≡ expr group (index_operator group limit) Zero in
-    finds_as (λ e. IsReadBelow group limit e ⊎ Last e) (IsReadBelow group (limit + 1)) bound (sooner_of before this)
-    (λ e kind. elim kind [ inl (index, below, same) ↦ (index, omega (arith, below), same) | inr same ↦ (limit, omega arith, same) ])
+pub read_more : (group : KeyParts) (kind : IndexKind) (bound limit : ℕ) (before this : Option Expr) → FindsFrom (IsReadBelow group kind limit) bound before
+    → FindsFrom (λ e. e ≡ expr group (read_by kind limit)) bound this → FindsFrom (IsReadBelow group kind (limit + 1)) bound (sooner_of before this)
+read_more group kind bound limit before this first second =
+    let Last : ExprParts → Type 0 = λ e. e ≡ expr group (read_by kind limit) in
+    finds_as (λ e. IsReadBelow group kind limit e ⊎ Last e) (IsReadBelow group kind (limit + 1)) bound (sooner_of before this)
+    (λ e kinds. elim kinds [ inl (index, below, same) ↦ (index, omega (arith, below), same) | inr same ↦ (limit, omega arith, same) ])
     (λ e (index, below, same). elim (cases_lt index limit) [
       | inl less ↦ inl (index, less, same)
       | inr more ↦
           let at : index ≡ limit = omega (arith, below, more) in
-          inr (same ∙ ap (λ i. expr group (index_operator group i) Zero) at)
+          inr (same ∙ ap (λ i. expr group (read_by kind i)) at)
     ])
-    (sooner_finds (IsReadBelow group limit) Last bound before this first second)
+    (sooner_finds (IsReadBelow group kind limit) Last bound before this first second)
+
+-- the parts of such a reading fit a word
+pub read_packed : (group : KeyParts) (kind : IndexKind) (index : ℕ) → IsInRange group → index < 16 → IsPacked (expr group (read_by kind index))
+read_packed group indexes.Scan index in_range few = record { group = in_range; index = omega (arith, few); children = refl }
+read_packed group indexes.Seek index in_range few = record { group = in_range; index = omega (arith, few); children = refl }
 
 pub ruleset packing = (arith, group_in_range)

@@ -11,3 +11,4 @@ pub mod Least
 pub mod Joins
 pub mod GroupKinds
 pub mod Unions
+pub mod Apart

@@ -6,51 +6,67 @@ use Rattle.query_core.specs.declared.table.QueryTable.{QueryTable}
 use Rattle.query_core.specs.declared.query.Query.{Query}
 use Rattle.query_core.specs.declared.words.KeyParts.{KeyParts}
 use Rattle.query_core.specs.declared.words.KeyParts.TheVariants as groups
+use Rattle.query_core.specs.declared.expressions.Logical.{Logical}
+use Rattle.query_core.specs.declared.expressions.Logical.TheVariants as logical
+use Rattle.query_core.specs.declared.expressions.Physical.{Physical}
+use Rattle.query_core.specs.declared.expressions.Physical.TheVariants as physical
 use Rattle.query_core.specs.declared.expressions.Operator.{Operator}
 use Rattle.query_core.specs.declared.expressions.Operator.TheVariants as operators
 use Rattle.query_core.specs.declared.expressions.Children.{Children}
 use Rattle.query_core.specs.declared.expressions.Children.TheVariants.{Zero, One, Two}
+use Rattle.query_core.specs.declared.expressions.Fields.{Fields}
+use Rattle.query_core.specs.declared.expressions.PhysicalExpr.{PhysicalExpr}
 use Rattle.query_core.specs.declared.expressions.ExprParts.{ExprParts}
 
 -- ---- words
 
--- the number of an operator
-abbrev pub operator_number : Operator → ℕ
-operator_number operators.Get = 1
-operator_number operators.Scan = 2
-operator_number (operators.IndexScan index) = 3
-operator_number operators.Select = 4
-operator_number operators.Filter = 5
-operator_number (operators.IndexSeek index) = 6
-operator_number operators.NJoin = 7
-operator_number operators.Join = 8
-operator_number operators.HashJoin = 9
-operator_number operators.MergeJoin = 10
-operator_number operators.LoopJoin = 11
-operator_number operators.Agg = 12
-operator_number operators.HashAgg = 13
-operator_number operators.StreamAgg = 14
-operator_number operators.Partial = 15
-operator_number operators.PartialAgg = 16
+-- the fields of these values
+abbrev pub fields : ℕ → ℕ → Children → Fields
+fields number index children = record { number = number; index = index; children = children }
 
--- the number of the index that it reads, else 0
-abbrev pub index_number : Operator → ℕ
-index_number operators.Get = 0
-index_number operators.Scan = 0
-index_number (operators.IndexScan index) = index
-index_number operators.Select = 0
-index_number operators.Filter = 0
-index_number (operators.IndexSeek index) = index
-index_number operators.NJoin = 0
-index_number operators.Join = 0
-index_number operators.HashJoin = 0
-index_number operators.MergeJoin = 0
-index_number operators.LoopJoin = 0
-index_number operators.Agg = 0
-index_number operators.HashAgg = 0
-index_number operators.StreamAgg = 0
-index_number operators.Partial = 0
-index_number operators.PartialAgg = 0
+-- the fields of each logical operator
+abbrev pub logical_fields : Logical → Fields
+logical_fields logical.Get = fields 1 0 Zero
+logical_fields (logical.Select child) = fields 4 0 (One child)
+logical_fields logical.NJoin = fields 7 0 Zero
+logical_fields (logical.Join left right) = fields 8 0 (Two left right)
+logical_fields (logical.Agg child) = fields 12 0 (One child)
+logical_fields (logical.Partial child) = fields 15 0 (One child)
+
+-- the fields of each physical operator
+abbrev pub physical_fields : Physical → Fields
+physical_fields physical.Scan = fields 2 0 Zero
+physical_fields (physical.IndexScan index) = fields 3 index Zero
+physical_fields (physical.Filter child) = fields 5 0 (One child)
+physical_fields (physical.IndexSeek index) = fields 6 index Zero
+physical_fields (physical.HashJoin left right) = fields 9 0 (Two left right)
+physical_fields (physical.MergeJoin left right) = fields 10 0 (Two left right)
+physical_fields (physical.LoopJoin left right) = fields 11 0 (Two left right)
+physical_fields (physical.HashAgg child) = fields 13 0 (One child)
+physical_fields (physical.StreamAgg child) = fields 14 0 (One child)
+physical_fields (physical.PartialAgg child) = fields 16 0 (One child)
+
+-- the fields of an operator
+abbrev pub fields_of : Operator → Fields
+fields_of (operators.Logical o) = logical_fields o
+fields_of (operators.Physical o) = physical_fields o
+
+-- the groups that an operator stands on
+abbrev pub children_of : Operator → Children
+children_of o = (fields_of o).children
+
+-- the groups that a physical operator stands on
+abbrev pub physical_children : Physical → Children
+physical_children o = (physical_fields o).children
+
+-- a physical expression as one of either kind
+abbrev pub expr_of : PhysicalExpr → ExprParts
+expr_of e = record { group = e.group; operator = operators.Physical e.operator }
+
+-- the operator says what is wanted, and not how it is made
+abbrev pub is_logical : Operator → Bool
+is_logical (operators.Logical o) = true
+is_logical (operators.Physical o) = false
 
 -- the key of the first child plus 1, or 0 where there is none
 abbrev pub left_number : Children → ℕ
@@ -64,13 +80,13 @@ right_number Zero = 0
 right_number (One child) = 0
 right_number (Two left right) = key_number right + 1
 
--- the fields of a word
-abbrev pub packed : ℕ → ℕ → ℕ → ℕ → ℕ → ℕ
-packed key operator index left right = key * 2 ^ 36 + operator * 2 ^ 31 + index * 2 ^ 26 + left * 2 ^ 13 + right
+-- the word of a key and an operator's fields
+abbrev pub packed : ℕ → Fields → ℕ
+packed key f = key * 2 ^ 36 + f.number * 2 ^ 31 + f.index * 2 ^ 26 + left_number f.children * 2 ^ 13 + right_number f.children
 
 -- the word of a group expression
 abbrev pub word_of : ExprParts → ℕ
-word_of e = packed (key_number e.group) (operator_number e.operator) (index_number e.operator) (left_number e.children) (right_number e.children)
+word_of e = packed (key_number e.group) (fields_of e.operator)
 
 -- the children are groups that some query can have
 abbrev pub AreInRange : Children → Type 0
@@ -87,8 +103,8 @@ IsChild (Two left right) group = (group ≡ left) ⊎ (group ≡ right)
 -- each part fits its field
 pub record IsPacked (e : ExprParts) : Type 0 where
   pub group : IsInRange e.group
-  pub index : index_number e.operator < 32
-  pub children : AreInRange e.children
+  pub index : (fields_of e.operator).index < 32
+  pub children : AreInRange (children_of e.operator)
 
 -- the expression's parts fit, and this is its word
 pub record HasWord (word : ℕ) (e : ExprParts) : Type 0 where
@@ -98,25 +114,6 @@ pub record HasWord (word : ℕ) (e : ExprParts) : Type 0 where
 -- the number is the word of an expression
 abbrev pub IsWord : ℕ → Type 0
 IsWord word = (e : ExprParts) × HasWord word e
-
--- the operator says what is wanted, and not how it is made
-abbrev pub is_logical : Operator → Bool
-is_logical operators.Get = true
-is_logical operators.Scan = false
-is_logical (operators.IndexScan index) = false
-is_logical operators.Select = true
-is_logical operators.Filter = false
-is_logical (operators.IndexSeek index) = false
-is_logical operators.NJoin = true
-is_logical operators.Join = true
-is_logical operators.HashJoin = false
-is_logical operators.MergeJoin = false
-is_logical operators.LoopJoin = false
-is_logical operators.Agg = true
-is_logical operators.HashAgg = false
-is_logical operators.StreamAgg = false
-is_logical operators.Partial = true
-is_logical operators.PartialAgg = false
 
 -- the number of the first child's key
 abbrev pub left_key : Children → Option ℕ
@@ -145,61 +142,53 @@ pub record FallsInto (q : Query) (set a b : ℕ) : Type 0 where
 abbrev pub HasIndex : Query → ℕ → ℕ → Type 0
 HasIndex q t index = (table : QueryTable) × (slice_get q.tables t ≡ Some table) × (index < length table.indexes)
 
--- the rows of a table, from nothing
-abbrev pub IsOfTable : KeyParts → Children → Type 0
-IsOfTable group children = (t : ℕ) × (group ≡ groups.Get t) × (children ≡ Zero)
-
--- the rows of a table, from one of its indexes
-abbrev pub IsOfIndex : Query → ℕ → KeyParts → Children → Type 0
-IsOfIndex q index group children = (t : ℕ) × (group ≡ groups.Get t) × HasIndex q t index × (children ≡ Zero)
+-- the join of the two sets that a set falls into
+abbrev pub IsJoin : Query → KeyParts → KeyParts → KeyParts → Type 0
+IsJoin q group left right = (set a b : ℕ) × (group ≡ groups.Join set) × FallsInto q set a b × (left ≡ top_of q a) × (right ≡ top_of q b)
 
 -- the rows that meet a table's own predicates, from the table's rows
-abbrev pub IsFiltered : KeyParts → Children → Type 0
-IsFiltered group children = (t : ℕ) × (group ≡ groups.Filter t) × (children ≡ One (groups.Get t))
-
--- the rows that meet a table's own predicates, from one of its indexes
-abbrev pub IsSought : Query → ℕ → KeyParts → Children → Type 0
-IsSought q index group children = (t : ℕ) × (group ≡ groups.Filter t) × HasIndex q t index × (children ≡ Zero)
-
--- the join of a set, in no order
-abbrev pub IsManyJoin : KeyParts → Children → Type 0
-IsManyJoin group children = (set : ℕ) × (group ≡ groups.Join set) × (children ≡ Zero)
-
--- the join of the two sets that a set falls into
-abbrev pub IsJoin : Query → KeyParts → Children → Type 0
-IsJoin q group children = (set a b : ℕ) × (group ≡ groups.Join set) × FallsInto q set a b × (children ≡ Two (top_of q a) (top_of q b))
+abbrev pub IsFiltered : KeyParts → KeyParts → Type 0
+IsFiltered group child = (t : ℕ) × (group ≡ groups.Filter t) × (child ≡ groups.Get t)
 
 -- the groups of GROUP BY, from all rows or from groups that are not complete
-abbrev pub IsAggregated : Query → KeyParts → Children → Type 0
-IsAggregated q group children = (group ≡ groups.Agg) × ((children ≡ One (input_of q)) ⊎ (children ≡ One groups.Partial))
+abbrev pub IsAggregated : Query → KeyParts → KeyParts → Type 0
+IsAggregated q group child = (group ≡ groups.Agg) × ((child ≡ input_of q) ⊎ (child ≡ groups.Partial))
 
 -- groups that are not complete, from all rows
-abbrev pub IsPartial : Query → KeyParts → Children → Type 0
-IsPartial q group children = (group ≡ groups.Partial) × (children ≡ One (input_of q))
+abbrev pub IsPartial : Query → KeyParts → KeyParts → Type 0
+IsPartial q group child = (group ≡ groups.Partial) × (child ≡ input_of q)
 
--- the group and the children that an operator can have
-abbrev pub HasShape : Query → Operator → KeyParts → Children → Type 0
-HasShape q operators.Get group children = IsOfTable group children
-HasShape q operators.Scan group children = IsOfTable group children
-HasShape q (operators.IndexScan index) group children = IsOfIndex q index group children
-HasShape q operators.Select group children = IsFiltered group children
-HasShape q operators.Filter group children = IsFiltered group children
-HasShape q (operators.IndexSeek index) group children = IsSought q index group children
-HasShape q operators.NJoin group children = IsManyJoin group children
-HasShape q operators.Join group children = IsJoin q group children
-HasShape q operators.HashJoin group children = IsJoin q group children
-HasShape q operators.MergeJoin group children = IsJoin q group children
-HasShape q operators.LoopJoin group children = IsJoin q group children
-HasShape q operators.Agg group children = IsAggregated q group children
-HasShape q operators.HashAgg group children = IsAggregated q group children
-HasShape q operators.StreamAgg group children = IsAggregated q group children
-HasShape q operators.Partial group children = IsPartial q group children
-HasShape q operators.PartialAgg group children = IsPartial q group children
+-- the group that a logical operator can have, with its children
+abbrev pub HasLogical : Query → KeyParts → Logical → Type 0
+HasLogical q group logical.Get = (t : ℕ) × (group ≡ groups.Get t)
+HasLogical q group (logical.Select child) = IsFiltered group child
+HasLogical q group logical.NJoin = (set : ℕ) × (group ≡ groups.Join set)
+HasLogical q group (logical.Join left right) = IsJoin q group left right
+HasLogical q group (logical.Agg child) = IsAggregated q group child
+HasLogical q group (logical.Partial child) = IsPartial q group child
+
+-- the group that a physical operator can have, with its index and its children
+abbrev pub HasPhysical : Query → KeyParts → Physical → Type 0
+HasPhysical q group physical.Scan = (t : ℕ) × (group ≡ groups.Get t)
+HasPhysical q group (physical.IndexScan index) = (t : ℕ) × (group ≡ groups.Get t) × HasIndex q t index
+HasPhysical q group (physical.Filter child) = IsFiltered group child
+HasPhysical q group (physical.IndexSeek index) = (t : ℕ) × (group ≡ groups.Filter t) × HasIndex q t index
+HasPhysical q group (physical.HashJoin left right) = IsJoin q group left right
+HasPhysical q group (physical.MergeJoin left right) = IsJoin q group left right
+HasPhysical q group (physical.LoopJoin left right) = IsJoin q group left right
+HasPhysical q group (physical.HashAgg child) = IsAggregated q group child
+HasPhysical q group (physical.StreamAgg child) = IsAggregated q group child
+HasPhysical q group (physical.PartialAgg child) = IsPartial q group child
+
+-- the group can have the operator over its children
+abbrev pub HasShape : Query → KeyParts → Operator → Type 0
+HasShape q group (operators.Logical o) = HasLogical q group o
+HasShape q group (operators.Physical o) = HasPhysical q group o
 
 -- an expression that a group of the query can hold
 pub record IsCandidate (q : Query) (e : ExprParts) : Type 0 where
   pub known : IsGroup q e.group
-  pub shape : HasShape q e.operator e.group e.children
+  pub shape : HasShape q e.group e.operator
 
 -- the word is that of an expression that this group can hold
 abbrev pub IsCandidateOf : Query → KeyParts → ℕ → Type 0
@@ -211,10 +200,14 @@ IsCandidateWord q word = (e : ExprParts) × IsCandidate q e × (word_of e ≡ wo
 
 -- ---- origins
 
+-- the logical operator with which a group begins
+abbrev pub origin_operator : Query → KeyParts → Logical
+origin_operator q (groups.Get t) = logical.Get
+origin_operator q (groups.Filter t) = logical.Select (groups.Get t)
+origin_operator q (groups.Join set) = logical.NJoin
+origin_operator q groups.Partial = logical.Partial (input_of q)
+origin_operator q groups.Agg = logical.Agg (input_of q)
+
 -- the expression with which a group begins
 abbrev pub origin_of : Query → KeyParts → ExprParts
-origin_of q (groups.Get t) = record { group = groups.Get t; operator = operators.Get; children = Zero }
-origin_of q (groups.Filter t) = record { group = groups.Filter t; operator = operators.Select; children = One (groups.Get t) }
-origin_of q (groups.Join set) = record { group = groups.Join set; operator = operators.NJoin; children = Zero }
-origin_of q groups.Partial = record { group = groups.Partial; operator = operators.Partial; children = One (input_of q) }
-origin_of q groups.Agg = record { group = groups.Agg; operator = operators.Agg; children = One (input_of q) }
+origin_of q group = record { group = group; operator = operators.Logical (origin_operator q group) }

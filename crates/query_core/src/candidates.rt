@@ -1,15 +1,16 @@
 //! The expressions that a group can hold. No call here takes memory.
 #![tactic(auto)]
 
-ghost use Rattle.std.specs.Prelude.{◌≡◌, ℕ, ◌<◌, ◌^◌, length};
+ghost use Rattle.std.specs.Prelude.{◌≡◌, ℕ, ◌<◌, ◌^◌, ◌↔◌, IsTrue, length};
 ghost use Rattle.query_core.specs.declared.expressions.ExprParts.{ExprParts};
 ghost use Rattle.query_core.specs.declared.query.Query.{Query};
 ghost use Rattle.query_core.specs.declared.words.KeyParts.{KeyParts};
 ghost use Rattle.query_core.specs.Connected.{IsConnected};
-ghost use Rattle.query_core.specs.Keys.{IsInRange, IsGroup, IsKey, Names, top_of, input_of, root_of};
-ghost use Rattle.query_core.specs.Expressions.{word_of, origin_of, IsChild, IsPacked, IsCandidate};
+ghost use Rattle.query_core.specs.Keys.{key_number, IsInRange, IsGroup, IsKey, Names, top_of, input_of, root_of};
+ghost use Rattle.query_core.specs.Expressions.{word_of, children_of, origin_of, origin_operator, IsChild, IsPacked, IsCandidate, IsCandidateWord};
 
-use crate::expressions::{Children, ExprParts, Operator};
+use crate::expressions::{ExprParts, Logical};
+use crate::keys::KEYS;
 use crate::query::Query;
 use crate::words::{Expr, Key, KeyParts};
 
@@ -27,18 +28,18 @@ impl Query {
     pub fn origin_of_group(&self, group: KeyParts) -> ExprParts
         ensures { result ≡ origin_of self.now group }
     {
+        ExprParts::logical(group, self.origin_operator(group))
+    }
+
+    fn origin_operator(&self, group: KeyParts) -> Logical
+        ensures { result ≡ origin_operator self.now group }
+    {
         match group {
-            KeyParts::Get(_) => ExprParts::new(group, Operator::Get, Children::Zero),
-            KeyParts::Filter(table) => {
-                ExprParts::new(group, Operator::Select, Children::One(KeyParts::Get(table)))
-            }
-            KeyParts::Join(_) => ExprParts::new(group, Operator::NJoin, Children::Zero),
-            KeyParts::Partial => ExprParts::new(
-                group,
-                Operator::Partial,
-                Children::One(self.input()),
-            ),
-            KeyParts::Agg => ExprParts::new(group, Operator::Agg, Children::One(self.input())),
+            KeyParts::Get(_) => Logical::Get,
+            KeyParts::Filter(table) => Logical::Select(KeyParts::Get(table)),
+            KeyParts::Join(_) => Logical::NJoin,
+            KeyParts::Partial => Logical::Partial(self.input()),
+            KeyParts::Agg => Logical::Agg(self.input()),
         }
     }
 }
@@ -47,13 +48,14 @@ impl Query {
 pub fn candidates_are_known()
     ensures packed { (q : Query) (e : ExprParts) → IsCandidate q e → IsPacked e }
     ensures children { (q : Query) (e : ExprParts) (g : KeyParts) → IsCandidate q e →
-        IsChild e.children g → IsGroup q g }
+        IsChild (children_of e.operator) g → IsGroup q g }
     ensures origins { (q : Query) (g : KeyParts) → IsGroup q g → IsCandidate q (origin_of q g) }
 {}
 
 /// What all groups of a query have in common, and which groups each query has.
 pub fn groups_are_known()
     ensures in_range { (q : Query) (g : KeyParts) → IsGroup q g → IsInRange g }
+    ensures small { (g : KeyParts) → IsInRange g → key_number g < KEYS }
     ensures joined { (q : Query) (set : ℕ) → 0 < set → set < 2 ^ length q.tables →
         IsConnected q.links set → IsGroup q (top_of q set) }
     ensures input { (q : Query) → IsGroup q (input_of q) }

@@ -1,14 +1,15 @@
 //! Group expressions as numbers. Nothing else packs or unpacks an expression.
 #![tactic(auto)]
 
-ghost use Rattle.std.specs.Prelude.{◌≡◌, ◌<◌, ◌≤◌, ◌+◌, ◌*◌, ◌/◌, ◌%◌, ◌^◌, MatchOption};
+ghost use Rattle.std.specs.Prelude.{◌≡◌, ◌<◌, ◌≤◌, ◌+◌, ◌/◌, ◌%◌, ◌^◌, ◌↔◌, MatchOption};
 ghost use Rattle.std.specs.Option.{option_map};
 ghost use Rattle.query_core.specs.declared.expressions.ExprParts.{ExprParts};
 ghost use Rattle.query_core.specs.declared.words.KeyParts.{KeyParts};
 ghost use Rattle.query_core.specs.Keys.{key_number, IsInRange};
-ghost use Rattle.query_core.specs.Expressions.{operator_number, index_number, left_number, right_number, word_of, is_logical, left_key, right_key, AreInRange, IsPacked, HasWord, IsWord};
+ghost use Rattle.query_core.specs.Expressions.{children_of, left_number, right_number, word_of, is_logical, left_key, right_key, AreInRange, IsPacked, HasWord, IsWord};
 
-use crate::expressions::{Children, ExprParts, Operator};
+use crate::expressions::{Children, ExprParts, Fields, Operator};
+use crate::keys::KEYS;
 use crate::words::{Expr, Key, KeyParts};
 
 impl Expr {
@@ -19,10 +20,10 @@ impl Expr {
         ensures small { result.0 < 2 ^ 48 }
     {
         let key = Key::make(parts.group).0 as u64;
-        let operator = parts.operator.number() as u64;
-        let index = parts.operator.index() as u64;
-        let (left, right) = parts.children.numbers();
-        Expr((key << 36) + (operator << 31) + (index << 26) + ((left as u64) << 13) + right as u64)
+        let fields = parts.operator.fields();
+        let (left, right) = fields.children.numbers();
+        let (number, index) = (fields.number as u64, fields.index as u64);
+        Expr((key << 36) + (number << 31) + (index << 26) + ((left as u64) << 13) + right as u64)
     }
 
     /// The group expression of this word, if it is that of one.
@@ -32,13 +33,10 @@ impl Expr {
             (λ e. IsPacked e × (word_of e ≡ self.0)) }
     {
         let group = Key((self.0 >> 36) as u32).parts()?;
-        let operator = Operator::of(field(self.0, 31, 5), field(self.0, 26, 5))?;
         let children = Children::of(field(self.0, 13, 13), field(self.0, 0, 13))?;
-        Some(ExprParts {
-            group,
-            operator,
-            children,
-        })
+        let fields = Fields::new(field(self.0, 31, 5), field(self.0, 26, 5), children);
+        let operator = Operator::of(fields)?;
+        Some(ExprParts { group, operator })
     }
 
     /// The group expression that the word is known to have.
@@ -66,18 +64,29 @@ impl Expr {
         requires { IsWord self.0 }
         ensures { (e : ExprParts) → HasWord self.0 e → result ≡ is_logical e.operator }
     {
-        self.known_parts().operator.logical()
+        self.known_parts().operator.is_logical()
     }
 
     /// The keys of its children, the left one first.
     pub fn children(self) -> (Option<Key>, Option<Key>)
         requires { IsWord self.0 }
         ensures left { (e : ExprParts) → HasWord self.0 e →
-            option_map (λ key. key.0) result.0 ≡ left_key e.children }
+            option_map (λ key. key.0) result.0 ≡ left_key (children_of e.operator) }
         ensures right { (e : ExprParts) → HasWord self.0 e →
-            option_map (λ key. key.0) result.1 ≡ right_key e.children }
+            option_map (λ key. key.0) result.1 ≡ right_key (children_of e.operator) }
     {
-        self.known_parts().children.keys()
+        self.known_parts().children().keys()
+    }
+}
+
+impl Key {
+    /// The number from which the words of this key and of those after it stand.
+    pub fn first_word(self) -> u64
+        requires { self.0 ≤ KEYS }
+        ensures { (e : ExprParts) → IsPacked e →
+            (result ≤ word_of e) ↔ (self.0 ≤ key_number e.group) }
+    {
+        (self.0 as u64) << 36
     }
 }
 
@@ -90,86 +99,9 @@ pub fn expressions_are_one()
     ensures small { (e : ExprParts) → IsPacked e → word_of e < 2 ^ 48 }
 
     // The words of a group stand together, and groups stand in the order of their keys.
-    ensures from_key { (e : ExprParts) → IsPacked e → key_number e.group * 2 ^ 36 ≤ word_of e }
-    ensures to_next_key { (e : ExprParts) → IsPacked e →
-        word_of e < (key_number e.group + 1) * 2 ^ 36 }
+    ensures ordered { (e f : ExprParts) → IsPacked e → IsPacked f →
+        key_number e.group < key_number f.group → word_of e < word_of f }
 {}
-
-impl Operator {
-    fn number(self) -> u32
-        ensures number { result ≡ operator_number self }
-        ensures small { result < 32 }
-    {
-        match self {
-            Operator::Get => 1,
-            Operator::Scan => 2,
-            Operator::IndexScan(_) => 3,
-            Operator::Select => 4,
-            Operator::Filter => 5,
-            Operator::IndexSeek(_) => 6,
-            Operator::NJoin => 7,
-            Operator::Join => 8,
-            Operator::HashJoin => 9,
-            Operator::MergeJoin => 10,
-            Operator::LoopJoin => 11,
-            Operator::Agg => 12,
-            Operator::HashAgg => 13,
-            Operator::StreamAgg => 14,
-            Operator::Partial => 15,
-            Operator::PartialAgg => 16,
-        }
-    }
-
-    fn index(self) -> u32
-        ensures { result ≡ index_number self }
-    {
-        match self {
-            Operator::IndexScan(index) => index,
-            Operator::IndexSeek(index) => index,
-            _ => 0,
-        }
-    }
-
-    pub fn logical(self) -> bool
-        ensures { result ≡ is_logical self }
-    {
-        match self {
-            Operator::Get => true,
-            Operator::Select => true,
-            Operator::NJoin => true,
-            Operator::Join => true,
-            Operator::Agg => true,
-            Operator::Partial => true,
-            _ => false,
-        }
-    }
-
-    fn of(number: u32, index: u32) -> Option<Operator>
-        ensures { MatchOption result
-            ((o : Operator) → operator_number o ≡ number → index_number o ≡ index → ⊥)
-            (λ o. (operator_number o ≡ number) × (index_number o ≡ index)) }
-    {
-        match (number, index) {
-            (1, 0) => Some(Operator::Get),
-            (2, 0) => Some(Operator::Scan),
-            (3, _) => Some(Operator::IndexScan(index)),
-            (4, 0) => Some(Operator::Select),
-            (5, 0) => Some(Operator::Filter),
-            (6, _) => Some(Operator::IndexSeek(index)),
-            (7, 0) => Some(Operator::NJoin),
-            (8, 0) => Some(Operator::Join),
-            (9, 0) => Some(Operator::HashJoin),
-            (10, 0) => Some(Operator::MergeJoin),
-            (11, 0) => Some(Operator::LoopJoin),
-            (12, 0) => Some(Operator::Agg),
-            (13, 0) => Some(Operator::HashAgg),
-            (14, 0) => Some(Operator::StreamAgg),
-            (15, 0) => Some(Operator::Partial),
-            (16, 0) => Some(Operator::PartialAgg),
-            _ => None,
-        }
-    }
-}
 
 impl Children {
     fn numbers(self) -> (u32, u32)

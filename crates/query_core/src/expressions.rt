@@ -1,42 +1,61 @@
 //! Group expressions: an operator over groups.
 #![tactic(auto)]
 
-ghost use Rattle.std.specs.Prelude.{◌≡◌};
+ghost use Rattle.std.specs.Prelude.{◌≡◌, MatchOption};
+ghost use Rattle.query_core.specs.Expressions.{children_of, expr_of, fields_of, logical_fields, physical_children, physical_fields, is_logical as is_logical_operator};
 
 use crate::words::KeyParts;
 
-/// What a group expression does. Logical operators say what is wanted, physical ones how it is made.
+/// What is wanted of a group's rows.
 #[derive(Clone, Copy, Debug, PartialEq, Eq)]
-pub enum Operator {
-    /// Logical: the rows of a table.
+pub enum Logical {
+    /// The rows of a table.
     Get,
-    /// Physical: the table is read where it lies.
-    Scan,
-    /// Physical: the table is read in the order of its index of this number.
-    IndexScan(u32),
-    /// Logical: the rows that meet the table's own predicates.
-    Select,
-    /// Physical: each row is tested.
-    Filter,
-    /// Physical: the rows are found by the index of this number.
-    IndexSeek(u32),
-    /// Logical: the join of all tables of the set, in no order.
+    /// The rows of a table that meet its own predicates.
+    Select(KeyParts),
+    /// The join of all tables of the set, in no order.
     NJoin,
-    /// Logical: the join of two groups.
-    Join,
-    HashJoin,
-    MergeJoin,
-    LoopJoin,
-    /// Logical: the groups of GROUP BY.
-    Agg,
-    HashAgg,
-    StreamAgg,
-    /// Logical: groups that are not complete, as each segment makes them.
-    Partial,
-    PartialAgg,
+    /// The join of the left group and the right one.
+    Join(KeyParts, KeyParts),
+    /// The groups of GROUP BY.
+    Agg(KeyParts),
+    /// Groups that are not complete, as each segment makes them.
+    Partial(KeyParts),
 }
 
-/// The groups that an expression stands on.
+/// How a group's rows are made.
+#[derive(Clone, Copy, Debug, PartialEq, Eq)]
+pub enum Physical {
+    /// The table is read where it lies.
+    Scan,
+    /// The table is read in the order of its index of this number.
+    IndexScan(u32),
+    /// Each row is tested.
+    Filter(KeyParts),
+    /// The rows are found by the index of this number.
+    IndexSeek(u32),
+    /// The rows of the right group are put into a hash table, and each row of the left one looks there.
+    HashJoin(KeyParts, KeyParts),
+    /// Both groups are read in the order of the columns that are compared.
+    MergeJoin(KeyParts, KeyParts),
+    /// Each row of the left group is compared with each row of the right one.
+    LoopJoin(KeyParts, KeyParts),
+    /// The groups stand in a hash table.
+    HashAgg(KeyParts),
+    /// The rows come in the order of GROUP BY, so each group is complete before the next begins.
+    StreamAgg(KeyParts),
+    /// Each segment makes groups of its own rows.
+    PartialAgg(KeyParts),
+}
+
+/// What a group expression does, with the groups that it stands on.
+#[derive(Clone, Copy, Debug, PartialEq, Eq)]
+pub enum Operator {
+    Logical(Logical),
+    Physical(Physical),
+}
+
+/// The groups that an operator stands on.
 #[derive(Clone, Copy, Debug, PartialEq, Eq)]
 pub enum Children {
     Zero,
@@ -45,21 +64,213 @@ pub enum Children {
     Two(KeyParts, KeyParts),
 }
 
-/// A group expression: its group, its operator, and its children.
+/// What a word has of an operator.
+#[derive(Clone, Copy)]
+pub struct Fields {
+    /// The operator's number, 1 to 16.
+    pub number: u32,
+    /// The number of the index that it reads, else 0.
+    pub index: u32,
+    pub children: Children,
+}
+
+/// A group expression: its group, and its operator.
 #[derive(Clone, Copy, Debug, PartialEq, Eq)]
 pub struct ExprParts {
     pub group: KeyParts,
     pub operator: Operator,
-    pub children: Children,
+}
+
+/// A group expression that says how its group's rows are made.
+#[derive(Clone, Copy, Debug, PartialEq, Eq)]
+pub struct PhysicalExpr {
+    pub group: KeyParts,
+    pub operator: Physical,
+}
+
+impl PhysicalExpr {
+    pub fn new(group: KeyParts, operator: Physical) -> PhysicalExpr
+        ensures { result ≡ record { group = group; operator = operator } }
+    {
+        PhysicalExpr { group, operator }
+    }
+
+    /// The same as an expression of either kind.
+    pub fn parts(self) -> ExprParts
+        ensures { result ≡ expr_of self }
+    {
+        ExprParts::physical(self.group, self.operator)
+    }
+
+    /// The groups that it stands on.
+    pub fn children(self) -> Children
+        ensures { result ≡ physical_children self.operator }
+    {
+        self.operator.fields().children
+    }
 }
 
 impl ExprParts {
-    pub fn new(group: KeyParts, operator: Operator, children: Children) -> ExprParts
-        ensures { result ≡ record { group = group; operator = operator; children = children } }
+    /// An expression that says what is wanted of the group's rows.
+    pub fn logical(group: KeyParts, operator: Logical) -> ExprParts
+        ensures { result ≡ record { group = group; operator = Operator.Logical operator } }
     {
         ExprParts {
             group,
-            operator,
+            operator: Operator::Logical(operator),
+        }
+    }
+
+    /// An expression that says how the group's rows are made.
+    pub fn physical(group: KeyParts, operator: Physical) -> ExprParts
+        ensures { result ≡ record { group = group; operator = Operator.Physical operator } }
+    {
+        ExprParts {
+            group,
+            operator: Operator::Physical(operator),
+        }
+    }
+
+    /// The physical expression that it is, if it is one.
+    pub fn as_physical(self) -> Option<PhysicalExpr>
+        ensures { MatchOption result
+            ((e : PhysicalExpr) → self ≡ expr_of e → ⊥)
+            (λ e. self ≡ expr_of e) }
+    {
+        match self.operator {
+            Operator::Logical(_) => None,
+            Operator::Physical(operator) => Some(PhysicalExpr::new(self.group, operator)),
+        }
+    }
+
+    /// The groups that it stands on.
+    pub fn children(self) -> Children
+        ensures { result ≡ children_of self.operator }
+    {
+        self.operator.fields().children
+    }
+}
+
+impl Operator {
+    /// Whether it says what is wanted, and not how it is made.
+    pub fn is_logical(self) -> bool
+        ensures { result ≡ is_logical_operator self }
+    {
+        match self {
+            Operator::Logical(_) => true,
+            Operator::Physical(_) => false,
+        }
+    }
+
+    /// The groups that it stands on.
+    pub fn children(self) -> Children
+        ensures { result ≡ children_of self }
+    {
+        self.fields().children
+    }
+
+    pub(crate) fn fields(self) -> Fields
+        ensures { result ≡ fields_of self }
+    {
+        match self {
+            Operator::Logical(operator) => operator.fields(),
+            Operator::Physical(operator) => operator.fields(),
+        }
+    }
+
+    /// The operator that has these fields.
+    pub(crate) fn of(fields: Fields) -> Option<Operator>
+        ensures { MatchOption result
+            ((o : Operator) → fields_of o ≡ fields → ⊥)
+            (λ o. fields_of o ≡ fields) }
+    {
+        if let Some(operator) = Logical::of(fields) {
+            return Some(Operator::Logical(operator));
+        }
+        match Physical::of(fields) {
+            Some(operator) => Some(Operator::Physical(operator)),
+            None => None,
+        }
+    }
+}
+
+impl Logical {
+    fn fields(self) -> Fields
+        ensures { result ≡ logical_fields self }
+    {
+        match self {
+            Logical::Get => Fields::new(1, 0, Children::Zero),
+            Logical::Select(child) => Fields::new(4, 0, Children::One(child)),
+            Logical::NJoin => Fields::new(7, 0, Children::Zero),
+            Logical::Join(left, right) => Fields::new(8, 0, Children::Two(left, right)),
+            Logical::Agg(child) => Fields::new(12, 0, Children::One(child)),
+            Logical::Partial(child) => Fields::new(15, 0, Children::One(child)),
+        }
+    }
+
+    fn of(fields: Fields) -> Option<Logical>
+        ensures { MatchOption result
+            ((o : Logical) → logical_fields o ≡ fields → ⊥)
+            (λ o. logical_fields o ≡ fields) }
+    {
+        match (fields.number, fields.index, fields.children) {
+            (1, 0, Children::Zero) => Some(Logical::Get),
+            (4, 0, Children::One(child)) => Some(Logical::Select(child)),
+            (7, 0, Children::Zero) => Some(Logical::NJoin),
+            (8, 0, Children::Two(left, right)) => Some(Logical::Join(left, right)),
+            (12, 0, Children::One(child)) => Some(Logical::Agg(child)),
+            (15, 0, Children::One(child)) => Some(Logical::Partial(child)),
+            _ => None,
+        }
+    }
+}
+
+impl Physical {
+    fn fields(self) -> Fields
+        ensures { result ≡ physical_fields self }
+    {
+        match self {
+            Physical::Scan => Fields::new(2, 0, Children::Zero),
+            Physical::IndexScan(index) => Fields::new(3, index, Children::Zero),
+            Physical::Filter(child) => Fields::new(5, 0, Children::One(child)),
+            Physical::IndexSeek(index) => Fields::new(6, index, Children::Zero),
+            Physical::HashJoin(left, right) => Fields::new(9, 0, Children::Two(left, right)),
+            Physical::MergeJoin(left, right) => Fields::new(10, 0, Children::Two(left, right)),
+            Physical::LoopJoin(left, right) => Fields::new(11, 0, Children::Two(left, right)),
+            Physical::HashAgg(child) => Fields::new(13, 0, Children::One(child)),
+            Physical::StreamAgg(child) => Fields::new(14, 0, Children::One(child)),
+            Physical::PartialAgg(child) => Fields::new(16, 0, Children::One(child)),
+        }
+    }
+
+    fn of(fields: Fields) -> Option<Physical>
+        ensures { MatchOption result
+            ((o : Physical) → physical_fields o ≡ fields → ⊥)
+            (λ o. physical_fields o ≡ fields) }
+    {
+        match (fields.number, fields.index, fields.children) {
+            (2, 0, Children::Zero) => Some(Physical::Scan),
+            (3, index, Children::Zero) => Some(Physical::IndexScan(index)),
+            (5, 0, Children::One(child)) => Some(Physical::Filter(child)),
+            (6, index, Children::Zero) => Some(Physical::IndexSeek(index)),
+            (9, 0, Children::Two(left, right)) => Some(Physical::HashJoin(left, right)),
+            (10, 0, Children::Two(left, right)) => Some(Physical::MergeJoin(left, right)),
+            (11, 0, Children::Two(left, right)) => Some(Physical::LoopJoin(left, right)),
+            (13, 0, Children::One(child)) => Some(Physical::HashAgg(child)),
+            (14, 0, Children::One(child)) => Some(Physical::StreamAgg(child)),
+            (16, 0, Children::One(child)) => Some(Physical::PartialAgg(child)),
+            _ => None,
+        }
+    }
+}
+
+impl Fields {
+    pub(crate) fn new(number: u32, index: u32, children: Children) -> Fields
+        ensures { result ≡ record { number = number; index = index; children = children } }
+    {
+        Fields {
+            number,
+            index,
             children,
         }
     }

@@ -84,7 +84,8 @@ impl Query {
         self.top_group(sets::first(self.tables.len() as u32))
     }
 
-    fn has_group(&self, group: KeyParts) -> bool
+    /// Whether this query can have the group.
+    pub fn has_group(&self, group: KeyParts) -> bool
         ensures { IsTrue result ↔ IsGroup self.now group }
     {
         match group {

@@ -7,12 +7,15 @@ ghost use Rattle.query_core.specs.Keys.{key_number, tables_of, IsInRange};
 use crate::sets;
 use crate::words::{Key, KeyParts};
 
+/// Keys of groups are numbers below this one.
+pub const KEYS: u32 = 2050;
+
 impl Key {
     /// The key of a group.
     pub fn make(parts: KeyParts) -> Key
         requires { IsInRange parts }
         ensures number { result.0 ≡ key_number parts }
-        ensures small { result.0 < 2 ^ 12 }
+        ensures small { result.0 < KEYS }
     {
         match parts {
             KeyParts::Get(table) => Key(table),

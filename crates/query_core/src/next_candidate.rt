@@ -5,11 +5,12 @@ ghost use Rattle.std.specs.Prelude.{◌≡◌, ℕ, ◌+◌, ◌<◌, ◌≤◌,
 ghost use Rattle.query_core.specs.declared.expressions.ExprParts.{ExprParts};
 ghost use Rattle.query_core.specs.declared.words.KeyParts.{KeyParts};
 ghost use Rattle.query_core.specs.Keys.{key_number, IsInRange, IsGroup, IsKey, Names, input_of};
-ghost use Rattle.query_core.specs.Expressions.{operator_number, index_number, packed, AreInRange, IsPacked};
+ghost use Rattle.query_core.specs.Expressions.{word_of, IsPacked};
 ghost use Rattle.query_core.specs.Candidates.{IsAfter, IsNext, IsLast};
-ghost use Rattle.query_core.specs.ByKind.{expr, index_count as index_count_of, index_operator as index_operator_of, sooner_of, IsRead, IsJoinBy, IsJoinAt, IsAggregateBy, IsOf, FindsFrom};
+ghost use Rattle.query_core.specs.ByKind.{expr, join_by, index_count as index_count_of, sooner_of, IsRead, IsJoinBy, IsJoinAt, IsAggregateBy, IsOf, FindsFrom};
 
-use crate::expressions::{Children, ExprParts, Operator};
+use crate::expressions::{ExprParts, Logical, Operator, Physical};
+use crate::kinds::{AggKind, IndexKind, JoinKind};
 use crate::query::Query;
 use crate::words::{Expr, Key, KeyParts};
 
@@ -41,9 +42,9 @@ impl Query {
         ensures { FindsFrom (IsOf self.now (KeyParts.Get table)) bound result }
     {
         let group = KeyParts::Get(table);
-        let get = word_from(bound, group, Operator::Get, Children::Zero);
-        let scan = word_from(bound, group, Operator::Scan, Children::Zero);
-        let read = self.next_read(table, group, bound);
+        let get = word_from(bound, group, Operator::Logical(Logical::Get));
+        let scan = word_from(bound, group, Operator::Physical(Physical::Scan));
+        let read = self.next_read(table, group, IndexKind::Scan, bound);
         sooner(get, sooner(scan, read))
     }
 
@@ -51,11 +52,10 @@ impl Query {
         requires { IsGroup self.now (KeyParts.Filter table) }
         ensures { FindsFrom (IsOf self.now (KeyParts.Filter table)) bound result }
     {
-        let group = KeyParts::Filter(table);
-        let child = Children::One(KeyParts::Get(table));
-        let select = word_from(bound, group, Operator::Select, child);
-        let filter = word_from(bound, group, Operator::Filter, child);
-        let read = self.next_read(table, group, bound);
+        let (group, child) = (KeyParts::Filter(table), KeyParts::Get(table));
+        let select = word_from(bound, group, Operator::Logical(Logical::Select(child)));
+        let filter = word_from(bound, group, Operator::Physical(Physical::Filter(child)));
+        let read = self.next_read(table, group, IndexKind::Seek, bound);
         sooner(select, sooner(filter, read))
     }
 
@@ -63,59 +63,61 @@ impl Query {
         requires { IsGroup self.now (KeyParts.Join set) }
         ensures { FindsFrom (IsOf self.now (KeyParts.Join set)) bound result }
     {
-        let many = word_from(bound, KeyParts::Join(set), Operator::NJoin, Children::Zero);
-        let join = self.next_join(set, Operator::Join, bound);
-        let hash = self.next_join(set, Operator::HashJoin, bound);
-        let merge = self.next_join(set, Operator::MergeJoin, bound);
-        let by_loop = self.next_join(set, Operator::LoopJoin, bound);
+        let many = word_from(
+            bound,
+            KeyParts::Join(set),
+            Operator::Logical(Logical::NJoin),
+        );
+        let join = self.next_join(set, JoinKind::Logical, bound);
+        let hash = self.next_join(set, JoinKind::Hash, bound);
+        let merge = self.next_join(set, JoinKind::Merge, bound);
+        let by_loop = self.next_join(set, JoinKind::Loop, bound);
         sooner(many, sooner(sooner(join, hash), sooner(merge, by_loop)))
     }
 
     fn next_of_partial(&self, bound: u64) -> Option<Expr>
         ensures { FindsFrom (IsOf self.now KeyParts.Partial) bound result }
     {
-        let child = Children::One(self.input());
-        let partial = word_from(bound, KeyParts::Partial, Operator::Partial, child);
-        let physical = word_from(bound, KeyParts::Partial, Operator::PartialAgg, child);
+        let (group, child) = (KeyParts::Partial, self.input());
+        let partial = word_from(bound, group, Operator::Logical(Logical::Partial(child)));
+        let physical = word_from(
+            bound,
+            group,
+            Operator::Physical(Physical::PartialAgg(child)),
+        );
         sooner(partial, physical)
     }
 
     fn next_of_aggregation(&self, bound: u64) -> Option<Expr>
         ensures { FindsFrom (IsOf self.now KeyParts.Agg) bound result }
     {
-        let aggregate = self.next_aggregate(Operator::Agg, bound);
-        let hash = self.next_aggregate(Operator::HashAgg, bound);
-        let stream = self.next_aggregate(Operator::StreamAgg, bound);
+        let aggregate = self.next_aggregate(AggKind::Logical, bound);
+        let hash = self.next_aggregate(AggKind::Hash, bound);
+        let stream = self.next_aggregate(AggKind::Stream, bound);
         sooner(aggregate, sooner(hash, stream))
     }
 
-    fn next_aggregate(&self, operator: Operator, bound: u64) -> Option<Expr>
-        requires { index_number operator < 32 }
-        ensures { FindsFrom (IsAggregateBy self.now operator) bound result }
+    fn next_aggregate(&self, kind: AggKind, bound: u64) -> Option<Expr>
+        ensures { FindsFrom (IsAggregateBy self.now kind) bound result }
     {
-        let whole = word_from(bound, KeyParts::Agg, operator, Children::One(self.input()));
-        let parts = word_from(
-            bound,
-            KeyParts::Agg,
-            operator,
-            Children::One(KeyParts::Partial),
-        );
+        let whole = word_from(bound, KeyParts::Agg, kind.of(self.input()));
+        let parts = word_from(bound, KeyParts::Agg, kind.of(KeyParts::Partial));
         sooner(whole, parts)
     }
 
-    fn next_read(&self, table: u32, group: KeyParts, bound: u64) -> Option<Expr>
+    fn next_read(&self, table: u32, group: KeyParts, kind: IndexKind, bound: u64) -> Option<Expr>
         requires { IsInRange group }
-        ensures { FindsFrom (IsRead self.now table group) bound result }
+        ensures { FindsFrom (IsRead self.now table group kind) bound result }
     {
         let mut next = None;
         for index in 0..self.index_count(table) {
-            let operator = index_operator(group, index as u32);
-            next = sooner(next, word_from(bound, group, operator, Children::Zero));
+            next = sooner(next, word_from(bound, group, kind.at(index as u32)));
         }
         next
     }
 
-    fn index_count(&self, table: u32) -> usize
+    // How many indexes the table has.
+    pub(crate) fn index_count(&self, table: u32) -> usize
         ensures { result ≡ index_count_of self.now table }
     {
         match self.tables.as_slice().get(table as usize) {
@@ -124,50 +126,47 @@ impl Query {
         }
     }
 
-    fn next_join(&self, set: u32, operator: Operator, bound: u64) -> Option<Expr>
-        requires set { set < 1024 }
-        requires index { index_number operator < 32 }
-        ensures { FindsFrom (IsJoinBy self.now set operator) bound result }
+    fn next_join(&self, set: u32, kind: JoinKind, bound: u64) -> Option<Expr>
+        requires { set < 1024 }
+        ensures { FindsFrom (IsJoinBy self.now set kind) bound result }
     {
-        for left in first_left(set, operator, bound)..2049 {
-            if let Some(next) = self.join_from(set, operator, left as u32, bound) {
+        for left in first_left(set, kind, bound)..2049 {
+            if let Some(next) = self.join_from(set, kind, left as u32, bound) {
                 return Some(next);
             }
         }
         None
     }
 
-    fn join_from(&self, set: u32, operator: Operator, left: u32, bound: u64) -> Option<Expr>
-        requires set { set < 1024 }
-        requires index { index_number operator < 32 }
-        ensures { FindsFrom (IsJoinAt self.now set operator left) bound result }
+    fn join_from(&self, set: u32, kind: JoinKind, left: u32, bound: u64) -> Option<Expr>
+        requires { set < 1024 }
+        ensures { FindsFrom (IsJoinAt self.now set kind left) bound result }
     {
         let a = self.left_side(left)?;
         let b = self.right_side(set, a)?;
-        let children = Children::Two(self.top_group(a), self.top_group(b));
-        word_from(bound, KeyParts::Join(set), operator, children)
+        let operator = kind.of(self.top_group(a), self.top_group(b));
+        word_from(bound, KeyParts::Join(set), operator)
     }
 }
 
 // Joins whose left child has a lesser number have words below the bound.
-fn first_left(set: u32, operator: Operator, bound: u64) -> u64
-    requires set { set < 1024 }
-    requires index { index_number operator < 32 }
-    ensures { (left right : ℕ) → left < result → right < 2 ^ 13 →
-        packed (1024 + set) (operator_number operator) (index_number operator) left right < bound }
+fn first_left(set: u32, kind: JoinKind, bound: u64) -> u64
+    requires { set < 1024 }
+    ensures { (left right : KeyParts) → key_number left + 1 < result → IsInRange right →
+        word_of (expr (KeyParts.Join set) (join_by kind left right)) < bound }
 {
-    let base = Expr::make(ExprParts::new(KeyParts::Join(set), operator, Children::Zero)).0;
-    bound.saturating_sub(base) >> 13
+    let group = KeyParts::Join(set);
+    let operator = kind.of(KeyParts::Get(0), KeyParts::Get(0));
+    let least = Expr::make(ExprParts { group, operator }).0;
+    bound.saturating_sub(least) >> 13
 }
 
 // The expression, if its word isn't below the bound.
-fn word_from(bound: u64, group: KeyParts, operator: Operator, children: Children) -> Option<Expr>
-    requires group { IsInRange group }
-    requires index { index_number operator < 32 }
-    requires children { AreInRange children }
-    ensures { FindsFrom (λ e. e ≡ expr group operator children) bound result }
+fn word_from(bound: u64, group: KeyParts, operator: Operator) -> Option<Expr>
+    requires { IsPacked (expr group operator) }
+    ensures { FindsFrom (λ e. e ≡ expr group operator) bound result }
 {
-    let word = Expr::make(ExprParts::new(group, operator, children));
+    let word = Expr::make(ExprParts { group, operator });
     if bound <= word.0 { Some(word) } else { None }
 }
 
@@ -179,16 +178,6 @@ fn sooner(a: Option<Expr>, b: Option<Expr>) -> Option<Expr>
         (Some(first), Some(second)) if second.0 < first.0 => b,
         (Some(_), _) => a,
         (None, _) => b,
-    }
-}
-
-// How the group is read from the index of this number.
-fn index_operator(group: KeyParts, index: u32) -> Operator
-    ensures { result ≡ index_operator_of group index }
-{
-    match group {
-        KeyParts::Get(_) => Operator::IndexScan(index),
-        _ => Operator::IndexSeek(index),
     }
 }
 

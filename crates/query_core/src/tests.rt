@@ -253,8 +253,8 @@ fn one_table(alloc: Global) -> Result<Query, AllocError> {
 
 #[test]
 fn an_expression_is_one_word(rt: HostRuntime) -> Result<(), Fail> {
-    let sides = Children::Two(KeyParts::Get(0), KeyParts::Get(1));
-    let parts = ExprParts::new(KeyParts::Join(3), Operator::HashJoin, sides);
+    let operator = Physical::HashJoin(KeyParts::Get(0), KeyParts::Get(1));
+    let parts = ExprParts::physical(KeyParts::Join(3), operator);
     let word = Expr(70_594_229_968_898);
     assert_eq!(rt; Expr::make(parts), word);
     assert_eq!(rt; word.parts(), Some(parts));
@@ -302,6 +302,20 @@ fn a_group_holds_its_candidates(rt: HostRuntime) -> Result<(), Fail> {
     let read = [0x80000000, 0x100000000, 0x180000000, 0x184000000];
     let indexed = one_table(rt.alloc())?;
     assert!(rt; has_words(&indexed, indexed.root(), &read));
+    Ok(())
+}
+
+#[test]
+fn candidates_are_told_by_their_words(rt: HostRuntime) -> Result<(), Fail> {
+    let query = two_tables(rt.alloc())?;
+    for word in [0x80000000, 0x1100000000, 0x403380000000, 0x403580004001] {
+        assert!(rt; query.is_candidate(Expr(word)));
+    }
+    // An index that isn't there, a join of a table with itself, a group that isn't there, and no word.
+    for word in [0x180000000, 0x403400002001, 0x202100000, 0x403400002000] {
+        assert!(rt; !query.is_candidate(Expr(word)));
+    }
+    assert_eq!(rt; Key(1027).first_word(), 0x403000000000);
     Ok(())
 }
 

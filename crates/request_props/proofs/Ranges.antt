@@ -59,7 +59,8 @@ all_sides_below items (pred ∷ preds) all =
     let later = all_sides_below items preds (and_parts _ _ all).1 in
     rw (list_all-append (λ number. nat_lt number (length items)) (sides_of items pred) (flat_map (sides_of items) preds)) (and_from _ _ here later)
 
-items_few : (q : Query) → length q.items ≤ 60
+-- a query has few items
+pub items_few : (q : Query) → length q.items ≤ 60
 items_few q = let fit = q.grouping_valid.items_fit in omega arith
 
 -- joined columns are items

@@ -1,5 +1,9 @@
 pub mod Listing
 pub mod Requests
 pub mod Found
+pub mod Groups
+pub mod Lying
 pub mod Numbered
+pub mod Fitting
 pub mod Satisfied
+pub mod Classes

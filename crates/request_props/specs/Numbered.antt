@@ -1,10 +1,21 @@
--- The numbered lists and orders of a query, and what is asked of its whole plan.
-use Rattle.std.specs.Prelude.{ℕ, zero, suc, ◌≡◌, ◌≤◌, ◌<◌, List, [], map, length, slice_index_or, ⊤}
+-- The numbered lists and orders of a query, what is asked of its whole plan, and what else a query implies.
+use Rattle.std.specs.Prelude.{ℕ, zero, suc, Bool, ◌≡◌, ◌≤◌, ◌<◌, ◌*◌, ◌&&◌, List, [], ◌∷◌, Option, None, Some, map, length, nat_lt, bytes_eq, slice_get, slice_index_or, ⊤}
+use Rattle.std.specs.List.{list_all, position_or_len}
+use Rattle.std.specs.Option.{option_map_or}
+use Rattle.query_core.specs.Crossing.{equal_item}
+use Rattle.query_core.specs.Keys.{is_grouped_by}
 use Rattle.query_core.specs.declared.query.Query.{Query}
+use Rattle.query_core.specs.declared.predicate.Pred.{Pred}
 use Rattle.query_core.specs.declared.options.RootDist.{RootDist}
 use Rattle.query_core.specs.declared.options.RootDist.TheVariants.{One, Spread}
 use Rattle.request_props.specs.Listing.{listing_of}
-use Rattle.request_props.specs.Found.{elements_of, wanted_order, found_lists, found_orders}
+use Rattle.request_props.specs.Found.{ascending, elements_of, wanted_order, found_lists, found_orders}
+use Rattle.request_props.specs.Groups.{AreKeys, AreGroupRows}
+use Rattle.request_props.specs.Lying.{items_of, AreTablesOf}
+use Rattle.request_props.specs.declared.given.GivenDist.{GivenDist}
+use Rattle.request_props.specs.declared.given.GivenDist.TheVariants as given
+use Rattle.request_props.specs.declared.sides.Side.{Side}
+use Rattle.request_props.specs.declared.sides.Equality.{Equality}
 use Rattle.request_props.specs.declared.request.Dist as dists
 use Rattle.request_props.specs.declared.request.Dist.{Dist}
 use Rattle.request_props.specs.declared.request.Request.{Request}
@@ -48,13 +59,84 @@ pub record IsRoot (q : Query) (request : Request) : Type 0 where
   pub dist : request.dist ≡ root_dist q.options.root
   pub order : IsNumberOf (orders_of q) (wanted_order q) request.order
 
--- the hashed lists and the orders of the query, at most 60 of each, and what is asked of its whole plan
+-- the number of a hashed list of the query
+abbrev pub list_number : Query → List ℕ → ℕ
+list_number q list = position_or_len (bytes_eq list) (lists_of q)
+
+-- the list that has the number
+abbrev pub list_of : Query → ℕ → List ℕ
+list_of q number = slice_index_or (lists_of q) number []
+
+-- the number of an order of the query; the empty order has 0
+abbrev pub order_number : Query → List ℕ → ℕ
+order_number q [] = 0
+order_number q (first ∷ others) = suc (position_or_len (bytes_eq (first ∷ others)) (orders_of q))
+
+-- the hashed list of one column
+abbrev pub column_list : Query → ℕ → ℕ
+column_list q column = list_number q (column ∷ [])
+
+-- the order of one ascending column
+abbrev pub column_order : Query → ℕ → ℕ
+column_order q column = order_number q ((2 * column) ∷ [])
+
+-- a column that an equality compares, with the numbers of its list and of its ascending order
+abbrev pub side_of : Query → ℕ → Side
+side_of q column = record { column = column; list = column_list q column; order = column_order q column }
+
+-- the same of two columns
+abbrev pub both_sides : Query → (ℕ × ℕ) → (Side × Side)
+both_sides q columns = (side_of q columns.0, side_of q columns.1)
+
+-- both sides of an equality with this item, where it is one
+abbrev pub equality_with : Query → ℕ → Option ℕ → Option Equality
+equality_with q left None = None
+equality_with q left (Some right) = Some (record { left = side_of q left; right = side_of q right })
+
+-- both sides of a predicate that is an equality of two items
+abbrev pub equality_of : Query → Pred → Option Equality
+equality_of q pred = equality_with q pred.left (equal_item pred.op pred.right)
+
+-- where the rows of a table lie whose hashed list is this, if it has one
+abbrev pub dist_by : Query → Option (List ℕ) → GivenDist
+dist_by q None = given.Random
+dist_by q (Some list) = given.Hashed (list_number q list)
+
+-- where the rows of a table lie
+abbrev pub table_dist : Query → ℕ → GivenDist
+table_dist q t = dist_by q (option_map_or (λ table. table.hashed) (slice_get q.tables t) None)
+
+-- what is asked of the whole plan: the distribution of the root option, in the order of ORDER BY
+abbrev pub root_request : Query → Request
+root_request q = record { dist = root_dist q.options.root; order = order_number q (wanted_order q) }
+
+-- the order of the GROUP BY columns, each ascending
+abbrev pub group_order : Query → ℕ
+group_order q = order_number q (ascending q.group_by)
+
+-- all of the columns are in GROUP BY
+abbrev pub are_grouped : Query → List ℕ → Bool
+are_grouped q columns = list_all (is_grouped_by q) columns
+
+-- the list has the number, and all of its columns are in GROUP BY
+abbrev pub is_grouped_list : Query → ℕ → Bool
+is_grouped_list q list = nat_lt list (length (lists_of q)) && are_grouped q (list_of q list)
+
+-- the hashed lists and the orders of the query, at most 60 of each, what is asked of its whole plan, and what else a plan's nodes want to know
 pub record IsProps (q : Query) (props : Props) : Type 0 where
   pub lists : props.hashed ≡ lists_of q
   pub few_lists : length (lists_of q) ≤ 60
   pub order_lists : map elements_of props.orders ≡ orders_of q
   pub few_orders : length (orders_of q) ≤ 60
   pub root_request : IsRoot q props.root
+  pub known_keys : AreKeys q props.keys
+  pub known_rows : AreGroupRows q props.rows
+  pub known_equalities : props.equalities ≡ map (equality_of q) q.preds
+  pub known_placings : props.placings ≡ map (λ table. dist_by q table.hashed) q.tables
+  pub known_grouped : props.grouped ≡ map (are_grouped q) (lists_of q)
+  pub known_lists : AreTablesOf q (lists_of q) props.list_tables
+  pub known_orders : AreTablesOf q (map items_of (orders_of q)) props.order_tables
+  pub known_order : props.by_groups ≡ group_order q
 
 -- there are more than 60 hashed lists, or else more than 60 orders, and so many of them
 abbrev pub IsRefusedFor : Query → PropsFault → Type 0

@@ -1,7 +1,7 @@
 //! The lists and orders that a query has, each as often as it has them.
 #![tactic(auto)]
 
-ghost use Rattle.std.specs.Prelude.{ℕ, ◌≡◌, ◌<◌, ◌≤◌, ◌++◌, IfOk, OnOk, length};
+ghost use Rattle.std.specs.Prelude.{◌≡◌, ◌<◌, ◌++◌, IfOk, OnOk};
 ghost use Rattle.std.specs.List.{All};
 ghost use Rattle.request_props.specs.Found.{alone, ascending as ascending_of, elements_of};
 ghost use Rattle.request_props.specs.Found.{found_lists as lists_found};
@@ -147,7 +147,8 @@ fn push_unless_empty(
     Ok(())
 }
 
-fn ascending(alloc: Global, columns: &[u32]) -> Result<Vec<u32>, AllocError>
+/// Columns, each ascending, as an order.
+pub fn ascending(alloc: Global, columns: &[u32]) -> Result<Vec<u32>, AllocError>
     requires { All (λ column. column < 60) columns.now }
     ensures { IfOk result (λ elements. elements.items ≡ ascending_of columns.now) }
 {

@@ -2,20 +2,27 @@
 //! is met.
 #![tactic(auto)]
 
+mod classes;
 mod fault;
 mod found;
 mod given;
+mod groups;
+mod lying;
 mod numbering;
+mod numbers;
 mod props;
 mod request;
 mod satisfaction;
+mod sides;
 
+pub use classes::{class_asked, class_of, classes_agree};
 pub use fault::PropsFault;
 pub use given::{Given, GivenDist, GivenOrder};
 pub use numbering::listing_is_one;
 pub use props::Props;
 pub use request::{Dist, Request, code, request_of};
 pub use satisfaction::{meets, satisfies};
+pub use sides::Side;
 
 #[cfg(test)]
 mod tests;

@@ -1,7 +1,7 @@
 //! The numbered lists and orders of a query.
 #![tactic(auto)]
 
-ghost use Rattle.std.specs.Prelude.{ℕ, ◌≡◌, ◌≤◌, ◌⊎◌, List, [], IfOk, IfErr, map, length};
+ghost use Rattle.std.specs.Prelude.{◌≡◌, ◌≤◌, ◌⊎◌, List, [], IfOk, IfErr, map, length};
 ghost use Rattle.std.specs.List.{Contains};
 ghost use Rattle.query_core.specs.declared.query.Query.{Query};
 ghost use Rattle.request_props.specs.Found.{elements_of, element_of};
@@ -9,10 +9,18 @@ ghost use Rattle.request_props.specs.Numbered.{IsProps, IsRefusedFor, IsNumberOf
 ghost use Rattle.request_props.specs.Numbered.{lists_of, orders_of, order_among};
 ghost use Rattle.request_props.specs.Numbered.{root_dist as dist_of_root};
 
+mod fitting;
+mod lookups;
+
 use crate::fault::PropsFault;
 use crate::found::{found_lists, found_orders, wanted_order};
+use crate::given::GivenDist;
+use crate::groups::{group_rows, query_keys};
+use crate::lying::{items_of_orders, tables_of_lists};
 use crate::numbering::numbered;
+use crate::numbers::{equalities, group_order, grouped, placings};
 use crate::request::{Dist, Request};
+use crate::sides::Equality;
 use orca_base::List;
 use query_core::{OrderKey, Query, RootDist};
 use std::alloc::{AllocError, Global};
@@ -28,6 +36,22 @@ pub struct Props {
     /// The orders that aren't empty. An order's number is its place and one more.
     pub orders: List<List<OrderKey>>,
     pub root: Request,
+    /// Whether each number below `KEYS` is that of a key of the query.
+    keys: List<bool>,
+    /// The estimated rows of each group, by the number of its key.
+    rows: List<u64>,
+    /// For each predicate both its sides, where it is an equality of two items.
+    equalities: List<Option<Equality>>,
+    /// Where the rows of each table lie.
+    placings: List<GivenDist>,
+    /// Of each hashed list whether all of it is in GROUP BY.
+    grouped: List<bool>,
+    /// Of each hashed list the tables of its columns; none where an item is no column.
+    list_tables: List<Option<u32>>,
+    /// The same of each order.
+    order_tables: List<Option<u32>>,
+    /// The number of the order of the GROUP BY columns, each ascending.
+    by_groups: u32,
 }
 
 impl Props {
@@ -39,10 +63,27 @@ impl Props {
         let hashed = hashed_lists(alloc, query)?;
         let orders = order_lists(alloc, query)?;
         let root = root_request(alloc, query, orders.as_slice())?;
+        let keys = query_keys(alloc, query)?;
+        let rows = group_rows(alloc, query, keys.as_slice())?;
+        let equalities = equalities(alloc, query, hashed.as_slice(), orders.as_slice())?;
+        let placings = placings(alloc, query, hashed.as_slice())?;
+        let grouped = grouped(alloc, query, hashed.as_slice())?;
+        let by_groups = group_order(alloc, query, orders.as_slice())?;
+        let list_tables = tables_of_lists(alloc, query, hashed.as_slice())?;
+        let items = items_of_orders(alloc, orders.as_slice())?;
+        let order_tables = tables_of_lists(alloc, query, items.as_slice())?;
         Ok(Props {
             hashed: List::of(hashed),
             orders: List::of(orders_as_keys(alloc, orders.as_slice())?),
             root,
+            keys: List::of(keys),
+            rows: List::of(rows),
+            equalities: List::of(equalities),
+            placings: List::of(placings),
+            grouped: List::of(grouped),
+            list_tables: List::of(list_tables),
+            order_tables: List::of(order_tables),
+            by_groups,
         })
     }
 

@@ -1,4 +1,4 @@
-ghost use Rattle.std.specs.Prelude.{◌≡◌, ◌↔◌, ◌≤◌, ◌<◌, Some};
+ghost use Rattle.std.specs.Prelude.{◌≡◌, ◌↔◌, ◌<◌, Some};
 ghost use Rattle.request_props.specs.declared.request.Request.{Request};
 ghost use Rattle.request_props.specs.declared.request.Dist.{Dist};
 ghost use Rattle.request_props.specs.Requests.{IsInRange, IsDistInRange, dist_code as dist_number};

@@ -1,7 +1,7 @@
 //! When what a plan gives is what is asked for. No call here takes memory.
 #![tactic(auto)]
 
-ghost use Rattle.std.specs.Prelude.{◌≡◌, ◌≤◌, ◌<◌, ◌↔◌, IsTrue, length};
+ghost use Rattle.std.specs.Prelude.{◌≡◌, ◌↔◌, IsTrue};
 ghost use Rattle.request_props.specs.Found.{ascending, elements_of};
 ghost use Rattle.request_props.specs.Numbered.{IsProps, IsNumbered, order_of};
 ghost use Rattle.request_props.specs.Satisfied.{Meets, BeginsWith, Satisfies, IsOrderKnown};

@@ -142,6 +142,55 @@ fn orders_are_numbered_by_their_elements(rt: HostRuntime) -> Result<(), Fail> {
     Ok(())
 }
 
+fn lent<T: Send + Sync>(value: &T) -> &T {
+    value
+}
+
+#[test]
+fn what_is_collected_can_be_shared(rt: HostRuntime) -> Result<(), Fail> {
+    let query = two_tables(rt.alloc())?;
+    let props = Props::collect(rt.alloc(), &query)?;
+    assert_eq!(rt; lent(&props).orders.len(), 3);
+    Ok(())
+}
+
+#[test]
+fn what_a_query_implies_is_looked_up(rt: HostRuntime) -> Result<(), Fail> {
+    let query = two_tables(rt.alloc())?;
+    let props = Props::collect(rt.alloc(), &query)?;
+    assert!(rt; props.is_key(&query, Key(1027)));
+    assert!(rt; !props.is_key(&query, Key(17)));
+    // All pairs of 10 and 100 rows, of which a tenth and then a third is left.
+    assert_eq!(rt; props.rows(&query, query.root()), 34);
+    let sides = props.crossing(&query, KeyParts::Get(1), KeyParts::Filter(0), 0);
+    assert_eq!(rt; sides, Some((side(2, 1, 3), side(0, 0, 1))));
+    assert_eq!(rt;
+        props.crossing(&query, KeyParts::Get(1), KeyParts::Filter(0), 1),
+        None
+    );
+    assert_eq!(rt; props.table_dist(&query, 0), GivenDist::Hashed(2));
+    assert_eq!(rt; props.table_dist(&query, 1), GivenDist::Random);
+    assert!(rt; !props.is_grouped_list(&query, 0));
+    let wanted = Request {
+        dist: Dist::Hashed(1),
+        order: 3,
+    };
+    assert!(rt; props.fits(&query, KeyParts::Join(3), wanted));
+    assert!(rt; !props.fits(&query, KeyParts::Get(0), wanted));
+    assert!(rt; props.hash_fits(&query, KeyParts::Filter(0), 2));
+    assert!(rt; !props.order_fits(&query, KeyParts::Agg, 3));
+    assert_eq!(rt; props.group_order(&query), 0);
+    Ok(())
+}
+
+fn side(column: u32, list: u32, order: u32) -> Side {
+    Side {
+        column,
+        list,
+        order,
+    }
+}
+
 fn is_known(query: &Query, props: &Props, order: GivenOrder) -> bool
     requires { IsProps query.now props.now }
     ensures { IsTrue result → IsOrderKnown query.now order }

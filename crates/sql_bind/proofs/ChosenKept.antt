@@ -1,6 +1,6 @@
 -- What the elements of the select list keep.
-use Rattle.std.proofs.Common.{◌≡◌, ◌∙◌, ℕ, ◌+◌, ◌&&◌, ◌==◌, Bool, true, false, cond, List, [], ◌∷◌, ◌++◌, filter_map, bytes_eq, is_some, is_none, option_to_list, Option, Some, None, Ok, refl, sym, ap, subst, arith}
-use Rattle.std.specs.List.{list_all, list_any}
+use Rattle.std.proofs.Common.{◌≡◌, ◌∙◌, ℕ, ◌+◌, ◌&&◌, ◌==◌, Bool, true, false, cond, List, [], ◌∷◌, ◌++◌, bytes_eq, is_some, is_none, option_to_list, Option, Some, None, Ok, refl, sym, ap, subst, arith}
+use Rattle.std.specs.List.{list_all}
 use Rattle.std.specs.Cmp.Lexicographic.{nat_list_eq_equiv}
 use Rattle.std.proofs.Math.Nat.{zero-add}
 use Rattle.std.proofs.lemmas.List.Sums.{sum_by-cons}
@@ -9,6 +9,7 @@ use Rattle.std.proofs.lemmas.List.Elements.{filter_map-append}
 use Rattle.std.proofs.lemmas.Grind.{flat_map-append}
 use Rattle.std.proofs.lemmas.Bool.{eq-eqb}
 use Rattle.query_core.specs.Differ.{texts_differ}
+use Rattle.query_core.proofs.Apart.{differ_push}
 use Rattle.query_core.specs.Grouping.{takes_column}
 use Rattle.sql_reader.specs.declared.syntax.ColRef.{ColRef}
 use Rattle.sql_reader.specs.declared.syntax.SelFunc.{SelFunc}
@@ -16,22 +17,19 @@ use Rattle.sql_reader.specs.declared.syntax.SelFunc.TheVariants as written
 use Rattle.sql_reader.specs.declared.syntax.SelExpr.{SelExpr}
 use Rattle.sql_reader.specs.declared.syntax.SelExpr.TheVariants as exprs
 use Rattle.sql_reader.specs.declared.syntax.SelItem.{SelItem}
+use Rattle.sql_bind.specs.declared.fault.BindFault.{BindFault}
 use Rattle.sql_bind.specs.declared.fault.BindFault.TheVariants.{TwiceAlias}
 use Rattle.sql_bind.specs.declared.select_list.What.{What}
 use Rattle.sql_bind.specs.declared.select_list.What.TheVariants as whats
 use Rattle.sql_bind.specs.declared.select_list.Chosen.{Chosen}
 use Rattle.sql_bind.specs.Scope.{FromTable}
 use Rattle.sql_bind.specs.Columns.{column_of}
-use Rattle.sql_bind.specs.SelectList.{aggregates, any_called, call, call_in, chosen_in, chosen_of, function_of, has_name, is_aggregate, is_called, named_as, what_in}
+use Rattle.sql_bind.specs.SelectList.{aggregates, any_called, call, call_in, chosen_in, chosen_of, function_of, is_aggregate, named_as, output_names, what_in}
 use Rattle.sql_bind.specs.Used.{in_what, named_by_chosen}
 use Rattle.sql_reader.specs.Readable.{has_its_argument, is_expr, is_item, is_named}
-use Rattle.sql_bind.proofs.Truths.{all_both, all_push, both, both_true, neither}
-use Rattle.sql_bind.proofs.Bound.{bind_ok, done, each_keeps, not_met, ok_is, seen_ok}
+use Rattle.sql_bind.proofs.Truths.{all_both, all_push, both, both_true}
+use Rattle.orca_base.proofs.Checked.{bind_ok, done, each_keeps, not_met, ok_is, seen_ok}
 use Rattle.sql_bind.proofs.Resolving.{column_there, has_column}
-use Rattle.sql_bind.proofs.ScopeKept.{differ_push}
-
-abbrev pub output_names : List Chosen → List (List ℕ)
-output_names chosen = filter_map (λ c. c.name) chosen
 
 -- an aggregate has this number
 abbrev pub number_is : ℕ → What → Bool
@@ -81,7 +79,7 @@ some_taken written.Sum reference e = refl
 some_taken written.Min reference e = refl
 some_taken written.Max reference e = refl
 
-what_is : (what other : What) → done what ≡ done other → what ≡ other
+what_is : (what other : What) → done {E = BindFault} what ≡ done other → what ≡ other
 what_is what other e = ok_is what other e
 
 module _ (scope : List FromTable) (n : ℕ) where
@@ -100,20 +98,13 @@ module _ (scope : List FromTable) (n : ℕ) where
 
 -- ---- one element more
 
-one_called : (name : List ℕ) (c : Chosen) (found : Option (List ℕ)) (names : List (List ℕ)) → has_name name found ≡ false → list_any (bytes_eq name) names ≡ false
-    → list_any (bytes_eq name) (option_to_list found ++ names) ≡ false
-one_called name c None names fresh rest = rest
-one_called name c (Some other) names fresh rest = rw (nat_list_eq_equiv.symm name other, fresh) rest
+name_of_one : (c : Chosen) (name : Option (List ℕ)) → c.name ≡ name → output_names (c ∷ []) ≡ option_to_list name
+name_of_one c None is = rw is refl
+name_of_one c (Some name) is = rw is refl
 
-names_cons : (c : Chosen) (cs : List Chosen) (found : Option (List ℕ)) → c.name ≡ found → output_names (c ∷ cs) ≡ option_to_list found ++ output_names cs
-names_cons c cs None is = rw is refl
-names_cons c cs (Some name) is = rw is refl
-
-none_called : (name : List ℕ) (chosen : List Chosen) → list_any (is_called name) chosen ≡ false → list_any (bytes_eq name) (output_names chosen) ≡ false
-none_called name [] fresh = refl
-none_called name (c ∷ cs) fresh =
-    let parts = neither (has_name name c.name) (list_any (is_called name) cs) fresh in
-    rw (names_cons c cs c.name refl) (one_called name c c.name (output_names cs) parts.0 (none_called name cs parts.1))
+-- the name of one element more, where it has one, goes last
+pub names_push : (chosen : List Chosen) (c : Chosen) → output_names (chosen ++ c ∷ []) ≡ output_names chosen ++ option_to_list c.name
+names_push chosen c = filter_map-append (λ (x : Chosen). x.name) chosen (c ∷ []) ∙ ap (λ (names : List (List ℕ)). output_names chosen ++ names) (name_of_one c c.name refl)
 
 and_assoc : (a b c : Bool) → (a && (b && c)) ≡ ((a && b) && c)
 and_assoc true b c = refl
@@ -159,7 +150,7 @@ module _ (scope : List FromTable) (before : List Chosen) (so_far : AreChosen sco
 
   with_name : (what : What) (name : List ℕ) → any_called name before ≡ false → texts_differ (output_names (before ++ record { what = what; name = Some name } ∷ [])) ≡ true
   unfolding any_called
-  with_name what name fresh = rw (filter_map-append (λ (x : Chosen). x.name) before (record { what = what; name = Some name } ∷ [])) (differ_push bytes_eq nat_list_eq_equiv.symm (output_names before) name so_far.differ (none_called name before fresh))
+  with_name what name fresh = rw (filter_map-append (λ (x : Chosen). x.name) before (record { what = what; name = Some name } ∷ [])) (differ_push bytes_eq nat_list_eq_equiv.symm (output_names before) name so_far.differ fresh)
 
   named_kept : (at : ℕ) (name : Option (List ℕ)) (what : What) (c : Chosen) → is_named name ≡ true → IsWhat scope (aggregates before) what → named_as before at name what ≡ Ok c → AreChosen scope (before ++ c ∷ [])
   named_kept at None what c named is e =

@@ -14,7 +14,7 @@ use Rattle.sql_bind.specs.Columns.{column, is_among, is_same}
 use Rattle.sql_bind.specs.Used.{UsedColumn, used_from, used_in}
 use Rattle.sql_bind.specs.Numbers.{number_of}
 use Rattle.sql_bind.specs.Query.{item_of, items_of}
-use Rattle.sql_bind.proofs.Truths.{both, both_true, was_false}
+use Rattle.sql_bind.proofs.Truths.{both, both_true, either, was_false}
 use Rattle.sql_bind.proofs.Resolving.{has_column}
 
 abbrev pub column_at : List UsedColumn → ℕ → Option Column
@@ -57,6 +57,16 @@ same_is c d e =
 
 pub is_itself : (c : Column) → is_same c c ≡ true
 is_itself c = both (c.table == c.table) (c.place == c.place) (eq-eqb c.table c.table refl) (eq-eqb c.place c.place refl)
+
+-- what all pass, one of them passes
+pub there_is : (test : Column → Bool) (cs : List Column) (c : Column) → list_all test cs ≡ true → is_among cs c ≡ true → test c ≡ true
+there_is test [] c all among = absurd cc
+there_is test (d ∷ ds) c all among =
+    let parts = both_true (test d) (list_all test ds) all in
+    elim (either (is_same c d) (is_among ds c) among) [
+      | inl same ↦ rw (same_is c d same) parts.0
+      | inr later ↦ there_is test ds c parts.1 later
+    ]
 
 module _ (wanted : List Column) (table : ℕ) where
   skip_case : (info : ColumnInfo) (place : ℕ) (rest : List UsedColumn) (c : Column) (b : Bool) → is_same (column table place) c ≡ false → IsAt rest c

@@ -1,15 +1,17 @@
 -- The used columns are items of a query, and the lists of its tables are lists of them.
 use Rattle.std.proofs.Common.{◌≡◌, ◌∙◌, ℕ, ◌≤◌, ◌<◌, ◌+◌, ◌||◌, ◌&&◌, ◌==◌, Bool, true, false, not, cond, List, [], ◌∷◌, ◌++◌, length, map, nat_le, nat_lt, bytes_eq, refl, arith}
+use Rattle.std.specs.Prelude.{⊤}
 use Rattle.std.specs.List.{list_all, list_any, AllByRecursion}
 use Rattle.std.proofs.lemmas.List.{map-append}
 use Rattle.std.proofs.lemmas.List.Folds.{list_any-append}
 use Rattle.std.proofs.lemmas.Bool.Decides.{nat_tests}
 use Rattle.orca_base.specs.Name.{has_name_form}
+use Rattle.std.proofs.lemmas.List.Elements.{recursion_from_All}
 use Rattle.query_core.specs.Differ.{all_differ}
 use Rattle.query_core.specs.Items.{same_column}
 use Rattle.query_core.specs.declared.catalog.ColumnInfo.{ColumnInfo}
 use Rattle.query_core.specs.declared.table.Item.{Item}
-use Rattle.catalog_json.specs.Catalog.{IsColumn, IsTable}
+use Rattle.query_core.specs.Catalog.{IsColumn, IsTable}
 use Rattle.sql_bind.specs.declared.columns.Column.{Column}
 use Rattle.sql_bind.specs.Scope.{FromTable}
 use Rattle.sql_bind.specs.Columns.{column, is_among}
@@ -29,7 +31,7 @@ module _ (wanted : List Column) (test : UsedColumn → Bool) where
   in_case u rest true one all = both (test u) (list_all test rest) one all
   in_case u rest false one all = all
 
-  each_in : (table place : ℕ) (infos : List ColumnInfo) → ((p : ℕ) → list_all (λ info. test (record { which = column table p; info = info })) infos ≡ true) → list_all test (used_in wanted table place infos) ≡ true
+  pub each_in : (table place : ℕ) (infos : List ColumnInfo) → ((p : ℕ) → list_all (λ info. test (record { which = column table p; info = info })) infos ≡ true) → list_all test (used_in wanted table place infos) ≡ true
   each_in table place [] all = refl
   each_in table place (info ∷ infos) all =
       in_case (record { which = column table place; info = info }) (used_in wanted table (place + 1) infos) (is_among wanted (column table place))
@@ -57,7 +59,7 @@ values_of_columns [] all = refl
 values_of_columns (info ∷ infos) all = both (nat_le info.ndv 1000000000000) (list_all (λ i. nat_le i.ndv 1000000000000) infos) (at_most info.ndv 1000000000000 all.0.values) (values_of_columns infos all.1)
 
 -- a test that doesn't look at the column
-constantly : (b : Bool) (infos : List ColumnInfo) → b ≡ true → list_all (λ info. b) infos ≡ true
+pub constantly : (b : Bool) (infos : List ColumnInfo) → b ≡ true → list_all (λ info. b) infos ≡ true
 constantly b [] e = refl
 constantly b (info ∷ infos) e = both b (list_all (λ i. b) infos) e (constantly b infos e)
 
@@ -66,10 +68,10 @@ under a b lt = grind (arith, nat_tests)
 
 module _ (wanted : List Column) (scope : List FromTable) (from : AllByRecursion IsFromCatalogue scope) where
   pub all_named : list_all (λ u. has_name_form u.info.name) (used_from wanted 0 scope) ≡ true
-  all_named = each_used wanted (λ u. has_name_form u.info.name) 0 scope IsFromCatalogue (λ table p t low high is. names_of_columns t.info.columns is.each_column) from
+  all_named = each_used wanted (λ u. has_name_form u.info.name) 0 scope IsFromCatalogue (λ table p t low high is. names_of_columns t.info.columns (recursion_from_All IsColumn t.info.columns is.each_column)) from
 
   pub all_fit : list_all (λ u. nat_le u.info.ndv 1000000000000) (used_from wanted 0 scope) ≡ true
-  all_fit = each_used wanted (λ u. nat_le u.info.ndv 1000000000000) 0 scope IsFromCatalogue (λ table p t low high is. values_of_columns t.info.columns is.each_column) from
+  all_fit = each_used wanted (λ u. nat_le u.info.ndv 1000000000000) 0 scope IsFromCatalogue (λ table p t low high is. values_of_columns t.info.columns (recursion_from_All IsColumn t.info.columns is.each_column)) from
 
   pub all_placed : list_all (λ u. nat_lt u.which.table (length scope)) (used_from wanted 0 scope) ≡ true
   all_placed = each_used wanted (λ u. nat_lt u.which.table (length scope)) 0 scope IsFromCatalogue (λ table p t low high is. constantly (nat_lt table (length scope)) t.info.columns (under table (length scope) (omega arith))) from
@@ -77,8 +79,13 @@ module _ (wanted : List Column) (scope : List FromTable) (from : AllByRecursion 
   pub all_low : length scope ≤ 10 → list_all (λ u. nat_le u.which.table 10) (used_from wanted 0 scope) ≡ true
   all_low few = each_used wanted (λ u. nat_le u.which.table 10) 0 scope IsFromCatalogue (λ table p t low high is. constantly (nat_le table 10) t.info.columns (at_most table 10 (omega arith))) from
 
-all_above : (wanted : List Column) (base : ℕ) (scope : List FromTable) → AllByRecursion IsFromCatalogue scope → list_all (λ u. nat_le base u.which.table) (used_from wanted base scope) ≡ true
-all_above wanted base scope from = each_used wanted (λ u. nat_le base u.which.table) base scope IsFromCatalogue (λ table p t low high is. constantly (nat_le base table) t.info.columns (at_most base table low)) from
+-- what says nothing of a table holds of all
+any_table : (scope : List FromTable) → AllByRecursion (λ t. ⊤) scope
+any_table [] = tt
+any_table (t ∷ ts) = (tt, any_table ts)
+
+pub all_above : (wanted : List Column) (base : ℕ) (scope : List FromTable) → list_all (λ u. nat_le base u.which.table) (used_from wanted base scope) ≡ true
+all_above wanted base scope = each_used wanted (λ u. nat_le base u.which.table) base scope (λ t. ⊤) (λ table p t low high is. constantly (nat_le base table) t.info.columns (at_most base table low)) (any_table scope)
 
 -- ---- no column comes twice
 
@@ -143,4 +150,4 @@ all_apart wanted base (t ∷ ts) from =
     let us = used_in wanted base 0 t.info.columns in
     let vs = used_from wanted (base + 1) ts in
     rw (map-append item_of us vs) (differ_both same_column (items_of us) (items_of vs) (apart_in wanted base 0 t.info.columns from.0.differ) (all_apart wanted (base + 1) ts from.1)
-    (cross_tables (base + 1) us vs (each_in wanted (λ u. nat_lt u.which.table (base + 1)) base 0 t.info.columns (λ p. constantly (nat_lt base (base + 1)) t.info.columns (next base))) (all_above wanted (base + 1) ts from.1)))
+    (cross_tables (base + 1) us vs (each_in wanted (λ u. nat_lt u.which.table (base + 1)) base 0 t.info.columns (λ p. constantly (nat_lt base (base + 1)) t.info.columns (next base))) (all_above wanted (base + 1) ts)))

@@ -21,7 +21,7 @@ use Rattle.sql_bind.specs.Used.{UsedColumn, in_what, named_by_chosen}
 use Rattle.sql_bind.specs.Numbers.{number_of}
 use Rattle.sql_bind.specs.Query.{agg_as, aggs_of}
 use Rattle.sql_bind.proofs.Truths.{all_pass, all_push, both, both_true, either, left, right}
-use Rattle.sql_bind.proofs.Bound.{each_keeps, ok_is, seen_ok}
+use Rattle.orca_base.proofs.Checked.{each_keeps, ok_is, seen_ok}
 use Rattle.sql_bind.proofs.Resolving.{column_there, has_column}
 use Rattle.sql_bind.proofs.ChosenKept.{next_number, number_is, numbered_from}
 use Rattle.sql_bind.proofs.PredsKept.{aggs_cons}

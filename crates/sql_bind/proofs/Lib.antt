@@ -1,12 +1,15 @@
 pub mod Each
+pub mod NameLemmas
 pub mod Distinct
 pub mod Truths
-pub mod Bound
 pub mod Resolving
 pub mod Found
+pub mod Numbering
 pub mod ScopeKept
 pub mod ItemsKept
+pub mod Ascending
 pub mod ListsKept
+pub mod Wanted
 pub mod ChosenKept
 pub mod PredsKept
 pub mod DistinctKept

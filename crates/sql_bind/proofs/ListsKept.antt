@@ -1,23 +1,24 @@
 -- The distribution and the indexes of a query's tables are lists of used columns.
-use Rattle.std.proofs.Common.{◌≡◌, ◌∙◌, ℕ, ◌+◌, ◌&&◌, ◌==◌, ◌⊎◌, inl, inr, Bool, true, false, not, List, [], ◌∷◌, ◌++◌, length, nat_eq, nat_le, nat_lt, option_to_list, refl, sym, ap}
+use Rattle.std.proofs.Common.{◌≡◌, ◌∙◌, ℕ, ◌+◌, ◌&&◌, ◌==◌, ◌⊎◌, inl, inr, Bool, true, false, not, List, [], ◌∷◌, ◌++◌, length, nat_eq, nat_le, nat_lt, option_to_list, refl, sym, ap, subst}
 use Rattle.std.specs.List.{list_all, list_any, enumerate_from, AllByRecursion}
 use Rattle.std.proofs.lemmas.List.{length-map}
 use Rattle.std.proofs.lemmas.List.Folds.{list_any-append}
 use Rattle.std.proofs.lemmas.Bool.{eqb-true, eq-eqb}
+use Rattle.std.proofs.lemmas.List.Elements.{recursion_from_All}
 use Rattle.query_core.specs.Differ.{all_differ, numbers_differ}
 use Rattle.query_core.specs.Items.{AreItems, has_own_lists, is_column_list, is_column_of}
 use Rattle.query_core.specs.declared.catalog.Placing.{Placing}
 use Rattle.query_core.specs.declared.catalog.Placing.TheVariants.{Hashed, Random}
-use Rattle.catalog_json.specs.Catalog.{IsColumnList, IsPlacing, IsTable}
+use Rattle.query_core.specs.Catalog.{IsColumnList, IsPlacing, IsTable}
 use Rattle.sql_bind.specs.declared.columns.Column.{Column}
 use Rattle.sql_bind.specs.Scope.{FromTable}
 use Rattle.sql_bind.specs.Columns.{column, is_among, is_same}
 use Rattle.sql_bind.specs.Used.{UsedColumn, indexed_by, listed_from, placed_by, places_of, used_from}
 use Rattle.sql_bind.specs.Numbers.{number_of, numbers_of}
 use Rattle.sql_bind.specs.Query.{hashed_of, indexes_of, item_of, items_of, table_of, tables_from}
-use Rattle.sql_bind.proofs.Truths.{both, both_true, either, left, right, neither, was_false}
+use Rattle.sql_bind.proofs.Truths.{all_both, both, both_true, either, left, right, neither, was_false}
 use Rattle.sql_bind.proofs.Resolving.{has_column, here, later}
-use Rattle.sql_bind.proofs.Found.{IsAt, found_from, is_itself, of_table, one_number}
+use Rattle.sql_bind.proofs.Found.{IsAt, there_is, found_from, is_itself, of_table, one_number}
 use Rattle.orca_base.specs.Name.{has_name_form}
 use Rattle.sql_bind.proofs.ScopeKept.{as_many, at_most}
 use Rattle.sql_bind.proofs.ItemsKept.{IsFromCatalogue, all_apart, all_fit, all_map, all_named, all_placed}
@@ -107,7 +108,7 @@ module _ (used : List UsedColumn) (table : ℕ) where
       both (nat_le (length indexes) 16 && list_all (is_column_list (items_of used) table) (option_to_list hashed)) (list_all (is_column_list (items_of used) table) indexes)
       (both (nat_le (length indexes) 16) (list_all (is_column_list (items_of used) table) (option_to_list hashed)) few
       (placing_kept columns t.info.placing kept.placed (λ p among. at p (among_left (placed_by table t.info.placing) (indexed_by table t.info.indexes) (column table p) among))))
-      (indexes_kept columns t.info.indexes kept.each_index (λ p among. at p (among_right (placed_by table t.info.placing) (indexed_by table t.info.indexes) (column table p) among)))
+      (indexes_kept columns t.info.indexes (recursion_from_All (IsColumnList columns) t.info.indexes kept.each_index) (λ p among. at p (among_right (placed_by table t.info.placing) (indexed_by table t.info.indexes) (column table p) among)))
 
 -- ---- a listed column is a column of its table
 
@@ -127,7 +128,7 @@ known_placed : (table n p : ℕ) (placing : Placing) → is_among (placed_by tab
 known_placed table n p (Hashed places) among kept = known_place table n p places among kept.known
 known_placed table n p Random among kept = absurd cc
 
-either_list : (cs ds : List Column) (c : Column) → is_among (cs ++ ds) c ≡ true → (is_among cs c ≡ true) ⊎ (is_among ds c ≡ true)
+pub either_list : (cs ds : List Column) (c : Column) → is_among (cs ++ ds) c ≡ true → (is_among cs c ≡ true) ⊎ (is_among ds c ≡ true)
 either_list cs ds c among = either (is_among cs c) (is_among ds c) (sym (list_any-append (is_same c) cs ds) ∙ among)
 
 known_indexed : (table n p : ℕ) (indexes : List (List ℕ)) → is_among (indexed_by table indexes) (column table p) ≡ true → AllByRecursion (IsColumnList n) indexes → nat_lt p n ≡ true
@@ -142,7 +143,33 @@ known_own : (t : FromTable) (table p : ℕ) → IsTable t.info → is_among (pla
 known_own t table p kept among =
     elim (either_list (placed_by table t.info.placing) (indexed_by table t.info.indexes) (column table p) among) [
       | inl first ↦ known_placed table (length t.info.columns) p t.info.placing first kept.placed
-      | inr rest ↦ known_indexed table (length t.info.columns) p t.info.indexes rest kept.each_index
+      | inr rest ↦ known_indexed table (length t.info.columns) p t.info.indexes rest (recursion_from_All (IsColumnList (length t.info.columns)) t.info.indexes kept.each_index)
+    ]
+
+own_place : (table : ℕ) (places : List ℕ) → list_all (λ c. c.table == table) (places_of table places) ≡ true
+own_place table [] = refl
+own_place table (p ∷ ps) = both (table == table) (list_all (λ c. c.table == table) (places_of table ps)) (itself_same table) (own_place table ps)
+
+own_placed : (table : ℕ) (placing : Placing) → list_all (λ c. c.table == table) (placed_by table placing) ≡ true
+own_placed table (Hashed places) = own_place table places
+own_placed table Random = refl
+
+own_indexed : (table : ℕ) (indexes : List (List ℕ)) → list_all (λ c. c.table == table) (indexed_by table indexes) ≡ true
+own_indexed table [] = refl
+own_indexed table (index ∷ indexes) = all_both (λ c. c.table == table) (places_of table index) (indexed_by table indexes) (own_place table index) (own_indexed table indexes)
+
+-- a listed column is there
+pub listed_there : (base : ℕ) (scope : List FromTable) (c : Column) → AllByRecursion IsFromCatalogue scope → is_among (listed_from base scope) c ≡ true → has_column base scope c ≡ true
+listed_there base [] c from among = absurd cc
+listed_there base (t ∷ ts) c from among =
+    let own = placed_by base t.info.placing ++ indexed_by base t.info.indexes in
+    elim (either_list own (listed_from (base + 1) ts) c among) [
+      | inl first ↦
+          let all_own = all_both (λ d. d.table == base) (placed_by base t.info.placing) (indexed_by base t.info.indexes) (own_placed base t.info.placing) (own_indexed base t.info.indexes) in
+          let same : c.table ≡ base = eqb-true c.table base (there_is (λ d. d.table == base) own c all_own first) in
+          let whole : c ≡ column base c.place = ap (λ table. column table c.place) same in
+          subst (λ (d : Column). has_column base (t ∷ ts) d ≡ true) (sym whole) (here base t ts c.place (known_own t base c.place from.0 (subst (λ (d : Column). is_among own d ≡ true) whole first)))
+      | inr rest ↦ later base t ts c (listed_there (base + 1) ts c from.1 rest)
     ]
 
 -- the lists of the tables

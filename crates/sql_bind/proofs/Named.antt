@@ -1,5 +1,5 @@
 -- What the parts were bound from, what they were judged by, and that the columns they name are there.
-use Rattle.std.proofs.Common.{◌≡◌, ◌∙◌, ℕ, ◌≤◌, inl, inr, Bool, true, false, cond, List, [], ◌∷◌, ◌++◌, nat_lt, Ok, refl, sym, subst, arith}
+use Rattle.std.proofs.Common.{◌≡◌, ◌∙◌, ℕ, ◌≤◌, Bool, true, false, cond, List, [], ◌∷◌, ◌++◌, nat_lt, Ok, refl, sym, subst, arith}
 use Rattle.std.specs.List.{list_all}
 use Rattle.std.proofs.lemmas.Bool.Decides.{nat_tests}
 use Rattle.query_core.specs.declared.catalog.Catalog.{Catalog}
@@ -20,17 +20,16 @@ use Rattle.sql_bind.specs.declared.sort_keys.SortKey.{SortKey}
 use Rattle.sql_bind.specs.declared.parts.Parts.{Parts}
 use Rattle.sql_bind.specs.Steps.{◌>>=◌}
 use Rattle.sql_bind.specs.Scope.{FromTable, scope_of}
-use Rattle.sql_bind.specs.Columns.{column_of, columns_of, is_among, is_same}
+use Rattle.sql_bind.specs.Columns.{column_of, columns_of}
 use Rattle.sql_bind.specs.SelectList.{chosen_of}
 use Rattle.sql_bind.specs.Conditions.{compared_in, compared_of, op_of, side_in}
 use Rattle.sql_bind.specs.SortKeys.{keys_of}
 use Rattle.sql_bind.specs.Parts.{parts_of}
 use Rattle.sql_bind.specs.Used.{in_compared, in_side, in_target, named_by_compared, named_by_keys}
 use Rattle.sql_bind.specs.Grouping.{first_of, is_grouped, item_count, judged, loose_places, none_loose, sized}
-use Rattle.sql_bind.proofs.Truths.{all_both, all_push, both, both_true, either}
-use Rattle.sql_bind.proofs.Bound.{bind_ok, done, not_met, ok_is, seen_ok}
+use Rattle.sql_bind.proofs.Truths.{all_both, all_push, both, both_true}
+use Rattle.orca_base.proofs.Checked.{bind_ok, done, not_met, ok_is, seen_ok}
 use Rattle.sql_bind.proofs.Resolving.{has_column, column_there}
-use Rattle.sql_bind.proofs.Found.{same_is}
 use Rattle.sql_bind.proofs.KeysKept.{is_target}
 
 -- what the parts were bound from
@@ -87,15 +86,6 @@ unfolding judged
 judged_ok p q e = judged_case p q (is_grouped p) refl e
 
 -- ---- all columns that the query names are there
-
-pub there_is : (test : Column → Bool) (cs : List Column) (c : Column) → list_all test cs ≡ true → is_among cs c ≡ true → test c ≡ true
-there_is test [] c all among = absurd cc
-there_is test (d ∷ ds) c all among =
-    let parts = both_true (test d) (list_all test ds) all in
-    elim (either (is_same c d) (is_among ds c) among) [
-      | inl same ↦ rw (same_is c d same) parts.0
-      | inr later ↦ there_is test ds c parts.1 later
-    ]
 
 pub compared_there : (scope : List FromTable) (compared : List Compared) → list_all (λ c. list_all (has_column 0 scope) (in_compared c)) compared ≡ true → list_all (has_column 0 scope) (named_by_compared compared) ≡ true
 compared_there scope [] all = refl

@@ -3,7 +3,7 @@ use Rattle.std.proofs.Common.{◌≡◌, ◌≢◌, ℕ, suc, ◌≤◌, ◌+◌
 use Rattle.std.specs.List.{AllByRecursion}
 use Rattle.std.proofs.lemmas.Bool.Decides.{nat_tests}
 use Rattle.query_core.specs.declared.catalog.Catalog.{Catalog}
-use Rattle.catalog_json.specs.Catalog.{IsCatalog}
+use Rattle.query_core.specs.Catalog.{IsCatalog}
 use Rattle.sql_reader.specs.declared.syntax.Select.{Select}
 use Rattle.sql_bind.specs.declared.fault.BindFault.{BindFault}
 use Rattle.sql_bind.specs.declared.fault.BindFault.TheVariants.{Memory}
@@ -18,7 +18,7 @@ use Rattle.sql_bind.specs.Grouping.{judged}
 use Rattle.sql_reader.specs.Readable.{IsReadable}
 use Rattle.sql_bind.specs.Binding.{binding}
 use Rattle.sql_bind.proofs.Truths.{both_true}
-use Rattle.sql_bind.proofs.Bound.{each_counts}
+use Rattle.orca_base.proofs.Checked.{each_counts}
 use Rattle.sql_bind.proofs.ScopeKept.{scope_counts, scope_kept}
 use Rattle.query_core.specs.declared.catalog.ColumnInfo.{ColumnInfo}
 use Rattle.sql_bind.specs.Used.{used_in}

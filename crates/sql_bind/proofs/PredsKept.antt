@@ -17,7 +17,7 @@ use Rattle.sql_bind.specs.declared.select_list.What.{What}
 use Rattle.sql_bind.specs.declared.select_list.What.TheVariants as whats
 use Rattle.sql_bind.specs.declared.select_list.Chosen.{Chosen}
 use Rattle.sql_bind.specs.Columns.{is_among}
-use Rattle.sql_bind.specs.SelectList.{aggregates, is_aggregate}
+use Rattle.sql_bind.specs.SelectList.{aggregates, is_aggregate, output_names}
 use Rattle.sql_bind.specs.Used.{UsedColumn, in_compared, in_side, in_what, named_by_chosen, named_by_compared}
 use Rattle.sql_bind.specs.Numbers.{number_of}
 use Rattle.sql_bind.specs.Query.{agg_as, aggs_of, items_of, operand_of, preds_of}
@@ -25,7 +25,7 @@ use Rattle.sql_reader.specs.Readable.{is_named}
 use Rattle.sql_bind.proofs.Truths.{all_both, both, both_true, neither, was_false}
 use Rattle.sql_bind.proofs.Found.{IsAt, within}
 use Rattle.sql_bind.proofs.ListsKept.{among_first, among_later, among_left, among_right}
-use Rattle.sql_bind.proofs.ChosenKept.{next_number, number_is, numbered_from, output_names, takes_its, counted_on, one_counted}
+use Rattle.sql_bind.proofs.ChosenKept.{next_number, number_is, numbered_from, takes_its, counted_on, one_counted}
 
 module _ (used : List UsedColumn) where
   -- all these columns are used

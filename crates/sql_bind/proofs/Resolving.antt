@@ -1,10 +1,10 @@
 -- A column that a reference means is there.
-use Rattle.std.proofs.Common.{◌≡◌, ℕ, ◌+◌, ◌≤◌, ◌==◌, Bool, true, false, cond, List, [], ◌∷◌, length, position, nat_lt, Option, Some, None, option_map, option_to_list, Ok, refl, arith}
+use Rattle.std.proofs.Common.{◌≡◌, ℕ, ◌+◌, ◌≤◌, ◌==◌, Bool, true, false, cond, List, [], ◌∷◌, length, map, position, nat_lt, Option, Some, None, option_map, option_to_list, Ok, refl, arith}
 use Rattle.std.specs.List.{list_all, position_or_len}
+use Rattle.std.proofs.lemmas.List.{length-map}
 use Rattle.std.proofs.lemmas.Bool.{eqb-true, eq-eqb}
 use Rattle.std.proofs.lemmas.Bool.Decides.{nat_tests}
 use Rattle.std.specs.Str.{bytes_eq}
-use Rattle.query_core.specs.declared.catalog.ColumnInfo.{ColumnInfo}
 use Rattle.sql_reader.specs.declared.syntax.ColRef.{ColRef}
 use Rattle.sql_bind.specs.declared.columns.Column.{Column}
 use Rattle.sql_bind.specs.Scope.{FromTable}
@@ -42,14 +42,16 @@ some_if false found x e = absurd cc
 some_is : {A : Type 0} (x y : A) → Some x ≡ Some y → x ≡ y
 some_is x y e = cc
 
-place_known : (test : ColumnInfo → Bool) (columns : List ColumnInfo) (i : ℕ) → position test columns ≡ Some i → nat_lt i (length columns) ≡ true
-place_known test columns i e =
-    let found = some_if (nat_lt (position_or_len test columns) (length columns)) (Some (position_or_len test columns)) i e in
-    rw (← some_is (position_or_len test columns) i found.1) found.0
+place_known : (test : List ℕ → Bool) (names : List (List ℕ)) (i : ℕ) → position test names ≡ Some i → nat_lt i (length names) ≡ true
+place_known test names i e =
+    let found = some_if (nat_lt (position_or_len test names) (length names)) (Some (position_or_len test names)) i e in
+    rw (← some_is (position_or_len test names) i found.1) found.0
 
 in_known : (reference : ColRef) (t : FromTable) (place : ℕ) → place_in reference t ≡ Some place → nat_lt place (length t.info.columns) ≡ true
 in_known reference t place e =
-    place_known (λ c. bytes_eq c.name reference.name) t.info.columns place (some_if (belongs_to reference.table t.alias) (position (λ c. bytes_eq c.name reference.name) t.info.columns) place e).1
+    let names = map (λ c. c.name) t.info.columns in
+    let width : length names ≡ length t.info.columns = length-map t.info.columns (λ c. c.name) in
+    rw width at (place_known (bytes_eq reference.name) names place (some_if (belongs_to reference.table t.alias) (position (bytes_eq reference.name) names) place e).1)
 
 first_known : (reference : ColRef) (base : ℕ) (t : FromTable) (ts : List FromTable) (found : Option ℕ) → place_in reference t ≡ found
     → list_all (has_column base (t ∷ ts)) (option_to_list (option_map (column base) found)) ≡ true

@@ -1,52 +1,36 @@
 -- What the tables of FROM keep: aliases that differ, and what the catalogue says.
-use Rattle.std.proofs.Common.{◌≡◌, ◌∙◌, ℕ, suc, ◌≤◌, ◌+◌, Bool, true, false, cond, List, [], ◌∷◌, ◌++◌, length, map, find, nat_le, unwrap_or, option_to_list, Option, Some, None, Ok, refl, ap, subst, arith}
-use Rattle.std.specs.List.{list_all, list_any, AllByRecursion}
+use Rattle.std.proofs.Common.{◌≡◌, ℕ, suc, ◌≤◌, ◌+◌, Bool, true, false, cond, List, [], ◌∷◌, ◌++◌, length, map, find, nat_le, unwrap_or, option_to_list, Option, Some, None, Ok, refl, ap, subst, arith}
+use Rattle.std.specs.List.{list_all, AllByRecursion}
 use Rattle.std.specs.Str.{bytes_eq}
 use Rattle.std.specs.Cmp.Lexicographic.{nat_list_eq_equiv}
 use Rattle.std.proofs.lemmas.List.{map_push}
-use Rattle.std.proofs.lemmas.List.Folds.{list_any-append}
 use Rattle.std.proofs.lemmas.Bool.Decides.{nat_tests}
 use Rattle.orca_base.specs.Name.{has_name_form}
+use Rattle.std.proofs.lemmas.List.Elements.{recursion_from_All}
 use Rattle.query_core.specs.Differ.{all_differ}
+use Rattle.query_core.proofs.Apart.{differ_push}
 use Rattle.query_core.specs.Tables.{AreTables}
 use Rattle.query_core.specs.declared.catalog.Catalog.{Catalog}
 use Rattle.query_core.specs.declared.catalog.TableInfo.{TableInfo}
-use Rattle.catalog_json.specs.Catalog.{IsTable, IsCatalog}
+use Rattle.query_core.specs.Catalog.{IsTable, IsCatalog}
 use Rattle.sql_reader.specs.declared.syntax.FromItem.{FromItem}
 use Rattle.sql_bind.specs.declared.fault.BindFault.TheVariants.{TwiceAlias}
-use Rattle.sql_bind.specs.Scope.{FromTable, alias_at, alias_of, aliased, from_table, has_alias, info_of, scope_of}
+use Rattle.sql_bind.specs.Scope.{FromTable, alias_at, alias_of, aliased, aliases, from_table, has_alias, info_of, scope_of}
 use Rattle.sql_bind.specs.Used.{UsedColumn}
 use Rattle.sql_bind.specs.Query.{tables_from}
 use Rattle.sql_reader.specs.Readable.{is_named, is_table}
-use Rattle.sql_bind.proofs.Truths.{all_push, both, both_true, neither, was_false}
-use Rattle.sql_bind.proofs.Bound.{each_counts, each_keeps, not_met}
-
-module _ {A : Type 0} (same : A → A → Bool) (turned : (x y : A) → same x y ≡ same y x) where
-  -- x is none of the list, and so goes after it
-  pub differ_push : (xs : List A) (x : A) → all_differ same xs ≡ true → list_any (same x) xs ≡ false → all_differ same (xs ++ x ∷ []) ≡ true
-  differ_push [] x differ fresh = refl
-  differ_push (y ∷ ys) x differ fresh =
-      let apart = both_true _ (all_differ same ys) differ in
-      let other = neither (same x y) (list_any (same x) ys) fresh in
-      let front : list_any (same y) (ys ++ x ∷ []) ≡ false = list_any-append (same y) ys (x ∷ []) ∙ rw (was_false (list_any (same y) ys) apart.0, turned y x, other.0) refl in
-      rw front (differ_push ys x apart.1 other.1)
+use Rattle.sql_bind.proofs.Truths.{all_push, both, both_true}
+use Rattle.orca_base.proofs.Checked.{each_counts, each_keeps, not_met}
 
 -- P holds of one more element
 pub recursion_push : {A : Type 0} (P : A → Type 0) (xs : List A) (x : A) → AllByRecursion P xs → P x → AllByRecursion P (xs ++ x ∷ [])
 recursion_push P [] x all one = (one, tt)
 recursion_push P (y ∷ ys) x all one = (all.0, recursion_push P ys x all.1 one)
 
-abbrev pub aliases : List FromTable → List (List ℕ)
-aliases scope = map (λ t. t.alias) scope
-
 pub record AreFrom (scope : List FromTable) : Type 0 where
   pub named : list_all (λ t. has_name_form t.alias) scope ≡ true
   pub infos : AllByRecursion (λ t. IsTable t.info) scope
   pub differ : all_differ bytes_eq (aliases scope) ≡ true
-
-any_alias : (scope : List FromTable) (alias : List ℕ) → list_any (bytes_eq alias) (aliases scope) ≡ list_any (λ t. bytes_eq t.alias alias) scope
-any_alias [] alias = refl
-any_alias (t ∷ ts) alias = rw (nat_list_eq_equiv.symm alias t.alias, any_alias ts alias) refl
 
 found_case : (table info : TableInfo) (b : Bool) (rest : Option TableInfo) → cond b (Some table) rest ≡ Some info → IsTable table → (rest ≡ Some info → IsTable info) → IsTable info
 found_case table info true rest e is later = let same : table ≡ info = cc in subst IsTable same is
@@ -55,6 +39,11 @@ found_case table info false rest e is later = later e
 found_is : (test : TableInfo → Bool) (tables : List TableInfo) (info : TableInfo) → find test tables ≡ Some info → AllByRecursion IsTable tables → IsTable info
 found_is test [] info e all = absurd cc
 found_is test (table ∷ tables) info e all = found_case table info (test table) (find test tables) e all.0 (λ later. found_is test tables info later all.1)
+
+-- what a catalogue says of a table of this name
+pub info_is : (catalog : Catalog) → IsCatalog catalog → (name : List ℕ) (info : TableInfo) → info_of catalog.tables name ≡ Some info → IsTable info
+unfolding info_of
+info_is catalog kept name info found = found_is (λ t. bytes_eq t.name name) catalog.tables info found (recursion_from_All IsTable catalog.tables kept.each_table)
 
 alias_named : (alias : Option (List ℕ)) (name : List ℕ) → has_name_form name ≡ true → list_all has_name_form (option_to_list alias) ≡ true → has_name_form (unwrap_or alias name) ≡ true
 alias_named None name named all = named
@@ -71,13 +60,11 @@ one_more before item (Some info) t so_far good is e =
     subst (λ (x : FromTable). AreFrom (before ++ x ∷ [])) fresh.1 (record {
       named = all_push (λ (x : FromTable). has_name_form x.alias) before made so_far.named (alias_named item.alias item.table names.0 names.1);
       infos = recursion_push (λ (x : FromTable). IsTable x.info) before made so_far.infos (is info refl);
-      differ = rw (map_push (λ (x : FromTable). x.alias) before made) (differ_push bytes_eq nat_list_eq_equiv.symm (aliases before) made.alias so_far.differ (any_alias before made.alias ∙ fresh.0));
+      differ = rw (map_push (λ (x : FromTable). x.alias) before made) (differ_push bytes_eq nat_list_eq_equiv.symm (aliases before) made.alias so_far.differ fresh.0);
     })
 
 table_step : (catalog : Catalog) → IsCatalog catalog → (before : List FromTable) (item : FromItem) (t : FromTable) → AreFrom before → is_table item ≡ true → from_table catalog before item ≡ Ok t → AreFrom (before ++ t ∷ [])
-unfolding info_of
-table_step catalog kept before item t so_far good e =
-    one_more before item (info_of catalog.tables item.table) t so_far good (λ info found. found_is (λ x. bytes_eq x.name item.table) catalog.tables info found kept.each_table) e
+table_step catalog kept before item t so_far good e = one_more before item (info_of catalog.tables item.table) t so_far good (info_is catalog kept item.table) e
 
 -- what the tables of FROM keep
 pub scope_kept : (catalog : Catalog) → IsCatalog catalog → (from : List FromItem) (scope : List FromTable) → list_all is_table from ≡ true → scope_of catalog from ≡ Ok scope → AreFrom scope

@@ -12,7 +12,7 @@ use Rattle.query_core.specs.Grouping.{IsGrouping}
 use Rattle.query_core.specs.Results.{IsOutput, IsOrder, is_named, is_root_item}
 use Rattle.query_core.specs.declared.catalog.Catalog.{Catalog}
 use Rattle.query_core.specs.declared.output.OrderKey.{OrderKey}
-use Rattle.catalog_json.specs.Catalog.{IsCatalog}
+use Rattle.query_core.specs.Catalog.{IsCatalog}
 use Rattle.sql_reader.specs.declared.syntax.Select.{Select}
 use Rattle.sql_bind.specs.declared.columns.Column.{Column}
 use Rattle.sql_bind.specs.declared.select_list.Chosen.{Chosen}
@@ -22,26 +22,29 @@ use Rattle.sql_bind.specs.SelectList.{aggregates, chosen_in}
 use Rattle.sql_bind.specs.Conditions.{compared_in}
 use Rattle.sql_bind.specs.SortKeys.{key_in}
 use Rattle.sql_bind.specs.Parts.{parts_of}
-use Rattle.sql_bind.specs.Used.{UsedColumn, listed_from, in_compared, named_by_chosen, named_by_compared, named_by_keys, used_by, used_from, wanted_by}
+use Rattle.sql_bind.specs.Used.{UsedColumn, listed_from, in_compared, named_by, named_by_chosen, named_by_compared, named_by_keys, used_by, used_from, wanted_by}
 use Rattle.sql_bind.specs.Numbers.{number_of}
+use Rattle.sql_bind.specs.UsedColumns.{AreUsedColumns}
 use Rattle.sql_bind.specs.Query.{aggs_of, distinct_by, group_numbers, items_of, item_of, itself, key_item, key_of, order_of, outputs_of, output_of, preds_of, pred_of, tables_from}
 use Rattle.sql_bind.specs.Grouping.{is_grouped, judged, loose_chosen, loose_keys, loose_places}
 use Rattle.sql_reader.specs.Readable.{IsReadable}
 use Rattle.sql_bind.specs.Binding.{binding}
-use Rattle.sql_bind.proofs.Truths.{all_pass, both, both_true, right}
-use Rattle.sql_bind.proofs.Bound.{bind_ok, each_counts, each_keeps}
+use Rattle.sql_bind.proofs.Truths.{all_both, all_pass, both, both_true, right}
+use Rattle.orca_base.proofs.Checked.{bind_ok, each_counts, each_keeps}
 use Rattle.sql_bind.proofs.Resolving.{has_column}
-use Rattle.sql_bind.proofs.Found.{IsAt, found_from, within}
+use Rattle.sql_bind.proofs.Found.{IsAt, found_from, there_is, within}
 use Rattle.sql_bind.proofs.ScopeKept.{AreFrom, are_tables, scope_counts, scope_kept}
 use Rattle.sql_bind.proofs.ItemsKept.{all_low}
-use Rattle.sql_bind.proofs.ListsKept.{among_first, among_later, among_left, among_right, are_items}
+use Rattle.sql_bind.proofs.ListsKept.{among_first, among_later, among_left, among_right, are_items, listed_there}
+use Rattle.sql_bind.proofs.Wanted.{only_wanted}
+use Rattle.sql_bind.proofs.Ascending.{ascend_from, only_number}
 use Rattle.sql_bind.proofs.ChosenKept.{AreChosen, chosen_kept}
 use Rattle.sql_bind.proofs.PredsKept.{AreUsed, arguments_in, as_counted, names_apart, names_formed, number_below, numbers_low, preds_in}
 use Rattle.sql_bind.proofs.DistinctKept.{all_kept, map_itself, no_longer, no_twice, some_kept}
 use Rattle.sql_bind.proofs.KeysKept.{is_named_number, is_target, keys_kept, named_aggregate}
 use Rattle.sql_bind.proofs.RootKept.{chosen_root, keys_named, keys_root, named_low, nothing}
 use Rattle.std.proofs.Math.Nat.{zero-add}
-use Rattle.sql_bind.proofs.Named.{AreBound, AreJudged, compared_step, compared_there, group_step, judged_ok, keys_there, parts_bound, there_is}
+use Rattle.sql_bind.proofs.Named.{AreBound, AreJudged, compared_step, compared_there, group_step, judged_ok, keys_there, parts_bound}
 
 abbrev pub all_used : Parts → List UsedColumn
 all_used p = used_from (wanted_by p) 0 p.scope
@@ -99,33 +102,47 @@ module _ (select : Select) (catalog : Catalog) (p : Parts) (readable : IsReadabl
   all_group : list_all (has_column 0 p.scope) p.group ≡ true
   all_group = each_keeps (λ before reference. column_of p.scope reference) (λ reference. true) (λ before. list_all (has_column 0 p.scope) before ≡ true) (group_step p.scope) [] select.group_by p.group (all_pass select.group_by) refl bound.group
 
-  used_at : (cs : List Column) → list_all (has_column 0 p.scope) cs ≡ true → ((c : Column) → is_among cs c ≡ true → is_among (wanted_by p) c ≡ true) → AreUsed (all_used p) cs
-  used_at cs there wanted c among = found_from (wanted_by p) c.table c.place 0 p.scope (there_is (has_column 0 p.scope) cs c there among) (wanted c among)
+  -- the columns that the query names are there, and so they are used
+  named_there : list_all (has_column 0 p.scope) (named_by p) ≡ true
+  named_there =
+      let there = has_column 0 p.scope in
+      all_both there ((named_by_chosen p.chosen ++ named_by_compared p.compared) ++ p.group) (named_by_keys p.keys)
+      (all_both there (named_by_chosen p.chosen ++ named_by_compared p.compared) p.group (all_both there (named_by_chosen p.chosen) (named_by_compared p.compared) list.there all_compared) all_group)
+      (keys_there p.scope p.chosen p.keys targets_kept)
+
+  named_used : AreUsed (all_used p) (named_by p)
+  named_used c among =
+      found_from (wanted_by p) c.table c.place 0 p.scope (there_is (has_column 0 p.scope) (named_by p) c named_there among) (among_left (named_by p) (listed_from 0 p.scope) c among)
+
+  before_keys : (c : Column) → is_among ((named_by_chosen p.chosen ++ named_by_compared p.compared) ++ p.group) c ≡ true → IsAt (all_used p) c
+  before_keys c among = named_used c (among_left ((named_by_chosen p.chosen ++ named_by_compared p.compared) ++ p.group) (named_by_keys p.keys) c among)
+
+  before_group : (c : Column) → is_among (named_by_chosen p.chosen ++ named_by_compared p.compared) c ≡ true → IsAt (all_used p) c
+  before_group c among = before_keys c (among_left (named_by_chosen p.chosen ++ named_by_compared p.compared) p.group c among)
 
   chosen_used : AreUsed (all_used p) (named_by_chosen p.chosen)
-  chosen_used = used_at (named_by_chosen p.chosen) list.there (λ c among.
-      among_left (((named_by_chosen p.chosen ++ named_by_compared p.compared) ++ p.group) ++ named_by_keys p.keys) (listed_from 0 p.scope) c
-      (among_left ((named_by_chosen p.chosen ++ named_by_compared p.compared) ++ p.group) (named_by_keys p.keys) c
-      (among_left (named_by_chosen p.chosen ++ named_by_compared p.compared) p.group c
-      (among_left (named_by_chosen p.chosen) (named_by_compared p.compared) c among))))
+  chosen_used c among = before_group c (among_left (named_by_chosen p.chosen) (named_by_compared p.compared) c among)
 
   compared_used : AreUsed (all_used p) (named_by_compared p.compared)
-  compared_used = used_at (named_by_compared p.compared) all_compared (λ c among.
-      among_left (((named_by_chosen p.chosen ++ named_by_compared p.compared) ++ p.group) ++ named_by_keys p.keys) (listed_from 0 p.scope) c
-      (among_left ((named_by_chosen p.chosen ++ named_by_compared p.compared) ++ p.group) (named_by_keys p.keys) c
-      (among_left (named_by_chosen p.chosen ++ named_by_compared p.compared) p.group c
-      (among_right (named_by_chosen p.chosen) (named_by_compared p.compared) c among))))
+  compared_used c among = before_group c (among_right (named_by_chosen p.chosen) (named_by_compared p.compared) c among)
 
   group_used : AreUsed (all_used p) p.group
-  group_used = used_at p.group all_group (λ c among.
-      among_left (((named_by_chosen p.chosen ++ named_by_compared p.compared) ++ p.group) ++ named_by_keys p.keys) (listed_from 0 p.scope) c
-      (among_left ((named_by_chosen p.chosen ++ named_by_compared p.compared) ++ p.group) (named_by_keys p.keys) c
-      (among_right (named_by_chosen p.chosen ++ named_by_compared p.compared) p.group c among)))
+  group_used c among = before_keys c (among_right (named_by_chosen p.chosen ++ named_by_compared p.compared) p.group c among)
 
   keys_used : AreUsed (all_used p) (named_by_keys p.keys)
-  keys_used = used_at (named_by_keys p.keys) (keys_there p.scope p.chosen p.keys targets_kept) (λ c among.
-      among_left (((named_by_chosen p.chosen ++ named_by_compared p.compared) ++ p.group) ++ named_by_keys p.keys) (listed_from 0 p.scope) c
-      (among_right ((named_by_chosen p.chosen ++ named_by_compared p.compared) ++ p.group) (named_by_keys p.keys) c among))
+  keys_used c among = named_used c (among_right ((named_by_chosen p.chosen ++ named_by_compared p.compared) ++ p.group) (named_by_keys p.keys) c among)
+
+  -- which columns are used
+  columns_known : AreUsedColumns p (all_used p)
+  columns_known =
+      let ascending = ascend_from (wanted_by p) 0 p.scope in
+      record {
+        ascending = ascending;
+        named = λ c among. (named_used c among).here;
+        listed = λ c among. (found_from (wanted_by p) c.table c.place 0 p.scope (listed_there 0 p.scope c from.infos among) (among_right (named_by p) (listed_from 0 p.scope) c among)).here;
+        only = λ c number here. only_wanted (named_by p) (listed_from 0 p.scope) p.scope number c here;
+        one = λ c number here. only_number (all_used p) number c ascending here;
+      }
 
   preds_counted : length p.compared ≡ length select.preds
   preds_counted = each_counts (λ before pred. compared_in p.scope pred) select.preds p.compared bound.compared
@@ -207,7 +224,7 @@ module _ (select : Select) (catalog : Catalog) (p : Parts) (readable : IsReadabl
       few = omega (arith, fits);
       low = all_low (wanted_by p) p.scope from.infos (rw tables_counted readable.few_tables);
       tables = are_tables (all_used p) p.scope from (rw tables_counted readable.some_tables) (rw tables_counted readable.few_tables);
-      items = are_items (wanted_by p) p.scope from.infos (λ c among. among_right (((named_by_chosen p.chosen ++ named_by_compared p.compared) ++ p.group) ++ named_by_keys p.keys) (listed_from 0 p.scope) c among);
+      items = are_items (wanted_by p) p.scope from.infos (λ c among. among_right (named_by p) (listed_from 0 p.scope) c among);
       preds = record { few = rw (length-map p.compared (pred_of (all_used p)), preds_counted) readable.few_preds; over_items = preds_in (all_used p) p.compared compared_used };
       grouping = grouping;
       output = output;
@@ -221,3 +238,11 @@ valid select catalog p readable kept e =
     let parts = bind_ok (parts_of select catalog) judged p e in
     let good = judged_ok parts.0 p parts.2 in
     rw (used_is p) (subst (λ (q : Parts). IsValid q (all_used q)) good.0 (all_valid select catalog parts.0 readable kept (parts_bound select catalog parts.0 parts.1) good.1))
+
+-- the used columns of a binding without a fault
+pub columns_of_binding : (select : Select) (catalog : Catalog) (p : Parts) → IsReadable select → IsCatalog catalog → binding select catalog ≡ Ok p → AreUsedColumns p (used_by p)
+unfolding binding
+columns_of_binding select catalog p readable kept e =
+    let parts = bind_ok (parts_of select catalog) judged p e in
+    let good = judged_ok parts.0 p parts.2 in
+    rw (used_is p) (subst (λ (q : Parts). AreUsedColumns q (all_used q)) good.0 (columns_known select catalog parts.0 readable kept (parts_bound select catalog parts.0 parts.1)))

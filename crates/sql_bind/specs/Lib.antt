@@ -7,6 +7,7 @@ pub mod SortKeys
 pub mod Parts
 pub mod Used
 pub mod Numbers
+pub mod UsedColumns
 pub mod Grouping
 pub mod Query
 pub mod Binding

@@ -1,5 +1,5 @@
 -- The tables of FROM, under their aliases.
-use Rattle.std.specs.Prelude.{ℕ, Bool, List, [], Option, None, Some, Ok, Err, unwrap_or, is_some, find, if◌then◌else◌}
+use Rattle.std.specs.Prelude.{ℕ, Bool, List, [], Option, None, Some, Ok, Err, unwrap_or, is_some, find, map, if◌then◌else◌}
 use Rattle.std.specs.List.{list_any}
 use Rattle.std.specs.Str.{bytes_eq}
 use Rattle.query_core.specs.declared.catalog.Catalog.{Catalog}
@@ -25,9 +25,12 @@ alias_at item = if is_some item.alias then item.alias_at else item.at
 unfoldable pub info_of : List TableInfo → List ℕ → Option TableInfo
 info_of tables name = find (λ t. bytes_eq t.name name) tables
 
+abbrev pub aliases : List FromTable → List (List ℕ)
+aliases scope = map (λ t. t.alias) scope
+
 -- a table has this alias
 unfoldable pub has_alias : List FromTable → List ℕ → Bool
-has_alias scope alias = list_any (λ t. bytes_eq t.alias alias) scope
+has_alias scope alias = list_any (bytes_eq alias) (aliases scope)
 
 -- a table that the catalogue has, under an alias that no table before it has
 abbrev pub aliased : List FromTable → FromItem → Option TableInfo → Binding FromTable

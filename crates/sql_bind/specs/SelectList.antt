@@ -1,5 +1,5 @@
 -- The select list: plain columns and aggregates, with the names of the output.
-use Rattle.std.specs.Prelude.{ℕ, Bool, true, false, List, [], Option, None, Some, Ok, Err, count_by, if◌then◌else◌}
+use Rattle.std.specs.Prelude.{ℕ, Bool, true, false, List, [], Option, None, Some, Ok, Err, count_by, filter_map, if◌then◌else◌}
 use Rattle.std.specs.List.{list_any}
 use Rattle.std.specs.Str.{bytes_eq}
 use Rattle.query_core.specs.declared.aggregate.AggFunc.{AggFunc}
@@ -56,9 +56,13 @@ has_name name (Some other) = bytes_eq other name
 abbrev pub is_called : List ℕ → Chosen → Bool
 is_called name chosen = has_name name chosen.name
 
--- some element has this output name
+-- the output names
+abbrev pub output_names : List Chosen → List (List ℕ)
+output_names chosen = filter_map (λ c. c.name) chosen
+
+-- this is one of them
 unfoldable pub any_called : List ℕ → List Chosen → Bool
-any_called name chosen = list_any (is_called name) chosen
+any_called name chosen = list_any (bytes_eq name) (output_names chosen)
 
 -- the element under its output name, which no element before it has
 abbrev pub named_as : List Chosen → ℕ → Option (List ℕ) → What → Binding Chosen

@@ -45,6 +45,10 @@ named_by_compared compared = flat_map in_compared compared
 abbrev pub named_by_keys : List SortKey → List Column
 named_by_keys keys = flat_map (λ key. in_target key.target) keys
 
+-- all of these, and the columns of GROUP BY
+abbrev pub named_by : Parts → List Column
+named_by parts = ((named_by_chosen parts.chosen ++ named_by_compared parts.compared) ++ parts.group) ++ named_by_keys parts.keys
+
 -- ---- the columns in the lists of the tables
 
 -- these places of a table
@@ -74,7 +78,7 @@ pub record UsedColumn : Type 0 where
 
 -- the columns that the query names, and those in the lists of its tables
 abbrev pub wanted_by : Parts → List Column
-wanted_by parts = (((named_by_chosen parts.chosen ++ named_by_compared parts.compared) ++ parts.group) ++ named_by_keys parts.keys) ++ listed_from 0 parts.scope
+wanted_by parts = named_by parts ++ listed_from 0 parts.scope
 
 -- those of a table's columns that are wanted, in their order
 abbrev pub used_in : List Column → ℕ → ℕ → List ColumnInfo → List UsedColumn

@@ -1,6 +1,6 @@
 //! Binding: a select and a catalogue give a query, or the first fault.
 ghost use Rattle.std.specs.Prelude.{◌≡◌, ◌≤◌, Ok, IfOk, length};
-ghost use Rattle.catalog_json.specs.Catalog.{IsCatalog};
+ghost use Rattle.query_core.specs.Catalog.{IsCatalog};
 ghost use Rattle.query_core.specs.Results.{AreOptions};
 ghost use Rattle.sql_bind.specs.Steps.{Gives};
 ghost use Rattle.sql_bind.specs.Used.{used_by as used_columns};
@@ -9,10 +9,11 @@ ghost use Rattle.sql_bind.specs.Binding.{binding, IsQueryOf, Binds};
 
 use crate::fault::BindFault;
 use crate::grouping::{is_grouped, judge};
+use crate::numbers::UsedColumns;
 use crate::order::{group_of, order_of};
 use crate::parts::{Parts, parts_of};
 use crate::query::{aggs_of, items_of, outputs_of, preds_of, tables_of};
-use crate::used::{Used, used_by};
+use crate::used::used_by;
 use query_core::{Catalog, Options, Query, links_of};
 use sql_reader::Select;
 use std::alloc::{AllocError, Global};
@@ -23,7 +24,7 @@ fn query_of(
     select: &Select,
     catalog: &Catalog,
     parts: &Parts<'_>,
-    used: &[Used<'_>],
+    used: &UsedColumns<'_>,
     options: Options,
 ) -> Result<Query, AllocError>
     requires readable { IsReadable select.now }
@@ -34,7 +35,7 @@ fn query_of(
     ensures { IfOk result (IsQueryOf parts.now catalog.now options) }
 {
     let tables = tables_of(alloc, used, parts.scope.as_slice())?;
-    let items = items_of(alloc, used)?;
+    let items = items_of(alloc, used.as_slice())?;
     let preds = preds_of(alloc, used, parts.compared.as_slice())?;
     let links = links_of(alloc, tables.as_slice(), items.as_slice(), preds.as_slice())?;
     let group_by = group_of(alloc, used, parts.group.as_slice())?;

@@ -9,12 +9,11 @@ ghost use Rattle.sql_bind.specs.Columns.{belongs_to as belongs, place_in as the_
 use crate::fault::BindFault;
 use crate::scope::Source;
 use orca_base::{List, Text};
-use query_core::ColumnInfo;
 use sql_reader::ColRef;
 use std::alloc::{AllocError, Global};
 
 /// A column of the catalogue, of one of the tables of FROM.
-#[derive(Clone, Copy, Debug, PartialEq, Eq)]
+#[derive(Clone, Copy, Debug, PartialEq, Eq, Hash)]
 pub struct Column {
     /// The place of its table in FROM.
     pub table: usize,
@@ -44,22 +43,13 @@ fn belongs_to(table: &Option<Text>, alias: &Text) -> bool
     }
 }
 
-fn position_of(columns: &[ColumnInfo], name: &Text) -> Option<usize>
-    ensures place { result ≡ position (λ c. bytes_eq c.name name.now) columns.now }
-    ensures within { IfSome result (λ i. i < length columns.now) }
-{
-    columns
-        .iter()
-        .position(|column| column.name.as_str() == name.as_str())
-}
-
 /// The place of the column that the reference names in the table.
 fn place_in(reference: &ColRef, source: &Source<'_>) -> Option<usize>
     ensures place { result ≡ the_place reference.now source.now }
     ensures within { IfSome result (λ i. i < length source.now.info.columns) }
 {
     if belongs_to(&reference.table, source.alias()) {
-        position_of(source.info().columns.as_slice(), &reference.name)
+        source.place_of(&reference.name)
     } else {
         None
     }

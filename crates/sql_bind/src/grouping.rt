@@ -6,10 +6,10 @@ ghost use Rattle.sql_bind.specs.Grouping.{is_grouped as has_groups, loose_chosen
 
 use crate::columns::{Column, is_among};
 use crate::fault::BindFault;
+use crate::numbers::UsedColumns;
 use crate::parts::Parts;
 use crate::select_list::{Chosen, What, aggregates};
 use crate::sort_keys::{SortKey, Target};
-use crate::used::Used;
 
 const MOST_ITEMS: usize = 60;
 
@@ -58,7 +58,7 @@ fn first_loose(parts: &Parts<'_>) -> Option<u32>
     }
 }
 
-fn sized(parts: &Parts<'_>, used: &[Used<'_>]) -> Result<(), BindFault>
+fn sized(parts: &Parts<'_>, used: &UsedColumns<'_>) -> Result<(), BindFault>
     requires used { used.now ≡ used_columns parts.now }
     requires bounded { length used.now ≤ 10000 }
     requires few { length parts.now.chosen ≤ 60 }
@@ -74,7 +74,11 @@ fn sized(parts: &Parts<'_>, used: &[Used<'_>]) -> Result<(), BindFault>
     Ok(())
 }
 
-fn none_loose(parts: &Parts<'_>, used: &[Used<'_>], loose: Option<u32>) -> Result<(), BindFault>
+fn none_loose(
+    parts: &Parts<'_>,
+    used: &UsedColumns<'_>,
+    loose: Option<u32>,
+) -> Result<(), BindFault>
     requires used { used.now ≡ used_columns parts.now }
     requires bounded { length used.now ≤ 10000 }
     requires few { length parts.now.chosen ≤ 60 }
@@ -90,7 +94,7 @@ fn none_loose(parts: &Parts<'_>, used: &[Used<'_>], loose: Option<u32>) -> Resul
 /// Refuses a grouped query with a plain column that is no GROUP BY column, and then one with too
 /// many items.
 #[tactic(auto, unfolding(crate::specs::Grouping::judged))]
-pub fn judge(parts: &Parts<'_>, used: &[Used<'_>]) -> Result<(), BindFault>
+pub fn judge(parts: &Parts<'_>, used: &UsedColumns<'_>) -> Result<(), BindFault>
     requires used { used.now ≡ used_columns parts.now }
     requires bounded { length used.now ≤ 10000 }
     requires few { length parts.now.chosen ≤ 60 }

@@ -1,12 +1,26 @@
 //! What follows from what the names of a query are bound to.
-ghost use Rattle.std.specs.Prelude.{◌≢◌, Err};
+ghost use Rattle.std.specs.Prelude.{◌≡◌, ◌≢◌, Ok, Err};
+ghost use Rattle.query_core.specs.Catalog.{IsCatalog};
 ghost use Rattle.query_core.specs.declared.catalog.Catalog.{Catalog};
 ghost use Rattle.sql_reader.specs.declared.syntax.Select.{Select};
 ghost use Rattle.sql_bind.specs.declared.fault.BindFault.{BindFault};
+ghost use Rattle.sql_bind.specs.declared.parts.Parts.{Parts};
+ghost use Rattle.sql_bind.specs.Used.{used_by as used_columns};
+ghost use Rattle.sql_bind.specs.UsedColumns.{AreUsedColumns};
+ghost use Rattle.sql_reader.specs.Readable.{IsReadable};
 ghost use Rattle.sql_bind.specs.Binding.{binding as bound_parts};
 
 /// A query's names are bound or have a fault of theirs, which is never want of memory. So each fault
 /// comes exactly where it is the first, unless memory runs out.
 pub fn faults_are_told()
     ensures { (select : Select) (catalog : Catalog) → bound_parts select catalog ≢ Err BindFault.Memory }
+{}
+
+/// The used columns of a query without a fault: those that it names, and those in the lists of its
+/// tables, by table and then by place in the catalogue. Each has one number, and no other column has
+/// one.
+pub fn used_columns_are_known()
+    ensures { (select : Select) (catalog : Catalog) (parts : Parts)
+        → IsReadable select → IsCatalog catalog → bound_parts select catalog ≡ Ok parts
+        → AreUsedColumns parts (used_columns parts) }
 {}

@@ -8,6 +8,7 @@ mod fault;
 mod grouping;
 mod laws;
 mod meaning;
+mod names;
 mod numbers;
 mod order;
 mod parts;
@@ -19,7 +20,7 @@ mod used;
 
 pub use binding::bind;
 pub use fault::BindFault;
-pub use laws::faults_are_told;
+pub use laws::{faults_are_told, used_columns_are_known};
 pub use meaning::one_meaning;
 
 #[cfg(test)]

@@ -1,33 +1,85 @@
 //! The numbers of items: the used columns first, and the aggregates after them.
-ghost use Rattle.std.specs.Prelude.{◌≡◌, ◌≤◌, IfOk, length};
+ghost use Rattle.std.specs.Prelude.{◌≡◌, ◌≤◌, IfOk, IsTrue, length, map};
+ghost use Rattle.query_core.specs.Differ.{all_differ};
+ghost use Rattle.sql_bind.specs.Columns.{is_same};
 ghost use Rattle.sql_bind.specs.Numbers.{number_of as the_number, numbers_of as all_numbers, target_number as number_of_target};
 
-use crate::columns::{Column, same};
+use crate::columns::Column;
 use crate::sort_keys::Target;
 use crate::used::Used;
+use indexmap::IndexSet;
 use orca_base::List;
 use std::alloc::{AllocError, Global};
+use std::marker::Model;
 
-/// How many used columns come before this one.
-pub fn number_of(used: &[Used<'_>], column: Column) -> u32
-    requires { length used.now ≤ 60 }
-    ensures number { result ≡ the_number used.now column }
-    ensures within { result ≤ length used.now }
-{
-    let mut number = 0;
-    for other in used {
-        if same(other.column(), column) {
-            return number;
-        }
-        number += 1;
+/// The used columns in their order, each numbered by its place.
+#[derive(Drop)]
+pub struct UsedColumns<'a> {
+    columns: List<Used<'a>>,
+    numbers: IndexSet<Column>,
+}
+
+impl<'a> Model for UsedColumns<'a> {
+    ghost use Rattle.std.specs.Prelude.{◌≡◌, List, map};
+    ghost use Rattle.sql_bind.specs.Used.{UsedColumn};
+
+    ghost Value = { List UsedColumn };
+
+    ghost view = { λ u. u.columns };
+
+    ghost invariant = { λ u. u.numbers.keys ≡ map (λ c. c.which) u.columns };
+}
+
+impl<'a> UsedColumns<'a> {
+    /// Numbers the columns.
+    pub fn of(alloc: Global, columns: List<Used<'a>>) -> Result<UsedColumns<'a>, AllocError>
+        requires { IsTrue (all_differ is_same (map (λ c. c.which) columns)) }
+        ensures { IfOk result (λ used. used ≡ columns.entry) }
+    {
+        let numbers = numbered(alloc, columns.as_slice())?;
+        Ok(UsedColumns { columns, numbers })
     }
-    number
+
+    pub fn as_slice(&self) -> &[Used<'a>]
+        ensures { result.now ≡ self.now }
+    {
+        self.columns.as_slice()
+    }
+
+    pub fn len(&self) -> usize
+        ensures { result ≡ length self.now }
+    {
+        self.columns.len()
+    }
+
+    /// How many used columns come before this one.
+    pub fn number_of(&self, column: Column) -> u32
+        requires { length self.now ≤ 60 }
+        ensures number { result ≡ the_number self.now column }
+        ensures within { result ≤ length self.now }
+    {
+        match self.numbers.get_index_of(&column) {
+            Some(number) => number as u32,
+            None => self.columns.len() as u32,
+        }
+    }
+}
+
+fn numbered(alloc: Global, columns: &[Used<'_>]) -> Result<IndexSet<Column>, AllocError>
+    requires { IsTrue (all_differ is_same (map (λ c. c.which) columns.now)) }
+    ensures { IfOk result (λ numbers. numbers.keys ≡ map (λ c. c.which) columns.now) }
+{
+    let mut numbers = IndexSet::with_capacity(alloc, columns.len())?;
+    for used in columns {
+        numbers.insert(used.column())?;
+    }
+    Ok(numbers)
 }
 
 /// The numbers of columns of a table, which are given by their places.
 pub fn numbers_of(
     alloc: Global,
-    used: &[Used<'_>],
+    used: &UsedColumns<'_>,
     table: usize,
     places: &[u32],
 ) -> Result<List<u32>, AllocError>
@@ -40,18 +92,18 @@ pub fn numbers_of(
             table,
             place: *place as usize,
         };
-        numbers.push(number_of(used, column))?;
+        numbers.push(used.number_of(column))?;
     }
     Ok(numbers)
 }
 
 /// The number of the item that is meant.
-pub fn target_number(used: &[Used<'_>], target: Target) -> u32
+pub fn target_number(used: &UsedColumns<'_>, target: Target) -> u32
     requires { length used.now ≤ 60 }
     ensures { result ≡ number_of_target used.now target }
 {
     match target {
-        Target::Column(column) => number_of(used, column),
+        Target::Column(column) => used.number_of(column),
         Target::Aggregate(number) => used.len() as u32 + number as u32,
     }
 }

@@ -3,27 +3,30 @@ ghost use Rattle.std.specs.Prelude.{◌≡◌, ◌≤◌, IfOk, OnOk, length};
 ghost use Rattle.sql_bind.specs.Query.{group_numbers as the_group, key_of as the_key, order_of as the_order, key_item, any_number, with_new};
 
 use crate::columns::Column;
-use crate::numbers::{number_of, target_number};
+use crate::numbers::{UsedColumns, target_number};
 use crate::sort_keys::SortKey;
-use crate::used::Used;
 use indexmap::IndexSet;
 use orca_base::List;
 use query_core::OrderKey;
 use std::alloc::{AllocError, Global};
 
 /// The GROUP BY columns.
-pub fn group_of(alloc: Global, used: &[Used<'_>], group: &[Column]) -> Result<List<u32>, AllocError>
+pub fn group_of(
+    alloc: Global,
+    used: &UsedColumns<'_>,
+    group: &[Column],
+) -> Result<List<u32>, AllocError>
     requires { length used.now ≤ 60 }
     ensures { IfOk result (λ numbers. numbers ≡ the_group used.now group.now) }
 {
     let mut kept = IndexSet::new(alloc);
     for column in group {
-        kept.insert(number_of(used, *column))?;
+        kept.insert(used.number_of(*column))?;
     }
     Ok(List::of(Vec::from_slice(alloc, kept.as_slice())?))
 }
 
-fn key_of(used: &[Used<'_>], key: SortKey) -> OrderKey
+fn key_of(used: &UsedColumns<'_>, key: SortKey) -> OrderKey
     requires { length used.now ≤ 60 }
     ensures { result ≡ the_key used.now key }
 {
@@ -52,7 +55,7 @@ fn add_key(key: OrderKey, kept: &mut List<OrderKey>) -> Result<(), AllocError>
 /// The keys of ORDER BY.
 pub fn order_of(
     alloc: Global,
-    used: &[Used<'_>],
+    used: &UsedColumns<'_>,
     keys: &[SortKey],
 ) -> Result<List<OrderKey>, AllocError>
     requires { length used.now ≤ 60 }

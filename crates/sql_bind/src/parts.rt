@@ -1,5 +1,6 @@
 //! The parts of a query over columns, before these are numbered.
 ghost use Rattle.std.specs.Prelude.{◌≡◌, ◌++◌, ◌≤◌, IfOk, length, flat_map, map};
+ghost use Rattle.query_core.specs.Catalog.{IsCatalog};
 ghost use Rattle.sql_bind.specs.Steps.{Gives};
 ghost use Rattle.sql_bind.specs.Parts.{parts_of as the_parts};
 
@@ -15,7 +16,7 @@ use sql_reader::Select;
 use std::alloc::Global;
 
 /// A query whose names are looked up.
-#[derive(Debug, Drop)]
+#[derive(Drop)]
 pub struct Parts<'a> {
     pub scope: List<Source<'a>>,
     pub chosen: List<Chosen>,
@@ -31,7 +32,8 @@ pub fn parts_of<'a>(
     select: &'a Select,
     catalog: &'a Catalog,
 ) -> Result<Parts<'a>, BindFault>
-    requires { length select.now.items ≤ 60 }
+    requires catalogue { IsCatalog catalog.now }
+    requires few { length select.now.items ≤ 60 }
     ensures { Gives (the_parts select.now catalog.now) result }
 {
     let scope = scope_of(alloc, catalog, select.from.as_slice())?;

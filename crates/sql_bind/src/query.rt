@@ -6,7 +6,7 @@ ghost use Rattle.sql_bind.specs.Query.{item_of as the_item, items_of as the_item
 
 use crate::columns::Column;
 use crate::conditions::{Compared, Side};
-use crate::numbers::{number_of, numbers_of, target_number};
+use crate::numbers::{UsedColumns, numbers_of, target_number};
 use crate::scope::Source;
 use crate::select_list::{Chosen, What};
 use crate::sort_keys::target_of;
@@ -41,7 +41,7 @@ pub fn items_of(alloc: Global, used: &[Used<'_>]) -> Result<List<Item>, AllocErr
 
 fn hashed_of(
     alloc: Global,
-    used: &[Used<'_>],
+    used: &UsedColumns<'_>,
     table: usize,
     placing: &Placing,
 ) -> Result<Option<List<u32>>, AllocError>
@@ -56,7 +56,7 @@ fn hashed_of(
 
 fn indexes_of(
     alloc: Global,
-    used: &[Used<'_>],
+    used: &UsedColumns<'_>,
     table: usize,
     indexes: &[List<u32>],
 ) -> Result<List<List<u32>>, AllocError>
@@ -73,7 +73,7 @@ fn indexes_of(
 
 fn table_of(
     alloc: Global,
-    used: &[Used<'_>],
+    used: &UsedColumns<'_>,
     table: usize,
     source: &Source<'_>,
 ) -> Result<QueryTable, AllocError>
@@ -92,7 +92,7 @@ fn table_of(
 /// The tables of FROM.
 pub fn tables_of(
     alloc: Global,
-    used: &[Used<'_>],
+    used: &UsedColumns<'_>,
     sources: &[Source<'_>],
 ) -> Result<List<QueryTable>, AllocError>
     requires { length used.now ≤ 60 }
@@ -108,23 +108,23 @@ pub fn tables_of(
     Ok(tables)
 }
 
-fn operand_of(alloc: Global, used: &[Used<'_>], side: &Side) -> Result<Operand, AllocError>
+fn operand_of(alloc: Global, used: &UsedColumns<'_>, side: &Side) -> Result<Operand, AllocError>
     requires { length used.now ≤ 60 }
     ensures { IfOk result (λ operand. operand ≡ the_operand used.now side.now) }
 {
     match side {
-        Side::Column(column) => Ok(Operand::Item(number_of(used, *column))),
+        Side::Column(column) => Ok(Operand::Item(used.number_of(*column))),
         Side::Int(value) => Ok(Operand::Int(*value)),
         Side::Str(text) => Ok(Operand::Str(text.copy(alloc)?)),
     }
 }
 
-fn pred_of(alloc: Global, used: &[Used<'_>], compared: &Compared) -> Result<Pred, AllocError>
+fn pred_of(alloc: Global, used: &UsedColumns<'_>, compared: &Compared) -> Result<Pred, AllocError>
     requires { length used.now ≤ 60 }
     ensures { IfOk result (λ pred. pred ≡ the_pred used.now compared.now) }
 {
     Ok(Pred {
-        left: number_of(used, compared.left),
+        left: used.number_of(compared.left),
         op: compared.op,
         right: operand_of(alloc, used, &compared.right)?,
     })
@@ -133,7 +133,7 @@ fn pred_of(alloc: Global, used: &[Used<'_>], compared: &Compared) -> Result<Pred
 /// The predicates.
 pub fn preds_of(
     alloc: Global,
-    used: &[Used<'_>],
+    used: &UsedColumns<'_>,
     compared: &[Compared],
 ) -> Result<List<Pred>, AllocError>
     requires { length used.now ≤ 60 }
@@ -156,17 +156,17 @@ fn name_of(alloc: Global, name: &Option<Text>) -> Result<Option<Text>, AllocErro
     }
 }
 
-fn argument_of(used: &[Used<'_>], arg: Option<Column>) -> Option<u32>
+fn argument_of(used: &UsedColumns<'_>, arg: Option<Column>) -> Option<u32>
     requires { length used.now ≤ 60 }
     ensures { result ≡ option_map (the_number used.now) arg }
 {
     match arg {
-        Some(column) => Some(number_of(used, column)),
+        Some(column) => Some(used.number_of(column)),
         None => None,
     }
 }
 
-fn agg_of(alloc: Global, used: &[Used<'_>], chosen: &Chosen) -> Result<Option<Agg>, AllocError>
+fn agg_of(alloc: Global, used: &UsedColumns<'_>, chosen: &Chosen) -> Result<Option<Agg>, AllocError>
     requires { length used.now ≤ 60 }
     ensures { IfOk result (λ agg. agg ≡ the_agg used.now chosen.now) }
 {
@@ -185,7 +185,11 @@ fn agg_of(alloc: Global, used: &[Used<'_>], chosen: &Chosen) -> Result<Option<Ag
 }
 
 /// The aggregates in text order.
-pub fn aggs_of(alloc: Global, used: &[Used<'_>], chosen: &[Chosen]) -> Result<List<Agg>, AllocError>
+pub fn aggs_of(
+    alloc: Global,
+    used: &UsedColumns<'_>,
+    chosen: &[Chosen],
+) -> Result<List<Agg>, AllocError>
     requires { length used.now ≤ 60 }
     ensures { IfOk result (λ aggs. aggs ≡ the_aggs used.now chosen.now) }
 {
@@ -198,7 +202,7 @@ pub fn aggs_of(alloc: Global, used: &[Used<'_>], chosen: &[Chosen]) -> Result<Li
     Ok(aggs)
 }
 
-fn output_of(alloc: Global, used: &[Used<'_>], chosen: &Chosen) -> Result<OutItem, AllocError>
+fn output_of(alloc: Global, used: &UsedColumns<'_>, chosen: &Chosen) -> Result<OutItem, AllocError>
     requires { length used.now ≤ 60 }
     ensures { IfOk result (λ output. output ≡ the_output used.now chosen.now) }
 {
@@ -211,7 +215,7 @@ fn output_of(alloc: Global, used: &[Used<'_>], chosen: &Chosen) -> Result<OutIte
 /// The output in text order.
 pub fn outputs_of(
     alloc: Global,
-    used: &[Used<'_>],
+    used: &UsedColumns<'_>,
     chosen: &[Chosen],
 ) -> Result<List<OutItem>, AllocError>
     requires { length used.now ≤ 60 }

@@ -1,35 +1,49 @@
 //! The tables of FROM under their aliases.
-ghost use Rattle.std.specs.Prelude.{◌≡◌, option_copied};
+ghost use Rattle.std.specs.Prelude.{◌≡◌, ◌<◌, List, ◌∷◌, [], ◌++◌, true, length, map, position, option_copied, IfOk, IfSome, IsTrue};
+ghost use Rattle.std.specs.Option.{ForSome};
+ghost use Rattle.std.specs.Str.{bytes_eq};
+ghost use Rattle.query_core.specs.Catalog.{IsCatalog, IsTable};
+ghost use Rattle.query_core.specs.Differ.{texts_differ};
 ghost use Rattle.sql_bind.specs.Steps.{Gives};
-ghost use Rattle.sql_bind.specs.Scope.{alias_of as the_alias, alias_at as the_alias_at, aliased as the_aliased, from_table as from_the_table, has_alias as any_has_alias, info_of as the_info, scope_of as the_scope, FromTable};
+ghost use Rattle.sql_bind.specs.Scope.{alias_of as the_alias, alias_at as the_alias_at, aliased as the_aliased, from_table as from_the_table, info_of as the_info, scope_of as the_scope, aliases, FromTable};
 
 use crate::fault::BindFault;
+use crate::names::Names;
 use orca_base::{List, Text};
-use query_core::{Catalog, TableInfo};
+use query_core::{Catalog, ColumnInfo, TableInfo};
 use sql_reader::FromItem;
-use std::alloc::Global;
+use std::alloc::{AllocError, Global};
 use std::marker::Model;
 
-/// A table of FROM: its alias, and what the catalogue says of it.
-#[derive(Debug, Drop)]
+/// A table of FROM: its alias, what the catalogue says of it, and its columns by their names.
+#[derive(Drop)]
 pub struct Source<'a> {
     name: &'a Text,
     info: &'a TableInfo,
+    columns: Names<'a>,
 }
 
 impl<'a> Model for Source<'a> {
+    ghost use Rattle.std.specs.Prelude.{◌≡◌, map};
     ghost use Rattle.sql_bind.specs.Scope.{FromTable};
 
     ghost Value = { FromTable };
 
     ghost view = { λ s. record { alias = s.name.now; info = s.info.now } };
+
+    ghost invariant = { λ s. s.columns ≡ map (λ c. c.name) s.info.now.columns };
 }
 
 impl<'a> Source<'a> {
-    fn new(alias: &'a Text, info: &'a TableInfo) -> Source<'a>
-        ensures { result ≡ record { alias = alias.now; info = info.now } }
+    fn new(alloc: Global, alias: &'a Text, info: &'a TableInfo) -> Result<Source<'a>, AllocError>
+        requires { IsTable info.now }
+        ensures { IfOk result (λ s. s ≡ record { alias = alias.now; info = info.now }) }
     {
-        Source { name: alias, info }
+        Ok(Source {
+            name: alias,
+            info,
+            columns: column_names(alloc, info.columns.as_slice())?,
+        })
     }
 
     pub fn alias(&self) -> &'a Text
@@ -43,6 +57,26 @@ impl<'a> Source<'a> {
     {
         self.info
     }
+
+    /// The place of the column of this name.
+    pub fn place_of(&self, name: &Text) -> Option<usize>
+        ensures place { result ≡ position (bytes_eq name.now) (map (λ c. c.name) self.now.info.columns) }
+        ensures within { IfSome result (λ i. i < length self.now.info.columns) }
+    {
+        self.columns.number_of(name)
+    }
+}
+
+/// The names of a table's columns.
+fn column_names<'a>(alloc: Global, columns: &'a [ColumnInfo]) -> Result<Names<'a>, AllocError>
+    requires { IsTrue (texts_differ (map (λ c. c.name) columns.now)) }
+    ensures { IfOk result (λ names. names ≡ map (λ c. c.name) columns.now) }
+{
+    let mut names = Names::with_capacity(alloc, columns.len())?;
+    for column in columns {
+        names.add(&column.name)?;
+    }
+    Ok(names)
 }
 
 fn alias_of(item: &FromItem) -> &Text
@@ -72,40 +106,44 @@ fn info_of<'a>(tables: &'a [TableInfo], name: &Text) -> Option<&'a TableInfo>
         .find(|table| table.name.as_str() == name.as_str())
 }
 
+/// A table under its alias, which is added.
 #[tactic(auto, unfolding(crate::specs::Scope::has_alias))]
-fn has_alias(sources: &[Source<'_>], alias: &Text) -> bool
-    ensures { result ≡ any_has_alias sources.now alias.now }
-{
-    sources
-        .iter()
-        .any(|source| source.alias().as_str() == alias.as_str())
-}
-
 fn aliased<'a>(
-    before: &[Source<'a>],
+    alloc: Global,
+    before: &mut Names<'a>,
     item: &'a FromItem,
     found: Option<&'a TableInfo>,
 ) -> Result<Source<'a>, BindFault>
-    ensures { result ≡ the_aliased before.now item.now (option_copied found.entry) }
+    requires { ForSome (option_copied found) IsTable }
+    ensures bound { (scope : List FromTable) → before.old ≡ aliases scope
+        → Gives (the_aliased scope item.now (option_copied found.entry)) result }
+    ensures added { IfOk result (λ t. before.new ≡ before.old ++ t.alias ∷ []) }
 {
-    match found {
-        None => Err(BindFault::UnknownTable { at: item.at }),
-        Some(_) if has_alias(before, alias_of(item)) => {
-            Err(BindFault::TwiceAlias { at: alias_at(item) })
-        }
-        Some(info) => Ok(Source::new(alias_of(item), info)),
+    let Some(info) = found else {
+        return Err(BindFault::UnknownTable { at: item.at });
+    };
+    let alias = alias_of(item);
+    if before.has(alias) {
+        return Err(BindFault::TwiceAlias { at: alias_at(item) });
     }
+    before.add(alias)?;
+    Ok(Source::new(alloc, alias, info)?)
 }
 
 fn from_table<'a>(
+    alloc: Global,
     catalog: &'a Catalog,
-    before: &List<Source<'a>>,
+    before: &[Source<'a>],
+    names: &mut Names<'a>,
     item: &'a FromItem,
 ) -> Result<Source<'a>, BindFault>
-    ensures { Gives (from_the_table catalog.now before.now item.now) result }
+    requires catalogue { IsCatalog catalog.now }
+    requires names { names.old ≡ aliases before.now }
+    ensures bound { Gives (from_the_table catalog.now before.now item.now) result }
+    ensures added { IfOk result (λ t. names.new ≡ names.old ++ t.alias ∷ []) }
 {
     let found = info_of(catalog.tables.as_slice(), &item.table);
-    aliased(before.as_slice(), item, found)
+    aliased(alloc, names, item, found)
 }
 
 /// The tables of FROM in text order.
@@ -114,11 +152,13 @@ pub fn scope_of<'a>(
     catalog: &'a Catalog,
     from: &'a [FromItem],
 ) -> Result<List<Source<'a>>, BindFault>
+    requires { IsCatalog catalog.now }
     ensures { Gives (the_scope catalog.now from.now) result }
 {
     let mut scope = List::new(alloc);
+    let mut names = Names::with_capacity(alloc, from.len())?;
     for item in from {
-        let source = from_table(catalog, &scope, item)?;
+        let source = from_table(alloc, catalog, scope.as_slice(), &mut names, item)?;
         scope.push(source)?;
     }
     Ok(scope)

@@ -1,10 +1,12 @@
 //! The select list: plain columns, and aggregates, which are numbered from 0 in text order.
-ghost use Rattle.std.specs.Prelude.{◌≡◌, ◌<◌, ◌≤◌, length};
+ghost use Rattle.std.specs.Prelude.{◌≡◌, ◌<◌, ◌≤◌, ◌++◌, List, length, IfOk, option_to_list};
+ghost use Rattle.sql_bind.specs.declared.select_list.Chosen.{Chosen};
 ghost use Rattle.sql_bind.specs.Steps.{Gives};
-ghost use Rattle.sql_bind.specs.SelectList.{function_of as the_function, is_aggregate as is_an_aggregate, aggregates as all_aggregates, call_in as the_call, what_in as the_what, is_called as has_name, any_called, named_as as named_so, chosen_in as chosen_of_item, chosen_of as the_chosen};
+ghost use Rattle.sql_bind.specs.SelectList.{function_of as the_function, is_aggregate as is_an_aggregate, aggregates as all_aggregates, call_in as the_call, what_in as the_what, is_called as has_name, output_names, named_as as named_so, chosen_in as chosen_of_item, chosen_of as the_chosen};
 
 use crate::columns::{Column, column_of};
 use crate::fault::BindFault;
+use crate::names::Names;
 use crate::scope::Source;
 use orca_base::{List, Text};
 use query_core::AggFunc;
@@ -125,44 +127,47 @@ pub fn is_called(name: &Text, chosen: &Chosen) -> bool
     }
 }
 
+/// An element under its output name, which is added.
 #[tactic(auto, unfolding(crate::specs::SelectList::any_called))]
-fn is_taken(before: &[Chosen], name: &Text) -> bool
-    ensures { result ≡ any_called name.now before.now }
-{
-    before.iter().any(|chosen| is_called(name, chosen))
-}
-
-fn named_as(
+fn named_as<'a>(
     alloc: Global,
-    before: &[Chosen],
-    item: &SelItem,
+    names: &mut Names<'a>,
+    item: &'a SelItem,
     what: What,
 ) -> Result<Chosen, BindFault>
-    ensures { Gives (named_so before.now item.now.name_at item.now.name what) result }
+    ensures bound { (before : List Chosen) → names.old ≡ output_names before
+        → Gives (named_so before item.now.name_at item.now.name what) result }
+    ensures added { IfOk result (λ c. names.new ≡ names.old ++ option_to_list c.name) }
 {
-    match &item.name {
-        None => Ok(Chosen { what, name: None }),
-        Some(name) if is_taken(before, name) => Err(BindFault::TwiceAlias { at: item.name_at }),
-        Some(name) => Ok(Chosen {
-            what,
-            name: Some(name.copy(alloc)?),
-        }),
+    let Some(name) = &item.name else {
+        return Ok(Chosen { what, name: None });
+    };
+    if names.has(name) {
+        return Err(BindFault::TwiceAlias { at: item.name_at });
     }
+    names.add(name)?;
+    Ok(Chosen {
+        what,
+        name: Some(name.copy(alloc)?),
+    })
 }
 
 #[tactic(auto, unfolding(crate::specs::SelectList::chosen_in))]
-fn chosen_in(
+fn chosen_in<'a>(
     alloc: Global,
     sources: &[Source<'_>],
-    before: &List<Chosen>,
-    item: &SelItem,
+    before: &[Chosen],
+    names: &mut Names<'a>,
+    item: &'a SelItem,
 ) -> Result<Chosen, BindFault>
-    requires { length before.now ≤ 60 }
-    ensures { Gives (chosen_of_item sources.now before.now item.now) result }
+    requires few { length before.now ≤ 60 }
+    requires names { names.old ≡ output_names before.now }
+    ensures bound { Gives (chosen_of_item sources.now before.now item.now) result }
+    ensures added { IfOk result (λ c. names.new ≡ names.old ++ option_to_list c.name) }
 {
-    let number = aggregates(before.as_slice()) as u8;
+    let number = aggregates(before) as u8;
     let what = what_in(alloc, sources, number, &item.expr)?;
-    named_as(alloc, before.as_slice(), item, what)
+    named_as(alloc, names, item, what)
 }
 
 /// The select list in text order.
@@ -175,8 +180,9 @@ pub fn chosen_of(
     ensures { Gives (the_chosen sources.now items.now) result }
 {
     let mut chosen = List::new(alloc);
+    let mut names = Names::with_capacity(alloc, items.len())?;
     for item in items {
-        let element = chosen_in(alloc, sources, &chosen, item)?;
+        let element = chosen_in(alloc, sources, chosen.as_slice(), &mut names, item)?;
         chosen.push(element)?;
     }
     Ok(chosen)

@@ -1,12 +1,47 @@
 use crate::{BindFault, bind};
-use catalog_json::read_catalog;
-use query_core::{Catalog, Operand, Options, Query, RootDist};
+use orca_base::{List, Text};
+use query_core::{Catalog, ColumnInfo, Operand, Options, Placing, Query, RootDist, TableInfo};
 use sql_reader::{SqlFault, read_sql};
 use std::alloc::{AllocError, Global};
 use std::test::Fail;
 
-const TWO_TABLES: &str =
-    "{\"version\":1,\"segments\":4,\"tables\":[{\"name\":\"T1\",\"rows\":1000,\"distribution\":[\"a\"],\"columns\":[{\"name\":\"a\",\"ndv\":1000}]},{\"name\":\"T2\",\"rows\":1000,\"distribution\":[\"a\"],\"columns\":[{\"name\":\"a\",\"ndv\":1000},{\"name\":\"b\",\"ndv\":500}]}]}";
+// ---- the catalogue
+
+fn text(alloc: Global, part: &str) -> Result<Text, AllocError> {
+    Ok(Text::of(String::from_str(alloc, part)?))
+}
+
+// Columns with their numbers of distinct values.
+fn columns(alloc: Global, named: &[(&str, u64)]) -> Result<List<ColumnInfo>, AllocError> {
+    let mut columns = List::new(alloc);
+    for (name, ndv) in named {
+        columns.push(ColumnInfo {
+            name: text(alloc, name)?,
+            ndv: *ndv,
+        })?;
+    }
+    Ok(columns)
+}
+
+// A table of 1,000 rows that are hashed on its first column.
+fn table(alloc: Global, name: &str, columns: List<ColumnInfo>) -> Result<TableInfo, AllocError> {
+    Ok(TableInfo {
+        name: text(alloc, name)?,
+        rows: 1_000,
+        placing: Placing::Hashed(List::of(vec![in alloc; 0]?)),
+        columns,
+        indexes: List::new(alloc),
+    })
+}
+
+fn two_tables(alloc: Global) -> Result<Catalog, AllocError> {
+    let one = table(alloc, "T1", columns(alloc, &[("a", 1_000)])?)?;
+    let other = table(alloc, "T2", columns(alloc, &[("a", 1_000), ("b", 500)])?)?;
+    Ok(Catalog {
+        segments: 4,
+        tables: List::of(vec![in alloc; one, other]?),
+    })
+}
 
 // ---- the line that is told
 
@@ -75,13 +110,13 @@ fn shown(alloc: Global, query: &Query) -> Result<String, AllocError> {
     Ok(text)
 }
 
-fn said(alloc: Global, catalog: &str, text: &str) -> Result<String, AllocError> {
-    let Ok(catalog) = read_catalog(alloc, catalog.as_bytes()) else {
+fn said(alloc: Global, catalog: &Catalog, text: &str) -> Result<String, AllocError> {
+    if !catalog.keeps_limits() {
         return String::from_str(alloc, "no catalogue");
-    };
+    }
     match read_sql(alloc, text.as_bytes()) {
         Err(fault) => told_of_text(alloc, fault),
-        Ok(select) => match bind(alloc, &select, &catalog, PLAIN) {
+        Ok(select) => match bind(alloc, &select, catalog, PLAIN) {
             Ok(query) => shown(alloc, &query),
             Err(fault) => told(alloc, fault),
         },
@@ -90,6 +125,7 @@ fn said(alloc: Global, catalog: &str, text: &str) -> Result<String, AllocError> 
 
 #[test]
 fn refused_queries_are_told_the_first_fault(rt: HostRuntime) -> Result<(), Fail> {
+    let catalog = two_tables(rt.alloc())?;
     for (text, want) in [
         ("SELECT T1.z FROM T1", "unknown column at 7"),
         ("SELECT a FROM T1, T2", "ambiguous column at 7"),
@@ -110,7 +146,7 @@ fn refused_queries_are_told_the_first_fault(rt: HostRuntime) -> Result<(), Fail>
             "not grouped at 49",
         ),
     ] {
-        let line = said(rt.alloc(), TWO_TABLES, text)?;
+        let line = said(rt.alloc(), &catalog, text)?;
         assert_eq!(rt; line.as_str(), want, "of {text}");
     }
     Ok(())
@@ -118,6 +154,7 @@ fn refused_queries_are_told_the_first_fault(rt: HostRuntime) -> Result<(), Fail>
 
 #[test]
 fn queries_are_bound(rt: HostRuntime) -> Result<(), Fail> {
+    let catalog = two_tables(rt.alloc())?;
     for (text, want) in [
         (
             "SELECT T1.a FROM T1, T2",
@@ -132,35 +169,45 @@ fn queries_are_bound(rt: HostRuntime) -> Result<(), Fail> {
             "0.a/1000 0.b/500 1.a/1000 where 1:n 2:i0 links 1-0 group 1 output 1 3 4 order 4- 1+",
         ),
     ] {
-        let line = said(rt.alloc(), TWO_TABLES, text)?;
+        let line = said(rt.alloc(), &catalog, text)?;
         assert_eq!(rt; line.as_str(), want, "of {text}");
     }
     Ok(())
 }
 
-// `c0`, `c1` and so on, each behind the front and before the back.
-fn numbered(alloc: Global, front: &str, back: &str, count: u64) -> Result<String, AllocError> {
+// `c0`, `c1` and so on.
+fn numbered(alloc: Global, count: u64) -> Result<String, AllocError> {
     let mut text = String::new(alloc);
     for i in 0..count {
         let comma = if i == 0 { "" } else { "," };
-        text.push_str(format!(in alloc; "{comma}{front}c{i}{back}")?.as_str())?;
+        text.push_str(format!(in alloc; "{comma}c{i}")?.as_str())?;
     }
     Ok(text)
+}
+
+fn wide_table(alloc: Global, count: u64) -> Result<Catalog, AllocError> {
+    let mut columns = List::new(alloc);
+    for i in 0..count {
+        let name = Text::of(format!(in alloc; "c{i}")?);
+        columns.push(ColumnInfo { name, ndv: 1 })?;
+    }
+    let wide = table(alloc, "t", columns)?;
+    Ok(Catalog {
+        segments: 1,
+        tables: List::of(vec![in alloc; wide]?),
+    })
 }
 
 #[test]
 fn sixty_items_are_the_most(rt: HostRuntime) -> Result<(), Fail> {
     let alloc = rt.alloc();
-    let columns = numbered(alloc, "{\"name\":\"", "\",\"ndv\":1}", 61)?;
-    let catalog = format!(in alloc;
-        "{{\"version\":1,\"segments\":1,\"tables\":[{{\"name\":\"t\",\"rows\":1,\"distribution\":\"random\",\"columns\":[{columns}]}}]}}"
-    )?;
-    let items = numbered(alloc, "", "", 60)?;
+    let catalog = wide_table(alloc, 61)?;
+    let items = numbered(alloc, 60)?;
     let most = format!(in alloc; "SELECT {items} FROM t")?;
     let over = format!(in alloc; "SELECT {items} FROM t WHERE c60 = 1")?;
-    let bound = said(alloc, catalog.as_str(), most.as_str())?;
+    let bound = said(alloc, &catalog, most.as_str())?;
     assert!(rt; bound.as_str().starts_with("0.c0/1 0.c1/1 "));
-    let refused = said(alloc, catalog.as_str(), over.as_str())?;
+    let refused = said(alloc, &catalog, over.as_str())?;
     assert_eq!(rt; refused.as_str(), "too many columns: 61");
     Ok(())
 }

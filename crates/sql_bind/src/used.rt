@@ -1,13 +1,17 @@
 //! The columns that a query uses, by table and then by place in the catalogue.
 ghost use Rattle.std.specs.Prelude.{◌≡◌, ◌++◌, IfOk, OnOk};
+ghost use Rattle.sql_bind.specs.declared.columns.Column.{Column};
+ghost use Rattle.sql_bind.specs.Columns.{is_among as among};
 ghost use Rattle.sql_bind.specs.Used.{named_by_chosen, named_by_compared, named_by_keys, in_what, in_compared, in_target, listed_from, places_of, placed_by, indexed_by, wanted_by as all_wanted, used_in as columns_used_in, used_from as used_columns_from, used_by as used_columns};
 
-use crate::columns::{Column, is_among};
+use crate::columns::Column;
 use crate::conditions::{Compared, Side};
+use crate::numbers::UsedColumns;
 use crate::parts::Parts;
 use crate::scope::Source;
 use crate::select_list::{Chosen, What};
 use crate::sort_keys::{SortKey, Target};
+use indexmap::IndexSet;
 use orca_base::List;
 use query_core::{ColumnInfo, Placing};
 use std::alloc::{AllocError, Global};
@@ -178,19 +182,35 @@ fn wanted_by(alloc: Global, parts: &Parts<'_>) -> Result<Vec<Column>, AllocError
     Ok(wanted)
 }
 
+/// The columns as a set.
+fn set_of(alloc: Global, columns: &[Column]) -> Result<IndexSet<Column>, AllocError>
+    ensures { IfOk result (λ set. (c : Column) → among set.keys c ≡ among columns.now c) }
+{
+    let mut set = IndexSet::with_capacity(alloc, columns.len())?;
+    for column in columns {
+        set.insert(*column)?;
+    }
+    Ok(set)
+}
+
+fn is_wanted(wanted: &IndexSet<Column>, column: Column) -> bool
+    ensures { result ≡ among wanted.now.keys column }
+{
+    wanted.contains(&column)
+}
+
 fn add_used<'a>(
-    wanted: &[Column],
+    wanted: &IndexSet<Column>,
     table: usize,
     columns: &'a [ColumnInfo],
-    used: &mut Vec<Used<'a>>,
+    used: &mut List<Used<'a>>,
 ) -> Result<(), AllocError>
-    ensures { OnOk result
-        (used.new.items ≡ used.old.items ++ columns_used_in wanted.now table 0 columns.now) }
+    ensures { OnOk result (used.new ≡ used.old ++ columns_used_in wanted.now.keys table 0 columns.now) }
 {
     let mut place = 0;
     for info in columns {
         let column = Column { table, place };
-        if is_among(wanted, column) {
+        if is_wanted(wanted, column) {
             used.push(Used::new(column, info))?;
         }
         place += 1;
@@ -200,12 +220,12 @@ fn add_used<'a>(
 
 fn used_from<'a>(
     alloc: Global,
-    wanted: &[Column],
+    wanted: &IndexSet<Column>,
     sources: &[Source<'a>],
-) -> Result<Vec<Used<'a>>, AllocError>
-    ensures { IfOk result (λ used. used.items ≡ used_columns_from wanted.now 0 sources.now) }
+) -> Result<List<Used<'a>>, AllocError>
+    ensures { IfOk result (λ used. used ≡ used_columns_from wanted.now.keys 0 sources.now) }
 {
-    let mut used = Vec::new(alloc);
+    let mut used = List::new(alloc);
     let mut table = 0;
     for source in sources {
         add_used(wanted, table, source.info().columns.as_slice(), &mut used)?;
@@ -216,9 +236,11 @@ fn used_from<'a>(
 
 /// The used columns in their order.
 #[tactic(auto, unfolding(crate::specs::Used::used_by))]
-pub fn used_by<'a>(alloc: Global, parts: &Parts<'a>) -> Result<Vec<Used<'a>>, AllocError>
-    ensures { IfOk result (λ used. used.items ≡ used_columns parts.now) }
+pub fn used_by<'a>(alloc: Global, parts: &Parts<'a>) -> Result<UsedColumns<'a>, AllocError>
+    ensures { IfOk result (λ used. used ≡ used_columns parts.now) }
 {
-    let wanted = wanted_by(alloc, parts)?;
-    used_from(alloc, &wanted, parts.scope.as_slice())
+    let named = wanted_by(alloc, parts)?;
+    let wanted = set_of(alloc, &named)?;
+    let used = used_from(alloc, &wanted, parts.scope.as_slice())?;
+    UsedColumns::of(alloc, used)
 }

@@ -1,5 +1,6 @@
 -- No token says two different things.
-use Rattle.std.proofs.Common.{◌≡◌, ℕ, ◌≤◌, Bool, true, false, cond, eqb, List, [], Option, Some, None, ℤ, pos, refl, arith, eqb-true}
+use Rattle.std.proofs.Common.{◌≡◌, ℕ, ◌≤◌, Bool, true, false, cond, eqb, List, [], Option, Some, None, ℤ, pos, refl}
+use Rattle.std.proofs.Common.{arith, eqb-true}
 use Rattle.std.specs.Prelude.{is_some}
 use Rattle.sql_reader.specs.Marks.{number_of}
 use Rattle.sql_reader.specs.declared.tokens.Mark.{Mark}
@@ -10,7 +11,8 @@ use Rattle.sql_reader.specs.declared.tokens.Kind.TheVariants as kinds
 use Rattle.sql_reader.specs.declared.tokens.Token.{Token}
 use Rattle.sql_reader.specs.declared.tokens.Name.{Name}
 use Rattle.sql_reader.specs.declared.syntax.SelOp.{SelOp}
-use Rattle.sql_reader.specs.Tokens.{is_mark, place_of, name_in, name_of, function_in, called_of, integer_in, integer_of, quoted_in, quoted_of, comparison, op_in, op_of}
+use Rattle.sql_reader.specs.Tokens.{is_mark, place_of, name_in, name_of, function_in, called_of, integer_in, integer_of}
+use Rattle.sql_reader.specs.Tokens.{quoted_in, quoted_of, comparison, op_in, op_of}
 use Rattle.sql_reader.proofs.Choices.{Says}
 
 abbrev pub AMark : Mark → Token → Type 0
@@ -58,8 +60,11 @@ chosen : (b : Bool) (at p : ℕ) → cond b (Some at) None ≡ Some p → b ≡ 
 chosen true at p h = refl
 chosen false at p h = absurd cc
 
-has_mark : (mark : Mark) (at p : ℕ) (kind : Kind) → cond (is_mark mark kind) (Some at) None ≡ Some p → HasMark (number_of mark) kind
-has_mark mark at p (kinds.Mark other) h = let e = eqb-true (number_of mark) (number_of other) (chosen (eqb (number_of mark) (number_of other)) at p h) in omega (arith, e)
+has_mark : (mark : Mark) (at p : ℕ) (kind : Kind) → cond (is_mark mark kind) (Some at) None ≡ Some p
+    → HasMark (number_of mark) kind
+has_mark mark at p (kinds.Mark other) h = let e =
+    eqb-true (number_of mark) (number_of other) (chosen (eqb (number_of mark) (number_of other)) at p h) in
+    omega (arith, e)
 has_mark mark at p (kinds.Name text) h = absurd cc
 has_mark mark at p (kinds.Function function) h = absurd cc
 has_mark mark at p (kinds.Integer number) h = absurd cc
@@ -88,7 +93,8 @@ name_no_mark n at name (kinds.Quoted text) h k = k
 pub name_mark : (mark : Mark) (t : Token) → AName t → AMark mark t → ⊥
 name_mark mark t h k = name_no_mark (number_of mark) t.at h.0 t.kind h.1 (marked mark t k)
 
-name_no_call : (at : ℕ) (name : Name) (function : Function) (kind : Kind) → name_in at kind ≡ Some name → function_in kind ≡ Some function → ⊥
+name_no_call : (at : ℕ) (name : Name) (function : Function) (kind : Kind) → name_in at kind ≡ Some name
+    → function_in kind ≡ Some function → ⊥
 name_no_call at name function (kinds.Mark mark) h k = absurd cc
 name_no_call at name function (kinds.Name text) h k = absurd cc
 name_no_call at name function (kinds.Function other) h k = absurd cc
@@ -98,7 +104,8 @@ name_no_call at name function (kinds.Quoted text) h k = absurd cc
 pub name_call : (t : Token) → AName t → ACall t → ⊥
 name_call t h k = name_no_call t.at h.0 k.0 t.kind h.1 k.1
 
-integer_no_name : (at : ℕ) (number : ℤ) (name : Name) (kind : Kind) → integer_in kind ≡ Some number → name_in at kind ≡ Some name → ⊥
+integer_no_name : (at : ℕ) (number : ℤ) (name : Name) (kind : Kind) → integer_in kind ≡ Some number
+    → name_in at kind ≡ Some name → ⊥
 integer_no_name at number name (kinds.Mark mark) h k = absurd cc
 integer_no_name at number name (kinds.Name text) h k = absurd cc
 integer_no_name at number name (kinds.Function other) h k = absurd cc
@@ -108,7 +115,8 @@ integer_no_name at number name (kinds.Quoted text) h k = absurd cc
 pub integer_name : (t : Token) → AnInteger t → AName t → ⊥
 integer_name t h k = integer_no_name t.at h.0 k.0 t.kind h.1 k.1
 
-quoted_no_name : (at : ℕ) (quoted : List ℕ) (name : Name) (kind : Kind) → quoted_in kind ≡ Some quoted → name_in at kind ≡ Some name → ⊥
+quoted_no_name : (at : ℕ) (quoted : List ℕ) (name : Name) (kind : Kind) → quoted_in kind ≡ Some quoted
+    → name_in at kind ≡ Some name → ⊥
 quoted_no_name at quoted name (kinds.Mark mark) h k = absurd cc
 quoted_no_name at quoted name (kinds.Name text) h k = absurd cc
 quoted_no_name at quoted name (kinds.Function other) h k = absurd cc
@@ -118,7 +126,8 @@ quoted_no_name at quoted name (kinds.Quoted text) h k = absurd cc
 pub quoted_name : (t : Token) → AText t → AName t → ⊥
 quoted_name t h k = quoted_no_name t.at h.0 k.0 t.kind h.1 k.1
 
-integer_no_quoted : (number : ℤ) (quoted : List ℕ) (kind : Kind) → integer_in kind ≡ Some number → quoted_in kind ≡ Some quoted → ⊥
+integer_no_quoted : (number : ℤ) (quoted : List ℕ) (kind : Kind) → integer_in kind ≡ Some number
+    → quoted_in kind ≡ Some quoted → ⊥
 integer_no_quoted number quoted (kinds.Mark mark) h k = absurd cc
 integer_no_quoted number quoted (kinds.Name text) h k = absurd cc
 integer_no_quoted number quoted (kinds.Function other) h k = absurd cc

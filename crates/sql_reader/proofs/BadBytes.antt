@@ -1,5 +1,6 @@
 -- The first bad byte of a text.
-use Rattle.std.proofs.Common.{◌≡◌, ℕ, ◌+◌, ◌≤◌, ◌<◌, Bool, true, false, cond, leb, List, [], ◌∷◌, ◌++◌, length, Option, Some, None, inl, inr, refl, sym, ap, subst, arith}
+use Rattle.std.proofs.Common.{◌≡◌, ℕ, ◌+◌, ◌≤◌, ◌<◌, Bool, true, false, cond, leb, List, [], ◌∷◌, ◌++◌, length, Option}
+use Rattle.std.proofs.Common.{Some, None, inl, inr, refl, sym, ap, subst, arith}
 use Rattle.std.specs.Option.{option_or}
 use Rattle.std.proofs.lemmas.Bool.{leb-true, leb-false}
 use Rattle.sql_reader.specs.declared.faults.SqlFault.{SqlFault}
@@ -67,8 +68,10 @@ none_bad at byte small calm faults.Memory h = h
 byte_least_by : (at byte : ℕ) (a c : Bool) → leb 128 byte ≡ a → is_control byte ≡ c
     → IsLeast (IsBad at byte) (cond a (Some (faults.NotAscii at)) (cond c (Some (faults.Token at)) None))
 byte_least_by at byte true c e h = ((refl, leb-true _ _ e), not_ascii_first at byte (leb-true _ _ e))
-byte_least_by at byte false true e h = let small : 128 ≤ byte → ⊥ = λ le. absurd (let k = leb-false _ _ e in omega (arith, k, le)) in ((refl, h), control_first at byte small)
-byte_least_by at byte false false e h = let small : 128 ≤ byte → ⊥ = λ le. absurd (let k = leb-false _ _ e in omega (arith, k, le)) in none_bad at byte small h
+byte_least_by at byte false true e h = let small : 128 ≤ byte → ⊥ =
+    λ le. absurd (let k = leb-false _ _ e in omega (arith, k, le)) in ((refl, h), control_first at byte small)
+byte_least_by at byte false false e h = let small : 128 ≤ byte → ⊥ =
+    λ le. absurd (let k = leb-false _ _ e in omega (arith, k, le)) in none_bad at byte small h
 
 byte_least : (at byte : ℕ) → IsLeast (IsBad at byte) (bad_byte at byte)
 byte_least at byte = byte_least_by at byte (leb 128 byte) (is_control byte) refl refl
@@ -81,7 +84,8 @@ data Where (at byte : ℕ) (bytes : List ℕ) (g : SqlFault) : Type 0 where
 where_bad : (at byte : ℕ) (bytes : List ℕ) (g : SqlFault) → HasBad at (byte ∷ bytes) g → Where at byte bytes g
 where_bad at byte bytes g h = by h.front h.whole h.bad
   where
-    by : (front : List ℕ) → byte ∷ bytes ≡ front ++ h.byte ∷ h.others → IsBad (at + length front) h.byte g → Where at byte bytes g
+    by : (front : List ℕ) → byte ∷ bytes ≡ front ++ h.byte ∷ h.others → IsBad (at + length front) h.byte g
+        → Where at byte bytes g
     by [] e b =
         let same : byte ≡ h.byte = cc in
         let k : at + 0 ≡ at = omega arith in
@@ -90,17 +94,27 @@ where_bad at byte bytes g h = by h.front h.whole h.bad
         let tail : bytes ≡ front ++ h.byte ∷ h.others = cc in
         let k : at + length (x ∷ front) ≡ (at + 1) + length front = omega arith in
         let p = place_of_bad (at + length (x ∷ front)) h.byte g b in
-        there (record { front = front; byte = h.byte; others = h.others; whole = tail; bad = rw k at b }) (omega (arith, p))
+        there (record { front = front; byte = h.byte; others = h.others; whole = tail; bad = rw k at b })
+        (omega (arith, p))
 
 at_first : (at byte : ℕ) (bytes : List ℕ) (f : SqlFault) → IsBad at byte f → HasBad at (byte ∷ bytes) f
-at_first at byte bytes f b = let k : at + 0 ≡ at = omega arith in record { front = []; byte = byte; others = bytes; whole = refl; bad = rw k b }
+at_first at byte bytes f b = let k : at + 0 ≡ at = omega arith in
+    record { front = []; byte = byte; others = bytes; whole = refl; bad = rw k b }
 
 at_later : (at byte : ℕ) (bytes : List ℕ) (f : SqlFault) → HasBad (at + 1) bytes f → HasBad at (byte ∷ bytes) f
 at_later at byte bytes f h =
     let k : at + length (byte ∷ h.front) ≡ (at + 1) + length h.front = omega arith in
-    record { front = byte ∷ h.front; byte = h.byte; others = h.others; whole = ap (λ (bs : List ℕ). byte ∷ bs) h.whole; bad = rw k h.bad }
+    record {
+      front = byte ∷ h.front;
+      byte = h.byte;
+      others = h.others;
+      whole = ap (λ (bs : List ℕ). byte ∷ bs)
+          h.whole;
+      bad = rw k h.bad;
+    }
 
-least_by : (at byte : ℕ) (bytes : List ℕ) (o later : Option SqlFault) → IsLeast (IsBad at byte) o → IsLeast (HasBad (at + 1) bytes) later → IsLeast (HasBad at (byte ∷ bytes)) (option_or o later)
+least_by : (at byte : ℕ) (bytes : List ℕ) (o later : Option SqlFault) → IsLeast (IsBad at byte) o
+    → IsLeast (HasBad (at + 1) bytes) later → IsLeast (HasBad at (byte ∷ bytes)) (option_or o later)
 least_by at byte bytes (Some f) later l m = (at_first at byte bytes f l.0, λ g h. by g (where_bad at byte bytes g h))
   where
     by : (g : SqlFault) → Where at byte bytes g → First f g
@@ -123,4 +137,5 @@ bad_least at [] = λ g h. none h.front h.byte h.others h.whole
     none : (front : List ℕ) (byte : ℕ) (others : List ℕ) → [] ≡ front ++ byte ∷ others → ⊥
     none [] byte others e = cc
     none (x ∷ front) byte others e = cc
-bad_least at (byte ∷ bytes) = least_by at byte bytes (bad_byte at byte) (first_bad (at + 1) bytes) (byte_least at byte) (bad_least (at + 1) bytes)
+bad_least at (byte ∷ bytes) = least_by at byte bytes (bad_byte at byte) (first_bad (at + 1) bytes)
+    (byte_least at byte) (bad_least (at + 1) bytes)

@@ -25,25 +25,38 @@ class_says byte = by_blank (is_blank byte) refl
     by_sign true h q m = h
     by_sign false h q m = (h, q, m)
 
-    by_minus : (e : Bool) → (byte == 45) ≡ e → byte ≢ 39 → IsOf byte (cond e classes.Minus (cond (is_sign byte) classes.Sign classes.Bad))
+    by_minus : (e : Bool) → (byte == 45) ≡ e → byte ≢ 39
+        → IsOf byte (cond e classes.Minus (cond (is_sign byte) classes.Sign classes.Bad))
     by_minus true h q = eqb-true byte 45 h
     by_minus false h q = by_sign (is_sign byte) refl q (eqb-false byte 45 h)
 
-    by_quote : (d : Bool) → (byte == 39) ≡ d → IsOf byte (cond d classes.Quote (cond (byte == 45) classes.Minus (cond (is_sign byte) classes.Sign classes.Bad)))
+    by_quote : (d : Bool) → (byte == 39) ≡ d
+        → IsOf byte (cond d classes.Quote
+        (cond (byte == 45) classes.Minus (cond (is_sign byte) classes.Sign classes.Bad)))
     by_quote true h = eqb-true byte 39 h
     by_quote false h = by_minus (byte == 45) refl (eqb-false byte 39 h)
 
-    by_digit : (c : Bool) → is_digit byte ≡ c → IsOf byte (cond c classes.Digit (cond (byte == 39) classes.Quote (cond (byte == 45) classes.Minus (cond (is_sign byte) classes.Sign classes.Bad))))
+    by_digit : (c : Bool) → is_digit byte ≡ c
+        → IsOf byte (cond c classes.Digit
+        (cond (byte == 39) classes.Quote
+        (cond (byte == 45) classes.Minus (cond (is_sign byte) classes.Sign classes.Bad))))
     by_digit true h = h
     by_digit false h = by_quote (byte == 39) refl
 
     by_letter : (b : Bool) → begins_name byte ≡ b
-        → IsOf byte (cond b classes.Letter (cond (is_digit byte) classes.Digit (cond (byte == 39) classes.Quote (cond (byte == 45) classes.Minus (cond (is_sign byte) classes.Sign classes.Bad)))))
+        → IsOf byte (cond b classes.Letter
+        (cond (is_digit byte) classes.Digit
+        (cond (byte == 39) classes.Quote
+        (cond (byte == 45) classes.Minus (cond (is_sign byte) classes.Sign classes.Bad)))))
     by_letter true h = h
     by_letter false h = by_digit (is_digit byte) refl
 
     by_blank : (a : Bool) → is_blank byte ≡ a
-        → IsOf byte (cond a classes.Blank (cond (begins_name byte) classes.Letter (cond (is_digit byte) classes.Digit (cond (byte == 39) classes.Quote (cond (byte == 45) classes.Minus (cond (is_sign byte) classes.Sign classes.Bad))))))
+        → IsOf byte (cond a classes.Blank
+        (cond (begins_name byte) classes.Letter
+        (cond (is_digit byte) classes.Digit
+        (cond (byte == 39) classes.Quote
+        (cond (byte == 45) classes.Minus (cond (is_sign byte) classes.Sign classes.Bad))))))
     by_blank true h = h
     by_blank false h = by_letter (begins_name byte) refl
 
@@ -81,7 +94,13 @@ digit_class byte h =
     rw (b, l, h) refl
 
 sign_within : (byte : ℕ) → is_sign byte ≡ true → (33 ≤ byte) × (byte ≤ 62) × (byte ≢ 39) × (byte ≢ 45)
-sign_within byte h = (grind (arith, nat_tests), grind (arith, nat_tests), λ e. grind (arith, nat_tests), λ e. grind (arith, nat_tests))
+sign_within byte h = (
+  grind (arith, nat_tests),
+  grind (arith, nat_tests),
+  λ e. grind (arith, nat_tests),
+  λ e. grind
+      (arith, nat_tests),
+)
 
 sign_no_digit : (byte : ℕ) → is_sign byte ≡ true → is_digit byte ≡ false
 sign_no_digit byte h = grind (arith, nat_tests)

@@ -12,13 +12,17 @@ use Rattle.sql_reader.specs.declared.syntax.SelOperand.TheVariants as operands
 use Rattle.sql_reader.specs.declared.syntax.SelOp.TheVariants as ops
 use Rattle.sql_reader.specs.Grammar.{Done, Then}
 use Rattle.sql_reader.specs.Steps.{done_at, then_at}
-use Rattle.sql_reader.specs.Query.{plain_column, column_in, count_all, aggregate, plain_item, named_item, plain_table, aliased_table, predicate, key, IsColumn, IsArgument, IsCall, IsExpr, IsOutput, IsItem, IsTable, IsOperand, IsPred, IsDirection, IsKey}
-use Rattle.sql_reader.specs.Reading.{column_at, argument_at, call_at, expr_at, output_at, item_at, table_at, operand_at, pred_at, direction_at, key_at}
+use Rattle.sql_reader.specs.Query.{plain_column, column_in, count_all, aggregate, plain_item, named_item, plain_table}
+use Rattle.sql_reader.specs.Query.{aliased_table, predicate, key, IsColumn, IsArgument, IsCall, IsExpr, IsOutput}
+use Rattle.sql_reader.specs.Query.{IsItem, IsTable, IsOperand, IsPred, IsDirection, IsKey}
+use Rattle.sql_reader.specs.Reading.{column_at, argument_at, call_at, expr_at, output_at, item_at, table_at, operand_at}
+use Rattle.sql_reader.specs.Reading.{pred_at, direction_at, key_at}
 use Rattle.sql_reader.proofs.Exact.{Exact, Never, NoToken, as_exact}
 use Rattle.sql_reader.proofs.Choices.{done_exact}
 use Rattle.sql_reader.proofs.Branches.{after, choice}
 use Rattle.sql_reader.proofs.Sequences.{sequence}
-use Rattle.sql_reader.proofs.Apart.{AMark, AName, ACall, AnInteger, AText, AnOp, mark_token, name_token, one_mark, name_mark, name_call, integer_name, quoted_name, integer_quoted, op_mark}
+use Rattle.sql_reader.proofs.Apart.{AMark, AName, ACall, AnInteger, AText, AnOp, mark_token, name_token, one_mark}
+use Rattle.sql_reader.proofs.Apart.{name_mark, name_call, integer_name, quoted_name, integer_quoted, op_mark}
 
 -- ---- sets of tokens, made smaller
 
@@ -63,11 +67,14 @@ pub column_exact : Exact IsColumn AName (AMark marks.Dot) ⊥ Never column_at
 unfolding column_at
 column_exact = as_exact
     (after name_token _ refl (λ first.
-    choice (λ (_ : ℕ). after name_token _ refl (λ name. done_exact (column_in first name))) (done_exact (plain_column first)) (λ t v s k. k)))
+    choice (λ (_ : ℕ). after name_token _ refl (λ name. done_exact (column_in first name)))
+    (done_exact (plain_column first)) (λ t v s k. k)))
     (λ t h. h) (λ t h. only_last (AMark marks.Dot t) h) (λ h. h)
 
 -- a column, as something else
-as_column : {Z : Type 0} (f : ColRef → Z) → Exact (Then IsColumn (λ column. Done (f column))) AName (AMark marks.Dot) ⊥ Never (then_at column_at (λ column. done_at (f column)))
+as_column : {Z : Type 0} (f : ColRef → Z)
+    → Exact (Then IsColumn (λ column. Done (f column))) AName (AMark marks.Dot) ⊥ Never
+    (then_at column_at (λ column. done_at (f column)))
 as_column f = as_exact (sequence column_exact (λ column. done_exact (f column)) (λ t m n. n))
     (λ t h. begun (AName t) ⊥ h) (λ t h. passed (AMark marks.Dot t) h) (λ h. h.0)
 
@@ -77,10 +84,12 @@ Argues t = AMark marks.Star t ⊎ AName t
 star_or_column : Exact (IsArgument functions.Count) Argues (AMark marks.Dot) ⊥ Never (argument_at functions.Count)
 unfolding argument_at Argues
 star_or_column = as_exact
-    (choice (λ (_ : ℕ). done_exact count_all) (as_column (aggregate functions.Count)) (λ t v s n. name_mark marks.Star t n (v, s)))
+    (choice (λ (_ : ℕ). done_exact count_all) (as_column (aggregate functions.Count))
+    (λ t v s n. name_mark marks.Star t n (v, s)))
     (λ t h. h) (λ t h. second_only (AMark marks.Dot t) (AMark marks.Star t) h) (λ h. h)
 
-argument_exact : (function : Function) → Exact (IsArgument function) Argues (AMark marks.Dot) ⊥ Never (argument_at function)
+argument_exact : (function : Function)
+    → Exact (IsArgument function) Argues (AMark marks.Dot) ⊥ Never (argument_at function)
 unfolding argument_at Argues
 argument_exact functions.Count = star_or_column
 argument_exact functions.Sum = as_exact (as_column (aggregate functions.Sum)) (λ t h. inr h) (λ t h. h) (λ h. h)
@@ -92,7 +101,8 @@ unfolding call_at
 call_exact function = as_exact
     (after (mark_token marks.Open) _ refl (λ (_ : ℕ).
     sequence (argument_exact function) (λ call. after (mark_token marks.Close) _ refl (λ (_ : ℕ). done_exact call))
-    (λ t h k. let e : number_of marks.Dot ≡ number_of marks.Close = one_mark marks.Dot marks.Close t h k in absurd (omega (arith, e)))))
+    (λ t h k. let e : number_of marks.Dot ≡ number_of marks.Close = one_mark marks.Dot marks.Close t h k in
+    absurd (omega (arith, e)))))
     (λ t h. h) (λ t h. never_passed (AMark marks.Dot t) h) (λ h. h)
 
 abbrev pub Begins : Token → Type 0
@@ -103,17 +113,22 @@ unfolding expr_at
 expr_exact = as_exact (choice call_exact (as_column exprs.Column) (λ t v s n. name_call t n (v, s)))
     (λ t h. h) (λ t h. second_only (AMark marks.Dot t) (ACall t) h) (λ h. h)
 
-output_exact : (expr : SelExpr) → Exact (IsOutput expr) (AMark marks.As) (AMark marks.As) (Unit {0}) Never (output_at expr)
+output_exact : (expr : SelExpr)
+    → Exact (IsOutput expr) (AMark marks.As) (AMark marks.As) (Unit {0}) Never (output_at expr)
 unfolding output_at
 output_exact expr = as_exact
-    (choice (λ (_ : ℕ). after name_token _ refl (λ name. done_exact (named_item expr name))) (done_exact (plain_item expr)) (λ t v s k. k))
+    (choice (λ (_ : ℕ). after name_token _ refl (λ name. done_exact (named_item expr name)))
+    (done_exact (plain_item expr)) (λ t v s k. k))
     (λ t h. either_none (AMark marks.As t) h) (λ t h. only_last (AMark marks.As t) h) (λ h. h)
 
 pub item_exact : Exact IsItem Begins (λ t. AMark marks.As t ⊎ AMark marks.Dot t) ⊥ Never item_at
 unfolding item_at
 item_exact = as_exact
-    (sequence expr_exact output_exact (λ t h k. let e : number_of marks.Dot ≡ number_of marks.As = one_mark marks.Dot marks.As t h k in absurd (omega (arith, e))))
-    (λ t h. begun (Begins t) (AMark marks.As t) h) (λ t h. passed_or (AMark marks.As t) (AMark marks.Dot t) h) (λ h. h.0)
+    (sequence expr_exact output_exact
+    (λ t h k. let e : number_of marks.Dot ≡ number_of marks.As = one_mark marks.Dot marks.As t h k in
+    absurd (omega (arith, e))))
+    (λ t h. begun (Begins t) (AMark marks.As t) h) (λ t h. passed_or (AMark marks.As t) (AMark marks.Dot t) h)
+    (λ h. h.0)
 
 pub table_exact : Exact IsTable AName (λ t. AMark marks.As t ⊎ AName t) ⊥ Never table_at
 unfolding table_at
@@ -133,7 +148,8 @@ operand_exact = as_exact
     (choice (λ number. done_exact (operands.Int number))
     (choice (λ text. done_exact (operands.Str text)) (as_column operands.Column) (λ t v s n. quoted_name t (v, s) n))
     (λ t v s n. integer_or t (v, s) n))
-    (λ t h. h) (λ t h. second_only (AMark marks.Dot t) (AText t) (second_only (⊥ ⊎ (AMark marks.Dot t ⊎ (⊥ × AText t))) (AnInteger t) h)) (λ h. h)
+    (λ t h. h) (λ t h. second_only (AMark marks.Dot t) (AText t)
+    (second_only (⊥ ⊎ (AMark marks.Dot t ⊎ (⊥ × AText t))) (AnInteger t) h)) (λ h. h)
   where
     integer_or : (t : Token) → AnInteger t → AText t ⊎ AName t → ⊥
     integer_or t h (inl k) = integer_quoted t h k
@@ -142,9 +158,12 @@ operand_exact = as_exact
 pub pred_exact : Exact IsPred AName (AMark marks.Dot) ⊥ Never pred_at
 unfolding pred_at
 pred_exact = as_exact
-    (sequence column_exact (λ left. after (mark_token marks.Equal) ops.Eq refl (λ op. sequence operand_exact (λ right. done_exact (predicate left op right)) (λ t m n. n)))
+    (sequence column_exact (λ left. after (mark_token marks.Equal) ops.Eq refl
+    (λ op. sequence operand_exact (λ right. done_exact (predicate left op right)) (λ t m n. n)))
     (λ t h k. absurd (omega (arith, op_mark marks.Dot t k h))))
-    (λ t h. begun (AName t) (AnOp t) h) (λ t h. passed (AMark marks.Dot t) (begun (⊥ ⊎ (Unit {0} × AMark marks.Dot t)) (AMark marks.Dot t) h)) (λ h. h.0)
+    (λ t h. begun (AName t) (AnOp t) h)
+    (λ t h. passed (AMark marks.Dot t) (begun (⊥ ⊎ (Unit {0} × AMark marks.Dot t)) (AMark marks.Dot t) h))
+    (λ h. h.0)
 
 abbrev pub Directs : Token → Type 0
 Directs t = AMark marks.Asc t ⊎ AMark marks.Desc t
@@ -154,8 +173,10 @@ unfolding direction_at
 direction_exact column = as_exact
     (choice (λ (_ : ℕ). done_exact (key column false))
     (choice (λ (_ : ℕ). done_exact (key column true)) (done_exact (key column false)) (λ t v s k. k))
-    (λ t v s n. let e : number_of marks.Asc ≡ number_of marks.Desc = one_mark marks.Asc marks.Desc t (v, s) (either_none (AMark marks.Desc t) n) in absurd (omega (arith, e))))
-    (λ t h. three (AMark marks.Asc t) (AMark marks.Desc t) h) (λ t h. two_last (AMark marks.Desc t) (AMark marks.Asc t) h) (λ h. h)
+    (λ t v s n. let e : number_of marks.Asc ≡ number_of marks.Desc =
+    one_mark marks.Asc marks.Desc t (v, s) (either_none (AMark marks.Desc t) n) in absurd (omega (arith, e))))
+    (λ t h. three (AMark marks.Asc t) (AMark marks.Desc t) h)
+    (λ t h. two_last (AMark marks.Desc t) (AMark marks.Asc t) h) (λ h. h)
   where
     three : (A B : Type 0) → A ⊎ (B ⊎ ⊥) → A ⊎ B
     three A B (inl h) = inl h
@@ -168,5 +189,7 @@ key_exact = as_exact (sequence column_exact direction_exact dot_direction)
     (λ t h. begun (AName t) (Directs t) h) (λ t h. passed_or (Directs t) (AMark marks.Dot t) h) (λ h. h.0)
   where
     dot_direction : (t : Token) → AMark marks.Dot t → Directs t → ⊥
-    dot_direction t h (inl k) = let e : number_of marks.Dot ≡ number_of marks.Asc = one_mark marks.Dot marks.Asc t h k in absurd (omega (arith, e))
-    dot_direction t h (inr k) = let e : number_of marks.Dot ≡ number_of marks.Desc = one_mark marks.Dot marks.Desc t h k in absurd (omega (arith, e))
+    dot_direction t h (inl k) = let e : number_of marks.Dot ≡ number_of marks.Asc =
+        one_mark marks.Dot marks.Asc t h k in absurd (omega (arith, e))
+    dot_direction t h (inr k) = let e : number_of marks.Dot ≡ number_of marks.Desc =
+        one_mark marks.Dot marks.Desc t h k in absurd (omega (arith, e))

@@ -1,5 +1,6 @@
 -- The earlier of two faults is the first of both kinds.
-use Rattle.std.proofs.Common.{◌≡◌, ◌<◌, Bool, true, false, cond, ltb, Option, Some, None, ◌⊎◌, inl, inr, refl, sym, subst, arith}
+use Rattle.std.proofs.Common.{◌≡◌, ◌<◌, Bool, true, false, cond, ltb, Option, Some, None, ◌⊎◌, inl, inr, refl, sym}
+use Rattle.std.proofs.Common.{subst, arith}
 use Rattle.std.proofs.lemmas.Bool.{ltb-true, ltb-false}
 use Rattle.sql_reader.specs.declared.faults.SqlFault.{SqlFault}
 use Rattle.sql_reader.specs.Faults.{place, rank, IsBefore}
@@ -9,7 +10,8 @@ use Rattle.sql_reader.proofs.BadBytes.{IsLeast}
 
 -- ---- the earlier of two
 
-not_before_first : (f g h : SqlFault) → (place f < place g) ⊎ ((place f ≡ place g) × (rank f < rank g)) → First g h → First f h
+not_before_first : (f g h : SqlFault) → (place f < place g) ⊎ ((place f ≡ place g) × (rank f < rank g)) → First g h
+    → First f h
 not_before_first f g h b (inl e) = inr (subst (λ (x : SqlFault). IsBefore f x) e b)
 not_before_first f g h (inl b) (inr (inl c)) = inr (inl (omega (arith, b, c)))
 not_before_first f g h (inl b) (inr (inr c)) = inr (inl (omega (arith, b, c.0)))
@@ -21,7 +23,8 @@ first_through f g h (inl e) k = subst (λ (x : SqlFault). First x h) (sym e) k
 first_through f g h (inr b) k = not_before_first f g h b k
 
 module _ (Has Also : SqlFault → Type 0) (ties : (f g : SqlFault) → Has f → Also g → place f ≡ place g → First f g) where
-  sooner_by : (f g : SqlFault) (b : Bool) → ltb (place g) (place f) ≡ b → IsLeast Has (Some f) → IsLeast Also (Some g) → IsLeast (λ x. Has x ⊎ Also x) (Some (cond b g f))
+  sooner_by : (f g : SqlFault) (b : Bool) → ltb (place g) (place f) ≡ b → IsLeast Has (Some f) → IsLeast Also (Some g)
+      → IsLeast (λ x. Has x ⊎ Also x) (Some (cond b g f))
   sooner_by f g true e l m = (inr m.0, λ h k. by h k)
     where
       by : (h : SqlFault) → Has h ⊎ Also h → First g h
@@ -38,7 +41,8 @@ module _ (Has Also : SqlFault → Type 0) (ties : (f g : SqlFault) → Has f →
       by h (inr k) = first_through f g h (begins (let le = ltb-false _ _ e in grind arith)) (m.1 h k)
 
   -- the sooner of two is the first of both kinds
-  pub sooner_least : (a : Option SqlFault) (g : SqlFault) → IsLeast Has a → IsLeast Also (Some g) → IsLeast (λ x. Has x ⊎ Also x) (Some (sooner a g))
+  pub sooner_least : (a : Option SqlFault) (g : SqlFault) → IsLeast Has a → IsLeast Also (Some g)
+      → IsLeast (λ x. Has x ⊎ Also x) (Some (sooner a g))
   sooner_least None g l m = (inr m.0, λ h k. by h k)
     where
       by : (h : SqlFault) → Has h ⊎ Also h → First g h
@@ -46,7 +50,8 @@ module _ (Has Also : SqlFault → Type 0) (ties : (f g : SqlFault) → Has f →
       by h (inr k) = m.1 h k
   sooner_least (Some f) g l m = sooner_by f g (ltb (place g) (place f)) refl l m
 
-  pub earlier_least : (a b : Option SqlFault) → IsLeast Has a → IsLeast Also b → IsLeast (λ x. Has x ⊎ Also x) (earlier a b)
+  pub earlier_least : (a b : Option SqlFault) → IsLeast Has a → IsLeast Also b
+      → IsLeast (λ x. Has x ⊎ Also x) (earlier a b)
   earlier_least None None l m = λ g h. by g h
     where
       by : (h : SqlFault) → Has h ⊎ Also h → ⊥

@@ -1,5 +1,6 @@
 -- Elements with a mark between, up to a limit.
-use Rattle.std.proofs.Common.{◌≡◌, ℕ, zero, suc, Bool, true, false, cond, List, [], ◌∷◌, ◌++◌, Option, Some, None, Ok, Err, ◌⊎◌, inl, inr, refl, sym, ap, subst, ◌∙◌, arith}
+use Rattle.std.proofs.Common.{◌≡◌, ℕ, zero, suc, Bool, true, false, cond, List, [], ◌∷◌, ◌++◌, Option, Some, None, Ok}
+use Rattle.std.proofs.Common.{Err, ◌⊎◌, inl, inr, refl, sym, ap, subst, ◌∙◌, arith}
 use Rattle.std.specs.Prelude.{is_some, if◌then◌else◌}
 use Rattle.std.proofs.lemmas.List.{append-nil}
 use Rattle.sql_reader.specs.declared.tokens.Token.{Token}
@@ -8,13 +9,15 @@ use Rattle.sql_reader.specs.declared.faults.Limit.{Limit}
 use Rattle.sql_reader.specs.Tokens.{place_of}
 use Rattle.sql_reader.specs.Grammar.{Done, After, Then, Either, Others, Elements}
 use Rattle.sql_reader.specs.Steps.{Step, unexpected, too_many, done_at, then_at, ahead, branch_at, refused, elements_at}
-use Rattle.sql_reader.proofs.Exact.{BeginAlike, Blocked, GoesOn, Breaks, Overflows, Refuses, Answers, Again, Exact, Never, NoToken, as_exact}
+use Rattle.sql_reader.proofs.Exact.{BeginAlike, Blocked, GoesOn, Breaks, Overflows, Refuses, Answers, Again, Exact}
+use Rattle.sql_reader.proofs.Exact.{Never, NoToken, as_exact}
 use Rattle.sql_reader.proofs.Choices.{Says, done_exact, done_within, same_exact}
 use Rattle.sql_reader.proofs.Branches.{says_nothing, looks_alike, choice}
 use Rattle.sql_reader.proofs.Sequences.{both_exact}
 use Rattle.sql_reader.proofs.ListParts.{Above, Parts, parts_of, elements_from}
 
-module _ {X : Type 0} (mark : Mark) (IsX : List Token → X → Type 0) (First More : Token → Type 0) (read : List Token → Step X) (starts : Token → Bool) (what : Limit)
+module _ {X : Type 0} (mark : Mark) (IsX : List Token → X → Type 0) (First More : Token → Type 0)
+    (read : List Token → Step X) (starts : Token → Bool) (what : Limit)
     (e : Exact IsX First More ⊥ Never read)
     (opens : (t : Token) → First t → starts t ≡ true)
     (begins : (t : Token) → starts t ≡ true → (more : List Token) × (x : X) × IsX (t ∷ more) x)
@@ -30,19 +33,28 @@ module _ {X : Type 0} (mark : Mark) (IsX : List Token → X → Type 0) (First M
     abbrev tail_at : ℕ → List Token → Step (List X)
     tail_at room = branch_at (place_of mark) (λ _. elements_at mark starts read what room) (done_at [])
 
-    out_of_others : (ts : List Token) (xs : List X) → Others mark IsX ts xs → Either (After (place_of mark) (λ _. Elements mark IsX)) (Done []) ts xs
+    out_of_others : (ts : List Token) (xs : List X) → Others mark IsX ts xs
+        → Either (After (place_of mark) (λ _. Elements mark IsX)) (Done []) ts xs
     out_of_others [] [] h = inr refl
     out_of_others (t ∷ ts) [] h = absurd h
     out_of_others [] (x ∷ xs) h = absurd h
     out_of_others (t ∷ ts) (x ∷ xs) h =
-        inl (h.0, h.1, subst (λ (us : List Token). Elements mark IsX us (x ∷ xs)) (sym h.4) (elements_from mark IsX h.2 h.3 x xs h.5 h.6))
+        inl (
+          h.0,
+          h.1,
+          subst (λ (us : List Token). Elements mark IsX us (x ∷ xs)) (sym h.4)
+              (elements_from mark IsX h.2 h.3 x xs h.5 h.6),
+        )
 
-    into_others_from : (t : Token) (ts : List Token) (at : ℕ) → place_of mark t ≡ Some at → (ys : List X) → Parts mark IsX ts ys → Others mark IsX (t ∷ ts) ys
+    into_others_from : (t : Token) (ts : List Token) (at : ℕ) → place_of mark t ≡ Some at → (ys : List X)
+        → Parts mark IsX ts ys → Others mark IsX (t ∷ ts) ys
     into_others_from t ts at s ys p =
-        let all : Others mark IsX (t ∷ ts) (p.element ∷ p.others) = (at, s, p.front, p.back, p.whole, p.first, p.second) in
+        let all : Others mark IsX (t ∷ ts) (p.element ∷ p.others) =
+        (at, s, p.front, p.back, p.whole, p.first, p.second) in
         subst (λ (zs : List X). Others mark IsX (t ∷ ts) zs) (sym p.are) all
 
-    into_others : (ts : List Token) (xs : List X) → Either (After (place_of mark) (λ _. Elements mark IsX)) (Done []) ts xs → Others mark IsX ts xs
+    into_others : (ts : List Token) (xs : List X)
+        → Either (After (place_of mark) (λ _. Elements mark IsX)) (Done []) ts xs → Others mark IsX ts xs
     into_others [] xs (inl h) = absurd h
     into_others (t ∷ ts) xs (inl h) = into_others_from t ts h.0 h.1 xs (parts_of mark IsX ts xs h.2)
     into_others [] xs (inr h) = subst (λ (zs : List X). Others mark IsX [] zs) (sym h) tt
@@ -54,16 +66,19 @@ module _ {X : Type 0} (mark : Mark) (IsX : List Token → X → Type 0) (First M
     no_other = record { more = []; value = []; member = tt; within = λ w h. absurd (omega (arith, h.1)) }
 
     -- one element too many could follow the mark
-    one_other : (t : Token) (at : ℕ) → place_of mark t ≡ Some at → (ts : List Token) (x : X) → IsX ts x → Others mark IsX (t ∷ ts) (x ∷ [])
+    one_other : (t : Token) (at : ℕ) → place_of mark t ≡ Some at → (ts : List Token) (x : X) → IsX ts x
+        → Others mark IsX (t ∷ ts) (x ∷ [])
     one_other t at s ts x h = (at, s, ts, [], sym (append-nil ts), h, tt)
 
-    tail_refused : (t : Token) (at : ℕ) → place_of mark t ≡ Some at → (ts : List Token) → tail_at 0 (t ∷ ts) ≡ refused starts what ts
+    tail_refused : (t : Token) (at : ℕ) → place_of mark t ≡ Some at → (ts : List Token)
+        → tail_at 0 (t ∷ ts) ≡ refused starts what ts
     tail_refused t at s ts = rw s refl
 
     tail_ends : (ts : List Token) → ahead (place_of mark) ts ≡ false → tail_at 0 ts ≡ Ok ([], ts)
     tail_ends ts h = rw h refl
 
-    ended : (tokens : List Token) → ahead (place_of mark) tokens ≡ false → Answers (Others mark IsX) (Above what 0) (tail_at 0) tokens (tail_at 0 tokens)
+    ended : (tokens : List Token) → ahead (place_of mark) tokens ≡ false
+        → Answers (Others mark IsX) (Above what 0) (tail_at 0) tokens (tail_at 0 tokens)
     ended tokens h = rw (tail_ends tokens h) (record {
       front = [];
       whole = refl;
@@ -79,21 +94,27 @@ module _ {X : Type 0} (mark : Mark) (IsX : List Token → X → Type 0) (First M
     refuses [] = tt
     refuses (t ∷ ts) = by (starts t)
       where
-        by : (b : Bool) → Refuses {X = List X} what (if b then Err (too_many what (t ∷ ts)) else Err (unexpected (t ∷ ts)))
+        by : (b : Bool) → Refuses {X = List X} what
+            (if b then Err (too_many what (t ∷ ts)) else Err (unexpected (t ∷ ts)))
         by true = refl
         by false = tt
 
-    refused_alike : (ts others : List Token) → BeginAlike others ts → refused starts what {X = List X} ts ≡ Err (unexpected ts) → refused starts what {X = List X} others ≡ Err (unexpected others)
+    refused_alike : (ts others : List Token) → BeginAlike others ts
+        → refused starts what {X = List X} ts ≡ Err (unexpected ts)
+        → refused starts what {X = List X} others ≡ Err (unexpected others)
     refused_alike [] [] b h = refl
     refused_alike [] (u ∷ others) b h = absurd b
     refused_alike (t ∷ ts) [] b h = absurd b
     refused_alike (t ∷ ts) (u ∷ others) b h = by (starts t) refl h
       where
-        by : (c : Bool) → starts t ≡ c → cond c (Err (too_many what (t ∷ ts))) (stops (t ∷ ts)) ≡ stops (t ∷ ts) → refused starts what {X = List X} (u ∷ others) ≡ Err (unexpected (u ∷ others))
+        by : (c : Bool) → starts t ≡ c → cond c (Err (too_many what (t ∷ ts))) (stops (t ∷ ts)) ≡ stops (t ∷ ts)
+            → refused starts what {X = List X} (u ∷ others) ≡ Err (unexpected (u ∷ others))
         by true s k = absurd cc
         by false s k = rw (ap starts b ∙ s) refl
 
-    broken : (t : Token) (at : ℕ) → place_of mark t ≡ Some at → (ts : List Token) → refused starts what {X = List X} ts ≡ Err (unexpected ts) → Breaks (Others mark IsX) (Above what 0) (tail_at 0) (t ∷ ts) ts
+    broken : (t : Token) (at : ℕ) → place_of mark t ≡ Some at → (ts : List Token)
+        → refused starts what {X = List X} ts ≡ Err (unexpected ts)
+        → Breaks (Others mark IsX) (Above what 0) (tail_at 0) (t ∷ ts) ts
     broken t at s ts h = record {
       front = [];
       last = t ∷ [];
@@ -106,7 +127,8 @@ module _ {X : Type 0} (mark : Mark) (IsX : List Token → X → Type 0) (First M
       local = λ others b. tail_refused t at s others ∙ refused_alike ts others b h;
     }
 
-    overflown : (t : Token) (at : ℕ) → place_of mark t ≡ Some at → (u : Token) (ts : List Token) → starts u ≡ true → Overflows (Others mark IsX) (Above what 0) (tail_at 0) what (t ∷ u ∷ ts) (u ∷ ts)
+    overflown : (t : Token) (at : ℕ) → place_of mark t ≡ Some at → (u : Token) (ts : List Token) → starts u ≡ true
+        → Overflows (Others mark IsX) (Above what 0) (tail_at 0) what (t ∷ u ∷ ts) (u ∷ ts)
     overflown t at s u ts h =
         let b = begins u h in
         record {
@@ -124,19 +146,24 @@ module _ {X : Type 0} (mark : Mark) (IsX : List Token → X → Type 0) (First M
           full = λ after. rw (tail_refused t at s after) (refuses after);
         }
 
-    said_at_none : (t : Token) (at : ℕ) → place_of mark t ≡ Some at → (ts : List Token) → Answers (Others mark IsX) (Above what 0) (tail_at 0) (t ∷ ts) (refused starts what ts)
+    said_at_none : (t : Token) (at : ℕ) → place_of mark t ≡ Some at → (ts : List Token)
+        → Answers (Others mark IsX) (Above what 0) (tail_at 0) (t ∷ ts) (refused starts what ts)
     said_at_none t at s [] = broken t at s [] refl
     said_at_none t at s (u ∷ ts) = by (starts u) refl
       where
-        by : (c : Bool) → starts u ≡ c → Answers (Others mark IsX) (Above what 0) (tail_at 0) (t ∷ u ∷ ts) (cond c (Err (too_many what (u ∷ ts))) (Err (unexpected (u ∷ ts))))
+        by : (c : Bool) → starts u ≡ c
+            → Answers (Others mark IsX) (Above what 0) (tail_at 0) (t ∷ u ∷ ts)
+            (cond c (Err (too_many what (u ∷ ts))) (Err (unexpected (u ∷ ts))))
         by true h = overflown t at s u ts h
         by false h = broken t at s (u ∷ ts) (rw h refl)
 
-    answers_at_none : (tokens : List Token) → Answers (Others mark IsX) (Above what 0) (tail_at 0) tokens (tail_at 0 tokens)
+    answers_at_none : (tokens : List Token)
+        → Answers (Others mark IsX) (Above what 0) (tail_at 0) tokens (tail_at 0 tokens)
     answers_at_none [] = ended [] refl
     answers_at_none (t ∷ ts) = by (place_of mark t) refl
       where
-        by : (o : Option ℕ) → place_of mark t ≡ o → Answers (Others mark IsX) (Above what 0) (tail_at 0) (t ∷ ts) (tail_at 0 (t ∷ ts))
+        by : (o : Option ℕ) → place_of mark t ≡ o
+            → Answers (Others mark IsX) (Above what 0) (tail_at 0) (t ∷ ts) (tail_at 0 (t ∷ ts))
         by (Some at) s = rw (tail_refused t at s ts) (said_at_none t at s ts)
         by None s = ended (t ∷ ts) (ap is_some s)
 
@@ -144,11 +171,13 @@ module _ {X : Type 0} (mark : Mark) (IsX : List Token → X → Type 0) (First M
     blocked_mark [] b = refl
     blocked_mark (t ∷ rest) b = ap is_some (says_nothing (place_of mark t) (λ at s. b (inl (at, s))))
 
-    refused_element : (front back rest : List Token) (x : X) → IsX front x → refused starts what {X = List X} ((front ++ back) ++ rest) ≡ Err (too_many what ((front ++ back) ++ rest))
+    refused_element : (front back rest : List Token) (x : X) → IsX front x
+        → refused starts what {X = List X} ((front ++ back) ++ rest) ≡ Err (too_many what ((front ++ back) ++ rest))
     refused_element [] back rest x h = absurd (e.empty x h)
     refused_element (u ∷ front) back rest x h = rw (opens u (e.first u front x h)) refl
 
-    again_at_none : (front : List Token) (xs : List X) (rest : List Token) → Others mark IsX front xs → Blocked MoreOf rest → Again (Above what 0) xs rest (tail_at 0 (front ++ rest))
+    again_at_none : (front : List Token) (xs : List X) (rest : List Token) → Others mark IsX front xs
+        → Blocked MoreOf rest → Again (Above what 0) xs rest (tail_at 0 (front ++ rest))
     again_at_none [] [] rest h b = rw (tail_ends rest (blocked_mark rest b)) (refl, refl)
     again_at_none (t ∷ front) [] rest h b = absurd h
     again_at_none [] (x ∷ xs) rest h b = absurd h
@@ -160,24 +189,37 @@ module _ {X : Type 0} (mark : Mark) (IsX : List Token → X → Type 0) (First M
     first_of_others t tokens (x ∷ xs) h = (h.0, h.1)
 
     no_more_exact : Exact (Others mark IsX) Separates MoreOf (Unit {0}) (Above what 0) (tail_at 0)
-    no_more_exact = record { first = first_of_others; empty = λ x h. tt; again = again_at_none; answers = answers_at_none; start = no_other }
+    no_more_exact = record {
+      first = first_of_others;
+      empty = λ x h. tt;
+      again = again_at_none;
+      answers =
+          answers_at_none;
+      start = no_other;
+    }
 
     -- ---- room for more
 
-    longer : (room : ℕ) (x : X) (w : Limit) (xs : List X) (tokens : List Token) (z : List X) → Done (x ∷ xs) tokens z → Above what room w xs → Above what (suc room) w z
+    longer : (room : ℕ) (x : X) (w : Limit) (xs : List X) (tokens : List Token) (z : List X) → Done (x ∷ xs) tokens z
+        → Above what room w xs → Above what (suc room) w z
     longer room x w xs [] z d h = rw d (h.0, omega (arith, h.1))
     longer room x w xs (t ∷ tokens) z d h = absurd d
 
-    shorter : (room : ℕ) (x : X) (w : Limit) (xs : List X) (tokens : List Token) (z : List X) → Done (x ∷ xs) tokens z → Above what (suc room) w z → Above what room w xs
+    shorter : (room : ℕ) (x : X) (w : Limit) (xs : List X) (tokens : List Token) (z : List X) → Done (x ∷ xs) tokens z
+        → Above what (suc room) w z → Above what room w xs
     shorter room x w xs [] z d h = let k : Above what (suc room) w (x ∷ xs) = rw d at h in (k.0, omega (arith, k.1))
     shorter room x w xs (t ∷ tokens) z d h = absurd d
 
-    cons_exact : (room : ℕ) (x : X) → Exact (Others mark IsX) Separates MoreOf (Unit {0}) (Above what room) (tail_at room)
-        → Exact (Then (Others mark IsX) (λ xs. Done (x ∷ xs))) Separates MoreOf (Unit {0}) (Above what (suc room)) (then_at (tail_at room) (λ xs. done_at (x ∷ xs)))
+    cons_exact : (room : ℕ) (x : X)
+        → Exact (Others mark IsX) Separates MoreOf (Unit {0}) (Above what room) (tail_at room)
+        → Exact (Then (Others mark IsX) (λ xs. Done (x ∷ xs))) Separates MoreOf (Unit {0}) (Above what (suc room))
+        (then_at (tail_at room) (λ xs. done_at (x ∷ xs)))
     cons_exact room x o = as_exact
         (both_exact (Others mark IsX) Separates MoreOf (Unit {0}) (Above what room) (tail_at room)
-        (λ xs. Done (x ∷ xs)) NoToken NoToken (Unit {0}) Never (λ xs. done_at (x ∷ xs)) (Above what (suc room)) o (λ xs. done_exact (x ∷ xs))
-        (λ t m n. n) (λ w xs tokens z d h. longer room x w xs tokens z d h) (λ w z h. absurd h) (λ w xs tokens z d h. inl (shorter room x w xs tokens z d h)))
+        (λ xs. Done (x ∷ xs)) NoToken NoToken (Unit {0}) Never (λ xs. done_at (x ∷ xs)) (Above what (suc room)) o
+        (λ xs. done_exact (x ∷ xs))
+        (λ t m n. n) (λ w xs tokens z d h. longer room x w xs tokens z d h) (λ w z h. absurd h)
+        (λ w xs tokens z d h. inl (shorter room x w xs tokens z d h)))
         separated more_behind (λ u. tt)
       where
         separated : (t : Token) → Separates t ⊎ (Unit {0} × NoToken t) → Separates t
@@ -188,12 +230,16 @@ module _ {X : Type 0} (mark : Mark) (IsX : List Token → X → Type 0) (First M
         more_behind t (inl h) = absurd h
         more_behind t (inr h) = h.1
 
-    elements_from_others : (room : ℕ) → Exact (Others mark IsX) Separates MoreOf (Unit {0}) (Above what room) (tail_at room)
-        → Exact (Elements mark IsX) First MoreOf ⊥ (Above what (suc room)) (elements_at mark starts read what (suc room))
+    elements_from_others : (room : ℕ)
+        → Exact (Others mark IsX) Separates MoreOf (Unit {0}) (Above what room) (tail_at room)
+        → Exact (Elements mark IsX) First MoreOf ⊥ (Above what (suc room))
+        (elements_at mark starts read what (suc room))
     elements_from_others room o = as_exact
         (both_exact IsX First More ⊥ Never read
-        (λ x. Then (Others mark IsX) (λ xs. Done (x ∷ xs))) Separates MoreOf (Unit {0}) (Above what (suc room)) (λ x. then_at (tail_at room) (λ xs. done_at (x ∷ xs)))
-        (Above what (suc room)) e (λ x. cons_exact room x o) clash (λ w x tokens z k h. absurd h) (λ w z h. h) (λ w x tokens z k h. inr h))
+        (λ x. Then (Others mark IsX) (λ xs. Done (x ∷ xs))) Separates MoreOf (Unit {0}) (Above what (suc room))
+        (λ x. then_at (tail_at room) (λ xs. done_at (x ∷ xs)))
+        (Above what (suc room)) e (λ x. cons_exact room x o) clash (λ w x tokens z k h. absurd h) (λ w z h. h)
+        (λ w x tokens z k h. inr h))
         begun more_behind (λ u. u.0)
       where
         begun : (t : Token) → First t ⊎ (⊥ × Separates t) → First t
@@ -207,7 +253,8 @@ module _ {X : Type 0} (mark : Mark) (IsX : List Token → X → Type 0) (First M
     others_exact : (room : ℕ) → Exact (Others mark IsX) Separates MoreOf (Unit {0}) (Above what room) (tail_at room)
     others_exact zero = no_more_exact
     others_exact (suc room) = same_exact into_others out_of_others (as_exact
-        (choice (λ (_ : ℕ). elements_from_others room (others_exact room)) (done_within [] (Above what (suc room)) (λ w h. absurd (omega (arith, h.1)))) (λ t v s k. k))
+        (choice (λ (_ : ℕ). elements_from_others room (others_exact room))
+        (done_within [] (Above what (suc room)) (λ w h. absurd (omega (arith, h.1)))) (λ t v s k. k))
         separated more_behind (λ u. u))
       where
         separated : (t : Token) → Separates t ⊎ NoToken t → Separates t
@@ -219,5 +266,7 @@ module _ {X : Type 0} (mark : Mark) (IsX : List Token → X → Type 0) (First M
         more_behind t (inr (inl h)) = absurd h
         more_behind t (inr (inr h)) = inl h.1
 
-    pub elements_exact : (room : ℕ) → Exact (Elements mark IsX) First MoreOf ⊥ (Above what (suc room)) (elements_at mark starts read what (suc room))
+    pub elements_exact : (room : ℕ)
+        → Exact (Elements mark IsX) First MoreOf ⊥ (Above what (suc room))
+        (elements_at mark starts read what (suc room))
     elements_exact room = elements_from_others room (others_exact room)

@@ -1,207 +1,86 @@
 -- What a query is made of is good where its tokens are.
-use Rattle.std.proofs.Common.{◌≡◌, ℕ, true, false, List, [], ◌∷◌, Option, Some, None, ℤ, inl, inr, refl, sym, ap, subst}
-use Rattle.std.specs.List.{list_all}
+use Rattle.std.proofs.Common.{◌≡◌, List, [], ◌∷◌, inl, inr, refl, sym, subst}
 use Rattle.sql_reader.specs.declared.tokens.Mark.{Mark}
 use Rattle.sql_reader.specs.declared.tokens.Mark.TheVariants as marks
-use Rattle.sql_reader.specs.declared.tokens.Function.{Function}
-use Rattle.sql_reader.specs.declared.tokens.Function.TheVariants as functions
-use Rattle.sql_reader.specs.declared.tokens.Kind.{Kind}
-use Rattle.sql_reader.specs.declared.tokens.Kind.TheVariants as kinds
 use Rattle.sql_reader.specs.declared.tokens.Token.{Token}
-use Rattle.sql_reader.specs.declared.tokens.Name.{Name}
 use Rattle.sql_reader.specs.declared.syntax.ColRef.{ColRef}
-use Rattle.sql_reader.specs.declared.syntax.SelExpr.{SelExpr}
-use Rattle.sql_reader.specs.declared.syntax.SelExpr.TheVariants as exprs
 use Rattle.sql_reader.specs.declared.syntax.SelItem.{SelItem}
-use Rattle.sql_reader.specs.declared.syntax.FromItem.{FromItem}
-use Rattle.sql_reader.specs.declared.syntax.SelOperand.{SelOperand}
-use Rattle.sql_reader.specs.declared.syntax.SelOperand.TheVariants as operands
 use Rattle.sql_reader.specs.declared.syntax.SelPred.{SelPred}
 use Rattle.sql_reader.specs.declared.syntax.SelKey.{SelKey}
 use Rattle.sql_reader.specs.declared.syntax.Select.{Select}
-use Rattle.sql_reader.specs.Tokens.{place_of, name_in, name_of, integer_in, quoted_in, op_of}
-use Rattle.sql_reader.specs.Grammar.{Done, After, Then, Either, Others, Elements}
-use Rattle.sql_reader.specs.Query.{plain_column, column_in, aggregate, plain_item, named_item, plain_table, aliased_table, key, select_of, IsColumn, IsArgument, IsCall, IsExpr, IsOutput, IsItem, IsTable, IsOperand, IsPred, IsDirection, IsKey, IsWhere, IsGroupBy, IsOrderBy, IsEnd, IsBody, IsQuery}
+use Rattle.sql_reader.specs.Grammar.{Done, Others, Elements}
+use Rattle.sql_reader.specs.Query.{select_of, IsColumn}
+use Rattle.sql_reader.specs.Query.{IsItem, IsTable, IsPred, IsKey, IsWhere, IsGroupBy}
+use Rattle.sql_reader.specs.Query.{IsOrderBy, IsEnd, IsBody, IsQuery}
 use Rattle.sql_reader.proofs.ListParts.{parts_of}
-use Rattle.sql_reader.proofs.Printable.{is_plain, IsGoodName, IsGoodNumber, IsGoodKind, AreGood, good_front, good_back}
-use Rattle.sql_reader.proofs.GoodParts.{AllGood, IsGoodColumn, IsGoodExpr, IsGoodItem, IsGoodKey, IsGoodOperand, IsGoodPred, IsGoodQuery, IsGoodTable, SomeGood}
-
--- ---- single tokens
-
-name_good : (at : ℕ) (kind : Kind) (n : Name) → IsGoodKind kind → name_in at kind ≡ Some n → IsGoodName n.text
-name_good at (kinds.Name text) n g e = let k : text ≡ n.text = ap text_in e in subst IsGoodName k g
-  where
-    text_in : Option Name → List ℕ
-    text_in None = text
-    text_in (Some m) = m.text
-name_good at (kinds.Mark mark) n g e = absurd cc
-name_good at (kinds.Function function) n g e = absurd cc
-name_good at (kinds.Integer number) n g e = absurd cc
-name_good at (kinds.Quoted text) n g e = absurd cc
-
-integer_good : (kind : Kind) (z : ℤ) → IsGoodKind kind → integer_in kind ≡ Some z → IsGoodNumber z
-integer_good (kinds.Integer number) z g e = let k : number ≡ z = cc in subst IsGoodNumber k g
-integer_good (kinds.Mark mark) z g e = absurd cc
-integer_good (kinds.Name text) z g e = absurd cc
-integer_good (kinds.Function function) z g e = absurd cc
-integer_good (kinds.Quoted text) z g e = absurd cc
-
-quoted_good : (kind : Kind) (s : List ℕ) → IsGoodKind kind → quoted_in kind ≡ Some s → list_all is_plain s ≡ true
-quoted_good (kinds.Quoted text) s g e = let k : text ≡ s = cc in subst (λ (t : List ℕ). list_all is_plain t ≡ true) k g
-quoted_good (kinds.Mark mark) s g e = absurd cc
-quoted_good (kinds.Name text) s g e = absurd cc
-quoted_good (kinds.Function function) s g e = absurd cc
-quoted_good (kinds.Integer number) s g e = absurd cc
-
--- ---- productions
-
-column_good : (tokens : List Token) (c : ColRef) → AreGood tokens → IsColumn tokens c → IsGoodColumn c
-column_good [] c g h = absurd h
-column_good (t ∷ tokens) c g h = by tokens g.1 h.2
-  where
-    by : (ts : List Token) → AreGood ts → Either (After (place_of marks.Dot) (λ _. After name_of (λ name. Done (column_in h.0 name)))) (Done (plain_column h.0)) ts c → IsGoodColumn c
-    by [] k (inl d) = absurd d
-    by (u ∷ []) k (inl d) = absurd d.2
-    by (u ∷ v ∷ []) k (inl d) =
-        let second = name_good v.at v.kind d.2.0 k.1.0 d.2.1 in
-        subst IsGoodColumn (sym d.2.2) (name_good t.at t.kind h.0 g.0 h.1, second)
-    by (u ∷ v ∷ w ∷ ts) k (inl d) = absurd d.2.2
-    by [] k (inr d) = subst IsGoodColumn (sym d) (tt, name_good t.at t.kind h.0 g.0 h.1)
-    by (u ∷ ts) k (inr d) = absurd d
-
-done_good : {X : Type 0} (IsGood : X → Type 0) (value x : X) (tokens : List Token) → Done value tokens x → IsGood value → IsGood x
-done_good IsGood value x [] d g = subst IsGood (sym d) g
-done_good IsGood value x (t ∷ tokens) d g = absurd d
-
-as_column_good : {X : Type 0} (IsGood : X → Type 0) (f : ColRef → X) (tokens : List Token) (x : X) → ((c : ColRef) → IsGoodColumn c → IsGood (f c)) → AreGood tokens → Then IsColumn (λ c. Done (f c)) tokens x → IsGood x
-as_column_good IsGood f tokens x into g h =
-    let parts = rw h.whole at g in
-    done_good IsGood (f h.value) x h.back h.second (into h.value (column_good h.front h.value (good_front h.front h.back parts) h.first))
-
-argument_good : (function : Function) (tokens : List Token) (e : SelExpr) → AreGood tokens → IsArgument function tokens e → IsGoodExpr e
-argument_good functions.Count [] e g (inl h) = absurd h
-argument_good functions.Count (t ∷ tokens) e g (inl h) = done_good IsGoodExpr _ e tokens h.2 tt
-argument_good functions.Count tokens e g (inr h) = as_column_good IsGoodExpr (aggregate functions.Count) tokens e (λ c k. k) g h
-argument_good functions.Sum tokens e g h = as_column_good IsGoodExpr (aggregate functions.Sum) tokens e (λ c k. k) g h
-argument_good functions.Min tokens e g h = as_column_good IsGoodExpr (aggregate functions.Min) tokens e (λ c k. k) g h
-argument_good functions.Max tokens e g h = as_column_good IsGoodExpr (aggregate functions.Max) tokens e (λ c k. k) g h
-
-close_good : (value e : SelExpr) (tokens : List Token) → After (place_of marks.Close) (λ _. Done value) tokens e → IsGoodExpr value → IsGoodExpr e
-close_good value e [] h g = absurd h
-close_good value e (t ∷ tokens) h g = done_good IsGoodExpr value e tokens h.2 g
-
-call_good : (function : Function) (tokens : List Token) (e : SelExpr) → AreGood tokens → IsCall function tokens e → IsGoodExpr e
-call_good function [] e g h = absurd h
-call_good function (t ∷ tokens) e g h =
-    let parts = rw h.2.whole at g.1 in
-    close_good h.2.value e h.2.back h.2.second (argument_good function h.2.front h.2.value (good_front h.2.front h.2.back parts) h.2.first)
-
-expr_good : (tokens : List Token) (e : SelExpr) → AreGood tokens → IsExpr tokens e → IsGoodExpr e
-expr_good [] e g (inl h) = absurd h
-expr_good (t ∷ tokens) e g (inl h) = call_good h.0 tokens e g.1 h.2
-expr_good tokens e g (inr h) = as_column_good IsGoodExpr exprs.Column tokens e (λ c k. k) g h
-
-output_good : (expr : SelExpr) (tokens : List Token) (i : SelItem) → IsGoodExpr expr → AreGood tokens → IsOutput expr tokens i → IsGoodItem i
-output_good expr [] i e g (inl h) = absurd h
-output_good expr (t ∷ []) i e g (inl h) = absurd h.2
-output_good expr (t ∷ u ∷ tokens) i e g (inl h) = done_good IsGoodItem (named_item expr h.2.0) i tokens h.2.2 (e, name_good u.at u.kind h.2.0 g.1.0 h.2.1)
-output_good expr tokens i e g (inr h) = done_good IsGoodItem (plain_item expr) i tokens h (e, tt)
-
-item_good : (tokens : List Token) (i : SelItem) → AreGood tokens → IsItem tokens i → IsGoodItem i
-item_good tokens i g h =
-    let parts = rw h.whole at g in
-    output_good h.value h.back i (expr_good h.front h.value (good_front h.front h.back parts) h.first) (good_back h.front h.back parts) h.second
-
-table_good : (tokens : List Token) (x : FromItem) → AreGood tokens → IsTable tokens x → IsGoodTable x
-table_good [] x g h = absurd h
-table_good (t ∷ tokens) x g h = by tokens g.1 h.2
-  where
-    by : (ts : List Token) → AreGood ts → Either (After (place_of marks.As) (λ _. After name_of (λ alias. Done (aliased_table h.0 alias)))) (Either (After name_of (λ alias. Done (aliased_table h.0 alias))) (Done (plain_table h.0))) ts x → IsGoodTable x
-    by [] k (inl d) = absurd d
-    by (u ∷ []) k (inl d) = absurd d.2
-    by (u ∷ v ∷ ts) k (inl d) = done_good IsGoodTable (aliased_table h.0 d.2.0) x ts d.2.2 (name_good t.at t.kind h.0 g.0 h.1, name_good v.at v.kind d.2.0 k.1.0 d.2.1)
-    by [] k (inr (inl d)) = absurd d
-    by (u ∷ ts) k (inr (inl d)) = done_good IsGoodTable (aliased_table h.0 d.0) x ts d.2 (name_good t.at t.kind h.0 g.0 h.1, name_good u.at u.kind d.0 k.0 d.1)
-    by ts k (inr (inr d)) = done_good IsGoodTable (plain_table h.0) x ts d (name_good t.at t.kind h.0 g.0 h.1, tt)
-
-operand_good : (tokens : List Token) (x : SelOperand) → AreGood tokens → IsOperand tokens x → IsGoodOperand x
-operand_good [] x g (inl h) = absurd h
-operand_good (t ∷ tokens) x g (inl h) = done_good IsGoodOperand (operands.Int h.0) x tokens h.2 (integer_good t.kind h.0 g.0 h.1)
-operand_good [] x g (inr (inl h)) = absurd h
-operand_good (t ∷ tokens) x g (inr (inl h)) = done_good IsGoodOperand (operands.Str h.0) x tokens h.2 (quoted_good t.kind h.0 g.0 h.1)
-operand_good tokens x g (inr (inr h)) = as_column_good IsGoodOperand operands.Column tokens x (λ c k. k) g h
-
-pred_good : (tokens : List Token) (x : SelPred) → AreGood tokens → IsPred tokens x → IsGoodPred x
-pred_good tokens x g h =
-    let parts = rw h.whole at g in
-    by h.back (good_back h.front h.back parts) h.second
-  where
-    by : (ts : List Token) → AreGood ts → After op_of (λ op. Then IsOperand (λ right. Done (record { left = h.value; op = op; right = right }))) ts x → IsGoodPred x
-    by [] k d = absurd d
-    by (u ∷ ts) k d =
-        let rest = rw d.2.whole at k.1 in
-        let all = rw h.whole at g in
-        done_good IsGoodPred (record { left = h.value; op = d.0; right = d.2.value }) x d.2.back d.2.second
-        (column_good h.front h.value (good_front h.front h.back all) h.first, operand_good d.2.front d.2.value (good_front d.2.front d.2.back rest) d.2.first)
-
-direction_good : (c : ColRef) (tokens : List Token) (x : SelKey) → IsGoodColumn c → IsDirection c tokens x → IsGoodKey x
-direction_good c [] x g (inl h) = absurd h
-direction_good c (t ∷ tokens) x g (inl h) = done_good IsGoodKey (key c false) x tokens h.2 g
-direction_good c [] x g (inr (inl h)) = absurd h
-direction_good c (t ∷ tokens) x g (inr (inl h)) = done_good IsGoodKey (key c true) x tokens h.2 g
-direction_good c tokens x g (inr (inr h)) = done_good IsGoodKey (key c false) x tokens h g
-
-key_good : (tokens : List Token) (x : SelKey) → AreGood tokens → IsKey tokens x → IsGoodKey x
-key_good tokens x g h =
-    let parts = rw h.whole at g in
-    direction_good h.value h.back x (column_good h.front h.value (good_front h.front h.back parts) h.first) h.second
+use Rattle.sql_reader.proofs.Printable.{AreGood, good_front, good_back}
+use Rattle.sql_reader.specs.Spellable.{Each, IsSpellableColumn}
+use Rattle.sql_reader.specs.Spellable.{IsSpellableItem, IsSpellableKey}
+use Rattle.sql_reader.specs.Spellable.{IsSpellablePred, IsSpellable, IsSpellableTable, OneOrMore}
+use Rattle.sql_reader.proofs.GoodParts.{done_good, column_good, item_good, table_good, pred_good, key_good}
 
 -- ---- lists and clauses
 
-module _ {X : Type 0} (IsX : List Token → X → Type 0) (IsGood : X → Type 0) (each : (tokens : List Token) (x : X) → AreGood tokens → IsX tokens x → IsGood x) where
-  others_good : (mark : Mark) (tokens : List Token) (xs : List X) → AreGood tokens → Others mark IsX tokens xs → AllGood IsGood xs
+module _ {X : Type 0} (IsX : List Token → X → Type 0) (IsGood : X → Type 0)
+    (each : (tokens : List Token) (x : X) → AreGood tokens → IsX tokens x → IsGood x) where
+  others_good : (mark : Mark) (tokens : List Token) (xs : List X) → AreGood tokens → Others mark IsX tokens xs
+      → Each IsGood xs
   others_good mark tokens [] g h = tt
   others_good mark [] (x ∷ xs) g h = absurd h
   others_good mark (t ∷ tokens) (x ∷ xs) g h =
       let parts = rw h.4 at g.1 in
       (each h.2 x (good_front h.2 h.3 parts) h.5, others_good mark h.3 xs (good_back h.2 h.3 parts) h.6)
 
-  elements_good : (mark : Mark) (tokens : List Token) (xs : List X) → AreGood tokens → Elements mark IsX tokens xs → SomeGood IsGood xs
+  elements_good : (mark : Mark) (tokens : List Token) (xs : List X) → AreGood tokens → Elements mark IsX tokens xs
+      → OneOrMore IsGood xs
   elements_good mark tokens xs g h =
       let p = parts_of mark IsX tokens xs h in
       let parts = rw p.whole at g in
-      subst (SomeGood IsGood) (sym p.are) (each p.front p.element (good_front p.front p.back parts) p.first, others_good mark p.back p.others (good_back p.front p.back parts) p.second)
+      subst (OneOrMore IsGood) (sym p.are) (
+        each p.front p.element (good_front p.front p.back parts) p.first,
+        others_good mark p.back p.others
+            (good_back p.front p.back parts) p.second,
+      )
 
-  some_all : (xs : List X) → SomeGood IsGood xs → AllGood IsGood xs
+  some_all : (xs : List X) → OneOrMore IsGood xs → Each IsGood xs
   some_all [] g = absurd g
   some_all (x ∷ xs) g = g
 
-nothing_good : {X : Type 0} (IsGood : X → Type 0) (xs : List X) (tokens : List Token) → Done [] tokens xs → AllGood IsGood xs
-nothing_good IsGood xs tokens d = done_good (AllGood IsGood) [] xs tokens d tt
+nothing_good : {X : Type 0} (IsGood : X → Type 0) (xs : List X) (tokens : List Token) → Done [] tokens xs
+    → Each IsGood xs
+nothing_good IsGood xs tokens d = done_good (Each IsGood) [] xs tokens d tt
 
-where_good : (tokens : List Token) (xs : List SelPred) → AreGood tokens → IsWhere tokens xs → AllGood IsGoodPred xs
+where_good : (tokens : List Token) (xs : List SelPred) → AreGood tokens → IsWhere tokens xs → Each IsSpellablePred xs
 where_good [] xs g (inl h) = absurd h
-where_good (t ∷ tokens) xs g (inl h) = some_all IsPred IsGoodPred pred_good xs (elements_good IsPred IsGoodPred pred_good marks.And tokens xs g.1 h.2)
-where_good tokens xs g (inr h) = nothing_good IsGoodPred xs tokens h
+where_good (t ∷ tokens) xs g (inl h) =
+    some_all IsPred IsSpellablePred pred_good xs
+    (elements_good IsPred IsSpellablePred pred_good marks.And tokens xs g.1 h.2)
+where_good tokens xs g (inr h) = nothing_good IsSpellablePred xs tokens h
 
-group_by_good : (tokens : List Token) (xs : List ColRef) → AreGood tokens → IsGroupBy tokens xs → AllGood IsGoodColumn xs
+group_by_good : (tokens : List Token) (xs : List ColRef) → AreGood tokens → IsGroupBy tokens xs
+    → Each IsSpellableColumn xs
 group_by_good [] xs g (inl h) = absurd h
 group_by_good (t ∷ []) xs g (inl h) = absurd h.2
-group_by_good (t ∷ u ∷ tokens) xs g (inl h) = some_all IsColumn IsGoodColumn column_good xs (elements_good IsColumn IsGoodColumn column_good marks.Comma tokens xs g.1.1 h.2.2)
-group_by_good tokens xs g (inr h) = nothing_good IsGoodColumn xs tokens h
+group_by_good (t ∷ u ∷ tokens) xs g (inl h) =
+    some_all IsColumn IsSpellableColumn column_good xs
+    (elements_good IsColumn IsSpellableColumn column_good marks.Comma tokens xs g.1.1 h.2.2)
+group_by_good tokens xs g (inr h) = nothing_good IsSpellableColumn xs tokens h
 
-order_by_good : (tokens : List Token) (xs : List SelKey) → AreGood tokens → IsOrderBy tokens xs → AllGood IsGoodKey xs
+order_by_good : (tokens : List Token) (xs : List SelKey) → AreGood tokens → IsOrderBy tokens xs → Each IsSpellableKey xs
 order_by_good [] xs g (inl h) = absurd h
 order_by_good (t ∷ []) xs g (inl h) = absurd h.2
-order_by_good (t ∷ u ∷ tokens) xs g (inl h) = some_all IsKey IsGoodKey key_good xs (elements_good IsKey IsGoodKey key_good marks.Comma tokens xs g.1.1 h.2.2)
-order_by_good tokens xs g (inr h) = nothing_good IsGoodKey xs tokens h
+order_by_good (t ∷ u ∷ tokens) xs g (inl h) =
+    some_all IsKey IsSpellableKey key_good xs
+    (elements_good IsKey IsSpellableKey key_good marks.Comma tokens xs g.1.1 h.2.2)
+order_by_good tokens xs g (inr h) = nothing_good IsSpellableKey xs tokens h
 
 end_is : (s : Select) (tokens : List Token) (z : Select) → IsEnd s tokens z → z ≡ s
 end_is s [] z (inl h) = absurd h
 end_is s (t ∷ tokens) z (inl h) = done_good (λ y. y ≡ s) s z tokens h.2 refl
 end_is s tokens z (inr h) = done_good (λ y. y ≡ s) s z tokens h refl
 
-body_good : (items : List SelItem) (tokens : List Token) (s : Select) → SomeGood IsGoodItem items → AreGood tokens → IsBody items tokens s → IsGoodQuery s
+body_good : (items : List SelItem) (tokens : List Token) (s : Select) → OneOrMore IsSpellableItem items
+    → AreGood tokens → IsBody items tokens s → IsSpellable s
 body_good items [] s i g h = absurd h
 body_good items (t ∷ tokens) s i g h =
     let f = h.2 in
@@ -212,17 +91,20 @@ body_good items (t ∷ tokens) s i g h =
     let where_rest = rw w.whole at (good_back f.front f.back from_rest) in
     let group_rest = rw b.whole at (good_back w.front w.back where_rest) in
     let order_rest = rw o.whole at (good_back b.front b.back group_rest) in
-    let made : IsGoodQuery (select_of items f.value w.value b.value o.value) = record {
+    let made : IsSpellable (select_of items f.value w.value b.value o.value) = record {
       items = i;
-      from = elements_good IsTable IsGoodTable table_good marks.Comma f.front f.value (good_front f.front f.back from_rest) f.first;
+      from = elements_good IsTable IsSpellableTable table_good marks.Comma f.front f.value
+          (good_front f.front f.back from_rest) f.first;
       preds = where_good w.front w.value (good_front w.front w.back where_rest) w.first;
       group_by = group_by_good b.front b.value (good_front b.front b.back group_rest) b.first;
       order_by = order_by_good o.front o.value (good_front o.front o.back order_rest) o.first;
     } in
-    subst IsGoodQuery (sym (end_is (select_of items f.value w.value b.value o.value) o.back s o.second)) made
+    subst IsSpellable (sym (end_is (select_of items f.value w.value b.value o.value) o.back s o.second)) made
 
-pub query_good : (tokens : List Token) (s : Select) → AreGood tokens → IsQuery tokens s → IsGoodQuery s
+pub query_good : (tokens : List Token) (s : Select) → AreGood tokens → IsQuery tokens s → IsSpellable s
 query_good [] s g h = absurd h
 query_good (t ∷ tokens) s g h =
     let parts = rw h.2.whole at g.1 in
-    body_good h.2.value h.2.back s (elements_good IsItem IsGoodItem item_good marks.Comma h.2.front h.2.value (good_front h.2.front h.2.back parts) h.2.first) (good_back h.2.front h.2.back parts) h.2.second
+    body_good h.2.value h.2.back s
+    (elements_good IsItem IsSpellableItem item_good marks.Comma h.2.front h.2.value
+    (good_front h.2.front h.2.back parts) h.2.first) (good_back h.2.front h.2.back parts) h.2.second

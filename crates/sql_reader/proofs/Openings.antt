@@ -15,7 +15,8 @@ use Rattle.sql_reader.specs.declared.syntax.SelOp.TheVariants as ops
 use Rattle.sql_reader.specs.declared.syntax.SelOperand.TheVariants as operands
 use Rattle.sql_reader.specs.Tokens.{name_of, called_of}
 use Rattle.sql_reader.specs.Grammar.{Done, Then}
-use Rattle.sql_reader.specs.Query.{plain_column, aggregate, plain_item, plain_table, predicate, key, IsColumn, IsCall, IsArgument, IsItem, IsTable, IsPred, IsKey}
+use Rattle.sql_reader.specs.Query.{plain_column, aggregate, plain_item, plain_table, predicate, key, IsColumn, IsCall}
+use Rattle.sql_reader.specs.Query.{IsArgument, IsItem, IsTable, IsPred, IsKey}
 use Rattle.sql_reader.specs.Reading.{starts_name, starts_item}
 use Rattle.sql_reader.proofs.Apart.{AName, mark_token, name_token, integer_token, some_of}
 use Rattle.sql_reader.proofs.Columns.{Begins}
@@ -41,8 +42,19 @@ begins_table t h = let n = some_of (name_of t) h in ([], plain_table n.0, (n.0, 
 
 pub begins_key : (t : Token) → starts_name t ≡ true → (more : List Token) × (x : SelKey) × IsKey (t ∷ more) x
 begins_key t h =
-    let n = some_of (name_of t) h in
-    ([], key (plain_column n.0) false, record { front = t ∷ []; back = []; value = plain_column n.0; whole = refl; first = (n.0, n.1, inr refl); second = inr (inr refl) })
+    let n = some_of (name_of t) h in (
+      [],
+      key (plain_column n.0) false,
+      record {
+        front = t ∷ [];
+        back = [];
+        value = plain_column n.0;
+        whole = refl;
+        first = (n.0, n.1, inr refl);
+        second =
+            inr (inr refl);
+      },
+    )
 
 pub begins_pred : (t : Token) → starts_name t ≡ true → (more : List Token) × (x : SelPred) × IsPred (t ∷ more) x
 begins_pred t h =
@@ -55,7 +67,19 @@ begins_pred t h =
         value = plain_column n.0;
         whole = refl;
         first = (n.0, n.1, inr refl);
-        second = (ops.Eq, refl, record { front = integer_token ∷ []; back = []; value = operands.Int (pos 0); whole = refl; first = inl (pos 0, refl, refl); second = refl });
+        second = (
+          ops.Eq,
+          refl,
+          record {
+            front = integer_token ∷ [];
+            back = [];
+            value = operands.Int (pos 0);
+            whole = refl;
+            first =
+                inl (pos 0, refl, refl);
+            second = refl;
+          },
+        );
       },
     )
 
@@ -64,12 +88,46 @@ a_column = plain_column (record { at = 0; text = [] })
 
 argument : (function : Function) → IsArgument function (name_token ∷ []) (aggregate function a_column)
 unfolding a_column
-argument functions.Count = inr (record { front = name_token ∷ []; back = []; value = a_column; whole = refl; first = (record { at = 0; text = [] }, refl, inr refl); second = refl })
-argument functions.Sum = record { front = name_token ∷ []; back = []; value = a_column; whole = refl; first = (record { at = 0; text = [] }, refl, inr refl); second = refl }
-argument functions.Min = record { front = name_token ∷ []; back = []; value = a_column; whole = refl; first = (record { at = 0; text = [] }, refl, inr refl); second = refl }
-argument functions.Max = record { front = name_token ∷ []; back = []; value = a_column; whole = refl; first = (record { at = 0; text = [] }, refl, inr refl); second = refl }
+argument functions.Count = inr
+    (record {
+      front = name_token ∷ [];
+      back = [];
+      value = a_column;
+      whole = refl;
+      first =
+          (record { at = 0; text = [] }, refl, inr refl);
+      second = refl;
+    })
+argument functions.Sum = record {
+  front = name_token ∷ [];
+  back = [];
+  value = a_column;
+  whole = refl;
+  first =
+      (record { at = 0; text = [] }, refl, inr refl);
+  second = refl;
+}
+argument functions.Min = record {
+  front = name_token ∷ [];
+  back = [];
+  value = a_column;
+  whole = refl;
+  first =
+      (record { at = 0; text = [] }, refl, inr refl);
+  second = refl;
+}
+argument functions.Max = record {
+  front = name_token ∷ [];
+  back = [];
+  value = a_column;
+  whole = refl;
+  first =
+      (record { at = 0; text = [] }, refl, inr refl);
+  second = refl;
+}
 
-call : (function : Function) → IsCall function (mark_token marks.Open ∷ name_token ∷ mark_token marks.Close ∷ []) (aggregate function a_column)
+call : (function : Function) → IsCall function (mark_token marks.Open ∷ name_token ∷ mark_token marks.Close ∷ [])
+    (aggregate function a_column)
 call function = (
   0,
   refl,
@@ -86,12 +144,44 @@ call function = (
 pub begins_item : (t : Token) → starts_item t ≡ true → (more : List Token) × (x : SelItem) × IsItem (t ∷ more) x
 begins_item t = by (called_of t) refl
   where
-    by : (o : _) → called_of t ≡ o → (is_some o || is_some (name_of t)) ≡ true → (more : List Token) × (x : SelItem) × IsItem (t ∷ more) x
+    by : (o : _) → called_of t ≡ o → (is_some o || is_some (name_of t)) ≡ true
+        → (more : List Token) × (x : SelItem) × IsItem (t ∷ more) x
     by (Some function) e h =
-        let rest : List Token = mark_token marks.Open ∷ name_token ∷ mark_token marks.Close ∷ [] in
-        (rest, plain_item (aggregate function a_column), record { front = t ∷ rest; back = []; value = aggregate function a_column; whole = refl; first = inl (function, e, call function); second = inr refl })
+        let rest : List Token = mark_token marks.Open ∷ name_token ∷ mark_token marks.Close ∷ [] in (
+          rest,
+          plain_item (aggregate function a_column),
+          record {
+            front = t ∷ rest;
+            back = [];
+            value = aggregate function a_column;
+            whole = refl;
+            first =
+                inl (function, e, call function);
+            second = inr refl;
+          },
+        )
     by None e h =
         let n = some_of (name_of t) h in
         let column : ColRef = plain_column n.0 in
-        let expr : Then IsColumn (λ c. Done (exprs.Column c)) (t ∷ []) (exprs.Column column) = record { front = t ∷ []; back = []; value = column; whole = refl; first = (n.0, n.1, inr refl); second = refl } in
-        ([], plain_item (exprs.Column column), record { front = t ∷ []; back = []; value = exprs.Column column; whole = refl; first = inr expr; second = inr refl })
+        let expr : Then IsColumn (λ c. Done (exprs.Column c)) (t ∷ []) (exprs.Column column) =
+        record {
+          front = t ∷ [];
+          back = [];
+          value = column;
+          whole = refl;
+          first = (n.0, n.1, inr refl);
+          second =
+              refl;
+        } in (
+          [],
+          plain_item (exprs.Column column),
+          record {
+            front = t ∷ [];
+            back = [];
+            value = exprs.Column column;
+            whole = refl;
+            first = inr expr;
+            second =
+                inr refl;
+          },
+        )

@@ -23,7 +23,8 @@ compared (x ∷ a) (y ∷ b) t u ts us e =
     subst (λ (z : Token). Compared (x ∷ a) (z ∷ b) t u) k (more_behind x a b t u (compared a b t u ts us rest))
 
 -- without its last token a list goes on from every shorter front
-pub before_last : (f : List Token) (l : Token) (a : List Token) (t : Token) (mid : List Token) → f ++ l ∷ [] ≡ a ++ t ∷ mid → (m : List Token) × (f ≡ a ++ m)
+pub before_last : (f : List Token) (l : Token) (a : List Token) (t : Token) (mid : List Token)
+    → f ++ l ∷ [] ≡ a ++ t ∷ mid → (m : List Token) × (f ≡ a ++ m)
 before_last f l [] t mid e = (f, refl)
 before_last [] l (x ∷ []) t mid e = absurd cc
 before_last [] l (x ∷ y ∷ a) t mid e = absurd cc
@@ -48,20 +49,25 @@ pub rises_to : (low : ℕ) (tokens : List Token) (high : ℕ) → Rising low tok
 rises_to low [] high h = h
 rises_to low (t ∷ tokens) high h = let k = rises_to (t.at + 1) tokens high h.1 in omega (arith, h.0, k)
 
-pub rises_behind : (low : ℕ) (front : List Token) (t : Token) (others : List Token) (high : ℕ) → Rising low (front ++ t ∷ others) high → (low ≤ t.at) × Rising (t.at + 1) others high
+pub rises_behind : (low : ℕ) (front : List Token) (t : Token) (others : List Token) (high : ℕ)
+    → Rising low (front ++ t ∷ others) high → (low ≤ t.at) × Rising (t.at + 1) others high
 rises_behind low [] t others high h = h
 rises_behind low (x ∷ front) t others high h =
     let k = rises_behind (x.at + 1) front t others high h.1 in
     (omega (arith, h.0, k.0), k.1)
 
 -- a token stands below the high place
-pub below_high : (front : List Token) (t : Token) (others : List Token) (high : ℕ) → Rising 0 (front ++ t ∷ others) high → t.at < high
-below_high front t others high h = let k = rises_to (t.at + 1) others high (rises_behind 0 front t others high h).1 in omega (arith, k)
+pub below_high : (front : List Token) (t : Token) (others : List Token) (high : ℕ)
+    → Rising 0 (front ++ t ∷ others) high → t.at < high
+below_high front t others high h = let k = rises_to (t.at + 1) others high (rises_behind 0 front t others high h).1 in
+    omega (arith, k)
 
 -- and before those behind it
-pub before_later : (front : List Token) (t : Token) (mid : List Token) (u : Token) (others : List Token) (high : ℕ) → Rising 0 ((front ++ t ∷ mid) ++ u ∷ others) high → t.at < u.at
+pub before_later : (front : List Token) (t : Token) (mid : List Token) (u : Token) (others : List Token) (high : ℕ)
+    → Rising 0 ((front ++ t ∷ mid) ++ u ∷ others) high → t.at < u.at
 before_later front t mid u others high h =
-    let e : (front ++ t ∷ mid) ++ u ∷ others ≡ front ++ t ∷ (mid ++ u ∷ others) = append_assoc front (t ∷ mid) (u ∷ others) in
+    let e : (front ++ t ∷ mid) ++ u ∷ others ≡ front ++ t ∷ (mid ++ u ∷ others) =
+    append_assoc front (t ∷ mid) (u ∷ others) in
     let k = rises_behind 0 front t (mid ++ u ∷ others) high (rw e at h) in
     let l = rises_behind (t.at + 1) mid u others high k.1 in
     omega (arith, l.0)

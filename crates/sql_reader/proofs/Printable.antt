@@ -1,5 +1,7 @@
 -- What can stand in a query that was read: names with the form of a name, texts of plain bytes, and numbers in range.
-use Rattle.std.proofs.Common.{◌≡◌, ℕ, suc, ◌+◌, ◌^◌, ◌<◌, Bool, true, false, cond, List, [], ◌∷◌, ◌++◌, map, length, Option, Some, None, ℤ, pos, negsuc, inl, refl, sym, subst, ◌∙◌, append_assoc, arith, zero, eqb-true}
+use Rattle.std.proofs.Common.{◌≡◌, ℕ, suc, ◌+◌, ◌^◌, ◌<◌, Bool, true, false, cond, List, [], ◌∷◌, ◌++◌, map, length}
+use Rattle.std.proofs.Common.{Option, Some, None, negsuc, inl, refl, sym, subst, ◌∙◌, append_assoc, arith, zero}
+use Rattle.std.proofs.Common.{eqb-true}
 use Rattle.std.proofs.lemmas.Bool.{ltb-false}
 use Rattle.std.proofs.lemmas.Int.{ints}
 use Rattle.std.specs.Prelude.{◌&&◌, not, nat_lt}
@@ -15,27 +17,19 @@ use Rattle.sql_reader.specs.declared.tokens.Token.{Token}
 use Rattle.sql_reader.specs.declared.faults.SqlFault.TheVariants as faults
 use Rattle.sql_reader.specs.declared.syntax.Select.{Select}
 use Rattle.sql_reader.specs.Words.{word_of, function_of, symbol_of}
-use Rattle.sql_reader.specs.Pieces.{Piece, blank, comment, name, integer, quoted, sign, is_control, is_quote, doubled, spelling, number_from, Fits, Are}
-use Rattle.sql_reader.specs.Lexing.{shown, named_kind, signed, kind_of, function_kind, called, is_open, with_kind, tokens_of}
+use Rattle.sql_reader.specs.Pieces.{Piece, blank, comment, name, integer, quoted, sign, is_control, is_quote, doubled}
+use Rattle.sql_reader.specs.Pieces.{spelling, number_from, Fits, Are}
+use Rattle.sql_reader.specs.Lexing.{shown, named_kind, signed, kind_of, function_kind, called, is_open, with_kind}
+use Rattle.sql_reader.specs.Lexing.{tokens_of}
 use Rattle.sql_reader.specs.Faults.{HasFault, IsReading}
-use Rattle.sql_reader.proofs.Scans.{both_true}
-
--- a byte that may stand anywhere
-abbrev pub is_plain : ℕ → Bool
-is_plain byte = nat_lt byte 128 && not (is_control byte)
-
-abbrev pub IsGoodName : List ℕ → Type 0
-IsGoodName text = (has_name_form text ≡ true) × (word_of text ≡ None) × (list_all is_plain text ≡ true)
-
-abbrev pub IsGoodNumber : ℤ → Type 0
-IsGoodNumber (pos n) = n < 2 ^ 63
-IsGoodNumber (negsuc n) = suc n < 2 ^ 63
+use Rattle.sql_reader.specs.Spellable.{is_plain, IsSpellableName, IsSpellableNumber}
+use Rattle.orca_base.proofs.Truths.{both_true}
 
 abbrev pub IsGoodKind : Kind → Type 0
 IsGoodKind (kinds.Mark mark) = Unit {0}
-IsGoodKind (kinds.Name text) = IsGoodName text
+IsGoodKind (kinds.Name text) = IsSpellableName text
 IsGoodKind (kinds.Function function) = Unit {0}
-IsGoodKind (kinds.Integer number) = IsGoodNumber number
+IsGoodKind (kinds.Integer number) = IsSpellableNumber number
 IsGoodKind (kinds.Quoted text) = list_all is_plain text ≡ true
 
 abbrev pub AreGood : List Token → Type 0
@@ -59,8 +53,11 @@ shown_plain (b ∷ text) h =
     let q = both_true (nat_lt b 128) (not (is_control b)) p.0 in
     rw (q.0, shown_plain text p.1) refl
 
-plain_by : (b : ℕ) (c : Bool) (text front : List ℕ) → is_quote b ≡ c → list_all is_plain (cond c (39 ∷ 39 ∷ text) (b ∷ text)) ≡ true → (list_all is_plain front ≡ list_all is_plain text) → (is_plain b ≡ true) × (list_all is_plain text ≡ true)
-plain_by b true text front e h k = let p = both_true (is_plain 39) (list_all is_plain (39 ∷ text)) h in let q = both_true (is_plain 39) (list_all is_plain text) p.1 in (let s : b ≡ 39 = eqb-true b 39 e in rw s refl, q.1)
+plain_by : (b : ℕ) (c : Bool) (text front : List ℕ) → is_quote b ≡ c
+    → list_all is_plain (cond c (39 ∷ 39 ∷ text) (b ∷ text)) ≡ true
+    → (list_all is_plain front ≡ list_all is_plain text) → (is_plain b ≡ true) × (list_all is_plain text ≡ true)
+plain_by b true text front e h k = let p = both_true (is_plain 39) (list_all is_plain (39 ∷ text)) h in let q =
+    both_true (is_plain 39) (list_all is_plain text) p.1 in (let s : b ≡ 39 = eqb-true b 39 e in rw s refl, q.1)
 plain_by b false text front e h k = both_true (is_plain b) (list_all is_plain text) h
 
 pub doubled_plain : (text : List ℕ) → list_all is_plain (doubled text) ≡ true → list_all is_plain text ≡ true
@@ -75,14 +72,16 @@ IsGood : Option Kind → Type 0
 IsGood None = Unit {0}
 IsGood (Some kind) = IsGoodKind kind
 
-named_good : (text : List ℕ) (word : Option Mark) → word_of text ≡ word → has_name_form text ≡ true → list_all is_plain text ≡ true → IsGoodKind (named_kind text word)
+named_good : (text : List ℕ) (word : Option Mark) → word_of text ≡ word → has_name_form text ≡ true
+    → list_all is_plain text ≡ true → IsGoodKind (named_kind text word)
 named_good text (Some word) e f p = tt
-named_good text None e f p = subst IsGoodName (sym (shown_plain text p)) (f, e, p)
+named_good text None e f p = subst IsSpellableName (sym (shown_plain text p)) (f, e, p)
 
-signed_good : (negative : Bool) (n : ℕ) → n < 2 ^ 63 → IsGoodNumber (signed negative n)
+signed_good : (negative : Bool) (n : ℕ) → n < 2 ^ 63 → IsSpellableNumber (signed negative n)
 signed_good false n h = h
 signed_good true zero h = h
-signed_good true (suc n) h = let e : signed true (suc n) ≡ negsuc n = omega (arith, ints) in subst IsGoodNumber (sym e) h
+signed_good true (suc n) h = let e : signed true (suc n) ≡ negsuc n = omega (arith, ints) in
+    subst IsSpellableNumber (sym e) h
 
 symbol_good : (o : Option Mark) → IsGood (option_map kinds.Mark o)
 unfolding IsGood
@@ -97,12 +96,14 @@ piece_good (name text) f p = named_good text (word_of text) refl f p
 piece_good (integer negative digits) f p = signed_good negative (number_from 0 digits) f.2
 piece_good (quoted text) f p =
     let inside = both_true (is_plain 39) (list_all is_plain (doubled text ++ 39 ∷ [])) p in
-    let parts = both_true (list_all is_plain (doubled text)) (list_all is_plain (39 ∷ [])) (sym (list_all-append is_plain (doubled text) (39 ∷ [])) ∙ inside.1) in
+    let parts = both_true (list_all is_plain (doubled text)) (list_all is_plain (39 ∷ []))
+    (sym (list_all-append is_plain (doubled text) (39 ∷ [])) ∙ inside.1) in
     let plain = doubled_plain text parts.0 in
     rw (shown_plain text plain) plain
 piece_good (sign symbol) f p = symbol_good (symbol_of symbol)
 
-function_good : (text : List ℕ) (function : Option Function) → IsGoodName text → IsGoodKind (function_kind text function)
+function_good : (text : List ℕ) (function : Option Function) → IsSpellableName text
+    → IsGoodKind (function_kind text function)
 function_good text None g = g
 function_good text (Some function) g = tt
 
@@ -117,22 +118,27 @@ chosen_good : (c : Bool) (kind : Kind) → IsGoodKind kind → IsGoodKind (cond 
 chosen_good true kind g = called_good kind g
 chosen_good false kind g = g
 
-with_good : (at : ℕ) (o : Option Kind) (tokens : List Token) → IsGood o → AreGood tokens → AreGood (with_kind at o tokens)
+with_good : (at : ℕ) (o : Option Kind) (tokens : List Token) → IsGood o → AreGood tokens
+    → AreGood (with_kind at o tokens)
 unfolding IsGood
 with_good at None tokens g h = h
 with_good at (Some kind) [] g h = (g, tt)
 with_good at (Some kind) (t ∷ tokens) g h = (chosen_good (is_open t.kind) kind g, h)
 
-pieces_good : (at : ℕ) (pieces : List Piece) (text rest : List ℕ) → Are pieces text rest → list_all is_plain text ≡ true → AreGood (tokens_of at pieces)
+pieces_good : (at : ℕ) (pieces : List Piece) (text rest : List ℕ) → Are pieces text rest
+    → list_all is_plain text ≡ true → AreGood (tokens_of at pieces)
 pieces_good at [] text rest a p = tt
 pieces_good at (piece ∷ pieces) text rest a p =
     let whole : list_all is_plain (spelling piece ++ a.0) ≡ true = rw a.1.whole at p in
-    let parts = both_true (list_all is_plain (spelling piece)) (list_all is_plain a.0) (sym (list_all-append is_plain (spelling piece) a.0) ∙ whole) in
-    with_good at (kind_of piece) (tokens_of (at + length (spelling piece)) pieces) (piece_good piece a.1.fits parts.0) (pieces_good (at + length (spelling piece)) pieces a.0 rest a.2 parts.1)
+    let parts = both_true (list_all is_plain (spelling piece)) (list_all is_plain a.0)
+    (sym (list_all-append is_plain (spelling piece) a.0) ∙ whole) in
+    with_good at (kind_of piece) (tokens_of (at + length (spelling piece)) pieces) (piece_good piece a.1.fits parts.0)
+    (pieces_good (at + length (spelling piece)) pieces a.0 rest a.2 parts.1)
 
 -- ---- a text without a fault
 
-byte_plain : (text front bytes : List ℕ) (b : ℕ) → text ≡ front ++ b ∷ bytes → ((f : _) → HasFault text f → ⊥) → is_plain b ≡ true
+byte_plain : (text front bytes : List ℕ) (b : ℕ) → text ≡ front ++ b ∷ bytes → ((f : _) → HasFault text f → ⊥)
+    → is_plain b ≡ true
 byte_plain text front bytes b e none = by (nat_lt b 128) (is_control b) refl refl
   where
     by : (a c : Bool) → nat_lt b 128 ≡ a → is_control b ≡ c → (a && not c) ≡ true
@@ -140,11 +146,17 @@ byte_plain text front bytes b e none = by (nat_lt b 128) (is_control b) refl ref
     by true true h k = absurd (none (faults.Token (length front)) (inl (front, b, bytes, e, refl, k)))
     by false c h k = absurd (none (faults.NotAscii (length front)) (front, b, bytes, e, refl, ltb-false _ _ h))
 
-all_plain : (text front bytes : List ℕ) → text ≡ front ++ bytes → ((f : _) → HasFault text f → ⊥) → list_all is_plain bytes ≡ true
+pub all_plain : (text front bytes : List ℕ) → text ≡ front ++ bytes → ((f : _) → HasFault text f → ⊥)
+    → list_all is_plain bytes ≡ true
 all_plain text front [] e none = refl
 all_plain text front (b ∷ bytes) e none =
-    rw (byte_plain text front bytes b e none, all_plain text (front ++ b ∷ []) bytes (e ∙ sym (append_assoc front (b ∷ []) bytes)) none) refl
+    rw (
+      byte_plain text front bytes b e none,
+      all_plain text (front ++ b ∷ []) bytes
+          (e ∙ sym (append_assoc front (b ∷ []) bytes)) none,
+    ) refl
 
 -- the tokens of a reading are good
-pub tokens_good : (text : List ℕ) (s : Select) (r : IsReading text s) → AreGood r.tokens
-tokens_good text s r = subst AreGood (sym r.lexed.tokens_are) (pieces_good 0 r.lexed.pieces text [] r.lexed.cut.are (all_plain text [] text refl r.faultless))
+pub tokens_good : (text : List ℕ) (s : Select) (r : IsReading text s) → AreGood r.spells.tokens
+tokens_good text s r = subst AreGood (sym r.spells.lexed.tokens_are)
+    (pieces_good 0 r.spells.lexed.pieces text [] r.spells.lexed.cut.are (all_plain text [] text refl r.faultless))

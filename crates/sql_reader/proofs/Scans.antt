@@ -1,14 +1,16 @@
 -- The longest front of bytes that pass a test.
-use Rattle.std.proofs.Common.{◌≡◌, ℕ, suc, ◌+◌, Bool, true, false, cond, List, [], ◌∷◌, ◌++◌, length, take, drop, refl, sym, arith}
-use Rattle.std.specs.Prelude.{◌&&◌}
+use Rattle.std.proofs.Common.{◌≡◌, ℕ, suc, ◌+◌, Bool, true, false, cond, List, [], ◌∷◌, ◌++◌, length, take, drop, refl}
+use Rattle.std.proofs.Common.{sym, arith}
 use Rattle.std.specs.List.{prefix_len, list_all}
 use Rattle.std.proofs.lemmas.List.{take_at, drop_at}
+use Rattle.orca_base.proofs.Truths.{both_true}
 use Rattle.sql_reader.specs.Pieces.{Ends}
 
 one_more : (n : ℕ) → 1 + n ≡ suc n
 one_more n = omega arith
 
-passes_by : (test : ℕ → Bool) (b : ℕ) (bytes : List ℕ) (n : ℕ) (c : Bool) → test b ≡ c → list_all test (take n bytes) ≡ true → list_all test (take (cond c (1 + n) 0) (b ∷ bytes)) ≡ true
+passes_by : (test : ℕ → Bool) (b : ℕ) (bytes : List ℕ) (n : ℕ) (c : Bool) → test b ≡ c
+    → list_all test (take n bytes) ≡ true → list_all test (take (cond c (1 + n) 0) (b ∷ bytes)) ≡ true
 passes_by test b bytes n true e h = rw (one_more n, e) h
 passes_by test b bytes n false e h = refl
 
@@ -17,7 +19,8 @@ pub front_passes : (test : ℕ → Bool) (bytes : List ℕ) → list_all test (t
 front_passes test [] = refl
 front_passes test (b ∷ bytes) = passes_by test b bytes (prefix_len test bytes) (test b) refl (front_passes test bytes)
 
-ends_by : (test : ℕ → Bool) (b : ℕ) (bytes : List ℕ) (n : ℕ) (c : Bool) → test b ≡ c → Ends test (drop n bytes) → Ends test (drop (cond c (1 + n) 0) (b ∷ bytes))
+ends_by : (test : ℕ → Bool) (b : ℕ) (bytes : List ℕ) (n : ℕ) (c : Bool) → test b ≡ c → Ends test (drop n bytes)
+    → Ends test (drop (cond c (1 + n) 0) (b ∷ bytes))
 ends_by test b bytes n true e h = rw (one_more n) h
 ends_by test b bytes n false e h = e
 
@@ -26,12 +29,9 @@ pub front_ends : (test : ℕ → Bool) (bytes : List ℕ) → Ends test (drop (p
 front_ends test [] = tt
 front_ends test (b ∷ bytes) = ends_by test b bytes (prefix_len test bytes) (test b) refl (front_ends test bytes)
 
-pub both_true : (a b : Bool) → (a && b) ≡ true → (a ≡ true) × (b ≡ true)
-both_true true b h = (refl, h)
-both_true false b h = absurd cc
-
 -- a front that passes, before what doesn't, is the longest
-pub longest : (test : ℕ → Bool) (front rest : List ℕ) → list_all test front ≡ true → Ends test rest → prefix_len test (front ++ rest) ≡ length front
+pub longest : (test : ℕ → Bool) (front rest : List ℕ) → list_all test front ≡ true → Ends test rest
+    → prefix_len test (front ++ rest) ≡ length front
 longest test [] [] h e = refl
 longest test [] (b ∷ rest) h e = rw e refl
 longest test (b ∷ front) rest h e =
@@ -40,8 +40,12 @@ longest test (b ∷ front) rest h e =
     rw p.0 (omega (arith, k))
 
 -- so it is what is taken
-pub taken_again : (test : ℕ → Bool) (front rest : List ℕ) → list_all test front ≡ true → Ends test rest → take (prefix_len test (front ++ rest)) (front ++ rest) ≡ front
-taken_again test front rest h e = take_at front rest (prefix_len test (front ++ rest)) (sym (longest test front rest h e))
+pub taken_again : (test : ℕ → Bool) (front rest : List ℕ) → list_all test front ≡ true → Ends test rest
+    → take (prefix_len test (front ++ rest)) (front ++ rest) ≡ front
+taken_again test front rest h e =
+    take_at front rest (prefix_len test (front ++ rest)) (sym (longest test front rest h e))
 
-pub left_again : (test : ℕ → Bool) (front rest : List ℕ) → list_all test front ≡ true → Ends test rest → drop (prefix_len test (front ++ rest)) (front ++ rest) ≡ rest
-left_again test front rest h e = drop_at front rest (prefix_len test (front ++ rest)) (sym (longest test front rest h e))
+pub left_again : (test : ℕ → Bool) (front rest : List ℕ) → list_all test front ≡ true → Ends test rest
+    → drop (prefix_len test (front ++ rest)) (front ++ rest) ≡ rest
+left_again test front rest h e =
+    drop_at front rest (prefix_len test (front ++ rest)) (sym (longest test front rest h e))

@@ -1,5 +1,6 @@
 -- A symbol that is found stands there, and one that stands there is found.
-use Rattle.std.proofs.Common.{◌≡◌, ℕ, Bool, true, false, cond, List, [], ◌∷◌, ◌++◌, Option, Some, None, refl, arith, rules}
+use Rattle.std.proofs.Common.{◌≡◌, ℕ, Bool, true, false, cond, List, [], ◌∷◌, ◌++◌, Option, Some, None, refl, arith}
+use Rattle.std.proofs.Common.{rules}
 use Rattle.std.specs.Prelude.{is_some, IsSome}
 use Rattle.std.specs.Option.{option_or}
 use Rattle.std.proofs.lemmas.Bool.Decides.{nat_tests}
@@ -17,7 +18,9 @@ is_some_of : {A : Type 0} (o : Option A) → IsSome o → is_some o ≡ true
 is_some_of None h = absurd (search rules)
 is_some_of (Some a) h = refl
 
-short_sound_by : (b : ℕ) (rest : List ℕ) (s : Bool) → is_some (short_symbol b) ≡ s → Ends (λ byte. is_some (symbol_of ((b ∷ []) ++ byte ∷ []))) rest → Sound (b ∷ rest) (cond s (Some (sign (b ∷ []), rest)) None)
+short_sound_by : (b : ℕ) (rest : List ℕ) (s : Bool) → is_some (short_symbol b) ≡ s
+    → Ends (λ byte. is_some (symbol_of ((b ∷ []) ++ byte ∷ []))) rest
+    → Sound (b ∷ rest) (cond s (Some (sign (b ∷ []), rest)) None)
 short_sound_by b rest true h e = record { fits = some_of (short_symbol b) h; stands = e; whole = refl }
 short_sound_by b rest false h e = tt
 
@@ -25,7 +28,8 @@ ends_long : (b c : ℕ) (rest : List ℕ) → Ends (λ byte. is_some (symbol_of 
 ends_long b c [] = tt
 ends_long b c (d ∷ rest) = refl
 
-long_sound_by : (b c : ℕ) (rest : List ℕ) (l : Bool) → is_some (long_symbol b c) ≡ l → Sound (b ∷ c ∷ rest) (option_or (cond l (Some (sign (b ∷ c ∷ []), rest)) None) (short_cut b (c ∷ rest)))
+long_sound_by : (b c : ℕ) (rest : List ℕ) (l : Bool) → is_some (long_symbol b c) ≡ l
+    → Sound (b ∷ c ∷ rest) (option_or (cond l (Some (sign (b ∷ c ∷ []), rest)) None) (short_cut b (c ∷ rest)))
 long_sound_by b c rest true h = record { fits = some_of (long_symbol b c) h; stands = ends_long b c rest; whole = refl }
 long_sound_by b c rest false h = short_sound_by b (c ∷ rest) (is_some (short_symbol b)) refl h
 
@@ -34,7 +38,9 @@ sign_sound [] = tt
 sign_sound (b ∷ []) = short_sound_by b [] (is_some (short_symbol b)) refl tt
 sign_sound (b ∷ c ∷ rest) = long_sound_by b c rest (is_some (long_symbol b c)) refl
 
-pub sign_again : (symbol rest : List ℕ) → IsSome (symbol_of symbol) → Ends (λ byte. is_some (symbol_of (symbol ++ byte ∷ []))) rest → sign_cut (symbol ++ rest) ≡ Some (sign symbol, rest)
+pub sign_again : (symbol rest : List ℕ) → IsSome (symbol_of symbol)
+    → Ends (λ byte. is_some (symbol_of (symbol ++ byte ∷ []))) rest
+    → sign_cut (symbol ++ rest) ≡ Some (sign symbol, rest)
 sign_again [] rest h e = absurd (search rules)
 sign_again (b ∷ []) [] h e = let k = is_some_of (short_symbol b) h in rw k refl
 sign_again (b ∷ []) (c ∷ rest) h e = let k = is_some_of (short_symbol b) h in rw (e, k) refl

@@ -14,7 +14,8 @@ is_digit byte = nat_le 48 byte && nat_le byte 57
 
 -- the first byte of a symbol: one of `, . ; ( ) * = < > !`
 abbrev pub is_sign : ℕ → Bool
-is_sign byte = byte == 44 || byte == 46 || byte == 59 || byte == 40 || byte == 41 || byte == 42 || byte == 61 || byte == 60 || byte == 62 || byte == 33
+is_sign byte = byte == 44 || byte == 46 || byte == 59 || byte == 40 || byte == 41 || byte == 42 || byte == 61 || byte
+    == 60 || byte == 62 || byte == 33
 
 -- what the byte can begin
 abbrev pub class_of : ℕ → Class

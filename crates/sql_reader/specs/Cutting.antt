@@ -1,5 +1,6 @@
 -- The piece at the front of a text and the bytes behind it, found from left to right.
-use Rattle.std.specs.Prelude.{◌≡◌, ℕ, ◌^◌, Bool, true, false, ◌==◌, nat_lt, if◌then◌else◌, List, [], ◌∷◌, take, drop, map, Option, Some, None, is_some}
+use Rattle.std.specs.Prelude.{◌≡◌, ℕ, ◌^◌, Bool, true, false, ◌==◌, nat_lt, if◌then◌else◌, List, [], ◌∷◌, take, drop}
+use Rattle.std.specs.Prelude.{map, Option, Some, None, is_some}
 use Rattle.std.specs.Borrow.{Bor}
 use Rattle.std.specs.List.{prefix_len}
 use Rattle.std.specs.Option.{option_map, option_or}
@@ -11,7 +12,8 @@ use Rattle.sql_reader.specs.declared.pieces.Quoting.{Quoting}
 use Rattle.sql_reader.specs.declared.pieces.Quoting.TheVariants as quotings
 use Rattle.sql_reader.specs.Bytes.{class_of, is_digit}
 use Rattle.sql_reader.specs.Words.{short_symbol, long_symbol}
-use Rattle.sql_reader.specs.Pieces.{Piece, blank, comment, name, integer, quoted, sign, in_comment, is_quote, number_from}
+use Rattle.sql_reader.specs.Pieces.{Piece, blank, comment, name, integer, quoted, sign, in_comment, is_quote}
+use Rattle.sql_reader.specs.Pieces.{number_from}
 use Rattle.sql_reader.specs.Lexing.{kind_of, shown}
 
 -- a piece and what is behind it
@@ -34,11 +36,13 @@ magnitude_of digits = if nat_lt (number_from 0 digits) (2 ^ 63) then Some (numbe
 -- digits, and the bytes behind them
 abbrev pub integer_cut : Bool → List ℕ → List ℕ → Cut
 integer_cut negative digits rest =
-    if nat_lt (number_from 0 digits) (2 ^ 63) then (if begins_with continues_name rest then None else Some (integer negative digits, rest)) else None
+    if nat_lt (number_from 0 digits) (2 ^ 63) then
+    (if begins_with continues_name rest then None else Some (integer negative digits, rest)) else None
 
 -- an integer from its first digit on
 abbrev pub digits_cut : Bool → List ℕ → Cut
-digits_cut negative text = integer_cut negative (take (prefix_len is_digit text) text) (drop (prefix_len is_digit text) text)
+digits_cut negative text = integer_cut negative (take (prefix_len is_digit text) text)
+    (drop (prefix_len is_digit text) text)
 
 -- a comment behind its two minuses
 abbrev pub comment_cut : List ℕ → Cut
@@ -47,7 +51,8 @@ comment_cut body = Some (comment (take (prefix_len in_comment body) body), drop 
 -- what stands behind a minus
 abbrev pub minus_cut : List ℕ → Cut
 minus_cut [] = None
-minus_cut (byte ∷ bytes) = if byte == 45 then comment_cut bytes else (if is_digit byte then digits_cut true (byte ∷ bytes) else None)
+minus_cut (byte ∷ bytes) = if byte == 45 then comment_cut bytes else
+    (if is_digit byte then digits_cut true (byte ∷ bytes) else None)
 
 -- one byte more of a quoted text
 abbrev pub with_byte : ℕ → Option (List ℕ × List ℕ) → Option (List ℕ × List ℕ)
@@ -69,7 +74,8 @@ quoted_by quotings.Closed inside behind all = Some ([], all)
 abbrev pub quoted_from : Bool → List ℕ → Option (List ℕ × List ℕ)
 quoted_from false [] = None
 quoted_from true [] = Some ([], [])
-quoted_from after (byte ∷ bytes) = quoted_by (quoting_of after byte) (quoted_from false bytes) (quoted_from true bytes) (byte ∷ bytes)
+quoted_from after (byte ∷ bytes) =
+    quoted_by (quoting_of after byte) (quoted_from false bytes) (quoted_from true bytes) (byte ∷ bytes)
 
 -- the text as a piece
 abbrev pub as_quoted : List ℕ × List ℕ → Piece × List ℕ

@@ -30,6 +30,16 @@ count_of limits.OrderBy select = length select.order_by
 abbrev pub Exceeds : Limit → Select → Type 0
 Exceeds what select = most what < count_of what select
 
+-- the query has no more of anything than it may
+abbrev pub KeepsLimits : Select → Type 0
+KeepsLimits select = (what : Limit) → count_of what select ≤ most what
+
+-- by the grammar the text is the query: its tokens, to its end, are the query's
+pub record Spells (text : List ℕ) (select : Select) : Type 0 where
+  pub tokens : List Token
+  pub lexed : IsLexed text tokens []
+  pub query : IsQuery tokens select
+
 -- some query's tokens begin so
 abbrev pub CanGoOn : List Token → Type 0
 CanGoOn front = (more : List Token) × (select : Select) × IsQuery (front ++ more) select
@@ -44,7 +54,8 @@ Follows tokens front token at = (others : List Token) × (tokens ≡ front ++ to
 
 -- no query goes on with the token at the place
 abbrev pub IsUnexpected : List Token → ℕ → Type 0
-IsUnexpected tokens at = (front : List Token) × (token : Token) × Follows tokens front token at × (CanGoOn (front ++ token ∷ []) → ⊥)
+IsUnexpected tokens at = (front : List Token) × (token : Token) × Follows tokens front token at
+    × (CanGoOn (front ++ token ∷ []) → ⊥)
 
 -- the tokens end, and no query ends there
 abbrev pub IsUnfinished : List Token → Type 0
@@ -56,11 +67,13 @@ IsSurplus what tokens at = (front : List Token) × (token : Token) × Follows to
 
 -- the byte at the place is so
 abbrev pub HasByte : List ℕ → ℕ → (ℕ → Type 0) → Type 0
-HasByte text at IsSo = (front : List ℕ) × (byte : ℕ) × (others : List ℕ) × (text ≡ front ++ byte ∷ others) × (length front ≡ at) × IsSo byte
+HasByte text at IsSo = (front : List ℕ) × (byte : ℕ) × (others : List ℕ) × (text ≡ front ++ byte ∷ others)
+    × (length front ≡ at) × IsSo byte
 
 -- at the place no token, blank or comment begins
 abbrev pub IsStuck : List ℕ → ℕ → Type 0
-IsStuck text at = (tokens : List Token) × (rest : List ℕ) × IsLexed text tokens rest × (0 < length rest) × (at + length rest ≡ length text)
+IsStuck text at = (tokens : List Token) × (rest : List ℕ) × IsLexed text tokens rest × (0 < length rest)
+    × (at + length rest ≡ length text)
 
 -- the text has the fault, wherever others stand
 abbrev pub HasFault : List ℕ → SqlFault → Type 0
@@ -101,9 +114,7 @@ pub record IsFirst (text : List ℕ) (f : SqlFault) : Type 0 where
   pub has : HasFault text f
   pub first : (g : SqlFault) → HasFault text g → (f ≡ g) ⊎ IsBefore f g
 
--- the text's tokens are this query's, and it has no fault
+-- the text is the query and has no fault
 pub record IsReading (text : List ℕ) (select : Select) : Type 0 where
-  pub tokens : List Token
-  pub lexed : IsLexed text tokens []
-  pub query : IsQuery tokens select
+  pub spells : Spells text select
   pub faultless : (f : SqlFault) → HasFault text f → ⊥

@@ -15,7 +15,8 @@ After says IsX [] x = ⊥
 After {V} says IsX (token ∷ tokens) x = (v : V) × (says token ≡ Some v) × IsX v tokens x
 
 -- something, and then what may follow it
-pub record Then {X Z : Type 0} (IsX : List Token → X → Type 0) (IsZ : X → List Token → Z → Type 0) (tokens : List Token) (z : Z) : Type 0 where
+pub record Then {X Z : Type 0} (IsX : List Token → X → Type 0) (IsZ : X → List Token → Z → Type 0)
+    (tokens : List Token) (z : Z) : Type 0 where
   pub front : List Token
   pub back : List Token
   pub value : X

@@ -1,5 +1,6 @@
 -- The tokens of a text.
-use Rattle.std.specs.Prelude.{◌≡◌, ℕ, ◌+◌, Bool, true, false, nat_lt, if◌then◌else◌, ℤ, pos, ◌-ℤ◌, List, [], ◌∷◌, map, length, Option, Some, None}
+use Rattle.std.specs.Prelude.{◌≡◌, ℕ, ◌+◌, Bool, true, false, nat_lt, if◌then◌else◌, ℤ, pos, ◌-ℤ◌, List, [], ◌∷◌, map}
+use Rattle.std.specs.Prelude.{length, Option, Some, None}
 use Rattle.std.specs.Option.{option_map}
 use Rattle.sql_reader.specs.declared.tokens.Mark.{Mark}
 use Rattle.sql_reader.specs.declared.tokens.Mark.TheVariants as marks

@@ -8,11 +8,11 @@ pub mod Marks
 pub mod Tokens
 pub mod Grammar
 pub mod Query
+pub mod Left
 pub mod Steps
 pub mod Reading
-pub mod Gives
+pub mod Doing
 pub mod Faults
 pub mod Outcome
-pub mod Canonical
-pub mod Unplaced
+pub mod Spellable
 pub mod Readable

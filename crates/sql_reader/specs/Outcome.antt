@@ -1,17 +1,18 @@
 -- The answer to a text, from its first bad byte, the place where no token begins, and what the parser says.
-use Rattle.std.specs.Prelude.{◌≡◌, ℕ, ◌+◌, ◌-◌, nat_lt, nat_le, if◌then◌else◌, List, [], ◌∷◌, length, Option, Some, None, Result, Ok, Err}
+use Rattle.std.specs.Prelude.{ℕ, ◌+◌, ◌-◌, nat_lt, nat_le, if◌then◌else◌, List, [], ◌∷◌, length, Option, Some, None}
+use Rattle.std.specs.Prelude.{Result, Ok, Err}
 use Rattle.std.specs.Option.{option_or}
-use Rattle.sql_reader.specs.declared.tokens.Token.{Token}
 use Rattle.sql_reader.specs.declared.faults.SqlFault.{SqlFault}
 use Rattle.sql_reader.specs.declared.faults.SqlFault.TheVariants as faults
 use Rattle.sql_reader.specs.declared.syntax.Select.{Select}
 use Rattle.sql_reader.specs.Pieces.{is_control}
-use Rattle.sql_reader.specs.Steps.{Stopped, unexpected, too_many}
+use Rattle.sql_reader.specs.Steps.{Stopped, unexpected, too_many, next_place}
 use Rattle.sql_reader.specs.Faults.{place}
 
 -- the fault of a byte at a place
 abbrev pub bad_byte : ℕ → ℕ → Option SqlFault
-bad_byte at byte = if nat_le 128 byte then Some (faults.NotAscii at) else (if is_control byte then Some (faults.Token at) else None)
+bad_byte at byte = if nat_le 128 byte then Some (faults.NotAscii at) else
+    (if is_control byte then Some (faults.Token at) else None)
 
 -- the first fault of a byte, in bytes that begin at the place
 abbrev pub first_bad : ℕ → List ℕ → Option SqlFault
@@ -33,11 +34,6 @@ abbrev pub earlier : Option SqlFault → Option SqlFault → Option SqlFault
 earlier first None = first
 earlier first (Some second) = Some (sooner first second)
 
--- the next token's place, or the end
-abbrev pub next_place : List Token → ℕ → ℕ
-next_place [] end = end
-next_place (token ∷ tokens) end = token.at
-
 -- the fault where the parser stopped
 abbrev pub fault_at : Stopped → ℕ → SqlFault
 fault_at (unexpected rest) end = faults.Grammar (next_place rest end)
@@ -49,13 +45,3 @@ outcome None (Ok select) end = Ok select
 outcome (Some fault) (Ok select) end = Err fault
 outcome None (Err stopped) end = Err (fault_at stopped end)
 outcome (Some fault) (Err stopped) end = Err (sooner (Some fault) (fault_at stopped end))
-
--- that answer, unless memory ran out
-abbrev pub IsOutcome : Result Select SqlFault → Result Select SqlFault → Type 0
-IsOutcome (Ok select) answer = answer ≡ Ok select
-IsOutcome (Err faults.Memory) answer = Unit {0}
-IsOutcome (Err faults.TooLong) answer = answer ≡ Err faults.TooLong
-IsOutcome (Err (faults.NotAscii at)) answer = answer ≡ Err (faults.NotAscii at)
-IsOutcome (Err (faults.Token at)) answer = answer ≡ Err (faults.Token at)
-IsOutcome (Err (faults.Grammar at)) answer = answer ≡ Err (faults.Grammar at)
-IsOutcome (Err (faults.TooMany what at)) answer = answer ≡ Err (faults.TooMany what at)

@@ -1,5 +1,6 @@
 -- The pieces of a text: blanks, comments, and what spells one token.
-use Rattle.std.specs.Prelude.{◌≡◌, ℕ, ◌+◌, ◌-◌, ◌*◌, ◌^◌, ◌<◌, Bool, true, false, ◌==◌, ◌&&◌, not, nat_lt, if◌then◌else◌, List, [], ◌∷◌, ◌++◌, length, IsSome, is_some}
+use Rattle.std.specs.Prelude.{◌≡◌, ℕ, ◌+◌, ◌-◌, ◌*◌, ◌^◌, ◌<◌, Bool, true, false, ◌==◌, ◌&&◌, not, nat_lt}
+use Rattle.std.specs.Prelude.{if◌then◌else◌, List, [], ◌∷◌, ◌++◌, length, IsSome, is_some}
 use Rattle.std.specs.List.{list_all}
 use Rattle.orca_base.specs.Name.{continues_name, has_name_form}
 use Rattle.sql_reader.specs.Bytes.{is_blank, is_digit}
@@ -53,7 +54,8 @@ abbrev pub Fits : Piece → Type 0
 Fits (blank byte) = is_blank byte ≡ true
 Fits (comment body) = list_all in_comment body ≡ true
 Fits (name text) = has_name_form text ≡ true
-Fits (integer negative digits) = (0 < length digits) × (list_all is_digit digits ≡ true) × (number_from 0 digits < 2 ^ 63)
+Fits (integer negative digits) =
+    (0 < length digits) × (list_all is_digit digits ≡ true) × (number_from 0 digits < 2 ^ 63)
 Fits (quoted text) = Unit {0}
 Fits (sign symbol) = IsSome (symbol_of symbol)
 

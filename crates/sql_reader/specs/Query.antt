@@ -31,7 +31,8 @@ column_in table name = record { at = table.at; table = Some table.text; name = n
 
 -- col := name | name . name
 abbrev pub IsColumn : List Token → ColRef → Type 0
-IsColumn = After name_of (λ first. Either (After (place_of marks.Dot) (λ _. After name_of (λ name. Done (column_in first name)))) (Done (plain_column first)))
+IsColumn = After name_of (λ first. Either
+    (After (place_of marks.Dot) (λ _. After name_of (λ name. Done (column_in first name)))) (Done (plain_column first)))
 
 -- the function as a query has it
 abbrev pub func_of : Function → SelFunc
@@ -50,14 +51,16 @@ aggregate function column = exprs.Agg (func_of function) (Some column)
 
 -- what the function takes: a column, and COUNT also `*`
 abbrev pub IsArgument : Function → List Token → SelExpr → Type 0
-IsArgument functions.Count = Either (After (place_of marks.Star) (λ _. Done count_all)) (Then IsColumn (λ column. Done (aggregate functions.Count column)))
+IsArgument functions.Count = Either (After (place_of marks.Star) (λ _. Done count_all))
+    (Then IsColumn (λ column. Done (aggregate functions.Count column)))
 IsArgument functions.Sum = Then IsColumn (λ column. Done (aggregate functions.Sum column))
 IsArgument functions.Min = Then IsColumn (λ column. Done (aggregate functions.Min column))
 IsArgument functions.Max = Then IsColumn (λ column. Done (aggregate functions.Max column))
 
 -- `( argument )`, behind the function
 abbrev pub IsCall : Function → List Token → SelExpr → Type 0
-IsCall function = After (place_of marks.Open) (λ _. Then (IsArgument function) (λ call. After (place_of marks.Close) (λ _. Done call)))
+IsCall function = After (place_of marks.Open)
+    (λ _. Then (IsArgument function) (λ call. After (place_of marks.Close) (λ _. Done call)))
 
 -- a call of a function, or a column
 abbrev pub IsExpr : List Token → SelExpr → Type 0
@@ -73,7 +76,8 @@ named_item expr name = record { expr = expr; name_at = name.at; name = Some name
 
 -- [AS name], behind the expression
 abbrev pub IsOutput : SelExpr → List Token → SelItem → Type 0
-IsOutput expr = Either (After (place_of marks.As) (λ _. After name_of (λ name. Done (named_item expr name)))) (Done (plain_item expr))
+IsOutput expr = Either (After (place_of marks.As) (λ _. After name_of (λ name. Done (named_item expr name))))
+    (Done (plain_item expr))
 
 -- item := (col | agg) [AS name]
 abbrev pub IsItem : List Token → SelItem → Type 0
@@ -89,13 +93,15 @@ aliased_table table alias = record { at = table.at; table = table.text; alias_at
 
 -- table := name [[AS] name]
 abbrev pub IsTable : List Token → FromItem → Type 0
-IsTable = After name_of (λ table. Either (After (place_of marks.As) (λ _. After name_of (λ alias. Done (aliased_table table alias))))
+IsTable = After name_of (λ table. Either
+    (After (place_of marks.As) (λ _. After name_of (λ alias. Done (aliased_table table alias))))
     (Either (After name_of (λ alias. Done (aliased_table table alias))) (Done (plain_table table))))
 
 -- col | integer | string
 abbrev pub IsOperand : List Token → SelOperand → Type 0
 IsOperand = Either (After integer_of (λ number. Done (operands.Int number)))
-    (Either (After quoted_of (λ text. Done (operands.Str text))) (Then IsColumn (λ column. Done (operands.Column column))))
+    (Either (After quoted_of (λ text. Done (operands.Str text)))
+    (Then IsColumn (λ column. Done (operands.Column column))))
 
 -- a comparison
 abbrev pub predicate : ColRef → SelOp → SelOperand → SelPred
@@ -124,15 +130,18 @@ IsWhere = Either (After (place_of marks.Where) (λ _. Elements marks.And IsPred)
 
 -- [GROUP BY col {, col}]
 abbrev pub IsGroupBy : List Token → List ColRef → Type 0
-IsGroupBy = Either (After (place_of marks.Group) (λ _. After (place_of marks.By) (λ _. Elements marks.Comma IsColumn))) (Done [])
+IsGroupBy = Either (After (place_of marks.Group)
+    (λ _. After (place_of marks.By) (λ _. Elements marks.Comma IsColumn))) (Done [])
 
 -- [ORDER BY key {, key}]
 abbrev pub IsOrderBy : List Token → List SelKey → Type 0
-IsOrderBy = Either (After (place_of marks.Order) (λ _. After (place_of marks.By) (λ _. Elements marks.Comma IsKey))) (Done [])
+IsOrderBy = Either (After (place_of marks.Order) (λ _. After (place_of marks.By) (λ _. Elements marks.Comma IsKey)))
+    (Done [])
 
 -- a query from its lists
 abbrev pub select_of : List SelItem → List FromItem → List SelPred → List ColRef → List SelKey → Select
-select_of items from preds group_by order_by = record { items = items; from = from; preds = preds; group_by = group_by; order_by = order_by }
+select_of items from preds group_by order_by =
+    record { items = items; from = from; preds = preds; group_by = group_by; order_by = order_by }
 
 -- [;], behind the query
 abbrev pub IsEnd : Select → List Token → Select → Type 0
@@ -141,7 +150,8 @@ IsEnd select = Either (After (place_of marks.Semicolon) (λ _. Done select)) (Do
 -- what follows the select list: FROM table {, table}, and the optional clauses
 abbrev pub IsBody : List SelItem → List Token → Select → Type 0
 IsBody items = After (place_of marks.From) (λ _. Then (Elements marks.Comma IsTable) (λ from.
-    Then IsWhere (λ preds. Then IsGroupBy (λ group_by. Then IsOrderBy (λ order_by. IsEnd (select_of items from preds group_by order_by))))))
+    Then IsWhere (λ preds. Then IsGroupBy
+    (λ group_by. Then IsOrderBy (λ order_by. IsEnd (select_of items from preds group_by order_by))))))
 
 -- query := SELECT item {, item} FROM table {, table} [WHERE ..] [GROUP BY ..] [ORDER BY ..] [;]
 abbrev pub IsQuery : List Token → Select → Type 0

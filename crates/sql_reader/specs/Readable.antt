@@ -10,6 +10,7 @@ use Rattle.sql_reader.specs.declared.syntax.SelExpr.TheVariants as exprs
 use Rattle.sql_reader.specs.declared.syntax.SelItem.{SelItem}
 use Rattle.sql_reader.specs.declared.syntax.FromItem.{FromItem}
 use Rattle.sql_reader.specs.declared.syntax.Select.{Select}
+use Rattle.sql_reader.specs.Spellable.{IsSpellable}
 
 -- COUNT(*) has no argument, and each other function has one
 abbrev pub has_its_argument : SelFunc → Option ColRef → Bool
@@ -36,7 +37,8 @@ is_item item = is_expr item.expr && is_named item.name
 abbrev pub is_table : FromItem → Bool
 is_table item = has_name_form item.table && is_named item.alias
 
--- 1 to 60 elements, 1 to 10 tables, at most 40 predicates, and at most 8 columns and 8 keys, whose names have the form of a name
+-- 1 to 60 elements, 1 to 10 tables, at most 40 predicates, and at most 8 columns and 8 keys, whose names have the
+-- form of a name, and which can be spelled
 pub record IsReadable (select : Select) : Type 0 where
   pub some_items : 1 ≤ length select.items
   pub few_items : length select.items ≤ 60
@@ -47,3 +49,4 @@ pub record IsReadable (select : Select) : Type 0 where
   pub few_preds : length select.preds ≤ 40
   pub few_columns : length select.group_by ≤ 8
   pub few_keys : length select.order_by ≤ 8
+  pub spellable : IsSpellable select

@@ -16,12 +16,15 @@ use Rattle.sql_reader.specs.declared.syntax.SelPred.{SelPred}
 use Rattle.sql_reader.specs.declared.syntax.SelKey.{SelKey}
 use Rattle.sql_reader.specs.declared.syntax.Select.{Select}
 use Rattle.sql_reader.specs.Tokens.{place_of, name_of, called_of, integer_of, quoted_of, op_of}
-use Rattle.sql_reader.specs.Query.{plain_column, column_in, count_all, aggregate, plain_item, named_item, plain_table, aliased_table, predicate, key, select_of}
-use Rattle.sql_reader.specs.Steps.{Step, Stopped, unexpected, ◌>>=◌, done_at, after_at, then_at, branch_at, elements_at}
+use Rattle.sql_reader.specs.Query.{plain_column, column_in, count_all, aggregate, plain_item, named_item, plain_table}
+use Rattle.sql_reader.specs.Query.{aliased_table, predicate, key, select_of}
+use Rattle.orca_base.specs.Checked.{◌>>=◌}
+use Rattle.sql_reader.specs.Steps.{Step, Stopped, unexpected, done_at, after_at, then_at, branch_at, elements_at}
 
 -- a column
 unfoldable pub column_at : List Token → Step ColRef
-column_at = after_at name_of (λ first. branch_at (place_of marks.Dot) (λ _. after_at name_of (λ name. done_at (column_in first name))) (done_at (plain_column first)))
+column_at = after_at name_of (λ first. branch_at (place_of marks.Dot)
+    (λ _. after_at name_of (λ name. done_at (column_in first name))) (done_at (plain_column first)))
 
 -- whether the function takes `*` too
 abbrev pub counts : Function → Bool
@@ -32,14 +35,16 @@ counts functions.Max = false
 
 -- what a function takes
 unfoldable pub argument_at : Function → List Token → Step SelExpr
-argument_at functions.Count = branch_at (place_of marks.Star) (λ _. done_at count_all) (then_at column_at (λ column. done_at (aggregate functions.Count column)))
+argument_at functions.Count = branch_at (place_of marks.Star) (λ _. done_at count_all)
+    (then_at column_at (λ column. done_at (aggregate functions.Count column)))
 argument_at functions.Sum = then_at column_at (λ column. done_at (aggregate functions.Sum column))
 argument_at functions.Min = then_at column_at (λ column. done_at (aggregate functions.Min column))
 argument_at functions.Max = then_at column_at (λ column. done_at (aggregate functions.Max column))
 
 -- a call behind its function
 unfoldable pub call_at : Function → List Token → Step SelExpr
-call_at function = after_at (place_of marks.Open) (λ _. then_at (argument_at function) (λ call. after_at (place_of marks.Close) (λ _. done_at call)))
+call_at function = after_at (place_of marks.Open)
+    (λ _. then_at (argument_at function) (λ call. after_at (place_of marks.Close) (λ _. done_at call)))
 
 -- a call or a column
 unfoldable pub expr_at : List Token → Step SelExpr
@@ -47,7 +52,8 @@ expr_at = branch_at called_of call_at (then_at column_at (λ column. done_at (ex
 
 -- an output name behind the expression
 unfoldable pub output_at : SelExpr → List Token → Step SelItem
-output_at expr = branch_at (place_of marks.As) (λ _. after_at name_of (λ name. done_at (named_item expr name))) (done_at (plain_item expr))
+output_at expr = branch_at (place_of marks.As) (λ _. after_at name_of (λ name. done_at (named_item expr name)))
+    (done_at (plain_item expr))
 
 -- an element of the select list
 unfoldable pub item_at : List Token → Step SelItem
@@ -55,17 +61,20 @@ item_at = then_at expr_at output_at
 
 -- a table of FROM
 unfoldable pub table_at : List Token → Step FromItem
-table_at = after_at name_of (λ table. branch_at (place_of marks.As) (λ _. after_at name_of (λ alias. done_at (aliased_table table alias)))
+table_at = after_at name_of (λ table. branch_at (place_of marks.As)
+    (λ _. after_at name_of (λ alias. done_at (aliased_table table alias)))
     (branch_at name_of (λ alias. done_at (aliased_table table alias)) (done_at (plain_table table))))
 
 -- the right side of a comparison
 unfoldable pub operand_at : List Token → Step SelOperand
 operand_at = branch_at integer_of (λ number. done_at (operands.Int number))
-    (branch_at quoted_of (λ text. done_at (operands.Str text)) (then_at column_at (λ column. done_at (operands.Column column))))
+    (branch_at quoted_of (λ text. done_at (operands.Str text))
+    (then_at column_at (λ column. done_at (operands.Column column))))
 
 -- a comparison
 unfoldable pub pred_at : List Token → Step SelPred
-pred_at = then_at column_at (λ left. after_at op_of (λ op. then_at operand_at (λ right. done_at (predicate left op right))))
+pred_at = then_at column_at (λ left. after_at op_of
+    (λ op. then_at operand_at (λ right. done_at (predicate left op right))))
 
 -- a direction behind the column
 unfoldable pub direction_at : ColRef → List Token → Step SelKey
@@ -123,7 +132,8 @@ end_at select = branch_at (place_of marks.Semicolon) (λ _. done_at select) (don
 -- what follows the select list
 unfoldable pub body_at : List SelItem → List Token → Step Select
 body_at items = after_at (place_of marks.From) (λ _. then_at tables_at (λ from.
-    then_at where_at (λ preds. then_at group_by_at (λ group_by. then_at order_by_at (λ order_by. end_at (select_of items from preds group_by order_by))))))
+    then_at where_at (λ preds. then_at group_by_at
+    (λ group_by. then_at order_by_at (λ order_by. end_at (select_of items from preds group_by order_by))))))
 
 -- a query
 unfoldable pub query_at : List Token → Step Select

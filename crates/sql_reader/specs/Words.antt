@@ -1,5 +1,6 @@
 -- Words, functions and symbols by their spelling.
-use Rattle.std.specs.Prelude.{ℕ, Bool, ◌==◌, ◌||◌, ◌&&◌, if◌then◌else◌, List, [], ◌∷◌, map, Option, Some, None, codes}
+use Rattle.std.specs.Prelude.{ℕ, Bool, ◌==◌, ◌&&◌, if◌then◌else◌, List, [], ◌∷◌, ◌++◌, map, Option, Some, None}
+use Rattle.std.specs.Prelude.{codes}
 use Rattle.std.specs.Char.{to_ascii_lowercase}
 use Rattle.std.specs.Str.{bytes_eq}
 use Rattle.sql_reader.specs.declared.tokens.Mark.{Mark}
@@ -11,39 +12,29 @@ use Rattle.sql_reader.specs.declared.tokens.Function.TheVariants as functions
 abbrev pub is_spelled : List ℕ → List ℕ → Bool
 is_spelled text word = bytes_eq (map to_ascii_lowercase text) (map to_ascii_lowercase word)
 
--- a reserved word of joins
-abbrev pub is_join_word : List ℕ → Bool
-is_join_word text =
-    is_spelled text (codes "join") || is_spelled text (codes "on") || is_spelled text (codes "inner") || is_spelled text (codes "left")
-    || is_spelled text (codes "right") || is_spelled text (codes "full") || is_spelled text (codes "cross")
+-- what the first of the words that the text is means
+abbrev pub meaning : {M : Type 0} → List ℕ → List (List ℕ × M) → Option M
+meaning text [] = None
+meaning text (word ∷ words) = if is_spelled text word.0 then Some word.1 else meaning text words
 
--- a reserved word of conditions
-abbrev pub is_condition_word : List ℕ → Bool
-is_condition_word text =
-    is_spelled text (codes "or") || is_spelled text (codes "not") || is_spelled text (codes "in") || is_spelled text (codes "is")
-    || is_spelled text (codes "like") || is_spelled text (codes "between") || is_spelled text (codes "null")
+-- the words of the grammar
+abbrev pub grammar_words : List (List ℕ × Mark)
+grammar_words =
+    (codes "select", marks.Select) ∷ (codes "from", marks.From) ∷ (codes "where", marks.Where) ∷
+    (codes "and", marks.And) ∷ (codes "group", marks.Group) ∷ (codes "by", marks.By) ∷
+    (codes "order", marks.Order) ∷ (codes "asc", marks.Asc) ∷ (codes "desc", marks.Desc) ∷
+    (codes "as", marks.As) ∷ []
 
--- a reserved word that no query has
-abbrev pub is_unused : List ℕ → Bool
-is_unused text =
-    is_join_word text || is_condition_word text || is_spelled text (codes "distinct") || is_spelled text (codes "having")
-    || is_spelled text (codes "limit") || is_spelled text (codes "union")
+-- the reserved words that no query has
+abbrev pub unused_words : List (List ℕ)
+unused_words =
+    codes "distinct" ∷ codes "having" ∷ codes "limit" ∷ codes "join" ∷ codes "on" ∷ codes "or" ∷ codes "not" ∷
+    codes "union" ∷ codes "in" ∷ codes "is" ∷ codes "like" ∷ codes "between" ∷ codes "null" ∷ codes "inner" ∷
+    codes "left" ∷ codes "right" ∷ codes "full" ∷ codes "cross" ∷ []
 
 -- the reserved word that a text is, if it is one
 unfoldable pub word_of : List ℕ → Option Mark
-word_of text =
-    if is_spelled text (codes "select") then Some marks.Select
-    else (if is_spelled text (codes "from") then Some marks.From
-    else (if is_spelled text (codes "where") then Some marks.Where
-    else (if is_spelled text (codes "and") then Some marks.And
-    else (if is_spelled text (codes "group") then Some marks.Group
-    else (if is_spelled text (codes "by") then Some marks.By
-    else (if is_spelled text (codes "order") then Some marks.Order
-    else (if is_spelled text (codes "asc") then Some marks.Asc
-    else (if is_spelled text (codes "desc") then Some marks.Desc
-    else (if is_spelled text (codes "as") then Some marks.As
-    else (if is_unused text then Some marks.Reserved
-    else None))))))))))
+word_of text = meaning text (grammar_words ++ map (λ word. (word, marks.Reserved)) unused_words)
 
 -- the function that a text names, if it names one
 unfoldable pub function_of : List ℕ → Option Function

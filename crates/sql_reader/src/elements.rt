@@ -2,45 +2,33 @@
 
 ghost use Rattle.std.specs.Prelude.{◌≡◌};
 ghost use Rattle.sql_reader.specs.Reading.{counts, column_at, argument_at, call_at, expr_at, output_at, item_at, table_at, operand_at, pred_at, direction_at, key_at};
-ghost use Rattle.sql_reader.specs.Query.{func_of};
-ghost use Rattle.sql_reader.specs.Gives.{Gives};
+ghost use Rattle.sql_reader.specs.Query.{func_of, aliased_table};
+ghost use Rattle.sql_reader.specs.Doing.{Does};
 
-use crate::single::{
-    function, integer, mark, name, next_is, next_is_function, next_is_integer, next_is_name,
-    next_is_text, op, text,
-};
 use crate::stops::Stop;
 use crate::syntax::{ColRef, FromItem, SelExpr, SelFunc, SelItem, SelKey, SelOperand, SelPred};
-use crate::tokens::{Function, Mark, Token};
-use std::alloc::Global;
+use crate::token_stream::TokenStream;
+use crate::tokens::{Function, Mark, Name};
 
 /// `name` or `table.name`.
 #[tactic(auto, unfolding(crate::specs::Reading::column_at))]
-pub fn column(alloc: Global, tokens: &[Token]) -> Result<(ColRef, &[Token]), Stop<'_>>
-    ensures { Gives (λ x. (x.0, x.1.now)) result (column_at tokens.now) }
+pub fn column(tokens: &mut TokenStream) -> Result<ColRef, Stop>
+    ensures { Does (column_at tokens.old) result tokens.new }
 {
-    let (first, rest) = name(alloc, tokens)?;
-    if next_is(rest, Mark::Dot) {
-        let (_, rest) = mark(rest, Mark::Dot)?;
-        let (second, rest) = name(alloc, rest)?;
-        Ok((
-            ColRef {
-                at: first.at,
-                table: Some(first.text),
-                name: second.text,
-            },
-            rest,
-        ))
-    } else {
-        Ok((
-            ColRef {
-                at: first.at,
-                table: None,
-                name: first.text,
-            },
-            rest,
-        ))
+    let first = tokens.name().ok_or(Stop::Unexpected)?;
+    if tokens.mark(Mark::Dot).is_none() {
+        return Ok(ColRef {
+            at: first.at,
+            table: None,
+            name: first.text,
+        });
     }
+    let second = tokens.name().ok_or(Stop::Unexpected)?;
+    Ok(ColRef {
+        at: first.at,
+        table: Some(first.text),
+        name: second.text,
+    })
 }
 
 fn func(function: Function) -> SelFunc
@@ -62,185 +50,144 @@ fn is_count(function: Function) -> bool
 
 /// What stands between the parentheses.
 #[tactic(auto, unfolding(crate::specs::Reading::argument_at))]
-fn argument(
-    alloc: Global,
-    function: Function,
-    tokens: &[Token],
-) -> Result<(SelExpr, &[Token]), Stop<'_>>
-    ensures { Gives (λ x. (x.0, x.1.now)) result (argument_at function tokens.now) }
+fn argument(function: Function, tokens: &mut TokenStream) -> Result<SelExpr, Stop>
+    ensures { Does (argument_at function tokens.old) result tokens.new }
 {
-    if is_count(function) && next_is(tokens, Mark::Star) {
-        let (_, rest) = mark(tokens, Mark::Star)?;
-        return Ok((
-            SelExpr::Agg {
-                func: SelFunc::CountAll,
-                arg: None,
-            },
-            rest,
-        ));
+    if is_count(function) && tokens.mark(Mark::Star).is_some() {
+        return Ok(SelExpr::Agg {
+            func: SelFunc::CountAll,
+            arg: None,
+        });
     }
-    let (column, rest) = column(alloc, tokens)?;
-    Ok((
-        SelExpr::Agg {
-            func: func(function),
-            arg: Some(column),
-        },
-        rest,
-    ))
+    let column = column(tokens)?;
+    Ok(SelExpr::Agg {
+        func: func(function),
+        arg: Some(column),
+    })
 }
 
 #[tactic(auto, unfolding(crate::specs::Reading::call_at))]
-fn call(
-    alloc: Global,
-    function: Function,
-    tokens: &[Token],
-) -> Result<(SelExpr, &[Token]), Stop<'_>>
-    ensures { Gives (λ x. (x.0, x.1.now)) result (call_at function tokens.now) }
+fn call(function: Function, tokens: &mut TokenStream) -> Result<SelExpr, Stop>
+    ensures { Does (call_at function tokens.old) result tokens.new }
 {
-    let (_, rest) = mark(tokens, Mark::Open)?;
-    let (call, rest) = argument(alloc, function, rest)?;
-    let (_, rest) = mark(rest, Mark::Close)?;
-    Ok((call, rest))
+    tokens.mark(Mark::Open).ok_or(Stop::Unexpected)?;
+    let call = argument(function, tokens)?;
+    tokens.mark(Mark::Close).ok_or(Stop::Unexpected)?;
+    Ok(call)
 }
 
 #[tactic(auto, unfolding(crate::specs::Reading::expr_at))]
-fn expr(alloc: Global, tokens: &[Token]) -> Result<(SelExpr, &[Token]), Stop<'_>>
-    ensures { Gives (λ x. (x.0, x.1.now)) result (expr_at tokens.now) }
+fn expr(tokens: &mut TokenStream) -> Result<SelExpr, Stop>
+    ensures { Does (expr_at tokens.old) result tokens.new }
 {
-    if next_is_function(tokens) {
-        let (function, rest) = function(tokens)?;
-        call(alloc, function, rest)
-    } else {
-        let (column, rest) = column(alloc, tokens)?;
-        Ok((SelExpr::Column(column), rest))
+    match tokens.function() {
+        Some(function) => call(function, tokens),
+        None => Ok(SelExpr::Column(column(tokens)?)),
     }
 }
 
 #[tactic(auto, unfolding(crate::specs::Reading::output_at))]
-fn output(alloc: Global, expr: SelExpr, tokens: &[Token]) -> Result<(SelItem, &[Token]), Stop<'_>>
-    ensures { Gives (λ x. (x.0, x.1.now)) result (output_at expr tokens.now) }
+fn output(expr: SelExpr, tokens: &mut TokenStream) -> Result<SelItem, Stop>
+    ensures { Does (output_at expr tokens.old) result tokens.new }
 {
-    if next_is(tokens, Mark::As) {
-        let (_, rest) = mark(tokens, Mark::As)?;
-        let (name, rest) = name(alloc, rest)?;
-        Ok((
-            SelItem {
-                expr,
-                name_at: name.at,
-                name: Some(name.text),
-            },
-            rest,
-        ))
-    } else {
-        Ok((
-            SelItem {
-                expr,
-                name_at: 0,
-                name: None,
-            },
-            tokens,
-        ))
+    if tokens.mark(Mark::As).is_none() {
+        return Ok(SelItem {
+            expr,
+            name_at: 0,
+            name: None,
+        });
     }
+    let name = tokens.name().ok_or(Stop::Unexpected)?;
+    Ok(SelItem {
+        expr,
+        name_at: name.at,
+        name: Some(name.text),
+    })
 }
 
 /// A column or a call, and its output name.
 #[tactic(auto, unfolding(crate::specs::Reading::item_at))]
-pub fn item(alloc: Global, tokens: &[Token]) -> Result<(SelItem, &[Token]), Stop<'_>>
-    ensures { Gives (λ x. (x.0, x.1.now)) result (item_at tokens.now) }
+pub fn item(tokens: &mut TokenStream) -> Result<SelItem, Stop>
+    ensures { Does (item_at tokens.old) result tokens.new }
 {
-    let (expr, rest) = expr(alloc, tokens)?;
-    output(alloc, expr, rest)
+    let expr = expr(tokens)?;
+    output(expr, tokens)
+}
+
+fn aliased(table: Name, alias: Name) -> FromItem
+    ensures { result ≡ aliased_table table alias }
+{
+    FromItem {
+        at: table.at,
+        table: table.text,
+        alias_at: alias.at,
+        alias: Some(alias.text),
+    }
 }
 
 /// A table and its alias.
 #[tactic(auto, unfolding(crate::specs::Reading::table_at))]
-pub fn table(alloc: Global, tokens: &[Token]) -> Result<(FromItem, &[Token]), Stop<'_>>
-    ensures { Gives (λ x. (x.0, x.1.now)) result (table_at tokens.now) }
+pub fn table(tokens: &mut TokenStream) -> Result<FromItem, Stop>
+    ensures { Does (table_at tokens.old) result tokens.new }
 {
-    let (table, rest) = name(alloc, tokens)?;
-    if next_is(rest, Mark::As) {
-        let (_, rest) = mark(rest, Mark::As)?;
-        let (alias, rest) = name(alloc, rest)?;
-        Ok((
-            FromItem {
-                at: table.at,
-                table: table.text,
-                alias_at: alias.at,
-                alias: Some(alias.text),
-            },
-            rest,
-        ))
-    } else if next_is_name(rest) {
-        let (alias, rest) = name(alloc, rest)?;
-        Ok((
-            FromItem {
-                at: table.at,
-                table: table.text,
-                alias_at: alias.at,
-                alias: Some(alias.text),
-            },
-            rest,
-        ))
-    } else {
-        Ok((
-            FromItem {
-                at: table.at,
-                table: table.text,
-                alias_at: 0,
-                alias: None,
-            },
-            rest,
-        ))
+    let table = tokens.name().ok_or(Stop::Unexpected)?;
+    if tokens.mark(Mark::As).is_some() {
+        let alias = tokens.name().ok_or(Stop::Unexpected)?;
+        return Ok(aliased(table, alias));
+    }
+    match tokens.name() {
+        Some(alias) => Ok(aliased(table, alias)),
+        None => Ok(FromItem {
+            at: table.at,
+            table: table.text,
+            alias_at: 0,
+            alias: None,
+        }),
     }
 }
 
 #[tactic(auto, unfolding(crate::specs::Reading::operand_at))]
-fn operand(alloc: Global, tokens: &[Token]) -> Result<(SelOperand, &[Token]), Stop<'_>>
-    ensures { Gives (λ x. (x.0, x.1.now)) result (operand_at tokens.now) }
+fn operand(tokens: &mut TokenStream) -> Result<SelOperand, Stop>
+    ensures { Does (operand_at tokens.old) result tokens.new }
 {
-    if next_is_integer(tokens) {
-        let (number, rest) = integer(tokens)?;
-        Ok((SelOperand::Int(number), rest))
-    } else if next_is_text(tokens) {
-        let (text, rest) = text(alloc, tokens)?;
-        Ok((SelOperand::Str(text), rest))
-    } else {
-        let (column, rest) = column(alloc, tokens)?;
-        Ok((SelOperand::Column(column), rest))
+    if let Some(number) = tokens.integer() {
+        return Ok(SelOperand::Int(number));
+    }
+    match tokens.text() {
+        Some(text) => Ok(SelOperand::Str(text)),
+        None => Ok(SelOperand::Column(column(tokens)?)),
     }
 }
 
 /// A comparison.
 #[tactic(auto, unfolding(crate::specs::Reading::pred_at))]
-pub fn pred(alloc: Global, tokens: &[Token]) -> Result<(SelPred, &[Token]), Stop<'_>>
-    ensures { Gives (λ x. (x.0, x.1.now)) result (pred_at tokens.now) }
+pub fn pred(tokens: &mut TokenStream) -> Result<SelPred, Stop>
+    ensures { Does (pred_at tokens.old) result tokens.new }
 {
-    let (left, rest) = column(alloc, tokens)?;
-    let (op, rest) = op(rest)?;
-    let (right, rest) = operand(alloc, rest)?;
-    Ok((SelPred { left, op, right }, rest))
+    let left = column(tokens)?;
+    let op = tokens.op().ok_or(Stop::Unexpected)?;
+    let right = operand(tokens)?;
+    Ok(SelPred { left, op, right })
 }
 
 #[tactic(auto, unfolding(crate::specs::Reading::direction_at))]
-fn direction(col: ColRef, tokens: &[Token]) -> Result<(SelKey, &[Token]), Stop<'_>>
-    ensures { Gives (λ x. (x.0, x.1.now)) result (direction_at col tokens.now) }
+fn direction(col: ColRef, tokens: &mut TokenStream) -> Result<SelKey, Stop>
+    ensures { Does (direction_at col tokens.old) result tokens.new }
 {
-    if next_is(tokens, Mark::Asc) {
-        let (_, rest) = mark(tokens, Mark::Asc)?;
-        Ok((SelKey { col, desc: false }, rest))
-    } else if next_is(tokens, Mark::Desc) {
-        let (_, rest) = mark(tokens, Mark::Desc)?;
-        Ok((SelKey { col, desc: true }, rest))
-    } else {
-        Ok((SelKey { col, desc: false }, tokens))
+    if tokens.mark(Mark::Asc).is_some() {
+        return Ok(SelKey { col, desc: false });
     }
+    if tokens.mark(Mark::Desc).is_some() {
+        return Ok(SelKey { col, desc: true });
+    }
+    Ok(SelKey { col, desc: false })
 }
 
 /// A column and its direction.
 #[tactic(auto, unfolding(crate::specs::Reading::key_at))]
-pub fn key(alloc: Global, tokens: &[Token]) -> Result<(SelKey, &[Token]), Stop<'_>>
-    ensures { Gives (λ x. (x.0, x.1.now)) result (key_at tokens.now) }
+pub fn key(tokens: &mut TokenStream) -> Result<SelKey, Stop>
+    ensures { Does (key_at tokens.old) result tokens.new }
 {
-    let (col, rest) = column(alloc, tokens)?;
-    direction(col, rest)
+    let col = column(tokens)?;
+    direction(col, tokens)
 }

@@ -1,4 +1,4 @@
-//! SQL as it is written: the reader of queries, and their canonical text.
+//! SQL as it is written: the reader of queries.
 #![tactic(auto)]
 
 mod classes;
@@ -8,17 +8,15 @@ mod faults;
 mod lexer;
 mod lists;
 mod pieces;
-mod printer;
 mod reader;
-mod single;
 mod stops;
 mod syntax;
+mod token_stream;
 mod tokens;
 mod words;
 
 pub use faults::{Limit, SqlFault};
-pub use printer::{print_sql, reads_again};
-pub use reader::{one_outcome, read_sql};
+pub use reader::{one_outcome, read_sql, readings};
 pub use syntax::{
     ColRef, FromItem, SelExpr, SelFunc, SelItem, SelKey, SelOp, SelOperand, SelPred, Select,
 };

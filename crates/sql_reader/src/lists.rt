@@ -3,13 +3,13 @@
 ghost use Rattle.std.specs.Prelude.{◌≡◌};
 ghost use Rattle.sql_reader.specs.Steps.{elements_at, refused};
 ghost use Rattle.sql_reader.specs.Reading.{starts_name, starts_item, item_at, table_at, pred_at, column_at, key_at};
-ghost use Rattle.sql_reader.specs.Gives.{Gives};
+ghost use Rattle.sql_reader.specs.Doing.{Does};
 
 use crate::elements::{column, item, key, pred, table};
 use crate::faults::Limit;
-use crate::single::{mark, next_is};
 use crate::stops::Stop;
 use crate::syntax::{ColRef, FromItem, SelItem, SelKey, SelPred};
+use crate::token_stream::TokenStream;
 use crate::tokens::{Kind, Mark, Token};
 use orca_base::List;
 use std::alloc::Global;
@@ -24,8 +24,8 @@ pub trait Element: Drop + Sized {
 
     ghost begins: { Token → Bool };
 
-    fn read(alloc: Global, tokens: &[Token]) -> Result<(Self, &[Token]), Stop<'_>>
-        ensures { Gives (λ x. (x.0, x.1.now)) result (reads tokens.now) };
+    fn read(tokens: &mut TokenStream) -> Result<Self, Stop>
+        ensures { Does (reads tokens.old) result tokens.new };
 
     fn begins_with(token: &Token) -> bool
         ensures { result ≡ begins token.now };
@@ -48,8 +48,8 @@ impl Element for SelItem {
 
     ghost begins = { starts_item };
 
-    fn read(alloc: Global, tokens: &[Token]) -> Result<(SelItem, &[Token]), Stop<'_>> {
-        item(alloc, tokens)
+    fn read(tokens: &mut TokenStream) -> Result<SelItem, Stop> {
+        item(tokens)
     }
 
     fn begins_with(token: &Token) -> bool {
@@ -62,8 +62,8 @@ impl Element for FromItem {
 
     ghost begins = { starts_name };
 
-    fn read(alloc: Global, tokens: &[Token]) -> Result<(FromItem, &[Token]), Stop<'_>> {
-        table(alloc, tokens)
+    fn read(tokens: &mut TokenStream) -> Result<FromItem, Stop> {
+        table(tokens)
     }
 
     fn begins_with(token: &Token) -> bool {
@@ -76,8 +76,8 @@ impl Element for SelPred {
 
     ghost begins = { starts_name };
 
-    fn read(alloc: Global, tokens: &[Token]) -> Result<(SelPred, &[Token]), Stop<'_>> {
-        pred(alloc, tokens)
+    fn read(tokens: &mut TokenStream) -> Result<SelPred, Stop> {
+        pred(tokens)
     }
 
     fn begins_with(token: &Token) -> bool {
@@ -90,8 +90,8 @@ impl Element for ColRef {
 
     ghost begins = { starts_name };
 
-    fn read(alloc: Global, tokens: &[Token]) -> Result<(ColRef, &[Token]), Stop<'_>> {
-        column(alloc, tokens)
+    fn read(tokens: &mut TokenStream) -> Result<ColRef, Stop> {
+        column(tokens)
     }
 
     fn begins_with(token: &Token) -> bool {
@@ -104,8 +104,8 @@ impl Element for SelKey {
 
     ghost begins = { starts_name };
 
-    fn read(alloc: Global, tokens: &[Token]) -> Result<(SelKey, &[Token]), Stop<'_>> {
-        key(alloc, tokens)
+    fn read(tokens: &mut TokenStream) -> Result<SelKey, Stop> {
+        key(tokens)
     }
 
     fn begins_with(token: &Token) -> bool {
@@ -114,12 +114,12 @@ impl Element for SelKey {
 }
 
 /// One element more than the limit allows.
-fn refuse<E: Element>(what: Limit, tokens: &[Token]) -> Result<(List<E>, &[Token]), Stop<'_>>
-    ensures { Gives (λ x. (x.0, x.1.now)) result (refused E.begins what tokens.now) }
+fn refuse<E: Element>(what: Limit, tokens: &TokenStream) -> Result<List<E>, Stop>
+    ensures { Does (refused E.begins what tokens.now) result tokens.now }
 {
-    match tokens {
-        [token, ..] if E::begins_with(token) => Err(Stop::TooMany(what, tokens)),
-        _ => Err(Stop::Unexpected(tokens)),
+    match tokens.peek() {
+        Some(token) if E::begins_with(token) => Err(Stop::TooMany(what)),
+        _ => Err(Stop::Unexpected),
     }
 }
 
@@ -129,21 +129,17 @@ pub fn elements<E: Element>(
     separator: Mark,
     what: Limit,
     room: u32,
-    tokens: &[Token],
-) -> Result<(List<E>, &[Token]), Stop<'_>>
-    ensures { Gives (λ x. (x.0, x.1.now)) result
-        (elements_at separator E.begins E.reads what room tokens.now) }
+    tokens: &mut TokenStream,
+) -> Result<List<E>, Stop>
+    ensures { Does (elements_at separator E.begins E.reads what room tokens.old) result tokens.new }
 {
     let mut elements = List::new(alloc);
-    let mut rest = tokens;
     for _ in 0..room {
-        let (element, after) = E::read(alloc, rest)?;
+        let element = E::read(tokens)?;
         elements.push(element)?;
-        if !next_is(after, separator) {
-            return Ok((elements, after));
+        if tokens.mark(separator).is_none() {
+            return Ok(elements);
         }
-        let (_, behind) = mark(after, separator)?;
-        rest = behind;
     }
-    refuse::<E>(what, rest)
+    refuse::<E>(what, tokens)
 }

@@ -5,16 +5,18 @@ ghost use Rattle.sql_reader.specs.declared.syntax.Select.{Select};
 ghost use Rattle.sql_reader.specs.declared.faults.SqlFault.{SqlFault};
 ghost use Rattle.sql_reader.specs.Pieces.{is_control};
 ghost use Rattle.sql_reader.specs.Reading.{parse_at};
-ghost use Rattle.sql_reader.specs.Faults.{place, IsFirst, IsReading};
+ghost use Rattle.sql_reader.specs.Faults.{place, IsFirst, KeepsLimits, Spells, IsReading};
+ghost use Rattle.orca_base.specs.Checked.{Gives};
 ghost use Rattle.sql_reader.specs.Readable.{IsReadable};
-ghost use Rattle.sql_reader.specs.Outcome.{bad_byte, first_bad, stuck_at, sooner, earlier, next_place, outcome, IsOutcome};
+ghost use Rattle.sql_reader.specs.Spellable.{IsPlain};
+ghost use Rattle.sql_reader.specs.Outcome.{bad_byte, first_bad, stuck_at, sooner, earlier, outcome};
 
-use crate::clauses::parse;
+use crate::clauses::query;
 use crate::faults::SqlFault;
 use crate::lexer::lex;
 use crate::stops::Stop;
 use crate::syntax::Select;
-use crate::tokens::Token;
+use crate::token_stream::TokenStream;
 use std::alloc::Global;
 
 fn is_control_byte(byte: u8) -> bool
@@ -98,35 +100,27 @@ fn earlier_fault(first: Option<SqlFault>, second: Option<SqlFault>) -> Option<Sq
     }
 }
 
-fn place_of_next(tokens: &[Token], end: u32) -> u32
-    ensures { result ≡ next_place tokens.now end }
-{
-    match tokens {
-        [token, ..] => token.at,
-        [] => end,
-    }
-}
-
 /// What the parser says, or a fault that stands before it.
+#[tactic(auto, unfolding(crate::specs::Reading::parse_at))]
 fn answer(
     alloc: Global,
     before: Option<SqlFault>,
-    tokens: &[Token],
+    mut tokens: TokenStream,
     end: u32,
 ) -> Result<Select, SqlFault>
-    ensures { IsOutcome result (outcome before (parse_at tokens.now) end) }
+    ensures { Gives SqlFault.Memory (outcome before (parse_at tokens) end) result }
 {
-    match parse(alloc, tokens) {
-        Ok(select) => match before {
+    match query(alloc, &mut tokens) {
+        Ok(select) if tokens.peek().is_none() => match before {
             Some(fault) => Err(fault),
             None => Ok(select),
         },
-        Err(Stop::Unexpected(rest)) => {
-            let at = place_of_next(rest, end);
+        Ok(_) | Err(Stop::Unexpected) => {
+            let at = tokens.place(end);
             Err(sooner_fault(before, SqlFault::Grammar { at }))
         }
-        Err(Stop::TooMany(what, rest)) => {
-            let at = place_of_next(rest, end);
+        Err(Stop::TooMany(what)) => {
+            let at = tokens.place(end);
             Err(sooner_fault(before, SqlFault::TooMany { what, at }))
         }
         Err(Stop::Memory) => Err(SqlFault::Memory),
@@ -146,7 +140,7 @@ pub fn read_sql(alloc: Global, text: &[u8]) -> Result<Select, SqlFault>
     let (tokens, rest) = lex(alloc, text)?;
     let end = text.len() as u32;
     let before = earlier_fault(first_bad_byte(text), stuck(rest, end));
-    answer(alloc, before, tokens.as_slice(), end)
+    answer(alloc, before, TokenStream::of(tokens), end)
 }
 
 /// A text has one reading, or one first fault, and never both. So `read_sql` gives `Ok` and each
@@ -159,4 +153,13 @@ pub fn one_outcome()
     ensures either { (text : List ℕ) (select : Select) (f : SqlFault) →
         IsReading text select → IsFirst text f → ⊥ }
     ensures too_long { (text : List ℕ) → IsFirst text SqlFault.TooLong ↔ (2 ^ 16 < length text) }
+{}
+
+/// What a text is read as: the query that it spells by the grammar, where that keeps the limits,
+/// each byte is plain and the text isn't too long. Whatever its length, it spells one such query.
+pub fn readings()
+    ensures read { (text : List ℕ) (select : Select) → IsReading text select
+        ↔ (Spells text select × KeepsLimits select × IsPlain text × (length text ≤ 2 ^ 16)) }
+    ensures one { (text : List ℕ) (a b : Select) →
+        Spells text a → KeepsLimits a → Spells text b → a ≡ b }
 {}

@@ -4,31 +4,22 @@ ghost use Rattle.std.specs.Prelude.{◌≡◌};
 ghost use Rattle.sql_reader.specs.declared.stops.Stop.TheVariants.{Memory};
 
 use crate::faults::Limit;
-use crate::tokens::Token;
-use std::alloc::{AllocError, AllocFailed};
+use std::alloc::AllocError;
 
-/// Why reading stopped, and the tokens from there on.
+/// Why reading stopped at the tokens that are left.
 #[derive(Drop)]
-pub enum Stop<'t> {
+pub enum Stop {
     /// The next token, or the end, can't stand there.
-    Unexpected(&'t [Token]),
+    Unexpected,
     /// The next token begins an element too many.
-    TooMany(Limit, &'t [Token]),
+    TooMany(Limit),
     Memory,
 }
 
-impl From<AllocError> for Stop<'_> {
+impl From<AllocError> for Stop {
     ghost from_gives = { λ _ e. e ≡ Memory };
 
     fn from(_e: AllocError) -> Self {
-        Stop::Memory
-    }
-}
-
-impl<T: Drop> From<AllocFailed<T>> for Stop<'_> {
-    ghost from_gives = { λ _ e. e ≡ Memory };
-
-    fn from(_e: AllocFailed<T>) -> Self {
         Stop::Memory
     }
 }

@@ -3,7 +3,7 @@
 use orca_base::{List, Text};
 
 /// A column as it is written: `name`, or `table.name`.
-#[derive(Debug, Drop)]
+#[derive(Drop)]
 pub struct ColRef {
     /// The offset of its first token.
     pub at: u32,
@@ -11,7 +11,7 @@ pub struct ColRef {
     pub name: Text,
 }
 
-#[derive(Clone, Copy, Debug, PartialEq, Eq)]
+#[derive(Clone, Copy)]
 pub enum SelFunc {
     CountAll,
     Count,
@@ -20,7 +20,7 @@ pub enum SelFunc {
     Max,
 }
 
-#[derive(Debug, Drop)]
+#[derive(Drop)]
 pub enum SelExpr {
     Column(ColRef),
     /// The argument is absent for `COUNT(*)` alone.
@@ -28,7 +28,7 @@ pub enum SelExpr {
 }
 
 /// An element of the select list.
-#[derive(Debug, Drop)]
+#[derive(Drop)]
 pub struct SelItem {
     pub expr: SelExpr,
     /// The offset of the output name, or 0 where there is none.
@@ -37,7 +37,7 @@ pub struct SelItem {
 }
 
 /// A table of FROM.
-#[derive(Debug, Drop)]
+#[derive(Drop)]
 pub struct FromItem {
     /// The offset of the table's name.
     pub at: u32,
@@ -47,7 +47,7 @@ pub struct FromItem {
     pub alias: Option<Text>,
 }
 
-#[derive(Clone, Copy, Debug, PartialEq, Eq)]
+#[derive(Clone, Copy)]
 pub enum SelOp {
     Eq,
     Ne,
@@ -57,7 +57,7 @@ pub enum SelOp {
     Ge,
 }
 
-#[derive(Debug, Drop)]
+#[derive(Drop)]
 pub enum SelOperand {
     Column(ColRef),
     Int(i64),
@@ -65,7 +65,7 @@ pub enum SelOperand {
 }
 
 /// A comparison in WHERE.
-#[derive(Debug, Drop)]
+#[derive(Drop)]
 pub struct SelPred {
     pub left: ColRef,
     pub op: SelOp,
@@ -73,14 +73,14 @@ pub struct SelPred {
 }
 
 /// A key of ORDER BY.
-#[derive(Debug, Drop)]
+#[derive(Drop)]
 pub struct SelKey {
     pub col: ColRef,
     pub desc: bool,
 }
 
 /// A query. Clauses that are absent are empty lists.
-#[derive(Debug, Drop)]
+#[derive(Drop)]
 pub struct Select {
     pub items: List<SelItem>,
     pub from: List<FromItem>,

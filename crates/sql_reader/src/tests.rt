@@ -7,21 +7,6 @@ fn fault(alloc: Global, text: &[u8]) -> Option<SqlFault> {
     read_sql(alloc, text).err()
 }
 
-/// A part, and then another as often as the count says.
-fn repeated(alloc: Global, first: &[u8], more: &[u8], count: usize) -> Result<Vec<u8>, Fail> {
-    let mut text = Vec::from_slice(alloc, first)?;
-    for _ in 0..count {
-        text.extend_from_slice(more)?;
-    }
-    Ok(text)
-}
-
-/// The canonical text of what the text reads as.
-fn reprinted(alloc: Global, text: &[u8]) -> Result<Vec<u8>, Fail> {
-    let select = read_sql(alloc, text).ok().ok_or("the text is a query")?;
-    Ok(print_sql(alloc, &select)?)
-}
-
 #[test]
 fn refuses_with_the_first_fault(rt: HostRuntime) {
     let cases: [(&[u8], SqlFault); 26] = [
@@ -62,11 +47,8 @@ fn refuses_with_the_first_fault(rt: HostRuntime) {
             },
         ),
         (
-            b"SELECT a FROM t GROUP BY a,a,a,a,a,a,a,a,a",
-            SqlFault::TooMany {
-                what: Limit::GroupBy,
-                at: 41,
-            },
+            b"SELECT a FROM t WHERE a LIKE 'x'",
+            SqlFault::Grammar { at: 24 },
         ),
         (
             b"SELECT a FROM t,t,t,t,t,t,t,t,t,t,",
@@ -96,74 +78,82 @@ fn refuses_with_the_first_fault(rt: HostRuntime) {
     }
 }
 
-#[test]
-fn keeps_each_limit_to_its_edge(rt: HostRuntime) -> Result<(), Fail> {
-    let alloc = rt.alloc();
-    let mut items = repeated(alloc, b"SELECT a", b",a", 59)?;
-    items.extend_from_slice(b" FROM t")?;
-    assert_eq!(rt; fault(alloc, items.as_slice()), None);
-    let mut items = repeated(alloc, b"SELECT a", b",a", 60)?;
-    items.extend_from_slice(b" FROM t")?;
-    assert_eq!(rt;
-        fault(alloc, items.as_slice()),
-        Some(SqlFault::TooMany {
-            what: Limit::Items,
-            at: 127
-        })
-    );
-    let preds = repeated(alloc, b"SELECT a FROM t WHERE a=1", b" AND a=1", 39)?;
-    assert_eq!(rt; fault(alloc, preds.as_slice()), None);
-    let preds = repeated(alloc, b"SELECT a FROM t WHERE a=1", b" AND a=1", 40)?;
-    assert_eq!(rt;
-        fault(alloc, preds.as_slice()),
-        Some(SqlFault::TooMany {
-            what: Limit::Predicates,
-            at: 342
-        })
-    );
-    assert_eq!(rt; fault(alloc, b"SELECT a FROM t,t,t,t,t,t,t,t,t,t"), None);
-    assert_eq!(rt;
-        fault(alloc, b"SELECT a FROM t GROUP BY a,a,a,a,a,a,a,a"),
-        None
-    );
-    assert_eq!(rt;
-        fault(alloc, b"SELECT a FROM t ORDER BY a,a,a,a,a,a,a,a"),
-        None
-    );
-    let longest = repeated(alloc, b"SELECT a FROM t ", b" ", 65_520)?;
-    assert_eq!(rt; fault(alloc, longest.as_slice()), None);
-    let spaces = repeated(alloc, b"", b" ", 65_537)?;
-    assert_eq!(rt; fault(alloc, spaces.as_slice()), Some(SqlFault::TooLong));
-    Ok(())
+/// A text of one part, others of one kind and an end.
+fn edge(
+    alloc: Global,
+    first: &[u8],
+    more: &[u8],
+    count: usize,
+    last: &[u8],
+) -> Result<Vec<u8>, Fail> {
+    let mut text = Vec::from_slice(alloc, first)?;
+    for _ in 0..count {
+        text.extend_from_slice(more)?;
+    }
+    text.extend_from_slice(last)?;
+    Ok(text)
 }
 
 #[test]
-fn prints_the_canonical_text(rt: HostRuntime) -> Result<(), Fail> {
-    let cases: [(&[u8], &[u8]); 6] = [
+fn keeps_each_limit_to_its_edge(rt: HostRuntime) -> Result<(), Fail> {
+    let cases: [(&[u8], &[u8], usize, &[u8], SqlFault); 6] = [
         (
-            b"select T1.a from T1,T2 where T1.a=T2.b order by T1.a asc;",
-            b"SELECT T1.a FROM T1, T2 WHERE T1.a = T2.b ORDER BY T1.a",
+            b"SELECT a",
+            b",a",
+            59,
+            b" FROM t",
+            SqlFault::TooMany {
+                what: Limit::Items,
+                at: 127,
+            },
         ),
         (
-            b"Select count ( * ), Sum(t.a) as s -- sums\n From t as x, u y Where a!=-0 and b>='it''s'",
-            b"SELECT COUNT(*), SUM(t.a) AS s FROM t AS x, u AS y WHERE a <> 0 AND b >= 'it''s'",
+            b"SELECT a FROM t",
+            b",t",
+            9,
+            b"",
+            SqlFault::TooMany {
+                what: Limit::Tables,
+                at: 34,
+            },
         ),
         (
-            b"SELECT a FROM t WHERE a < 9223372036854775807 AND a > -9223372036854775807",
-            b"SELECT a FROM t WHERE a < 9223372036854775807 AND a > -9223372036854775807",
+            b"SELECT a FROM t WHERE a=1",
+            b" AND a=1",
+            39,
+            b"",
+            SqlFault::TooMany {
+                what: Limit::Predicates,
+                at: 342,
+            },
         ),
         (
-            b"select min(a),max(b) from count group by a,t.b order by a desc,b",
-            b"SELECT MIN(a), MAX(b) FROM count GROUP BY a, t.b ORDER BY a DESC, b",
+            b"SELECT a FROM t GROUP BY a",
+            b",a",
+            7,
+            b"",
+            SqlFault::TooMany {
+                what: Limit::GroupBy,
+                at: 41,
+            },
         ),
         (
-            b"SELECT a FROM t WHERE a = ''''",
-            b"SELECT a FROM t WHERE a = ''''",
+            b"SELECT a FROM t ORDER BY a",
+            b",a",
+            7,
+            b"",
+            SqlFault::TooMany {
+                what: Limit::OrderBy,
+                at: 41,
+            },
         ),
-        (b"SELECT a_1 FROM t-- the end", b"SELECT a_1 FROM t"),
+        (b"SELECT a FROM t", b" ", 65_521, b"", SqlFault::TooLong),
     ];
-    for (text, expected) in &cases {
-        assert_eq!(rt; reprinted(rt.alloc(), text)?.as_slice(), *expected);
+    for (first, more, count, last, one_more) in &cases {
+        let full = edge(rt.alloc(), first, more, *count, last)?;
+        assert_eq!(rt; fault(rt.alloc(), full.as_slice()), None);
+        let over = edge(rt.alloc(), first, more, *count + 1, last)?;
+        assert_eq!(rt; fault(rt.alloc(), over.as_slice()), Some(*one_more));
     }
     Ok(())
 }

@@ -6,7 +6,7 @@ ghost use Rattle.sql_reader.specs.Marks.{number_of};
 use orca_base::Text;
 
 /// A token that its spelling alone tells apart: a word of the language or a symbol.
-#[derive(Clone, Copy, Debug, PartialEq, Eq)]
+#[derive(Clone, Copy)]
 pub enum Mark {
     Select,
     From,
@@ -35,7 +35,7 @@ pub enum Mark {
 }
 
 /// A function of a column.
-#[derive(Clone, Copy, Debug, PartialEq, Eq)]
+#[derive(Clone, Copy)]
 pub enum Function {
     Count,
     Sum,
@@ -43,7 +43,7 @@ pub enum Function {
     Max,
 }
 
-#[derive(Debug, Drop)]
+#[derive(Drop)]
 pub enum Kind {
     Mark(Mark),
     Name(Text),
@@ -53,14 +53,14 @@ pub enum Kind {
 }
 
 /// A token and the offset of its first byte.
-#[derive(Debug, Drop)]
+#[derive(Drop)]
 pub struct Token {
     pub at: u32,
     pub kind: Kind,
 }
 
 /// A name and the offset of its first byte.
-#[derive(Debug, Drop)]
+#[derive(Drop)]
 pub struct Name {
     pub at: u32,
     pub text: Text,

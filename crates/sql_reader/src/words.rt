@@ -1,7 +1,7 @@
 //! Words and symbols by their spelling.
 
-ghost use Rattle.std.specs.Prelude.{◌≡◌};
-ghost use Rattle.sql_reader.specs.Words.{is_spelled, is_join_word, is_condition_word, is_unused, word_of, function_of, short_symbol, long_symbol};
+ghost use Rattle.std.specs.Prelude.{◌≡◌, map};
+ghost use Rattle.sql_reader.specs.Words.{is_spelled, meaning, word_of, function_of, short_symbol, long_symbol};
 
 use crate::tokens::{Function, Mark};
 
@@ -12,40 +12,47 @@ fn is_word(text: &[u8], word: &[u8]) -> bool
     text.eq_ignore_ascii_case(word)
 }
 
-fn is_join(text: &[u8]) -> bool
-    ensures { result ≡ is_join_word text.now }
-{
-    is_word(text, b"join")
-        || is_word(text, b"on")
-        || is_word(text, b"inner")
-        || is_word(text, b"left")
-        || is_word(text, b"right")
-        || is_word(text, b"full")
-        || is_word(text, b"cross")
-}
+/// The reserved words, in any case, with their marks.
+const WORDS: [(&[u8], Mark); 28] = [
+    (b"select", Mark::Select),
+    (b"from", Mark::From),
+    (b"where", Mark::Where),
+    (b"and", Mark::And),
+    (b"group", Mark::Group),
+    (b"by", Mark::By),
+    (b"order", Mark::Order),
+    (b"asc", Mark::Asc),
+    (b"desc", Mark::Desc),
+    (b"as", Mark::As),
+    (b"distinct", Mark::Reserved),
+    (b"having", Mark::Reserved),
+    (b"limit", Mark::Reserved),
+    (b"join", Mark::Reserved),
+    (b"on", Mark::Reserved),
+    (b"or", Mark::Reserved),
+    (b"not", Mark::Reserved),
+    (b"union", Mark::Reserved),
+    (b"in", Mark::Reserved),
+    (b"is", Mark::Reserved),
+    (b"like", Mark::Reserved),
+    (b"between", Mark::Reserved),
+    (b"null", Mark::Reserved),
+    (b"inner", Mark::Reserved),
+    (b"left", Mark::Reserved),
+    (b"right", Mark::Reserved),
+    (b"full", Mark::Reserved),
+    (b"cross", Mark::Reserved),
+];
 
-fn is_condition(text: &[u8]) -> bool
-    ensures { result ≡ is_condition_word text.now }
+fn first_match(text: &[u8], words: &[(&[u8], Mark)]) -> Option<Mark>
+    ensures { result ≡ meaning text.now (map (λ word. (word.0.now, word.1)) words.now) }
 {
-    is_word(text, b"or")
-        || is_word(text, b"not")
-        || is_word(text, b"in")
-        || is_word(text, b"is")
-        || is_word(text, b"like")
-        || is_word(text, b"between")
-        || is_word(text, b"null")
-}
-
-/// Whether it is a reserved word that no query has.
-fn is_unused_word(text: &[u8]) -> bool
-    ensures { result ≡ is_unused text.now }
-{
-    is_join(text)
-        || is_condition(text)
-        || is_word(text, b"distinct")
-        || is_word(text, b"having")
-        || is_word(text, b"limit")
-        || is_word(text, b"union")
+    for (word, mark) in words {
+        if is_word(text, word) {
+            return Some(*mark);
+        }
+    }
+    None
 }
 
 /// The reserved word that a text is.
@@ -53,31 +60,7 @@ fn is_unused_word(text: &[u8]) -> bool
 pub fn word(text: &[u8]) -> Option<Mark>
     ensures { result ≡ word_of text.now }
 {
-    if is_word(text, b"select") {
-        Some(Mark::Select)
-    } else if is_word(text, b"from") {
-        Some(Mark::From)
-    } else if is_word(text, b"where") {
-        Some(Mark::Where)
-    } else if is_word(text, b"and") {
-        Some(Mark::And)
-    } else if is_word(text, b"group") {
-        Some(Mark::Group)
-    } else if is_word(text, b"by") {
-        Some(Mark::By)
-    } else if is_word(text, b"order") {
-        Some(Mark::Order)
-    } else if is_word(text, b"asc") {
-        Some(Mark::Asc)
-    } else if is_word(text, b"desc") {
-        Some(Mark::Desc)
-    } else if is_word(text, b"as") {
-        Some(Mark::As)
-    } else if is_unused_word(text) {
-        Some(Mark::Reserved)
-    } else {
-        None
-    }
+    first_match(text, &WORDS)
 }
 
 /// The function that a text names.

@@ -1,7 +1,7 @@
 -- Laws of sets of tables.
-use Rattle.std.proofs.Common.{◌≡◌, ℕ, ◌+◌, ◌-◌, ◌^◌, ◌<◌, ◌*◌, inl, inr, max, arith, ap, Bool, true, false, not, IsTrue, ◌↔◌, refl}
+use Rattle.std.proofs.Common.{◌≡◌, ℕ, ◌≤◌, min, ◌+◌, ◌-◌, ◌^◌, ◌<◌, ◌*◌, inl, inr, max, arith, ap, Bool, true, false, not, IsTrue, ◌↔◌, refl}
 use Rattle.std.specs.Prelude.{bit_and, bit_or, ◌≢◌}
-use Rattle.std.proofs.lemmas.Nat.Bits.{bit_at_or, bit_at-lt, bit_at-pow_same, bit_at-pow_other, bit_at_above, same_from_bits, and_pow}
+use Rattle.std.proofs.lemmas.Nat.Bits.{bit_at_or, bit_at_and, bit_at-zero, bit_at-lt, bit_at-pow_same, bit_at-pow_other, bit_at_above, same_from_bits, and_pow}
 use Rattle.std.proofs.lemmas.Nat.{or_disjoint}
 use Rattle.std.proofs.lemmas.Bool.{cases_eq, cases_lt, false≢true}
 use Rattle.query_core.specs.Sets.{bit, Has}
@@ -14,6 +14,20 @@ bit-below set t = bit_at-lt set t
 pub bit-or : (a b t : ℕ) → bit (bit_or a b) t ≡ max (bit a t) (bit b t)
 unfolding bit
 bit-or a b t = bit_at_or a b t
+
+pub bit-and : (a b t : ℕ) → bit (bit_and a b) t ≡ min (bit a t) (bit b t)
+unfolding bit
+bit-and a b t = bit_at_and a b t
+
+-- the empty set has no table
+pub bit-none : (t : ℕ) → bit 0 t ≡ 0
+unfolding bit
+bit-none t = bit_at-zero t
+
+-- a set of tables below a place has none from there on
+pub bit-above : (set count t : ℕ) → set < 2 ^ count → count ≤ t → bit set t ≡ 0
+unfolding bit
+bit-above set count t small above = bit_at_above set count t small above
 
 -- the set of one table has that table
 pub bit-one : (t : ℕ) → bit (2 ^ t) t ≡ 1

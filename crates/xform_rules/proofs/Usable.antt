@@ -14,7 +14,8 @@ use Rattle.std.proofs.lemmas.List.{take-take}
 use Rattle.std.proofs.lemmas.Option.{slice_get-get_or, slice_get_read, slice_get_within}
 use Rattle.query_core.specs.declared.query.Query.{Query}
 use Rattle.query_core.specs.declared.words.KeyParts.TheVariants as groups
-use Rattle.query_core.specs.declared.expressions.ExprParts.{ExprParts}
+use Rattle.query_core.specs.declared.words.KeyParts.{KeyParts}
+use Rattle.query_core.specs.declared.expressions.Logical.{Logical}
 use Rattle.xform_rules.specs.Forms.{Finds}
 use Rattle.xform_rules.specs.SelectRules.{is_usable, IsNthUsable, HasNthUsable, IsSelect, IsUsableSelect}
 use Rattle.xform_rules.proofs.Findings.{finds_as}
@@ -64,11 +65,11 @@ nth_of_table q t table n found got =
     (λ index (other, got_other, nth). let same : other ≡ table = cc in subst (λ (x : QueryTable). IsNthUsable q t x.indexes n index) same nth)
     found
 
--- and that of the expression over the table
-pub nth_of_select : (q : Query) (e : ExprParts) (t n : ℕ) (found : Option ℕ) → IsSelect e → e.group ≡ groups.Filter t
-    → Finds (HasNthUsable q t n) found → Finds (IsUsableSelect q e n) found
-nth_of_select q e t n found select over =
-    finds_as (HasNthUsable q t n) (IsUsableSelect q e n)
+-- and that of the operator over the table
+pub nth_of_select : (q : Query) (group : KeyParts) (from : Logical) (t n : ℕ) (found : Option ℕ) → IsSelect from → group ≡ groups.Filter t
+    → Finds (HasNthUsable q t n) found → Finds (IsUsableSelect q group from n) found
+nth_of_select q group from t n found select over =
+    finds_as (HasNthUsable q t n) (IsUsableSelect q group from n)
     (λ index nth. (t, select, over, nth))
     (λ index (u, is_select, over_other, nth). let same : u ≡ t = cc in subst (λ x. HasNthUsable q x n index) same nth)
     found
@@ -133,7 +134,7 @@ first_passing p (x ∷ xs) (suc i) passes = elim (cases_Bool (p x)) [
 ]
 
 -- where an index is usable, there is a first one
-pub first_usable : (q : Query) (e : ExprParts) (n index : ℕ) → IsUsableSelect q e n index → (j : ℕ) × IsUsableSelect q e 0 j
-first_usable q e n index (t, select, over, (table, got, nth)) =
+pub first_usable : (q : Query) (group : KeyParts) (from : Logical) (n index : ℕ) → IsUsableSelect q group from n index → (j : ℕ) × IsUsableSelect q group from 0 j
+first_usable q group from n index (t, select, over, (table, got, nth)) =
     let (j, first, before) = first_passing (is_usable q t) table.indexes index nth.usable in
     (j, (t, select, over, (table, got, record { usable = first; before = before })))

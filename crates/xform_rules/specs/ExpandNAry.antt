@@ -4,14 +4,14 @@ use Rattle.query_core.specs.Sets.{Has}
 use Rattle.query_core.specs.Connected.{IsConnected}
 use Rattle.query_core.specs.Keys.{top_of}
 use Rattle.query_core.specs.declared.query.Query.{Query}
+use Rattle.query_core.specs.declared.words.KeyParts.{KeyParts}
 use Rattle.query_core.specs.declared.words.KeyParts.TheVariants as groups
-use Rattle.query_core.specs.declared.expressions.Operator.TheVariants as operators
-use Rattle.query_core.specs.declared.expressions.ExprParts.{ExprParts}
-use Rattle.xform_rules.specs.Forms.{join}
+use Rattle.query_core.specs.declared.expressions.Logical.{Logical}
+use Rattle.query_core.specs.declared.expressions.Logical.TheVariants as logical
 
--- the expression is the join of this set, in no order
-abbrev pub JoinsSet : ExprParts → ℕ → Type 0
-JoinsSet e set = (e.operator ≡ operators.NJoin) × (e.group ≡ groups.Join set)
+-- the join of this set, in no order
+abbrev pub JoinsSet : KeyParts → Logical → ℕ → Type 0
+JoinsSet group from set = (group ≡ groups.Join set) × (from ≡ logical.NJoin)
 
 -- the table is in the set, and the others are connected without it
 abbrev pub IsCut : Query → ℕ → ℕ → Type 0
@@ -23,6 +23,7 @@ pub record IsLastCut (q : Query) (set table : ℕ) : Type 0 where
   pub greatest : (t : ℕ) → IsCut q set t → t ≤ table
 
 -- that table comes to the right, and the join of the others to the left
-abbrev pub Expands : Query → ExprParts → ExprParts → Type 0
-Expands q e other =
-    (set table : ℕ) × JoinsSet e set × IsLastCut q set table × (other ≡ join e.group (top_of q (set - 2 ^ table)) (top_of q (2 ^ table)))
+abbrev pub Expands : Query → KeyParts → Logical → Logical → Type 0
+Expands q group from to =
+    (set table : ℕ) × JoinsSet group from set × IsLastCut q set table
+    × (to ≡ logical.Join (top_of q (set - 2 ^ table)) (top_of q (2 ^ table)))

@@ -10,3 +10,8 @@ pub mod JoinRules
 pub mod AggRules
 pub mod Results
 pub mod Closure
+pub mod Counts
+pub mod Splits
+pub mod Held
+pub mod OneOrder
+pub mod Implemented

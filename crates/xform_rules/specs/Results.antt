@@ -3,11 +3,14 @@ use Rattle.std.specs.Prelude.{ℕ, true, Option, None, Some, ◌≡◌, IsTrue}
 use Rattle.query_core.specs.Expressions.{IsCandidate, word_of}
 use Rattle.query_core.specs.declared.query.Query.{Query}
 use Rattle.query_core.specs.declared.words.Expr.{Expr}
+use Rattle.query_core.specs.declared.words.KeyParts.{KeyParts}
+use Rattle.query_core.specs.declared.expressions.Logical.{Logical}
+use Rattle.query_core.specs.declared.expressions.Operator.{Operator}
 use Rattle.query_core.specs.declared.expressions.ExprParts.{ExprParts}
 use Rattle.xform_rules.specs.declared.rules.Rule.{Rule}
 use Rattle.xform_rules.specs.declared.rules.Rule.TheVariants as rules
 use Rattle.xform_rules.specs.Rules.{rule_number, IsOn}
-use Rattle.xform_rules.specs.Forms.{IsLogicalJoin}
+use Rattle.xform_rules.specs.Forms.{IsLogical, IsPhysical, IsLogicalJoin}
 use Rattle.xform_rules.specs.ExpandNAry.{JoinsSet, Expands}
 use Rattle.xform_rules.specs.JoinCommute.{Commutes}
 use Rattle.xform_rules.specs.JoinAssociate.{IsOverJoin, Associates}
@@ -17,52 +20,59 @@ use Rattle.xform_rules.specs.SelectRules.{IsSelect, IsUsableSelect, Filters, See
 use Rattle.xform_rules.specs.JoinRules.{IsEquated, Hashes, Merges, Loops}
 use Rattle.xform_rules.specs.AggRules.{IsGrouping, IsGroupingByColumns, IsPartialGrouping, GroupsByHash, GroupsInOrder, GroupsPartly}
 
--- the expression is one that the rule is for
-abbrev pub Meets : Query → Rule → ExprParts → Type 0
-Meets q rules.ExpandNAry e = (set : ℕ) × JoinsSet e set
-Meets q rules.JoinCommute e = IsLogicalJoin e
-Meets q rules.JoinAssociate e = IsOverJoin e
-Meets q rules.SplitAgg e = GroupsInput q e
-Meets q rules.GetToScan e = IsGet e
-Meets q rules.GetToIndexScan e = (index : ℕ) × IsIndexedGet q e index
-Meets q rules.SelectToFilter e = IsSelect e
-Meets q rules.SelectToIndexSeek e = (n index : ℕ) × IsUsableSelect q e n index
-Meets q rules.JoinToHash e = IsEquated q e
-Meets q rules.JoinToMerge e = IsEquated q e
-Meets q rules.JoinToLoop e = IsLogicalJoin e
-Meets q rules.AggToHash e = IsGrouping e
-Meets q rules.AggToStream e = IsGroupingByColumns q e
-Meets q rules.PartialToHash e = IsPartialGrouping e
+-- the logical operator of a group is one that the rule is for
+abbrev pub Meets : Query → Rule → KeyParts → Logical → Type 0
+Meets q rules.ExpandNAry group from = (set : ℕ) × JoinsSet group from set
+Meets q rules.JoinCommute group from = IsLogicalJoin from
+Meets q rules.JoinAssociate group from = IsOverJoin from
+Meets q rules.SplitAgg group from = GroupsInput q from
+Meets q rules.GetToScan group from = IsGet from
+Meets q rules.GetToIndexScan group from = (index : ℕ) × IsIndexedGet q group from index
+Meets q rules.SelectToFilter group from = IsSelect from
+Meets q rules.SelectToIndexSeek group from = (n index : ℕ) × IsUsableSelect q group from n index
+Meets q rules.JoinToHash group from = IsEquated q from
+Meets q rules.JoinToMerge group from = IsEquated q from
+Meets q rules.JoinToLoop group from = IsLogicalJoin from
+Meets q rules.AggToHash group from = IsGrouping from
+Meets q rules.AggToStream group from = IsGroupingByColumns q from
+Meets q rules.PartialToHash group from = IsPartialGrouping from
 
 -- the rule is on, and the expression is one that it is for
-abbrev pub Applies : Query → Rule → ExprParts → Type 0
-Applies q rule e = IsOn q rule × Meets q rule e
+pub record Applies (q : Query) (rule : Rule) (e : ExprParts) : Type 0 where
+  pub on : IsOn q rule
+  pub meets : IsLogical (Meets q rule e.group) e.operator
 
--- the other is the n-th result, from 0, of a rule that needs no other member
-abbrev pub Gives : Query → Rule → ExprParts → ℕ → ExprParts → Type 0
-Gives q rules.ExpandNAry e n other = (n ≡ 0) × Expands q e other
-Gives q rules.JoinCommute e n other = (n ≡ 0) × Commutes e other
-Gives q rules.JoinAssociate e n other = ⊥
-Gives q rules.SplitAgg e n other = (n ≡ 0) × SplitsGrouping q e other
-Gives q rules.GetToScan e n other = (n ≡ 0) × Scans e other
-Gives q rules.GetToIndexScan e n other = ScansIndex q e n other
-Gives q rules.SelectToFilter e n other = (n ≡ 0) × Filters e other
-Gives q rules.SelectToIndexSeek e n other = SeeksIndex q e n other
-Gives q rules.JoinToHash e n other = (n ≡ 0) × Hashes q e other
-Gives q rules.JoinToMerge e n other = (n ≡ 0) × Merges q e other
-Gives q rules.JoinToLoop e n other = (n ≡ 0) × Loops e other
-Gives q rules.AggToHash e n other = (n ≡ 0) × GroupsByHash e other
-Gives q rules.AggToStream e n other = (n ≡ 0) × GroupsInOrder q e other
-Gives q rules.PartialToHash e n other = (n ≡ 0) × GroupsPartly e other
+-- the other operator is the n-th result, from 0, of a rule that needs no other member
+abbrev pub Gives : Query → Rule → KeyParts → Logical → ℕ → Operator → Type 0
+Gives q rules.ExpandNAry group from n to = (n ≡ 0) × IsLogical (Expands q group from) to
+Gives q rules.JoinCommute group from n to = (n ≡ 0) × IsLogical (Commutes from) to
+Gives q rules.JoinAssociate group from n to = ⊥
+Gives q rules.SplitAgg group from n to = (n ≡ 0) × IsLogical (SplitsGrouping q from) to
+Gives q rules.GetToScan group from n to = (n ≡ 0) × IsPhysical (Scans from) to
+Gives q rules.GetToIndexScan group from n to = IsPhysical (ScansIndex q group from n) to
+Gives q rules.SelectToFilter group from n to = (n ≡ 0) × IsPhysical (Filters from) to
+Gives q rules.SelectToIndexSeek group from n to = IsPhysical (SeeksIndex q group from n) to
+Gives q rules.JoinToHash group from n to = (n ≡ 0) × IsPhysical (Hashes q from) to
+Gives q rules.JoinToMerge group from n to = (n ≡ 0) × IsPhysical (Merges q from) to
+Gives q rules.JoinToLoop group from n to = (n ≡ 0) × IsPhysical (Loops from) to
+Gives q rules.AggToHash group from n to = (n ≡ 0) × IsPhysical (GroupsByHash from) to
+Gives q rules.AggToStream group from n to = (n ≡ 0) × IsPhysical (GroupsInOrder q from) to
+Gives q rules.PartialToHash group from n to = (n ≡ 0) × IsPhysical (GroupsPartly from) to
 
 -- the other is the n-th result, from 0, of JoinAssociate, which binds a member of the left group
-abbrev pub GivesBound : Query → Rule → ExprParts → ExprParts → ℕ → ExprParts → Type 0
-GivesBound q rule e bound n other = (rule ≡ rules.JoinAssociate) × (n ≡ 0) × Associates q e bound other
+abbrev pub GivesBound : Query → Rule → Logical → ExprParts → ℕ → Operator → Type 0
+GivesBound q rule from bound n to = (rule ≡ rules.JoinAssociate) × (n ≡ 0) × IsLogical (Associates q from bound) to
 
--- the other is the n-th result, from 0, of a rule that is on, with a bound member or without one
-abbrev pub HasResult : Query → Rule → ExprParts → Option ExprParts → ℕ → ExprParts → Type 0
-HasResult q rule e None n other = IsOn q rule × Gives q rule e n other
-HasResult q rule e (Some bound) n other = IsOn q rule × GivesBound q rule e bound n other
+-- with a bound member or without one
+abbrev pub GivesWith : Query → Rule → KeyParts → Option ExprParts → ℕ → Operator → Logical → Type 0
+GivesWith q rule group None n to from = Gives q rule group from n to
+GivesWith q rule group (Some bound) n to from = GivesBound q rule from bound n to
+
+-- the other is the n-th result, from 0, of a rule that is on, in the same group
+pub record HasResult (q : Query) (rule : Rule) (e : ExprParts) (bound : Option ExprParts) (n : ℕ) (other : ExprParts) : Type 0 where
+  pub on : IsOn q rule
+  pub group : other.group ≡ e.group
+  pub gives : IsLogical (GivesWith q rule e.group bound n other.operator) e.operator
 
 -- ---- the same over words
 

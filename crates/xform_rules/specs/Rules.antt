@@ -1,5 +1,5 @@
 -- The rules, their numbers, and which of them are on.
-use Rattle.std.specs.Prelude.{ℕ, ◌≡◌, List, codes}
+use Rattle.std.specs.Prelude.{ℕ, Bool, true, false, ◌≡◌, List, [], ◌∷◌, codes}
 use Rattle.query_core.specs.Sets.{bit}
 use Rattle.query_core.specs.declared.query.Query.{Query}
 use Rattle.xform_rules.specs.declared.rules.Rule.{Rule}
@@ -21,6 +21,15 @@ rule_number rules.JoinToLoop = 11
 rule_number rules.AggToHash = 12
 rule_number rules.AggToStream = 13
 rule_number rules.PartialToHash = 14
+
+-- the rules, in the order of their numbers
+abbrev pub all_rules : List Rule
+all_rules =
+    rules.ExpandNAry ∷ rules.JoinCommute ∷ rules.JoinAssociate ∷
+    rules.SplitAgg ∷ rules.GetToScan ∷ rules.GetToIndexScan ∷
+    rules.SelectToFilter ∷ rules.SelectToIndexSeek ∷ rules.JoinToHash ∷
+    rules.JoinToMerge ∷ rules.JoinToLoop ∷ rules.AggToHash ∷
+    rules.AggToStream ∷ rules.PartialToHash ∷ []
 
 -- the name of a rule
 abbrev pub rule_name : Rule → List ℕ
@@ -55,6 +64,57 @@ rule_limit rules.JoinToLoop = 1
 rule_limit rules.AggToHash = 1
 rule_limit rules.AggToStream = 1
 rule_limit rules.PartialToHash = 1
+
+-- the rule explores: it says otherwise what is wanted; the other rules say how it is made
+abbrev pub explores : Rule → Bool
+explores rules.ExpandNAry = true
+explores rules.JoinCommute = true
+explores rules.JoinAssociate = true
+explores rules.SplitAgg = true
+explores rules.GetToScan = false
+explores rules.GetToIndexScan = false
+explores rules.SelectToFilter = false
+explores rules.SelectToIndexSeek = false
+explores rules.JoinToHash = false
+explores rules.JoinToMerge = false
+explores rules.JoinToLoop = false
+explores rules.AggToHash = false
+explores rules.AggToStream = false
+explores rules.PartialToHash = false
+
+-- the rule binds a member of the left child's group
+abbrev pub binds : Rule → Bool
+binds rules.ExpandNAry = false
+binds rules.JoinCommute = false
+binds rules.JoinAssociate = true
+binds rules.SplitAgg = false
+binds rules.GetToScan = false
+binds rules.GetToIndexScan = false
+binds rules.SelectToFilter = false
+binds rules.SelectToIndexSeek = false
+binds rules.JoinToHash = false
+binds rules.JoinToMerge = false
+binds rules.JoinToLoop = false
+binds rules.AggToHash = false
+binds rules.AggToStream = false
+binds rules.PartialToHash = false
+
+-- the rule can be switched off
+abbrev pub can_be_off : Rule → Bool
+can_be_off rules.ExpandNAry = false
+can_be_off rules.JoinCommute = true
+can_be_off rules.JoinAssociate = true
+can_be_off rules.SplitAgg = true
+can_be_off rules.GetToScan = true
+can_be_off rules.GetToIndexScan = true
+can_be_off rules.SelectToFilter = true
+can_be_off rules.SelectToIndexSeek = true
+can_be_off rules.JoinToHash = true
+can_be_off rules.JoinToMerge = true
+can_be_off rules.JoinToLoop = true
+can_be_off rules.AggToHash = true
+can_be_off rules.AggToStream = true
+can_be_off rules.PartialToHash = true
 
 -- the query doesn't switch the rule off
 abbrev pub IsOn : Query → Rule → Type 0

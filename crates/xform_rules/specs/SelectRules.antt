@@ -10,10 +10,12 @@ use Rattle.query_core.specs.declared.predicate.Operand.TheVariants as operands
 use Rattle.query_core.specs.declared.predicate.Pred.{Pred}
 use Rattle.query_core.specs.declared.table.QueryTable.{QueryTable}
 use Rattle.query_core.specs.declared.query.Query.{Query}
+use Rattle.query_core.specs.declared.words.KeyParts.{KeyParts}
 use Rattle.query_core.specs.declared.words.KeyParts.TheVariants as groups
-use Rattle.query_core.specs.declared.expressions.Operator.TheVariants as operators
-use Rattle.query_core.specs.declared.expressions.Children.TheVariants.{Zero}
-use Rattle.query_core.specs.declared.expressions.ExprParts.{ExprParts}
+use Rattle.query_core.specs.declared.expressions.Logical.{Logical}
+use Rattle.query_core.specs.declared.expressions.Logical.TheVariants as logical
+use Rattle.query_core.specs.declared.expressions.Physical.{Physical}
+use Rattle.query_core.specs.declared.expressions.Physical.TheVariants as physical
 
 -- ---- usable indexes
 
@@ -55,19 +57,18 @@ HasNthUsable q t n index = (table : QueryTable) × (slice_get q.tables t ≡ Som
 
 -- ---- the rules
 
--- the expression is the rows that meet a table's own predicates
-abbrev pub IsSelect : ExprParts → Type 0
-IsSelect e = e.operator ≡ operators.Select
+-- the rows that meet a table's own predicates
+abbrev pub IsSelect : Logical → Type 0
+IsSelect from = (child : KeyParts) × (from ≡ logical.Select child)
 
 -- a test of each row
-abbrev pub Filters : ExprParts → ExprParts → Type 0
-Filters e other = IsSelect e × (other ≡ record e { operator = operators.Filter })
+abbrev pub Filters : Logical → Physical → Type 0
+Filters from to = (child : KeyParts) × (from ≡ logical.Select child) × (to ≡ physical.Filter child)
 
--- the expression is the rows that meet the own predicates of a table, of whose usable indexes the n-th has this number
-abbrev pub IsUsableSelect : Query → ExprParts → ℕ → ℕ → Type 0
-IsUsableSelect q e n index = (t : ℕ) × IsSelect e × (e.group ≡ groups.Filter t) × HasNthUsable q t n index
+-- the rows that meet the own predicates of a table, of whose usable indexes the n-th has this number
+abbrev pub IsUsableSelect : Query → KeyParts → Logical → ℕ → ℕ → Type 0
+IsUsableSelect q group from n index = (t : ℕ) × IsSelect from × (group ≡ groups.Filter t) × HasNthUsable q t n index
 
 -- the rows that the n-th usable index finds
-abbrev pub SeeksIndex : Query → ExprParts → ℕ → ExprParts → Type 0
-SeeksIndex q e n other =
-    (index : ℕ) × IsUsableSelect q e n index × (other ≡ record { group = e.group; operator = operators.IndexSeek index; children = Zero })
+abbrev pub SeeksIndex : Query → KeyParts → Logical → ℕ → Physical → Type 0
+SeeksIndex q group from n to = (index : ℕ) × IsUsableSelect q group from n index × (to ≡ physical.IndexSeek index)

@@ -6,61 +6,58 @@ ghost use Rattle.xform_rules.specs.Forms.{Finds};
 ghost use Rattle.xform_rules.specs.AggRules.{IsGrouping, IsGroupingByColumns, IsPartialGrouping};
 ghost use Rattle.xform_rules.specs.AggRules.{GroupsByHash, GroupsInOrder, GroupsPartly};
 
-use query_core::{ExprParts, Operator, Query};
+use query_core::{Logical, Physical, Query};
 
-/// Whether the expression is the groups of GROUP BY.
-pub fn is_grouping(e: ExprParts) -> bool
-    ensures { IsTrue result ↔ IsGrouping e }
+/// Whether it is the groups of GROUP BY.
+pub fn is_grouping(from: Logical) -> bool
+    ensures { IsTrue result ↔ IsGrouping from }
 {
-    e.operator == Operator::Agg
+    match from {
+        Logical::Agg(_) => true,
+        _ => false,
+    }
 }
 
 /// Whether it is, and there is a column to group by.
-pub fn is_grouping_by_columns(query: &Query, e: ExprParts) -> bool
-    ensures { IsTrue result ↔ IsGroupingByColumns query.now e }
+pub fn is_grouping_by_columns(query: &Query, from: Logical) -> bool
+    ensures { IsTrue result ↔ IsGroupingByColumns query.now from }
 {
-    is_grouping(e) && !query.group_by.is_empty()
+    is_grouping(from) && !query.group_by.is_empty()
 }
 
-/// Whether the expression is groups that are not complete.
-pub fn is_partial_grouping(e: ExprParts) -> bool
-    ensures { IsTrue result ↔ IsPartialGrouping e }
+/// Whether it is groups that are not complete.
+pub fn is_partial_grouping(from: Logical) -> bool
+    ensures { IsTrue result ↔ IsPartialGrouping from }
 {
-    e.operator == Operator::Partial
-}
-
-pub fn grouped_by_hash(e: ExprParts) -> Option<ExprParts>
-    ensures { Finds (GroupsByHash e) result }
-{
-    if is_grouping(e) {
-        return Some(ExprParts {
-            operator: Operator::HashAgg,
-            ..e
-        });
+    match from {
+        Logical::Partial(_) => true,
+        _ => false,
     }
-    None
 }
 
-pub fn grouped_in_order(query: &Query, e: ExprParts) -> Option<ExprParts>
-    ensures { Finds (GroupsInOrder query.now e) result }
+pub fn grouped_by_hash(from: Logical) -> Option<Physical>
+    ensures { Finds (GroupsByHash from) result }
 {
-    if is_grouping_by_columns(query, e) {
-        return Some(ExprParts {
-            operator: Operator::StreamAgg,
-            ..e
-        });
+    match from {
+        Logical::Agg(child) => Some(Physical::HashAgg(child)),
+        _ => None,
     }
-    None
 }
 
-pub fn grouped_partly(e: ExprParts) -> Option<ExprParts>
-    ensures { Finds (GroupsPartly e) result }
+pub fn grouped_in_order(query: &Query, from: Logical) -> Option<Physical>
+    ensures { Finds (GroupsInOrder query.now from) result }
 {
-    if is_partial_grouping(e) {
-        return Some(ExprParts {
-            operator: Operator::PartialAgg,
-            ..e
-        });
+    match from {
+        Logical::Agg(child) if !query.group_by.is_empty() => Some(Physical::StreamAgg(child)),
+        _ => None,
     }
-    None
+}
+
+pub fn grouped_partly(from: Logical) -> Option<Physical>
+    ensures { Finds (GroupsPartly from) result }
+{
+    match from {
+        Logical::Partial(child) => Some(Physical::PartialAgg(child)),
+        _ => None,
+    }
 }

@@ -6,42 +6,30 @@ ghost use Rattle.query_core.specs.Sets.{Has};
 ghost use Rattle.xform_rules.specs.Forms.{Finds};
 ghost use Rattle.xform_rules.specs.ExpandNAry.{JoinsSet, IsCut, IsLastCut, Expands};
 
-use crate::join_rules::join;
-use query_core::{ExprParts, KeyParts, Operator, Query, sets};
+use query_core::{KeyParts, Logical, Query, sets};
 
-/// The set whose join, in no order, the expression is.
-pub fn set_of(e: ExprParts) -> Option<u32>
-    ensures { MatchOption result ((set : ℕ) → JoinsSet e set → ⊥) (JoinsSet e) }
+/// The set whose join, in no order, it is.
+pub fn set_of(group: KeyParts, from: Logical) -> Option<u32>
+    ensures { MatchOption result ((set : ℕ) → JoinsSet group from set → ⊥) (JoinsSet group from) }
 {
-    match e.operator {
-        Operator::NJoin => set_of_group(e.group),
-        _ => None,
-    }
-}
-
-fn set_of_group(group: KeyParts) -> Option<u32>
-    ensures { MatchOption result
-        ((set : ℕ) → group ≡ KeyParts.Join set → ⊥)
-        (λ set. group ≡ KeyParts.Join set) }
-{
-    match group {
-        KeyParts::Join(set) => Some(set),
+    match (group, from) {
+        (KeyParts::Join(set), Logical::NJoin) => Some(set),
         _ => None,
     }
 }
 
 /// The join of the set's greatest table, without which the others are connected, with the others.
-pub fn expanded(query: &Query, e: ExprParts) -> Option<ExprParts>
-    ensures { Finds (Expands query.now e) result }
+pub fn expanded(query: &Query, group: KeyParts, from: Logical) -> Option<Logical>
+    ensures { Finds (Expands query.now group from) result }
 {
-    let set = set_of(e)?;
+    let set = set_of(group, from)?;
     let table = last_cut(query, set)?;
     let others = query.top_group(without(set, table));
-    Some(join(e.group, others, query.top_group(sets::of_one(table))))
+    Some(Logical::Join(others, query.top_group(sets::of_one(table))))
 }
 
 /// The greatest table without which the others are connected.
-fn last_cut(query: &Query, set: u32) -> Option<u32>
+pub fn last_cut(query: &Query, set: u32) -> Option<u32>
     ensures { Finds (IsLastCut query.now set) result }
 {
     for table in (0..32).rev() {
@@ -60,7 +48,7 @@ fn is_cut(query: &Query, set: u32, table: u32) -> bool
 
 /// The other tables of the set.
 #[tactic(auto, using(crate::proofs::Sets::without_one, crate::proofs::Sets::has_below))]
-fn without(set: u32, table: u32) -> u32
+pub fn without(set: u32, table: u32) -> u32
     requires { Has set table }
     ensures { result ≡ set - 2 ^ table }
 {

@@ -6,46 +6,45 @@ ghost use Rattle.query_core.specs.Expressions.{HasIndex};
 ghost use Rattle.xform_rules.specs.Forms.{Finds};
 ghost use Rattle.xform_rules.specs.GetRules.{IsGet, IsIndexedGet, Scans, ScansIndex};
 
-use query_core::{ExprParts, KeyParts, Operator, Query};
+use query_core::{KeyParts, Logical, Physical, Query};
 
-/// Whether the expression is the rows of a table.
-pub fn is_get(e: ExprParts) -> bool
-    ensures { IsTrue result ↔ IsGet e }
+/// Whether it is the rows of a table.
+pub fn is_get(from: Logical) -> bool
+    ensures { IsTrue result ↔ IsGet from }
 {
-    e.operator == Operator::Get
+    from == Logical::Get
 }
 
 /// Whether it is, and its table has an index of this number.
-pub fn is_indexed_get(query: &Query, e: ExprParts, index: u32) -> bool
-    ensures { IsTrue result ↔ IsIndexedGet query.now e index }
+pub fn is_indexed_get(query: &Query, group: KeyParts, from: Logical, index: u32) -> bool
+    ensures { IsTrue result ↔ IsIndexedGet query.now group from index }
 {
-    match e.group {
-        KeyParts::Get(table) => is_get(e) && has_index(query, table, index),
+    match group {
+        KeyParts::Get(table) => is_get(from) && has_index(query, table, index),
         _ => false,
     }
 }
 
-pub fn scanned(e: ExprParts) -> Option<ExprParts>
-    ensures { Finds (Scans e) result }
+pub fn scanned(from: Logical) -> Option<Physical>
+    ensures { Finds (Scans from) result }
 {
-    if is_get(e) {
-        return Some(ExprParts {
-            operator: Operator::Scan,
-            ..e
-        });
+    if is_get(from) {
+        return Some(Physical::Scan);
     }
     None
 }
 
 /// A scan by the index of this number.
-pub fn scanned_by_index(query: &Query, e: ExprParts, index: u32) -> Option<ExprParts>
-    ensures { Finds (ScansIndex query.now e index) result }
+pub fn scanned_by_index(
+    query: &Query,
+    group: KeyParts,
+    from: Logical,
+    index: u32,
+) -> Option<Physical>
+    ensures { Finds (ScansIndex query.now group from index) result }
 {
-    if is_indexed_get(query, e, index) {
-        return Some(ExprParts {
-            operator: Operator::IndexScan(index),
-            ..e
-        });
+    if is_indexed_get(query, group, from, index) {
+        return Some(Physical::IndexScan(index));
     }
     None
 }

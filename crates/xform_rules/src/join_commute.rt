@@ -4,13 +4,14 @@
 ghost use Rattle.xform_rules.specs.Forms.{Finds};
 ghost use Rattle.xform_rules.specs.JoinCommute.{Commutes};
 
-use crate::join_rules::{join, sides_of};
-use query_core::ExprParts;
+use query_core::Logical;
 
 /// The join of the right group and the left one.
-pub fn commuted(e: ExprParts) -> Option<ExprParts>
-    ensures { Finds (Commutes e) result }
+pub fn commuted(from: Logical) -> Option<Logical>
+    ensures { Finds (Commutes from) result }
 {
-    let (left, right) = sides_of(e)?;
-    Some(join(e.group, right, left))
+    match from {
+        Logical::Join(left, right) => Some(Logical::Join(right, left)),
+        _ => None,
+    }
 }

@@ -1,79 +1,60 @@
-//! Joins of two groups, and the rules that make one by hashing, by merging or by loops.
+//! The rules that make a join by hashing, by merging or by loops.
 #![tactic(auto)]
 
-ghost use Rattle.std.specs.Prelude.{◌≡◌, IsTrue, ◌↔◌, MatchOption};
-ghost use Rattle.query_core.specs.declared.words.KeyParts.{KeyParts};
-ghost use Rattle.xform_rules.specs.Forms.{Finds, join as join_by, JoinsGroups, IsLogicalJoin};
+ghost use Rattle.std.specs.Prelude.{IsTrue, ◌↔◌};
+ghost use Rattle.xform_rules.specs.Forms.{Finds, IsLogicalJoin};
 ghost use Rattle.xform_rules.specs.JoinRules.{HasCrossing, IsEquated, Hashes, Merges, Loops};
 
-use query_core::{Children, ExprParts, KeyParts, Operator, Query};
+use query_core::{KeyParts, Logical, Physical, Query};
 
-/// The logical join of two groups, in a group.
-pub fn join(group: KeyParts, left: KeyParts, right: KeyParts) -> ExprParts
-    ensures { result ≡ join_by group left right }
+/// Whether it is a join of groups.
+pub fn is_join(from: Logical) -> bool
+    ensures { IsTrue result ↔ IsLogicalJoin from }
 {
-    ExprParts {
-        group,
-        operator: Operator::Join,
-        children: Children::Two(left, right),
+    match from {
+        Logical::Join(_, _) => true,
+        _ => false,
     }
 }
 
-/// The groups whose logical join the expression is.
-pub fn sides_of(e: ExprParts) -> Option<(KeyParts, KeyParts)>
-    ensures { MatchOption result
-        (IsLogicalJoin e → ⊥)
-        (λ sides. JoinsGroups e sides.0 sides.1) }
+/// Whether it is a join of groups that some predicate equates.
+pub fn is_equated(query: &Query, from: Logical) -> bool
+    ensures { IsTrue result ↔ IsEquated query.now from }
 {
-    match (e.operator, e.children) {
-        (Operator::Join, Children::Two(left, right)) => Some((left, right)),
+    match from {
+        Logical::Join(left, right) => has_crossing(query, left, right),
+        _ => false,
+    }
+}
+
+pub fn hashed(query: &Query, from: Logical) -> Option<Physical>
+    ensures { Finds (Hashes query.now from) result }
+{
+    match from {
+        Logical::Join(left, right) if has_crossing(query, left, right) => {
+            Some(Physical::HashJoin(left, right))
+        }
         _ => None,
     }
 }
 
-pub fn hashed(query: &Query, e: ExprParts) -> Option<ExprParts>
-    ensures { Finds (Hashes query.now e) result }
+pub fn merged(query: &Query, from: Logical) -> Option<Physical>
+    ensures { Finds (Merges query.now from) result }
 {
-    if is_equated(query, e) {
-        return Some(ExprParts {
-            operator: Operator::HashJoin,
-            ..e
-        });
+    match from {
+        Logical::Join(left, right) if has_crossing(query, left, right) => {
+            Some(Physical::MergeJoin(left, right))
+        }
+        _ => None,
     }
-    None
 }
 
-pub fn merged(query: &Query, e: ExprParts) -> Option<ExprParts>
-    ensures { Finds (Merges query.now e) result }
+pub fn looped(from: Logical) -> Option<Physical>
+    ensures { Finds (Loops from) result }
 {
-    if is_equated(query, e) {
-        return Some(ExprParts {
-            operator: Operator::MergeJoin,
-            ..e
-        });
-    }
-    None
-}
-
-pub fn looped(e: ExprParts) -> Option<ExprParts>
-    ensures { Finds (Loops e) result }
-{
-    if sides_of(e).is_some() {
-        return Some(ExprParts {
-            operator: Operator::LoopJoin,
-            ..e
-        });
-    }
-    None
-}
-
-/// Whether the expression is a join of groups that some predicate equates.
-pub fn is_equated(query: &Query, e: ExprParts) -> bool
-    ensures { IsTrue result ↔ IsEquated query.now e }
-{
-    match sides_of(e) {
-        Some((left, right)) => has_crossing(query, left, right),
-        None => false,
+    match from {
+        Logical::Join(left, right) => Some(Physical::LoopJoin(left, right)),
+        _ => None,
     }
 }
 

@@ -1,13 +1,17 @@
 //! What the layers above know of results.
 #![tactic(auto)]
 
-ghost use Rattle.std.specs.Prelude.{ℕ, ◌≡◌, ◌<◌, IfSome, Option};
+ghost use Rattle.std.specs.Prelude.{ℕ, ◌≡◌, ◌<◌, IfSome, IsTrue, Option, Some, is_some};
 ghost use Rattle.query_core.specs.declared.query.Query.{Query};
 ghost use Rattle.query_core.specs.declared.expressions.ExprParts.{ExprParts};
-ghost use Rattle.query_core.specs.Expressions.{IsCandidate};
+ghost use Rattle.query_core.specs.declared.words.KeyParts.{KeyParts};
+ghost use Rattle.query_core.specs.Keys.{IsGroup};
+ghost use Rattle.query_core.specs.Expressions.{FallsInto, IsCandidate, is_logical};
 ghost use Rattle.xform_rules.specs.declared.rules.Rule.{Rule};
-ghost use Rattle.xform_rules.specs.Rules.{rule_limit};
-ghost use Rattle.xform_rules.specs.Results.{HasResult};
+ghost use Rattle.xform_rules.specs.Counts.{table_count};
+ghost use Rattle.xform_rules.specs.Forms.{IsLeftSide};
+ghost use Rattle.xform_rules.specs.Rules.{rule_limit, explores, binds};
+ghost use Rattle.xform_rules.specs.Results.{Applies, HasResult};
 ghost use Rattle.xform_rules.specs.Closure.{IsMember};
 
 use query_core::{candidates_are_known, groups_are_known, sides_are_known};
@@ -25,6 +29,35 @@ pub fn results_are_candidates()
 {
     sides_are_known();
 }
+
+/// What is known of results, wherever they are.
+pub fn results_are_known()
+    // A rule has results only where it applies, and these stay in the group.
+    ensures applies { (q : Query) (rule : Rule) (e : ExprParts) (bound : Option ExprParts)
+        (n : ℕ) (x : ExprParts) → HasResult q rule e bound n x → Applies q rule e }
+    ensures group { (q : Query) (rule : Rule) (e : ExprParts) (bound : Option ExprParts)
+        (n : ℕ) (x : ExprParts) → HasResult q rule e bound n x → x.group ≡ e.group }
+
+    // Only logical expressions have results, and rules that explore give logical ones.
+    ensures logical { (q : Query) (rule : Rule) (e : ExprParts) (bound : Option ExprParts)
+        (n : ℕ) (x : ExprParts) → HasResult q rule e bound n x → IsTrue (is_logical e.operator) }
+    ensures explored { (q : Query) (rule : Rule) (e : ExprParts) (bound : Option ExprParts)
+        (n : ℕ) (x : ExprParts) → HasResult q rule e bound n x →
+        is_logical x.operator ≡ explores rule }
+
+    // A bound member is a logical one of the left child's group.
+    ensures binds { (q : Query) (rule : Rule) (e : ExprParts) (bound : Option ExprParts)
+        (n : ℕ) (x : ExprParts) → HasResult q rule e bound n x → is_some bound ≡ binds rule }
+    ensures left { (q : Query) (rule : Rule) (e bound : ExprParts) (n : ℕ) (x : ExprParts) →
+        HasResult q rule e (Some bound) n x → IsLeftSide e bound.group }
+    ensures bound { (q : Query) (rule : Rule) (e bound : ExprParts) (n : ℕ) (x : ExprParts) →
+        HasResult q rule e (Some bound) n x → IsTrue (is_logical bound.operator) }
+
+    // The sides of a join have fewer tables.
+    ensures fewer { (q : Query) (set a b : ℕ) → IsGroup q (KeyParts.Join set) →
+        FallsInto q set a b →
+        (table_count a < table_count set) × (table_count b < table_count set) }
+{}
 
 /// The members of a query's groups are candidates.
 pub fn members_are_candidates()

@@ -2,21 +2,29 @@
 #![tactic(auto)]
 
 mod agg_rules;
+mod closure;
 mod expand_n_ary;
 mod get_rules;
 mod join_associate;
 mod join_commute;
 mod join_rules;
+mod joins_held;
 mod laws;
+mod membership;
+mod one_order;
 mod results;
 mod rules;
 mod select_rules;
 mod split_agg;
+mod splits;
 mod words;
 
-pub use laws::{members_are_candidates, results_are_candidates};
+pub use closure::{members_are_known, members_of, words_of};
+pub use laws::{members_are_candidates, results_are_candidates, results_are_known};
+pub use membership::{in_closure, in_closure_at};
 pub use results::{applies_at, result_at};
 pub use rules::{Rule, rule_named, rule_of};
+pub use splits::splits_are_complete;
 pub use words::{applies, nth_result};
 
 #[cfg(test)]

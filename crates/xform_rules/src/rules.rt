@@ -2,7 +2,10 @@
 #![tactic(auto)]
 
 ghost use Rattle.std.specs.Prelude.{◌≡◌, ◌≤◌, IsTrue, ◌↔◌, IfSome, Some};
-ghost use Rattle.xform_rules.specs.Rules.{rule_name, rule_number, rule_limit, IsOn};
+ghost use Rattle.std.specs.List.{Contains};
+ghost use Rattle.xform_rules.specs.Rules.{all_rules, rule_name, rule_number, rule_limit, IsOn};
+ghost use Rattle.xform_rules.specs.Rules.{explores as does_explore, binds as does_bind};
+ghost use Rattle.xform_rules.specs.Rules.{can_be_off as may_be_off};
 
 use query_core::{Query, sets};
 
@@ -26,6 +29,29 @@ pub enum Rule {
 }
 
 impl Rule {
+    /// The rules, in the order of their numbers.
+    pub fn all() -> [Rule; 14]
+        ensures value { result ≡ all_rules }
+        ensures every { (rule : Rule) → Contains result rule }
+    {
+        [
+            Rule::ExpandNAry,
+            Rule::JoinCommute,
+            Rule::JoinAssociate,
+            Rule::SplitAgg,
+            Rule::GetToScan,
+            Rule::GetToIndexScan,
+            Rule::SelectToFilter,
+            Rule::SelectToIndexSeek,
+            Rule::JoinToHash,
+            Rule::JoinToMerge,
+            Rule::JoinToLoop,
+            Rule::AggToHash,
+            Rule::AggToStream,
+            Rule::PartialToHash,
+        ]
+    }
+
     /// The number of the rule: 1 to 14.
     pub fn number(self) -> u32
         ensures value { result ≡ rule_number self }
@@ -91,6 +117,72 @@ impl Rule {
             Rule::AggToHash => 1,
             Rule::AggToStream => 1,
             Rule::PartialToHash => 1,
+        }
+    }
+
+    /// Whether it gives other logical expressions. The other rules give physical ones.
+    pub fn explores(self) -> bool
+        ensures { result ≡ does_explore self }
+    {
+        match self {
+            Rule::ExpandNAry => true,
+            Rule::JoinCommute => true,
+            Rule::JoinAssociate => true,
+            Rule::SplitAgg => true,
+            Rule::GetToScan => false,
+            Rule::GetToIndexScan => false,
+            Rule::SelectToFilter => false,
+            Rule::SelectToIndexSeek => false,
+            Rule::JoinToHash => false,
+            Rule::JoinToMerge => false,
+            Rule::JoinToLoop => false,
+            Rule::AggToHash => false,
+            Rule::AggToStream => false,
+            Rule::PartialToHash => false,
+        }
+    }
+
+    /// Whether it binds a member of the left child's group.
+    pub fn binds(self) -> bool
+        ensures { result ≡ does_bind self }
+    {
+        match self {
+            Rule::ExpandNAry => false,
+            Rule::JoinCommute => false,
+            Rule::JoinAssociate => true,
+            Rule::SplitAgg => false,
+            Rule::GetToScan => false,
+            Rule::GetToIndexScan => false,
+            Rule::SelectToFilter => false,
+            Rule::SelectToIndexSeek => false,
+            Rule::JoinToHash => false,
+            Rule::JoinToMerge => false,
+            Rule::JoinToLoop => false,
+            Rule::AggToHash => false,
+            Rule::AggToStream => false,
+            Rule::PartialToHash => false,
+        }
+    }
+
+    /// Whether it can be switched off.
+    pub fn can_be_off(self) -> bool
+        ensures { result ≡ may_be_off self }
+    {
+        match self {
+            Rule::ExpandNAry => false,
+            Rule::JoinCommute => true,
+            Rule::JoinAssociate => true,
+            Rule::SplitAgg => true,
+            Rule::GetToScan => true,
+            Rule::GetToIndexScan => true,
+            Rule::SelectToFilter => true,
+            Rule::SelectToIndexSeek => true,
+            Rule::JoinToHash => true,
+            Rule::JoinToMerge => true,
+            Rule::JoinToLoop => true,
+            Rule::AggToHash => true,
+            Rule::AggToStream => true,
+            Rule::PartialToHash => true,
         }
     }
 }

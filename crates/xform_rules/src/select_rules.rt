@@ -2,7 +2,6 @@
 #![tactic(auto)]
 
 ghost use Rattle.std.specs.Prelude.{ℕ, IsTrue, ◌↔◌, ◌≡◌, ◌≤◌, length, MatchOption};
-ghost use Rattle.query_core.specs.Expressions.{IsCandidate};
 ghost use Rattle.xform_rules.specs.Forms.{Finds};
 ghost use Rattle.xform_rules.specs.SelectRules.{is_sought as sought_by, is_literal as literal_by};
 ghost use Rattle.xform_rules.specs.SelectRules.{seeks as seeks_by, is_usable as usable_by};
@@ -11,48 +10,44 @@ ghost use Rattle.xform_rules.specs.SelectRules.{IsNthUsable, HasNthUsable, IsSel
 ghost use Rattle.xform_rules.specs.SelectRules.{IsUsableSelect, Filters, SeeksIndex};
 
 use orca_base::List;
-use query_core::{Children, CmpOp, ExprParts, KeyParts, Operand, Operator, Pred, Query};
+use query_core::{CmpOp, KeyParts, Logical, Operand, Physical, Pred, Query};
 
-/// Whether the expression is the rows that meet a table's own predicates.
-pub fn is_select(e: ExprParts) -> bool
-    ensures { IsTrue result ↔ IsSelect e }
+/// Whether it is the rows that meet a table's own predicates.
+pub fn is_select(from: Logical) -> bool
+    ensures { IsTrue result ↔ IsSelect from }
 {
-    e.operator == Operator::Select
+    match from {
+        Logical::Select(_) => true,
+        _ => false,
+    }
 }
 
 /// A test of each row.
-pub fn filtered(e: ExprParts) -> Option<ExprParts>
-    ensures { Finds (Filters e) result }
+pub fn filtered(from: Logical) -> Option<Physical>
+    ensures { Finds (Filters from) result }
 {
-    if is_select(e) {
-        return Some(ExprParts {
-            operator: Operator::Filter,
-            ..e
-        });
+    match from {
+        Logical::Select(child) => Some(Physical::Filter(child)),
+        _ => None,
     }
-    None
 }
 
 /// The rows that the n-th usable index finds.
-pub fn sought(query: &Query, e: ExprParts, n: u32) -> Option<ExprParts>
-    ensures { Finds (SeeksIndex query.now e n) result }
+pub fn sought(query: &Query, group: KeyParts, from: Logical, n: u32) -> Option<Physical>
+    ensures { Finds (SeeksIndex query.now group from n) result }
 {
-    let index = usable_index(query, e, n)?;
-    Some(ExprParts {
-        group: e.group,
-        operator: Operator::IndexSeek(index),
-        children: Children::Zero,
-    })
+    let index = usable_index(query, group, from, n)?;
+    Some(Physical::IndexSeek(index))
 }
 
 /// The number of the n-th usable index.
-pub fn usable_index(query: &Query, e: ExprParts, n: u32) -> Option<u32>
-    ensures { Finds (IsUsableSelect query.now e n) result }
+pub fn usable_index(query: &Query, group: KeyParts, from: Logical, n: u32) -> Option<u32>
+    ensures { Finds (IsUsableSelect query.now group from n) result }
 {
-    if !is_select(e) {
+    if !is_select(from) {
         return None;
     }
-    match e.group {
+    match group {
         KeyParts::Filter(table) => usable_of_table(query, table, n),
         _ => None,
     }

@@ -5,24 +5,21 @@ ghost use Rattle.std.specs.Prelude.{IsTrue, ◌↔◌};
 ghost use Rattle.xform_rules.specs.Forms.{Finds};
 ghost use Rattle.xform_rules.specs.SplitAgg.{GroupsInput, SplitsGrouping};
 
-use query_core::{Children, ExprParts, KeyParts, Operator, Query};
+use query_core::{KeyParts, Logical, Query};
 
-/// Whether the expression groups all rows.
-pub fn groups_input(query: &Query, e: ExprParts) -> bool
-    ensures { IsTrue result ↔ GroupsInput query.now e }
+/// Whether it is the groups of all rows.
+pub fn groups_input(query: &Query, from: Logical) -> bool
+    ensures { IsTrue result ↔ GroupsInput query.now from }
 {
-    e.operator == Operator::Agg && e.children == Children::One(query.input())
+    from == Logical::Agg(query.input())
 }
 
 /// Grouping of groups that are not complete.
-pub fn split(query: &Query, e: ExprParts) -> Option<ExprParts>
-    ensures { Finds (SplitsGrouping query.now e) result }
+pub fn split(query: &Query, from: Logical) -> Option<Logical>
+    ensures { Finds (SplitsGrouping query.now from) result }
 {
-    if groups_input(query, e) {
-        return Some(ExprParts {
-            children: Children::One(KeyParts::Partial),
-            ..e
-        });
+    if groups_input(query, from) {
+        return Some(Logical::Agg(KeyParts::Partial));
     }
     None
 }

@@ -1,7 +1,8 @@
 //! The rules by their numbers, at expressions by their words. No call here takes memory.
 #![tactic(auto)]
 
-ghost use Rattle.std.specs.Prelude.{◌≡◌, IsTrue, ◌↔◌, IfSome, Option};
+ghost use Rattle.std.specs.Prelude.{ℕ, ◌≡◌, IsTrue, ◌↔◌, IfSome, Option};
+ghost use Rattle.query_core.specs.declared.words.Expr.{Expr};
 ghost use Rattle.query_core.specs.declared.expressions.ExprParts.{ExprParts};
 ghost use Rattle.query_core.specs.Expressions.{IsPacked, IsCandidate, IsCandidateWord};
 ghost use Rattle.xform_rules.specs.Forms.{Finds};
@@ -15,7 +16,11 @@ use query_core::{Expr, ExprParts, Query, candidates_are_known};
 /// Whether the rule of this number is on, and for this expression.
 pub fn applies(query: &Query, expr: Expr, rule: u32) -> bool
     requires { IsCandidateWord query.now expr.0 }
-    ensures { IsTrue result ↔ AppliesToWord query.now rule expr }
+    ensures value { IsTrue result ↔ AppliesToWord query.now rule expr }
+
+    // The expression has results of the rule only then.
+    ensures needed { (bound : Option Expr) (n : ℕ) (other : Expr) →
+        HasResultWord query.now rule expr bound n other → IsTrue result }
 {
     match rule_of(rule) {
         Some(rule) => applies_at(query, rule, candidate_of(query, expr)),
@@ -40,7 +45,7 @@ pub fn nth_result(query: &Query, expr: Expr, rule: u32, n: u32, bound: Option<Ex
 }
 
 /// The expression whose word it is.
-fn candidate_of(query: &Query, expr: Expr) -> ExprParts
+pub fn candidate_of(query: &Query, expr: Expr) -> ExprParts
     requires { IsCandidateWord query.now expr.0 }
     ensures value { IsWordOf query.now result expr }
     ensures packed { IsPacked result }

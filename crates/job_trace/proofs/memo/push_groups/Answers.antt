@@ -1,9 +1,9 @@
 use Rattle.std.proofs.Common.{◌++◌, ap}
-use Rattle.job_trace.specs.Lines.{texts_of}
+use Rattle.std.specs.List.{concat}
 use Rattle.job_trace.proofs.ByGroup.{all_by_group, are_from}
 use Rattle.job_trace.proofs.memo.push_groups.Goals as goal
 
 -- before the first member, the lines of all groups are left
 pub loop-member-init : goal.loop-member-init
 loop-member-init c =
-    ap (λ rest. texts_of c.args.lines.now.items ++ rest) (all_by_group c.args.query.now c.args.members.now (are_from c.args.members.now c.requires.ascending))
+    ap (λ rest. c.args.text.now.items ++ concat rest) (all_by_group c.args.query.now c.args.members.now (are_from c.args.members.now c.requires.ascending))

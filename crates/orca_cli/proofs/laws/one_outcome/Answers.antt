@@ -1,9 +1,9 @@
 use Rattle.query_core.specs.Keys.{root_of}
-use Rattle.plan_space.specs.Numbers.{root_request}
+use Rattle.request_props.specs.Numbered.{root_request}
 use Rattle.orca_cli.proofs.Outcomes.{one_outcome_of}
 use Rattle.orca_cli.proofs.laws.one_outcome.Goals as goal
 
 -- a text has one reading, a query one list of links, one least plan and one closure, so the text of a run is one
 pub returns : goal.returns
 returns c = one_outcome_of (record { reading = c.one_outcome.ensures.reading; fault = c.one_outcome.ensures.fault; either = c.one_outcome.ensures.either }) c.links_are_one.ensures.links
-    (record { closure = c.closure_is_one.ensures; members = c.members_are_known.ensures.one }) (λ q s t within one other. c.least_is_one.ensures q within.few_lists within.few_orders (root_of q) (root_request q) t s other one)
+    (record { closure = c.members_are_known.ensures.closure_is_one; text = c.memos_are_known.ensures.text }) (λ q s t within one other. c.least_is_one.ensures q within.few_lists within.few_orders (root_of q) (root_request q) t s other one)

@@ -1,4 +1,6 @@
-use Rattle.std.proofs.Common.{arith}
+use Rattle.std.proofs.Common.{arith, sym, ◌∙◌}
+use Rattle.std.proofs.lemmas.List.{get_or_default}
+use Rattle.query_core.specs.Expressions.{word_of}
 use Rattle.plan_search.proofs.Growing.{HasStepsAt, grows_not, grows_on, steps_kept, done_more}
 use Rattle.plan_search.proofs.closure.add_all_steps.Goals as goal
 
@@ -8,7 +10,7 @@ loop-word-init c = record {
   steps = λ k below. absurd (omega (arith, below));
 }
 
--- the steps from one more word are found
+-- those from one more word are found
 pub loop-word-preserved : goal.loop-word-preserved
 loop-word-preserved c =
     let q = c.args.query.now in
@@ -16,12 +18,13 @@ loop-word-preserved c =
     let after = c.add_steps.new.found in
     record {
       grows = grows_on q c.args.found.now before after c.loop-word.invariant.grows c.in_ok-add_steps.ensures.grows;
-      steps = done_more before after c.loop-word.word-index (HasStepsAt q c.args.words.now)
-          (steps_kept q c.args.words.now before after c.in_ok-add_steps.ensures.grows) c.loop-word.invariant.steps c.in_ok-add_steps.ensures.steps;
+      steps = done_more before after c.loop-word.word-index (HasStepsAt q c.args.words.now c.args.new.now)
+          (λ k. steps_kept q before after c.in_ok-add_steps.ensures.grows k c.args.words.now c.args.new.now) c.loop-word.invariant.steps c.in_ok-add_steps.ensures.steps;
     }
 
 pub returns-clause-grows : goal.returns-clause-grows
 returns-clause-grows c = c.loop-word.invariant.grows
 
 pub returns-clause-steps : goal.returns-clause-steps
-returns-clause-steps c k within = c.loop-word.invariant.steps k (omega (arith, within, c.loop-word-test.false))
+returns-clause-steps c e member (k, within, is) =
+    c.loop-word.invariant.steps k (omega (arith, within, c.loop-word-test.false)) e member (sym (get_or_default c.args.new.now k 0 (word_of e) within ∙ is))

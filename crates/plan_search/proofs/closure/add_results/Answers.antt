@@ -1,31 +1,33 @@
-use Rattle.std.proofs.Common.{arith, refl}
-use Rattle.xform_rules.specs.Rules.{rule_number}
-use Rattle.plan_search.proofs.Growing.{HasResultsAt, grows_not, grows_on, results_kept, done_more, rule_between}
+use Rattle.std.proofs.Common.{◌<◌, ap, arith, length}
+use Rattle.xform_rules.specs.declared.rules.Rule.TheVariants as rules
+use Rattle.plan_search.proofs.Growing.{HasResultsAt, at_place, grows_not, grows_on, results_kept, done_more}
 use Rattle.plan_search.proofs.closure.add_results.Goals as goal
 
--- no rule has the number 0
-pub loop-number-init : goal.loop-number-init
-loop-number-init c = record {
+pub loop-rule-init : goal.loop-rule-init
+loop-rule-init c = record {
   grows = grows_not c.args.query.now c.args.found.now;
-  results = λ k below rule is. absurd (omega (arith, below, is, (rule_between rule).0));
+  results = λ k below. absurd (omega (arith, below));
 }
 
 -- one more rule's results are found
-pub loop-number-preserved : goal.loop-number-preserved
-loop-number-preserved c =
+pub loop-rule-preserved : goal.loop-rule-preserved
+loop-rule-preserved c =
     let q = c.args.query.now in
-    let before = c.loop-number.found in
-    let after = c.add_results_at.new.found in
+    let before = c.loop-rule.found in
+    let after = c.add_results_by.new.found in
+    let within : c.loop-rule.rule-index < length c.all-rules.result = omega (arith, ap length c.all-rules.ensures.value, c.loop-rule-test.true) in
     record {
-      grows = grows_on q c.args.found.now before after c.loop-number.invariant.grows c.in_ok-add_results_at.ensures.grows;
-      results = done_more before after c.loop-number.number (HasResultsAt q c.args.e)
-          (results_kept q c.args.e before after c.in_ok-add_results_at.ensures.grows) c.loop-number.invariant.results c.in_ok-add_results_at.ensures.results;
+      grows = grows_on q c.args.found.now before after c.loop-rule.invariant.grows c.in_ok-add_results_by.ensures.grows;
+      results = done_more before after c.loop-rule.rule-index (HasResultsAt q c.args.e c.args.bound c.all-rules.result)
+          (λ k. results_kept q before after c.in_ok-add_results_by.ensures.grows k c.args.e c.args.bound c.all-rules.result) c.loop-rule.invariant.results
+          (λ rule is. at_place q c.args.e c.args.bound c.all-rules.result c.loop-rule.rule-index rule rules.ExpandNAry after within is c.in_ok-add_results_by.ensures.results);
     }
 
 pub returns-clause-grows : goal.returns-clause-grows
-returns-clause-grows c = c.loop-number.invariant.grows
+returns-clause-grows c = c.loop-rule.invariant.grows
 
--- no rule has a greater number
+-- each rule is one of the list
 pub returns-clause-results : goal.returns-clause-results
-returns-clause-results c rule n other has =
-    c.loop-number.invariant.results (rule_number rule) (omega (arith, c.loop-number-test.false, (rule_between rule).1)) rule refl n other has
+returns-clause-results c rule =
+    let (k, within, is) = c.all-rules.ensures.every rule in
+    c.loop-rule.invariant.results k (omega (arith, within, ap length c.all-rules.ensures.value, c.loop-rule-test.false)) rule is

@@ -1,7 +1,8 @@
-use Rattle.std.proofs.Common.{arith, sym, ◌∙◌}
+use Rattle.std.proofs.Common.{arith, sym, subst, Some, ◌∙◌}
 use Rattle.std.proofs.lemmas.List.{get_or_default}
 use Rattle.query_core.specs.Expressions.{word_of}
-use Rattle.plan_search.proofs.Growing.{HasResultsWithAt, grows_not, grows_on, results_with_kept, done_more, with_this}
+use Rattle.plan_search.specs.Steps.{HasResults}
+use Rattle.plan_search.proofs.Growing.{HasResultsWithAt, grows_not, grows_on, results_with_kept, done_more}
 use Rattle.plan_search.proofs.closure.add_results_with_each.Goals as goal
 
 pub loop-word-init : goal.loop-word-init
@@ -15,12 +16,12 @@ pub loop-word-preserved : goal.loop-word-preserved
 loop-word-preserved c =
     let q = c.args.query.now in
     let before = c.loop-word.found in
-    let after = c.add_result.new.found in
+    let after = c.add_results.new.found in
     record {
-      grows = grows_on q c.args.found.now before after c.loop-word.invariant.grows c.in_ok-add_result.ensures.grows;
+      grows = grows_on q c.args.found.now before after c.loop-word.invariant.grows c.in_ok-add_results.ensures.grows;
       results = done_more before after c.loop-word.word-index (HasResultsWithAt q c.args.e c.args.members.now)
-          (results_with_kept q c.args.e c.args.members.now before after c.in_ok-add_result.ensures.grows) c.loop-word.invariant.results
-          (λ bound member is. with_this q c.args.e c.member_of-bound.result bound after (c.member_of-bound.ensures.only bound member is) c.in_ok-add_result.ensures.there);
+          (λ k. results_with_kept q before after c.in_ok-add_results.ensures.grows k c.args.e c.args.members.now) c.loop-word.invariant.results
+          (λ bound member is. subst (λ b. HasResults q c.args.e (Some b) after) (sym (c.member_of-bound.ensures.only bound member is)) c.in_ok-add_results.ensures.results);
     }
 
 pub returns-clause-grows : goal.returns-clause-grows

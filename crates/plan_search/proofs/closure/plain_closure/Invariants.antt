@@ -2,17 +2,18 @@ use Rattle.std.proofs.Common.{◌+◌, ◌-◌, ◌^◌, length}
 use Rattle.std.specs.List.{All}
 use Rattle.query_core.specs.Keys.{root_of}
 use Rattle.query_core.specs.Expressions.{origin_of}
-use Rattle.plan_search.specs.PlainClosure.{IsMemberWord}
-use Rattle.plan_search.specs.Steps.{IsFound}
+use Rattle.xform_rules.specs.Closure.{IsMemberWord}
+use Rattle.plan_search.specs.Steps.{ContainsWordOf, AreSteps}
 use Rattle.plan_search.proofs.closure.plain_closure.Given as goal
 
--- the words found are those of members, the root's origin among them
-abbrev pub invariant-loop-found : goal.invariant-loop-found
-invariant-loop-found l = record {
+-- the words found are those of members, the root's origin among them, and the steps from those that are done, among these, are found
+abbrev pub invariant-loop-done : goal.invariant-loop-done
+invariant-loop-done l = record {
   members : All (IsMemberWord l.query) l.found;
-  root : IsFound l.found (origin_of l.query (root_of l.query));
+  root : ContainsWordOf l.found (origin_of l.query (root_of l.query));
+  done : AreSteps l.query l.done.items l.done.items l.found;
 }
 
 -- there are no more words than numbers of 48 bits
-abbrev pub decreases-loop-found : goal.decreases-loop-found
-decreases-loop-found l = 2 ^ 48 + 1 - length l.found
+abbrev pub decreases-loop-done : goal.decreases-loop-done
+decreases-loop-done l = 2 ^ 48 + 1 - length l.found

@@ -1,12 +1,12 @@
 use Rattle.std.proofs.Common.{sym, ◌∙◌, ap, subst}
 use Rattle.query_core.specs.Keys.{root_of}
-use Rattle.plan_space.specs.Numbers.{root_request}
+use Rattle.request_props.specs.Numbered.{root_request}
 use Rattle.plan_search.specs.Places.{place_at, place_of}
 use Rattle.plan_search.specs.Search.{kept_at, StandsAt}
 use Rattle.plan_search.proofs.Finding.{root_found}
 use Rattle.plan_search.proofs.least.plain_least.Goals as goal
 
--- the plan that stands at the root's goal
+-- the plan that stands at the root's request
 pub plan_at-requires : goal.plan_at-requires
 plan_at-requires c =
     let q = c.args.query.now in

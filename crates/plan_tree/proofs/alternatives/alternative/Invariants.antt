@@ -4,8 +4,12 @@ use Rattle.plan_tree.proofs.Modes.{passing}
 use Rattle.plan_tree.proofs.alternatives.alternative.Given as goal
 
 -- so many modes are behind, and the others stand after them
-abbrev pub invariant-loop-mode : goal.invariant-loop-mode
-invariant-loop-mode l = record {
+abbrev pub invariant-modes : goal.invariant-modes
+invariant-modes l = record {
   few : l.seen ≤ l.n;
-  others : slice_get (passing (has l.query l.expr l.request) l.mode (192 - l.mode)) (l.n - l.seen) ≡ slice_get (passing (has l.query l.expr l.request) 0 192) l.n;
+  within : l.from ≤ 192;
+  others : slice_get (passing (has l.query l.expr l.request) l.from (192 - l.from)) (l.n - l.seen) ≡ slice_get (passing (has l.query l.expr l.request) 0 192) l.n;
 }
+
+abbrev pub decreases-modes : goal.decreases-modes
+decreases-modes l = 192 - l.from

@@ -1,6 +1,6 @@
 use Rattle.std.proofs.Common.{rules, refl, arith}
 use Rattle.request_props.specs.declared.request.Dist.TheVariants.{Spread, Copies, Hashed}
-use Rattle.plan_tree.specs.Enforcers.{OrderFits}
+use Rattle.request_props.specs.Fitting.{OrderFits}
 use Rattle.plan_tree.proofs.Kept.{sort_fits, sort_and_merge_fit}
 use Rattle.plan_tree.proofs.enforcers.both.Goals as goal
 

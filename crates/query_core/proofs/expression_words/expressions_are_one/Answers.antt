@@ -1,6 +1,6 @@
 use Rattle.query_core.proofs.GroupLemmas.{key_one}
-use Rattle.query_core.proofs.ExpressionLemmas.{word_one, word_small, word_from, word_to}
+use Rattle.query_core.proofs.ExpressionLemmas.{word_one, word_small, word_ordered}
 use Rattle.query_core.proofs.expression_words.expressions_are_one.Goals as goal
 
 pub returns : goal.returns
-returns c = record { expressions = word_one; groups = key_one; small = word_small; from_key = word_from; to_next_key = word_to }
+returns c = record { expressions = word_one; groups = key_one; small = word_small; ordered = word_ordered }

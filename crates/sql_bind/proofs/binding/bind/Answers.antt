@@ -9,7 +9,7 @@ returns-in_err-parts c =
     rw raised.1 (no_parts c.args.select.now c.args.catalog.now c.in_err-parts.field-0.0 raised.0 c.in_err-parts.ensures raised.2)
 
 pub judge-requires-clause-bounded : goal.judge-requires-clause-bounded
-judge-requires-clause-bounded c = rw (c.deref.ensures.value, c.in_ok-used.ensures) (bounded c.args.select.now c.args.catalog.now c.in_ok-parts.parts c.requires.readable c.requires.catalogue c.in_ok-parts.ensures).0
+judge-requires-clause-bounded c = rw c.in_ok-used.ensures (bounded c.args.select.now c.args.catalog.now c.in_ok-parts.parts c.requires.readable c.requires.catalogue c.in_ok-parts.ensures).0
 
 pub judge-requires-clause-few : goal.judge-requires-clause-few
 judge-requires-clause-few c = (bounded c.args.select.now c.args.catalog.now c.in_ok-parts.parts c.requires.readable c.requires.catalogue c.in_ok-parts.ensures).1

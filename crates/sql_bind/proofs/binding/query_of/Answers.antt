@@ -7,18 +7,18 @@ pub tables_of-requires : goal.tables_of-requires
 tables_of-requires c = rw c.requires.used (valid c.args.select.now c.args.catalog.now c.args.parts.now c.requires.readable c.requires.catalogue c.requires.bound).few
 
 pub items_of-requires : goal.items_of-requires
-items_of-requires c = rw c.requires.used (valid c.args.select.now c.args.catalog.now c.args.parts.now c.requires.readable c.requires.catalogue c.requires.bound).low
+items_of-requires c = rw (c.as_slice-2.ensures, c.requires.used) (valid c.args.select.now c.args.catalog.now c.args.parts.now c.requires.readable c.requires.catalogue c.requires.bound).low
 
 pub preds_of-requires : goal.preds_of-requires
 preds_of-requires c = rw c.requires.used (valid c.args.select.now c.args.catalog.now c.args.parts.now c.requires.readable c.requires.catalogue c.requires.bound).few
 
 pub links_of-requires-clause-tables : goal.links_of-requires-clause-tables
 links_of-requires-clause-tables c =
-    rw (c.as_slice-3.ensures, c.in_ok-tables.ensures, c.as_slice.ensures, c.requires.used) (valid c.args.select.now c.args.catalog.now c.args.parts.now c.requires.readable c.requires.catalogue c.requires.bound).tables
+    rw (c.as_slice-4.ensures, c.in_ok-tables.ensures, c.as_slice.ensures, c.requires.used) (valid c.args.select.now c.args.catalog.now c.args.parts.now c.requires.readable c.requires.catalogue c.requires.bound).tables
 
 pub links_of-requires-clause-items : goal.links_of-requires-clause-items
 links_of-requires-clause-items c =
-    rw (c.as_slice-3.ensures, c.as_slice-4.ensures, c.in_ok-tables.ensures, c.in_ok-items.ensures, c.as_slice.ensures, c.requires.used) (valid c.args.select.now c.args.catalog.now c.args.parts.now c.requires.readable c.requires.catalogue c.requires.bound).items
+    rw (c.as_slice-4.ensures, c.as_slice-5.ensures, c.in_ok-tables.ensures, c.in_ok-items.ensures, c.as_slice.ensures, c.as_slice-2.ensures, c.requires.used) (valid c.args.select.now c.args.catalog.now c.args.parts.now c.requires.readable c.requires.catalogue c.requires.bound).items
 
 pub group_of-requires : goal.group_of-requires
 group_of-requires c = rw c.requires.used (valid c.args.select.now c.args.catalog.now c.args.parts.now c.requires.readable c.requires.catalogue c.requires.bound).few
@@ -39,11 +39,11 @@ invariant_of-result c =
       has_segments = at_least_1 c.args.catalog.now.segments c.requires.catalogue.segment_count;
       segments_fit = at_most_1000 c.args.catalog.now.segments c.requires.catalogue.segment_count;
       tables_valid = rw (c.in_ok-tables.ensures, c.as_slice.ensures, c.requires.used) made.tables;
-      items_valid = rw (c.in_ok-tables.ensures, c.in_ok-items.ensures, c.as_slice.ensures, c.requires.used) made.items;
-      preds_valid = rw (c.in_ok-items.ensures, c.in_ok-preds.ensures, c.as_slice-2.ensures, c.requires.used) made.preds;
-      links_valid = rw (← c.as_slice-3.ensures, ← c.as_slice-4.ensures, ← c.as_slice-5.ensures) c.in_ok-links.ensures;
-      grouping_valid = rw (c.in_ok-items.ensures, c.is_grouped.ensures, c.in_ok-group_by.ensures, c.in_ok-aggs.ensures, c.as_slice-6.ensures, c.as_slice-7.ensures, c.requires.used) made.grouping;
-      output_valid = rw (c.in_ok-items.ensures, c.is_grouped.ensures, c.in_ok-group_by.ensures, c.in_ok-aggs.ensures, c.in_ok-output.ensures, c.as_slice-6.ensures, c.as_slice-7.ensures, c.as_slice-8.ensures, c.requires.used) made.output;
-      order_valid = rw (c.in_ok-items.ensures, c.is_grouped.ensures, c.in_ok-group_by.ensures, c.in_ok-aggs.ensures, c.in_ok-order.ensures, c.as_slice-6.ensures, c.as_slice-7.ensures, c.as_slice-9.ensures, c.requires.used) made.order;
+      items_valid = rw (c.in_ok-tables.ensures, c.in_ok-items.ensures, c.as_slice.ensures, c.as_slice-2.ensures, c.requires.used) made.items;
+      preds_valid = rw (c.in_ok-items.ensures, c.as_slice-2.ensures, c.in_ok-preds.ensures, c.as_slice-3.ensures, c.requires.used) made.preds;
+      links_valid = rw (← c.as_slice-4.ensures, ← c.as_slice-5.ensures, ← c.as_slice-6.ensures) c.in_ok-links.ensures;
+      grouping_valid = rw (c.in_ok-items.ensures, c.as_slice-2.ensures, c.is_grouped.ensures, c.in_ok-group_by.ensures, c.in_ok-aggs.ensures, c.as_slice-7.ensures, c.as_slice-8.ensures, c.requires.used) made.grouping;
+      output_valid = rw (c.in_ok-items.ensures, c.as_slice-2.ensures, c.is_grouped.ensures, c.in_ok-group_by.ensures, c.in_ok-aggs.ensures, c.in_ok-output.ensures, c.as_slice-7.ensures, c.as_slice-8.ensures, c.as_slice-9.ensures, c.requires.used) made.output;
+      order_valid = rw (c.in_ok-items.ensures, c.as_slice-2.ensures, c.is_grouped.ensures, c.in_ok-group_by.ensures, c.in_ok-aggs.ensures, c.in_ok-order.ensures, c.as_slice-7.ensures, c.as_slice-8.ensures, c.as_slice-10.ensures, c.requires.used) made.order;
       options_valid = c.requires.options;
     }

@@ -16,6 +16,7 @@ pub returns-in-Some : goal.returns-in-Some
 returns-in-Some c =
     let opens : is_open c.args.token.kind ≡ true = search rules in
     let parts : c.args.tokens.now.items ≡ c.pop.new.self.items ++ c.in-Some.last ∷ [] = search rules in
-    let changed : c.push-in-Some.new.self.items ≡ c.pop.new.self.items ++ called_token c.in-Some.last ∷ [] = search rules in
+    let changed : c.push-in-Some.new.self.items ≡ c.pop.new.self.items ++ called_token c.in-Some.last ∷ [] =
+    search rules in
     let pushed : c.push-in-Some-2.new.self.items ≡ c.push-in-Some.new.self.items ++ c.args.token ∷ [] = search rules in
     rw (pushed, changed, parts) (sym (added_open c.pop.new.self.items c.in-Some.last c.args.token opens))

@@ -6,5 +6,6 @@ use Rattle.sql_reader.proofs.lists.elements.Given as goal
 
 abbrev pub invariant-loop : goal.invariant-loop
 invariant-loop g l =
-    with_front l.elements (elements_at l.separator g.E.Element.begins g.E.Element.reads l.what (l.room - l.counter) l.rest)
-    ≡ elements_at l.separator g.E.Element.begins g.E.Element.reads l.what l.room l.tokens
+    with_front l.elements (elements_at l.separator g.E.Element.begins g.E.Element.reads l.what (l.room - l.counter)
+    l.tokens)
+    ≡ elements_at l.separator g.E.Element.begins g.E.Element.reads l.what l.room l.initial.tokens

@@ -1,6 +1,8 @@
 use Rattle.std.proofs.Common.{◌≡◌, ◌≤◌, ◌^◌, length, arith, rules}
+use Rattle.orca_base.specs.Checked.{Gives}
+use Rattle.sql_reader.specs.declared.faults.SqlFault.TheVariants.{Memory}
 use Rattle.sql_reader.specs.Reading.{parse_at}
-use Rattle.sql_reader.specs.Outcome.{first_bad, stuck_at, earlier, outcome, IsOutcome}
+use Rattle.sql_reader.specs.Outcome.{first_bad, stuck_at, earlier, outcome}
 use Rattle.sql_reader.proofs.Places.{rest_short}
 use Rattle.sql_reader.proofs.Outcomes.{right}
 use Rattle.sql_reader.proofs.OneOutcome.{ok_right, err_right}
@@ -17,10 +19,14 @@ returns-clause-ok c =
     let tokens = c.in_ok-tokens.tokens.items in
     let rest = c.in_ok-tokens.rest.now in
     let short : length text ≤ 2 ^ 16 = omega arith in
-    let before : c.earlier_fault-before.result ≡ earlier (first_bad 0 text) (stuck_at rest (length text)) = search rules in
-    let slice : c.as_slice.result.now ≡ tokens = search rules in
-    let answered : IsOutcome c.answer.result (outcome (earlier (first_bad 0 text) (stuck_at rest (length text))) (parse_at tokens) (length text)) = rw (before, slice) at c.answer.ensures in
-    ok_right text tokens rest c.in_ok-tokens.ensures short c.answer.result _ answered (right text tokens rest c.in_ok-tokens.ensures short)
+    let before : c.earlier_fault-before.result ≡ earlier (first_bad 0 text) (stuck_at rest (length text)) =
+    search rules in
+    let stream : c.of.result ≡ tokens = search rules in
+    let answered : Gives Memory (outcome (earlier (first_bad 0 text) (stuck_at rest (length text))) (parse_at tokens)
+    (length text)) c.answer.result =
+    rw (before, stream) at c.answer.ensures in
+    ok_right text tokens rest c.in_ok-tokens.ensures short c.answer.result _ answered
+    (right text tokens rest c.in_ok-tokens.ensures short)
 
 pub returns-clause-fault : goal.returns-clause-fault
 returns-clause-fault c =
@@ -28,10 +34,14 @@ returns-clause-fault c =
     let tokens = c.in_ok-tokens.tokens.items in
     let rest = c.in_ok-tokens.rest.now in
     let short : length text ≤ 2 ^ 16 = omega arith in
-    let before : c.earlier_fault-before.result ≡ earlier (first_bad 0 text) (stuck_at rest (length text)) = search rules in
-    let slice : c.as_slice.result.now ≡ tokens = search rules in
-    let answered : IsOutcome c.answer.result (outcome (earlier (first_bad 0 text) (stuck_at rest (length text))) (parse_at tokens) (length text)) = rw (before, slice) at c.answer.ensures in
-    err_right text tokens rest c.in_ok-tokens.ensures short c.answer.result _ answered (right text tokens rest c.in_ok-tokens.ensures short)
+    let before : c.earlier_fault-before.result ≡ earlier (first_bad 0 text) (stuck_at rest (length text)) =
+    search rules in
+    let stream : c.of.result ≡ tokens = search rules in
+    let answered : Gives Memory (outcome (earlier (first_bad 0 text) (stuck_at rest (length text))) (parse_at tokens)
+    (length text)) c.answer.result =
+    rw (before, stream) at c.answer.ensures in
+    err_right text tokens rest c.in_ok-tokens.ensures short c.answer.result _ answered
+    (right text tokens rest c.in_ok-tokens.ensures short)
 
 -- a reading is readable
 pub returns-clause-readable : goal.returns-clause-readable

@@ -9,7 +9,8 @@ use Rattle.xform_rules.proofs.results.meets.Goals as goal
 pub returns-in-SelectToIndexSeek : goal.returns-in-SelectToIndexSeek
 returns-in-SelectToIndexSeek c =
     let q = c.args.query.now in
-    let e = c.args.e in
-    let first = finds_some (IsUsableSelect q e 0) c.usable_index.result c.is_some-in-SelectToIndexSeek.result c.is_some-in-SelectToIndexSeek.ensures c.usable_index.ensures in
-    subst (λ rule. IsTrue c.is_some-in-SelectToIndexSeek.result ↔ Meets q rule e) (sym c.in-SelectToIndexSeek.is)
-    (λ yes. let (index, usable) = first.0 yes in (0, index, usable), λ (n, index, usable). first.1 (first_usable q e n index usable))
+    let group = c.args.group in
+    let from = c.args.from in
+    let first = finds_some (IsUsableSelect q group from 0) c.usable_index.result c.is_some-in-SelectToIndexSeek.result c.is_some-in-SelectToIndexSeek.ensures c.usable_index.ensures in
+    subst (λ rule. IsTrue c.is_some-in-SelectToIndexSeek.result ↔ Meets q rule group from) (sym c.in-SelectToIndexSeek.is)
+    (λ yes. let (index, usable) = first.0 yes in (0, index, usable), λ (n, index, usable). first.1 (first_usable q group from n index usable))

@@ -1,7 +1,0 @@
-use Rattle.std.proofs.Common.{take}
-use Rattle.plan_search.specs.Search.{AreThoseFor}
-use Rattle.plan_search.proofs.physical.those_for.Given as goal
-
--- those of the first so many
-abbrev pub invariant-loop-p : goal.invariant-loop-p
-invariant-loop-p l = AreThoseFor l.dist (take l.p-index l.list) l.those.items

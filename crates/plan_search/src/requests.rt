@@ -1,0 +1,168 @@
+//! The answers to all requests, each behind those that it stands on.
+#![tactic(auto)]
+
+ghost use Rattle.std.specs.Prelude.{ℕ, ◌≡◌, ◌<◌, ◌+◌, ◌*◌, IfOk, OnOk, MatchOption};
+ghost use Rattle.query_core.specs.declared.words.KeyParts.{KeyParts as Group};
+ghost use Rattle.query_core.specs.Keys.{IsGroup, key_number};
+ghost use Rattle.request_props.specs.Numbered.{IsProps};
+ghost use Rattle.xform_rules.specs.Closure.{IsClosureOf};
+ghost use Rattle.plan_search.specs.Places.{dist_place as dist_place_of, request_place};
+ghost use Rattle.plan_search.specs.Search.{AreAnswered, AreListedFor, HasRows};
+
+use crate::answers::Answers;
+use crate::best::answer;
+use crate::native::{Native, natives_of, those_for};
+use query_core::{KEYS, Key, KeyParts, Query, expressions_are_one, groups_are_known};
+use request_props::{Dist, Props, Request};
+use std::alloc::{AllocError, Global};
+use xform_rules::members_of;
+
+/// How many places there are for distributions, and for the orders with each.
+const DISTS: u32 = 64;
+
+const ORDERS: u32 = 64;
+
+/// The answers to all requests that fit their groups. `words` are those of the query's members.
+pub fn answer_all(
+    alloc: Global,
+    query: &Query,
+    props: &Props,
+    words: &[u64],
+) -> Result<Answers, AllocError>
+    requires props { IsProps query.now props.now }
+    requires closure { IsClosureOf query.now words.now }
+    ensures { IfOk result (λ answers. AreAnswered query.now answers (2050 * 4096)) }
+{
+    let mut answers = Answers::new(alloc);
+    for key in 0..KEYS {
+        answer_key(alloc, query, props, words, key, &mut answers)?;
+    }
+    Ok(answers)
+}
+
+/// Answers all requests that fit the group with this key, if there is one.
+fn answer_key(
+    alloc: Global,
+    query: &Query,
+    props: &Props,
+    words: &[u64],
+    key: u32,
+    answers: &mut Answers,
+) -> Result<(), AllocError>
+    requires props { IsProps query.now props.now }
+    requires closure { IsClosureOf query.now words.now }
+    requires answered { AreAnswered query.now answers.now (key * 4096) }
+    ensures { OnOk result (AreAnswered query.now answers.new ((key + 1) * 4096)) }
+{
+    match group_with(query, props, key) {
+        Some(group) => answer_group(alloc, query, props, words, group, answers),
+        None => Ok(()),
+    }
+}
+
+/// The query's group with this key, if it has one.
+fn group_with(query: &Query, props: &Props, key: u32) -> Option<KeyParts>
+    requires { IsProps query.now props.now }
+    ensures { MatchOption result ((g : Group) → IsGroup query.now g → key_number g ≡ key → ⊥)
+        (λ g. IsGroup query.now g × (key_number g ≡ key)) }
+{
+    if props.is_key(query, Key(key)) {
+        return Some(query.group(Key(key)));
+    }
+    None
+}
+
+/// Answers all requests that fit the group.
+fn answer_group(
+    alloc: Global,
+    query: &Query,
+    props: &Props,
+    words: &[u64],
+    group: KeyParts,
+    answers: &mut Answers,
+) -> Result<(), AllocError>
+    requires props { IsProps query.now props.now }
+    requires closure { IsClosureOf query.now words.now }
+    requires known { IsGroup query.now group }
+    requires answered { AreAnswered query.now answers.now (key_number group * 4096) }
+    ensures { OnOk result (AreAnswered query.now answers.new ((key_number group + 1) * 4096)) }
+{
+    groups_are_known();
+    let list = natives_of(alloc, query, props, group, members_of(query, words, group))?;
+    let count = props.group_rows(query, group);
+    for number in 0..DISTS {
+        let dist = dist_at(number);
+        let those = those_for(alloc, query, props, &list, dist)?;
+        answer_dist(query, props, &those, group, count, dist, answers)?;
+    }
+    Ok(())
+}
+
+/// Answers all requests for the distribution that fit the group.
+fn answer_dist(
+    query: &Query,
+    props: &Props,
+    list: &[Native],
+    group: KeyParts,
+    rows: u64,
+    dist: Dist,
+    answers: &mut Answers,
+) -> Result<(), AllocError>
+    requires props { IsProps query.now props.now }
+    requires known { IsGroup query.now group }
+    requires rows { HasRows query.now group rows }
+    requires listed { AreListedFor query.now group dist list.now }
+    requires dist { dist_place_of dist < 64 }
+    requires answered { AreAnswered query.now answers.now
+        (key_number group * 4096 + dist_place_of dist * 64) }
+    ensures { OnOk result (AreAnswered query.now answers.new
+        (key_number group * 4096 + (dist_place_of dist + 1) * 64)) }
+{
+    for order in 0..ORDERS {
+        let wanted = Request { dist, order };
+        answer_wanted(query, props, list, group, rows, wanted, answers)?;
+    }
+    Ok(())
+}
+
+/// Answers the request, if it fits the group.
+fn answer_wanted(
+    query: &Query,
+    props: &Props,
+    list: &[Native],
+    group: KeyParts,
+    rows: u64,
+    wanted: Request,
+    answers: &mut Answers,
+) -> Result<(), AllocError>
+    requires props { IsProps query.now props.now }
+    requires known { IsGroup query.now group }
+    requires rows { HasRows query.now group rows }
+    requires listed { AreListedFor query.now group wanted.dist list.now }
+    requires place { request_place wanted < 4096 }
+    requires order { wanted.order < 64 }
+    requires answered { AreAnswered query.now answers.now
+        (key_number group * 4096 + request_place wanted) }
+    ensures { OnOk result (AreAnswered query.now answers.new
+        (key_number group * 4096 + request_place wanted + 1)) }
+{
+    // For the proof: each request of a group has a place of its own.
+    groups_are_known();
+    expressions_are_one();
+    if props.fits(query, group, wanted) {
+        answer(query, props, list, group, rows, wanted, answers)?;
+    }
+    Ok(())
+}
+
+/// The distribution that has this place.
+fn dist_at(place: u32) -> Dist
+    ensures { dist_place_of result ≡ place }
+{
+    match place {
+        0 => Dist::Spread,
+        1 => Dist::One,
+        2 => Dist::Copies,
+        _ => Dist::Hashed(place - 3),
+    }
+}

@@ -1,0 +1,45 @@
+-- Numbers that no mode with a line has.
+use Rattle.std.proofs.Common.{◌≡◌, ℕ, ◌+◌, ◌<◌, ◌≤◌, refl, inl, inr, subst, arith}
+use Rattle.std.specs.Prelude.{Option, Some, None}
+use Rattle.std.proofs.lemmas.Bool.{cases_lt}
+use Rattle.query_core.specs.declared.expressions.PhysicalExpr.{PhysicalExpr}
+use Rattle.query_core.specs.declared.query.Query.{Query}
+use Rattle.request_props.specs.declared.request.Dist.TheVariants as dists
+use Rattle.plan_space.specs.Lines.{line_of}
+use Rattle.plan_space.specs.declared.lines.Line.{Line}
+use Rattle.plan_space.specs.declared.lines.LeftDist.TheVariants as left_dists
+use Rattle.plan_tree.specs.Walks.{AreNone, IsInBands}
+use Rattle.plan_tree.specs.declared.walks.Bands.{Bands}
+
+-- those that no band has
+pub none_beside : (q : Query) (e : PhysicalExpr) (b : Bands) (from below : ℕ) → ((mode : ℕ) (line : Line) → line_of q e mode ≡ Some line → IsInBands b mode)
+    → ((mode : ℕ) → from ≤ mode → mode < below → IsInBands b mode → ⊥) → AreNone q e from below
+none_beside q e b from below inside beside mode at within =
+    elim (line_of q e mode) as (λ (found : Option Line). line_of q e mode ≡ found → found ≡ None) [
+      | None ↦ λ is. refl
+      | Some line ↦ λ is. absurd (beside mode at within (inside mode line is))
+    ] refl
+
+-- one more, and those behind it
+pub none_more : (q : Query) (e : PhysicalExpr) (from mode next : ℕ) → AreNone q e from mode → line_of q e mode ≡ None → AreNone q e (mode + 1) next
+    → AreNone q e from next
+none_more q e from mode next before here after m at within = elim (cases_lt m mode) [
+  | inl earlier ↦ before m at earlier
+  | inr later ↦ elim (cases_lt mode m) [
+    | inl past ↦ after m (omega arith) within
+    | inr not_past ↦ let same : mode ≡ m = omega arith in subst (λ (k : ℕ). line_of q e k ≡ None) same here
+  ]
+]
+
+-- and all of them, where there are few
+pub none_at_all : (q : Query) (e : PhysicalExpr) (from mode : ℕ) → AreNone q e from mode → 192 ≤ mode
+    → ((m : ℕ) (line : Line) → line_of q e m ≡ Some line → m < 192) → (m : ℕ) → from ≤ m → line_of q e m ≡ None
+none_at_all q e from mode before far few m at =
+    elim (line_of q e m) as (λ (found : Option Line). line_of q e m ≡ found → found ≡ None) [
+      | None ↦ λ is. refl
+      | Some line ↦ λ is.
+          let within = few m line is in
+          let none = before m at (omega arith) in
+          let never : ⊥ = cc in
+          absurd never
+    ] refl

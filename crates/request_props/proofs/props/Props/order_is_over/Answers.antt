@@ -1,0 +1,17 @@
+use Rattle.std.proofs.Common.{◌≡◌, ◌≤◌, ◌<◌, ◌-◌, suc, ℕ, List, None, length, map, slice_index_or, refl, ap, sym, subst, arith}
+use Rattle.request_props.specs.Lying.{items_of, OrderLiesIn}
+use Rattle.request_props.specs.Numbered.{orders_of, order_of}
+use Rattle.query_core.specs.declared.words.KeyParts.TheVariants.{Join}
+use Rattle.request_props.proofs.Covering.{over_at, order_over}
+use Rattle.request_props.proofs.props.Props.order_is_over.Goals as goal
+
+-- the order is over the tables that were found
+pub returns-in-Some : goal.returns-in-Some
+returns-in-Some c =
+    let q = c.args.query.now in
+    let place = c.args.order - 1 in
+    let found = c.args.self.now.order_tables in
+    let known = c.requires.known_orders in
+    let inside : place < length found = grind arith in
+    let is : c.in-Some.tables.now ≡ slice_index_or found place None = grind arith in
+    order_over q c.args.order place c.args.set c.in-Some.tables.now c.covers.result (omega arith) found known inside is c.covers.ensures

@@ -1,0 +1,48 @@
+//! How many segments have rows that are given, or asked for.
+#![tactic(auto)]
+
+ghost use Rattle.std.specs.Prelude.{◌≡◌};
+ghost use Rattle.query_core.specs.declared.query.Query.{Query};
+ghost use Rattle.request_props.specs.Classes.{class_of as class_by_given, class_asked as class_by_asked};
+ghost use Rattle.request_props.specs.Satisfied.{Meets, Satisfies};
+ghost use Rattle.request_props.specs.declared.given.Given.{Given as AnyGiven};
+ghost use Rattle.request_props.specs.declared.given.GivenDist.{GivenDist as AnyGivenDist};
+ghost use Rattle.request_props.specs.declared.request.Dist.{Dist as AnyDist};
+ghost use Rattle.request_props.specs.declared.request.Request.{Request as AnyRequest};
+
+use crate::given::GivenDist;
+use crate::request::Dist;
+use cost_units::Class;
+
+/// The class of rows that are distributed so.
+pub fn class_of(dist: GivenDist) -> Class
+    ensures { result ≡ class_by_given dist }
+{
+    match dist {
+        GivenDist::One => Class::One,
+        GivenDist::Hashed(_) => Class::Spread,
+        GivenDist::Random => Class::Spread,
+        GivenDist::Copies => Class::Copies,
+    }
+}
+
+/// The class of rows that are asked for so.
+pub fn class_asked(dist: Dist) -> Class
+    ensures { result ≡ class_by_asked dist }
+{
+    match dist {
+        Dist::One => Class::One,
+        Dist::Spread => Class::Spread,
+        Dist::Copies => Class::Copies,
+        Dist::Hashed(_) => Class::Spread,
+    }
+}
+
+/// Rows that are distributed as asked are of the class that is asked for, so what satisfies a
+/// request is.
+pub fn classes_agree()
+    ensures met { (dist : AnyGivenDist) (asked : AnyDist) → Meets dist asked →
+        class_by_given dist ≡ class_by_asked asked }
+    ensures satisfied { (q : Query) (given : AnyGiven) (wanted : AnyRequest) →
+        Satisfies q given wanted → class_by_given given.dist ≡ class_by_asked wanted.dist }
+{}

@@ -1,0 +1,129 @@
+//! What a query implies, looked up. No call here takes memory.
+#![tactic(auto)]
+
+ghost use Rattle.std.specs.Prelude.{◌≡◌, ◌≤◌, ◌↔◌, IsTrue, None, slice_get};
+ghost use Rattle.std.specs.Option.{option_map, option_map_or};
+ghost use Rattle.query_core.specs.Crossing.{crossing_of, sides_of};
+ghost use Rattle.query_core.specs.Keys.{IsGroup, IsKey, Names};
+ghost use Rattle.query_core.specs.declared.words.KeyParts.{KeyParts as Group};
+ghost use Rattle.cardinality.specs.Rows.{rows_of};
+ghost use Rattle.request_props.specs.Numbered.{IsProps, side_of, both_sides, equality_of};
+ghost use Rattle.request_props.specs.Numbered.{table_dist as dist_of_table, group_order as order_of_groups};
+ghost use Rattle.request_props.specs.Numbered.{is_grouped_list as is_list_grouped};
+
+use crate::given::GivenDist;
+use crate::props::Props;
+use crate::sides::{Equality, Side};
+use query_core::{KEYS, Key, KeyParts, Query, groups_are_known};
+
+impl Props {
+    /// Whether the key names a group that this query can have.
+    pub fn is_key(&self, query: &Query, key: Key) -> bool
+        requires { IsProps query.now self.now }
+        ensures { IsTrue result ↔ IsKey query.now key }
+    {
+        groups_are_known();
+        key.0 < KEYS && self.keys.as_slice()[key.0 as usize]
+    }
+
+    /// The estimated rows of the group that the key names; 0 where the query has no such group.
+    pub fn rows(&self, query: &Query, key: Key) -> u64
+        requires { IsProps query.now self.now }
+        ensures value { (g : Group) → Names query.now key g → result ≡ rows_of query.now g }
+        ensures most { result ≤ 1000000000000 }
+    {
+        groups_are_known();
+        if key.0 < KEYS {
+            self.rows.as_slice()[key.0 as usize]
+        } else {
+            0
+        }
+    }
+
+    /// The estimated rows of a group.
+    pub fn group_rows(&self, query: &Query, group: KeyParts) -> u64
+        requires props { IsProps query.now self.now }
+        requires group { IsGroup query.now group }
+        ensures value { result ≡ rows_of query.now group }
+        ensures most { result ≤ 1000000000000 }
+    {
+        groups_are_known();
+        self.rows(query, Key::make(group))
+    }
+
+    /// The two columns that the predicate equates across the groups, that of the left group first.
+    pub fn crossing(
+        &self,
+        query: &Query,
+        left: KeyParts,
+        right: KeyParts,
+        pred: u32,
+    ) -> Option<(Side, Side)>
+        requires { IsProps query.now self.now }
+        ensures { result ≡
+            option_map (both_sides query.now) (crossing_of query.now left right pred) }
+    {
+        match self.equality(query, pred) {
+            Some(equality) => across(query, left, right, equality.left, equality.right),
+            None => None,
+        }
+    }
+
+    // Both sides of the predicate, where it is an equality of two items.
+    fn equality(&self, query: &Query, pred: u32) -> Option<Equality>
+        requires { IsProps query.now self.now }
+        ensures { result ≡
+            option_map_or (equality_of query.now) (slice_get query.now.preds pred) None }
+    {
+        match self.equalities.as_slice().get(pred as usize) {
+            Some(equality) => *equality,
+            None => None,
+        }
+    }
+
+    /// Where the rows of a table lie.
+    pub fn table_dist(&self, query: &Query, table: u32) -> GivenDist
+        requires { IsProps query.now self.now }
+        ensures { result ≡ dist_of_table query.now table }
+    {
+        match self.placings.as_slice().get(table as usize) {
+            Some(dist) => *dist,
+            None => GivenDist::Random,
+        }
+    }
+
+    /// Whether the list has a number, and all of its columns are in GROUP BY.
+    pub fn is_grouped_list(&self, query: &Query, list: u32) -> bool
+        requires { IsProps query.now self.now }
+        ensures { result ≡ is_list_grouped query.now list }
+    {
+        match self.grouped.as_slice().get(list as usize) {
+            Some(grouped) => *grouped,
+            None => false,
+        }
+    }
+
+    /// The number of the order of the GROUP BY columns, each ascending; 0 where there is none.
+    pub fn group_order(&self, query: &Query) -> u32
+        requires { IsProps query.now self.now }
+        ensures { result ≡ order_of_groups query.now }
+    {
+        self.by_groups
+    }
+}
+
+// The two sides of an equality, where one lies in each group.
+fn across(query: &Query, left: KeyParts, right: KeyParts, a: Side, b: Side) -> Option<(Side, Side)>
+    requires a { a ≡ side_of query.now a.column }
+    requires b { b ≡ side_of query.now b.column }
+    ensures { result ≡
+        option_map (both_sides query.now) (sides_of query.now left right a.column b.column) }
+{
+    if query.group_has_item(left, a.column) && query.group_has_item(right, b.column) {
+        return Some((a, b));
+    }
+    if query.group_has_item(left, b.column) && query.group_has_item(right, a.column) {
+        return Some((b, a));
+    }
+    None
+}

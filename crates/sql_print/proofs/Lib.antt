@@ -1,0 +1,11 @@
+pub mod CanonicalKinds
+pub mod CanonicalItems
+pub mod CanonicalParts
+pub mod CanonicalQueries
+pub mod Printed
+pub mod DecimalTexts
+pub mod Doubled
+pub mod CanonicalWords
+pub mod CanonicalItemTexts
+pub mod CanonicalTexts
+pub mod ReadsAgain

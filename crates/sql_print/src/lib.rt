@@ -1,0 +1,9 @@
+//! The canonical text of a query.
+#![tactic(auto)]
+
+mod printer;
+
+pub use printer::{print_sql, reads_again};
+
+#[cfg(test)]
+mod tests;
