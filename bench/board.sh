@@ -7,9 +7,9 @@
 # It proves nothing: it runs the program of board.txt on a copy of the repository by `rt try`, which compiles it with
 # checks of its memory. So the times are greater than those of a build that was proved, and fit for comparing.
 #
-# Usage: bench/board.sh [RUNS [BITS]]     3 20; BITS is of the greatest number of cells, from 10 to 20
+# Usage: bench/board.sh [RUNS [BITS]]     1 20; BITS is of the greatest number of cells, from 10 to 20
 set -eu
-runs=${1:-3} bits=${2:-20}
+runs=${1:-1} bits=${2:-20}
 from=$(cd "$(dirname "$0")/.." && pwd)
 copy=$(mktemp -d)
 trap 'rm -rf "$copy"' EXIT
@@ -24,4 +24,4 @@ mkdir -p "$copy/crates/board_bench/src"
 cp "$from/bench/board.txt" "$copy/crates/board_bench/src/main.rt"
 cd "$copy/crates/board_bench"
 echo 'Times of a build with checks (rt try), which a build that was proved does without:'
-rt try --seconds 100000 -- "$runs" "$bits"
+rt try --seconds 3600 -- "$runs" "$bits"

@@ -1,14 +1,18 @@
 #!/bin/sh
 # Many threads on one board of goals, at more seeds than a test has time for.
 #
-# 2, 4 and 16 threads (of these, up to THREADS) each put the same WORDS words into a board with a cell for each, each in
+# 2, 4 and 16 threads (of these, up to THREADS) each put the same WORDS words into a board that holds them all, each in
 # an order of its own; then each word must stand in one cell, and must have been fresh once. And 1, 2, 3, 4, 8 and 16
 # threads serve a thousand goals with drawn children, each with its own scans, with pauses of drawn lengths between
 # their calls; then all goals must be finished, with the answers that a plain loop makes, each claim must have ended
 # once, and as many goals must have been made ready as were suspended while they waited.
 #
+# At odd seeds there are pauses within the calls too: the copy of goal_board that is run calls the rules before each
+# kind of step but plain looks and claims, and there the rules pause.
+#
 # It proves nothing: it runs the program of board_stress.txt on a copy of the repository by `rt try`, compiled with
-# checks of its memory. It prints what it counted, and ends with status 1 where anything differs.
+# checks of its memory. It prints what it counted, and ends with status 1 where anything differs, and with
+# another than 0 where a run does not end.
 #
 # Usage: tools/board_stress.sh [THREADS [WORDS [SEEDS [FIRST]]]]     16 10000 3 1; the long form is 16 10000 1000
 set -eu
@@ -25,5 +29,7 @@ echo 'board_stress: goal_board board_rule word_table atomic_table orca_base' >>"
 cp "$from/HANDLES" "$copy"
 mkdir -p "$copy/crates/board_stress/src"
 cp "$from/tools/board_stress.txt" "$copy/crates/board_stress/src/main.rt"
+sed -i '/fn hold(/,/^    }/!s/^        self\.table$/        self.key.rules.rank(0);\n&/' \
+  "$copy/crates/goal_board/src/steps.rt" "$copy/crates/goal_board/src/wait_steps.rt"
 cd "$copy/crates/board_stress"
-rt try --seconds 100000 -- "$threads" "$words" "$seeds" "$first"
+rt try --seconds $((300 + seeds * 60)) -- "$threads" "$words" "$seeds" "$first"
