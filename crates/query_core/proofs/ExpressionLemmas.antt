@@ -1,5 +1,5 @@
 -- Laws of group expressions and their words.
-use Rattle.std.proofs.Common.{◌≡◌, ℕ, ◌+◌, ◌*◌, ◌/◌, ◌%◌, ◌≤◌, ◌<◌, ◌^◌, refl, ap, sym, ◌∙◌, ◌↔◌, arith}
+use Rattle.std.proofs.Common.{◌≡◌, ℕ, ◌*◌, ◌/◌, ◌%◌, ◌≤◌, ◌<◌, ◌^◌, refl, ap, sym, ◌∙◌, ◌↔◌, arith}
 use Rattle.query_core.specs.Keys.{key_number, IsInRange}
 use Rattle.query_core.specs.Expressions.{fields, logical_fields, physical_fields, fields_of, left_number, right_number, packed, word_of, AreInRange, IsPacked}
 use Rattle.query_core.specs.declared.words.KeyParts.{KeyParts}

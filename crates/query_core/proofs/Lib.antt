@@ -12,3 +12,4 @@ pub mod Joins
 pub mod GroupKinds
 pub mod Unions
 pub mod Apart
+pub mod GoalLemmas

@@ -10,6 +10,7 @@ pub mod Grouping
 pub mod Results
 pub mod Keys
 pub mod Expressions
+pub mod Goals
 pub mod Candidates
 pub mod ByKind
 pub mod Crossing

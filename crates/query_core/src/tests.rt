@@ -334,3 +334,28 @@ fn equalities_cross_groups_both_ways(rt: HostRuntime) -> Result<(), Fail> {
     assert_eq!(rt; query.crossing_groups(filtered, last, 2), None);
     Ok(())
 }
+
+// The kind from bit 60 on, the subject from bit 12 on, then the rule's number or the request's code.
+#[test]
+fn goals_are_told_by_their_words(rt: HostRuntime) -> Result<(), Fail> {
+    let root = GoalParts::Opt(Key(1027), 1);
+    assert_eq!(rt; Goal::make(root), Goal(14987979559893217281));
+    assert_eq!(rt; Goal(14987979559893217281).parts(), Some(root));
+    let commute = GoalParts::Xf(Expr(0x403400002002), 2);
+    assert_eq!(rt; Goal::make(commute), Goal(0xa403400002002002));
+    assert_eq!(rt; Goal(0xa403400002002002).parts(), Some(commute));
+    let no_request = GoalParts::Opt(Key(1027), 61);
+    assert_eq!(rt; Goal(0xd00000000040303d).parts(), Some(no_request));
+    // A rule 15 and a rule 0, a kind 7, a subject that is no key, a detail where none belongs, and no goal's first bit.
+    for word in [
+        0xa40340000200200f,
+        0xa403400002002000,
+        0xf000000000000000,
+        0x8000000001000000,
+        0x8000000000001001,
+        1,
+    ] {
+        assert!(rt; Goal(word).parts().is_none());
+    }
+    Ok(())
+}

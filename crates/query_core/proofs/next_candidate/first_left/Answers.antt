@@ -1,4 +1,4 @@
-use Rattle.std.proofs.Common.{ap, ◌∙◌, subst, sym, ◌≡◌, ◌+◌, ◌<◌, arith}
+use Rattle.std.proofs.Common.{ap, ◌∙◌, arith}
 use Rattle.query_core.specs.Expressions.{word_of}
 use Rattle.query_core.specs.ByKind.{expr}
 use Rattle.query_core.specs.declared.words.KeyParts.TheVariants.{Join}

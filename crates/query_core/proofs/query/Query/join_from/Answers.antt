@@ -1,7 +1,5 @@
 use Rattle.std.proofs.Common.{arith, sym, subst, ap, ◌∙◌, ◌≡◌}
 use Rattle.query_core.specs.declared.words.KeyParts.TheVariants.{Join}
-use Rattle.query_core.specs.declared.words.KeyParts.{KeyParts}
-use Rattle.query_core.specs.declared.expressions.ExprParts.{ExprParts}
 use Rattle.query_core.specs.Keys.{IsInRange, top_of}
 use Rattle.query_core.specs.Expressions.{FallsInto, IsPacked}
 use Rattle.query_core.specs.ByKind.{expr, join_by, join, IsJoinAt}
