@@ -6,20 +6,21 @@ use Rattle.query_core.specs.Keys.{key_number, IsGroup}
 use Rattle.query_core.specs.declared.query.Query.{Query}
 use Rattle.query_core.specs.declared.words.KeyParts.{KeyParts}
 use Rattle.xform_rules.specs.Closure.{IsMember}
-use Rattle.cost_units.specs.Cost.{most_cost}
 use Rattle.request_props.specs.Numbered.{IsProps}
 use Rattle.request_props.specs.declared.props.Props.{Props}
 use Rattle.request_props.specs.declared.request.Request.{Request}
 use Rattle.request_props.specs.Fitting.{Fits}
 use Rattle.plan_space.specs.Nodes.{Tree}
 use Rattle.plan_space.specs.Least.{HasNoPlan}
-use Rattle.plan_search.specs.declared.answers.Answers.{Answers}
+use Rattle.plan_search.specs.declared.kept_plans.KeptPlans.{KeptPlans}
 use Rattle.plan_search.specs.declared.choice.Choice.{Choice}
-use Rattle.plan_search.specs.Places.{place_of, most_nodes}
+use Rattle.plan_space.specs.Cost.{most_of_all}
+use Rattle.plan_space.specs.Laws.{LeastCostsFit}
+use Rattle.plan_search.specs.Places.{place_of}
 use Rattle.plan_search.specs.Search.{IsKept, IsAnswered, AreAnswered, kept_at, cost_at}
-use Rattle.plan_search.proofs.Bounds.{request_small}
+use Rattle.plan_search.proofs.RequestPlaces.{request_small}
 
-module _ (q : Query) (answers : Answers) where
+module _ (q : Query) (answers : KeptPlans) where
   module _ (g : KeyParts) (r : Request) where
     -- there is no plan, and none stands there
     pub none_case : IsAnswered q answers g r → kept_at answers (place_of g r) ≡ None → HasNoPlan (IsMember q) q g r
@@ -34,11 +35,11 @@ module _ (q : Query) (answers : Answers) where
         let equal : other ≡ kept = cc in
         (is.0, subst (λ k. IsKept q answers g r k is.0) equal is.1)
 
-    -- what stands there costs no more than so many nodes may
-    pub cost_small : IsAnswered q answers g r → cost_at answers (place_of g r) ≤ most_cost * most_nodes g r
-    cost_small (None, at, is) = subst (λ a. option_map_or (λ kept. kept.cost) (option_and_then (λ answer. answer) a) 0 ≤ most_cost * most_nodes g r) (sym at) (omega arith)
-    cost_small (Some kept, at, is) = subst (λ a. option_map_or (λ k. k.cost) (option_and_then (λ answer. answer) a) 0 ≤ most_cost * most_nodes g r) (sym at)
-        (omega (arith, is.1.cost, is.1.small))
+    -- what stands there costs no more than any plan
+    pub cost_small : LeastCostsFit q → Fits q g r → IsAnswered q answers g r → cost_at answers (place_of g r) ≤ most_of_all
+    cost_small costs fits (None, at, is) = subst (λ a. option_map_or (λ kept. kept.cost) (option_and_then (λ answer. answer) a) 0 ≤ most_of_all) (sym at) (omega arith)
+    cost_small costs fits (Some kept, at, is) = subst (λ a. option_map_or (λ k. k.cost) (option_and_then (λ answer. answer) a) 0 ≤ most_of_all) (sym at)
+        (omega (arith, is.1.cost, costs g r is.0 fits is.1.least))
 
   module _ (props : Props) (is_props : IsProps q props) (group : KeyParts) (wanted : Request) (answered : AreAnswered q answers (place_of group wanted)) where
     -- a request of a group with a lesser key comes before

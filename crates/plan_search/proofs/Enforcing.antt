@@ -18,43 +18,35 @@ use Rattle.plan_space.specs.declared.nodes.NodeKind.TheVariants as nodes
 use Rattle.plan_space.specs.Nodes.{number_of, Tree, over}
 use Rattle.plan_space.specs.Lines.{request}
 use Rattle.plan_space.specs.Gives.{kid_of}
-use Rattle.plan_space.specs.Cost.{shape_of}
+use Rattle.plan_space.specs.Cost.{shape_of, most_of_all}
 use Rattle.plan_space.specs.Enforcers.{EnforcedBy, enforced, enforcers_by, enforcers_of, Among}
 use Rattle.plan_space.specs.Choices.{Beats, IsEnforcerSettled, enforced_choice}
-use Rattle.plan_space.specs.Laws.{ChoicesServe}
+use Rattle.plan_space.specs.Laws.{ChoicesServe, EnforcersAskWhatFits, LeastCostsFit}
 use Rattle.plan_tree.specs.declared.node.Node.{Node}
 use Rattle.plan_tree.specs.Nodes as kinds
 use Rattle.plan_tree.specs.Costs.{IsCostAmong}
 use Rattle.plan_tree.specs.Enforcers.{IsEnforced}
 use Rattle.plan_tree.specs.declared.enforcers.Enforced.{Enforced}
-use Rattle.plan_search.specs.declared.answers.Answers.{Answers}
+use Rattle.plan_search.specs.declared.kept_plans.KeptPlans.{KeptPlans}
 use Rattle.plan_search.specs.declared.choice.PlansBelow.{PlansBelow}
 use Rattle.plan_search.specs.declared.choice.Choice.{Choice}
-use Rattle.plan_search.specs.Places.{place_of, most_nodes, most_of_all}
+use Rattle.plan_search.specs.Places.{place_of}
 use Rattle.plan_search.specs.Search.{IsAnswered, AreAnswered, IsChosen, kept_at, cost_at, choice_over, IsPlanAt, cheaper_of, GoesOverPlace, GoesOverEnforcers, IsPlaceSettled, AreEnforcersSettled, enforcer_number}
-use Rattle.plan_search.proofs.Bounds.{all_nodes}
 use Rattle.plan_search.proofs.EnforcerNumbers.{among_at, next_number_at, two_numbers}
 use Rattle.plan_search.proofs.Answered.{none_case, some_case, cost_small}
 use Rattle.plan_search.proofs.Scanning.{IsOrder, IsStable, goes_on, goes_as, goes_to, goes_from, goes_not, goes_by_one, enforcer_stable}
 
--- what an enforcer for the request asks for fits the group, comes before it, and has a node less
+-- what an enforcer for the request asks for comes before it, and the enforcer has a number of its own
 pub record IsBelow (q : Query) (group : KeyParts) (wanted : Request) (e : EnforcedBy) : Type 0 where
   pub place : place_of group e.below < place_of group wanted
-  pub fits : Fits q group e.below
   pub in_range : kinds.EnforcerInRange e.node
   pub small : number_of (nodes.Enforcer e.node) < 2 ^ 56
-  pub nodes : 1 + most_nodes group e.below ≤ most_nodes group wanted
-
-empty_lies : (q : Query) (group : KeyParts) → OrderLiesIn q group []
-empty_lies q group k d below = absurd (omega (arith, below))
 
 module _ (q : Query) (props : Props) (is_props : IsProps q props) (group : KeyParts) where
   -- a sort, over the same distribution in no order
   sort_below : (dist : Dist) (o : ℕ) (e : EnforcedBy) → Fits q group (request dist (suc o)) → e ≡ enforced (enforcing.Sort (suc o)) (request dist 0) → IsBelow q group (request dist (suc o)) e
   sort_below dist o e fits is = subst (IsBelow q group (request dist (suc o))) (sym is) (record {
     place = omega arith;
-    nodes = omega arith;
-    fits = record { dist = fits.dist; numbered = omega arith; order = empty_lies q group };
     in_range = record { some = omega arith; few = omega (arith, fits.numbered, is_props.few_orders) };
     small = omega (arith, fits.numbered, is_props.few_orders);
   })
@@ -62,8 +54,6 @@ module _ (q : Query) (props : Props) (is_props : IsProps q props) (group : KeyPa
   pub below_facts : (dist : Dist) (order : ℕ) (e : EnforcedBy) → Fits q group (request dist order) → Among e (enforcers_by dist order) → IsBelow q group (request dist order) e
   below_facts One zero e fits (inl is) = subst (IsBelow q group (request One 0)) (sym is) (record {
     place = omega arith;
-    nodes = omega arith;
-    fits = record { dist = tt; numbered = omega arith; order = empty_lies q group };
     in_range = tt;
     small = omega arith;
   })
@@ -71,16 +61,12 @@ module _ (q : Query) (props : Props) (is_props : IsProps q props) (group : KeyPa
   below_facts Spread zero e fits none = absurd none
   below_facts Copies zero e fits (inl is) = subst (IsBelow q group (request Copies 0)) (sym is) (record {
     place = omega arith;
-    nodes = omega arith;
-    fits = record { dist = tt; numbered = omega arith; order = empty_lies q group };
     in_range = tt;
     small = omega arith;
   })
   below_facts Copies zero e fits (inr none) = absurd none
   below_facts (Hashed list) zero e fits (inl is) = subst (IsBelow q group (request (Hashed list) 0)) (sym is) (record {
     place = omega arith;
-    nodes = omega arith;
-    fits = record { dist = tt; numbered = omega arith; order = empty_lies q group };
     in_range = omega (arith, fits.dist.numbered, is_props.few_lists);
     small = omega (arith, fits.dist.numbered, is_props.few_lists);
   })
@@ -88,8 +74,6 @@ module _ (q : Query) (props : Props) (is_props : IsProps q props) (group : KeyPa
   below_facts One (suc o) e fits (inl is) = sort_below One o e fits is
   below_facts One (suc o) e fits (inr (inl is)) = subst (IsBelow q group (request One (suc o))) (sym is) (record {
     place = omega arith;
-    nodes = omega arith;
-    fits = record { dist = tt; numbered = fits.numbered; order = fits.order };
     in_range = record { some = omega arith; few = omega (arith, fits.numbered, is_props.few_orders) };
     small = omega (arith, fits.numbered, is_props.few_orders);
   })
@@ -101,7 +85,7 @@ module _ (q : Query) (props : Props) (is_props : IsProps q props) (group : KeyPa
   below_facts (Hashed list) (suc o) e fits (inl is) = sort_below (Hashed list) o e fits is
   below_facts (Hashed list) (suc o) e fits (inr none) = absurd none
 
-module _ (q : Query) (answers : Answers) (group : KeyParts) (wanted : Request) where
+module _ (q : Query) (answers : KeptPlans) (group : KeyParts) (wanted : Request) where
   pub place_stable : (n : ℕ) → IsStable q (IsPlaceSettled q group wanted n)
   place_stable n best other improves settled e is = enforcer_stable q group e best other improves (settled e is)
 
@@ -141,15 +125,18 @@ module _ (q : Query) (answers : Answers) (group : KeyParts) (wanted : Request) w
       old new newer (place_stable 0) first second)))
 
   module _ (props : Props) (is_props : IsProps q props) (known : IsGroup q group) (fits : Fits q group wanted) (answered : AreAnswered q answers (place_of group wanted))
-      (n : ℕ) (e : EnforcedBy) (is_at : slice_get (enforcers_of wanted) n ≡ Some e) where
+      (asks : EnforcersAskWhatFits q) (n : ℕ) (e : EnforcedBy) (is_at : slice_get (enforcers_of wanted) n ≡ Some e) where
     pub among : Among e (enforcers_of wanted)
     among = among_at (enforcers_of wanted) n e is_at
 
     pub facts : IsBelow q group wanted e
     facts = below_facts q props is_props group wanted.dist wanted.order e fits among
 
+    below_fits : Fits q group e.below
+    below_fits = asks group wanted e fits among
+
     pub below_answered : IsAnswered q answers group e.below
-    below_answered = answered group e.below known facts.fits facts.place
+    below_answered = answered group e.below known below_fits facts.place
 
     numbers : (enforcer_number wanted n ≡ number_of (nodes.Enforcer e.node)) × (number_of (nodes.Enforcer e.node) + 1 ≤ enforcer_number wanted (n + 1))
     numbers = next_number_at wanted n e (omega (arith, fits.numbered, is_props.few_orders)) is_at facts.small
@@ -158,8 +145,8 @@ module _ (q : Query) (answers : Answers) (group : KeyParts) (wanted : Request) w
     only_this best settled other is = let same : Some e ≡ Some other = sym is_at ∙ is in let equal : e ≡ other = cc in subst (λ x. IsEnforcerSettled (IsMember q) q group x best) equal settled
 
     -- the plan below costs no more than any plan
-    pub below_small : IsInRange group → cost_at answers (place_of group e.below) ≤ most_of_all
-    below_small range = omega (arith, cost_small q answers group e.below below_answered, facts.nodes, all_nodes group wanted range)
+    pub below_small : LeastCostsFit q → cost_at answers (place_of group e.below) ≤ most_of_all
+    below_small costs = cost_small q answers group e.below costs below_fits below_answered
 
     -- where what it asks for has no plan
     pub lacking_goes : (best : Option Choice) → kept_at answers (place_of group e.below) ≡ None → GoesOverPlace q answers group wanted n best best
@@ -168,10 +155,10 @@ module _ (q : Query) (answers : Answers) (group : KeyParts) (wanted : Request) w
         (λ tree. only_this tree (inr (none_case q answers group e.below below_answered none)))
 
     -- the enforcer is offered over the plan for what it asks
-    pub enforcer_goes : IsOrder q → ChoicesServe q → (node : Node) → kinds.IsNode node (nodes.Enforcer e.node) → (local : ℕ) → local ≤ most_cost → IsCostAmong q e.node group wanted local
+    pub enforcer_goes : IsOrder q → ChoicesServe q → (node : Node) → kinds.IsNode node (nodes.Enforcer e.node) → (local : ℕ) → IsCostAmong q e.node group wanted local
         → (below : PlansBelow) (old : Option Choice) → IsPlanAt answers (place_of group e.below) below
         → GoesOverPlace q answers group wanted n old (Some (cheaper_of old (choice_over node local below)))
-    enforcer_goes order serve node is_node local small cost below old (kept, at, is) =
+    enforcer_goes order serve node is_node local cost below old (kept, at, is) =
         let found = some_case q answers group e.below kept below_answered at in
         let kid = found.0 in
         let holds = found.1 in
@@ -185,7 +172,6 @@ module _ (q : Query) (answers : Answers) (group : KeyParts) (wanted : Request) w
           built = (kid, facts.place, holds.stands, refl);
           serves = serve group wanted plan fits (enforced_choice e kid among holds.least refl);
           cost = omega (arith, local_is, holds.cost);
-          small = omega (arith, small, local_is, holds.small, facts.nodes);
         }) in
         goes_from q answers group wanted (enforcer_number wanted n) (number_of (nodes.Enforcer e.node)) (enforcer_number wanted (n + 1)) (IsPlaceSettled q group wanted n) old (Some (cheaper_of old choice))
         (omega (arith, numbers.0))

@@ -23,18 +23,18 @@ use Rattle.plan_space.specs.Enforcers.{enforcers_of}
 use Rattle.plan_space.specs.Choices.{BestServes, IsModeSettled}
 use Rattle.plan_space.specs.Laws.{SettledIsLeast}
 use Rattle.plan_search.proofs.Answered.{some_case}
-use Rattle.plan_search.specs.declared.answers.Answers.{Answers}
+use Rattle.plan_search.specs.declared.kept_plans.KeptPlans.{KeptPlans}
 use Rattle.plan_search.specs.declared.choice.Choice.{Choice}
 use Rattle.plan_search.specs.declared.native.Native.{Native}
 use Rattle.plan_search.specs.Places.{dist_place, request_place, place_of}
-use Rattle.plan_search.specs.Search.{kept_at, IsKept, IsAnswerFor, answer_at, AreAnswered, IsBest, IsBestSoFar, GoesOverEnforcers, GoesOverAll, AreEnforcersSettled, AreListedFor, AreSettledIn, HasMode}
-use Rattle.plan_search.proofs.Bounds.{request_small}
+use Rattle.plan_search.specs.Search.{kept_at, IsKept, IsAnswerFor, answer_at, AreAnswered, IsBestChoice, IsBestSoFar, GoesOverEnforcers, GoesOverAll, AreEnforcersSettled, AreListedFor, AreSettledIn, HasMode}
+use Rattle.plan_search.proofs.RequestPlaces.{request_small}
 use Rattle.plan_search.proofs.Able.{serves_gives}
 use Rattle.plan_search.proofs.Standing.{stands_on, built_stands}
 use Rattle.plan_search.proofs.Scanning.{IsStable, goes_on, enforcer_stable}
 use Rattle.query_core.specs.Expressions.{physical_children}
 
-module _ (q : Query) (answers : Answers) (group : KeyParts) (wanted : Request) where
+module _ (q : Query) (answers : KeptPlans) (group : KeyParts) (wanted : Request) where
   -- the best so far meets the request
   best_serves : (choice : Option Choice) (best : Option Tree) → IsBestSoFar q answers group wanted choice best → BestServes (IsMember q) q group wanted best
   best_serves None None is = tt
@@ -54,7 +54,7 @@ module _ (q : Query) (answers : Answers) (group : KeyParts) (wanted : Request) w
   -- once all nodes are offered, the best is the least plan, and where there is none there is no plan
   pub best_is_answer : (list : List Native) (some all : Option Choice) → SettledIsLeast q → Fits q group wanted → AreListedFor q group wanted.dist list
       → GoesOverEnforcers q answers group wanted None some → GoesOverAll q answers group wanted list some all
-      → IsBest q answers group wanted all
+      → IsBestChoice q answers group wanted all
   best_is_answer list some all least fits listed first second =
       let both = goes_on q answers group wanted 0 (2 ^ 56) (2 ^ 57) (AreEnforcersSettled q group (enforcers_of wanted)) (AreSettledIn q wanted list) None some all enforcers_stable first second None tt tt in
       let best = both.0 in (
@@ -69,8 +69,8 @@ module _ (q : Query) (answers : Answers) (group : KeyParts) (wanted : Request) w
       )
 
   -- the best choice, put at the request's place, is its answer
-  pub best_answers : (new : Answers) (choice : Option Choice) → ((place : ℕ) → place < place_of group wanted → answer_at new place ≡ answer_at answers place)
-      → answer_at new (place_of group wanted) ≡ Some choice → IsBest q answers group wanted choice → IsAnswerFor q new group wanted choice
+  pub best_answers : (new : KeptPlans) (choice : Option Choice) → ((place : ℕ) → place < place_of group wanted → answer_at new place ≡ answer_at answers place)
+      → answer_at new (place_of group wanted) ≡ Some choice → IsBestChoice q answers group wanted choice → IsAnswerFor q new group wanted choice
   best_answers new None kept at (None, is, answer) = answer
   best_answers new None kept at (Some tree, is, answer) = absurd is
   best_answers new (Some choice) kept at (None, is, answer) = absurd is
@@ -80,16 +80,15 @@ module _ (q : Query) (answers : Answers) (group : KeyParts) (wanted : Request) w
       stands = built_stands answers new (place_of group wanted) kept choice choice.kids node tree refl (record { at = at; is_node = chosen.is_node }) chosen.built;
       least = answer;
       cost = chosen.cost;
-      small = chosen.small;
     },
   )
 
 -- an answer stays one where what stands before a greater place stays
-answer_stays : (q : Query) (old new : Answers) (bound : ℕ) → ((place : ℕ) → place < bound → answer_at new place ≡ answer_at old place) → (g : KeyParts) (r : Request)
+answer_stays : (q : Query) (old new : KeptPlans) (bound : ℕ) → ((place : ℕ) → place < bound → answer_at new place ≡ answer_at old place) → (g : KeyParts) (r : Request)
     → place_of g r < bound → (answer : Option Choice) → IsAnswerFor q old g r answer → IsAnswerFor q new g r answer
 answer_stays q old new bound kept g r before None is = is
 answer_stays q old new bound kept g r before (Some choice) (tree, is) =
-    (tree, record { stands = stands_on old new bound kept tree (place_of g r) before is.stands; least = is.least; cost = is.cost; small = is.small })
+    (tree, record { stands = stands_on old new bound kept tree (place_of g r) before is.stands; least = is.least; cost = is.cost })
 
 differ : (x y : ℕ) → (x ≡ y → ⊥) → is_eq (nat_cmp x y) ≡ false
 differ x y not_same = elim (cases_order x y) [
@@ -141,8 +140,8 @@ module _ (q : Query) (props : Props) (is_props : IsProps q props) (in_range : (g
       )
 
   -- one more answer
-  pub answered_more : (old new : Answers) (group : KeyParts) (wanted : Request) (choice : Option Choice) → IsGroup q group → Fits q group wanted → AreAnswered q old (place_of group wanted)
-      → IsBest q old group wanted choice → Updates nat_cmp old.map new.map (place_of group wanted) (Some choice) → AreAnswered q new (place_of group wanted + 1)
+  pub answered_more : (old new : KeptPlans) (group : KeyParts) (wanted : Request) (choice : Option Choice) → IsGroup q group → Fits q group wanted → AreAnswered q old (place_of group wanted)
+      → IsBestChoice q old group wanted choice → Updates nat_cmp old.map new.map (place_of group wanted) (Some choice) → AreAnswered q new (place_of group wanted + 1)
   answered_more old new group wanted choice known fits answered best updates g r known_too fits_too less =
       let others : (place : ℕ) → place < place_of group wanted → answer_at new place ≡ answer_at old place =
       λ place before. updates.2 place (differ (place_of group wanted) place (λ is. omega (arith, before, is))) in
@@ -161,7 +160,7 @@ module _ (q : Query) (props : Props) (is_props : IsProps q props) (in_range : (g
       ]
 
   -- a request that doesn't fit has a place that no other has, so all before the next place are answered
-  pub answered_past : (answers : Answers) (group : KeyParts) (at : Request) → IsGroup q group → request_place at < 4096 → at.order < 64
+  pub answered_past : (answers : KeptPlans) (group : KeyParts) (at : Request) → IsGroup q group → request_place at < 4096 → at.order < 64
       → (Fits q group at → ⊥) → AreAnswered q answers (key_number group * 4096 + request_place at) → AreAnswered q answers (key_number group * 4096 + request_place at + 1)
   answered_past answers group at known few small fits_not answered g r known_too fits less =
       let small_too = request_small q g props r is_props fits in
@@ -175,7 +174,7 @@ module _ (q : Query) (props : Props) (is_props : IsProps q props) (in_range : (g
       ]
 
 -- where no group has the key, all below the next key are answered
-pub answered_key : (q : Query) (props : Props) → IsProps q props → (answers : Answers) (key : ℕ) → ((g : KeyParts) → IsGroup q g → key_number g ≡ key → ⊥)
+pub answered_key : (q : Query) (props : Props) → IsProps q props → (answers : KeptPlans) (key : ℕ) → ((g : KeyParts) → IsGroup q g → key_number g ≡ key → ⊥)
     → AreAnswered q answers (key * 4096) → AreAnswered q answers ((key + 1) * 4096)
 answered_key q props is_props answers key none answered g r known fits less =
     let small = request_small q g props r is_props fits in
@@ -194,7 +193,7 @@ key_small groups.Partial range = omega arith
 key_small groups.Agg range = omega arith
 
 -- the plan that stands at the root's request is the query's least
-pub root_found : (q : Query) (props : Props) → IsProps q props → (answers : Answers) (kept : Choice) (group : KeyParts) (wanted : Request)
+pub root_found : (q : Query) (props : Props) → IsProps q props → (answers : KeptPlans) (kept : Choice) (group : KeyParts) (wanted : Request)
     → AreAnswered q answers (2050 * 4096) → IsGroup q group → IsInRange group → Fits q group wanted → kept_at answers (place_of group wanted) ≡ Some kept
     → (tree : Tree) × IsKept q answers group wanted kept tree
 root_found q props is_props answers kept group wanted answered known range fits at =

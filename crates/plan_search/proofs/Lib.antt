@@ -1,7 +1,7 @@
 pub mod WordLists
 pub mod Growing
 pub mod Scanning
-pub mod Bounds
+pub mod RequestPlaces
 pub mod Standing
 pub mod Answered
 pub mod Asked

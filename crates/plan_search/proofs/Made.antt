@@ -6,7 +6,7 @@ use Rattle.query_core.specs.declared.query.Query.{Query}
 use Rattle.query_core.specs.declared.words.KeyParts.{KeyParts}
 use Rattle.query_core.specs.declared.expressions.PhysicalExpr.{PhysicalExpr}
 use Rattle.xform_rules.specs.Closure.{IsMember}
-use Rattle.cost_units.specs.Cost.{most_cost, local_cost}
+use Rattle.cost_units.specs.Cost.{local_cost}
 use Rattle.request_props.specs.declared.request.Request.{Request}
 use Rattle.plan_space.specs.declared.nodes.NodeKind.TheVariants as nodes
 use Rattle.plan_space.specs.Nodes.{leaf, over, two}
@@ -15,7 +15,7 @@ use Rattle.plan_space.specs.Cost.{shape_of}
 use Rattle.plan_space.specs.Alternatives.{asked_of, KidsServe}
 use Rattle.plan_space.specs.Choices.{groups_of, AreLeast, LacksOne, native_choice}
 use Rattle.plan_space.specs.Laws.{AreOf}
-use Rattle.plan_search.specs.declared.answers.Answers.{Answers}
+use Rattle.plan_search.specs.declared.kept_plans.KeptPlans.{KeptPlans}
 use Rattle.plan_search.specs.declared.choice.PlansBelow.{PlansBelow}
 use Rattle.plan_search.specs.declared.choice.Kids.TheVariants as kids
 use Rattle.plan_tree.specs.declared.alternatives.Alt.{Alt}
@@ -24,15 +24,14 @@ use Rattle.plan_search.specs.Places.{place_asked}
 use Rattle.plan_search.specs.Search.{StandsAt, kept_at, IsLacking, IsMade, choice_over, IsPlanAt, ArePlansAt, AreFound, IsOneMissing, IsMissing}
 use Rattle.plan_search.proofs.Answered.{none_case, some_case}
 use Rattle.plan_search.proofs.Asked.{asked_zero}
-use Rattle.plan_search.proofs.Bounds.{some_nodes}
 use Rattle.plan_search.proofs.Kids.{IsAsked, line_is, OneKid, one_kid, TwoKids, two_kids}
 use Rattle.query_core.specs.Expressions.{physical_children}
 
-module _ (q : Query) (answers : Answers) (e : PhysicalExpr) (wanted : Request) (mode : ℕ) (alt : Alt) (known : IsAsked q answers e wanted mode alt) where
+module _ (q : Query) (answers : KeptPlans) (e : PhysicalExpr) (wanted : Request) (mode : ℕ) (alt : Alt) (known : IsAsked q answers e wanted mode alt) where
   -- the expression over the one child's plan
-  made_one : (local : ℕ) → local ≤ most_cost → IsNativeCost q e mode wanted local → (kid : Key × Request) (g : KeyParts) → OneKid q answers e wanted mode alt known kid g → (below : PlansBelow)
+  made_one : (local : ℕ) → IsNativeCost q e mode wanted local → (kid : Key × Request) (g : KeyParts) → OneKid q answers e wanted mode alt known kid g → (below : PlansBelow)
       → IsPlanAt answers (place_asked kid) below → IsMade q answers wanted e mode (choice_over alt.node local below)
-  made_one local small cost kid g one below (kept, at, is) =
+  made_one local cost kid g one below (kept, at, is) =
       let found = some_case q answers g kid.1 kept one.is_answered (subst (λ p. kept_at answers p ≡ Some kept) one.place at) in
       let under = found.0 in
       let holds = found.1 in
@@ -49,9 +48,8 @@ module _ (q : Query) (answers : Answers) (e : PhysicalExpr) (wanted : Request) (
         record {
           is_node = known.alt_of.is_node;
           built = (under, one.before, subst (λ p. StandsAt answers p under) (sym one.place) holds.stands, refl);
-          serves = known.serve e.group wanted plan known.fits (native_choice e mode known.line (under ∷ []) known.member refl known.alt_of.is_alternative are_least refl);
+          serves = known.laws.serve e.group wanted plan known.fits (native_choice e mode known.line (under ∷ []) known.member refl known.alt_of.is_alternative are_least refl);
           cost = omega (arith, local_is, holds.cost);
-          small = omega (arith, small, local_is, holds.small, one.nodes);
         },
         λ other alternative. (under ∷ [], subst (λ l. AreLeast (IsMember q) q (groups_of (physical_children e.operator)) (asked_of l wanted) (under ∷ [])) (sym (line_is q answers e wanted mode alt known other alternative)) are_least, refl),
       )
@@ -66,9 +64,9 @@ module _ (q : Query) (answers : Answers) (e : PhysicalExpr) (wanted : Request) (
       subst (λ l. LacksOne (IsMember q) q (groups_of (physical_children e.operator)) (asked_of l wanted)) (sym (line_is q answers e wanted mode alt known other alternative)) lacks
 
   -- the expression over the two children's plans
-  pub made_two : (local : ℕ) → local ≤ most_cost → IsNativeCost q e mode wanted local → (first second : Key × Request) (g h : KeyParts) → TwoKids q answers e wanted mode alt known first second g h
+  pub made_two : (local : ℕ) → IsNativeCost q e mode wanted local → (first second : Key × Request) (g h : KeyParts) → TwoKids q answers e wanted mode alt known first second g h
       → (below : PlansBelow) → ArePlansAt answers (place_asked first) (place_asked second) below → IsMade q answers wanted e mode (choice_over alt.node local below)
-  made_two local small cost first second g h both below (kept, more, at, also, is) =
+  made_two local cost first second g h both below (kept, more, at, also, is) =
       let found = some_case q answers g first.1 kept both.is_answered (subst (λ p. kept_at answers p ≡ Some kept) both.place at) in
       let other = some_case q answers h second.1 more both.other_answered (subst (λ p. kept_at answers p ≡ Some more) both.other_place also) in
       let left = found.0 in
@@ -94,9 +92,8 @@ module _ (q : Query) (answers : Answers) (e : PhysicalExpr) (wanted : Request) (
             subst (λ p. StandsAt answers p right) (sym both.other_place) other.1.stands,
             refl,
           );
-          serves = known.serve e.group wanted plan known.fits (native_choice e mode known.line (left ∷ right ∷ []) known.member refl known.alt_of.is_alternative are_least refl);
+          serves = known.laws.serve e.group wanted plan known.fits (native_choice e mode known.line (left ∷ right ∷ []) known.member refl known.alt_of.is_alternative are_least refl);
           cost = omega (arith, local_is, found.1.cost, other.1.cost);
-          small = omega (arith, small, local_is, found.1.small, other.1.small, both.nodes);
         },
         λ l alternative. (left ∷ right ∷ [], subst (λ m. AreLeast (IsMember q) q (groups_of (physical_children e.operator)) (asked_of m wanted) (left ∷ right ∷ [])) (sym (line_is q answers e wanted mode alt known l alternative)) are_least, refl),
       )
@@ -115,9 +112,9 @@ module _ (q : Query) (answers : Answers) (e : PhysicalExpr) (wanted : Request) (
       subst (λ l. LacksOne (IsMember q) q (groups_of (physical_children e.operator)) (asked_of l wanted)) (sym (line_is q answers e wanted mode alt known other alternative)) lacks
 
   -- the expression by itself
-  pub made_zero : (local : ℕ) → local ≤ most_cost → IsNativeCost q e mode wanted local → alt.left ≡ None → (below : PlansBelow)
+  pub made_zero : (local : ℕ) → IsNativeCost q e mode wanted local → alt.left ≡ None → (below : PlansBelow)
       → below ≡ record { kids = kids.Zero; cost = 0 } → IsMade q answers wanted e mode (choice_over alt.node local below)
-  made_zero local small cost left below is =
+  made_zero local cost left below is =
       let empty = asked_zero q alt (physical_children e.operator) (asked_of known.line wanted) left known.alt_of.asks in
       let none = empty.0 in
       let requests = sym empty.1 in
@@ -132,9 +129,8 @@ module _ (q : Query) (answers : Answers) (e : PhysicalExpr) (wanted : Request) (
         record {
           is_node = known.alt_of.is_node;
           built = refl;
-          serves = known.serve e.group wanted plan known.fits (native_choice e mode known.line [] known.member refl known.alt_of.is_alternative are_least refl);
+          serves = known.laws.serve e.group wanted plan known.fits (native_choice e mode known.line [] known.member refl known.alt_of.is_alternative are_least refl);
           cost = omega (arith, local_is);
-          small = omega (arith, small, local_is, some_nodes e.group wanted);
         },
         λ l alternative. ([], subst (λ m. AreLeast (IsMember q) q (groups_of (physical_children e.operator)) (asked_of m wanted) []) (sym (line_is q answers e wanted mode alt known l alternative)) are_least, refl),
       )
@@ -148,13 +144,13 @@ module _ (q : Query) (answers : Answers) (e : PhysicalExpr) (wanted : Request) (
   pub missing_lacks : IsMissing answers alt.left alt.right → IsLacking q wanted e mode
   missing_lacks = missing alt.left alt.right refl refl
 
-  module _ (local : ℕ) (small : local ≤ most_cost) (cost : IsNativeCost q e mode wanted local) (below : PlansBelow) where
+  module _ (local : ℕ) (cost : IsNativeCost q e mode wanted local) (below : PlansBelow) where
     made_over : (left right : Option (Key × Request)) → alt.left ≡ left → alt.right ≡ right → AreFound answers left right below
         → IsMade q answers wanted e mode (choice_over alt.node local below)
-    made_over None right is also found = made_zero local small cost is below found
-    made_over (Some left) None is also found = let kid = one_kid q answers e wanted mode alt known left is also in made_one local small cost left kid.0 kid.1 below found
+    made_over None right is also found = made_zero local cost is below found
+    made_over (Some left) None is also found = let kid = one_kid q answers e wanted mode alt known left is also in made_one local cost left kid.0 kid.1 below found
     made_over (Some left) (Some right) is also found =
-        let both = two_kids q answers e wanted mode alt known left right is also in made_two local small cost left right both.0 both.1 both.2 below found
+        let both = two_kids q answers e wanted mode alt known left right is also in made_two local cost left right both.0 both.1 both.2 below found
 
     -- the expression over the plans that are asked for
     pub found_made : AreFound answers alt.left alt.right below → IsMade q answers wanted e mode (choice_over alt.node local below)

@@ -17,7 +17,7 @@ use Rattle.plan_space.specs.Order.{AtMost, IsAtMost}
 use Rattle.plan_space.specs.Choices.{Beats, IsModeSettled, IsEnforcerSettled}
 use Rattle.plan_search.specs.declared.choice.Kids.{Kids}
 use Rattle.plan_search.specs.declared.choice.Kids.TheVariants as kids
-use Rattle.plan_search.specs.declared.answers.Answers.{Answers}
+use Rattle.plan_search.specs.declared.kept_plans.KeptPlans.{KeptPlans}
 use Rattle.plan_search.specs.declared.choice.Choice.{Choice}
 use Rattle.plan_search.specs.Places.{place_of}
 use Rattle.plan_search.specs.Search.{IsBuilt, IsMade, IsChosen, IsRootBelow, root_number, Improves, IsLater, Goes, cheaper_of}
@@ -66,7 +66,7 @@ module _ (q : Query) where
   pub improves_on : (a b c : Option Tree) → Improves q a b → Improves q b c → Improves q a c
   improves_on a b c first second plan beats = second plan (first plan beats)
 
-  module _ (answers : Answers) (group : KeyParts) (wanted : Request) where
+  module _ (answers : KeptPlans) (group : KeyParts) (wanted : Request) where
     -- after some nodes and then some more
     pub goes_on : (from mid to : ℕ) → (First Second : Option Tree → Type 0) → (old new newer : Option Choice) → IsStable q First
         → Goes q answers group wanted from mid First old new → Goes q answers group wanted mid to Second new newer
@@ -172,12 +172,12 @@ module _ (q : Query) where
     ]
 
 -- the number at the root of a plan that is built so
-pub built_root : (answers : Answers) (bound : ℕ) (below : Kids) (node : NodeKind) (tree : Tree) → IsBuilt answers bound below node tree → root_number tree ≡ number_of node
+pub built_root : (answers : KeptPlans) (bound : ℕ) (below : Kids) (node : NodeKind) (tree : Tree) → IsBuilt answers bound below node tree → root_number tree ≡ number_of node
 built_root answers bound kids.Zero node tree is = ap root_number is
 built_root answers bound (kids.One place) node tree (kid, before, stands, is) = ap root_number is
 built_root answers bound (kids.Two first second) node tree (left, right, before, other_before, stands, also, is) = ap root_number is
 
-module _ (q : Query) (order : IsOrder q) (answers : Answers) where
+module _ (q : Query) (order : IsOrder q) (answers : KeptPlans) where
   -- a member in a mode is offered, over least plans
   pub made_goes : (e : PhysicalExpr) (wanted : Request) (mode : ℕ) (choice : Choice) (old : Option Choice) → IsMade q answers wanted e mode choice
       → Goes q answers e.group wanted (number_of (nodes.Native e mode)) (number_of (nodes.Native e mode) + 1) (IsModeSettled (IsMember q) q wanted e mode) old (Some (cheaper_of old choice))

@@ -5,7 +5,7 @@ use Rattle.std.specs.Option.{option_and_then}
 use Rattle.plan_space.specs.declared.nodes.NodeKind.{NodeKind}
 use Rattle.plan_space.specs.Nodes.{Tree, leaf, over, two}
 use Rattle.plan_tree.specs.Nodes.{IsNode}
-use Rattle.plan_search.specs.declared.answers.Answers.{Answers}
+use Rattle.plan_search.specs.declared.kept_plans.KeptPlans.{KeptPlans}
 use Rattle.plan_search.specs.declared.choice.Choice.{Choice}
 use Rattle.plan_search.specs.declared.choice.Kids.{Kids}
 use Rattle.plan_search.specs.declared.choice.Kids.TheVariants as kids
@@ -17,12 +17,12 @@ answer_is (Some None) kept is = cc
 answer_is (Some (Some other)) kept is = ap (λ a. Some a) is
 
 -- where a tree stands there is an answer
-pub stands_some : (answers : Answers) (place : ℕ) (tree : Tree) → StandsAt answers place tree → (kept : Choice) × (kept_at answers place ≡ Some kept)
+pub stands_some : (answers : KeptPlans) (place : ℕ) (tree : Tree) → StandsAt answers place tree → (kept : Choice) × (kept_at answers place ≡ Some kept)
 stands_some answers place (leaf node) (kept, root, is) = (kept, ap (option_and_then (λ a. a)) root.at)
 stands_some answers place (over node kid) (kept, below, root, is, before, stands) = (kept, ap (option_and_then (λ a. a)) root.at)
 stands_some answers place (two node left right) (kept, first, second, root, is, before, also, stands, stand) = (kept, ap (option_and_then (λ a. a)) root.at)
 
-module _ (answers : Answers) (place : ℕ) (kept : Choice) (at : kept_at answers place ≡ Some kept) where
+module _ (answers : KeptPlans) (place : ℕ) (kept : Choice) (at : kept_at answers place ≡ Some kept) where
   same_kids : (other : Choice) (node : NodeKind) (below also : Kids) → IsRootAt answers place other node → other.kids ≡ also → kept.kids ≡ below → also ≡ below
   same_kids other node below also root is is_kept =
       let same : Some (Some other) ≡ Some (Some kept) = sym root.at ∙ answer_is (answer_at answers place) kept at in
@@ -77,7 +77,7 @@ module _ (answers : Answers) (place : ℕ) (kept : Choice) (at : kept_at answers
 
 -- ---- answers that come later
 
-module _ (old new : Answers) (bound : ℕ) (kept : (place : ℕ) → place < bound → answer_at new place ≡ answer_at old place) where
+module _ (old new : KeptPlans) (bound : ℕ) (kept : (place : ℕ) → place < bound → answer_at new place ≡ answer_at old place) where
   root_stays : (place : ℕ) (choice : Choice) (node : NodeKind) → place < bound → IsRootAt old place choice node → IsRootAt new place choice node
   root_stays place choice node before root = record { at = kept place before ∙ root.at; is_node = root.is_node }
 

@@ -9,7 +9,7 @@ use Rattle.xform_rules.specs.Closure.{IsMember}
 use Rattle.request_props.specs.declared.request.Request.{Request}
 use Rattle.plan_space.specs.Nodes.{Tree}
 use Rattle.plan_space.specs.Choices.{IsModeSettled}
-use Rattle.plan_search.specs.declared.answers.Answers.{Answers}
+use Rattle.plan_search.specs.declared.kept_plans.KeptPlans.{KeptPlans}
 use Rattle.plan_search.specs.declared.choice.Choice.{Choice}
 use Rattle.plan_search.specs.declared.native.Native.{Native}
 use Rattle.plan_search.specs.Search.{IsNative, AreNative, RisesFrom, next_number, mode_number, IsIn, AreSettledIn, Goes, GoesOver, GoesOverAll}
@@ -68,7 +68,7 @@ module _ (q : Query) (wanted : Request) where
     | inr is ↦ subst (λ x. IsModeSettled (IsMember q) q wanted x.expr x.mode best) (sym is) settled.1
   ]
 
-  module _ (answers : Answers) (group : KeyParts) (list : List Native) where
+  module _ (answers : KeptPlans) (group : KeyParts) (list : List Native) where
     -- the bests so far, where the first so many of the list are settled
     pub record AreTried (i : ℕ) (old new : Option Choice) : Type 0 where
       pub goes : Goes q answers group wanted (2 ^ 56) (next_number (drop i list)) (AreSettledIn q wanted (take i list)) old new

@@ -2,19 +2,20 @@
 #![tactic(auto)]
 
 ghost use Rattle.std.specs.Prelude.{◌≡◌, ◌≤◌, ◌+◌, None, IfSome, MatchOption};
-ghost use Rattle.plan_search.specs.Places.{most_of_all, place_asked};
+ghost use Rattle.plan_space.specs.Cost.{most_of_all};
+ghost use Rattle.plan_search.specs.Places.{place_asked};
 ghost use Rattle.plan_search.specs.Search.{kept_at, cost_at, asked_cost, AreFound, ArePlansAt, IsMissing, IsOneMissing};
 ghost use Rattle.plan_search.specs.Search.{IsPlanAt};
 
-use crate::answers::Answers;
 use crate::choice::{Kids, PlansBelow};
+use crate::kept_plans::KeptPlans;
 use crate::places::place_at;
 use query_core::Key;
 use request_props::Request;
 
 /// The plans that stand at the requests that are asked for, if they are there.
 pub fn plans_below(
-    answers: &Answers,
+    answers: &KeptPlans,
     left: Option<(Key, Request)>,
     right: Option<(Key, Request)>,
 ) -> Option<PlansBelow>
@@ -34,7 +35,7 @@ pub fn plans_below(
 }
 
 /// The plan that stands at the request, if there is one.
-pub fn one_plan(answers: &Answers, asked: (Key, Request)) -> Option<PlansBelow>
+pub fn one_plan(answers: &KeptPlans, asked: (Key, Request)) -> Option<PlansBelow>
     requires small { cost_at answers.now (place_asked asked) ≤ most_of_all }
     ensures found { MatchOption result (kept_at answers.now (place_asked asked) ≡ None)
         (IsPlanAt answers.now (place_asked asked)) }
@@ -49,7 +50,7 @@ pub fn one_plan(answers: &Answers, asked: (Key, Request)) -> Option<PlansBelow>
 }
 
 /// The two plans that stand at the requests, if both are there.
-fn two_plans(answers: &Answers, left: (Key, Request), right: (Key, Request)) -> Option<PlansBelow>
+fn two_plans(answers: &KeptPlans, left: (Key, Request), right: (Key, Request)) -> Option<PlansBelow>
     requires small { cost_at answers.now (place_asked left) +
         cost_at answers.now (place_asked right) ≤ most_of_all }
     ensures found { MatchOption result

@@ -6,11 +6,11 @@ ghost use Rattle.query_core.specs.Keys.{IsGroup};
 ghost use Rattle.request_props.specs.Numbered.{IsProps};
 ghost use Rattle.request_props.specs.Fitting.{Fits};
 ghost use Rattle.plan_search.specs.Places.{place_of};
-ghost use Rattle.plan_search.specs.Search.{AreAnswered, AreListedFor, HasRows, IsBest};
+ghost use Rattle.plan_search.specs.Search.{AreAnswered, AreListedFor, HasRows, IsBestChoice};
 
-use crate::answers::Answers;
 use crate::choice::Choice;
 use crate::enforcers::try_enforcers;
+use crate::kept_plans::KeptPlans;
 use crate::native::Native;
 use crate::natives::{Search, try_all};
 use crate::places::place_at;
@@ -19,7 +19,7 @@ use query_core::{Key, KeyParts, Query, expressions_are_one, groups_are_known};
 use request_props::{Props, Request};
 use std::alloc::AllocError;
 
-/// Answers the request for the group: its least plan, or that there is none.
+/// KeptPlans the request for the group: its least plan, or that there is none.
 pub fn answer(
     query: &Query,
     props: &Props,
@@ -27,7 +27,7 @@ pub fn answer(
     group: KeyParts,
     rows: u64,
     wanted: Request,
-    answers: &mut Answers,
+    answers: &mut KeptPlans,
 ) -> Result<(), AllocError>
     requires props { IsProps query.now props.now }
     requires known { IsGroup query.now group }
@@ -52,7 +52,7 @@ fn find(
     group: KeyParts,
     rows: u64,
     wanted: Request,
-    answers: &Answers,
+    answers: &KeptPlans,
 ) -> Option<Choice>
     requires props { IsProps query.now props.now }
     requires known { IsGroup query.now group }
@@ -60,7 +60,7 @@ fn find(
     requires fits { Fits query.now group wanted }
     requires listed { AreListedFor query.now group wanted.dist list.now }
     requires answered { AreAnswered query.now answers.now (place_of group wanted) }
-    ensures { IsBest query.now answers.now group wanted result }
+    ensures { IsBestChoice query.now answers.now group wanted result }
 {
     // For the proof: what is settled is least.
     settled_is_least();

@@ -3,7 +3,7 @@
 
 ghost use Rattle.std.specs.Prelude.{◌≡◌, ◌≤◌, Some};
 ghost use Rattle.cost_units.specs.Cost.{most_cost};
-ghost use Rattle.plan_search.specs.Places.{most_of_all};
+ghost use Rattle.plan_space.specs.Cost.{most_of_all};
 ghost use Rattle.plan_search.specs.Search.{cheaper_of, choice_over};
 
 use plan_tree::Node;

@@ -10,7 +10,7 @@ ghost use Rattle.plan_search.specs.Search.{AreAnswered, GoesOverEnforcers, GoesO
 use crate::below::one_plan;
 use crate::choice::{Choice, offer};
 use crate::natives::Search;
-use plan_space::{choices_serve, plans_are_ordered};
+use plan_space::{choices_serve, costs_fit, plans_are_ordered, what_is_asked_fits};
 use plan_tree::{enforcer, enforcer_cost_by};
 use query_core::{Key, KeyParts, groups_are_known};
 use request_props::Request;
@@ -50,10 +50,13 @@ fn try_enforcer_at(
     ensures { GoesOverPlace search.entry.query.now search.entry.answers.now group wanted n best.old
         best.new }
 {
-    // For the proof: what an enforcer makes of a plan serves, and plans are in order.
+    // For the proof: what an enforcer asks fits, what it makes of a plan serves, and plans are in
+    // order.
     groups_are_known();
+    what_is_asked_fits();
     choices_serve();
     plans_are_ordered();
+    costs_fit();
     let key = Key::make(group);
     if let Some(found) = enforcer(search.query, search.props, key, wanted, n) {
         if let Some(below) = one_plan(search.answers, (key, found.below)) {

@@ -2,12 +2,12 @@
 //! least plan, by the answers to all requests, each behind those that it stands on.
 #![tactic(auto)]
 
-mod answers;
 mod below;
 mod best;
 mod choice;
 mod closure;
 mod enforcers;
+mod kept_plans;
 mod least;
 mod native;
 mod natives;

@@ -9,11 +9,11 @@ ghost use Rattle.plan_search.specs.Places.{place_of};
 ghost use Rattle.plan_search.specs.Search.{AreAnswered, GoesOver, GoesOverAll, IsLacking, IsMade};
 ghost use Rattle.plan_search.specs.Search.{AreNative, IsNative, RisesFrom};
 
-use crate::answers::Answers;
 use crate::below::plans_below;
 use crate::choice::{Choice, offer};
+use crate::kept_plans::KeptPlans;
 use crate::native::Native;
-use plan_space::{choices_serve, plans_are_ordered, what_is_asked_fits};
+use plan_space::{choices_serve, costs_fit, keys_fall, plans_are_ordered, what_is_asked_fits};
 use plan_tree::{Alt, alternative_by, native_cost_by};
 use query_core::{KeyParts, Query, candidates_are_known};
 use request_props::{Props, Request};
@@ -24,7 +24,7 @@ use xform_rules::members_are_candidates;
 pub struct Search<'a> {
     pub query: &'a Query,
     pub props: &'a Props,
-    pub answers: &'a Answers,
+    pub answers: &'a KeptPlans,
     /// How many rows the group has.
     pub rows: u64,
 }
@@ -86,6 +86,8 @@ fn choice_of(search: Search<'_>, p: &Native, wanted: Request, alt: Alt) -> Optio
     candidates_are_known();
     what_is_asked_fits();
     choices_serve();
+    keys_fall();
+    costs_fit();
     match plans_below(search.answers, alt.left, alt.right) {
         Some(below) => {
             let local = native_cost_by(search.query, p.expr, p.line, p.rows, wanted);

@@ -6,13 +6,13 @@ ghost use Rattle.plan_space.specs.Nodes.{Tree};
 ghost use Rattle.plan_tree.specs.Spells.{Spells};
 ghost use Rattle.plan_search.specs.Search.{StandsAt};
 
-use crate::answers::Answers;
 use crate::choice::Kids;
+use crate::kept_plans::KeptPlans;
 use plan_tree::Plan;
 use std::alloc::{AllocError, Global};
 
 /// The plan that stands at the place.
-pub fn plan_at(alloc: Global, answers: &Answers, place: u64) -> Result<Plan, AllocError>
+pub fn plan_at(alloc: Global, answers: &KeptPlans, place: u64) -> Result<Plan, AllocError>
     requires { (tree : Tree) × StandsAt answers.now place tree }
     ensures { IfOk result (λ plan. (tree : Tree) → StandsAt answers.now place tree →
         Spells plan tree) }

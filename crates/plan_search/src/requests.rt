@@ -9,8 +9,8 @@ ghost use Rattle.xform_rules.specs.Closure.{IsClosureOf};
 ghost use Rattle.plan_search.specs.Places.{dist_place as dist_place_of, request_place};
 ghost use Rattle.plan_search.specs.Search.{AreAnswered, AreListedFor, HasRows};
 
-use crate::answers::Answers;
 use crate::best::answer;
+use crate::kept_plans::KeptPlans;
 use crate::native::{Native, natives_of, those_for};
 use query_core::{KEYS, Key, KeyParts, Query, expressions_are_one, groups_are_known};
 use request_props::{Dist, Props, Request};
@@ -28,26 +28,26 @@ pub fn answer_all(
     query: &Query,
     props: &Props,
     words: &[u64],
-) -> Result<Answers, AllocError>
+) -> Result<KeptPlans, AllocError>
     requires props { IsProps query.now props.now }
     requires closure { IsClosureOf query.now words.now }
     ensures { IfOk result (λ answers. AreAnswered query.now answers (2050 * 4096)) }
 {
-    let mut answers = Answers::new(alloc);
+    let mut answers = KeptPlans::new(alloc);
     for key in 0..KEYS {
         answer_key(alloc, query, props, words, key, &mut answers)?;
     }
     Ok(answers)
 }
 
-/// Answers all requests that fit the group with this key, if there is one.
+/// KeptPlans all requests that fit the group with this key, if there is one.
 fn answer_key(
     alloc: Global,
     query: &Query,
     props: &Props,
     words: &[u64],
     key: u32,
-    answers: &mut Answers,
+    answers: &mut KeptPlans,
 ) -> Result<(), AllocError>
     requires props { IsProps query.now props.now }
     requires closure { IsClosureOf query.now words.now }
@@ -72,14 +72,14 @@ fn group_with(query: &Query, props: &Props, key: u32) -> Option<KeyParts>
     None
 }
 
-/// Answers all requests that fit the group.
+/// KeptPlans all requests that fit the group.
 fn answer_group(
     alloc: Global,
     query: &Query,
     props: &Props,
     words: &[u64],
     group: KeyParts,
-    answers: &mut Answers,
+    answers: &mut KeptPlans,
 ) -> Result<(), AllocError>
     requires props { IsProps query.now props.now }
     requires closure { IsClosureOf query.now words.now }
@@ -98,7 +98,7 @@ fn answer_group(
     Ok(())
 }
 
-/// Answers all requests for the distribution that fit the group.
+/// KeptPlans all requests for the distribution that fit the group.
 fn answer_dist(
     query: &Query,
     props: &Props,
@@ -106,7 +106,7 @@ fn answer_dist(
     group: KeyParts,
     rows: u64,
     dist: Dist,
-    answers: &mut Answers,
+    answers: &mut KeptPlans,
 ) -> Result<(), AllocError>
     requires props { IsProps query.now props.now }
     requires known { IsGroup query.now group }
@@ -125,7 +125,7 @@ fn answer_dist(
     Ok(())
 }
 
-/// Answers the request, if it fits the group.
+/// KeptPlans the request, if it fits the group.
 fn answer_wanted(
     query: &Query,
     props: &Props,
@@ -133,7 +133,7 @@ fn answer_wanted(
     group: KeyParts,
     rows: u64,
     wanted: Request,
-    answers: &mut Answers,
+    answers: &mut KeptPlans,
 ) -> Result<(), AllocError>
     requires props { IsProps query.now props.now }
     requires known { IsGroup query.now group }

@@ -16,7 +16,11 @@ pub mod Numbering
 pub mod NodeNumbers
 pub mod Compared
 pub mod Kids
+pub mod NodeCounts
+pub mod Children
+pub mod Below
 pub mod Serving
 pub mod Choice
+pub mod Cheapest
 pub mod OneLeast
 pub mod Root

@@ -8,7 +8,7 @@ use Rattle.plan_space.specs.Gives.{kid_of}
 use Rattle.cost_units.specs.declared.shape.CostShape.{CostShape}
 use Rattle.cost_units.specs.declared.shape.CostShape.TheVariants.{Scan, IndexScan, IndexSeek, Filter, HashJoin, MergeJoin, LoopJoin, HashAgg, StreamAgg, PartialAgg, Sort, Gather, GatherMerge, Redistribute, Broadcast}
 use Rattle.cost_units.specs.Cost.{local_cost}
-use Rattle.plan_space.specs.Cost.{shape_of}
+use Rattle.plan_space.specs.Cost.{shape_of, cost_of}
 use Rattle.plan_space.specs.Least.{IsLess}
 use Rattle.plan_space.specs.Order.{IsAtMost}
 use Rattle.plan_space.proofs.Codes.{AtMost-refl, AtMost-trans, AtMost-append, AtMost-not_less}
@@ -28,6 +28,11 @@ IsAtMost-not_less q a b (inl x) (inl y) = omega arith
 IsAtMost-not_less q a b (inl x) (inr y) = omega arith
 IsAtMost-not_less q a b (inr x) (inl y) = omega arith
 IsAtMost-not_less q a b (inr x) (inr y) = AtMost-not_less (code_of a) (code_of b) x.1 y.1
+
+-- and it costs no more
+pub at_most_costs : (q : Query) (a b : Tree) → IsAtMost q a b → cost_of q a ≤ cost_of q b
+at_most_costs q a b (inl less) = omega arith
+at_most_costs q a b (inr same) = omega arith
 
 -- each node costs something
 costs_some : (shape : CostShape) → 1 ≤ local_cost shape

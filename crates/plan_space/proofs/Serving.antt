@@ -96,7 +96,8 @@ module _ (Member : ExprParts → Type 0) (q : Query) (group : KeyParts) where
     named_serves wanted e first same =
         subst (λ (x : EnforcedBy). Serves Member q group x.below kid → Serves Member q group wanted (over (nodes.Enforcer x.node) kid)) (sym same)
 
-    enforcer_serves : (dist : Dist) (o : ℕ) (e : EnforcedBy) → Fits q group (request dist o) → Among e (enforcers_by dist o)
+    -- an enforcer for the request over a plan for what it asks
+    pub enforcer_serves : (dist : Dist) (o : ℕ) (e : EnforcedBy) → Fits q group (request dist o) → Among e (enforcers_by dist o)
         → Serves Member q group e.below kid → Serves Member q group (request dist o) (over (nodes.Enforcer e.node) kid)
     enforcer_serves One zero e fits (inl same) = named_serves (request One 0) e _ same gather_serves
     enforcer_serves One zero e fits (inr none) = absurd none

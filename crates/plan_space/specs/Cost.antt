@@ -1,5 +1,5 @@
 -- What a plan costs.
-use Rattle.std.specs.Prelude.{ℕ, ◌+◌, List, [], ◌∷◌}
+use Rattle.std.specs.Prelude.{ℕ, ◌+◌, ◌*◌, List, [], ◌∷◌}
 use Rattle.query_core.specs.declared.query.Query.{Query}
 use Rattle.query_core.specs.declared.words.KeyParts.{KeyParts}
 use Rattle.query_core.specs.declared.expressions.Physical.{Physical}
@@ -9,7 +9,7 @@ use Rattle.cardinality.specs.Rows.{rows_of}
 use Rattle.cost_units.specs.declared.shape.Class.{Class}
 use Rattle.cost_units.specs.declared.shape.CostShape.{CostShape}
 use Rattle.cost_units.specs.declared.shape.CostShape.TheVariants as shapes
-use Rattle.cost_units.specs.Cost.{share, local_cost}
+use Rattle.cost_units.specs.Cost.{share, local_cost, most_cost}
 use Rattle.plan_space.specs.Nodes.{Tree, leaf, over, two}
 use Rattle.plan_space.specs.declared.nodes.NodeKind.{NodeKind}
 use Rattle.plan_space.specs.declared.nodes.NodeKind.TheVariants as nodes
@@ -69,3 +69,7 @@ cost_of q (leaf node) = local_cost (shape_of q node [])
 cost_of q (over node kid) = local_cost (shape_of q node (kid_of q kid ∷ [])) + cost_of q kid
 cost_of q (two node left right) =
     local_cost (shape_of q node (kid_of q left ∷ kid_of q right ∷ [])) + cost_of q left + cost_of q right
+
+-- no least plan costs more, and no node over least plans
+abbrev pub most_of_all : ℕ
+most_of_all = most_cost * 16384

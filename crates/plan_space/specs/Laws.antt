@@ -1,7 +1,7 @@
 -- What holds of all plans of a query.
 use Rattle.std.specs.Prelude.{ℕ, ◌≡◌, ◌<◌, ◌≤◌, List, [], ◌∷◌, length, Option, Some, ⊤}
-use Rattle.query_core.specs.Keys.{root_of}
-use Rattle.query_core.specs.Expressions.{expr_of, physical_children, IsCandidate}
+use Rattle.query_core.specs.Keys.{root_of, key_number}
+use Rattle.query_core.specs.Expressions.{expr_of, physical_children, IsCandidate, IsChild}
 use Rattle.query_core.specs.declared.query.Query.{Query}
 use Rattle.query_core.specs.declared.words.KeyParts.{KeyParts}
 use Rattle.query_core.specs.declared.words.KeyParts.TheVariants as groups
@@ -22,6 +22,8 @@ use Rattle.plan_space.specs.declared.lines.Line.{Line}
 use Rattle.plan_space.specs.Gives.{Kid, kid_of, gives, native_gives}
 use Rattle.plan_space.specs.Valid.{NativeFits, IsValid}
 use Rattle.plan_space.specs.Alternatives.{IsAlternative, asked_of, KidsServe}
+use Rattle.plan_space.specs.Cost.{cost_of, most_of_all}
+use Rattle.plan_space.specs.Enforcers.{EnforcedBy, enforcers_of, Among}
 use Rattle.plan_space.specs.Choices.{groups_of, IsChoice, IsSettled}
 use Rattle.plan_space.specs.Least.{Serves, IsLeast, IsAnswer}
 
@@ -87,6 +89,25 @@ abbrev pub AsksWhatFits : Query → Type 0
 AsksWhatFits q =
     (e : PhysicalExpr) (mode : ℕ) (line : Line) (wanted : Request) → IsCandidate q (expr_of e) → Fits q e.group wanted
     → IsAlternative q e wanted mode line → RequestsFit q (groups_of (physical_children e.operator)) (asked_of line wanted)
+
+-- so does what an enforcer asks
+abbrev pub EnforcersAskWhatFits : Query → Type 0
+EnforcersAskWhatFits q = (group : KeyParts) (wanted : Request) (e : EnforcedBy) → Fits q group wanted → Among e (enforcers_of wanted) → Fits q group e.below
+
+-- the groups of an expression's children have lesser keys
+abbrev pub KeysFall : Query → Type 0
+KeysFall q =
+    (e : PhysicalExpr) (child : KeyParts) → IsCandidate q (expr_of e) → IsChild (physical_children e.operator) child → key_number child < key_number e.group
+
+-- a least plan costs no more than any may
+abbrev pub LeastCostsFit : Query → Type 0
+LeastCostsFit q =
+    (group : KeyParts) (wanted : Request) (plan : Tree) → Fits q group wanted → IsLeast (IsMember q) q group wanted plan → cost_of q plan ≤ most_of_all
+
+-- nor does a choice
+abbrev pub ChoiceCostsFit : Query → Type 0
+ChoiceCostsFit q =
+    (group : KeyParts) (wanted : Request) (plan : Tree) → Fits q group wanted → IsChoice (IsMember q) q group wanted plan → cost_of q plan ≤ most_of_all
 
 -- of all plans for a request one is least; with more than 60 lists or orders the numbers of two nodes could be one
 abbrev pub LeastIsOne : Query → Type 0

@@ -6,6 +6,7 @@ ghost use Rattle.plan_space.specs.Nodes.{Tree};
 ghost use Rattle.plan_space.specs.Order.{IsAtMost};
 ghost use Rattle.plan_space.specs.Laws.{GivesWhatFits, SatisfactionSplits, SatisfactionJoins, AsksWhatFits, ChoicesServe, SettledIsLeast, LeastIsOne};
 ghost use Rattle.plan_space.specs.Laws.{RootRequestFits, RootRequestIsCollected, ModesAreFew};
+ghost use Rattle.plan_space.specs.Laws.{ChoiceCostsFit, EnforcersAskWhatFits, KeysFall, LeastCostsFit};
 
 use query_core::{candidates_are_known, expressions_are_one};
 use request_props::listing_is_one;
@@ -28,12 +29,18 @@ pub fn satisfaction_splits()
     listing_is_one();
 }
 
-/// What is asked of a child fits its group.
+/// What is asked of a child fits its group, and so does what an enforcer asks.
 pub fn what_is_asked_fits()
-    ensures { (q : Query) → AsksWhatFits q }
+    ensures children { (q : Query) → AsksWhatFits q }
+    ensures enforcers { (q : Query) → EnforcersAskWhatFits q }
 {
     listing_is_one();
 }
+
+/// The groups of an expression's children have lesser keys.
+pub fn keys_fall()
+    ensures { (q : Query) → KeysFall q }
+{}
 
 /// Each plan is at most itself, and at most what a plan is at most that it is at most.
 pub fn plans_are_ordered()
@@ -87,3 +94,17 @@ pub fn root_request_is_collected()
 pub fn modes_are_few()
     ensures few { (q : Query) → ModesAreFew q }
 {}
+
+/// What a least plan costs fits a word, and so does what a node over least plans costs.
+pub fn costs_fit()
+    ensures least { (q : Query) → LeastCostsFit q }
+    ensures choice { (q : Query) → ChoiceCostsFit q }
+{
+    what_is_given_fits();
+    satisfaction_splits();
+    what_is_asked_fits();
+    members_are_candidates();
+    candidates_are_known();
+    expressions_are_one();
+    listing_is_one();
+}

@@ -2,6 +2,7 @@
 #![tactic(auto)]
 
 mod alternatives;
+mod answers;
 mod cost;
 mod enforcers;
 mod lines;
@@ -13,6 +14,7 @@ mod serving;
 mod walks;
 
 pub use alternatives::{Alt, alternative, alternative_by, alternative_in, modes_are_one};
+pub use answers::{Answered, Answers};
 pub use cost::{
     ExprRows, enforcer_cost, enforcer_cost_by, expr_rows, native_cost, native_cost_by, node_cost,
 };

@@ -12,15 +12,15 @@ use std::collections::BTreeMap;
 
 /// The answers so far: the root of a least plan, with the places of the plans below it, or none.
 #[derive(Drop)]
-pub struct Answers {
+pub struct KeptPlans {
     pub map: BTreeMap<u64, Option<Choice>>,
 }
 
-impl Answers {
-    pub fn new(alloc: Global) -> Answers
+impl KeptPlans {
+    pub fn new(alloc: Global) -> KeptPlans
         ensures { IsEmpty result.map }
     {
-        Answers {
+        KeptPlans {
             map: BTreeMap::new(alloc),
         }
     }
