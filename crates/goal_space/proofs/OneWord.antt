@@ -1,0 +1,111 @@
+-- Goals by their words, where expressions and groups are told apart by theirs.
+use Rattle.std.proofs.Common.{◌≡◌, ℕ, ◌+◌, ◌*◌, ◌<◌, ◌≤◌, ◌^◌, ap, arith}
+use Rattle.query_core.specs.Keys as keys
+use Rattle.query_core.specs.Keys.{key_number}
+use Rattle.query_core.specs.Expressions.{word_of, expr_of, IsPacked}
+use Rattle.query_core.specs.Goals.{goal_number, FitsGoal}
+use Rattle.query_core.specs.declared.words.Key.{Key}
+use Rattle.query_core.specs.declared.words.Expr.{Expr}
+use Rattle.query_core.specs.declared.words.KeyParts.{KeyParts}
+use Rattle.query_core.specs.declared.words.GoalParts.{GoalParts}
+use Rattle.query_core.specs.declared.words.GoalParts.TheVariants as parts
+use Rattle.query_core.specs.declared.expressions.ExprParts.{ExprParts}
+use Rattle.query_core.specs.declared.expressions.Operator.TheVariants as operators
+use Rattle.query_core.specs.declared.expressions.Physical.{Physical}
+use Rattle.query_core.specs.declared.expressions.PhysicalExpr.{PhysicalExpr}
+use Rattle.xform_rules.specs.Rules.{rule_number}
+use Rattle.request_props.specs.Requests.{code_of}
+use Rattle.goal_space.specs.Words.{key_of, expr_word, parts_of, goal_word, IsInRange}
+use Rattle.goal_space.specs.declared.goals.GoalKind.{GoalKind}
+use Rattle.goal_space.specs.declared.goals.GoalKind.TheVariants.{Exp, ExpE, Xf, Imp, ImpE, Opt, OptE}
+use Rattle.goal_space.proofs.GoalNumbers.{rule_one, rule_some, rule_few, code_small, request_one}
+
+-- the word of parts that fit is one of 64 bits
+pub parts_small : (p : GoalParts) → FitsGoal p → goal_number p < 2 ^ 64
+parts_small (parts.Exp key) fits = omega (arith, fits)
+parts_small (parts.ExpE expr) fits = omega (arith, fits)
+parts_small (parts.Xf expr rule) fits = omega (arith, fits.0, fits.2)
+parts_small (parts.Imp key) fits = omega (arith, fits)
+parts_small (parts.ImpE expr) fits = omega (arith, fits)
+parts_small (parts.Opt key request) fits = omega (arith, fits.0, fits.1)
+parts_small (parts.OptE expr request) fits = omega (arith, fits.0, fits.1)
+
+pub word_high : (k : GoalKind) → 2 ^ 63 ≤ goal_word k
+word_high k = omega arith
+
+abbrev made : KeyParts → Physical → PhysicalExpr
+made group operator = record { group = group; operator = operator }
+
+made_same : (g h : KeyParts) (o p : Physical) → g ≡ h → o ≡ p → made g o ≡ made h p
+made_same g h o p groups operators_same = cc
+
+physical_same : (e f : PhysicalExpr) → expr_of e ≡ expr_of f → e ≡ f
+physical_same e f same =
+    let groups_same : e.group ≡ f.group = ap (λ (x : ExprParts). x.group) same in
+    let tagged : operators.Physical e.operator ≡ operators.Physical f.operator = ap (λ (x : ExprParts). x.operator) same in
+    let operators_same : e.operator ≡ f.operator = cc in
+    made_same e.group f.group e.operator f.operator groups_same operators_same
+
+module _ (
+  one_expr : (e f : ExprParts) → IsPacked e → IsPacked f → word_of e ≡ word_of f → e ≡ f
+) (
+  one_group : (p g : KeyParts) → keys.IsInRange p → keys.IsInRange g → key_number p ≡ key_number g → p ≡ g
+) (
+  small_expr : (e : ExprParts) → IsPacked e → word_of e < 2 ^ 48
+) (
+  small_group : (g : KeyParts) → keys.IsInRange g → key_number g < 2050
+) where
+  -- the parts of a goal fit
+  pub goal_fits : (k : GoalKind) → IsInRange k → FitsGoal (parts_of k)
+  goal_fits (Exp group) known = omega (arith, small_group group known)
+  goal_fits (ExpE e) known = small_expr e known
+  goal_fits (Xf e rule) known = (small_expr e known, rule_some rule, rule_few rule)
+  goal_fits (Imp group) known = omega (arith, small_group group known)
+  goal_fits (ImpE e) known = small_expr e known
+  goal_fits (Opt group wanted) known = (omega (arith, small_group group known.0), code_small wanted known.1)
+  goal_fits (OptE e wanted) known = (small_expr (expr_of e) known.0, code_small wanted known.1)
+
+  key_same : (g h : KeyParts) → keys.IsInRange g → keys.IsInRange h → key_of g ≡ key_of h → g ≡ h
+  key_same g h known other same = one_group g h known other (ap (λ (k : Key). k.0) same)
+
+  expr_same : (e f : ExprParts) → IsPacked e → IsPacked f → expr_word e ≡ expr_word f → e ≡ f
+  expr_same e f known other same = one_expr e f known other (ap (λ (w : Expr). w.0) same)
+
+  -- goals of the same parts are one
+  pub parts_one : (k l : GoalKind) → IsInRange k → IsInRange l → parts_of k ≡ parts_of l → k ≡ l
+  parts_one (Exp g) (Exp h) known other same =
+      let keys_same : key_of g ≡ key_of h = cc in
+      ap Exp (key_same g h known other keys_same)
+  parts_one (ExpE e) (ExpE f) known other same =
+      let words_same : expr_word e ≡ expr_word f = cc in
+      ap ExpE (expr_same e f known other words_same)
+  parts_one (Xf e rule) (Xf f more) known other same =
+      let words_same : expr_word e ≡ expr_word f = cc in
+      let numbers_same : rule_number rule ≡ rule_number more = cc in
+      let e_is = expr_same e f known other words_same in
+      let rule_is = rule_one rule more numbers_same in
+      cc
+  parts_one (Imp g) (Imp h) known other same =
+      let keys_same : key_of g ≡ key_of h = cc in
+      ap Imp (key_same g h known other keys_same)
+  parts_one (ImpE e) (ImpE f) known other same =
+      let words_same : expr_word e ≡ expr_word f = cc in
+      ap ImpE (expr_same e f known other words_same)
+  parts_one (Opt g wanted) (Opt h wish) known other same =
+      let keys_same : key_of g ≡ key_of h = cc in
+      let codes_same : code_of wanted ≡ code_of wish = cc in
+      let g_is = key_same g h known.0 other.0 keys_same in
+      let wanted_is = request_one wanted wish known.1 other.1 codes_same in
+      cc
+  parts_one (OptE e wanted) (OptE f wish) known other same =
+      let words_same : expr_word (expr_of e) ≡ expr_word (expr_of f) = cc in
+      let codes_same : code_of wanted ≡ code_of wish = cc in
+      let e_is = physical_same e f (expr_same (expr_of e) (expr_of f) known.0 other.0 words_same) in
+      let wanted_is = request_one wanted wish known.1 other.1 codes_same in
+      cc
+  parts_one k l known other same = cc
+
+  -- so are goals of the same word
+  pub word_one : ((p o : GoalParts) → FitsGoal p → FitsGoal o → goal_number p ≡ goal_number o → p ≡ o)
+      → (k l : GoalKind) → IsInRange k → IsInRange l → goal_word k ≡ goal_word l → k ≡ l
+  word_one one_parts k l known other same = parts_one k l known other (one_parts (parts_of k) (parts_of l) (goal_fits k known) (goal_fits l other) same)

@@ -1,0 +1,16 @@
+use Rattle.goal_space.specs.Words.{parts_of, IsInRange}
+use Rattle.goal_space.specs.declared.goals.GoalKind.{GoalKind}
+use Rattle.goal_space.proofs.OneWord.{goal_fits, parts_small, word_high, word_one}
+use Rattle.goal_space.proofs.words.goal_kinds_are_one.Goals as goal
+
+pub returns : goal.returns
+returns c =
+    let exprs = c.expressions_are_one.ensures in
+    let near = c.groups_are_known.ensures.small in
+    let fits = goal_fits exprs.expressions exprs.groups exprs.small near in
+    record {
+      one = word_one exprs.expressions exprs.groups exprs.small near c.goals_are_one.ensures;
+      fits = fits;
+      high = word_high;
+      small = λ (k : GoalKind) (in_range : IsInRange k). parts_small (parts_of k) (fits k in_range);
+    }

@@ -1,0 +1,10 @@
+//! The goals of a search: which there are, which a goal waits for, what it asks for, its rank and its word.
+#![tactic(auto)]
+
+mod goals;
+mod laws;
+mod words;
+
+pub use goals::GoalKind;
+pub use laws::{goals_are_known, goals_ask_for_members, ranks_fall};
+pub use words::goal_kinds_are_one;
