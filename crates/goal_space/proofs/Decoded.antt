@@ -27,6 +27,10 @@ StandsForNone p = (k : GoalKind) → IsInRange k → parts_of k ≡ p → ⊥
 
 -- ---- parts
 
+-- where no goal has some parts, none has these, which are the same
+pub none_of : (p o : GoalParts) → p ≡ o → StandsForNone o → StandsForNone p
+none_of p o same none = subst StandsForNone (sym same) none
+
 -- where the word is that of a logical expression or of none, no goal has it for a request
 pub no_expr : (word : Expr) (code : ℕ) → ((e : PhysicalExpr) → IsPacked (expr_of e) → word_of (expr_of e) ≡ word.0 → ⊥) → StandsForNone (parts.OptE word code)
 no_expr word code none (OptE e wanted) known same =
