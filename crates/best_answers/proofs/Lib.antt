@@ -1,0 +1,7 @@
+pub mod Roots
+pub mod OneChoice
+pub mod Pairs
+pub mod Least
+pub mod Below
+pub mod Single
+pub mod Asked

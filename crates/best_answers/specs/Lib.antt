@@ -1,0 +1,4 @@
+pub mod Nodes
+pub mod Answers
+pub mod Best
+pub mod Laws

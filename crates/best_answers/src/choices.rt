@@ -1,0 +1,106 @@
+//! The answer that one node gives, from the best answers for what it asks.
+#![tactic(auto)]
+
+ghost use Rattle.std.specs.Prelude.{ℕ, ◌≡◌, ◌≤◌, IfSome};
+ghost use Rattle.query_core.specs.Expressions.{expr_of};
+ghost use Rattle.query_core.specs.Keys.{IsGroup};
+ghost use Rattle.xform_rules.specs.Closure.{IsMember};
+ghost use Rattle.request_props.specs.Fitting.{Fits};
+ghost use Rattle.request_props.specs.Numbered.{IsProps};
+ghost use Rattle.plan_space.specs.Cost.{most_of_all};
+ghost use Rattle.plan_space.specs.Enforcers.{EnforcedBy};
+ghost use Rattle.plan_space.specs.declared.nodes.NodeKind.TheVariants.{Enforcer, Native};
+ghost use Rattle.plan_tree.specs.Alternatives.{IsAltBy};
+ghost use Rattle.plan_tree.specs.Costs.{AreRowsOf};
+ghost use Rattle.best_answers.specs.Answers.{answers_asked, costs_below};
+ghost use Rattle.best_answers.specs.Best.{AreBestBelow, IsBest, IsEnforcedBy};
+ghost use Rattle.best_answers.specs.Nodes.{all_nodes, one_node};
+
+use crate::best::Best;
+use crate::laws::{answers_are_best, best_is_least};
+use plan_space::{Line, costs_fit, what_is_asked_fits};
+use plan_tree::{Alt, Enforced, ExprRows, enforcer_cost_by, native_cost_by};
+use query_core::{KeyParts, PhysicalExpr, Query};
+use request_props::{Props, Request};
+use xform_rules::members_are_candidates;
+
+/// The answer that an expression gives in the mode of the alternative, over the best answers for
+/// what it asks of its children, the left one first.
+pub fn best_in_mode(
+    query: &Query,
+    expr: PhysicalExpr,
+    rows: ExprRows,
+    line: Line,
+    wanted: Request,
+    alt: Alt,
+    below: (Option<Best>, Option<Best>),
+) -> Option<Best>
+    requires member { IsMember query.now (expr_of expr) }
+    requires rows { AreRowsOf query.now expr rows }
+    requires fits { Fits query.now expr.group wanted }
+    requires alternative { (mode : ℕ) × IsAltBy query.now expr wanted mode alt line }
+    requires below { AreBestBelow query.now alt below }
+    ensures { (mode : ℕ) → IsAltBy query.now expr wanted mode alt line →
+        IsBest query.now expr.group wanted (one_node (Native expr mode)) result }
+{
+    // For the proof: what is asked fits, and what is best of it costs little.
+    members_are_candidates();
+    what_is_asked_fits();
+    answers_are_best();
+    best_is_least();
+    costs_fit();
+    let cost = cost_below(alt, below)?;
+    let local = native_cost_by(query, expr, line, rows, wanted);
+    Some(Best {
+        cost: local + cost,
+        node: alt.node,
+    })
+}
+
+/// The answer that an enforcer for the request gives over the best answer for what it asks of a plan
+/// of the same group.
+pub fn best_of_enforcer(
+    query: &Query,
+    props: &Props,
+    group: KeyParts,
+    wanted: Request,
+    enforced: Enforced,
+    below: Option<Best>,
+) -> Option<Best>
+    requires props { IsProps query.now props.now }
+    requires known { IsGroup query.now group }
+    requires fits { Fits query.now group wanted }
+    requires enforced { (e : EnforcedBy) × IsEnforcedBy wanted enforced e }
+    requires below { IsBest query.now group enforced.below all_nodes below }
+    ensures { (e : EnforcedBy) → IsEnforcedBy wanted enforced e →
+        IsBest query.now group wanted (one_node (Enforcer e.node)) result }
+{
+    // For the proof: what is asked fits, and what is best of it costs little.
+    what_is_asked_fits();
+    answers_are_best();
+    let cost = below?.cost;
+    let rows = props.group_rows(query, group);
+    let local = enforcer_cost_by(query, rows, wanted, enforced.node);
+    Some(Best {
+        cost: local + cost,
+        node: enforced.node,
+    })
+}
+
+// What the answers for what the alternative asks cost together, where each is there.
+fn cost_below(alt: Alt, below: (Option<Best>, Option<Best>)) -> Option<u64>
+    requires { IfSome (costs_below (answers_asked alt below)) (λ cost. cost ≤ most_of_all) }
+    ensures { result ≡ costs_below (answers_asked alt below) }
+{
+    match (alt.left, alt.right) {
+        (Some(_), Some(_)) => match below {
+            (Some(left), Some(right)) => Some(left.cost + right.cost),
+            _ => None,
+        },
+        (Some(_), None) => match below.0 {
+            Some(left) => Some(left.cost),
+            None => None,
+        },
+        (None, _) => Some(0),
+    }
+}
