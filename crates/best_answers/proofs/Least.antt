@@ -126,7 +126,7 @@ module _ (q : Query) (told : AreTold q) (group : KeyParts) (wanted : Request) wh
     begins_at_most : (s t : Tree) → IsChoice (IsMember q) q group wanted s → IsChoice (IsMember q) q group wanted t → cost_of q s ≡ cost_of q t
         → number_of (root_node s) ≤ number_of (root_node t) → IsAtMost q s t
     begins_at_most s t x y cost most = elim (eq-or-lt_of_le most) [
-      | inl same ↦ subst (IsAtMost q s) (choice_one q told group wanted s t fits x y (sym same)) (order.itself s)
+      | inl same ↦ subst (IsAtMost q s) (sym (choice_one q told group wanted s t fits x y (sym same))) (order.itself s)
       | inr less ↦ inr (cost, begins_less s t less)
     ]
 
