@@ -12,16 +12,15 @@ use Rattle.query_core.specs.declared.expressions.Physical.{Physical}
 use Rattle.query_core.specs.declared.expressions.Operator.{Operator}
 use Rattle.query_core.specs.declared.expressions.Operator.TheVariants as operators
 use Rattle.query_core.specs.declared.expressions.ExprParts.{ExprParts}
-use Rattle.xform_rules.specs.Forms.{IsLogical, IsPhysical}
-use Rattle.xform_rules.specs.Results.{Gives, GivesWith, HasResult}
+use Rattle.xform_rules.specs.Forms.{IsLogical}
+use Rattle.xform_rules.specs.Results.{Gives, GivesWith}
 use Rattle.xform_rules.specs.Closure.{IsMember, root_origin, child_origin, result, bound_result}
 use Rattle.xform_rules.specs.declared.rules.Rule.{Rule}
 use Rattle.xform_rules.specs.declared.rules.Rule.TheVariants as rules
-use Rattle.request_props.specs.Numbered.{root_request}
 use Rattle.goal_space.specs.Goals.{IsGoal, root_goal, child_goal, root_goal_of}
 use Rattle.goal_space.specs.Asked.{AsksFor}
 use Rattle.goal_space.specs.declared.goals.GoalKind.{GoalKind}
-use Rattle.goal_space.specs.declared.goals.GoalKind.TheVariants.{Imp, ImpE, Opt}
+use Rattle.goal_space.specs.declared.goals.GoalKind.TheVariants.{Imp, ImpE}
 
 -- ---- children of results
 

@@ -1,5 +1,5 @@
 -- What a goal's word stands for.
-use Rattle.std.proofs.Common.{◌≡◌, ℕ, refl, ap, sym, ◌∙◌, subst, Option, None, Some, ◌↔◌}
+use Rattle.std.proofs.Common.{◌≡◌, ℕ, ap, sym, ◌∙◌, subst, Option, None, Some, ◌↔◌}
 use Rattle.std.specs.Prelude.{MatchOption}
 use Rattle.query_core.specs.Keys.{key_number}
 use Rattle.query_core.specs.Expressions.{word_of, expr_of, IsPacked}
@@ -15,7 +15,7 @@ use Rattle.request_props.specs.Requests.{code_of}
 use Rattle.request_props.specs.declared.request.Request.{Request}
 use Rattle.goal_space.specs.Words.{key_of, expr_word, parts_of, goal_word, HasWord, IsInRange}
 use Rattle.goal_space.specs.declared.goals.GoalKind.{GoalKind}
-use Rattle.goal_space.specs.declared.goals.GoalKind.TheVariants.{Exp, ExpE, Xf, Imp, ImpE, Opt, OptE}
+use Rattle.goal_space.specs.declared.goals.GoalKind.TheVariants.{Opt, OptE}
 
 -- the goal has these parts
 abbrev pub StandsFor : GoalParts → GoalKind → Type 0
@@ -61,12 +61,12 @@ opt_e_parts p word code e wanted number code_is is =
 -- ---- words
 
 module _ (
-  one : (k l : GoalKind) → IsInRange k → IsInRange l → goal_word k ≡ goal_word l → k ≡ l
-) (
-  fits : (k : GoalKind) → IsInRange k → FitsGoal (parts_of k)
-) (
-  one_parts : (p o : GoalParts) → FitsGoal p → FitsGoal o → goal_number p ≡ goal_number o → p ≡ o
-) (word : ℕ) (p : GoalParts) (has : HasGoalWord word p) where
+    one : (k l : GoalKind) → IsInRange k → IsInRange l → goal_word k ≡ goal_word l → k ≡ l
+    ) (
+    fits : (k : GoalKind) → IsInRange k → FitsGoal (parts_of k)
+    ) (
+    one_parts : (p o : GoalParts) → FitsGoal p → FitsGoal o → goal_number p ≡ goal_number o → p ≡ o
+    ) (word : ℕ) (p : GoalParts) (has : HasGoalWord word p) where
   -- a goal with the word has the parts
   word_parts : (k : GoalKind) → HasWord k word → parts_of k ≡ p
   word_parts k has_word = one_parts (parts_of k) p (fits k has_word.in_range) has.fits (has_word.number ∙ sym has.number)

@@ -1,18 +1,6 @@
 -- No two goals have one word.
-use Rattle.std.proofs.Common.{◌≡◌, ℕ, ◌+◌, ◌*◌, ◌-◌, ◌<◌, ◌≤◌, ◌^◌, List, Some, refl, ap, sym, ◌∙◌, arith}
+use Rattle.std.proofs.Common.{◌≡◌, ℕ, ◌-◌, ◌<◌, ◌≤◌, ◌^◌, Some, refl, ap, sym, ◌∙◌, arith}
 use Rattle.std.specs.Prelude.{slice_get}
-use Rattle.query_core.specs.Keys as keys
-use Rattle.query_core.specs.Keys.{key_number}
-use Rattle.query_core.specs.Expressions.{word_of, expr_of, IsPacked}
-use Rattle.query_core.specs.Goals.{goal_number, FitsGoal}
-use Rattle.query_core.specs.declared.words.Key.{Key}
-use Rattle.query_core.specs.declared.words.Expr.{Expr}
-use Rattle.query_core.specs.declared.words.KeyParts.{KeyParts}
-use Rattle.query_core.specs.declared.words.GoalParts.{GoalParts}
-use Rattle.query_core.specs.declared.expressions.ExprParts.{ExprParts}
-use Rattle.query_core.specs.declared.expressions.Operator.TheVariants as operators
-use Rattle.query_core.specs.declared.expressions.PhysicalExpr.{PhysicalExpr}
-use Rattle.query_core.specs.declared.expressions.Physical.{Physical}
 use Rattle.xform_rules.specs.Rules.{rule_number, all_rules}
 use Rattle.xform_rules.specs.declared.rules.Rule.{Rule}
 use Rattle.xform_rules.specs.declared.rules.Rule.TheVariants as rules
@@ -21,9 +9,6 @@ use Rattle.request_props.specs.Requests.{IsDistInRange, dist_code, code_of}
 use Rattle.request_props.specs.declared.request.Dist.{Dist}
 use Rattle.request_props.specs.declared.request.Dist.TheVariants as dists
 use Rattle.request_props.specs.declared.request.Request.{Request}
-use Rattle.goal_space.specs.Words.{key_of, expr_word, parts_of, goal_word, IsInRange}
-use Rattle.goal_space.specs.declared.goals.GoalKind.{GoalKind}
-use Rattle.goal_space.specs.declared.goals.GoalKind.TheVariants.{Exp, ExpE, Xf, Imp, ImpE, Opt, OptE}
 
 -- ---- rules
 

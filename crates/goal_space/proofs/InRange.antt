@@ -1,5 +1,5 @@
 -- The goals of a query are about groups and candidates, and have words.
-use Rattle.std.proofs.Common.{◌≡◌, ℕ, ◌<◌, ◌≤◌, List, length, arith}
+use Rattle.std.proofs.Common.{◌≤◌, length, arith}
 use Rattle.query_core.specs.Keys as keys
 use Rattle.query_core.specs.Keys.{IsGroup}
 use Rattle.query_core.specs.Expressions.{expr_of, IsCandidate, IsPacked}
@@ -44,10 +44,10 @@ request_in_range q group wanted few_lists few_orders fits = record {
 }
 
 module _ (q : Query) (few_lists : length (lists_of q) ≤ 60) (few_orders : length (orders_of q) ≤ 60) (
-  known_group : (g : KeyParts) → IsGroup q g → keys.IsInRange g
-) (
-  packed : (e : ExprParts) → IsCandidate q e → IsPacked e
-) where
+    known_group : (g : KeyParts) → IsGroup q g → keys.IsInRange g
+    ) (
+    packed : (e : ExprParts) → IsCandidate q e → IsPacked e
+    ) where
   pub goal_in_range : (goal : GoalKind) → IsOfCandidate q goal → HasFittingRequest q goal → IsInRange goal
   goal_in_range (Exp group) known fits = known_group group known
   goal_in_range (ExpE e) known fits = packed e known

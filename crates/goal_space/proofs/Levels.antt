@@ -7,7 +7,7 @@ use Rattle.std.proofs.lemmas.Bool.{cases_lt, eqb-true}
 use Rattle.std.proofs.lemmas.Nat.{le_or_l, le_or_r}
 use Rattle.std.proofs.lemmas.Nat.Bits.{bit_at-lt}
 use Rattle.std.proofs.Math.Nat.{pow-le-pow_right}
-use Rattle.query_core.specs.Sets.{bit, only_of}
+use Rattle.query_core.specs.Sets.{bit}
 use Rattle.query_core.specs.Keys.{has_own, alone, top_of, input_of, IsGroup}
 use Rattle.query_core.specs.Expressions.{children_of, FallsInto, IsChild, IsCandidate, IsJoin, IsFiltered, IsAggregated, IsPartial, HasShape}
 use Rattle.query_core.specs.declared.query.Query.{Query}
@@ -114,7 +114,7 @@ sides_below fewer q group left right known (set, a, b, is, falls, left_is, right
     let less = fewer q set a b known_set falls in
     let small = small_side q set a b known_set.0 falls in
     let below : (x : ℕ) → x < 1024 → table_count x < table_count set → IsBelow group (top_of q x)
-        = λ (x : ℕ) near_x less_x. subst (λ (g : KeyParts). IsBelow g (top_of q x)) (sym is) (side_level q x (table_count set) near_x less_x) in
+    = λ (x : ℕ) near_x less_x. subst (λ (g : KeyParts). IsBelow g (top_of q x)) (sym is) (side_level q x (table_count set) near_x less_x) in
     (subst (IsBelow group) (sym left_is) (below a small.0 less.0), subst (IsBelow group) (sym right_is) (below b small.1 less.1))
 
 of_two : (group left right child : KeyParts) → IsBelow group left × IsBelow group right → (child ≡ left) ⊎ (child ≡ right) → IsBelow group child

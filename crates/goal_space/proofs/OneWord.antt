@@ -1,5 +1,5 @@
 -- Goals by their words, where expressions and groups are told apart by theirs.
-use Rattle.std.proofs.Common.{◌≡◌, ℕ, ◌+◌, ◌*◌, ◌<◌, ◌≤◌, ◌^◌, ap, arith}
+use Rattle.std.proofs.Common.{◌≡◌, ◌<◌, ◌≤◌, ◌^◌, ap, arith}
 use Rattle.query_core.specs.Keys as keys
 use Rattle.query_core.specs.Keys.{key_number}
 use Rattle.query_core.specs.Expressions.{word_of, expr_of, IsPacked}
@@ -47,14 +47,14 @@ physical_same e f same =
     made_same e.group f.group e.operator f.operator groups_same operators_same
 
 module _ (
-  one_expr : (e f : ExprParts) → IsPacked e → IsPacked f → word_of e ≡ word_of f → e ≡ f
-) (
-  one_group : (p g : KeyParts) → keys.IsInRange p → keys.IsInRange g → key_number p ≡ key_number g → p ≡ g
-) (
-  small_expr : (e : ExprParts) → IsPacked e → word_of e < 2 ^ 48
-) (
-  small_group : (g : KeyParts) → keys.IsInRange g → key_number g < 2050
-) where
+    one_expr : (e f : ExprParts) → IsPacked e → IsPacked f → word_of e ≡ word_of f → e ≡ f
+    ) (
+    one_group : (p g : KeyParts) → keys.IsInRange p → keys.IsInRange g → key_number p ≡ key_number g → p ≡ g
+    ) (
+    small_expr : (e : ExprParts) → IsPacked e → word_of e < 2 ^ 48
+    ) (
+    small_group : (g : KeyParts) → keys.IsInRange g → key_number g < 2050
+    ) where
   -- the parts of a goal fit
   pub goal_fits : (k : GoalKind) → IsInRange k → FitsGoal (parts_of k)
   goal_fits (Exp group) known = omega (arith, small_group group known)

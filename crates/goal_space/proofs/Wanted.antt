@@ -1,20 +1,15 @@
 -- The requests of the goals of a query fit their groups.
-use Rattle.std.proofs.Common.{◌≡◌, ℕ, zero, suc, List, [], ◌∷◌, ap, sym, subst, inl, inr, arith}
-use Rattle.std.specs.Prelude.{⊤}
+use Rattle.std.proofs.Common.{List, [], ◌∷◌, sym, subst, inl, inr}
 use Rattle.query_core.specs.Expressions.{expr_of, physical_children, IsCandidate}
 use Rattle.query_core.specs.declared.query.Query.{Query}
 use Rattle.query_core.specs.declared.words.KeyParts.{KeyParts}
 use Rattle.query_core.specs.declared.expressions.ExprParts.{ExprParts}
 use Rattle.xform_rules.specs.Closure.{IsMember}
-use Rattle.request_props.specs.declared.request.Dist.{Dist}
-use Rattle.request_props.specs.declared.request.Dist.TheVariants as dists
 use Rattle.request_props.specs.declared.request.Request.{Request}
-use Rattle.request_props.specs.Fitting.{DistFits, Fits}
-use Rattle.plan_space.specs.Lines.{request}
+use Rattle.request_props.specs.Fitting.{Fits}
 use Rattle.plan_space.specs.Choices.{groups_of}
 use Rattle.plan_space.specs.Alternatives.{asked_of}
-use Rattle.plan_space.specs.Enforcers.{EnforcedBy, movers_of, enforcers_by, enforcers_of, Among}
-use Rattle.plan_space.specs.Laws.{RequestsFit, AsksWhatFits, RootRequestFits}
+use Rattle.plan_space.specs.Laws.{RequestsFit, AsksWhatFits, EnforcersAskWhatFits, RootRequestFits}
 use Rattle.goal_space.specs.Children.{IsAsked, IsChildGoal}
 use Rattle.goal_space.specs.Goals.{IsGoal, root_goal, child_goal}
 use Rattle.goal_space.specs.OfMembers.{IsOfMember, goals_of_members}
@@ -23,38 +18,6 @@ use Rattle.goal_space.specs.declared.goals.GoalKind.{GoalKind}
 use Rattle.goal_space.specs.declared.goals.GoalKind.TheVariants.{Exp, ExpE, Xf, Imp, ImpE, Opt, OptE}
 
 -- ---- requests
-
--- rows in no order, wherever they lie, fit where their distribution does
-unordered_fits : (q : Query) (group : KeyParts) (dist : Dist) → DistFits q group dist → Fits q group (request dist 0)
-unordered_fits q group dist fits = record { dist = fits; numbered = omega arith; order = λ k d below. absurd (omega (arith, below)) }
-
-mover_fits : (q : Query) (group : KeyParts) (dist : Dist) (e : EnforcedBy) → Among e (movers_of dist) → Fits q group e.below
-mover_fits q group dists.One e (inl same) = subst (λ (x : EnforcedBy). Fits q group x.below) (sym same) (unordered_fits q group dists.Spread tt)
-mover_fits q group dists.One e (inr none) = absurd none
-mover_fits q group dists.Spread e none = absurd none
-mover_fits q group dists.Copies e (inl same) = subst (λ (x : EnforcedBy). Fits q group x.below) (sym same) (unordered_fits q group dists.Spread tt)
-mover_fits q group dists.Copies e (inr none) = absurd none
-mover_fits q group (dists.Hashed list) e (inl same) = subst (λ (x : EnforcedBy). Fits q group x.below) (sym same) (unordered_fits q group dists.Spread tt)
-mover_fits q group (dists.Hashed list) e (inr none) = absurd none
-
--- the same order fits with rows that may lie on any segments
-spread_fits : (q : Query) (group : KeyParts) (wanted : Request) → Fits q group wanted → Fits q group (request dists.Spread wanted.order)
-spread_fits q group wanted fits = record { dist = tt; numbered = fits.numbered; order = fits.order }
-
-enforcer_by_fits : (q : Query) (group : KeyParts) (dist : Dist) (order : ℕ) (e : EnforcedBy) → Fits q group (request dist order)
-    → Among e (enforcers_by dist order) → Fits q group e.below
-enforcer_by_fits q group dist zero e fits among = mover_fits q group dist e among
-enforcer_by_fits q group dist (suc place) e fits (inl same) = subst (λ (x : EnforcedBy). Fits q group x.below) (sym same) (unordered_fits q group dist fits.dist)
-enforcer_by_fits q group dists.One (suc place) e fits (inr (inl same)) =
-    subst (λ (x : EnforcedBy). Fits q group x.below) (sym same) (spread_fits q group (request dists.One (suc place)) fits)
-enforcer_by_fits q group dists.One (suc place) e fits (inr (inr none)) = absurd none
-enforcer_by_fits q group dists.Spread (suc place) e fits (inr none) = absurd none
-enforcer_by_fits q group dists.Copies (suc place) e fits (inr none) = absurd none
-enforcer_by_fits q group (dists.Hashed list) (suc place) e fits (inr none) = absurd none
-
--- what an enforcer asks for fits the group
-enforcer_fits : (q : Query) (group : KeyParts) (wanted : Request) (e : EnforcedBy) → Fits q group wanted → Among e (enforcers_of wanted) → Fits q group e.below
-enforcer_fits q group wanted e fits among = enforcer_by_fits q group wanted.dist wanted.order e fits among
 
 -- of requests that fit their groups each does
 one_fits : (q : Query) (groups : List KeyParts) (wishes : List Request) (group : KeyParts) (wanted : Request) → RequestsFit q groups wishes
@@ -67,7 +30,7 @@ one_fits q (first ∷ groups) (wish ∷ wishes) group wanted fit (inr among) = o
 
 -- ---- goals
 
-module _ (q : Query) (root_fits : RootRequestFits q) (asks_what_fits : AsksWhatFits q) (candidates : (e : ExprParts) → IsMember q e → IsCandidate q e) where
+module _ (q : Query) (root_fits : RootRequestFits q) (asks_what_fits : AsksWhatFits q) (enforcers_ask : EnforcersAskWhatFits q) (candidates : (e : ExprParts) → IsMember q e → IsCandidate q e) where
   child_fits : (goal child : GoalKind) → IsOfMember q goal → HasFittingRequest q goal → IsChildGoal (IsMember q) q goal child → HasFittingRequest q child
   child_fits (Exp group) child known fits (e, is_in, is) = subst (HasFittingRequest q) (sym is) tt
   child_fits (ExpE e) child known fits (inl (group, below, is)) = subst (HasFittingRequest q) (sym is) tt
@@ -80,7 +43,7 @@ module _ (q : Query) (root_fits : RootRequestFits q) (asks_what_fits : AsksWhatF
   child_fits (Opt group wanted) child known fits (inl is) = subst (HasFittingRequest q) (sym is) tt
   child_fits (Opt group wanted) child known fits (inr (inl (e, can, is))) =
       subst (HasFittingRequest q) (sym is) (subst (λ (g : KeyParts). Fits q g wanted) (sym can.of_group) fits)
-  child_fits (Opt group wanted) child known fits (inr (inr (e, can, is))) = subst (HasFittingRequest q) (sym is) (enforcer_fits q group wanted e fits can.among)
+  child_fits (Opt group wanted) child known fits (inr (inr (e, can, is))) = subst (HasFittingRequest q) (sym is) (enforcers_ask group wanted e fits can.among)
   child_fits (OptE e wanted) child (mode, member, serves) fits (group, below, asks, is) =
       let all_fit = asks_what_fits e asks.mode asks.line wanted (candidates (expr_of e) member) fits asks.is_alternative in
       subst (HasFittingRequest q) (sym is) (one_fits q (groups_of (physical_children e.operator)) (asked_of asks.line wanted) group below all_fit asks.is_asked)

@@ -1,7 +1,7 @@
 -- The children of a goal, which have to be finished before it: the table, one row a kind of goal.
 use Rattle.std.specs.Prelude.{ℕ, Bool, true, false, ◌≡◌, ◌⊎◌, IsTrue, List, [], ◌∷◌}
 use Rattle.std.specs.List.{Contains}
-use Rattle.query_core.specs.Expressions.{children_of, physical_children, expr_of, is_logical, word_of, IsChild}
+use Rattle.query_core.specs.Expressions.{children_of, physical_children, expr_of, is_logical, word_of, IsCandidate, IsChild}
 use Rattle.query_core.specs.declared.query.Query.{Query}
 use Rattle.query_core.specs.declared.words.KeyParts.{KeyParts}
 use Rattle.query_core.specs.declared.expressions.Children.{Children}
@@ -82,6 +82,7 @@ IsChildGoal Member q (Opt group wanted) child =
     ⊎ ((e : EnforcedBy) × CanEnforce q group wanted e × (child ≡ Opt group e.below)))
 IsChildGoal Member q (OptE e wanted) child = (group : KeyParts) × (below : Request) × AsksOf q e wanted group below × (child ≡ Opt group below)
 
--- the expression is one of those of the words
-abbrev pub IsListed : List ℕ → ExprParts → Type 0
-IsListed words e = Contains words (word_of e)
+-- the expression is one of the candidates whose words are listed
+pub record IsListedIn (q : Query) (words : List ℕ) (e : ExprParts) : Type 0 where
+  pub candidate : IsCandidate q e
+  pub listed : Contains words (word_of e)

@@ -8,7 +8,7 @@ use Rattle.xform_rules.specs.Closure.{IsMember}
 use Rattle.request_props.specs.Fitting.{Fits}
 use Rattle.request_props.specs.Numbered.{lists_of, orders_of}
 use Rattle.goal_space.specs.Words.{IsInRange}
-use Rattle.goal_space.specs.Children.{IsChildGoal, IsListed}
+use Rattle.goal_space.specs.Children.{IsChildGoal, IsListedIn}
 use Rattle.goal_space.specs.Goals.{IsGoal}
 use Rattle.goal_space.specs.Ranks.{rank_of}
 use Rattle.goal_space.specs.Asked.{AsksFor}
@@ -42,7 +42,7 @@ RanksFall q = (goal child : GoalKind) → IsOfCandidate q goal → IsChildGoal (
 
 -- the same over any listed members
 abbrev pub ListedRanksFall : Query → Type 0
-ListedRanksFall q = (words : List ℕ) (goal child : GoalKind) → IsOfCandidate q goal → IsChildGoal (IsListed words) q goal child → rank_of child < rank_of goal
+ListedRanksFall q = (words : List ℕ) (goal child : GoalKind) → IsOfCandidate q goal → IsChildGoal (IsListedIn q words) q goal child → rank_of child < rank_of goal
 
 -- the goals of a query are about its members
 abbrev pub GoalsAreOfMembers : Query → Type 0

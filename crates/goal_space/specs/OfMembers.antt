@@ -1,5 +1,5 @@
 -- The goals of a query are about its members, and ask for members.
-use Rattle.std.specs.Prelude.{ℕ, ◌≡◌, IsTrue, List, [], ◌∷◌}
+use Rattle.std.specs.Prelude.{ℕ, IsTrue, List, [], ◌∷◌}
 use Rattle.std.proofs.Common.{sym, subst, inl, inr}
 use Rattle.query_core.specs.Expressions.{children_of, expr_of, is_logical, origin_of, IsChild}
 use Rattle.query_core.specs.declared.query.Query.{Query}

@@ -1,4 +1,5 @@
-//! The goals of a search: which there are, which a goal waits for, what it asks for, its rank and its word.
+//! The goals of a search: which there are, which a goal waits for, what it asks for, its rank and
+//! its word.
 #![tactic(auto)]
 
 mod goals;
@@ -8,3 +9,6 @@ mod words;
 pub use goals::GoalKind;
 pub use laws::{goals_are_known, goals_ask_for_members, ranks_fall};
 pub use words::goal_kinds_are_one;
+
+#[cfg(test)]
+mod tests;

@@ -9,7 +9,7 @@ candidates : (c : goal.After-what_is_asked_fits) → (q : Query) → GoalsAreOfC
 candidates c q k is_goal = of_candidate q (c.members_are_candidates.ensures q) k (goals_of_members q k is_goal)
 
 requests : (c : goal.After-what_is_asked_fits) → (q : Query) → GoalRequestsFit q
-requests c q = goal_fits q (c.root_request_fits.ensures q) (c.what_is_asked_fits.ensures.children q) (c.members_are_candidates.ensures q)
+requests c q = goal_fits q (c.root_request_fits.ensures q) (c.what_is_asked_fits.ensures.children q) (c.what_is_asked_fits.ensures.enforcers q) (c.members_are_candidates.ensures q)
 
 pub returns : goal.returns
 returns c = record {

@@ -2,7 +2,7 @@ use Rattle.std.proofs.Common.{◌≡◌, refl, sym, subst, ◌∙◌}
 use Rattle.query_core.specs.Expressions.{expr_of, word_of, IsPacked}
 use Rattle.query_core.specs.declared.expressions.ExprParts.{ExprParts}
 use Rattle.query_core.specs.declared.expressions.PhysicalExpr.{PhysicalExpr}
-use Rattle.goal_space.proofs.Decoded.{StandsForNone, none_of, no_expr, opt_parts, opt_e_parts}
+use Rattle.goal_space.proofs.Decoded.{none_of, no_expr, opt_parts, opt_e_parts}
 use Rattle.goal_space.proofs.words.kind_of.Goals as goal
 
 -- the word is that of no expression
