@@ -5,4 +5,5 @@ pub mod Ranks
 pub mod Asked
 pub mod Entries
 pub mod OfMembers
+pub mod Answers
 pub mod Laws

@@ -1,0 +1,172 @@
+-- The order of the candidates of a group.
+use Rattle.std.proofs.Common.{◌≡◌, ℕ, ◌+◌, ◌<◌, ◌≤◌, refl, ap, sym, subst, ◌∙◌, inl, inr, ◌⊎◌, arith, IsTrue}
+use Rattle.std.proofs.lemmas.Bool.{cases_lt, false≢true}
+use Rattle.std.proofs.lemmas.Nat.{or_disjoint}
+use Rattle.query_core.specs.Keys as keys
+use Rattle.query_core.specs.Keys.{key_number, top_of, tables_of, IsGroup}
+use Rattle.query_core.specs.Expressions.{children_of, fields_of, is_logical, left_number, right_number, logical_fields, physical_fields, word_of, AreInRange, FallsInto, HasLogical, HasPhysical, HasShape, IsCandidate, IsJoin, IsPacked}
+use Rattle.query_core.specs.declared.query.Query.{Query}
+use Rattle.query_core.specs.declared.words.KeyParts.{KeyParts}
+use Rattle.query_core.specs.declared.words.KeyParts.TheVariants as groups
+use Rattle.query_core.specs.declared.expressions.Children.TheVariants.{Two}
+use Rattle.query_core.specs.declared.expressions.Logical.{Logical}
+use Rattle.query_core.specs.declared.expressions.Logical.TheVariants as logical
+use Rattle.query_core.specs.declared.expressions.Physical.{Physical}
+use Rattle.query_core.specs.declared.expressions.Physical.TheVariants as physical
+use Rattle.query_core.specs.declared.expressions.Operator.{Operator}
+use Rattle.query_core.specs.declared.expressions.Operator.TheVariants as operators
+use Rattle.query_core.specs.declared.expressions.ExprParts.{ExprParts}
+use Rattle.goal_rules.specs.Grown.{IndexesRise, LogicalComeFirst}
+use Rattle.goal_rules.proofs.WordFields.{SmallKeys, middle_of, HasFields, has_fields, middle_field}
+
+-- ---- logical candidates come first
+
+-- the greatest number of a logical operator of the group
+last_logical : KeyParts → ℕ
+last_logical (groups.Get t) = 1
+last_logical (groups.Filter t) = 4
+last_logical (groups.Join set) = 8
+last_logical groups.Partial = 15
+last_logical groups.Agg = 12
+
+-- the numbers of a group's logical operators are up to that one
+abbrev EndsBy : KeyParts → ℕ → Type 0
+EndsBy group number = number ≤ last_logical group
+
+logical_ends : (q : Query) (group : KeyParts) (o : Logical) → HasLogical q group o → EndsBy group (logical_fields o).number
+unfolding last_logical
+logical_ends q group logical.Get (t, is) = subst (λ (g : KeyParts). EndsBy g 1) (sym is) (omega arith)
+logical_ends q group (logical.Select child) (t, is, under) = subst (λ (g : KeyParts). EndsBy g 4) (sym is) (omega arith)
+logical_ends q group logical.NJoin (set, is) = subst (λ (g : KeyParts). EndsBy g 7) (sym is) (omega arith)
+logical_ends q group (logical.Join left right) (set, a, b, is, falls, left_is, right_is) = subst (λ (g : KeyParts). EndsBy g 8) (sym is) (omega arith)
+logical_ends q group (logical.Agg child) (is, under) = subst (λ (g : KeyParts). EndsBy g 12) (sym is) (omega arith)
+logical_ends q group (logical.Partial child) (is, under) = subst (λ (g : KeyParts). EndsBy g 15) (sym is) (omega arith)
+
+-- those of its physical ones come after it
+abbrev BeginsAfter : KeyParts → ℕ → Type 0
+BeginsAfter group number = last_logical group < number
+
+physical_begins : (q : Query) (group : KeyParts) (o : Physical) → HasPhysical q group o → BeginsAfter group (physical_fields o).number
+unfolding last_logical
+physical_begins q group physical.Scan (t, is) = subst (λ (g : KeyParts). BeginsAfter g 2) (sym is) (omega arith)
+physical_begins q group (physical.IndexScan index) (t, is, has) = subst (λ (g : KeyParts). BeginsAfter g 3) (sym is) (omega arith)
+physical_begins q group (physical.Filter child) (t, is, under) = subst (λ (g : KeyParts). BeginsAfter g 5) (sym is) (omega arith)
+physical_begins q group (physical.IndexSeek index) (t, is, has) = subst (λ (g : KeyParts). BeginsAfter g 6) (sym is) (omega arith)
+physical_begins q group (physical.HashJoin left right) (set, a, b, is, falls, left_is, right_is) = subst (λ (g : KeyParts). BeginsAfter g 9) (sym is) (omega arith)
+physical_begins q group (physical.MergeJoin left right) (set, a, b, is, falls, left_is, right_is) = subst (λ (g : KeyParts). BeginsAfter g 10) (sym is) (omega arith)
+physical_begins q group (physical.LoopJoin left right) (set, a, b, is, falls, left_is, right_is) = subst (λ (g : KeyParts). BeginsAfter g 11) (sym is) (omega arith)
+physical_begins q group (physical.HashAgg child) (is, under) = subst (λ (g : KeyParts). BeginsAfter g 13) (sym is) (omega arith)
+physical_begins q group (physical.StreamAgg child) (is, under) = subst (λ (g : KeyParts). BeginsAfter g 14) (sym is) (omega arith)
+physical_begins q group (physical.PartialAgg child) (is, under) = subst (λ (g : KeyParts). BeginsAfter g 16) (sym is) (omega arith)
+
+number_less : (q : Query) (group : KeyParts) (o p : Operator) → HasShape q group o → HasShape q group p → IsTrue (is_logical o) → (IsTrue (is_logical p) → ⊥)
+    → (fields_of o).number < (fields_of p).number
+number_less q group (operators.Logical o) (operators.Physical p) shape other wanted made =
+    omega (arith, logical_ends q group o shape, physical_begins q group p other)
+number_less q group (operators.Logical o) (operators.Logical p) shape other wanted made = absurd (made refl)
+number_less q group (operators.Physical o) p shape other wanted made = absurd (false≢true wanted)
+
+pub logical_first : SmallKeys → (q : Query) → ((e : ExprParts) → IsCandidate q e → IsPacked e) → LogicalComeFirst q
+logical_first small q packed e other known other_known same wanted made =
+    let shape : HasShape q e.group other.operator = subst (λ (g : KeyParts). HasShape q g other.operator) (sym same) other_known.shape in
+    let less = number_less q e.group e.operator other.operator known.shape shape wanted made in
+    let e_has = has_fields small e (packed e known) in
+    let other_has = has_fields small other (packed other other_known) in
+    let e_is = e_has.word_is in
+    let other_is = other_has.word_is in
+    let e_few = e_has.right_below in
+    let keys_same : key_number e.group ≡ key_number other.group = ap key_number same in
+    let index_few = (packed e known).index in
+    let left_few = e_has.left_below in
+    omega arith
+
+-- ---- the left child tells the right one
+
+-- the operator has no right child, or is a join of its children
+abbrev HasSides : Query → KeyParts → Operator → Type 0
+HasSides q group o =
+    ((right_number (children_of o) ≡ 0) × (((fields_of o).number < 8) ⊎ (11 < (fields_of o).number)))
+    ⊎ ((left right : KeyParts) × IsJoin q group left right × (children_of o ≡ Two left right) × (8 ≤ (fields_of o).number) × ((fields_of o).number ≤ 11))
+
+has_sides : (q : Query) (group : KeyParts) (o : Operator) → HasShape q group o → HasSides q group o
+has_sides q group (operators.Logical logical.Get) shape = inl (refl, inl (omega arith))
+has_sides q group (operators.Logical (logical.Select child)) shape = inl (refl, inl (omega arith))
+has_sides q group (operators.Logical logical.NJoin) shape = inl (refl, inl (omega arith))
+has_sides q group (operators.Logical (logical.Join left right)) shape = inr (left, right, shape, refl, omega arith, omega arith)
+has_sides q group (operators.Logical (logical.Agg child)) shape = inl (refl, inr (omega arith))
+has_sides q group (operators.Logical (logical.Partial child)) shape = inl (refl, inr (omega arith))
+has_sides q group (operators.Physical physical.Scan) shape = inl (refl, inl (omega arith))
+has_sides q group (operators.Physical (physical.IndexScan index)) shape = inl (refl, inl (omega arith))
+has_sides q group (operators.Physical (physical.Filter child)) shape = inl (refl, inl (omega arith))
+has_sides q group (operators.Physical (physical.IndexSeek index)) shape = inl (refl, inl (omega arith))
+has_sides q group (operators.Physical (physical.HashJoin left right)) shape = inr (left, right, shape, refl, omega arith, omega arith)
+has_sides q group (operators.Physical (physical.MergeJoin left right)) shape = inr (left, right, shape, refl, omega arith, omega arith)
+has_sides q group (operators.Physical (physical.LoopJoin left right)) shape = inr (left, right, shape, refl, omega arith, omega arith)
+has_sides q group (operators.Physical (physical.HashAgg child)) shape = inl (refl, inr (omega arith))
+has_sides q group (operators.Physical (physical.StreamAgg child)) shape = inl (refl, inr (omega arith))
+has_sides q group (operators.Physical (physical.PartialAgg child)) shape = inl (refl, inr (omega arith))
+
+-- of a set and the one side, the other side
+side_is : (q : Query) (set a b : ℕ) → FallsInto q set a b → a + b ≡ set
+side_is q set a b falls = sym (or_disjoint a b falls.disjoint) ∙ falls.whole
+
+module _ (q : Query) (tables : (set : ℕ) → tables_of (top_of q set) ≡ set) where
+  right_one : (group left right other : KeyParts) → IsJoin q group left right → IsJoin q group left other → right ≡ other
+  right_one group left right other (set, a, b, is, falls, left_is, right_is) (more, c, d, more_is, falls_more, left_more, other_is) =
+      let sets : groups.Join set ≡ groups.Join more = sym is ∙ more_is in
+      let set_same : set ≡ more = cc in
+      let a_same : a ≡ c = sym (tables a) ∙ ap tables_of (sym left_is ∙ left_more) ∙ tables c in
+      let b_same : b ≡ d = omega (arith, side_is q set a b falls, side_is q more c d falls_more, set_same, a_same) in
+      right_is ∙ ap (top_of q) b_same ∙ sym other_is
+
+  -- operators of one group with the same number and left child have the same right child
+  rights_one : (one_group : (p g : KeyParts) → keys.IsInRange p → keys.IsInRange g → key_number p ≡ key_number g → p ≡ g) (group : KeyParts) (o p : Operator)
+      → HasSides q group o → HasSides q group p → AreInRange (children_of o) → AreInRange (children_of p) → (fields_of o).number ≡ (fields_of p).number
+      → left_number (children_of o) ≡ left_number (children_of p) → right_number (children_of o) ≡ right_number (children_of p)
+  rights_one one_group group o p (inl (none, out)) (inl (other_none, other_out)) known other numbers lefts = none ∙ sym other_none
+  rights_one one_group group o p (inl (none, out)) (inr (left, right, join, two, from, upto)) known other numbers lefts = absurd (omega (arith, out, from, upto, numbers))
+  rights_one one_group group o p (inr (left, right, join, two, from, upto)) (inl (none, out)) known other numbers lefts = absurd (omega (arith, out, from, upto, numbers))
+  rights_one one_group group o p (inr (left, right, join, two, from, upto)) (inr (other_left, other_right, other_join, other_two, other_from, other_upto)) known other numbers lefts =
+      let in_range : AreInRange (Two left right) = subst AreInRange two known in
+      let other_in_range : AreInRange (Two other_left other_right) = subst AreInRange other_two other in
+      let left_keys : key_number left ≡ key_number other_left = omega (arith, ap left_number two, ap left_number other_two, lefts) in
+      let left_same : left ≡ other_left = one_group left other_left in_range.0 other_in_range.0 left_keys in
+      let turned : IsJoin q group left other_right = subst (λ (g : KeyParts). IsJoin q group g other_right) (sym left_same) other_join in
+      let right_same : right ≡ other_right = right_one group left right other_right join turned in
+      ap right_number two ∙ ap (λ (g : KeyParts). key_number g + 1) right_same ∙ sym (ap right_number other_two)
+
+-- of two words of a group with the same middle the right children are the same, so neither is less
+middle_apart : (e other : ExprParts) → (fields_of e.operator).index < 32 → (fields_of other.operator).index < 32 → HasFields e → HasFields other
+    → key_number e.group ≡ key_number other.group
+    → ((fields_of e.operator).number ≡ (fields_of other.operator).number → left_number (children_of e.operator) ≡ left_number (children_of other.operator)
+    → right_number (children_of e.operator) ≡ right_number (children_of other.operator))
+    → word_of e < word_of other → middle_of other ≤ middle_of e → ⊥
+middle_apart e other index other_index has other_has keys_same rights less above =
+    let is = has.word_is in
+    let other_is = other_has.word_is in
+    let left = has.left_below in
+    let other_left = other_has.left_below in
+    let right = has.right_below in
+    let other_right = other_has.right_below in
+    let same : middle_of e ≡ middle_of other = omega (arith, is, other_is, keys_same, less, above, right, other_right) in
+    let numbers : (fields_of e.operator).number ≡ (fields_of other.operator).number = omega (arith, same, index, other_index, left, other_left) in
+    let lefts : left_number (children_of e.operator) ≡ left_number (children_of other.operator) = omega (arith, same, index, other_index, left, other_left) in
+    let right_same = rights numbers lefts in
+    omega (arith, is, other_is, keys_same, same, right_same, less)
+
+pub indexes_rise : SmallKeys → (q : Query) → ((set : ℕ) → tables_of (top_of q set) ≡ set)
+    → ((p g : KeyParts) → keys.IsInRange p → keys.IsInRange g → key_number p ≡ key_number g → p ≡ g) → ((e : ExprParts) → IsCandidate q e → IsPacked e) → IndexesRise q
+indexes_rise small q tables one_group packed e other known other_known same less =
+    let shape : HasShape q e.group other.operator = subst (λ (g : KeyParts). HasShape q g other.operator) (sym same) other_known.shape in
+    let e_packed = packed e known in
+    let other_packed = packed other other_known in
+    let e_has = has_fields small e e_packed in
+    let other_has = has_fields small other other_packed in
+    let keys_same : key_number e.group ≡ key_number other.group = ap key_number same in
+    let rights = rights_one q tables one_group e.group e.operator other.operator (has_sides q e.group e.operator known.shape) (has_sides q e.group other.operator shape)
+    e_packed.children other_packed.children in
+    let rise : middle_of e < middle_of other = elim (cases_lt (middle_of e) (middle_of other)) [
+      | inl below ↦ below
+      | inr above ↦ absurd (middle_apart e other e_packed.index other_packed.index e_has other_has keys_same rights less above)
+    ] in
+    omega (arith, middle_field e e_has, middle_field other other_has, rise)

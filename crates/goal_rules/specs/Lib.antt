@@ -1,0 +1,5 @@
+pub mod Answers
+pub mod Meaning
+pub mod WordRanks
+pub mod EntryLaws
+pub mod Grown

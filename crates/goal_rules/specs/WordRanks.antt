@@ -1,0 +1,41 @@
+-- The rank of a goal by its word, as a function of any number.
+use Rattle.std.specs.Prelude.{ℕ, zero, suc, ◌+◌, ◌-◌, ◌*◌, ◌/◌, ◌%◌, ◌^◌, ◌<◌, nat_lt, if◌then◌else◌}
+use Rattle.query_core.specs.declared.query.Query.{Query}
+use Rattle.xform_rules.specs.Counts.{table_count}
+use Rattle.goal_space.specs.Ranks.{order_rank}
+use Rattle.goal_space.specs.Entries.{IsChildWord}
+
+-- the level of the group whose key has this number
+abbrev pub level_by : ℕ → ℕ
+level_by key =
+    if nat_lt key 16 then 1
+    else if nat_lt key 1024 then 2
+    else if nat_lt key 2048 then 1 + table_count (key - 1024)
+    else key - 2036
+
+-- the level of the group of the expression with this word
+abbrev pub expr_level_by : ℕ → ℕ
+expr_level_by word = level_by (word / 2 ^ 36)
+
+-- the distribution of code 1 may lie on any segments
+abbrev pub dist_rank_by : ℕ → ℕ
+dist_rank_by zero = 1
+dist_rank_by (suc zero) = 0
+dist_rank_by (suc (suc list)) = 1
+
+-- by the number of the goal's kind, the number of the group's key or the expression's word, and the request's code
+abbrev pub rank_by : ℕ → ℕ → ℕ → ℕ
+rank_by zero subject detail = 100 * level_by subject + 20
+rank_by (suc zero) subject detail = 100 * expr_level_by subject + 10
+rank_by (suc (suc zero)) subject detail = 100 * expr_level_by subject
+rank_by (suc (suc (suc zero))) subject detail = 100 * level_by subject + 40
+rank_by (suc (suc (suc (suc zero)))) subject detail = 100 * expr_level_by subject + 30
+rank_by (suc (suc (suc (suc (suc zero))))) subject detail = 100 * level_by subject + 60 + (dist_rank_by (detail / 64) + order_rank (detail % 64))
+rank_by (suc (suc (suc (suc (suc (suc kind)))))) subject detail = 100 * expr_level_by subject + 50
+
+abbrev pub rank_of_word : ℕ → ℕ
+rank_of_word word = rank_by (word / 2 ^ 60 % 8) (word / 2 ^ 12 % 2 ^ 48) (word % 2 ^ 12)
+
+-- a child has a smaller rank
+abbrev pub WordRanksFall : Query → Type 0
+WordRanksFall q = (word child : ℕ) → IsChildWord q word child → rank_of_word child < rank_of_word word

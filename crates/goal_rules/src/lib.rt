@@ -1,0 +1,9 @@
+//! The rules of a board for the search of a query, and what holds of them.
+#![tactic(auto)]
+
+mod laws;
+mod ranks;
+mod rules;
+
+pub use laws::{candidates_are_in_order, members_are_explored};
+pub use rules::Rules;

@@ -1,0 +1,83 @@
+//! The ranks of goals by their words.
+#![tactic(auto)]
+
+ghost use Rattle.std.specs.Prelude.{◌≡◌, ◌<◌, ◌≤◌, ◌+◌, ◌/◌, ◌%◌, ◌^◌};
+ghost use Rattle.query_core.specs.Sets.{bit};
+ghost use Rattle.xform_rules.specs.Counts.{table_count as count_of};
+ghost use Rattle.goal_space.specs.Ranks.{order_rank as rank_of_order};
+ghost use Rattle.goal_rules.specs.WordRanks.{dist_rank_by, expr_level_by, level_by, rank_of_word as rank_number};
+
+use query_core::sets;
+
+/// The rank of the goal of this word.
+pub fn rank_of_word(word: u64) -> u64
+    ensures { result ≡ rank_number word }
+{
+    let subject = (word >> 12) % (1 << 48);
+    match (word >> 60) % 8 {
+        0 => 100 * level(subject) + 20,
+        1 => 100 * expr_level(subject) + 10,
+        2 => 100 * expr_level(subject),
+        3 => 100 * level(subject) + 40,
+        4 => 100 * expr_level(subject) + 30,
+        5 => 100 * level(subject) + 60 + request_rank(word % (1 << 12)),
+        _ => 100 * expr_level(subject) + 50,
+    }
+}
+
+// The level of the group of this key.
+fn level(key: u64) -> u64
+    requires { key < 2 ^ 48 }
+    ensures value { result ≡ level_by key }
+    ensures few { result < 2 ^ 48 }
+{
+    match key {
+        0..16 => 1,
+        16..1024 => 2,
+        1024..2048 => 1 + table_count((key - 1024) as u32),
+        _ => key - 2036,
+    }
+}
+
+// The level of the group of the expression of this word.
+fn expr_level(word: u64) -> u64
+    requires { word < 2 ^ 48 }
+    ensures value { result ≡ expr_level_by word }
+    ensures few { result < 2 ^ 48 }
+{
+    level(word >> 36)
+}
+
+// The rank of the request of this code.
+fn request_rank(code: u64) -> u64
+    ensures value { result ≡ dist_rank_by (code / 64) + rank_of_order (code % 64) }
+    ensures few { result ≤ 2 }
+{
+    let dist = if code / 64 == 1 { 0 } else { 1 };
+    let order = if code % 64 == 0 { 0 } else { 1 };
+    dist + order
+}
+
+// How many of the first ten tables the set has.
+fn table_count(set: u32) -> u64
+    ensures value { result ≡ count_of set }
+    ensures few { result ≤ 10 }
+{
+    bit(set, 0)
+        + bit(set, 1)
+        + bit(set, 2)
+        + bit(set, 3)
+        + bit(set, 4)
+        + bit(set, 5)
+        + bit(set, 6)
+        + bit(set, 7)
+        + bit(set, 8)
+        + bit(set, 9)
+}
+
+fn bit(set: u32, table: u32) -> u64
+    ensures value { result ≡ bit set table }
+    ensures few { result ≤ 1 }
+{
+    if sets::has(set, table) { 1 } else { 0 }
+}
