@@ -96,7 +96,7 @@ module _ (q : Query) (told : AreTold q) (group : KeyParts) where
   in_range_by (Hashed list) (suc o) e fits (inr none) = absurd none
 
   -- a choice's root has a number of its own
-  choice_in_range : (wanted : Request) (plan : Tree) → Fits q group wanted → IsChoice (IsMember q) q group wanted plan → IsInRange (root_node plan)
+  pub choice_in_range : (wanted : Request) (plan : Tree) → Fits q group wanted → IsChoice (IsMember q) q group wanted plan → IsInRange (root_node plan)
   choice_in_range wanted plan fits (enforced_choice e kid among least is) =
       subst (λ t. IsInRange (root_node t)) (sym is) (in_range_by wanted.dist wanted.order e fits among)
   choice_in_range wanted plan fits (native_choice e mode line kids member of_group alternative least is) =

@@ -17,8 +17,10 @@ use Rattle.plan_space.specs.Alternatives.{IsAlternative, asked_of}
 use Rattle.plan_space.specs.Enforcers.{EnforcedBy, enforcers_of, Among}
 use Rattle.plan_space.specs.Cost.{most_of_all}
 use Rattle.plan_space.specs.Least.{IsAnswer}
-use Rattle.plan_space.specs.Choices.{groups_of}
+use Rattle.plan_space.specs.Choices.{groups_of, IsChoice}
 use Rattle.plan_tree.specs.Costs.{IsNativeCost, IsEnforcerCost}
+use Rattle.plan_tree.specs.Nodes.{IsInRange}
+use Rattle.plan_tree.specs.Seen.{root_node}
 use Rattle.best_answers.specs.Nodes.{Nodes, no_nodes, one_node, both_of, all_nodes, IsIn}
 use Rattle.best_answers.specs.Answers.{answer_of, lesser, costs_below, best_over}
 use Rattle.best_answers.specs.Best.{IsLeastIn, IsBest, AreBest}
@@ -77,3 +79,9 @@ BestIsLeast q =
 abbrev pub BestsFit : Query → Type 0
 BestsFit q =
     (group : KeyParts) (wanted : Request) (set : Nodes) (best : Best) → Fits q group wanted → IsBest q group wanted set (Some best) → best.cost ≤ most_of_all
+
+-- the node at the root of a choice has a number of its own
+abbrev pub RootsHaveNumbers : Query → Type 0
+RootsHaveNumbers q =
+    (props : Props) → IsProps q props → (group : KeyParts) (wanted : Request) (plan : Tree) → Fits q group wanted → IsChoice (IsMember q) q group wanted plan
+    → IsInRange (root_node plan)

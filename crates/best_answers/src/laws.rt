@@ -4,6 +4,7 @@
 ghost use Rattle.query_core.specs.declared.query.Query.{Query};
 ghost use Rattle.best_answers.specs.Laws.{BestIsLeast, BestIsOne, BestsFit, CoveredIsBest};
 ghost use Rattle.best_answers.specs.Laws.{EnforcerIsBest, LesserIsBest, ModeIsBest, NoneIsBest};
+ghost use Rattle.best_answers.specs.Laws.{RootsHaveNumbers};
 
 use plan_space::{
     choices_serve, costs_fit, least_is_one, modes_are_few, plans_are_ordered, settled_is_least,
@@ -24,6 +25,7 @@ pub fn answers_are_best()
     ensures lesser { (q : Query) → LesserIsBest q }
     ensures covered { (q : Query) → CoveredIsBest q }
     ensures fits { (q : Query) → BestsFit q }
+    ensures roots { (q : Query) → RootsHaveNumbers q }
 {
     best_is_least();
     plans_are_ordered();

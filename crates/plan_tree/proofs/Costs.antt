@@ -18,7 +18,7 @@ use Rattle.plan_space.specs.declared.lines.LeftDist.TheVariants as left_dists
 use Rattle.plan_space.specs.declared.lines.Line.{Line}
 use Rattle.plan_space.specs.declared.lines.Line.TheVariants.{Alone, Above, Beside}
 use Rattle.plan_space.specs.declared.nodes.Enforcer.{Enforcer}
-use Rattle.plan_space.specs.Enforcers.{EnforcedBy, Among, enforcers_by}
+use Rattle.plan_space.specs.Enforcers.{EnforcedBy, enforcers_of, Among}
 use Rattle.plan_space.specs.Lines.{request}
 use Rattle.plan_space.specs.Gives.{Kid, left_dist, line_gives, native_gives}
 use Rattle.plan_space.specs.Alternatives.{DistServes, dist_asked, LineServes, IsAlternative, asked_of, KidsServe}
@@ -86,33 +86,9 @@ module _ (agree : (dist : GivenDist) (asked : Dist) → Meets dist asked → cla
       → class_of (native_gives q e mode kids).dist ≡ class_asked wanted.dist
   out_met q e mode line kids wanted is of serve = rw is.is_line (line_met q line (physical_children e.operator) kids wanted is.serves of serve)
 
--- ---- what an enforcer for a request asks for
-
-asks_so : (wanted : Request) (e made : EnforcedBy) → e ≡ made → made.below ≡ below_of made.node wanted → e.below ≡ below_of e.node wanted
-asks_so wanted e made is asks = subst (λ (x : EnforcedBy). x.below ≡ below_of x.node wanted) (sym is) asks
-
-asks_by : (dist : Dist) (order : ℕ) (e : EnforcedBy) → Among e (enforcers_by dist order) → e.below ≡ below_of e.node (request dist order)
-asks_by One zero e (inl is) = asks_so (request One zero) e _ is refl
-asks_by One zero e (inr none) = absurd none
-asks_by Spread zero e none = absurd none
-asks_by Copies zero e (inl is) = asks_so (request Copies zero) e _ is refl
-asks_by Copies zero e (inr none) = absurd none
-asks_by (Hashed list) zero e (inl is) = asks_so (request (Hashed list) zero) e _ is refl
-asks_by (Hashed list) zero e (inr none) = absurd none
-asks_by One (suc o) e (inl is) = asks_so (request One (suc o)) e _ is refl
-asks_by One (suc o) e (inr (inl is)) = asks_so (request One (suc o)) e _ is refl
-asks_by One (suc o) e (inr (inr none)) = absurd none
-asks_by Spread (suc o) e (inl is) = asks_so (request Spread (suc o)) e _ is refl
-asks_by Spread (suc o) e (inr none) = absurd none
-asks_by Copies (suc o) e (inl is) = asks_so (request Copies (suc o)) e _ is refl
-asks_by Copies (suc o) e (inr none) = absurd none
-asks_by (Hashed list) (suc o) e (inl is) = asks_so (request (Hashed list) (suc o)) e _ is refl
-asks_by (Hashed list) (suc o) e (inr none) = absurd none
-
 -- the cost over what an enforcer asks for is that of the enforcer among those for the request
-pub cost_by : (q : Query) (enforcer : Enforcer) (group : KeyParts) (wanted below : Request) (price : ℕ) → below ≡ below_of enforcer wanted
+pub cost_by : (q : Query) (enforcer : Enforcer) (group : KeyParts) (wanted below : Request) (price : ℕ) → ((e : EnforcedBy) → Among e (enforcers_of wanted) → e.node ≡ enforcer → e.below ≡ below)
     → IsEnforcerCost q enforcer group below price → IsCostAmong q enforcer group wanted price
 cost_by q enforcer group wanted below price asked cost e among is =
-    let same : below ≡ e.below = asked ∙ ap (λ (x : Enforcer). below_of x wanted) (sym is) ∙ sym (asks_by wanted.dist wanted.order e among) in
     subst (λ (x : Enforcer). IsEnforcerCost q x group e.below price) (sym is)
-    (subst (λ (b : Request). IsEnforcerCost q enforcer group b price) same cost)
+    (subst (λ (b : Request). IsEnforcerCost q enforcer group b price) (sym (asked e among is)) cost)

@@ -11,6 +11,7 @@ ghost use Rattle.cost_units.specs.Cost.{IsBounded, most_rows, most_cost, share a
 ghost use Rattle.request_props.specs.Numbered.{IsProps};
 ghost use Rattle.plan_space.specs.Alternatives.{asked_of};
 ghost use Rattle.plan_space.specs.Choices.{groups_of};
+ghost use Rattle.plan_space.specs.Enforcers.{Among, EnforcedBy, enforcers_of};
 ghost use Rattle.plan_space.specs.Lines.{line_of as line_by_table};
 ghost use Rattle.plan_space.specs.Cost.{operator_shape as shape_by_operator, share_of};
 ghost use Rattle.plan_space.specs.declared.nodes.Enforcer.{Enforcer as AnyEnforcer};
@@ -143,6 +144,27 @@ pub fn node_cost(query: &Query, props: &Props, key: Key, request: Request, node:
     }
 }
 
+/// What an enforcer for the request asks of a plan of the same group.
+pub fn asked_by(enforcer: Enforcer, request: Request) -> Request
+    ensures value { result ≡ below_of enforcer request }
+    ensures only { (e : EnforcedBy) → Among e (enforcers_of request) → e.node ≡ enforcer →
+        e.below ≡ result }
+{
+    match enforcer {
+        Enforcer::Gather => ask(Dist::Spread, 0),
+        Enforcer::Broadcast => ask(Dist::Spread, 0),
+        Enforcer::Sort(_) => ask(request.dist, 0),
+        Enforcer::GatherMerge(_) => ask(Dist::Spread, request.order),
+        Enforcer::Redistribute(_) => ask(Dist::Spread, 0),
+    }
+}
+
+fn ask(dist: Dist, order: u32) -> Request
+    ensures { result ≡ record { dist = dist; order = order } }
+{
+    Request { dist, order }
+}
+
 // The cost of an enforcer for the request, over so many rows.
 fn cost_among(query: &Query, enforcer: Enforcer, rows: u64, request: Request) -> u64
     requires { rows ≤ most_rows }
@@ -151,7 +173,7 @@ fn cost_among(query: &Query, enforcer: Enforcer, rows: u64, request: Request) ->
     ensures some { 1 ≤ result }
     ensures most { result ≤ most_cost }
 {
-    cost_over(query, enforcer, rows, below(enforcer, request))
+    cost_over(query, enforcer, rows, asked_by(enforcer, request))
 }
 
 // The cost of an enforcer over so many rows that lie as asked.
@@ -172,25 +194,6 @@ fn cost_over(query: &Query, enforcer: Enforcer, rows: u64, below: Request) -> u6
             CostShape::Redistribute(rows_share(query, rows, below.dist))
         }
     })
-}
-
-// What an enforcer for the request asks of a plan of the same group.
-fn below(enforcer: Enforcer, request: Request) -> Request
-    ensures { result ≡ below_of enforcer request }
-{
-    match enforcer {
-        Enforcer::Gather => ask(Dist::Spread, 0),
-        Enforcer::Broadcast => ask(Dist::Spread, 0),
-        Enforcer::Sort(_) => ask(request.dist, 0),
-        Enforcer::GatherMerge(_) => ask(Dist::Spread, request.order),
-        Enforcer::Redistribute(_) => ask(Dist::Spread, 0),
-    }
-}
-
-fn ask(dist: Dist, order: u32) -> Request
-    ensures { result ≡ record { dist = dist; order = order } }
-{
-    Request { dist, order }
 }
 
 // What an expression has to do by a line.

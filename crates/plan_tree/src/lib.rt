@@ -16,7 +16,8 @@ mod walks;
 pub use alternatives::{Alt, alternative, alternative_by, alternative_in, modes_are_one};
 pub use answers::{Answered, Answers};
 pub use cost::{
-    ExprRows, enforcer_cost, enforcer_cost_by, expr_rows, native_cost, native_cost_by, node_cost,
+    ExprRows, asked_by, enforcer_cost, enforcer_cost_by, expr_rows, native_cost, native_cost_by,
+    node_cost,
 };
 pub use enforcers::{Enforced, enforcer};
 pub use lines::{line_of, table_in};
