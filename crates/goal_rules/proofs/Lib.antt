@@ -4,4 +4,6 @@ pub mod WordFields
 pub mod Ranked
 pub mod Falling
 pub mod OneAnswer
+pub mod KnownWords
+pub mod Exploring
 pub mod Candidates

@@ -3,3 +3,5 @@ pub mod Meaning
 pub mod WordRanks
 pub mod EntryLaws
 pub mod Grown
+pub mod Explored
+pub mod Known

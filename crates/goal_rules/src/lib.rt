@@ -5,5 +5,7 @@ mod laws;
 mod ranks;
 mod rules;
 
-pub use laws::{candidates_are_in_order, members_are_explored};
+pub use laws::{
+    candidates_are_in_order, entries_are_known, explorations_are_known, members_are_explored,
+};
 pub use rules::Rules;
