@@ -1,4 +1,4 @@
-//! What holds of members and candidates, for goals that explore.
+//! What the words of entries stand for, how exploration finds members, and the order of candidates.
 #![tactic(auto)]
 
 ghost use Rattle.std.specs.Prelude.{◌<◌, ◌^◌};
@@ -45,7 +45,8 @@ pub fn candidates_are_in_order()
     sides_are_known();
 }
 
-/// The exploration of a group asks for what is found from the origin, and waits for its exploration.
+/// The exploration of a group asks for what is found from the origin, and waits for the exploration
+/// of each.
 pub fn explorations_are_known()
     ensures { (q : Query) → ExplorationsAreKnown q }
 {

@@ -1,5 +1,5 @@
 -- Goals by their words, where expressions and groups are told apart by theirs.
-use Rattle.std.proofs.Common.{◌≡◌, ◌<◌, ◌≤◌, ◌^◌, ap, arith}
+use Rattle.std.proofs.Common.{◌≡◌, ◌<◌, ◌^◌, ap, arith}
 use Rattle.query_core.specs.Keys as keys
 use Rattle.query_core.specs.Keys.{key_number}
 use Rattle.query_core.specs.Expressions.{word_of, expr_of, IsPacked}
@@ -29,9 +29,6 @@ parts_small (parts.Imp key) fits = omega (arith, fits)
 parts_small (parts.ImpE expr) fits = omega (arith, fits)
 parts_small (parts.Opt key request) fits = omega (arith, fits.0, fits.1)
 parts_small (parts.OptE expr request) fits = omega (arith, fits.0, fits.1)
-
-pub word_high : (k : GoalKind) → 2 ^ 63 ≤ goal_word k
-word_high k = omega arith
 
 abbrev made : KeyParts → Physical → PhysicalExpr
 made group operator = record { group = group; operator = operator }

@@ -2,7 +2,8 @@
 #![tactic(auto)]
 
 ghost use Rattle.query_core.specs.declared.query.Query.{Query};
-ghost use Rattle.goal_space.specs.Laws.{RanksFall, ListedRanksFall, GoalsAreOfMembers, GoalsAreOfCandidates, GoalRequestsFit, GoalsHaveWords, AskedAreMembers, MembersAreAsked};
+ghost use Rattle.goal_space.specs.Laws.{RanksFall, ListedRanksFall, GoalsAreOfMembers, GoalsAreOfCandidates};
+ghost use Rattle.goal_space.specs.Laws.{GoalRequestsFit, GoalsHaveWords, AskedAreMembers, MembersAreAsked};
 
 use plan_space::{root_request_fits, what_is_asked_fits};
 use query_core::{candidates_are_known, groups_are_known};

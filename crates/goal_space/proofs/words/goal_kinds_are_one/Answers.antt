@@ -1,6 +1,7 @@
+use Rattle.std.proofs.Common.{arith}
 use Rattle.goal_space.specs.Words.{parts_of, IsInRange}
 use Rattle.goal_space.specs.declared.goals.GoalKind.{GoalKind}
-use Rattle.goal_space.proofs.OneWord.{goal_fits, parts_small, word_high, word_one}
+use Rattle.goal_space.proofs.OneWord.{goal_fits, parts_small, word_one}
 use Rattle.goal_space.proofs.words.goal_kinds_are_one.Goals as goal
 
 pub returns : goal.returns
@@ -11,6 +12,6 @@ returns c =
     record {
       one = word_one exprs.expressions exprs.groups exprs.small near c.goals_are_one.ensures;
       fits = fits;
-      high = word_high;
+      high = λ (k : GoalKind). omega arith;
       small = λ (k : GoalKind) (in_range : IsInRange k). parts_small (parts_of k) (fits k in_range);
     }
