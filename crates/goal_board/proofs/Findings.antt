@@ -5,19 +5,22 @@ use mathlib.Core.Option.{some, some-injective, some-ne-none}
 use lib.ListN.{get_elem?}
 use Rattle.board_rule.specs.Meaning.{Meaning}
 use Rattle.board_rule.specs.Words.{mem, full_word, cell_word, run_word, head_word, cost_word, node_word}
-use Rattle.board_rule.specs.Looks.{Looked}
+use Rattle.board_rule.specs.Looks.{Looked, ShowsFull}
 use Rattle.board_rule.specs.Rule.{HoldsGoal}
 use Rattle.board_rule.proofs.Chains.{later_closed}
 use Rattle.board_rule.proofs.WakeUps.{no_wake_up_lost, some_ready}
-use Rattle.board_rule.specs.Seats.{total, looked, claimed}
+use Rattle.board_rule.specs.Seats.{total, looked, claimed, suspended}
 use Rattle.board_rule.specs.Plays.{Moment}
 use Rattle.board_rule.specs.declared.hands.Hands.{Hands}
 use Rattle.board_rule.proofs.Truths.{shown_finished, shown_stands}
 use Rattle.goal_board.specs.Seats.{AreHandsOver, IsFree}
-use Rattle.goal_board.specs.Steps.{LooksAt, Tries}
-use Rattle.goal_board.specs.Calls.{IsSeen, found_word, ReadsCell, IsRightOf, ClaimsGoal, FindsBusy, IsReadyIn, LeavesOut, ReadsAnswer, FindsOpen, ReadsFull}
+use Rattle.goal_board.specs.Steps.{Leaves, LooksAt, Tries}
+use Rattle.goal_board.specs.Calls.{IsSeen, found_word, ReadsCell, IsRightOf, ClaimsGoal, FindsBusy, SuspendsGoal, IsReadyIn, LeavesOut, ReadsAnswer, FindsOpen, ReadsFull}
+use Rattle.goal_board.specs.declared.answers.Suspended.{Suspended}
+use Rattle.goal_board.specs.declared.answers.Suspended.TheVariants.{Ready, Waiting}
+use Rattle.goal_board.proofs.Kept.{wait_left}
 use Rattle.goal_board.proofs.Overs.{SoundWith, sound_at}
-use Rattle.goal_board.proofs.Seen.{saw_at, agrees_at, keeps_all, sound_looked, seen_more, seen_one}
+use Rattle.goal_board.proofs.Seen.{saw_at, agrees_at, sound_looked, seen_more, seen_one}
 
 -- the sum over one seat
 only_seat : {R : Type 0} → (f : Hands R → ℕ) (views : List (Hands R)) (id : ℕ) (v : Hands R) → length views ≡ 1 → get_elem? views id ≡ some v → total f views ≡ f v
@@ -81,7 +84,7 @@ module _ {R : Type 0} (meaning_of : R → Meaning) (rules : R) (room : ℕ) wher
         });
         looks = subst (λ x. IsSeen v ((run_word at, x) ∷ ((cell_word at, goal) ∷ []))) free (both_looks v w at goal value over after told tries.moment);
         hands_are = is;
-        all = keeps_all meaning_of rules room v (cell_word at) goal over told.moment;
+        all = over.all;
       }
 
   pub finds_busy : (v w u : Hands R) (at goal value : ℕ) → AreHandsOver meaning_of rules room v → AreHandsOver meaning_of rules room w
@@ -92,6 +95,24 @@ module _ {R : Type 0} (meaning_of : R → Meaning) (rules : R) (room : ℕ) wher
     busy = inr (value, inl (refl, refl), taken);
     hands_are = tries.miss taken ∙ ap (λ h. looked h (run_word at) value) told.hands_are;
   }
+
+  -- a right was given up
+  suspends : (v w : Hands R) (place found : ℕ) (answer : Suspended) → AreHandsOver meaning_of rules room v → Leaves meaning_of v (run_word place) found (suspended v place found) w
+      → (answer ≡ Ready → found ≡ 256) → (answer ≡ Waiting → found ≢ 256) → SuspendsGoal v place answer w
+  suspends v w place found answer over told ready waiting = record {
+    found = found;
+    hands_are = told.hands_are;
+    ready = ready;
+    waiting = waiting;
+    looks = seen_one v (run_word place, found) (λ e. omega (arith, e)) (saw_at meaning_of rules room v (run_word place) found over told.moment);
+    not_ready = wait_left found;
+  }
+
+  pub suspends_ready : (v w : Hands R) (place found : ℕ) → AreHandsOver meaning_of rules room v → Leaves meaning_of v (run_word place) found (suspended v place found) w → found ≡ 256 → SuspendsGoal v place Ready w
+  suspends_ready v w place found over told held = suspends v w place found Ready over told (λ _. held) (λ is. let no : ⊥ = cc in absurd no)
+
+  pub suspends_waiting : (v w : Hands R) (place found : ℕ) → AreHandsOver meaning_of rules room v → Leaves meaning_of v (run_word place) found (suspended v place found) w → found ≢ 256 → SuspendsGoal v place Waiting w
+  suspends_waiting v w place found over told more = suspends v w place found Waiting over told (λ is. let no : ⊥ = cc in absurd no) (λ _. more)
 
   -- where the looks show the full word set, some entry is in no cell
   pub leaves_out : (v : Hands R) → SoundWith meaning_of rules room v → LeavesOut (meaning_of rules) room v.looks
@@ -146,6 +167,13 @@ module _ {R : Type 0} (meaning_of : R → Meaning) (rules : R) (room : ℕ) wher
             (some_ready (meaning_of rules) room (mem s.words).cell (mem s.words).run room);
       }
 
+  -- a full word that was seen set is set
+  seen_full : (v : Hands R) (value : ℕ) (full : Bool) → AreHandsOver meaning_of rules room v → Moment meaning_of v full_word value → (full ≡ false → value ≡ 0) → ShowsFull v.looks → IsTrue full
+  seen_full v value true over moment unset shows = refl
+  seen_full v value false over moment unset shows =
+      let t = sound_at meaning_of rules room v full_word value over moment in
+      absurd ((t.0.sound.by_kinds.hands t.0.id v t.0.mine).stays.set_full shows.0 shows.1 shows.2 (sym t.1 ∙ unset refl))
+
   pub reads_full : (v w : Hands R) (value : ℕ) (full : Bool) → AreHandsOver meaning_of rules room v → 0 < v.parts → LooksAt meaning_of v full_word value w
       → (IsTrue full → value ≢ 0) → (full ≡ false → value ≡ 0) → ReadsFull (meaning_of rules) room v full w
   reads_full v w value full over some_part told set unset = record {
@@ -153,6 +181,7 @@ module _ {R : Type 0} (meaning_of : R → Meaning) (rules : R) (room : ℕ) wher
     hands_are = told.hands_are;
     set = set;
     unset = unset;
+    stays = λ shows. seen_full v value full over told.moment unset shows;
     alone = agrees_at meaning_of rules room v full_word value over told.moment;
     left_out = leaves_out w (subst (SoundWith meaning_of rules room) (sym told.hands_are) (sound_looked meaning_of rules room v full_word value over told.moment some_part));
   }

@@ -1,14 +1,15 @@
 -- A right whose answer words are stored one after the other.
-use Rattle.std.proofs.Common.{◌≡◌, ℕ, ◌+◌, ◌<◌, ◌≤◌, ◌≢◌, List, [], ◌∷◌, map, cond, eq-eqb, ne_eqb, Some, sym, refl, ap, subst, ◌∙◌, ⊎_elim, ◌==◌, arith}
+use Rattle.std.proofs.Common.{◌≡◌, ℕ, ◌+◌, ◌*◌, ◌^◌, ◌<◌, ◌≤◌, ◌≢◌, List, [], ◌∷◌, map, get_or, set, get_or-set_other, cond, eq-eqb, ne_eqb, Some, sym, refl, ap, subst, ◌∙◌, ⊎_elim, ◌==◌, arith}
 use Rattle.std.proofs.lemmas.Bool.{cases_eq}
 use Rattle.board_rule.specs.Meaning.{Meaning}
 use Rattle.board_rule.specs.Records.{Claimed}
-use Rattle.board_rule.specs.Seats.{Among, fresh_right, answered_right, without, with_cost, with_node, with_who}
+use Rattle.board_rule.specs.Words.{mem, head_word, cost_word, node_word, who_word}
+use Rattle.board_rule.specs.Seats.{Among, changed, fresh_right, answered_right, without, with_cost, with_node, with_who, cost_stored, node_stored, who_stored}
 use Rattle.board_rule.specs.May.{HasRight}
 use Rattle.board_rule.specs.Plays.{Moment}
 use Rattle.board_rule.specs.declared.hands.Hands.{Hands}
 use Rattle.board_rule.proofs.Lists.{among_map, among_counts, term_le}
-use Rattle.board_rule.proofs.Rights.{rights_at}
+use Rattle.board_rule.proofs.Rights.{rights_at, held_by}
 use Rattle.goal_board.specs.Seats.{AreHandsOver}
 use Rattle.goal_board.specs.Calls.{waiting_right}
 use Rattle.goal_board.proofs.Overs.{sound_at}
@@ -109,3 +110,28 @@ pub once_held : {R : Type 0} (meaning_of : R → Meaning) (rules : R) (room : �
 once_held meaning_of rules room v word value place over moment near =
     let s = (sound_at meaning_of rules room v word value over moment).0 in
     omega (arith, term_le (λ (u : Hands _). rights_at place u.rights) s.views s.id v s.mine, (s.sound.by_kinds.rights place near).once)
+
+-- the goal whose right is spent was not finished, by the words that are kept before its answer was stored
+pub open_before : {R : Type 0} (meaning_of : R → Meaning) (rules : R) (room : ℕ) (v u : Hands R) (place worker cost node found : ℕ) → AreHandsOver meaning_of rules room u
+    → u ≡ who_stored (node_stored (cost_stored v place cost) place node) place (worker + 1) → Moment meaning_of u (head_word place) found → place < room → Among v.rights (fresh_right place)
+    → (kept : List ℕ) → v.alone ≡ Some kept → (mem kept).head place < 2 ^ 63
+open_before meaning_of rules room v u place worker cost node found over stored moment near held kept is =
+    let s = (sound_at meaning_of rules room u (head_word place) found over moment).0 in
+    let m = mem s.words in
+    let first : List Claimed = with_cost place cost v.rights in
+    let second : List Claimed = with_node place node first in
+    let has : HasRight room u.rights place = subst (λ (h : Hands _). HasRight room h.rights place) (sym stored)
+    (has_right room (with_who place (worker + 1) second) (answered_right place worker cost node) near
+    (who_among second place worker cost node (node_among first place cost node (cost_among v.rights place cost held)))) in
+    let is_open = (held_by room m.run m.head s.views s.id u place s.mine has s.sound.by_kinds.rights).is_open in
+    let with_first_word : List ℕ = set kept (cost_word place) cost in
+    let with_both : List ℕ = set with_first_word (node_word place) node in
+    let alone : u.alone ≡ Some (set with_both (who_word place) (worker + 1)) =
+    ap (λ (h : Hands _). h.alone) stored ∙ ap (λ o. changed (who_word place) (worker + 1) (changed (node_word place) node (changed (cost_word place) cost o))) is in
+    let same = (s.sound.alone s.id u s.mine).every_word (set with_both (who_word place) (worker + 1)) alone in
+    subst (λ n. n < 2 ^ 63)
+    (sym (ap (λ ws. get_or ws (head_word place) 0) same)
+    ∙ get_or-set_other with_both (who_word place) (head_word place) (worker + 1) 0 (λ e. omega arith)
+    ∙ get_or-set_other with_first_word (node_word place) (head_word place) node 0 (λ e. omega arith)
+    ∙ get_or-set_other kept (cost_word place) (head_word place) cost 0 (λ e. omega arith))
+    is_open

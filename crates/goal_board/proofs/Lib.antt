@@ -1,4 +1,5 @@
 pub mod Overs
+pub mod Kept
 pub mod Told
 pub mod Seen
 pub mod Probes
@@ -9,3 +10,4 @@ pub mod ClosedLemmas
 pub mod LastSeat
 pub mod Still
 pub mod Putting
+pub mod Registering

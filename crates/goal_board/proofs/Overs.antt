@@ -1,15 +1,17 @@
 -- Hands over a board's rules stay so, and what a step's moment says of them.
-use Rattle.std.proofs.Common.{◌≡◌, ℕ, ◌≢◌, List, ◌∷◌, get_or, Some, sym, ap, subst, ◌∙◌, ⊎_elim}
+use Rattle.std.proofs.Common.{◌≡◌, ℕ, ◌+◌, ◌*◌, ◌≢◌, List, ◌∷◌, length, length-set, get_or, Option, Some, sym, ap, subst, ◌∙◌, ⊎_elim}
 use mathlib.Core.Option.{some}
 use lib.ListN.{get_elem?}
 use Rattle.board_rule.specs.Meaning.{Meaning}
 use Rattle.board_rule.specs.Words.{mem, cell_word}
 use Rattle.board_rule.specs.Looks.{Looked}
-use Rattle.board_rule.specs.Seats.{looked, placed, joined, lasting}
+use Rattle.board_rule.specs.Seats.{changed, looked, placed, joined, lasting}
 use Rattle.board_rule.specs.Rule.{IsSound}
 use Rattle.board_rule.specs.Plays.{Moment}
 use Rattle.board_rule.specs.declared.hands.Hands.{Hands}
 use Rattle.board_rule.proofs.Seating.{looked_append, lasting_looked}
+use Rattle.board_rule.proofs.Frames.{changed_from}
+use Rattle.goal_board.specs.Alone.{KeepsAll}
 use Rattle.goal_board.specs.Seats.{AreHandsOver}
 
 -- a sound board over these rules, with these hands among its seats'
@@ -19,6 +21,10 @@ pub record SoundWith {R : Type 0} (meaning_of : R → Meaning) (rules : R) (room
   pub id : ℕ
   pub sound : IsSound (meaning_of rules) rules room words views
   pub mine : get_elem? views id ≡ some v
+
+-- as many words are kept once one has changed
+pub all_changed : (room word x : ℕ) (o : Option (List ℕ)) → ((kept : List ℕ) → o ≡ Some kept → length kept ≡ 14 * room + 1) → (kept : List ℕ) → changed word x o ≡ Some kept → length kept ≡ 14 * room + 1
+all_changed room word x o all kept is = let t = changed_from word x o kept is in ap (length {A = ℕ}) (sym t.2) ∙ length-set t.0 word x ∙ all t.0 t.1
 
 module _ {R : Type 0} (meaning_of : R → Meaning) (rules : R) (room : ℕ) where
   -- the board at a step
@@ -47,6 +53,7 @@ module _ {R : Type 0} (meaning_of : R → Meaning) (rules : R) (room : ℕ) wher
         let there : (mem t.0.words).cell place ≡ found = ap (λ k. get_or t.0.words k 0) (sym e.0) ∙ sym t.1 ∙ e.1 in
         subst (meaning_of rules).entry there (t.0.sound.by_kinds.cells.enter place near (λ none. is_word (sym there ∙ none))))
         (λ (old : Looked v.looks (cell_word place) found). over.entries place found near old is_word) at;
+    all = over.all;
   }
 
   -- so do hands whose looks at cells found entries
@@ -59,26 +66,29 @@ module _ {R : Type 0} (meaning_of : R → Meaning) (rules : R) (room : ℕ) wher
         (⊎_elim
         (λ (e : (cell_word place ≡ cell_word p) × (0 ≡ found)). absurd (is_word (sym e.1)))
         (λ (old : Looked v.looks (cell_word p) found). over.entries p found near old is_word)) at;
+    all = all_changed room (cell_word place) word v.alone over.all;
   }
 
   -- and hands whose only new look is at no cell
   pub over_beside : (v w : Hands R) (word value : ℕ) → ((p : ℕ) → word ≢ cell_word p) → w.rules ≡ v.rules → w.room ≡ v.room → w.looks ≡ (word, value) ∷ v.looks
-      → AreHandsOver meaning_of rules room v → AreHandsOver meaning_of rules room w
-  over_beside v w word value apart rules_same room_same looks over = record {
+      → KeepsAll room w → AreHandsOver meaning_of rules room v → AreHandsOver meaning_of rules room w
+  over_beside v w word value apart rules_same room_same looks all over = record {
     its_rules = rules_same ∙ over.its_rules;
     its_room = room_same ∙ over.its_room;
     entries = λ p found near at is_word. ⊎_elim
         (λ (e : (word ≡ cell_word p) × (value ≡ found)). absurd (apart p e.0))
         (λ (old : Looked v.looks (cell_word p) found). over.entries p found near old is_word)
         (subst (λ ls. Looked ls (cell_word p) found) looks at);
+    all = all;
   }
 
   -- and hands with the same looks
-  pub over_same : (v w : Hands R) → w.rules ≡ v.rules → w.room ≡ v.room → w.looks ≡ v.looks → AreHandsOver meaning_of rules room v → AreHandsOver meaning_of rules room w
-  over_same v w rules_same room_same looks over = record {
+  pub over_same : (v w : Hands R) → w.rules ≡ v.rules → w.room ≡ v.room → w.looks ≡ v.looks → KeepsAll room w → AreHandsOver meaning_of rules room v → AreHandsOver meaning_of rules room w
+  over_same v w rules_same room_same looks all over = record {
     its_rules = rules_same ∙ over.its_rules;
     its_room = room_same ∙ over.its_room;
     entries = λ p found near at is_word. over.entries p found near (subst (λ ls. Looked ls (cell_word p) found) looks at) is_word;
+    all = all;
   }
 
   -- and hands that took in others
@@ -90,4 +100,5 @@ module _ {R : Type 0} (meaning_of : R → Meaning) (rules : R) (room : ℕ) wher
         (λ t. theirs.entries p found near (lasting_looked other.looks (cell_word p) found t) is_word)
         (λ t. over.entries p found near t is_word)
         (looked_append (lasting other.looks) v.looks (cell_word p) found at);
+    all = over.all;
   }

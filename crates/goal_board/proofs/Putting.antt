@@ -1,5 +1,5 @@
 -- A wait that is put in: what each turn of its loop leaves.
-use Rattle.std.proofs.Common.{◌≡◌, ℕ, ◌+◌, ◌-◌, ◌*◌, ◌/◌, ◌%◌, ◌^◌, ◌<◌, ◌≤◌, ◌≢◌, false, List, ◌++◌, Some, sym, ap, subst, ◌∙◌, ⊎_elim, arith, Option, refl}
+use Rattle.std.proofs.Common.{◌≡◌, ℕ, ◌+◌, ◌-◌, ◌*◌, ◌/◌, ◌%◌, ◌^◌, ◌<◌, ◌≤◌, ◌≢◌, false, List, ◌++◌, Some, sym, ap, subst, ◌∙◌, ⊎_elim, arith, bit_or, Option, refl}
 use Rattle.std.specs.Int.{bit_at}
 use Rattle.std.proofs.lemmas.Nat.Bits.{bit_at-zero}
 use Rattle.board_rule.specs.Meaning.{Meaning}
@@ -16,6 +16,7 @@ use Rattle.board_rule.proofs.Rights.{held_by}
 use Rattle.board_rule.proofs.Chains.{cleared_other}
 use Rattle.board_rule.proofs.Raised.{waits_known}
 use Rattle.board_rule.proofs.Lengths.{list_length, first_within}
+use Rattle.goal_board.specs.Alone.{StaysAlone, KeepsBoard}
 use Rattle.goal_board.specs.Seats.{AreHandsOver}
 use Rattle.goal_board.specs.Calls.{waiting_right, IsRightOf}
 use Rattle.goal_board.specs.declared.board.Right.{Right}
@@ -27,6 +28,10 @@ use Rattle.goal_board.proofs.Overs.{sound_at}
 abbrev pub seen_wait : ℕ → ℕ → ℕ → Pending
 seen_wait waiter child head = record { waiter = waiter; child = child; seen = Some head; linked = false }
 
+-- the words that a seat that is alone keeps, once the bit of the waiter was set
+abbrev pub Begun : ℕ → Option (List ℕ) → Option (List ℕ) → Type 0
+Begun waiter before after = StaysAlone (KeepsBoard (waiter / 8) (λ run. bit_or run (2 ^ (waiter % 8)))) before after
+
 -- the wait is being put in, and the head was seen last
 pub record IsPutting {R : Type 0} (room : ℕ) (v : Hands R) (waiter child head : ℕ) (w : Hands R) : Type 0 where
   pub more : List (ℕ × ℕ)
@@ -34,6 +39,7 @@ pub record IsPutting {R : Type 0} (room : ℕ) (v : Hands R) (waiter child head 
   pub saw : Looked more (head_word child) head
   pub bound : head < 2 ^ 63 → head / 2 ^ 24 ≤ 8 * room
   pub hands_are : w ≡ record v { alone = w.alone; looks = more ++ v.looks; pending = Some (seen_wait waiter child head) }
+  pub kept : Begun waiter v.alone w.alone
 
 module _ {R : Type 0} (meaning_of : R → Meaning) (rules : R) (room : ℕ) where
   -- a right's number of waits, as the seat has it

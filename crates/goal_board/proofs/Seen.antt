@@ -12,7 +12,7 @@ use Rattle.board_rule.specs.declared.hands.Hands.{Hands}
 use Rattle.board_rule.proofs.Lists.{some_below}
 use Rattle.board_rule.proofs.Looking.{look_keeps}
 use Rattle.goal_board.specs.Seats.{AreHandsOver}
-use Rattle.goal_board.specs.Calls.{seen, AgreesAlone, KeepsAll, IsSeen}
+use Rattle.goal_board.specs.Calls.{seen, AgreesAlone, IsSeen}
 use Rattle.goal_board.proofs.Overs.{SoundWith, sound_at}
 
 -- a look of the later ones, and of the earlier ones
@@ -50,10 +50,6 @@ module _ {R : Type 0} (meaning_of : R → Meaning) (rules : R) (room : ℕ) wher
       λ kept is at found looks. ⊎_elim
       (λ (e : (word ≡ at) × (value ≡ found)). ap (λ ws. get_or ws at 0) ((t.0.sound.alone t.0.id v t.0.mine).every_word kept is) ∙ ap (λ k. get_or t.0.words k 0) (sym e.0) ∙ sym t.1 ∙ e.1)
       (λ (no_look : ⊥). absurd no_look) looks
-
-  pub keeps_all : (v : Hands R) (word value : ℕ) → AreHandsOver meaning_of rules room v → Moment meaning_of v word value → KeepsAll room v
-  keeps_all v word value over m kept is =
-      let t = sound_at meaning_of rules room v word value over m in ap (length {A = ℕ}) ((t.0.sound.alone t.0.id v t.0.mine).every_word kept is) ∙ t.0.sound.count
 
   -- the board is sound after a look
   pub sound_looked : (v : Hands R) (word value : ℕ) → AreHandsOver meaning_of rules room v → Moment meaning_of v word value → 0 < v.parts → SoundWith meaning_of rules room (looked v word value)

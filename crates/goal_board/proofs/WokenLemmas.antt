@@ -1,5 +1,5 @@
 -- A closed list that is walked: what each turn of the walk leaves.
-use Rattle.std.proofs.Common.{◌≡◌, ℕ, ◌+◌, ◌-◌, ◌*◌, ◌/◌, ◌%◌, ◌^◌, ◌<◌, ◌≤◌, ◌≢◌, List, [], ◌∷◌, ◌++◌, length, length-set, get_or-set_other, cond, eq-eqb, ne_eqb, Option, Some, None, sym, refl, ap, subst, ◌∙◌, inl, ⊎_elim, arith}
+use Rattle.std.proofs.Common.{◌≡◌, ℕ, ◌+◌, ◌-◌, ◌*◌, ◌/◌, ◌%◌, ◌^◌, ◌<◌, ◌≤◌, ◌≢◌, List, [], ◌∷◌, ◌++◌, length, set, length-set, get_or-set_other, cond, eq-eqb, ne_eqb, Option, Some, None, sym, refl, ap, subst, ◌∙◌, inl, ⊎_elim, arith}
 use Rattle.std.proofs.lemmas.Bool.{cases_eq, cases_lt}
 use Rattle.std.proofs.lemmas.Nat.Bits.{bit_at-zero, bit_at-lt, bit_at-pow_same, bit_at-pow_other, same_from_bits}
 use Rattle.std.specs.Int.{bit_at}
@@ -12,29 +12,35 @@ use Rattle.board_rule.specs.Plays.{Moment}
 use Rattle.board_rule.specs.declared.hands.Hands.{Hands}
 use Rattle.board_rule.proofs.Chains.{count, cleared_same, cleared_other, cleared_none}
 use Rattle.board_rule.proofs.Raised.{count_one}
-use Rattle.board_rule.proofs.Frames.{changed_from}
 use Rattle.board_rule.proofs.Waits.{hand_parts, handed_waits}
 use Rattle.goal_board.specs.Seats.{AreHandsOver}
-use Rattle.goal_board.specs.Calls.{ChangesRuns, ChangesRunsAlone, Wakes}
+use Rattle.goal_board.specs.Alone.{StaysAlone, ChangesRuns}
+use Rattle.goal_board.specs.Calls.{Wakes}
 use Rattle.goal_board.specs.declared.answers.Woken.{Woken}
 use Rattle.goal_board.proofs.Overs.{sound_at}
+use Rattle.goal_board.proofs.Kept.{stays_changed, stays_then}
 
 -- run words alone change where one does
-pub runs_same : (o : Option (List ℕ)) → ChangesRunsAlone o o
-runs_same o kept is = (kept, is, record { same_length = refl; others = λ _ _. refl })
+pub runs_same : (o : Option (List ℕ)) → StaysAlone ChangesRuns o o
+runs_same None = refl
+runs_same (Some kept) = (kept, refl, record { same_length = refl; others = λ _ _. refl })
 
-pub runs_more : (o p : Option (List ℕ)) (place x : ℕ) → ChangesRunsAlone o p → ChangesRunsAlone o (changed (run_word place) x p)
-runs_more o p place x old kept is =
-    let t = changed_from (run_word place) x p kept is in
-    let u = old t.0 t.1 in
-    let c = u.2 in (
-      u.0,
-      u.1,
-      subst (ChangesRuns u.0) t.2 (record {
-        same_length = length-set t.0 (run_word place) x ∙ c.same_length;
-        others = λ word apart. get_or-set_other t.0 (run_word place) word x 0 (apart place) ∙ c.others word apart;
-      }),
-    )
+run_changed : (words : List ℕ) (place x : ℕ) → ChangesRuns words (set words (run_word place) x)
+run_changed words place x = record {
+  same_length = length-set words (run_word place) x;
+  others = λ word apart. get_or-set_other words (run_word place) word x 0 (apart place);
+}
+
+runs_then : (a b c : List ℕ) → ChangesRuns a b → ChangesRuns b c → ChangesRuns a c
+runs_then a b c first second = record {
+  same_length = second.same_length ∙ first.same_length;
+  others = λ word apart. second.others word apart ∙ first.others word apart;
+}
+
+pub runs_more : (o p : Option (List ℕ)) (place x : ℕ) → StaysAlone ChangesRuns o p → StaysAlone ChangesRuns o (changed (run_word place) x p)
+runs_more o p place x old =
+    stays_then ChangesRuns ChangesRuns ChangesRuns runs_then o p (changed (run_word place) x p) old
+    (stays_changed ChangesRuns (run_word place) x p (λ kept _. run_changed kept place x))
 
 -- what a walk has done so far
 pub record HasWoken {R : Type 0} (room : ℕ) (v : Hands R) (number : ℕ) (one : Option ℕ) (w : Hands R) : Type 0 where
@@ -42,7 +48,7 @@ pub record HasWoken {R : Type 0} (room : ℕ) (v : Hands R) (number : ℕ) (one 
   pub words : Option (List ℕ)
   pub gained : List ℕ
   pub hands_are : w ≡ record v { alone = words; looks = more ++ v.looks; woken = gained ++ v.woken; walk = w.walk }
-  pub runs : ChangesRunsAlone v.alone words
+  pub runs : StaysAlone ChangesRuns v.alone words
   pub quiet : (value : ℕ) → Looked more full_word value → ⊥
   pub near : Each (λ place. place < room) gained
   pub counted : number ≡ length gained

@@ -1,15 +1,16 @@
 -- What each call does to the hands of its seat, and what its answer means.
-use Rattle.std.specs.Prelude.{◌≡◌, ◌≢◌, ◌⊎◌, ℕ, ◌+◌, ◌*◌, ◌^◌, ◌<◌, ◌≤◌, List, [], ◌∷◌, ◌++◌, length, slice_index, Option, Some, None, Bool, false, IsTrue}
+use Rattle.std.specs.Prelude.{◌≡◌, ◌≢◌, ◌⊎◌, ℕ, ◌+◌, ◌*◌, ◌^◌, ◌<◌, ◌≤◌, List, [], ◌∷◌, ◌++◌, length, bit_or, slice_index, Option, Some, None, Bool, false, IsTrue}
 use Rattle.word_table.specs.Probing.{home_of, steps_to}
 use Rattle.word_table.specs.declared.outcome.Inserted.{Inserted}
 use Rattle.word_table.specs.declared.outcome.Inserted.TheVariants.{Fresh, Known, Full}
 use Rattle.board_rule.specs.Meaning.{Meaning}
 use Rattle.board_rule.specs.Records.{Claimed, Walk}
-use Rattle.board_rule.specs.Words.{full_word, cell_word, run_word, head_word, cost_word, node_word, who_word}
+use Rattle.board_rule.specs.Words.{mem, full_word, cell_word, run_word, head_word, cost_word, node_word, who_word}
 use Rattle.board_rule.specs.Looks.{Looked, SawOther, SawOthers, ShowsFinished, ShowsEntry, ShowsFull, ShowsClosed}
-use Rattle.board_rule.specs.Waiters.{head_of}
-use Rattle.board_rule.specs.Seats.{Among, Each, without, changed, looked, placed, claimed, suspended, filled, with_wait}
+use Rattle.board_rule.specs.Waiters.{head_of, cleared}
+use Rattle.board_rule.specs.Seats.{Among, Each, without, changed, looked, placed, claimed, suspended, filled, waits_at, with_wait}
 use Rattle.board_rule.specs.declared.hands.Hands.{Hands}
+use Rattle.goal_board.specs.Alone.{KeepsAll, StaysAlone, ChangesRuns, KeepsBoard, HasWait}
 use Rattle.goal_board.specs.declared.board.Right.{Right}
 use Rattle.goal_board.specs.declared.answers.Answer.{Answer}
 use Rattle.goal_board.specs.declared.answers.Woken.{Woken}
@@ -25,10 +26,6 @@ seen more v = record v { looks = more ++ v.looks }
 -- where the seat was alone, these looks found the words that it kept
 abbrev pub AgreesAlone : {R : Type 0} → Hands R → List (ℕ × ℕ) → Type 0
 AgreesAlone v looks = (kept : List ℕ) → v.alone ≡ Some kept → (word value : ℕ) → Looked looks word value → slice_index kept word ≡ value
-
--- a seat that is alone keeps all words of the board
-abbrev pub KeepsAll : {R : Type 0} → ℕ → Hands R → Type 0
-KeepsAll room v = (kept : List ℕ) → v.alone ≡ Some kept → length kept ≡ 14 * room + 1
 
 -- a call's looks: none at the full word, as the words that were kept, and what was seen in a cell stays
 pub record IsSeen {R : Type 0} (v : Hands R) (looks : List (ℕ × ℕ)) : Type 0 where
@@ -144,6 +141,9 @@ pub record SuspendsGoal {R : Type 0} (v : Hands R) (place : ℕ) (answer : Suspe
   pub hands_are : w ≡ suspended v place found
   pub ready : answer ≡ Ready → found ≡ 256
   pub waiting : answer ≡ Waiting → found ≢ 256
+  pub looks : IsSeen v ((run_word place, found) ∷ [])
+  -- a goal with a wait is not ready after it
+  pub not_ready : HasWait found → cleared found 8 ≢ 0
 
 -- one of the looks found a child of the goal in the cell
 pub record SeesChild (meaning : Meaning) (looks : List (ℕ × ℕ)) (goal at : ℕ) : Type 0 where
@@ -159,6 +159,9 @@ module _ {R : Type 0} (v : Hands R) (place at : ℕ) where
     pub more : List (ℕ × ℕ)
     pub quiet : (value : ℕ) → Looked more full_word value → ⊥
     pub hands_are : w ≡ record v { alone = words; looks = more ++ v.looks; rights = with_wait place v.rights }
+    -- the bit of the right's next wait was set, where the seat is alone
+    pub kept : StaysAlone (KeepsBoard place (λ run. bit_or run (2 ^ waits_at place v.rights))) v.alone words
+    pub has_wait : (kept : List ℕ) → words ≡ Some kept → HasWait ((mem kept).run place)
 
   -- the child was found finished, and no wait was added
   pub record FindsFinished (w : Hands R) : Type 0 where
@@ -167,6 +170,8 @@ module _ {R : Type 0} (v : Hands R) (place at : ℕ) where
     pub quiet : (value : ℕ) → Looked more full_word value → ⊥
     pub closed : ShowsClosed more at
     pub hands_are : w ≡ record v { alone = words; looks = more ++ v.looks }
+    -- no run word has changed, where the seat is alone
+    pub kept : StaysAlone (KeepsBoard place (λ run. run)) v.alone words
 
   abbrev pub WaitsFor : Awaited → Hands R → Type 0
   WaitsFor Registered w = Registers w
@@ -192,15 +197,6 @@ finishes v place worker cost node waiters = record v {
   walk = record { child = place; waiters = waiters; next = None };
 }
 
--- words of which run words alone have changed
-pub record ChangesRuns (before after : List ℕ) : Type 0 where
-  pub same_length : length after ≡ length before
-  pub others : (word : ℕ) → ((place : ℕ) → word ≢ run_word place) → slice_index after word ≡ slice_index before word
-
--- the same of the words that a seat keeps while it is alone
-abbrev pub ChangesRunsAlone : Option (List ℕ) → Option (List ℕ) → Type 0
-ChangesRunsAlone before after = (kept : List ℕ) → after ≡ Some kept → (words : List ℕ) × (before ≡ Some words) × ChangesRuns words kept
-
 -- the seat has walked its list to the end: each waiter's bit was cleared, and those goals that this made ready are counted
 pub record Wakes {R : Type 0} (room : ℕ) (v : Hands R) (woken : Woken) (w : Hands R) : Type 0 where
   pub more : List (ℕ × ℕ)
@@ -209,7 +205,7 @@ pub record Wakes {R : Type 0} (room : ℕ) (v : Hands R) (woken : Woken) (w : Ha
   pub left : Walk
   pub hands_are : w ≡ record v { alone = words; looks = more ++ v.looks; woken = gained ++ v.woken; walk = left }
   pub at_end : left.waiters ≡ []
-  pub runs : ChangesRunsAlone v.alone words
+  pub runs : StaysAlone ChangesRuns v.alone words
   pub quiet : (value : ℕ) → Looked more full_word value → ⊥
   pub near : Each (λ place. place < room) gained
   pub counted : woken.count ≡ length gained
@@ -220,6 +216,8 @@ pub record Wakes {R : Type 0} (room : ℕ) (v : Hands R) (woken : Woken) (w : Ha
 pub record FinishesGoal {R : Type 0} (room : ℕ) (v : Hands R) (place worker cost node : ℕ) (woken : Woken) (w : Hands R) : Type 0 where
   pub waiters : List ℕ
   pub wakes : Wakes room (finishes v place worker cost node waiters) woken w
+  -- the goal was not finished before, where the seat is alone
+  pub was_open : (kept : List ℕ) → v.alone ≡ Some kept → (mem kept).head place < 2 ^ 63
 
 -- the goal that was looked at in the cell is ready in these words
 pub record IsReadyIn (meaning : Meaning) (room : ℕ) (words : List ℕ) (place : ℕ) : Type 0 where
@@ -265,5 +263,6 @@ pub record ReadsFull {R : Type 0} (meaning : Meaning) (room : ℕ) (v : Hands R)
   pub hands_are : w ≡ looked v full_word value
   pub set : IsTrue full → value ≢ 0
   pub unset : full ≡ false → value ≡ 0
+  pub stays : ShowsFull v.looks → IsTrue full
   pub alone : AgreesAlone v ((full_word, value) ∷ [])
   pub left_out : LeavesOut meaning room w.looks

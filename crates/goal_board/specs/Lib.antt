@@ -1,3 +1,4 @@
+pub mod Alone
 pub mod Seats
 pub mod Steps
 pub mod Calls

@@ -4,17 +4,19 @@ use Rattle.board_rule.specs.Meaning.{Meaning}
 use Rattle.board_rule.specs.Words.{cell_word}
 use Rattle.board_rule.specs.Looks.{Looked}
 use Rattle.board_rule.specs.declared.hands.Hands.{Hands}
+use Rattle.goal_board.specs.Alone.{KeepsAll}
 use Rattle.goal_board.specs.declared.board.Seat.{Seat}
 use Rattle.goal_board.specs.declared.board.Board.{Board}
 
 abbrev pub hands : {R : Type 0} → Seat R → Hands R
 hands s = s.seat.me.0
 
--- hands over these rules and that many cells, whose looks found entries alone
+-- hands over these rules and that many cells, whose looks found entries alone, and which keep all words where the seat is alone
 pub record AreHandsOver {R : Type 0} (meaning_of : R → Meaning) (rules : R) (room : ℕ) (v : Hands R) : Type 0 where
   pub its_rules : v.rules ≡ Some rules
   pub its_room : v.room ≡ room
   pub entries : (place word : ℕ) → place < room → Looked v.looks (cell_word place) word → word ≢ 0 → (meaning_of rules).entry word
+  pub all : KeepsAll room v
 
 -- between two calls a seat puts no wait in, and has no list half walked
 pub record IsFree {R : Type 0} (v : Hands R) : Type 0 where

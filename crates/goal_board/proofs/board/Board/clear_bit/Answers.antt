@@ -8,7 +8,7 @@ use Rattle.board_rule.specs.Seats.{bit_cleared}
 use Rattle.board_rule.specs.Plays.{Sat, ClearsBit}
 use Rattle.board_rule.proofs.Looking.{Holds}
 use Rattle.goal_board.specs.Seats.{AreHandsOver}
-use Rattle.goal_board.proofs.Overs.{over_beside}
+use Rattle.goal_board.proofs.Overs.{over_beside, all_changed}
 use Rattle.goal_board.proofs.Told.{leaves}
 use Rattle.board_rule.proofs.Clearing.{clear_allowed}
 use Rattle.goal_board.proofs.board.Board.clear_bit.Goals as goal
@@ -47,7 +47,7 @@ returns-clause-seat g c =
     record {
       same_table = c.fetch_and.ensures.0 ∙ c.requires.seat.same_table;
       over = subst (λ (m : Sat _). AreHandsOver meaning b.key.rules b.key.room m.0) (sym told.hands_are)
-          (over_beside meaning b.key.rules b.key.room s.me.0 (bit_cleared s.me.0 c.args.waiter c.fetch_and.result) (run_word (c.args.waiter / 8)) c.fetch_and.result (λ p e. omega arith) refl refl refl c.requires.seat.over);
+          (over_beside meaning b.key.rules b.key.room s.me.0 (bit_cleared s.me.0 c.args.waiter c.fetch_and.result) (run_word (c.args.waiter / 8)) c.fetch_and.result (λ p e. omega arith) refl refl refl (all_changed _ _ _ _ c.requires.seat.over.all) c.requires.seat.over);
     }
 
 pub returns-clause-told : goal.returns-clause-told

@@ -9,7 +9,7 @@ use Rattle.board_rule.specs.Seats.{finished}
 use Rattle.board_rule.specs.Plays.{Sat, Closes}
 use Rattle.board_rule.proofs.Looking.{Holds}
 use Rattle.goal_board.specs.Seats.{AreHandsOver}
-use Rattle.goal_board.proofs.Overs.{over_beside}
+use Rattle.goal_board.proofs.Overs.{over_beside, all_changed}
 use Rattle.goal_board.proofs.Told.{leaves}
 use Rattle.board_rule.proofs.Closing.{close_allowed}
 use Rattle.goal_board.proofs.board.Board.close_head.Goals as goal
@@ -48,7 +48,7 @@ returns-clause-seat g c =
     record {
       same_table = c.swap.ensures.0 ∙ c.requires.seat.same_table;
       over = subst (λ (m : Sat _). AreHandsOver meaning b.key.rules b.key.room m.0) (sym told.tells.hands_are)
-          (over_beside meaning b.key.rules b.key.room s.me.0 (finished s.me.0 c.args.place c.args._worker c.args._cost c.args._node told.waiters) (head_word c.args.place) (head_of told.waiters) (λ p e. omega arith) refl refl refl c.requires.seat.over);
+          (over_beside meaning b.key.rules b.key.room s.me.0 (finished s.me.0 c.args.place c.args._worker c.args._cost c.args._node told.waiters) (head_word c.args.place) (head_of told.waiters) (λ p e. omega arith) refl refl refl (all_changed _ _ _ _ c.requires.seat.over.all) c.requires.seat.over);
     }
 
 pub returns-clause-told : goal.returns-clause-told

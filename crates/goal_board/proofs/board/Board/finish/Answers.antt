@@ -8,7 +8,7 @@ use Rattle.board_rule.proofs.Rights.{rights_at}
 use Rattle.goal_board.specs.Seats.{hands}
 use Rattle.board_rule.specs.Waiters.{head_of}
 use Rattle.goal_board.specs.Calls.{finishes, Wakes}
-use Rattle.goal_board.proofs.Finishing.{held_fresh, with_first, with_second, cost_among, node_among, who_among, has_right, left_over, once_held}
+use Rattle.goal_board.proofs.Finishing.{held_fresh, with_first, with_second, cost_among, node_among, who_among, has_right, left_over, once_held, open_before}
 use Rattle.goal_board.proofs.board.Board.finish.Goals as goal
 
 pub store_cost-requires-clause-may : goal.store_cost-requires-clause-may
@@ -91,4 +91,6 @@ returns-clause-answer g c =
     record {
       waiters = told.waiters;
       wakes = subst (λ (h : Hands _). Wakes c.args.self.now.key.room h c.wake.result (hands c.wake.new.seat)) is c.wake.ensures.answer;
+      was_open = open_before g.R.GoalRules.meaning c.args.self.now.key.rules c.args.self.now.key.room v (hands c.store_who.new.seat) p c.args.worker a.cost a.node c.close_head-head.result
+          c.store_who.ensures.seat.over stored told.leaves.moment c.requires.right.near (held_fresh v.rights p c.args.right.waits c.requires.waits c.requires.right.held);
     }

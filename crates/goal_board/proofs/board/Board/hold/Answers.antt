@@ -9,7 +9,7 @@ use Rattle.board_rule.specs.Seats.{claimed}
 use Rattle.board_rule.specs.Plays.{Sat, Claims}
 use Rattle.board_rule.proofs.Looking.{Holds}
 use Rattle.goal_board.specs.Seats.{AreHandsOver, IsFree}
-use Rattle.goal_board.proofs.Overs.{over_looked, over_beside}
+use Rattle.goal_board.proofs.Overs.{over_looked, over_beside, all_changed}
 use Rattle.goal_board.proofs.Told.{tries, either_way}
 use Rattle.board_rule.proofs.Claiming.{claim_allowed}
 use Rattle.goal_board.proofs.board.Board.hold.Goals as goal
@@ -48,7 +48,7 @@ returns-clause-seat g c =
     record {
       same_table = c.compare_exchange.ensures.0 ∙ c.requires.seat.same_table;
       over = either_way meaning (λ (m : Sat _). AreHandsOver meaning b.key.rules b.key.room m.0) s.me c.compare_exchange.new.seat.me (claimed s.me.0 c.args.place) c.run_at.result c.compare_exchange.result told
-          (over_beside meaning b.key.rules b.key.room s.me.0 (claimed s.me.0 c.args.place) (run_word c.args.place) 0 (λ p e. omega arith) refl refl refl c.requires.seat.over)
+          (over_beside meaning b.key.rules b.key.room s.me.0 (claimed s.me.0 c.args.place) (run_word c.args.place) 0 (λ p e. omega arith) refl refl refl (all_changed _ _ _ _ c.requires.seat.over.all) c.requires.seat.over)
           (over_looked meaning b.key.rules b.key.room s.me.0 c.run_at.result c.compare_exchange.result c.requires.seat.over told.moment);
       free = either_way meaning (λ (m : Sat _). IsFree m.0) s.me c.compare_exchange.new.seat.me (claimed s.me.0 c.args.place) c.run_at.result c.compare_exchange.result told
           (record { no_wait = c.requires.seat.free.no_wait; no_walk = c.requires.seat.free.no_walk }) (record { no_wait = c.requires.seat.free.no_wait; no_walk = c.requires.seat.free.no_walk });

@@ -12,7 +12,7 @@ use Rattle.board_rule.proofs.Looking.{Holds}
 use Rattle.goal_board.specs.Seats.{AreHandsOver}
 use Rattle.std.proofs.lemmas.Bool.{cases_eq}
 use Rattle.goal_board.specs.Steps.{the_wait}
-use Rattle.goal_board.proofs.Overs.{over_beside}
+use Rattle.goal_board.proofs.Overs.{over_beside, all_changed}
 use Rattle.board_rule.proofs.Pushing.{push_allowed}
 use Rattle.goal_board.proofs.board.Board.put_wait.Goals as goal
 
@@ -55,9 +55,9 @@ returns-clause-seat g c =
       same_table = c.compare_exchange.ensures.0 ∙ c.requires.seat.same_table;
       over = ⊎_elim
           (λ hit. subst Fact (sym (told.hit (the_wait s.me.0) c.requires.may.is c.requires.may.seen hit))
-          (over_beside meaning b.key.rules b.key.room s.me.0 (wait_put s.me.0 (the_wait s.me.0) c.args.head) (head_word (the_wait s.me.0).child) c.args.head (λ p e. omega arith) refl refl refl c.requires.seat.over))
+          (over_beside meaning b.key.rules b.key.room s.me.0 (wait_put s.me.0 (the_wait s.me.0) c.args.head) (head_word (the_wait s.me.0).child) c.args.head (λ p e. omega arith) refl refl refl (all_changed _ _ _ _ c.requires.seat.over.all) c.requires.seat.over))
           (λ miss. subst Fact (sym (told.miss (the_wait s.me.0) c.requires.may.is miss))
-          (over_beside meaning b.key.rules b.key.room s.me.0 (head_seen s.me.0 (the_wait s.me.0) (the_wait s.me.0).child c.compare_exchange.result) (head_word (the_wait s.me.0).child) c.compare_exchange.result (λ p e. omega arith) refl refl refl c.requires.seat.over))
+          (over_beside meaning b.key.rules b.key.room s.me.0 (head_seen s.me.0 (the_wait s.me.0) (the_wait s.me.0).child c.compare_exchange.result) (head_word (the_wait s.me.0).child) c.compare_exchange.result (λ p e. omega arith) refl refl refl c.requires.seat.over.all c.requires.seat.over))
           (cases_eq c.compare_exchange.result c.args.head);
     }
 

@@ -8,7 +8,7 @@ use Rattle.board_rule.specs.Seats.{suspended}
 use Rattle.board_rule.specs.Plays.{Sat, Suspends}
 use Rattle.board_rule.proofs.Looking.{Holds}
 use Rattle.goal_board.specs.Seats.{AreHandsOver, IsFree}
-use Rattle.goal_board.proofs.Overs.{over_beside}
+use Rattle.goal_board.proofs.Overs.{over_beside, all_changed}
 use Rattle.goal_board.proofs.Told.{leaves}
 use Rattle.board_rule.proofs.Suspending.{suspend_allowed}
 use Rattle.goal_board.proofs.board.Board.release.Goals as goal
@@ -47,7 +47,7 @@ returns-clause-seat g c =
     record {
       same_table = c.fetch_and.ensures.0 ∙ c.requires.seat.same_table;
       over = subst (λ (m : Sat _). AreHandsOver meaning b.key.rules b.key.room m.0) (sym told.hands_are)
-          (over_beside meaning b.key.rules b.key.room s.me.0 (suspended s.me.0 c.args.place c.fetch_and.result) (run_word c.args.place) c.fetch_and.result (λ p e. omega arith) refl refl refl c.requires.seat.over);
+          (over_beside meaning b.key.rules b.key.room s.me.0 (suspended s.me.0 c.args.place c.fetch_and.result) (run_word c.args.place) c.fetch_and.result (λ p e. omega arith) refl refl refl (all_changed _ _ _ _ c.requires.seat.over.all) c.requires.seat.over);
       free = subst (λ (m : Sat _). IsFree m.0) (sym told.hands_are) (record { no_wait = c.requires.seat.free.no_wait; no_walk = c.requires.seat.free.no_walk });
     }
 

@@ -48,7 +48,7 @@ returns-clause-seat g c =
     record {
       same_table = c.load.ensures.0 ∙ c.requires.seat.same_table;
       over = subst (λ (m : Sat _). AreHandsOver meaning b.key.rules b.key.room m.0) (sym told.hands_are)
-          (over_beside meaning b.key.rules b.key.room s.me.0 (head_seen s.me.0 (the_wait s.me.0) c.args.child c.load.result) (head_word c.args.child) c.load.result (λ p e. omega arith) refl refl refl c.requires.seat.over);
+          (over_beside meaning b.key.rules b.key.room s.me.0 (head_seen s.me.0 (the_wait s.me.0) c.args.child c.load.result) (head_word c.args.child) c.load.result (λ p e. omega arith) refl refl refl c.requires.seat.over.all c.requires.seat.over);
     }
 
 pub returns-clause-told : goal.returns-clause-told

@@ -9,7 +9,7 @@ use Rattle.board_rule.specs.Plays.{Sat, StoresNext}
 use Rattle.board_rule.proofs.Looking.{Holds}
 use Rattle.goal_board.specs.Seats.{AreHandsOver}
 use Rattle.goal_board.specs.Steps.{the_wait}
-use Rattle.goal_board.proofs.Overs.{over_same}
+use Rattle.goal_board.proofs.Overs.{over_same, all_changed}
 use Rattle.board_rule.proofs.Linking.{link_allowed}
 use Rattle.goal_board.proofs.board.Board.store_next.Goals as goal
 
@@ -47,7 +47,7 @@ returns-clause-seat g c =
     record {
       same_table = c.store.ensures.0 ∙ c.requires.seat.same_table;
       over = subst (λ (m : Sat _). AreHandsOver meaning b.key.rules b.key.room m.0) (sym told)
-          (over_same meaning b.key.rules b.key.room s.me.0 (next_stored s.me.0 (the_wait s.me.0) c.args.head) refl refl refl c.requires.seat.over);
+          (over_same meaning b.key.rules b.key.room s.me.0 (next_stored s.me.0 (the_wait s.me.0) c.args.head) refl refl refl (all_changed _ _ _ _ c.requires.seat.over.all) c.requires.seat.over);
     }
 
 pub returns-clause-hands : goal.returns-clause-hands

@@ -7,7 +7,7 @@ use Rattle.board_rule.specs.Seats.{who_stored}
 use Rattle.board_rule.specs.Plays.{Sat, StoresWho}
 use Rattle.board_rule.proofs.Looking.{Holds}
 use Rattle.goal_board.specs.Seats.{AreHandsOver, IsFree}
-use Rattle.goal_board.proofs.Overs.{over_same}
+use Rattle.goal_board.proofs.Overs.{over_same, all_changed}
 use Rattle.board_rule.proofs.Answering.{store_who_allowed}
 use Rattle.goal_board.proofs.board.Board.store_who.Goals as goal
 
@@ -45,7 +45,7 @@ returns-clause-seat g c =
     record {
       same_table = c.store.ensures.0 ∙ c.requires.seat.same_table;
       over = subst (λ (m : Sat _). AreHandsOver meaning b.key.rules b.key.room m.0) (sym told)
-          (over_same meaning b.key.rules b.key.room s.me.0 (who_stored s.me.0 c.args.place c.args.who) refl refl refl c.requires.seat.over);
+          (over_same meaning b.key.rules b.key.room s.me.0 (who_stored s.me.0 c.args.place c.args.who) refl refl refl (all_changed _ _ _ _ c.requires.seat.over.all) c.requires.seat.over);
       free = subst (λ (m : Sat _). IsFree m.0) (sym told) (record { no_wait = c.requires.seat.free.no_wait; no_walk = c.requires.seat.free.no_walk });
     }
 

@@ -1,9 +1,21 @@
 -- A right that was claimed is the seat's.
 use Rattle.goal_board.specs.Seats.{hands}
 use Rattle.goal_board.specs.Calls.{waiting_right}
+use Rattle.goal_board.specs.declared.answers.Suspended.TheVariants.{Ready, Waiting}
 use Rattle.goal_board.proofs.Finishing.{has_right}
+use Rattle.goal_board.proofs.Findings.{suspends_ready, suspends_waiting}
 use Rattle.goal_board.proofs.board.Board.suspend.Goals as goal
 
 pub release-requires-clause-may : goal.release-requires-clause-may
 release-requires-clause-may g c κs within =
     has_right c.args.self.now.key.room (hands c.args.seat.now).rights (waiting_right c.args.right.place c.args.right.waits) c.requires.right.near c.requires.right.held
+
+pub returns-then-release-eq-HELD-clause-answer : goal.returns-then-release-eq-HELD-clause-answer
+returns-then-release-eq-HELD-clause-answer g c =
+    suspends_ready g.R.GoalRules.meaning c.args.self.now.key.rules c.args.self.now.key.room (hands c.args.seat.now) (hands c.release.new.seat) c.args.right.place c.release.result
+    c.requires.seat.over c.release.ensures.told c.if-release-eq-HELD.true
+
+pub returns-else-release-eq-HELD-clause-answer : goal.returns-else-release-eq-HELD-clause-answer
+returns-else-release-eq-HELD-clause-answer g c =
+    suspends_waiting g.R.GoalRules.meaning c.args.self.now.key.rules c.args.self.now.key.room (hands c.args.seat.now) (hands c.release.new.seat) c.args.right.place c.release.result
+    c.requires.seat.over c.release.ensures.told c.if-release-eq-HELD.false

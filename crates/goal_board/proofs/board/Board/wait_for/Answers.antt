@@ -1,10 +1,11 @@
 -- A wait is put in by its bit, its next word and the child's head, in this order; where the child is finished the bit is cleared again.
-use Rattle.std.proofs.Common.{◌≡◌, ℕ, ◌+◌, ◌*◌, ◌/◌, ◌%◌, ◌<◌, List, [], ◌∷◌, ◌++◌, Some, None, sym, refl, ap, subst, ◌∙◌, inl, inr, ⊎_elim, cond, ne_eqb, arith}
+use Rattle.std.proofs.Common.{◌≡◌, ℕ, ◌+◌, ◌*◌, ◌/◌, ◌%◌, ◌^◌, ◌<◌, List, [], ◌∷◌, ◌++◌, Some, None, sym, refl, ap, subst, ◌∙◌, inl, inr, ⊎_elim, cond, ne_eqb, arith}
 use Rattle.board_rule.specs.Words.{cell_word, head_word, run_word}
 use Rattle.board_rule.specs.Looks.{Looked}
 use Rattle.board_rule.specs.Waiters.{cleared}
 use Rattle.board_rule.specs.May.{MaySee, MayLink, MayPush, MayDrop, HasRight}
 use Rattle.board_rule.specs.Seats.{waits_at, with_wait, woken_by, wait_begun, head_seen, next_stored, wait_put, wait_dropped}
+use Rattle.board_rule.specs.Plays.{Moment}
 use Rattle.board_rule.specs.declared.hands.Hands.{Hands}
 use Rattle.goal_board.specs.declared.board.Right.{Right}
 use Rattle.goal_board.specs.Seats.{hands}
@@ -12,7 +13,8 @@ use Rattle.goal_board.specs.Calls.{waiting_right, IsRightOf}
 use Rattle.goal_board.specs.Steps.{the_wait}
 use Rattle.goal_board.proofs.Finishing.{has_right}
 use Rattle.goal_board.proofs.Seen.{looked_later}
-use Rattle.goal_board.proofs.Putting.{seen_wait, its_waits, head_bound, head_later, stays_held, nearer, waiter_parts, right_registered, right_kept}
+use Rattle.goal_board.proofs.Putting.{Begun, seen_wait, its_waits, head_bound, head_later, nearer, right_registered, right_kept}
+use Rattle.goal_board.proofs.Registering.{kept_begun, kept_linked, registers, finds_finished}
 use Rattle.goal_board.proofs.board.Board.wait_for.Goals as goal
 
 pub begin_wait-requires-clause-may : goal.begin_wait-requires-clause-may
@@ -68,6 +70,8 @@ loop-head-init g c =
             ∙ ap (λ (n : ℕ). record (head_seen (wait_begun v place c.begin_wait.result) (the_wait (wait_begun v place c.begin_wait.result)) c.args.child_at head) { pending = Some (seen_wait (8 * place + n) c.args.child_at head) }) waits
             ∙ ap (λ (words : _). record v { alone = words; looks = (head_word c.args.child_at, head) ∷ ((run_word place, c.begin_wait.result) ∷ v.looks); pending = Some (seen_wait (8 * place + c.args.right.now.waits) c.args.child_at head) })
             (sym (ap (λ (h : Hands _). h.alone) is));
+        kept = subst (Begun (8 * place + c.args.right.now.waits) v.alone) (sym (ap (λ (h : Hands _). h.alone) is))
+            (kept_begun g.R.GoalRules.meaning b.key.rules b.key.room v place c.args.right.now.waits c.begin_wait.result c.requires.seat.over told.moment r.near c.requires.fewer waits);
       };
     }
 
@@ -108,6 +112,7 @@ loop-head-preserved g c =
     let p = c.loop-head.invariant.putting in
     let told = c.put_wait-found.ensures.told in
     let found : ℕ = c.put_wait-found.result in
+    let q : ℕ = 8 * c.args.right.now.place + c.args.right.now.waits in
     let linked = c.store_next.ensures.hands ∙ ap (λ (h : Hands _). next_stored h (the_wait h) c.loop-head.head) p.hands_are in
     let is = told.miss c.if-found-head.false ∙ ap (λ (h : Hands _). head_seen h (the_wait h) c.args.child_at found) linked in
     record {
@@ -120,6 +125,7 @@ loop-head-preserved g c =
         bound = head_bound g.R.GoalRules.meaning b.key.rules b.key.room (hands c.store_next.new.seat) c.args.child_at found b.sized.3 c.requires.near c.store_next.ensures.seat.over told.moment;
         hands_are = is ∙ ap (λ (words : _). record v { alone = words; looks = (head_word c.args.child_at, found) ∷ (p.more ++ v.looks); pending = Some (seen_wait (8 * c.args.right.now.place + c.args.right.now.waits) c.args.child_at found) })
             (sym (ap (λ (h : Hands _). h.alone) is));
+        kept = subst (Begun q v.alone) (sym (ap (λ (h : Hands _). h.alone) is)) (kept_linked q (c.loop-head.head % 2 ^ 24) v.alone (hands c.loop-head.seat).alone p.kept);
       };
     }
 
@@ -148,22 +154,17 @@ returns-then-found-head-clause-seat g c =
 
 pub returns-then-found-head-clause-answer : goal.returns-then-found-head-clause-answer
 returns-then-found-head-clause-answer g c =
+    let b = c.args.self.now in
     let v = hands c.args.seat.now in
-    let p = c.loop-head.invariant.putting in
+    let r = c.requires.right in
     let place : ℕ = c.args.right.now.place in
-    let w = hands c.put_wait-found.new.seat in
-    let linked = c.store_next.ensures.hands ∙ ap (λ (h : Hands _). next_stored h (the_wait h) c.loop-head.head) p.hands_are in
-    let is = c.put_wait-found.ensures.told.hit c.if-found-head.true ∙ ap (λ (h : Hands _). wait_put h (the_wait h) c.loop-head.head) linked in
-    record {
-      words = w.alone;
-      more = (head_word c.args.child_at, c.loop-head.head) ∷ p.more;
-      quiet = λ value at. ⊎_elim (λ t. omega (arith, t.0)) (λ t. p.quiet value t) at;
-      hands_are = is
-          ∙ ap (λ (words : _). record v { alone = words; looks = (head_word c.args.child_at, c.loop-head.head) ∷ (p.more ++ v.looks); rights = with_wait ((8 * place + c.args.right.now.waits) / 8) v.rights; pending = None })
-          (sym (ap (λ (h : Hands _). h.alone) is))
-          ∙ ap (λ (n : ℕ). record v { alone = w.alone; looks = (head_word c.args.child_at, c.loop-head.head) ∷ (p.more ++ v.looks); rights = with_wait n v.rights; pending = None }) (waiter_parts place c.args.right.now.waits c.requires.fewer).0
-          ∙ ap (λ (o : _). record v { alone = w.alone; looks = (head_word c.args.child_at, c.loop-head.head) ∷ (p.more ++ v.looks); rights = with_wait place v.rights; pending = o }) (sym c.requires.seat.free.no_wait);
-    }
+    let waits : ℕ = c.args.right.now.waits in
+    let told = c.put_wait-found.ensures.told in
+    let its = its_waits g.R.GoalRules.meaning b.key.rules b.key.room v (run_word place) c.begin_wait.result place waits c.requires.seat.over c.begin_wait.ensures.told.moment r.near r.held in
+    registers g.R.GoalRules.meaning b.key.rules b.key.room v (hands c.loop-head.seat) (hands c.store_next.new.seat) (hands c.put_wait-found.new.seat) place waits c.args.child_at c.loop-head.head
+    b.sized.3 r.near c.requires.fewer its c.requires.seat.free.no_wait c.loop-head.invariant.putting c.store_next.ensures.hands c.store_next.ensures.seat.over
+    (subst (Moment g.R.GoalRules.meaning (hands c.store_next.new.seat) (head_word c.args.child_at)) c.if-found-head.true told.moment)
+    c.requires.near c.loop-head-test.true (told.hit c.if-found-head.true)
 
 pub drop_wait-requires-clause-may : goal.drop_wait-requires-clause-may
 drop_wait-requires-clause-may g c κs within =
@@ -186,29 +187,13 @@ returns-clause-seat g c =
 pub returns-clause-answer : goal.returns-clause-answer
 returns-clause-answer g c =
     let b = c.args.self.now in
+    let r = c.requires.right in
     let v = hands c.args.seat.now in
-    let p = c.loop-head.invariant.putting in
     let place : ℕ = c.args.right.now.place in
-    let q : ℕ = 8 * place + c.args.right.now.waits in
-    let found : ℕ = c.drop_wait.result in
-    let w = hands c.drop_wait.new.seat in
-    let told = c.drop_wait.ensures.told in
-    let is = told.hands_are ∙ ap (λ (h : Hands _). wait_dropped h (the_wait h) found) p.hands_are in
-    let parts = waiter_parts place c.args.right.now.waits c.requires.fewer in
-    let has : HasRight b.key.room v.rights (q / 8) = subst (HasRight b.key.room v.rights) (sym parts.0) (has_right b.key.room v.rights (waiting_right place c.args.right.now.waits) c.requires.right.near c.requires.right.held) in
-    let left = stays_held g.R.GoalRules.meaning b.key.rules b.key.room (hands c.loop-head.seat) q found c.loop-head.invariant.seat.over told.moment
-    (subst (λ (h : Hands _). HasRight b.key.room h.rights (q / 8)) (sym p.hands_are) has) in
-    let looks : List (ℕ × ℕ) = (run_word (q / 8), found) ∷ p.more in
-    record {
-      words = w.alone;
-      more = looks;
-      quiet = λ value at. ⊎_elim (λ t. omega (arith, t.0)) (λ t. p.quiet value t) at;
-      closed = (c.loop-head.head, inr p.saw, c.loop-head-test.false);
-      hands_are = is
-          ∙ ap (λ (words : _). record v { alone = words; looks = looks ++ v.looks; woken = woken_by found q v.woken; pending = None }) (sym (ap (λ (h : Hands _). h.alone) is))
-          ∙ ap (λ (o : _). record v { alone = w.alone; looks = looks ++ v.looks; woken = woken_by found q v.woken; pending = o }) (sym c.requires.seat.free.no_wait)
-          ∙ ap (λ x. record v { alone = w.alone; looks = looks ++ v.looks; woken = cond x (q / 8 ∷ v.woken) v.woken }) (ne_eqb (cleared found (q % 8)) 0 left);
-    }
+    let waits : ℕ = c.args.right.now.waits in
+    finds_finished g.R.GoalRules.meaning b.key.rules b.key.room v (hands c.loop-head.seat) (hands c.drop_wait.new.seat) place waits c.args.child_at c.loop-head.head c.begin_wait.result c.drop_wait.result
+    r.near c.requires.fewer c.requires.seat.free.no_wait r.held (has_right b.key.room v.rights (waiting_right place waits) r.near r.held)
+    c.requires.seat.over c.begin_wait.ensures.told.moment c.loop-head.invariant.putting c.loop-head-test.false c.loop-head.invariant.seat.over c.drop_wait.ensures.told
 
 pub returns-then-found-head-clause-right : goal.returns-then-found-head-clause-right
 returns-then-found-head-clause-right g c = ap (λ (r : Right). record r { waits = r.waits + 1 }) c.loop-head.invariant.right
