@@ -1,5 +1,5 @@
 -- A right whose answer words are stored one after the other.
-use Rattle.std.proofs.Common.{◌≡◌, ℕ, ◌+◌, ◌*◌, ◌^◌, ◌<◌, ◌≤◌, ◌≢◌, List, [], ◌∷◌, map, get_or, set, get_or-set_other, cond, eq-eqb, ne_eqb, Some, sym, refl, ap, subst, ◌∙◌, ⊎_elim, ◌==◌, arith}
+use Rattle.std.proofs.Common.{◌≡◌, ℕ, ◌+◌, ◌^◌, ◌<◌, ◌≤◌, ◌≢◌, List, [], ◌∷◌, map, get_or, set, get_or-set_other, cond, eq-eqb, ne_eqb, Some, sym, refl, ap, subst, ◌∙◌, ⊎_elim, ◌==◌, arith}
 use Rattle.std.proofs.lemmas.Bool.{cases_eq}
 use Rattle.board_rule.specs.Meaning.{Meaning}
 use Rattle.board_rule.specs.Records.{Claimed}

@@ -1,12 +1,12 @@
 -- How the words that a seat keeps while it is alone change, where one of them does.
-use Rattle.std.proofs.Common.{◌≡◌, ℕ, ◌+◌, ◌*◌, ◌/◌, ◌%◌, ◌^◌, ◌<◌, ◌≤◌, ◌≢◌, nat_le, false, List, length, length-set, set, get_or-set_other, get_or-set_same, bit_or, Option, None, Some, sym, refl, ap, subst, ◌∙◌, ⊎_elim, arith}
+use Rattle.std.proofs.Common.{◌≡◌, ℕ, ◌%◌, ◌^◌, ◌<◌, ◌≤◌, ◌≢◌, nat_le, List, length, length-set, set, get_or-set_other, get_or-set_same, bit_or, Option, None, Some, sym, refl, ap, subst, ◌∙◌, ⊎_elim, arith}
 use Rattle.std.specs.Int.{bit_at}
 use Rattle.std.proofs.lemmas.Bool.{cases_eq, cases_lt, lt-leb}
-use Rattle.std.proofs.lemmas.Nat.Bits.{bit_at-lt, bit_at-zero, same_from_bits}
+use Rattle.std.proofs.lemmas.Nat.Bits.{bit_at-zero, same_from_bits}
 use Rattle.board_rule.specs.Words.{mem, run_word, head_word, cell_word, next_word}
 use Rattle.board_rule.specs.Waiters.{cleared}
 use Rattle.board_rule.specs.Seats.{changed}
-use Rattle.board_rule.proofs.Chains.{set_same, set_other, cleared_same, cleared_other, cleared_none}
+use Rattle.board_rule.proofs.Chains.{set_other, cleared_same, cleared_other, cleared_none}
 use Rattle.goal_board.specs.Alone.{StaysAlone, KeepsBoard, HasWait}
 
 -- one word has changed

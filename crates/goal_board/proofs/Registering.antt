@@ -1,5 +1,5 @@
 -- A wait that was put in, or that was dropped as its child is finished.
-use Rattle.std.proofs.Common.{◌≡◌, ℕ, ◌+◌, ◌*◌, ◌/◌, ◌%◌, ◌^◌, ◌<◌, ◌≤◌, ◌≢◌, List, ◌∷◌, [], ◌++◌, cond, ne_eqb, bit_or, get_or, Option, None, Some, sym, refl, ap, subst, ◌∙◌, inl, inr, ⊎_elim, arith}
+use Rattle.std.proofs.Common.{◌≡◌, ℕ, ◌+◌, ◌*◌, ◌/◌, ◌%◌, ◌^◌, ◌<◌, ◌≤◌, List, ◌∷◌, ◌++◌, cond, ne_eqb, bit_or, get_or, Option, None, Some, sym, refl, ap, subst, ◌∙◌, inl, inr, ⊎_elim, arith}
 use Rattle.std.specs.Int.{bit_at}
 use Rattle.board_rule.specs.Meaning.{Meaning}
 use Rattle.board_rule.specs.Records.{Pending}
@@ -12,7 +12,7 @@ use Rattle.board_rule.specs.Plays.{Moment}
 use Rattle.board_rule.specs.declared.hands.Hands.{Hands}
 use Rattle.board_rule.proofs.Lists.{each_at}
 use Rattle.board_rule.proofs.Chains.{count, set_same}
-use Rattle.goal_board.specs.Alone.{StaysAlone, KeepsBoard, HasWait}
+use Rattle.goal_board.specs.Alone.{StaysAlone, KeepsBoard}
 use Rattle.goal_board.specs.Seats.{AreHandsOver}
 use Rattle.goal_board.specs.Calls.{waiting_right, Registers, FindsFinished}
 use Rattle.goal_board.specs.Steps.{the_wait, Leaves}

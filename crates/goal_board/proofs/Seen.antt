@@ -1,5 +1,5 @@
 -- What holds of looks holds of these and more.
-use Rattle.std.proofs.Common.{◌≡◌, ℕ, ◌<◌, ◌≢◌, List, [], ◌∷◌, ◌++◌, length, get_or, set, sym, ap, subst, ◌∙◌, inl, inr, ⊎_elim}
+use Rattle.std.proofs.Common.{◌≡◌, ℕ, ◌<◌, ◌≢◌, List, [], ◌∷◌, ◌++◌, get_or, set, sym, ap, subst, ◌∙◌, inl, inr, ⊎_elim}
 use Rattle.word_table.specs.Probing.{home_of}
 use Rattle.word_table.proofs.Steps.{all_passed_as}
 use Rattle.atomic_table.proofs.Lists.{set_here}

@@ -1,5 +1,5 @@
 -- What each call does to the hands of its seat, and what its answer means.
-use Rattle.std.specs.Prelude.{◌≡◌, ◌≢◌, ◌⊎◌, ℕ, ◌+◌, ◌*◌, ◌^◌, ◌<◌, ◌≤◌, List, [], ◌∷◌, ◌++◌, length, bit_or, slice_index, Option, Some, None, Bool, false, IsTrue}
+use Rattle.std.specs.Prelude.{◌≡◌, ◌≢◌, ◌⊎◌, ℕ, ◌+◌, ◌^◌, ◌<◌, ◌≤◌, List, [], ◌∷◌, ◌++◌, length, bit_or, slice_index, Option, Some, None, Bool, false, IsTrue}
 use Rattle.word_table.specs.Probing.{home_of, steps_to}
 use Rattle.word_table.specs.declared.outcome.Inserted.{Inserted}
 use Rattle.word_table.specs.declared.outcome.Inserted.TheVariants.{Fresh, Known, Full}

@@ -1,5 +1,5 @@
 -- The only right is spent.
-use Rattle.std.proofs.Common.{◌≡◌, [], ap, ◌∙◌}
+use Rattle.std.proofs.Common.{ap, ◌∙◌}
 use Rattle.board_rule.specs.declared.hands.Hands.{Hands}
 use Rattle.goal_board.specs.Seats.{hands}
 use Rattle.goal_board.proofs.Still.{none_left}

@@ -1,5 +1,5 @@
 -- The word and then the closed head that were looked at show the goal finished.
-use Rattle.std.proofs.Common.{◌≡◌, ℕ, [], ◌∷◌, Some, sym, refl, ap, subst, ◌∙◌}
+use Rattle.std.proofs.Common.{[], ◌∷◌, Some, subst}
 use Rattle.board_rule.specs.Words.{cell_word, head_word, cost_word, node_word}
 use Rattle.goal_board.specs.Seats.{hands}
 use Rattle.goal_board.specs.Calls.{ReadsCell}

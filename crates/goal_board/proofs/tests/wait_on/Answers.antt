@@ -1,11 +1,10 @@
 -- The child stands in the cell that was looked at.
-use Rattle.std.proofs.Common.{◌≡◌, ℕ, [], ◌∷◌, Some, sym, refl, ap, subst, ◌∙◌, inl}
+use Rattle.std.proofs.Common.{[], ◌∷◌, sym, refl, ap, subst, ◌∙◌, inl}
 use Rattle.board_rule.specs.declared.hands.Hands.{Hands}
 use Rattle.board_rule.specs.Words.{cell_word}
 use Rattle.board_rule.specs.Looks.{Looked}
 use Rattle.goal_board.specs.Numbers.{HasOnly}
 use Rattle.goal_board.specs.Seats.{hands}
-use Rattle.goal_board.specs.Calls.{IsRightOf, SeesChild, waited}
 use Rattle.goal_board.specs.declared.board.Right.{Right}
 use Rattle.goal_board.proofs.Still.{right_seen, only_waited, parts_waited, place_waited}
 use Rattle.goal_board.proofs.tests.wait_on.Goals as goal

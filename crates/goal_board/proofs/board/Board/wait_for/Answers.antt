@@ -1,10 +1,9 @@
 -- A wait is put in by its bit, its next word and the child's head, in this order; where the child is finished the bit is cleared again.
-use Rattle.std.proofs.Common.{◌≡◌, ℕ, ◌+◌, ◌*◌, ◌/◌, ◌%◌, ◌^◌, ◌<◌, List, [], ◌∷◌, ◌++◌, Some, None, sym, refl, ap, subst, ◌∙◌, inl, inr, ⊎_elim, cond, ne_eqb, arith}
+use Rattle.std.proofs.Common.{◌≡◌, ℕ, ◌+◌, ◌*◌, ◌/◌, ◌%◌, ◌^◌, ◌<◌, [], ◌∷◌, ◌++◌, Some, sym, refl, ap, subst, ◌∙◌, inl, inr, ⊎_elim, arith}
 use Rattle.board_rule.specs.Words.{cell_word, head_word, run_word}
 use Rattle.board_rule.specs.Looks.{Looked}
-use Rattle.board_rule.specs.Waiters.{cleared}
-use Rattle.board_rule.specs.May.{MaySee, MayLink, MayPush, MayDrop, HasRight}
-use Rattle.board_rule.specs.Seats.{waits_at, with_wait, woken_by, wait_begun, head_seen, next_stored, wait_put, wait_dropped}
+use Rattle.board_rule.specs.May.{MaySee, MayLink, MayPush, MayDrop}
+use Rattle.board_rule.specs.Seats.{waits_at, wait_begun, head_seen, next_stored, wait_put, wait_dropped}
 use Rattle.board_rule.specs.Plays.{Moment}
 use Rattle.board_rule.specs.declared.hands.Hands.{Hands}
 use Rattle.goal_board.specs.declared.board.Right.{Right}
