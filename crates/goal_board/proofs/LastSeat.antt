@@ -9,8 +9,8 @@ use Rattle.board_rule.specs.Words.{mem}
 use Rattle.board_rule.specs.Seats.{Among, times, total, spent}
 use Rattle.board_rule.specs.Rule.{HoldsGoal, IsRecorded, IsSound, ended}
 use Rattle.board_rule.specs.declared.hands.Hands.{Hands}
-use Rattle.board_rule.proofs.Lists.{each_at, terms_le}
-use Rattle.board_rule.proofs.WakeUps.{no_wake_up_lost}
+use Rattle.board_rule.proofs.Lists.{among_counts, each_at, terms_le}
+use Rattle.board_rule.proofs.WakeUps.{no_wake_up_lost, registered_not_ready}
 use Rattle.goal_board.specs.Seats.{IsFree}
 use Rattle.goal_board.specs.Closed.{HasWorkers, IsReadyAt, IsFirstReady, ReadsBoard, ClosesWith}
 use Rattle.goal_board.specs.declared.answers.Closed.{Closed}
@@ -87,6 +87,7 @@ closes_with meaning_of rules room words views sound id v mine all no_right free 
   reads = reads;
   none_ready = λ none. all_finished (meaning_of rules) rules room words views sound id v mine all no_right free children rank falls (subst (IsFirstReady (meaning_of rules) (mem words) room) none reads.ready);
   finished_by = finished_by (meaning_of rules) rules room words views sound id v mine all;
+  registered = λ c q near at. registered_not_ready (meaning_of rules) room (mem words) views sound.by_kinds.waits c q near (among_counts (λ (p : ℕ). p) (sound.by_kinds.waits.lists c) q at);
   filled = λ shows. reads.full ∙ ap not (ne_eqb (mem words).full 0 ((sound.by_kinds.hands id v mine).stays.set_full shows.0 shows.1 shows.2));
   left_out = λ is_full. sound.by_kinds.full (λ none. let unset : not (eqb (mem words).full 0) ≡ false = ap (λ x. not (eqb x 0)) none in let set : not (eqb (mem words).full 0) ≡ true = sym reads.full ∙ is_full in let no_way : ⊥ = cc in no_way);
 }

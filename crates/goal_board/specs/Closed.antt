@@ -1,5 +1,5 @@
 -- What is read of a board's words once no thread shares it any more.
-use Rattle.std.specs.Prelude.{◌≡◌, ◌≢◌, ◌==◌, ℕ, zero, suc, ◌-◌, ◌^◌, ◌<◌, ◌≤◌, nat_le, List, [], ◌∷◌, ◌++◌, cond, true, not, Option, Some, None, IsTrue}
+use Rattle.std.specs.Prelude.{◌≡◌, ◌≢◌, ◌==◌, ℕ, zero, suc, ◌-◌, ◌/◌, ◌^◌, ◌<◌, ◌≤◌, nat_le, List, [], ◌∷◌, ◌++◌, cond, true, not, Option, Some, None, IsTrue}
 use mathlib.Core.Option.{some}
 use lib.ListN.{get_elem?}
 use Rattle.board_rule.specs.Meaning.{Meaning}
@@ -17,16 +17,19 @@ abbrev pub cells_below : Mem → ℕ → List ℕ
 cells_below m zero = []
 cells_below m (suc n) = cond (m.cell n == 0) (cells_below m n) (cells_below m n ++ m.cell n ∷ [])
 
+-- the list with one item more where the head is closed
+abbrev pub with_closed : {A : Type 0} → ℕ → List A → A → List A
+with_closed head items item = cond (nat_le (2 ^ 63) head) (items ++ item ∷ []) items
+
 -- the goals at these places whose heads are closed, each with its answer words
 abbrev pub answers_below : Mem → ℕ → List (ℕ × Answer)
 answers_below m zero = []
-answers_below m (suc n) =
-    cond (nat_le (2 ^ 63) (m.head n)) (answers_below m n ++ (m.cell n, record { cost = m.cost n; node = m.node n }) ∷ []) (answers_below m n)
+answers_below m (suc n) = with_closed (m.head n) (answers_below m n) (m.cell n, record { cost = m.cost n; node = m.node n })
 
 -- the workers of these goals
 abbrev pub who_below : Mem → ℕ → List ℕ
 who_below m zero = []
-who_below m (suc n) = cond (nat_le (2 ^ 63) (m.head n)) (who_below m n ++ (m.who n - 1) ∷ []) (who_below m n)
+who_below m (suc n) = with_closed (m.head n) (who_below m n) (m.who n - 1)
 
 -- each finished goal has the number of one of 64 workers, plus 1
 abbrev pub HasWorkers : Mem → ℕ → Type 0
@@ -37,6 +40,11 @@ pub record IsReadyAt (meaning : Meaning) (m : Mem) (p : ℕ) : Type 0 where
   pub some_goal : m.cell p ≢ 0
   pub is_goal : IsTrue (meaning.goal (m.cell p))
   pub ready : m.run p ≡ 0
+
+-- the goal at the place, if it is ready
+abbrev pub ReadsReady : Meaning → Mem → ℕ → Option ℕ → Type 0
+ReadsReady meaning m p None = IsReadyAt meaning m p → ⊥
+ReadsReady meaning m p (Some goal) = IsReadyAt meaning m p × (m.cell p ≡ goal)
 
 -- the goal in the least place that is ready, or none where there is none
 abbrev pub IsFirstReady : Meaning → Mem → ℕ → Option ℕ → Type 0
@@ -64,6 +72,8 @@ pub record ClosesWith {R : Type 0} (meaning_of : R → Meaning) (rules : R) (roo
   -- what is finished stands in the seat's done, with its worker and its answer
   pub finished_by : (p : ℕ) → p < room → 2 ^ 63 ≤ (mem words).head p
       → (e : Ended) × Among v.done e × (e.place ≡ p) × IsRecorded room (mem words).head (mem words).cost (mem words).node (mem words).who e
+  -- a goal that is registered with a child, which is then not finished, is not ready
+  pub registered : (c q : ℕ) → c < room → Among (sound.by_kinds.waits.lists c) q → (mem words).run (q / 8) ≢ 0
   -- a look that found the full word set, and what a full board lacks
   pub filled : ShowsFull v.looks → closed.full ≡ true
   pub left_out : closed.full ≡ true → IsFull (meaning_of rules) room (mem words).cell

@@ -1,7 +1,7 @@
-ghost use Rattle.std.specs.Prelude.{◌≡◌, ◌≢◌, ◌==◌, ℕ, ◌+◌, ◌-◌, ◌*◌, ◌^◌, ◌<◌, ◌≤◌, [], ◌∷◌, ◌++◌, nat_le, cond, IfOk, OnOk, MatchOption, length, not};
+ghost use Rattle.std.specs.Prelude.{◌≡◌, ◌≢◌, ◌==◌, ℕ, ◌+◌, ◌-◌, ◌*◌, ◌^◌, ◌<◌, ◌≤◌, [], ◌∷◌, ◌++◌, cond, IfOk, OnOk, length, not};
 ghost use Rattle.std.specs.Slots.{slots_items, slots_len, IsFull};
 ghost use Rattle.board_rule.specs.Words.{mem};
-ghost use Rattle.goal_board.specs.Closed.{HasWorkers, cells_below, answers_below, who_below, IsReadyAt, IsFirstReady};
+ghost use Rattle.goal_board.specs.Closed.{HasWorkers, cells_below, answers_below, who_below, with_closed, ReadsReady, IsFirstReady};
 
 use crate::answers::{Answer, Closed};
 use crate::steps::{CLOSED, cell_at, cost_at, head_at, node_at, run_at, who_at};
@@ -25,7 +25,7 @@ fn push_closed(
     goal: u64,
     answer: Answer,
 ) -> Result<(), AllocError>
-    ensures { OnOk result (answers.new ≡ cond (nat_le (2 ^ 63) head) (answers.old ++ (goal, answer) ∷ []) answers.old) }
+    ensures { OnOk result (answers.new ≡ with_closed head answers.old (goal, answer)) }
 {
     if head >= CLOSED {
         answers.push((goal, answer))
@@ -37,7 +37,7 @@ fn push_closed(
 // Adds the worker of a goal, where its head is closed.
 fn push_worker(workers: &mut List<u32>, head: u64, who: u64) -> Result<(), AllocError>
     requires { 2 ^ 63 ≤ head → (1 ≤ who) × (who ≤ 64) }
-    ensures { OnOk result (workers.new ≡ cond (nat_le (2 ^ 63) head) (workers.old ++ (who - 1) ∷ []) workers.old) }
+    ensures { OnOk result (workers.new ≡ with_closed head workers.old (who - 1)) }
 {
     if head >= CLOSED {
         workers.push((who - 1) as u32)
@@ -100,7 +100,7 @@ fn workers_of(alloc: Global, words: &Words, room: u32) -> Result<List<u32>, Allo
 fn ready_at<R: GoalRules>(words: &Words, key: &Key<R>, place: u32) -> Option<u64>
     requires read { IsFull words.now.words × (slots_len words.now.words ≡ 14 * key.now.room + 1) }
     requires near { place < key.now.room }
-    ensures { MatchOption result (IsReadyAt (R.meaning key.now.rules) (mem (slots_items words.now.words)) place → ⊥) (λ goal. IsReadyAt (R.meaning key.now.rules) (mem (slots_items words.now.words)) place × ((mem (slots_items words.now.words)).cell place ≡ goal)) }
+    ensures { ReadsReady (R.meaning key.now.rules) (mem (slots_items words.now.words)) place result }
 {
     let word = words.word(cell_at(place));
     if word == 0 {

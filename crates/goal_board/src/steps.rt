@@ -1,10 +1,10 @@
 // One private call for each kind of step. All that is above speaks of hands.
 ghost use Rattle.std.specs.Prelude.{◌≡◌, ℕ, ◌+◌, ◌*◌, ◌<◌};
 ghost use Rattle.board_rule.specs.Words.{cell_word, run_word, head_word, cost_word, node_word, who_word};
-ghost use Rattle.board_rule.specs.May.{MayPut, MayClaim, HasRight, MayClose, MayFill};
-ghost use Rattle.board_rule.specs.Seats.{placed, claimed, suspended, finished, cost_stored, node_stored, who_stored, filled};
+ghost use Rattle.board_rule.specs.May.{HasRight, MayFill};
+ghost use Rattle.board_rule.specs.Seats.{cost_stored, node_stored, who_stored, filled};
 ghost use Rattle.goal_board.specs.Seats.{IsSeatOf, IsInCall, hands};
-ghost use Rattle.goal_board.specs.Steps.{LooksAt, Leaves, Tries, ClosesHead};
+ghost use Rattle.goal_board.specs.Steps.{CanPut, CanClaim, CanClose, LooksAt, PutsAt, ClaimsAt, SuspendsAt, ClosesHead};
 
 use crate::board::{Board, Seat};
 use board_rule::{
@@ -71,9 +71,9 @@ impl<R: GoalRules> Board<R> {
     // Puts an entry into a cell, where it is empty. Gives what it found there.
     pub(crate) fn put(&self, seat: &mut Seat<R>, place: u32, word: u64) -> u64
         requires seat { IsSeatOf R.meaning self.now seat.old }
-        requires may { MayPut (R.meaning self.now.key.rules) self.now.key.room (hands seat.old).looks place word }
+        requires may { CanPut (R.meaning self.now.key.rules) self.now.key.room (hands seat.old) place word }
         ensures seat { IsSeatOf R.meaning self.now seat.new }
-        ensures told { Tries R.meaning (hands seat.old) (cell_word place) result (placed (hands seat.old) place word) (hands seat.new) }
+        ensures told { PutsAt R.meaning (hands seat.old) place word result (hands seat.new) }
     {
         self.table
             .shared
@@ -83,9 +83,9 @@ impl<R: GoalRules> Board<R> {
     // Claims a goal, where its run word is 0. Gives what it found there.
     pub(crate) fn hold(&self, seat: &mut Seat<R>, place: u32) -> u64
         requires seat { IsSeatOf R.meaning self.now seat.old }
-        requires may { MayClaim (R.meaning self.now.key.rules) self.now.key.room (hands seat.old).looks place }
+        requires may { CanClaim (R.meaning self.now.key.rules) self.now.key.room (hands seat.old) place }
         ensures seat { IsSeatOf R.meaning self.now seat.new }
-        ensures told { Tries R.meaning (hands seat.old) (run_word place) result (claimed (hands seat.old) place) (hands seat.new) }
+        ensures told { ClaimsAt R.meaning (hands seat.old) place result (hands seat.new) }
     {
         self.table
             .shared
@@ -97,7 +97,7 @@ impl<R: GoalRules> Board<R> {
         requires seat { IsSeatOf R.meaning self.now seat.old }
         requires may { HasRight self.now.key.room (hands seat.old).rights place }
         ensures seat { IsSeatOf R.meaning self.now seat.new }
-        ensures told { Leaves R.meaning (hands seat.old) (run_word place) result (suspended (hands seat.old) place result) (hands seat.new) }
+        ensures told { SuspendsAt R.meaning (hands seat.old) place result (hands seat.new) }
     {
         self.table
             .shared
@@ -114,7 +114,7 @@ impl<R: GoalRules> Board<R> {
         _node: u64,
     ) -> u64
         requires seat { IsSeatOf R.meaning self.now seat.old }
-        requires may { MayClose (R.meaning self.now.key.rules) self.now.key.room (hands seat.old).looks (hands seat.old).rights place _worker _cost _node }
+        requires may { CanClose (R.meaning self.now.key.rules) self.now.key.room (hands seat.old) place _worker _cost _node }
         ensures seat { IsInCall R.meaning self.now seat.new }
         ensures told { ClosesHead R.meaning (hands seat.old) place _worker _cost _node result (hands seat.new) }
     {

@@ -1,12 +1,11 @@
 // One private call for each kind of step by which a wait is put in, and by which a closed list is walked.
-ghost use Rattle.std.specs.Prelude.{◌≡◌, ℕ, ◌+◌, ◌-◌, ◌*◌, ◌/◌, ◌%◌, ◌^◌, ◌<◌, List, ◌∷◌};
-ghost use Rattle.board_rule.specs.Words.{run_word, head_word, next_word};
-ghost use Rattle.board_rule.specs.Waiters.{pushed, rest_of};
-ghost use Rattle.board_rule.specs.May.{MayBegin, MaySee, MayLink, MayPush, MayDrop};
-ghost use Rattle.board_rule.specs.Seats.{wait_begun, head_seen, next_stored, next_read, bit_cleared, wait_dropped};
+ghost use Rattle.std.specs.Prelude.{◌≡◌, ℕ, ◌+◌, ◌-◌, ◌*◌, ◌/◌, ◌%◌, ◌^◌, ◌<◌};
+ghost use Rattle.board_rule.specs.Words.{next_word};
+ghost use Rattle.board_rule.specs.Waiters.{pushed};
+ghost use Rattle.board_rule.specs.May.{MayLink, MayPush, MayDrop};
+ghost use Rattle.board_rule.specs.Seats.{next_stored};
 ghost use Rattle.goal_board.specs.Seats.{IsInCall, hands};
-ghost use Rattle.goal_board.specs.Calls.{waiting_right};
-ghost use Rattle.goal_board.specs.Steps.{the_wait, first_or, Leaves, PutsIn};
+ghost use Rattle.goal_board.specs.Steps.{the_wait, CanBegin, CanSee, WalksFrom, BeginsAt, SeesHeadAt, PutsIn, DropsWaitOf, ReadsNextOf, ClearsBitOf};
 
 use crate::board::{Board, Seat};
 use crate::steps::{head_at, run_at};
@@ -49,9 +48,9 @@ impl<R: GoalRules> Board<R> {
     // Sets the bit of a right's next wait. Gives the run word as it was.
     pub(crate) fn begin_wait(&self, seat: &mut Seat<R>, place: u32, waits: u32) -> u64
         requires seat { IsInCall R.meaning self.now seat.old }
-        requires may { MayBegin self.now.key.room (hands seat.old).rights (hands seat.old).pending (waiting_right place waits) }
+        requires may { CanBegin self.now.key.room (hands seat.old) place waits }
         ensures seat { IsInCall R.meaning self.now seat.new }
-        ensures told { Leaves R.meaning (hands seat.old) (run_word place) result (wait_begun (hands seat.old) place result) (hands seat.new) }
+        ensures told { BeginsAt R.meaning (hands seat.old) place result (hands seat.new) }
     {
         self.table
             .shared
@@ -61,9 +60,9 @@ impl<R: GoalRules> Board<R> {
     // Looks at a child's head, for the wait that is being put in.
     pub(crate) fn see_head(&self, seat: &mut Seat<R>, child: u32) -> u64
         requires seat { IsInCall R.meaning self.now seat.old }
-        requires may { MaySee (R.meaning self.now.key.rules) self.now.key.room (hands seat.old).looks (hands seat.old).pending (the_wait (hands seat.old)) child }
+        requires may { CanSee (R.meaning self.now.key.rules) self.now.key.room (hands seat.old) child }
         ensures seat { IsInCall R.meaning self.now seat.new }
-        ensures told { Leaves R.meaning (hands seat.old) (head_word child) result (head_seen (hands seat.old) (the_wait (hands seat.old)) child result) (hands seat.new) }
+        ensures told { SeesHeadAt R.meaning (hands seat.old) child result (hands seat.new) }
     {
         self.table
             .shared
@@ -84,7 +83,7 @@ impl<R: GoalRules> Board<R> {
             .store::<StoreNext>(&mut seat.seat, next_at(waiter), first_name(head));
     }
 
-    // Puts the waiter first into the child's list, where the head is as it was last seen. Gives the head as it was.
+    // Puts the waiter first into the child's list, where the head is as last seen. Gives the head as it was.
     pub(crate) fn put_wait(&self, seat: &mut Seat<R>, waiter: u32, child: u32, head: u64) -> u64
         requires seat { IsInCall R.meaning self.now seat.old }
         requires may { MayPush (hands seat.old).pending (the_wait (hands seat.old)) head }
@@ -101,14 +100,14 @@ impl<R: GoalRules> Board<R> {
             .compare_exchange::<PutWait>(&mut seat.seat, head_at(child), head, new)
     }
 
-    // Clears the bit of the wait that was being put in, as its child is finished. Gives the run word as it was.
+    // Clears the bit of the wait that was being put in, whose child is finished. Gives the run word before.
     pub(crate) fn drop_wait(&self, seat: &mut Seat<R>, waiter: u32) -> u64
         requires seat { IsInCall R.meaning self.now seat.old }
         requires may { MayDrop (hands seat.old).pending (the_wait (hands seat.old)) }
         requires waiter { (the_wait (hands seat.old)).waiter ≡ waiter }
         requires near { waiter / 8 < self.now.key.room }
         ensures seat { IsInCall R.meaning self.now seat.new }
-        ensures told { Leaves R.meaning (hands seat.old) (run_word (waiter / 8)) result (wait_dropped (hands seat.old) (the_wait (hands seat.old)) result) (hands seat.new) }
+        ensures told { DropsWaitOf R.meaning (hands seat.old) waiter result (hands seat.new) }
     {
         self.table
             .shared
@@ -118,10 +117,10 @@ impl<R: GoalRules> Board<R> {
     // Looks at the next word of the first waiter of the list that the seat walks.
     pub(crate) fn read_next(&self, seat: &mut Seat<R>, waiter: u32) -> u64
         requires seat { IsInCall R.meaning self.now seat.old }
-        requires first { (others : List ℕ) × ((hands seat.old).walk.waiters ≡ waiter ∷ others) }
+        requires first { WalksFrom (hands seat.old) waiter }
         requires near { waiter / 8 < self.now.key.room }
         ensures seat { IsInCall R.meaning self.now seat.new }
-        ensures told { Leaves R.meaning (hands seat.old) (next_word waiter) result (next_read (hands seat.old) waiter result) (hands seat.new) }
+        ensures told { ReadsNextOf R.meaning (hands seat.old) waiter result (hands seat.new) }
     {
         self.table
             .shared
@@ -131,10 +130,10 @@ impl<R: GoalRules> Board<R> {
     // Clears the bit of the first waiter of the list that the seat walks. Gives the run word as it was.
     pub(crate) fn clear_bit(&self, seat: &mut Seat<R>, waiter: u32) -> u64
         requires seat { IsInCall R.meaning self.now seat.old }
-        requires first { (others : List ℕ) × ((hands seat.old).walk.waiters ≡ waiter ∷ others) }
+        requires first { WalksFrom (hands seat.old) waiter }
         requires near { waiter / 8 < self.now.key.room }
         ensures seat { IsInCall R.meaning self.now seat.new }
-        ensures told { Leaves R.meaning (hands seat.old) (run_word (waiter / 8)) result (bit_cleared (hands seat.old) waiter result) (hands seat.new) }
+        ensures told { ClearsBitOf R.meaning (hands seat.old) waiter result (hands seat.new) }
     {
         self.table
             .shared

@@ -3,11 +3,12 @@ use Rattle.std.proofs.Common.{◌<◌, sym, refl, ap, subst, ◌∙◌, arith}
 use mathlib.Core.Option.{none}
 use Rattle.atomic_table.specs.Table.{step, Allows}
 use Rattle.board_rule.specs.declared.law.Key.{Key}
-use Rattle.board_rule.specs.Seats.{node_stored}
+use Rattle.board_rule.specs.Words.{node_word}
+use Rattle.board_rule.specs.Seats.{with_node, node_stored}
 use Rattle.board_rule.specs.Plays.{Sat, StoresNode}
 use Rattle.board_rule.proofs.Looking.{Holds}
 use Rattle.goal_board.specs.Seats.{AreHandsOver, IsFree}
-use Rattle.goal_board.proofs.Overs.{over_same, all_changed}
+use Rattle.goal_board.proofs.Overs.{still_seated, over_stored}
 use Rattle.board_rule.proofs.Answering.{store_node_allowed}
 use Rattle.goal_board.proofs.board.Board.store_node.Goals as goal
 
@@ -25,29 +26,17 @@ store-requires g c =
 
 pub invariant_of-seat : goal.invariant_of-seat
 invariant_of-seat g c =
-    let b = c.args.self.now in
-    let s = c.args.seat.now.seat in
-    let z = b.table.shared.table_id in
-    let meaning = g.R.GoalRules.meaning in
+    let s = c.args.seat.now in
     let told = c.store.ensures.2 c.args.place c.node_at.ensures in
-    record {
-      bare = ap (λ (m : Sat _). m.1) told ∙ c.args.seat.now.bare;
-      awake = subst (λ (m : Sat _). 0 < m.0.parts) (sym told) c.args.seat.now.awake;
-    }
+    let t = still_seated s.seat.me c.store.new.seat.me (node_stored s.seat.me.0 c.args.place c.args.node) told s.bare s.awake in record { bare = t.0; awake = t.1 }
 
 pub returns-clause-seat : goal.returns-clause-seat
 returns-clause-seat g c =
     let b = c.args.self.now in
-    let s = c.args.seat.now.seat in
-    let z = b.table.shared.table_id in
-    let meaning = g.R.GoalRules.meaning in
-    let told = c.store.ensures.2 c.args.place c.node_at.ensures in
-    record {
-      same_table = c.store.ensures.0 ∙ c.requires.seat.same_table;
-      over = subst (λ (m : Sat _). AreHandsOver meaning b.key.rules b.key.room m.0) (sym told)
-          (over_same meaning b.key.rules b.key.room s.me.0 (node_stored s.me.0 c.args.place c.args.node) refl refl refl (all_changed _ _ _ _ c.requires.seat.over.all) c.requires.seat.over);
-      free = subst (λ (m : Sat _). IsFree m.0) (sym told) (record { no_wait = c.requires.seat.free.no_wait; no_walk = c.requires.seat.free.no_walk });
-    }
+    let before = c.args.seat.now.seat.me in
+    let t = over_stored g.R.GoalRules.meaning b.key.rules b.key.room before c.store.new.seat.me (node_word c.args.place) c.args.node (with_node c.args.place c.args.node before.0.rights)
+    (c.store.ensures.2 c.args.place c.node_at.ensures) c.requires.seat.over c.requires.seat.free in
+    record { same_table = c.store.ensures.0 ∙ c.requires.seat.same_table; over = t.0; free = t.1 }
 
 pub returns-clause-hands : goal.returns-clause-hands
 returns-clause-hands g c = ap (λ (m : Sat _). m.0) (c.store.ensures.2 c.args.place c.node_at.ensures)
