@@ -1,5 +1,5 @@
 -- What each call does to the hands of its seat, and what its answer means.
-use Rattle.std.specs.Prelude.{◌≡◌, ◌≢◌, ◌⊎◌, ℕ, ◌+◌, ◌^◌, ◌<◌, ◌≤◌, List, [], ◌∷◌, ◌++◌, length, bit_or, slice_index, Option, Some, None, Bool, false, IsTrue}
+use Rattle.std.specs.Prelude.{◌≡◌, ◌≢◌, ◌⊎◌, ℕ, ◌+◌, ◌^◌, ◌<◌, ◌≤◌, List, [], ◌∷◌, ◌++◌, length, bit_or, slice_index, Option, Some, None, is_some, Bool, false, IsTrue}
 use Rattle.word_table.specs.Probing.{home_of, steps_to}
 use Rattle.word_table.specs.declared.outcome.Inserted.{Inserted}
 use Rattle.word_table.specs.declared.outcome.Inserted.TheVariants.{Fresh, Known, Full}
@@ -82,6 +82,10 @@ module _ {R : Type 0} (room : ℕ) (v : Hands R) (word : ℕ) where
   abbrev pub Finds : Option ℕ → Hands R → Type 0
   Finds (Some at) w = FindsAt at w
   Finds None w = FindsNone w
+
+  -- whether the word was found
+  abbrev pub FindsWhether : Bool → Hands R → Type 0
+  FindsWhether found w = (at : Option ℕ) × (found ≡ is_some at) × Finds at w
 
 -- what was found in a cell: 0 is an empty one
 abbrev pub found_word : Option ℕ → ℕ

@@ -1,7 +1,7 @@
-ghost use Rattle.std.specs.Prelude.{◌≡◌, ◌≢◌, ℕ, ◌<◌, Option, IsSome, IsTrue, is_some};
+ghost use Rattle.std.specs.Prelude.{◌≡◌, ◌≢◌, ℕ, ◌<◌, IsSome, IsTrue};
 ghost use Rattle.board_rule.specs.Looks.{ShowsEntry};
 ghost use Rattle.goal_board.specs.Seats.{IsSeatOf, hands};
-ghost use Rattle.goal_board.specs.Calls.{Inserts, Finds, ReadsCell};
+ghost use Rattle.goal_board.specs.Calls.{Inserts, Finds, FindsWhether, ReadsCell};
 
 use crate::board::{Board, Seat};
 use crate::steps::cell_at;
@@ -58,7 +58,7 @@ impl<R: GoalRules> Board<R> {
     pub fn holds(&self, seat: &mut Seat<R>, word: u64) -> bool
         requires { IsSeatOf R.meaning self.now seat.old }
         ensures seat { IsSeatOf R.meaning self.now seat.new }
-        ensures answer { (at : Option ℕ) × (result ≡ is_some at) × Finds self.now.key.room (hands seat.old) word at (hands seat.new) }
+        ensures answer { FindsWhether self.now.key.room (hands seat.old) word result (hands seat.new) }
         ensures shown { ShowsEntry (R.meaning self.now.key.rules) self.now.key.room (hands seat.old).looks word → IsTrue result }
     {
         self.find(seat, word).is_some()

@@ -1,7 +1,7 @@
 ghost use Rattle.std.specs.Prelude.{◌≡◌, ◌≢◌, ◌==◌, ℕ, ◌+◌, ◌-◌, ◌*◌, ◌^◌, ◌<◌, ◌≤◌, [], ◌∷◌, ◌++◌, cond, IfOk, OnOk, length, not};
 ghost use Rattle.std.specs.Slots.{slots_items, slots_len, IsFull};
 ghost use Rattle.board_rule.specs.Words.{mem};
-ghost use Rattle.goal_board.specs.Closed.{HasWorkers, cells_below, answers_below, who_below, with_closed, ReadsReady, IsFirstReady};
+ghost use Rattle.goal_board.specs.Closed.{HasWorkers, cells_below, answers_below, who_below, with_closed, ReadsReady, IsFirstReady, ReadsBoard};
 
 use crate::answers::{Answer, Closed};
 use crate::steps::{CLOSED, cell_at, cost_at, head_at, node_at, run_at, who_at};
@@ -134,11 +134,7 @@ pub fn read_all<R: GoalRules>(
 ) -> Result<Closed, AllocError>
     requires read { IsFull words.now.words × (slots_len words.now.words ≡ 14 * key.now.room + 1) }
     requires workers { HasWorkers (mem (slots_items words.now.words)) key.now.room }
-    ensures cells { IfOk result (λ c. c.cells ≡ cells_below (mem (slots_items words.now.words)) key.now.room) }
-    ensures answers { IfOk result (λ c. c.answers ≡ answers_below (mem (slots_items words.now.words)) key.now.room) }
-    ensures who { IfOk result (λ c. c.who ≡ who_below (mem (slots_items words.now.words)) key.now.room) }
-    ensures full { IfOk result (λ c. c.full ≡ not ((mem (slots_items words.now.words)).full == 0)) }
-    ensures ready { IfOk result (λ c. IsFirstReady (R.meaning key.now.rules) (mem (slots_items words.now.words)) key.now.room c.ready) }
+    ensures { IfOk result (λ c. ReadsBoard (R.meaning key.now.rules) key.now.room (mem (slots_items words.now.words)) c) }
 {
     Ok(Closed {
         cells: cells_of(alloc, words, key.room)?,

@@ -1,22 +1,20 @@
 -- The seat that has all parts is the last one, and the board's words are as it leaves them.
-use Rattle.std.proofs.Common.{◌≡◌, ℕ, ◌==◌, not, Result, Ok, Err, IfOk, subst}
+use Rattle.std.proofs.Common.{ℕ, Result, Ok, Err, IfOk, subst}
 use Rattle.std.specs.Slots.{slots_items}
 use Rattle.board_rule.specs.Meaning.{Meaning}
 use Rattle.board_rule.specs.Words.{Mem, mem}
 use Rattle.board_rule.specs.Rule.{IsSound}
 use Rattle.board_rule.specs.declared.law.Key.{Key}
 use Rattle.goal_board.specs.Seats.{hands}
-use Rattle.goal_board.specs.Closed.{cells_below, answers_below, who_below, IsFirstReady, HasWorkers, ReadsBoard, ClosesWith}
+use Rattle.goal_board.specs.Closed.{HasWorkers, ReadsBoard, ClosesWith}
 use Rattle.goal_board.specs.declared.answers.Closed.{Closed}
 use Rattle.goal_board.proofs.LastSeat.{has_workers, closes_with}
 use Rattle.goal_board.proofs.board.Board.close.Goals as goal
 
--- what was read, from its parts
-from_parts : {E : Type 0} → (meaning : Meaning) (room : ℕ) (m : Mem) (P : Closed → Type 0) (r : Result Closed E) → IfOk r (λ c. c.cells ≡ cells_below m room) → IfOk r (λ c. c.answers ≡ answers_below m room)
-    → IfOk r (λ c. c.who ≡ who_below m room) → IfOk r (λ c. c.full ≡ not (m.full == 0)) → IfOk r (λ c. IsFirstReady meaning m room c.ready)
-    → ((c : Closed) → ReadsBoard meaning room m c → P c) → IfOk r P
-from_parts meaning room m P (Ok c) cells answers who full ready so = so c (record { cells = cells; answers = answers; who = who; full = full; ready = ready })
-from_parts meaning room m P (Err e) cells answers who full ready so = tt
+-- what follows from what was read
+from_read : {E : Type 0} → (meaning : Meaning) (room : ℕ) (m : Mem) (P : Closed → Type 0) (r : Result Closed E) → IfOk r (λ c. ReadsBoard meaning room m c) → ((c : Closed) → ReadsBoard meaning room m c → P c) → IfOk r P
+from_read meaning room m P (Ok c) reads so = so c reads
+from_read meaning room m P (Err e) reads so = tt
 
 pub read_all-read-requires-clause-workers : goal.read_all-read-requires-clause-workers
 read_all-read-requires-clause-workers g c κs within =
@@ -36,7 +34,6 @@ returns g c =
     let items = slots_items c.close_with-words.result.words in
     let sound = subst (λ ws. IsSound (g.R.GoalRules.meaning b.key.rules) b.key.rules b.key.room ws last.0.views) last.2
     (subst (λ (k : Key _). IsSound (g.R.GoalRules.meaning k.rules) k.rules k.room last.0.words last.0.views) b.keyed last.1.0) in
-    let e = c.read_all-read.ensures in
-    from_parts (g.R.GoalRules.meaning b.key.rules) b.key.room (mem items) (ClosesWith g.R.GoalRules.meaning b.key.rules b.key.room v) c.read_all-read.result e.cells e.answers e.who e.full e.ready
+    from_read (g.R.GoalRules.meaning b.key.rules) b.key.room (mem items) (ClosesWith g.R.GoalRules.meaning b.key.rules b.key.room v) c.read_all-read.result c.read_all-read.ensures
     (λ closed reads. closes_with g.R.GoalRules.meaning b.key.rules b.key.room items last.0.views sound c.args.seat.seat.id v last.1.1 c.requires.parts c.requires.rights c.requires.seat.free
     (λ goal child enters is. (laws.children_enter b.key.rules goal child enters is).1) (g.R.GoalRules.rank_of b.key.rules) (laws.ranks_fall b.key.rules) closed reads)

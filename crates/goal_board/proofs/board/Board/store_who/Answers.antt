@@ -1,5 +1,5 @@
 -- The holder of a goal's right stores its worker.
-use Rattle.std.proofs.Common.{◌<◌, sym, refl, ap, subst, ◌∙◌, arith}
+use Rattle.std.proofs.Common.{sym, ap, subst, ◌∙◌, arith}
 use mathlib.Core.Option.{none}
 use Rattle.atomic_table.specs.Table.{step, Allows}
 use Rattle.board_rule.specs.declared.law.Key.{Key}
@@ -7,7 +7,6 @@ use Rattle.board_rule.specs.Words.{who_word}
 use Rattle.board_rule.specs.Seats.{with_who, who_stored}
 use Rattle.board_rule.specs.Plays.{Sat, StoresWho}
 use Rattle.board_rule.proofs.Looking.{Holds}
-use Rattle.goal_board.specs.Seats.{AreHandsOver, IsFree}
 use Rattle.goal_board.proofs.Overs.{still_seated, over_stored}
 use Rattle.board_rule.proofs.Answering.{store_who_allowed}
 use Rattle.goal_board.proofs.board.Board.store_who.Goals as goal
