@@ -1,2 +1,6 @@
 pub mod Groups
 pub mod Following
+pub mod Searched
+pub mod Rooted
+pub mod Linking
+pub mod Chosen

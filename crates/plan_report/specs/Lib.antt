@@ -1,4 +1,5 @@
 pub mod Text
 pub mod Groups
 pub mod Lines
+pub mod Links
 pub mod Found

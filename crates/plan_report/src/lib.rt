@@ -1,12 +1,15 @@
-//! The text of a plan.
+//! The least plan made of the answers of a search, and the text of a plan.
 #![tactic(auto)]
 
 mod columns;
+mod extraction;
 mod lines;
+mod links;
 mod lists;
 mod node_text;
 mod section;
 #[cfg(test)]
 mod tests;
 
+pub use extraction::extract;
 pub use section::plan_text;

@@ -1,0 +1,140 @@
+//! The least plan of a query, made of the answers to the goals of a search.
+#![tactic(auto)]
+
+ghost use Rattle.std.specs.Prelude.{◌≡◌, IfOk};
+ghost use Rattle.std.specs.List.{Contains};
+ghost use Rattle.std.specs.List.Sorted.{IsStrictlyIncreasing};
+ghost use Rattle.query_core.specs.declared.query.Query.{Query as AnyQuery};
+ghost use Rattle.request_props.specs.Numbered.{IsProps};
+ghost use Rattle.plan_space.specs.Nodes.{Tree};
+ghost use Rattle.plan_tree.specs.Found.{IsFound};
+ghost use Rattle.best_answers.specs.Best.{IsBest};
+ghost use Rattle.best_answers.specs.Nodes.{all_nodes};
+ghost use Rattle.goal_space.specs.Answers.{AreAnswers, Tells, words_told};
+ghost use Rattle.goal_space.specs.declared.goals.GoalKind.{GoalKind as Goal};
+ghost use Rattle.goal_space.specs.Goals.{IsGoal};
+ghost use Rattle.plan_report.specs.Links.{IsLeastAt, IsLeastFor, goal_of};
+
+use crate::links::{Linked, Links, links_at};
+use best_answers::{Best, answers_are_best, best_is_least};
+use goal_space::{GoalKind, goal_kinds_are_one, goals_are_known};
+use plan_space::{least_is_one, root_request_is_collected};
+use plan_tree::{Answered, Answers, Found, Plan};
+use query_core::Query;
+use request_props::Props;
+use std::alloc::{AllocError, Global};
+
+/// What an extraction reads.
+#[derive(Clone, Copy)]
+struct Source<'a> {
+    query: &'a Query,
+    props: &'a Props,
+    answers: &'a [Answered],
+}
+
+/// The least plan of the query, or that there is none, from the answers to all its goals.
+pub fn extract(
+    alloc: Global,
+    query: &Query,
+    props: &Props,
+    answers: &Answers,
+) -> Result<Found, AllocError>
+    requires props { IsProps query.now props.now }
+    requires answers { AreAnswers query.now answers.now.list }
+    ensures { IfOk result (IsFound query.now) }
+{
+    // For the proof: the root's goal is that of the whole query, and its answer is of the one least
+    // plan.
+    root_request_is_collected();
+    goals_are_known();
+    best_is_least();
+    answers_are_best();
+    least_is_one();
+    let source = Source {
+        query,
+        props,
+        answers: answers.list.as_slice(),
+    };
+    let root = Linked {
+        group: query.group(query.root()),
+        wanted: props.root,
+    };
+    match best_at(source, root) {
+        Some(best) => Ok(Found::Least {
+            plan: plan_at(alloc, source, root)?,
+            cost: best.cost,
+        }),
+        None => Ok(Found::NoPlan),
+    }
+}
+
+// The least plan of the group for the request: the node of its answer, over the plans that it is
+// linked to.
+fn plan_at(alloc: Global, source: Source<'_>, at: Linked) -> Result<Plan, AllocError>
+    requires props { IsProps source.query.now source.props.now }
+    requires answers { AreAnswers source.query.now source.answers.now }
+    requires goal { IsGoal source.query.now (goal_of at) }
+    requires there { (plan : Tree) × IsLeastAt source.query.now at plan }
+    ensures { IfOk result (IsLeastFor source.entry.query.now at) }
+{
+    // For the proof: the answer is that of the one least plan, which is a choice.
+    goals_are_known();
+    best_is_least();
+    answers_are_best();
+    least_is_one();
+    match best_at(source, at) {
+        Some(best) => match links_at(source.query, source.props, at, best.node) {
+            Links::Zero => Ok(Plan::Leaf(best.node)),
+            Links::One(below) => Ok(Plan::Over(
+                best.node,
+                Box::new(alloc, plan_at(alloc, source, below)?)?,
+            )),
+            Links::Two(left, right) => Ok(Plan::Two(
+                best.node,
+                Box::new(alloc, plan_at(alloc, source, left)?)?,
+                Box::new(alloc, plan_at(alloc, source, right)?)?,
+            )),
+        },
+        None => unreachable!(),
+    }
+}
+
+// The answer to the goal of the group for the request.
+fn best_at(source: Source<'_>, at: Linked) -> Option<Best>
+    requires props { IsProps source.query.now source.props.now }
+    requires answers { AreAnswers source.query.now source.answers.now }
+    requires goal { IsGoal source.query.now (goal_of at) }
+    ensures { IsBest source.entry.query.now at.group at.wanted all_nodes result }
+{
+    // For the proof: the goal has a word, and no other goal has it.
+    goals_are_known();
+    goal_kinds_are_one();
+    let goal = GoalKind::Opt(at.group, at.wanted).word();
+    best_in(answer_to(source.answers, goal.0))
+}
+
+// The answer to the goal of this word.
+fn answer_to(answers: &[Answered], word: u64) -> Answered
+    requires ascending { IsStrictlyIncreasing (words_told answers.now) }
+    requires there { Contains (words_told answers.now) word }
+    ensures told { Contains answers.now result }
+    ensures word { result.goal.0 ≡ word }
+{
+    match answers.binary_search_by_key(&word, |told| told.goal.0) {
+        Ok(place) => answers[place],
+        Err(_) => unreachable!(),
+    }
+}
+
+// The answer that is told.
+fn best_in(told: Answered) -> Option<Best>
+    ensures { (q : AnyQuery) (goal : Goal) → (tells : Tells q told goal) → result ≡ tells.answer }
+{
+    match told.cost {
+        Some(cost) => Some(Best {
+            cost,
+            node: told.node,
+        }),
+        None => None,
+    }
+}
