@@ -28,12 +28,15 @@ IsChoiceIn q group wanted set (Some plan) = IsChoice (IsMember q) q group wanted
 -- a choice with a root in the set, at most what each node of the set makes of least plans
 pub record IsLeastIn (q : Query) (group : KeyParts) (wanted : Request) (set : Nodes) (plan : Option Tree) : Type 0 where
   pub choice : IsChoiceIn q group wanted set plan
-  pub enforcers : (e : EnforcedBy) → Among e (enforcers_of wanted) → IsIn set (nodes.Enforcer e.node) → IsEnforcerSettled (IsMember q) q group e plan
-  pub members : (e : PhysicalExpr) (mode : ℕ) → IsMember q (expr_of e) → e.group ≡ group → IsIn set (nodes.Native e mode) → IsModeSettled (IsMember q) q wanted e mode plan
+  pub enforcers : (e : EnforcedBy) → Among e (enforcers_of wanted) → IsIn set (nodes.Enforcer e.node)
+      → IsEnforcerSettled (IsMember q) q group e plan
+  pub members : (e : PhysicalExpr) (mode : ℕ) → IsMember q (expr_of e) → e.group ≡ group → IsIn set (nodes.Native e mode)
+      → IsModeSettled (IsMember q) q wanted e mode plan
 
 -- the answer is that of the least choice with a root in the set, or none where there is no such choice
 abbrev pub IsBest : Query → KeyParts → Request → Nodes → Option Best → Type 0
-IsBest q group wanted set answer = (plan : Option Tree) × IsLeastIn q group wanted set plan × (answer ≡ option_map (answer_of q) plan)
+IsBest q group wanted set answer =
+    (plan : Option Tree) × IsLeastIn q group wanted set plan × (answer ≡ option_map (answer_of q) plan)
 
 -- each answer is the best for its group and its request, over all nodes
 abbrev pub AreBest : Query → List KeyParts → List Request → List (Option Best) → Type 0
@@ -42,7 +45,8 @@ AreBest q [] [] (answer ∷ answers) = ⊥
 AreBest q [] (wanted ∷ wishes) answers = ⊥
 AreBest q (group ∷ groups) [] answers = ⊥
 AreBest q (group ∷ groups) (wanted ∷ wishes) [] = ⊥
-AreBest q (group ∷ groups) (wanted ∷ wishes) (answer ∷ answers) = IsBest q group wanted all_nodes answer × AreBest q groups wishes answers
+AreBest q (group ∷ groups) (wanted ∷ wishes) (answer ∷ answers) =
+    IsBest q group wanted all_nodes answer × AreBest q groups wishes answers
 
 -- the answer is the best for what is asked, if something is
 abbrev pub IsBestAsked : Query → Option (Key × Request) → Option Best → Type 0

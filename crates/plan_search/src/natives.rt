@@ -15,7 +15,7 @@ use crate::kept_plans::KeptPlans;
 use crate::native::Native;
 use plan_space::{choices_serve, costs_fit, keys_fall, plans_are_ordered, what_is_asked_fits};
 use plan_tree::{Alt, alternative_by, native_cost_by};
-use query_core::{KeyParts, Query, candidates_are_known};
+use query_core::{KeyParts, Query};
 use request_props::{Props, Request};
 use xform_rules::members_are_candidates;
 
@@ -81,9 +81,9 @@ fn choice_of(search: Search<'_>, p: &Native, wanted: Request, alt: Alt) -> Optio
     ensures { MatchOption result (IsLacking search.entry.query.now wanted p.now.expr p.now.mode)
         (IsMade search.entry.query.now search.entry.answers.now wanted p.now.expr p.now.mode) }
 {
-    // For the proof: what is asked fits, and what is made of it serves.
+    // For the proof: what is asked fits and stands at lesser places, and what is made of it serves
+    // and costs little.
     members_are_candidates();
-    candidates_are_known();
     what_is_asked_fits();
     choices_serve();
     keys_fall();

@@ -1,6 +1,6 @@
 -- What enforcers ask for: it fits the group, and its least plan has a node less.
 use Rattle.std.proofs.Common.{◌≡◌, ℕ, zero, suc, ◌≤◌, ◌+◌, subst, sym, inl, inr, arith}
-use Rattle.std.specs.Prelude.{[], ◌∷◌}
+use Rattle.std.specs.Prelude.{[]}
 use Rattle.query_core.specs.declared.query.Query.{Query}
 use Rattle.query_core.specs.declared.words.KeyParts.{KeyParts}
 use Rattle.request_props.specs.declared.request.Dist.{Dist}

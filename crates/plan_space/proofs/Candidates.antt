@@ -10,12 +10,12 @@ use Rattle.query_core.specs.declared.words.KeyParts.TheVariants as groups
 use Rattle.query_core.specs.declared.expressions.Physical.{Physical}
 use Rattle.query_core.specs.declared.expressions.Physical.TheVariants as physical
 use Rattle.query_core.specs.declared.expressions.PhysicalExpr.{PhysicalExpr}
-use Rattle.query_core.specs.declared.expressions.Children.TheVariants.{Zero, One, Two}
+use Rattle.query_core.specs.declared.expressions.Children.TheVariants.{Zero, One}
 use Rattle.request_props.specs.declared.given.GivenOrder.{GivenOrder}
 use Rattle.request_props.specs.declared.given.GivenOrder.TheVariants.{Listed, Index}
 use Rattle.plan_space.specs.Gives.{gives_so}
 use Rattle.request_props.specs.Numbered.{table_dist, group_order}
-use Rattle.plan_space.specs.Lines.{in_order, only_line, table_in, table_line, agg_line, operator_line, line_of}
+use Rattle.plan_space.specs.Lines.{in_order, only_line, table_in, table_line, operator_line, line_of}
 use Rattle.plan_space.specs.declared.lines.LeftDist.TheVariants as left_dists
 use Rattle.plan_space.specs.declared.lines.LeftOrder.TheVariants as left_orders
 use Rattle.plan_space.specs.declared.lines.Line.{Line}

@@ -1,7 +1,6 @@
 -- What an enforcer at the root of a plan can be replaced by: one of those that are looked at for the
 -- request, or nothing.
 use Rattle.std.proofs.Common.{◌≡◌, ℕ, zero, suc, ◌≤◌, List, [], ◌∷◌, ◌⊎◌, inl, inr, refl, arith}
-use Rattle.std.specs.Bool.{⊤}
 use Rattle.query_core.specs.declared.query.Query.{Query}
 use Rattle.cost_units.specs.declared.shape.Class.{Class}
 use Rattle.cost_units.specs.declared.shape.Class.TheVariants as classes

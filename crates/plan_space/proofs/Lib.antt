@@ -22,5 +22,6 @@ pub mod Below
 pub mod Serving
 pub mod Choice
 pub mod Cheapest
+pub mod LeastCosts
 pub mod OneLeast
 pub mod Root

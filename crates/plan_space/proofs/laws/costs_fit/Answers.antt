@@ -7,7 +7,7 @@ use Rattle.std.proofs.Common.{refl}
 use Rattle.xform_rules.specs.Closure.{IsMember}
 use Rattle.plan_space.proofs.Numbering.{is_ordered}
 use Rattle.plan_space.proofs.Compared.{least_at_most}
-use Rattle.plan_space.proofs.Cheapest.{AreKnown, least_small, choice_small}
+use Rattle.plan_space.proofs.LeastCosts.{AreKnown, least_small, choice_small}
 use Rattle.plan_space.proofs.laws.costs_fit.Goals as goal
 
 -- each plan below the root of a cheapest plan is a cheapest one for what is asked of it, and has fewer nodes at most
