@@ -1,11 +1,11 @@
 -- What is known of a least plan by the node at its root.
-use Rattle.std.proofs.Common.{◌≡◌, ℕ, refl, sym, ap, ◌∙◌, subst}
+use Rattle.std.proofs.Common.{◌≡◌, ℕ, sym, ap, ◌∙◌, subst}
 use Rattle.std.specs.Prelude.{List, [], ◌∷◌, Option, Some, ◌↔◌}
 use Rattle.query_core.specs.Expressions.{expr_of, physical_children}
 use Rattle.query_core.specs.declared.query.Query.{Query}
 use Rattle.query_core.specs.declared.expressions.PhysicalExpr.{PhysicalExpr}
 use Rattle.xform_rules.specs.Closure.{IsMember}
-use Rattle.plan_space.specs.Nodes.{Tree, leaf, over, two}
+use Rattle.plan_space.specs.Nodes.{Tree, over}
 use Rattle.plan_space.specs.declared.nodes.Enforcer.{Enforcer}
 use Rattle.plan_space.specs.declared.nodes.NodeKind.{NodeKind}
 use Rattle.plan_space.specs.declared.nodes.NodeKind.TheVariants as nodes
@@ -18,7 +18,7 @@ use Rattle.plan_tree.specs.declared.node.Node.{Node}
 use Rattle.plan_tree.specs.Nodes.{IsNode}
 use Rattle.plan_tree.specs.Seen.{root_node}
 use Rattle.plan_report.specs.declared.links.Linked.{Linked}
-use Rattle.plan_report.specs.Links.{IsLeastAt, IsChosen, IsRooted}
+use Rattle.plan_report.specs.Links.{IsChosen, IsRooted}
 
 -- a node over plans is the root
 pub root_over : (node : NodeKind) (kids : List Tree) (plan : Tree) → IsNodeOver node kids plan → root_node plan ≡ node

@@ -1,4 +1,4 @@
-use Rattle.std.proofs.Common.{◌≡◌, sym, subst, arith}
+use Rattle.std.proofs.Common.{sym, subst, arith}
 use Rattle.plan_space.specs.Nodes.{leaf, over, two}
 use Rattle.plan_tree.specs.Seen.{root_node}
 use Rattle.plan_tree.specs.Spells.{Spells}

@@ -4,7 +4,7 @@ use Rattle.plan_space.specs.Alternatives.{asked_of}
 use Rattle.plan_space.specs.Choices.{groups_of}
 use Rattle.plan_space.specs.declared.nodes.NodeKind.TheVariants.{Native}
 use Rattle.plan_report.specs.Links.{AreLinked, goal_of}
-use Rattle.plan_report.proofs.Rooted.{native_root, root_over}
+use Rattle.plan_report.proofs.Rooted.{native_root}
 use Rattle.plan_report.proofs.Linking.{over_linked, native_lower}
 use Rattle.plan_report.proofs.links.native_links.Goals as goal
 
