@@ -1,17 +1,16 @@
 -- What enforcers ask for, and the choices that they make.
 use Rattle.std.proofs.Common.{◌≡◌, ℕ, zero, suc, ◌<◌, ◌≤◌, ◌+◌, refl, subst, sym, ◌∙◌, ap, inl, inr, arith}
 use Rattle.std.specs.Prelude.{◌^◌, [], ◌∷◌, slice_get, Option, None, Some}
-use Rattle.query_core.specs.Keys.{IsGroup, IsInRange}
+use Rattle.query_core.specs.Keys.{IsGroup}
 use Rattle.query_core.specs.declared.query.Query.{Query}
 use Rattle.query_core.specs.declared.words.KeyParts.{KeyParts}
 use Rattle.xform_rules.specs.Closure.{IsMember}
-use Rattle.cost_units.specs.Cost.{most_cost, local_cost}
+use Rattle.cost_units.specs.Cost.{local_cost}
 use Rattle.request_props.specs.Numbered.{IsProps}
 use Rattle.request_props.specs.declared.props.Props.{Props}
 use Rattle.request_props.specs.declared.request.Dist.{Dist}
 use Rattle.request_props.specs.declared.request.Dist.TheVariants.{One, Spread, Copies, Hashed}
 use Rattle.request_props.specs.declared.request.Request.{Request}
-use Rattle.request_props.specs.Lying.{OrderLiesIn}
 use Rattle.request_props.specs.Fitting.{Fits}
 use Rattle.plan_space.specs.declared.nodes.Enforcer.TheVariants as enforcing
 use Rattle.plan_space.specs.declared.nodes.NodeKind.TheVariants as nodes

@@ -1,5 +1,5 @@
 -- An expression in a mode over the plans that it asks for, or that there are none.
-use Rattle.std.proofs.Common.{◌≡◌, ℕ, ◌≤◌, refl, subst, sym, inl, inr, arith}
+use Rattle.std.proofs.Common.{◌≡◌, ℕ, refl, subst, sym, inl, inr, arith}
 use Rattle.std.specs.Prelude.{[], ◌∷◌, Option, None, Some}
 use Rattle.query_core.specs.declared.words.Key.{Key}
 use Rattle.query_core.specs.declared.query.Query.{Query}

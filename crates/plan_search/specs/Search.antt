@@ -1,5 +1,5 @@
 -- What the search knows of the requests that are answered, and of the best plan so far for one more.
-use Rattle.std.specs.Prelude.{ℕ, ◌++◌, slice_get, ◌≡◌, ◌<◌, ◌≤◌, ◌⊎◌, ◌+◌, ◌*◌, ◌^◌, List, [], ◌∷◌, Option, None, Some, nat_lt, if◌then◌else◌, ⊤}
+use Rattle.std.specs.Prelude.{ℕ, ◌++◌, slice_get, ◌≡◌, ◌<◌, ◌≤◌, ◌⊎◌, ◌+◌, ◌^◌, List, [], ◌∷◌, Option, None, Some, nat_lt, if◌then◌else◌, ⊤}
 use Rattle.std.specs.Ordering.{nat_cmp}
 use Rattle.std.specs.BTreeMap.{get}
 use Rattle.std.specs.Option.{option_and_then, option_map_or}
