@@ -1,17 +1,13 @@
 -- How a group is printed.
-use Rattle.std.specs.Prelude.{ℕ, List, [], ◌++◌, ◌==◌, codes, decimal, filter, map, slice_get}
+use Rattle.std.specs.Prelude.{ℕ, List, [], ◌++◌, ◌==◌, codes, decimal, filter, map}
 use Rattle.std.specs.List.{enumerate_from, join_by}
-use Rattle.std.specs.Option.{option_map_or}
 use Rattle.query_core.specs.Sets.{bit}
 use Rattle.query_core.specs.declared.query.Query.{Query}
 use Rattle.query_core.specs.declared.table.QueryTable.{QueryTable}
 use Rattle.query_core.specs.declared.words.KeyParts.{KeyParts}
 use Rattle.query_core.specs.declared.words.KeyParts.TheVariants as groups
 use Rattle.cardinality.specs.Rows.{rows_of}
-
--- the alias of the table at this place
-abbrev pub table_text : Query → ℕ → List ℕ
-table_text q t = option_map_or (λ table. table.alias) (slice_get q.tables t) []
+use Rattle.query_text.specs.Columns.{table_text}
 
 -- of tables that stand from a place on, those that the set has, in ascending position
 abbrev pub tables_in : ℕ → ℕ → List QueryTable → List QueryTable

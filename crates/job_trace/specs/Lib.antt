@@ -1,4 +1,9 @@
+pub mod Counts
 pub mod Groups
 pub mod Members
 pub mod Memo
 pub mod Lines
+pub mod Requests
+pub mod Goals
+pub mod Trace
+pub mod GoalLines

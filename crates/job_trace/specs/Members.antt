@@ -55,6 +55,10 @@ abbrev pub operator_text : Query → KeyParts → Operator → List ℕ
 operator_text q group (operators.Logical o) = logical_text q group o
 operator_text q group (operators.Physical o) = physical_text q group o
 
+-- a member
+abbrev pub member_text : Query → ExprParts → List ℕ
+member_text q e = operator_text q e.group e.operator
+
 -- the line of a member, two spaces before it
 abbrev pub member_line : Query → ExprParts → List ℕ
-member_line q e = codes "  " ++ operator_text q e.group e.operator ++ codes "\n"
+member_line q e = codes "  " ++ member_text q e ++ codes "\n"

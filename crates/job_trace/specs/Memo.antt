@@ -1,5 +1,5 @@
 -- The text in which the memo is printed.
-use Rattle.std.specs.Prelude.{ℕ, Bool, List, ◌∷◌, ◌++◌, ◌≡◌, ◌==◌, All, codes, decimal, filter, flat_map, length, map}
+use Rattle.std.specs.Prelude.{ℕ, Bool, List, ◌∷◌, ◌++◌, ◌≡◌, ◌==◌, All, codes, filter, flat_map, length, map}
 use Rattle.std.specs.List.{concat, dedup}
 use Rattle.std.specs.List.Sorted.{IsStrictlyIncreasing}
 use Rattle.query_core.specs.Keys.{key_number}
@@ -7,6 +7,7 @@ use Rattle.query_core.specs.Expressions.{word_of, IsCandidate}
 use Rattle.query_core.specs.declared.query.Query.{Query}
 use Rattle.query_core.specs.declared.words.KeyParts.{KeyParts}
 use Rattle.query_core.specs.declared.expressions.ExprParts.{ExprParts}
+use Rattle.job_trace.specs.Counts.{counted}
 use Rattle.job_trace.specs.Groups.{group_line}
 use Rattle.job_trace.specs.Members.{member_line}
 
@@ -34,7 +35,7 @@ group_lines q es g = group_line q g ∷ map (member_line q) (members_of g es)
 
 -- the first line: how many groups and how many members there are
 abbrev pub memo_line : ℕ → ℕ → List ℕ
-memo_line groups members = codes "memo groups=" ++ decimal groups ++ codes " members=" ++ decimal members ++ codes "\n"
+memo_line groups members = counted (codes "memo groups=") groups ++ counted (codes " members=") members ++ codes "\n"
 
 -- the lines of the memo's text: the two numbers, and then group by group
 abbrev pub memo_section : Query → List ExprParts → List (List ℕ)

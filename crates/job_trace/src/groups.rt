@@ -1,64 +1,77 @@
-//! How a group is printed.
+//! How a group is printed. Each call adds to a text.
 #![tactic(auto)]
 
-ghost use Rattle.std.specs.Prelude.{◌≡◌, IfOk, string_bytes};
+ghost use Rattle.std.specs.Prelude.{OnOk, string_bytes};
 ghost use Rattle.query_core.specs.Keys.{IsGroup};
+ghost use Rattle.query_text.specs.Added.{Adds};
 ghost use Rattle.job_trace.specs.Groups as texts;
 
 use cardinality::rows;
 use query_core::{Key, KeyParts, Query, groups_are_known, sets};
-use std::alloc::{AllocError, Global};
+use query_text::table_text;
+use std::alloc::AllocError;
 
-/// The line of a group, with its estimated rows.
-pub fn group_line(alloc: Global, query: &Query, group: KeyParts) -> Result<String, AllocError>
+/// Adds the line of a group, with its estimated rows.
+pub fn push_group_line(query: &Query, group: KeyParts, text: &mut String) -> Result<(), AllocError>
     requires { IsGroup query.now group }
-    ensures { IfOk result (λ s. string_bytes s ≡ texts.group_line query.now group) }
+    ensures ok { OnOk result (Adds (string_bytes text.old)
+        (texts.group_line query.now group) (string_bytes text.new)) }
 {
     groups_are_known();
-    let name = group_text(alloc, query, group)?;
+    text.push_str("group ")?;
+    push_group(query, group, text)?;
     let rows = rows(query, Key::make(group));
-    Ok(format!(in alloc; "group {name} rows={rows}\n")?)
+    write!(text, " rows={rows}\n")
 }
 
-fn group_text(alloc: Global, query: &Query, group: KeyParts) -> Result<String, AllocError>
-    ensures { IfOk result (λ s. string_bytes s ≡ texts.group_text query.now group) }
+/// Adds a group.
+pub fn push_group(query: &Query, group: KeyParts, text: &mut String) -> Result<(), AllocError>
+    ensures ok { OnOk result (Adds (string_bytes text.old)
+        (texts.group_text query.now group) (string_bytes text.new)) }
 {
     match group {
-        KeyParts::Get(table) => named(alloc, "Get", table_text(query, table)),
-        KeyParts::Filter(table) => named(alloc, "Filter", table_text(query, table)),
-        KeyParts::Join(set) => {
-            let tables = set_text(alloc, query, set)?;
-            Ok(named(alloc, "Join", &tables)?)
-        }
-        KeyParts::Partial => Ok(String::from_str(alloc, "Partial")?),
-        KeyParts::Agg => Ok(String::from_str(alloc, "Agg")?),
+        KeyParts::Get(_) => push_named(query, "Get", group, text),
+        KeyParts::Filter(_) => push_named(query, "Filter", group, text),
+        KeyParts::Join(_) => push_named(query, "Join", group, text),
+        KeyParts::Partial => text.push_str("Partial"),
+        KeyParts::Agg => text.push_str("Agg"),
     }
 }
 
-/// The tables that a group joins, by their aliases.
-pub fn tables_text(alloc: Global, query: &Query, group: KeyParts) -> Result<String, AllocError>
-    ensures { IfOk result (λ s. string_bytes s ≡ texts.tables_text query.now group) }
+/// Adds a name, and in brackets the tables of a group.
+pub fn push_named(
+    query: &Query,
+    name: &str,
+    group: KeyParts,
+    text: &mut String,
+) -> Result<(), AllocError>
+    ensures ok { OnOk result (Adds (string_bytes text.old)
+        (texts.named name.now (texts.tables_text query.now group)) (string_bytes text.new)) }
+{
+    text.push_str(name)?;
+    text.push_str("(")?;
+    push_tables(query, group, text)?;
+    text.push_str(")")
+}
+
+/// Adds the tables that a group joins, by their aliases.
+pub fn push_tables(query: &Query, group: KeyParts, text: &mut String) -> Result<(), AllocError>
+    ensures ok { OnOk result (Adds (string_bytes text.old)
+        (texts.tables_text query.now group) (string_bytes text.new)) }
 {
     match group {
-        KeyParts::Get(table) => Ok(String::from_str(alloc, table_text(query, table))?),
-        KeyParts::Filter(table) => Ok(String::from_str(alloc, table_text(query, table))?),
-        KeyParts::Join(set) => set_text(alloc, query, set),
-        KeyParts::Partial => Ok(String::new(alloc)),
-        KeyParts::Agg => Ok(String::new(alloc)),
+        KeyParts::Get(table) => text.push_str(table_text(query, table)),
+        KeyParts::Filter(table) => text.push_str(table_text(query, table)),
+        KeyParts::Join(set) => push_set(query, set, text),
+        KeyParts::Partial => Ok(()),
+        KeyParts::Agg => Ok(()),
     }
 }
 
-/// A name, and in brackets what it is about.
-pub fn named(alloc: Global, name: &str, about: &str) -> Result<String, AllocError>
-    ensures { IfOk result (λ s. string_bytes s ≡ texts.named name.now about.now) }
+fn push_set(query: &Query, set: u32, text: &mut String) -> Result<(), AllocError>
+    ensures ok { OnOk result (Adds (string_bytes text.old)
+        (texts.set_text query.now set) (string_bytes text.new)) }
 {
-    Ok(format!(in alloc; "{name}({about})")?)
-}
-
-fn set_text(alloc: Global, query: &Query, set: u32) -> Result<String, AllocError>
-    ensures { IfOk result (λ s. string_bytes s ≡ texts.set_text query.now set) }
-{
-    let mut text = String::new(alloc);
     let mut separator = "";
     for (place, table) in query.tables.as_slice().iter().enumerate() {
         if sets::has(set, place as u32) {
@@ -67,14 +80,5 @@ fn set_text(alloc: Global, query: &Query, set: u32) -> Result<String, AllocError
             separator = ", ";
         }
     }
-    Ok(text)
-}
-
-fn table_text(query: &Query, table: u32) -> &str
-    ensures { result.now ≡ texts.table_text query.now table }
-{
-    match query.tables.as_slice().get(table as usize) {
-        Some(found) => found.alias.as_str(),
-        None => "",
-    }
+    Ok(())
 }

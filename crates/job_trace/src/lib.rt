@@ -1,10 +1,17 @@
 //! The texts in which the search shows what it did.
 #![tactic(auto)]
 
+mod counts;
+mod crew;
+mod goals;
 mod groups;
 mod members;
 mod memo;
+mod requests;
+mod trace;
 #[cfg(test)]
 mod tests;
 
+pub use crew::crew_text;
 pub use memo::{memo_text, memos_are_known};
+pub use trace::trace_text;

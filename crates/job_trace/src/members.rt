@@ -1,124 +1,131 @@
-//! How a member of a group is printed.
+//! How a member of a group is printed. Each call adds to a text.
 #![tactic(auto)]
 
-ghost use Rattle.std.specs.Prelude.{◌≡◌, IfOk, string_bytes};
+ghost use Rattle.std.specs.Prelude.{◌≡◌, OnOk, string_bytes};
+ghost use Rattle.query_text.specs.Added.{Adds};
 ghost use Rattle.job_trace.specs.Groups as texts_of_groups;
 ghost use Rattle.job_trace.specs.Members as texts;
 
-use crate::groups::{named, tables_text};
+use crate::groups::{push_named, push_tables};
 use query_core::{ExprParts, KeyParts, Logical, Operator, Physical, Query};
-use std::alloc::{AllocError, Global};
+use std::alloc::AllocError;
 
-/// The line of a member, two spaces before it.
-pub fn member_line(alloc: Global, query: &Query, member: ExprParts) -> Result<String, AllocError>
-    ensures { IfOk result (λ s. string_bytes s ≡ texts.member_line query.now member) }
+/// Adds the line of a member, two spaces before it.
+pub fn push_member_line(
+    query: &Query,
+    member: ExprParts,
+    text: &mut String,
+) -> Result<(), AllocError>
+    ensures ok { OnOk result (Adds (string_bytes text.old)
+        (texts.member_line query.now member) (string_bytes text.new)) }
 {
-    let text = operator_text(alloc, query, member.group, member.operator)?;
-    Ok(format!(in alloc; "  {text}\n")?)
+    text.push_str("  ")?;
+    push_member(query, member, text)?;
+    text.push_str("\n")
 }
 
-fn operator_text(
-    alloc: Global,
-    query: &Query,
-    group: KeyParts,
-    operator: Operator,
-) -> Result<String, AllocError>
-    ensures { IfOk result (λ s. string_bytes s ≡ texts.operator_text query.now group operator) }
+/// Adds a member.
+pub fn push_member(query: &Query, member: ExprParts, text: &mut String) -> Result<(), AllocError>
+    ensures ok { OnOk result (Adds (string_bytes text.old)
+        (texts.member_text query.now member) (string_bytes text.new)) }
 {
-    match operator {
-        Operator::Logical(operator) => logical_text(alloc, query, group, operator),
-        Operator::Physical(operator) => physical_text(alloc, query, group, operator),
+    match member.operator {
+        Operator::Logical(operator) => push_logical(query, member.group, operator, text),
+        Operator::Physical(operator) => push_physical(query, member.group, operator, text),
     }
 }
 
-fn logical_text(
-    alloc: Global,
+fn push_logical(
     query: &Query,
     group: KeyParts,
     operator: Logical,
-) -> Result<String, AllocError>
-    ensures { IfOk result (λ s. string_bytes s ≡ texts.logical_text query.now group operator) }
+    text: &mut String,
+) -> Result<(), AllocError>
+    ensures ok { OnOk result (Adds (string_bytes text.old)
+        (texts.logical_text query.now group operator) (string_bytes text.new)) }
 {
     match operator {
-        Logical::Get => of_tables(alloc, query, "Get", group),
-        Logical::Select(_) => of_tables(alloc, query, "Select", group),
-        Logical::NJoin => of_tables(alloc, query, "NJoin", group),
-        Logical::Join(left, right) => of_sides(alloc, query, "Join", left, right),
-        Logical::Agg(child) => named(alloc, "Agg", source_text(child)),
-        Logical::Partial(child) => named(alloc, "Partial", source_text(child)),
+        Logical::Get => push_named(query, "Get", group, text),
+        Logical::Select(_) => push_named(query, "Select", group, text),
+        Logical::NJoin => push_named(query, "NJoin", group, text),
+        Logical::Join(left, right) => push_sides(query, "Join", left, right, text),
+        Logical::Agg(child) => push_source("Agg", child, text),
+        Logical::Partial(child) => push_source("Partial", child, text),
     }
 }
 
-fn physical_text(
-    alloc: Global,
+fn push_physical(
     query: &Query,
     group: KeyParts,
     operator: Physical,
-) -> Result<String, AllocError>
-    ensures { IfOk result (λ s. string_bytes s ≡ texts.physical_text query.now group operator) }
+    text: &mut String,
+) -> Result<(), AllocError>
+    ensures ok { OnOk result (Adds (string_bytes text.old)
+        (texts.physical_text query.now group operator) (string_bytes text.new)) }
 {
     match operator {
-        Physical::Scan => of_tables(alloc, query, "Scan", group),
-        Physical::IndexScan(index) => of_index(alloc, query, "IndexScan", group, index),
-        Physical::Filter(_) => of_tables(alloc, query, "Filter", group),
-        Physical::IndexSeek(index) => of_index(alloc, query, "IndexSeek", group, index),
-        Physical::HashJoin(left, right) => of_sides(alloc, query, "HashJoin", left, right),
-        Physical::MergeJoin(left, right) => of_sides(alloc, query, "MergeJoin", left, right),
-        Physical::LoopJoin(left, right) => of_sides(alloc, query, "LoopJoin", left, right),
-        Physical::HashAgg(child) => named(alloc, "HashAgg", source_text(child)),
-        Physical::StreamAgg(child) => named(alloc, "StreamAgg", source_text(child)),
-        Physical::PartialAgg(child) => named(alloc, "PartialAgg", source_text(child)),
+        Physical::Scan => push_named(query, "Scan", group, text),
+        Physical::IndexScan(index) => push_index(query, "IndexScan", group, index, text),
+        Physical::Filter(_) => push_named(query, "Filter", group, text),
+        Physical::IndexSeek(index) => push_index(query, "IndexSeek", group, index, text),
+        Physical::HashJoin(left, right) => push_sides(query, "HashJoin", left, right, text),
+        Physical::MergeJoin(left, right) => push_sides(query, "MergeJoin", left, right, text),
+        Physical::LoopJoin(left, right) => push_sides(query, "LoopJoin", left, right, text),
+        Physical::HashAgg(child) => push_source("HashAgg", child, text),
+        Physical::StreamAgg(child) => push_source("StreamAgg", child, text),
+        Physical::PartialAgg(child) => push_source("PartialAgg", child, text),
     }
 }
 
-// An operator over the tables of its group.
-fn of_tables(
-    alloc: Global,
-    query: &Query,
-    name: &str,
-    group: KeyParts,
-) -> Result<String, AllocError>
-    ensures { IfOk result (λ s. string_bytes s ≡
-        texts_of_groups.named name.now (texts_of_groups.tables_text query.now group)) }
-{
-    let tables = tables_text(alloc, query, group)?;
-    Ok(named(alloc, name, &tables)?)
-}
-
 // An operator over an index of its group's table.
-fn of_index(
-    alloc: Global,
+fn push_index(
     query: &Query,
     name: &str,
     group: KeyParts,
     index: u32,
-) -> Result<String, AllocError>
-    ensures { IfOk result (λ s. string_bytes s ≡
-        texts_of_groups.named name.now (texts.index_text query.now group index)) }
+    text: &mut String,
+) -> Result<(), AllocError>
+    ensures ok { OnOk result (Adds (string_bytes text.old)
+        (texts_of_groups.named name.now (texts.index_text query.now group index))
+        (string_bytes text.new)) }
 {
-    let tables = tables_text(alloc, query, group)?;
-    let about = format!(in alloc; "{tables}, i{index}")?;
-    Ok(named(alloc, name, &about)?)
+    text.push_str(name)?;
+    text.push_str("(")?;
+    push_tables(query, group, text)?;
+    write!(text, ", i{index})")
 }
 
 // An operator over two groups.
-fn of_sides(
-    alloc: Global,
+fn push_sides(
     query: &Query,
     name: &str,
     left: KeyParts,
     right: KeyParts,
-) -> Result<String, AllocError>
-    ensures { IfOk result (λ s. string_bytes s ≡
-        texts_of_groups.named name.now (texts.sides_text query.now left right)) }
+    text: &mut String,
+) -> Result<(), AllocError>
+    ensures ok { OnOk result (Adds (string_bytes text.old)
+        (texts_of_groups.named name.now (texts.sides_text query.now left right))
+        (string_bytes text.new)) }
 {
-    let left = tables_text(alloc, query, left)?;
-    let right = tables_text(alloc, query, right)?;
-    let sides = format!(in alloc; "{left} | {right}")?;
-    Ok(named(alloc, name, &sides)?)
+    text.push_str(name)?;
+    text.push_str("(")?;
+    push_tables(query, left, text)?;
+    text.push_str(" | ")?;
+    push_tables(query, right, text)?;
+    text.push_str(")")
 }
 
-// What is aggregated.
+// An aggregation, with what is aggregated.
+fn push_source(name: &str, child: KeyParts, text: &mut String) -> Result<(), AllocError>
+    ensures ok { OnOk result (Adds (string_bytes text.old)
+        (texts_of_groups.named name.now (texts.source_text child)) (string_bytes text.new)) }
+{
+    text.push_str(name)?;
+    text.push_str("(")?;
+    text.push_str(source_text(child))?;
+    text.push_str(")")
+}
+
 fn source_text(child: KeyParts) -> &'static str
     ensures { result.now ≡ texts.source_text child }
 {

@@ -8,12 +8,14 @@ ghost use Rattle.query_core.specs.Keys.{key_number, IsInRange, IsGroup};
 ghost use Rattle.query_core.specs.Expressions.{IsCandidateWord};
 ghost use Rattle.query_core.specs.declared.query.Query.{Query};
 ghost use Rattle.query_core.specs.declared.expressions.ExprParts.{ExprParts};
+ghost use Rattle.query_text.specs.Added.{Adds};
 ghost use Rattle.job_trace.specs.Memo as texts;
 ghost use Rattle.job_trace.specs.Memo.{AreMembers, IsMemoText, groups_of, group_lines, memo_section};
 ghost use Rattle.job_trace.specs.Lines.{HaveWords, StandByGroup, begins as does_begin, heading};
 
-use crate::groups::group_line;
-use crate::members::member_line;
+use crate::counts::push_count;
+use crate::groups::push_group_line;
+use crate::members::push_member_line;
 use query_core::{
     Expr, ExprParts, Key, KeyParts, Query, candidates_are_known, expressions_are_one,
     groups_are_known,
@@ -74,20 +76,20 @@ fn text_of(alloc: Global, query: &Query, members: &[ExprParts]) -> Result<Vec<u8
     ensures { IfOk result (λ text. text.items ≡ concat (memo_section query.now members.now)) }
 {
     groups_are_known();
-    let mut text = Vec::new(alloc);
-    push(
-        &mut text,
-        &memo_line(alloc, group_count(members), members.len())?,
-    )?;
-    push_groups(alloc, query, members, &mut text)?;
-    Ok(text)
+    let mut text = String::new(alloc);
+    push_memo_line(group_count(members), members.len(), &mut text)?;
+    push_groups(query, members, &mut text)?;
+    Ok(text.into_bytes())
 }
 
-// The first line.
-fn memo_line(alloc: Global, groups: usize, members: usize) -> Result<String, AllocError>
-    ensures { IfOk result (λ s. string_bytes s ≡ texts.memo_line groups members) }
+// Adds the first line.
+fn push_memo_line(groups: usize, members: usize, text: &mut String) -> Result<(), AllocError>
+    ensures ok { OnOk result (Adds (string_bytes text.old)
+        (texts.memo_line groups members) (string_bytes text.new)) }
 {
-    Ok(format!(in alloc; "memo groups={groups} members={members}\n")?)
+    push_count("memo groups=", groups, text)?;
+    push_count(" members=", members, text)?;
+    text.push_str("\n")
 }
 
 // How many groups the members have.
@@ -108,21 +110,17 @@ fn group_count(members: &[ExprParts]) -> usize
 }
 
 // Adds the line of each group, and behind it those of its members.
-fn push_groups(
-    alloc: Global,
-    query: &Query,
-    members: &[ExprParts],
-    text: &mut Vec<u8>,
-) -> Result<(), AllocError>
+fn push_groups(query: &Query, members: &[ExprParts], text: &mut String) -> Result<(), AllocError>
     requires { StandByGroup query.now members.now }
-    ensures ok { OnOk result (text.new.items ≡ text.old.items
-        ++ concat (flat_map (group_lines query.now members.now) (groups_of members.now))) }
+    ensures ok { OnOk result (Adds (string_bytes text.old)
+        (concat (flat_map (group_lines query.now members.now) (groups_of members.now)))
+        (string_bytes text.new)) }
 {
     groups_are_known();
     let mut before = None;
     for member in members {
-        push_heading(alloc, query, before, member.group, text)?;
-        push(text, &member_line(alloc, query, *member)?)?;
+        push_heading(query, before, member.group, text)?;
+        push_member_line(query, *member, text)?;
         before = Some(Key::make(member.group).0);
     }
     Ok(())
@@ -130,28 +128,20 @@ fn push_groups(
 
 // Adds the line of a group, if a member of it begins it.
 fn push_heading(
-    alloc: Global,
     query: &Query,
     before: Option<u32>,
     group: KeyParts,
-    text: &mut Vec<u8>,
+    text: &mut String,
 ) -> Result<(), AllocError>
     requires { IsGroup query.now group }
-    ensures ok { OnOk result (text.new.items ≡ text.old.items
-        ++ concat (heading query.now before group)) }
+    ensures ok { OnOk result (Adds (string_bytes text.old)
+        (concat (heading query.now before group)) (string_bytes text.new)) }
 {
     groups_are_known();
     if begins(before, Key::make(group).0) {
-        push(text, &group_line(alloc, query, group)?)?;
+        push_group_line(query, group, text)?;
     }
     Ok(())
-}
-
-// Adds a line.
-fn push(text: &mut Vec<u8>, line: &str) -> Result<(), AllocError>
-    ensures ok { OnOk result (text.new.items ≡ text.old.items ++ line.now) }
-{
-    text.extend_from_slice(line.as_bytes())
 }
 
 // Whether a member of this key begins a group, where that before it had the other key.

@@ -1,11 +1,6 @@
 -- The lines in which a plan is printed.
-use Rattle.std.specs.Option.{option_map_or}
-use Rattle.std.specs.Prelude.{ℕ, zero, suc, ◌-◌, ◌/◌, ◌%◌, List, [], ◌∷◌, ◌++◌, flat_map, length, Option, None, Some, codes, decimal, if◌then◌else◌, ◌==◌, nat_lt, slice_get}
+use Rattle.std.specs.Prelude.{ℕ, zero, suc, ◌-◌, List, [], ◌∷◌, ◌++◌, flat_map, Option, None, Some, codes, decimal, if◌then◌else◌, nat_lt}
 use Rattle.query_core.specs.declared.query.Query.{Query}
-use Rattle.query_core.specs.declared.table.Item.{Item}
-use Rattle.query_core.specs.declared.aggregate.Agg.{Agg}
-use Rattle.query_core.specs.declared.aggregate.AggFunc.{AggFunc}
-use Rattle.query_core.specs.declared.aggregate.AggFunc.TheVariants as functions
 use Rattle.query_core.specs.declared.output.OutItem.{OutItem}
 use Rattle.query_core.specs.declared.expressions.Physical.{Physical}
 use Rattle.query_core.specs.declared.expressions.Physical.TheVariants as physical
@@ -13,6 +8,8 @@ use Rattle.query_core.specs.declared.expressions.PhysicalExpr.{PhysicalExpr}
 use Rattle.cardinality.specs.Rows.{rows_of}
 use Rattle.request_props.specs.Numbered.{list_of, order_of}
 use Rattle.cost_units.specs.Cost.{local_cost}
+use Rattle.query_text.specs.Columns.{computed_text, table_text}
+use Rattle.query_text.specs.Lists.{list_text, order_text}
 use Rattle.plan_space.specs.declared.nodes.Enforcer.{Enforcer}
 use Rattle.plan_space.specs.declared.nodes.Enforcer.TheVariants as enforcers
 use Rattle.plan_space.specs.declared.nodes.NodeKind.{NodeKind}
@@ -21,81 +18,6 @@ use Rattle.plan_space.specs.Nodes.{Tree, leaf, over, two}
 use Rattle.plan_space.specs.Lines.{table_in}
 use Rattle.plan_space.specs.Gives.{Kid, node_group, kid_of}
 use Rattle.plan_space.specs.Cost.{shape_of, cost_of}
-
--- ---- columns and aggregates
-
--- the alias of the table at this place
-abbrev pub table_text : Query → ℕ → List ℕ
-table_text q table = option_map_or (λ t. t.alias) (slice_get q.tables table) []
-
--- a column: its table's alias, a point and its name
-abbrev pub item_text : Query → Item → List ℕ
-item_text q item = table_text q item.table ++ codes "." ++ item.name
-
--- the column of this number
-abbrev pub column_text : Query → ℕ → List ℕ
-column_text q number = option_map_or (item_text q) (slice_get q.items number) []
-
--- what an aggregate computes
-abbrev pub function_text : AggFunc → List ℕ
-function_text functions.CountAll = codes "COUNT"
-function_text functions.Count = codes "COUNT"
-function_text functions.Sum = codes "SUM"
-function_text functions.Min = codes "MIN"
-function_text functions.Max = codes "MAX"
-
--- the column that an aggregate goes over, or a star where it goes over none
-abbrev pub argument_text : Query → Option ℕ → List ℕ
-argument_text q None = codes "*"
-argument_text q (Some number) = column_text q number
-
-abbrev pub aggregate_text : Query → Agg → List ℕ
-aggregate_text q agg = function_text agg.func ++ codes "(" ++ argument_text q agg.arg ++ codes ")"
-
--- the aggregate at this place
-abbrev pub aggregate_text_at : Query → ℕ → List ℕ
-aggregate_text_at q place = option_map_or (aggregate_text q) (slice_get q.aggs place) []
-
--- a name, where there is one
-abbrev pub name_text : Option (List ℕ) → List ℕ
-name_text None = []
-name_text (Some name) = name
-
--- the output name of the aggregate at this place
-abbrev pub aggregate_name_at : Query → ℕ → List ℕ
-aggregate_name_at q place = option_map_or (λ agg. name_text agg.name) (slice_get q.aggs place) []
-
--- the column of this number, or the aggregate; aggregates are numbered after the columns
-abbrev pub computed_text : Query → ℕ → List ℕ
-computed_text q number = option_map_or (item_text q) (slice_get q.items number) (aggregate_text_at q (number - length q.items))
-
--- the column of this number, or the aggregate's output name
-abbrev pub sorted_text : Query → ℕ → List ℕ
-sorted_text q number = option_map_or (item_text q) (slice_get q.items number) (aggregate_name_at q (number - length q.items))
-
--- ---- orders and hashed lists
-
--- an order's element: the column, and DESC where it descends
-abbrev pub element_text : Query → ℕ → List ℕ
-element_text q element = sorted_text q (element / 2) ++ (if element % 2 == 0 then [] else codes " DESC")
-
--- the elements that are not the first, each with a comma and a space in front
-abbrev pub other_elements_text : Query → List ℕ → List ℕ
-other_elements_text q order = flat_map (λ element. codes ", " ++ element_text q element) order
-
--- an order: its elements with a comma and a space between each two
-abbrev pub order_text : Query → List ℕ → List ℕ
-order_text q [] = []
-order_text q (first ∷ others) = element_text q first ++ other_elements_text q others
-
--- the columns that are not the first, each with a comma and a space in front
-abbrev pub other_columns_text : Query → List ℕ → List ℕ
-other_columns_text q columns = flat_map (λ column. codes ", " ++ column_text q column) columns
-
--- a hashed list: its columns with a comma and a space between each two
-abbrev pub list_text : Query → List ℕ → List ℕ
-list_text q [] = []
-list_text q (first ∷ others) = column_text q first ++ other_columns_text q others
 
 -- ---- nodes
 

@@ -1,11 +1,9 @@
 //! The least plan made of the answers of a search, and the text of a plan.
 #![tactic(auto)]
 
-mod columns;
 mod extraction;
 mod lines;
 mod links;
-mod lists;
 mod node_text;
 mod section;
 #[cfg(test)]

@@ -5,11 +5,10 @@ ghost use Rattle.std.specs.Prelude.{◌≡◌, ◌++◌, IfOk, codes, string_byt
 ghost use Rattle.request_props.specs.Numbered.{IsProps};
 ghost use Rattle.plan_report.specs.Text as texts;
 
-use crate::columns::table_text;
-use crate::lists::{list_text, order_text};
 use plan_space::{Enforcer, NodeKind};
 use plan_tree::table_in;
 use query_core::{Physical, PhysicalExpr, Query};
+use query_text::{list_text, order_text, table_text};
 use request_props::Props;
 use std::alloc::{AllocError, Global};
 

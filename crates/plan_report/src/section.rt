@@ -7,10 +7,10 @@ ghost use Rattle.request_props.specs.Numbered.{IsProps};
 ghost use Rattle.plan_report.specs.Text as texts;
 ghost use Rattle.plan_report.specs.Found.{IsFoundText, IsLeastText};
 
-use crate::columns::computed_text;
 use crate::lines::push_plan;
 use plan_tree::{Found, Plan};
 use query_core::{OutItem, Query};
+use query_text::computed_text;
 use request_props::Props;
 use std::alloc::{AllocError, Global};
 use xform_rules::members_are_candidates;

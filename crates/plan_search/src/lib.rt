@@ -18,6 +18,7 @@ mod word_set;
 
 pub use closure::plain_closure;
 pub use least::plain_least;
+pub use word_set::WordSet;
 
 #[cfg(test)]
 mod least_tests;

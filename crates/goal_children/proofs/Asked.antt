@@ -1,0 +1,201 @@
+-- What alternatives ask for, as the program finds it.
+use Rattle.std.proofs.Common.{◌≡◌, ℕ, ◌+◌, ◌<◌, ◌≤◌, List, [], ◌∷◌, Option, None, Some, length, slice_get, refl, sym, subst, ap, ◌∙◌, ◌⊎◌, inl, inr, zero, suc, arith}
+use Rattle.std.specs.Prelude.{IfSome}
+use Rattle.std.proofs.lemmas.Bool.{cases_lt}
+use Rattle.std.specs.Option.{option_map}
+use Rattle.query_core.specs.Expressions.{expr_of, physical_children, IsCandidate}
+use Rattle.query_core.specs.declared.words.Key.{Key}
+use Rattle.query_core.specs.declared.query.Query.{Query}
+use Rattle.query_core.specs.declared.words.KeyParts.{KeyParts}
+use Rattle.query_core.specs.declared.expressions.Children.{Children}
+use Rattle.query_core.specs.declared.expressions.Children.TheVariants as arities
+use Rattle.query_core.specs.declared.expressions.PhysicalExpr.{PhysicalExpr}
+use Rattle.request_props.specs.Numbered.{lists_of, orders_of}
+use Rattle.request_props.specs.Requests.{IsInRange}
+use Rattle.request_props.specs.declared.request.Dist.{Dist}
+use Rattle.request_props.specs.declared.request.Dist.TheVariants as dists
+use Rattle.request_props.specs.declared.request.Request.{Request}
+use Rattle.plan_space.specs.Alternatives.{IsAlternative, asked_of}
+use Rattle.plan_space.specs.Choices.{groups_of}
+use Rattle.plan_space.specs.Lines.{line_of}
+use Rattle.plan_space.specs.Enforcers.{EnforcedBy, movers_of, mergers_of, enforcers_by, enforcers_of, Among}
+use Rattle.plan_space.specs.declared.lines.Line.{Line}
+use Rattle.plan_space.specs.Laws.{AsksWhatFits}
+use Rattle.plan_tree.specs.Alternatives.{AreAsked, Asks, IsAltBy}
+use Rattle.plan_tree.specs.Enforcers.{AreKept, IsEnforced, IsEnforcerAt, LiesIn}
+use Rattle.plan_tree.specs.declared.alternatives.Alt.{Alt}
+use Rattle.plan_tree.specs.declared.enforcers.Enforced.{Enforced}
+use Rattle.goal_space.specs.Children.{IsAsked, CanEnforce}
+use Rattle.goal_space.specs.declared.goals.GoalKind.{GoalKind}
+use Rattle.goal_space.specs.declared.goals.GoalKind.TheVariants.{Opt}
+use Rattle.goal_children.specs.Over.{IsNumberedRequest}
+use Rattle.goal_children.specs.Choices.{IsOfAlt, IsOfAlternatives, IsOfMode, IsOfModesBelow, IsOfRequest, IsOfWishes}
+use Rattle.goal_children.specs.Finding.{FindsFrom, sooner_of}
+use Rattle.goal_children.proofs.Asking.{asks_numbered, enforcer_numbered}
+use Rattle.goal_children.proofs.Finds.{finds_as, sooner_is}
+use Rattle.goal_children.proofs.OverChildren.{request_in_range}
+
+-- what is there has a fact that holds of each such value
+pub if_some : {T : Type 0} (P : T → Type 0) (found : Option T) → ((x : T) → found ≡ Some x → P x) → IfSome found P
+if_some P None each = tt
+if_some P (Some x) each = each x refl
+
+module _ (q : Query) where
+  -- the goal for what is asked of a group
+  asks_as : (asked : Option (Key × Request)) (group : KeyParts) (wanted : Request) (goal : GoalKind) → Asks q asked group wanted
+      → IsOfRequest group (option_map (λ a. a.1) asked) goal → goal ≡ Opt group wanted
+  asks_as None group wanted goal asks is = absurd asks
+  asks_as (Some ask) group wanted goal asks (below, same, is) = let at : ask.1 ≡ below = cc in is ∙ ap (Opt group) (sym at ∙ asks.1)
+
+  as_asks : (asked : Option (Key × Request)) (group : KeyParts) (wanted : Request) (goal : GoalKind) → Asks q asked group wanted → goal ≡ Opt group wanted
+      → IsOfRequest group (option_map (λ a. a.1) asked) goal
+  as_asks None group wanted goal asks is = absurd asks
+  as_asks (Some ask) group wanted goal asks is = (wanted, ap Some asks.1, is)
+
+  module _ (alt : Alt) where
+    alt_as : (children : Children) (wishes : List Request) → AreAsked q alt (groups_of children) wishes → (goal : GoalKind) → IsOfAlt children alt goal
+        → IsOfWishes (groups_of children) wishes goal
+    alt_as arities.Zero wishes are goal is = absurd is
+    alt_as (arities.One child) [] are goal is = absurd are
+    alt_as (arities.One child) (wanted ∷ []) are goal is = (child, wanted, inl (refl, refl), asks_as alt.left child wanted goal are.0 is)
+    alt_as (arities.One child) (wanted ∷ other ∷ wishes) are goal is = absurd are
+    alt_as (arities.Two left right) [] are goal is = absurd are
+    alt_as (arities.Two left right) (wanted ∷ []) are goal is = absurd are
+    alt_as (arities.Two left right) (wanted ∷ other ∷ []) are goal (inl is) = (left, wanted, inl (refl, refl), asks_as alt.left left wanted goal are.0 is)
+    alt_as (arities.Two left right) (wanted ∷ other ∷ []) are goal (inr is) = (right, other, inr (inl (refl, refl)), asks_as alt.right right other goal are.1 is)
+    alt_as (arities.Two left right) (wanted ∷ other ∷ third ∷ wishes) are goal is = absurd are
+
+    as_alt : (children : Children) (wishes : List Request) → AreAsked q alt (groups_of children) wishes → (goal : GoalKind) → IsOfWishes (groups_of children) wishes goal
+        → IsOfAlt children alt goal
+    as_alt arities.Zero wishes are goal (group, below, asked, is) = absurd asked
+    as_alt (arities.One child) [] are goal (group, below, asked, is) = absurd asked
+    as_alt (arities.One child) (wanted ∷ []) are goal (group, below, inl (at, same), is) =
+        as_asks alt.left child wanted goal are.0 (is ∙ ap (λ g. Opt g below) at ∙ ap (Opt child) same)
+    as_alt (arities.One child) (wanted ∷ []) are goal (group, below, inr none, is) = absurd none
+    as_alt (arities.One child) (wanted ∷ other ∷ wishes) are goal (group, below, asked, is) = absurd are
+    as_alt (arities.Two left right) [] are goal (group, below, asked, is) = absurd asked
+    as_alt (arities.Two left right) (wanted ∷ []) are goal (group, below, asked, is) = absurd are
+    as_alt (arities.Two left right) (wanted ∷ other ∷ []) are goal (group, below, inl (at, same), is) =
+        inl (as_asks alt.left left wanted goal are.0 (is ∙ ap (λ g. Opt g below) at ∙ ap (Opt left) same))
+    as_alt (arities.Two left right) (wanted ∷ other ∷ []) are goal (group, below, inr (inl (at, same)), is) =
+        inr (as_asks alt.right right other goal are.1 (is ∙ ap (λ g. Opt g below) at ∙ ap (Opt right) same))
+    as_alt (arities.Two left right) (wanted ∷ other ∷ []) are goal (group, below, inr (inr none), is) = absurd none
+    as_alt (arities.Two left right) (wanted ∷ other ∷ third ∷ wishes) are goal (group, below, asked, is) = absurd are
+
+    -- each thing that is asked is asked of a child
+    left_is_asked : (children : Children) (wishes : List Request) → AreAsked q alt (groups_of children) wishes → (ask : Key × Request) → alt.left ≡ Some ask
+        → (group : KeyParts) × IsAsked (groups_of children) wishes group ask.1
+    left_is_asked arities.Zero [] are ask is = absurd (let none : alt.left ≡ None = are.0 in cc)
+    left_is_asked arities.Zero (wanted ∷ wishes) are ask is = absurd are
+    left_is_asked (arities.One child) [] are ask is = absurd are
+    left_is_asked (arities.One child) (wanted ∷ []) are ask is = (child, inl (refl, (subst (λ (a : Option (Key × Request)). Asks q a child wanted) is are.0).1))
+    left_is_asked (arities.One child) (wanted ∷ other ∷ wishes) are ask is = absurd are
+    left_is_asked (arities.Two left right) [] are ask is = absurd are
+    left_is_asked (arities.Two left right) (wanted ∷ []) are ask is = absurd are
+    left_is_asked (arities.Two left right) (wanted ∷ other ∷ []) are ask is = (left, inl (refl, (subst (λ (a : Option (Key × Request)). Asks q a left wanted) is are.0).1))
+    left_is_asked (arities.Two left right) (wanted ∷ other ∷ third ∷ wishes) are ask is = absurd are
+
+    right_is_asked : (children : Children) (wishes : List Request) → AreAsked q alt (groups_of children) wishes → (ask : Key × Request) → alt.right ≡ Some ask
+        → (group : KeyParts) × IsAsked (groups_of children) wishes group ask.1
+    right_is_asked arities.Zero [] are ask is = absurd (let none : alt.right ≡ None = are.1 in cc)
+    right_is_asked arities.Zero (wanted ∷ wishes) are ask is = absurd are
+    right_is_asked (arities.One child) [] are ask is = absurd are
+    right_is_asked (arities.One child) (wanted ∷ []) are ask is = absurd (let none : alt.right ≡ None = are.1 in cc)
+    right_is_asked (arities.One child) (wanted ∷ other ∷ wishes) are ask is = absurd are
+    right_is_asked (arities.Two left right) [] are ask is = absurd are
+    right_is_asked (arities.Two left right) (wanted ∷ []) are ask is = absurd are
+    right_is_asked (arities.Two left right) (wanted ∷ other ∷ []) are ask is =
+        (right, inr (inl (refl, (subst (λ (a : Option (Key × Request)). Asks q a right other) is are.1).1)))
+    right_is_asked (arities.Two left right) (wanted ∷ other ∷ third ∷ wishes) are ask is = absurd are
+
+    module _ (e : PhysicalExpr) (wanted : Request) (mode : ℕ) (line : Line) (by : IsAltBy q e wanted mode alt line) where
+      mode_as : (goal : GoalKind) → IsOfAlt (physical_children e.operator) alt goal → IsOfMode q e wanted mode goal
+      mode_as goal is = (line, by.is_alternative, alt_as (physical_children e.operator) (asked_of line wanted) by.asks goal is)
+
+      as_mode : (goal : GoalKind) → IsOfMode q e wanted mode goal → IsOfAlt (physical_children e.operator) alt goal
+      as_mode goal (other, is_other, of_wishes) =
+          let ours = by.is_alternative.is_line in
+          let theirs = is_other.is_line in
+          let same : other ≡ line = cc in
+          as_alt (physical_children e.operator) (asked_of line wanted) by.asks goal
+          (subst (λ (l : Line). IsOfWishes (groups_of (physical_children e.operator)) (asked_of l wanted) goal) same of_wishes)
+
+      -- what is found of the alternative is found of the mode
+      pub mode_finds : (children : Children) (bound : ℕ) (found : Option GoalKind) → children ≡ physical_children e.operator → FindsFrom (IsOfAlt children alt) bound found
+          → FindsFrom (IsOfMode q e wanted mode) bound found
+      mode_finds children bound found are finds =
+          finds_as (IsOfAlt (physical_children e.operator) alt) (IsOfMode q e wanted mode) bound found mode_as as_mode
+          (subst (λ (x : Children). FindsFrom (IsOfAlt x alt) bound found) are finds)
+
+      -- what the alternative asks for has a code
+      module _ (few_lists : length (lists_of q) ≤ 60) (few_orders : length (orders_of q) ≤ 60) (asks_what_fits : AsksWhatFits q) (candidate : IsCandidate q (expr_of e))
+        (numbered : IsNumberedRequest q wanted) where
+        ask_in_range : (group : KeyParts) (below : Request) → IsAsked (groups_of (physical_children e.operator)) (asked_of line wanted) group below → IsInRange below
+        ask_in_range group below is_asked =
+            request_in_range q few_lists few_orders below (asks_numbered q asks_what_fits e wanted group below candidate numbered (record {
+              mode = mode; line = line; is_alternative = by.is_alternative; is_asked = is_asked
+            }))
+
+        pub left_in_range : IfSome alt.left (λ a. IsInRange a.1)
+        left_in_range = if_some (λ (a : Key × Request). IsInRange a.1) alt.left (λ ask is.
+            let (group, is_asked) = left_is_asked (physical_children e.operator) (asked_of line wanted) by.asks ask is in ask_in_range group ask.1 is_asked)
+
+        pub right_in_range : IfSome alt.right (λ a. IsInRange a.1)
+        right_in_range = if_some (λ (a : Key × Request). IsInRange a.1) alt.right (λ ask is.
+            let (group, is_asked) = right_is_asked (physical_children e.operator) (asked_of line wanted) by.asks ask is in ask_in_range group ask.1 is_asked)
+
+-- of two children it is the sooner one
+pub two_asked : (children : Children) (alt : Alt) (left right : KeyParts) (bound : ℕ) (a b found : Option GoalKind) (first second : Option Request) → children ≡ arities.Two left right
+    → first ≡ option_map (λ a. a.1) alt.left → second ≡ option_map (λ a. a.1) alt.right → found ≡ sooner_of a b
+    → FindsFrom (IsOfRequest left first) bound a → FindsFrom (IsOfRequest right second) bound b → FindsFrom (IsOfAlt children alt) bound found
+two_asked children alt left right bound a b found first second are is_first is_second is at_left at_right =
+    subst (λ (x : Children). FindsFrom (IsOfAlt x alt) bound found) (sym are)
+    (sooner_is (IsOfRequest left (option_map (λ (a : Key × Request). a.1) alt.left)) (IsOfRequest right (option_map (λ (a : Key × Request). a.1) alt.right)) bound a b found is
+    (subst (λ (r : Option Request). FindsFrom (IsOfRequest left r) bound a) is_first at_left)
+    (subst (λ (r : Option Request). FindsFrom (IsOfRequest right r) bound b) is_second at_right))
+
+-- ---- one mode after the other
+
+module _ (q : Query) (e : PhysicalExpr) (wanted : Request) (bound : ℕ) where
+  -- there is no mode below the first
+  pub no_modes : FindsFrom (IsOfModesBelow q e wanted 0) bound None
+  no_modes goal (mode, less, is) above = omega (arith, less)
+
+  -- the goals of the modes up to the next one that has a line
+  pub mode_more : (from mode : ℕ) (before this found : Option GoalKind) → from ≤ mode → ((m : ℕ) → from ≤ m → m < mode → line_of q e m ≡ None)
+      → found ≡ sooner_of before this → FindsFrom (IsOfModesBelow q e wanted from) bound before → FindsFrom (IsOfMode q e wanted mode) bound this
+      → FindsFrom (IsOfModesBelow q e wanted (mode + 1)) bound found
+  mode_more from mode before this found order none is first second =
+      finds_as (λ k. IsOfModesBelow q e wanted from k ⊎ IsOfMode q e wanted mode k) (IsOfModesBelow q e wanted (mode + 1)) bound found
+      (λ k kinds. elim kinds [
+        | inl (m, less, of_mode) ↦ (m, omega (arith, less, order), of_mode)
+        | inr of_mode ↦ (mode, omega arith, of_mode)
+      ])
+      (λ k (m, less, (line, alternative, wishes)). elim (cases_lt m from) [
+        | inl earlier ↦ inl (m, earlier, (line, alternative, wishes))
+        | inr not_earlier ↦ elim (cases_lt m mode) [
+          | inl skipped ↦
+              let nothing : line_of q e m ≡ None = none m not_earlier skipped in
+              let something : line_of q e m ≡ Some line = alternative.is_line in
+              absurd (cc)
+          | inr not_skipped ↦
+              let same : m ≡ mode = omega (arith, less, not_skipped) in
+              inr (subst (λ j. IsOfMode q e wanted j k) same (line, alternative, wishes))
+        ]
+      ])
+      (sooner_is (IsOfModesBelow q e wanted from) (IsOfMode q e wanted mode) bound before this found is first second)
+
+  -- where no line is left, these are the goals of all modes
+  pub all_modes : (from : ℕ) (found : Option GoalKind) → ((m : ℕ) → from ≤ m → line_of q e m ≡ None) → FindsFrom (IsOfModesBelow q e wanted from) bound found
+      → FindsFrom (IsOfAlternatives q e wanted) bound found
+  all_modes from found none finds =
+      finds_as (IsOfModesBelow q e wanted from) (IsOfAlternatives q e wanted) bound found
+      (λ k (m, less, (line, alternative, (group, below, asked, is))). (group, below, record { mode = m; line = line; is_alternative = alternative; is_asked = asked }, is))
+      (λ k (group, below, asks, is). elim (cases_lt asks.mode from) [
+        | inl earlier ↦ (asks.mode, earlier, (asks.line, asks.is_alternative, (group, below, asks.is_asked, is)))
+        | inr later ↦
+            let nothing : line_of q e asks.mode ≡ None = none asks.mode later in
+            let something : line_of q e asks.mode ≡ Some asks.line = asks.is_alternative.is_line in
+            absurd (cc)
+      ])
+      finds

@@ -1,0 +1,13 @@
+pub mod Asking
+pub mod OverChildren
+pub mod Finds
+pub mod Listing
+pub mod Serving
+pub mod OfMembers
+pub mod OneList
+pub mod Rules
+pub mod OfQuery
+pub mod Groups
+pub mod Enforced
+pub mod Asked
+pub mod First

@@ -1,0 +1,42 @@
+-- The first goal of several rules.
+use Rattle.std.proofs.Common.{◌≡◌, ℕ, Bool, List, [], ◌∷◌, ◌++◌, Option, None, inl, inr, ◌⊎◌, sym, subst, arith}
+use Rattle.std.specs.List.{Contains}
+use Rattle.query_core.specs.declared.query.Query.{Query}
+use Rattle.query_core.specs.declared.expressions.ExprParts.{ExprParts}
+use Rattle.xform_rules.specs.declared.rules.Rule.{Rule}
+use Rattle.goal_space.specs.Children.{IsRuleAt}
+use Rattle.goal_space.specs.declared.goals.GoalKind.{GoalKind}
+use Rattle.goal_children.specs.Finding.{FindsFrom, IsOfRule, sooner_of}
+use Rattle.goal_children.proofs.Finds.{finds_as, sooner_is}
+use Rattle.std.proofs.lemmas.List.Elements.{Contains-append_left, Contains-push, Contains-push_cases}
+
+-- the goal of one of the rules
+abbrev pub IsOfRules : Query → Bool → ExprParts → List Rule → GoalKind → Type 0
+IsOfRules q exploring e rules goal = (rule : Rule) × Contains rules rule × IsOfRule q exploring e rule goal
+
+-- or of one more
+pub rule_more : (q : Query) (exploring : Bool) (e : ExprParts) (rules : List Rule) (rule : Rule) (bound : ℕ) (before this found : Option GoalKind)
+    → found ≡ sooner_of before this → FindsFrom (IsOfRules q exploring e rules) bound before → FindsFrom (IsOfRule q exploring e rule) bound this
+    → FindsFrom (IsOfRules q exploring e (rules ++ rule ∷ [])) bound found
+rule_more q exploring e rules rule bound before this found is first second =
+    finds_as (λ k. IsOfRules q exploring e rules k ⊎ IsOfRule q exploring e rule k) (IsOfRules q exploring e (rules ++ rule ∷ [])) bound found
+    (λ k kinds. elim kinds [
+      | inl (other, there, of_rule) ↦ (other, Contains-append_left rules (rule ∷ []) other there, of_rule)
+      | inr of_rule ↦ (rule, Contains-push rules rule, of_rule)
+    ])
+    (λ k (other, there, of_rule). elim (Contains-push_cases rules rule other there) [
+      | inl earlier ↦ inl (other, earlier, of_rule)
+      | inr same ↦ inr (subst (λ (r : Rule). IsOfRule q exploring e r k) (sym same) of_rule)
+    ])
+    (sooner_is (IsOfRules q exploring e rules) (IsOfRule q exploring e rule) bound before this found is first second)
+
+-- of no rules there is none
+pub no_rules : (q : Query) (exploring : Bool) (e : ExprParts) (bound : ℕ) → FindsFrom (IsOfRules q exploring e []) bound None
+no_rules q exploring e bound goal (rule, (k, within, is), of_rule) above = omega (arith, within)
+
+-- of all rules it is the first of those that are of the phase and apply
+pub each_rule : (q : Query) (exploring : Bool) (e : ExprParts) (rules : List Rule) (bound : ℕ) (found : Option GoalKind) → ((rule : Rule) → Contains rules rule)
+    → FindsFrom (IsOfRules q exploring e rules) bound found → FindsFrom (IsRuleAt q exploring e) bound found
+each_rule q exploring e rules bound found every finds =
+    finds_as (IsOfRules q exploring e rules) (IsRuleAt q exploring e) bound found
+    (λ k (rule, there, (kind, applies, is)). (rule, kind, applies, is)) (λ k (rule, kind, applies, is). (rule, every rule, (kind, applies, is))) finds

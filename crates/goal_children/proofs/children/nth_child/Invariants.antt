@@ -1,0 +1,14 @@
+use Rattle.std.proofs.Common.{◌≡◌, ◌≤◌, ◌-◌, List, length}
+use Rattle.goal_space.specs.declared.goals.GoalKind.{GoalKind}
+use Rattle.goal_children.proofs.Listing.{ArePassed}
+use Rattle.goal_children.proofs.children.nth_child.Given as goal
+
+-- the children up to the one before were passed, and so many they are
+abbrev pub invariant-children : goal.invariant-children
+invariant-children l = record {
+  few : l.passed ≤ l.n;
+  passed : ArePassed l.query l.members l.goal l.after l.passed;
+}
+
+abbrev pub decreases-children : goal.decreases-children
+decreases-children l = l.n - l.passed

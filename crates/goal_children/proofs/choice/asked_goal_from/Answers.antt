@@ -1,0 +1,29 @@
+use Rattle.std.proofs.Common.{arith}
+use Rattle.goal_children.specs.Choices.{IsOfModesBelow}
+use Rattle.goal_children.proofs.Asked.{no_modes, mode_more, all_modes}
+use Rattle.goal_children.proofs.Finds.{found_in_range}
+use Rattle.goal_children.proofs.choice.asked_goal_from.Goals as goal
+
+pub modes-init : goal.modes-init
+modes-init c = record { within = omega arith; finds = no_modes c.args.query.now c.args.e c.args.wanted c.args.bound }
+
+pub sooner-next-requires-clause-a : goal.sooner-next-requires-clause-a
+sooner-next-requires-clause-a c =
+    found_in_range (IsOfModesBelow c.args.query.now c.args.e c.args.wanted c.modes.from) c.args.bound c.modes.next c.modes.invariant.finds
+
+pub sooner-next-requires-clause-b : goal.sooner-next-requires-clause-b
+sooner-next-requires-clause-b c = found_in_range _ c.args.bound c.goal_in_mode.result c.goal_in_mode.ensures
+
+-- one more mode that has a line
+pub modes-preserved : goal.modes-preserved
+modes-preserved c =
+    let step = c.in-Some.ensures in
+    record {
+      within = omega (arith, step.1);
+      finds = mode_more c.args.query.now c.args.e c.args.wanted c.args.bound c.modes.from c.in-Some.mode c.modes.next c.goal_in_mode.result c.sooner-next.result
+          step.0 step.2 c.sooner-next.ensures c.modes.invariant.finds c.goal_in_mode.ensures;
+    }
+
+-- no mode is left
+pub returns-in-None : goal.returns-in-None
+returns-in-None c = all_modes c.args.query.now c.args.e c.args.wanted c.args.bound c.modes.from c.modes.next c.in-None.ensures c.modes.invariant.finds

@@ -1,0 +1,79 @@
+-- How the next child is found: the least word of each kind of child, and of several kinds.
+use Rattle.std.specs.Prelude.{ℕ, Bool, true, false, ◌≡◌, ◌≤◌, ◌⊎◌, List, Option, None, Some, nat_lt, if◌then◌else◌}
+use Rattle.query_core.specs.Expressions.{children_of, IsChild}
+use Rattle.query_core.specs.declared.query.Query.{Query}
+use Rattle.query_core.specs.declared.words.KeyParts.{KeyParts}
+use Rattle.query_core.specs.declared.expressions.Children.{Children}
+use Rattle.query_core.specs.declared.expressions.ExprParts.{ExprParts}
+use Rattle.query_core.specs.declared.expressions.PhysicalExpr.{PhysicalExpr}
+use Rattle.request_props.specs.declared.request.Request.{Request}
+use Rattle.xform_rules.specs.Rules.{explores}
+use Rattle.xform_rules.specs.Results.{Applies}
+use Rattle.xform_rules.specs.declared.rules.Rule.{Rule}
+use Rattle.xform_rules.specs.declared.rules.Rule.TheVariants.{JoinAssociate}
+use Rattle.goal_space.specs.Words.{goal_word, IsInRange}
+use Rattle.goal_space.specs.Children.{IsLeft, IsLogicalIn, IsRuleAt, CanServe, IsListedIn}
+use Rattle.goal_space.specs.declared.goals.GoalKind.{GoalKind}
+use Rattle.goal_space.specs.declared.goals.GoalKind.TheVariants.{Exp, ExpE, Xf, Imp, ImpE, Opt, OptE}
+use Rattle.goal_children.specs.declared.jobs.Phase.{Phase}
+use Rattle.goal_children.specs.declared.jobs.Phase.TheVariants.{Exploration, Implementation}
+use Rattle.goal_children.specs.declared.jobs.MemberJob.{MemberJob}
+use Rattle.goal_children.specs.declared.jobs.MemberJob.TheVariants.{Transform, Serve}
+
+-- ---- the least word
+
+-- the goal is of the kind, and of those whose words aren't below the bound it has the least word
+pub record IsLeastFrom (Kind : GoalKind → Type 0) (bound : ℕ) (goal : GoalKind) : Type 0 where
+  pub is : Kind goal
+  pub in_range : IsInRange goal
+  pub from : bound ≤ goal_word goal
+  pub least : (other : GoalKind) → Kind other → bound ≤ goal_word other → goal_word goal ≤ goal_word other
+
+-- the least from the bound on, or none where there is none
+abbrev pub FindsFrom : (GoalKind → Type 0) → ℕ → Option GoalKind → Type 0
+FindsFrom Kind bound None = (goal : GoalKind) → Kind goal → bound ≤ goal_word goal → ⊥
+FindsFrom Kind bound (Some found) = IsLeastFrom Kind bound found
+
+-- the one of the two whose word is less, if both are there
+abbrev pub sooner_of : Option GoalKind → Option GoalKind → Option GoalKind
+sooner_of None b = b
+sooner_of (Some a) None = Some a
+sooner_of (Some a) (Some b) = if nat_lt (goal_word b) (goal_word a) then Some b else Some a
+
+-- ---- kinds of children
+
+-- the goal of a group in a phase
+abbrev pub group_goal : Phase → KeyParts → GoalKind
+group_goal Exploration group = Exp group
+group_goal Implementation group = Imp group
+
+-- the goal of an expression in a phase
+abbrev pub expr_goal : Phase → ExprParts → GoalKind
+expr_goal Exploration e = ExpE e
+expr_goal Implementation e = ImpE e
+
+-- the rules of the phase explore
+abbrev pub does_explore : Phase → Bool
+does_explore Exploration = true
+does_explore Implementation = false
+
+-- the goal of one of the groups
+abbrev pub IsOfGroups : Phase → Children → GoalKind → Type 0
+IsOfGroups phase children goal = (group : KeyParts) × IsChild children group × (goal ≡ group_goal phase group)
+
+-- the goal of the left group, where the rule binds a member of it
+abbrev pub IsOfLeft : ExprParts → Rule → Children → GoalKind → Type 0
+IsOfLeft e rule children goal = (group : KeyParts) × (rule ≡ JoinAssociate) × IsLeft children group × (goal ≡ Exp group)
+
+-- the goal of one rule at the expression, if it is of the phase and applies
+abbrev pub IsOfRule : Query → Bool → ExprParts → Rule → GoalKind → Type 0
+IsOfRule q exploring e rule goal = (explores rule ≡ exploring) × Applies q rule e × (goal ≡ Xf e rule)
+
+-- a child of the goal of an expression in a phase
+abbrev pub IsOfExpression : Query → Phase → ExprParts → GoalKind → Type 0
+IsOfExpression q phase e goal = IsOfGroups phase (children_of e.operator) goal ⊎ IsRuleAt q (does_explore phase) e goal
+
+-- the goal of a job of a member of the group
+abbrev pub IsOfMembers : Query → List ℕ → KeyParts → MemberJob → GoalKind → Type 0
+IsOfMembers q words group (Transform phase) goal = (e : ExprParts) × IsLogicalIn (IsListedIn q words) group e × (goal ≡ expr_goal phase e)
+IsOfMembers q words group (Serve wanted) goal = (e : PhysicalExpr) × CanServe (IsListedIn q words) q group wanted e × (goal ≡ OptE e wanted)

@@ -1,0 +1,6 @@
+pub mod Over
+pub mod Children
+pub mod Finding
+pub mod MemberJobs
+pub mod Choices
+pub mod Laws

@@ -1,0 +1,219 @@
+//! The children of a goal, in the order of words. No call here takes memory.
+#![tactic(auto)]
+
+ghost use Rattle.std.specs.Prelude.{◌≡◌, IfSome, MatchOption, OnOk};
+ghost use Rattle.std.specs.List.{All};
+ghost use Rattle.std.specs.List.Sorted.{IsStrictlyIncreasing};
+ghost use Rattle.query_core.specs.Keys.{IsGroup};
+ghost use Rattle.query_core.specs.Expressions.{IsCandidateWord, IsPacked};
+ghost use Rattle.request_props.specs.Numbered.{IsProps};
+ghost use Rattle.goal_space.specs.Words.{goal_word, IsInRange};
+ghost use Rattle.goal_space.specs.declared.goals.GoalKind.{GoalKind as AnyGoal};
+ghost use Rattle.goal_children.specs.Over.{IsGoalOver, IsGoalWordOver, IsNumberedRequest};
+ghost use Rattle.goal_children.specs.Children.{AreChildren, AreNoMore, IsChildIn, IsChildWordAt, IsLastChild, IsNextChild};
+ghost use Rattle.goal_children.specs.Finding.{FindsFrom, IsOfExpression};
+
+use crate::choice::{asked_goal_from, enforced_goal_from};
+use crate::expressions::{group_goal_from, left_goal_from, rule_goal_from};
+use crate::finding::{bound_behind, goal_from, known_goal, sooner};
+use crate::jobs::{MemberJob, Phase};
+use crate::laws::children_are_over_the_query;
+use crate::members::member_goal_from;
+use goal_space::{GoalKind, goal_kinds_are_one};
+use query_core::{ExprParts, Goal, KeyParts, Query, candidates_are_known, groups_are_known};
+use request_props::{Props, Request};
+use std::alloc::AllocError;
+
+/// The child at this place, from 0, in the order of words, over the listed members.
+pub fn child(
+    query: &Query,
+    props: &Props,
+    members: &[u64],
+    goal: Goal,
+    n: u32,
+) -> Option<Goal>
+    requires props { IsProps query.now props.now }
+    requires candidates { All (IsCandidateWord query.now) members.now }
+    requires ascending { IsStrictlyIncreasing members.now }
+    requires goal { IsGoalWordOver query.now goal.0 }
+    ensures { (k : AnyGoal) → IsGoalOver query.now k → goal_word k ≡ goal.0 →
+        MatchOption result (AreNoMore query.now members.now k n)
+        (IsChildWordAt query.now members.now k n) }
+{
+    // For the proof: goals over the query have words.
+    children_are_over_the_query();
+    nth_child(query, props, members, known_goal(goal), n)
+}
+
+fn nth_child(
+    query: &Query,
+    props: &Props,
+    members: &[u64],
+    goal: GoalKind,
+    n: u32,
+) -> Option<Goal>
+    requires props { IsProps query.now props.now }
+    requires candidates { All (IsCandidateWord query.now) members.now }
+    requires ascending { IsStrictlyIncreasing members.now }
+    requires goal { IsGoalOver query.now goal }
+    ensures { MatchOption result (AreNoMore query.now members.now goal n)
+        (IsChildWordAt query.now members.now goal n) }
+{
+    // For the proof: children have words, and a word is that of one goal.
+    children_are_over_the_query();
+    goal_kinds_are_one();
+    let (mut after, mut passed) = (None, 0);
+    'children: while let Some(next) = next_child(query, props, members, goal, after) {
+        if passed == n {
+            return Some(next.word());
+        }
+        after = Some(next.word());
+        passed += 1;
+    }
+    None
+}
+
+/// Puts the children of the goal into the list, ascending by their words, in place of what it held.
+pub fn list_children(
+    query: &Query,
+    props: &Props,
+    members: &[u64],
+    goal: GoalKind,
+    list: &mut Vec<GoalKind>,
+) -> Result<(), AllocError>
+    requires props { IsProps query.now props.now }
+    requires candidates { All (IsCandidateWord query.now) members.now }
+    requires ascending { IsStrictlyIncreasing members.now }
+    requires goal { IsGoalOver query.now goal }
+    ensures ok { OnOk result (AreChildren query.now members.now goal list.new.items) }
+{
+    // For the proof: children have words, and a word is that of one goal.
+    children_are_over_the_query();
+    goal_kinds_are_one();
+    list.clear();
+    let mut after = None;
+    'children: while let Some(child) = next_child(query, props, members, goal, after) {
+        list.push(child)?;
+        after = Some(child.word());
+    }
+    Ok(())
+}
+
+/// The child of the least word, over the listed members; behind that of a goal, where one is given.
+pub fn next_child(
+    query: &Query,
+    props: &Props,
+    members: &[u64],
+    goal: GoalKind,
+    after: Option<Goal>,
+) -> Option<GoalKind>
+    requires props { IsProps query.now props.now }
+    requires candidates { All (IsCandidateWord query.now) members.now }
+    requires ascending { IsStrictlyIncreasing members.now }
+    requires goal { IsGoalOver query.now goal }
+    ensures next { MatchOption result
+        (IsLastChild query.now members.now goal after)
+        (IsNextChild query.now members.now goal after) }
+    ensures over { IfSome result (IsGoalOver query.now) }
+    ensures in_range { IfSome result IsInRange }
+{
+    // For the proof: children are goals over the query too, and so have words.
+    children_are_over_the_query();
+    match bound_behind(after) {
+        Some(bound) => child_from(query, props, members, goal, bound),
+        None => None,
+    }
+}
+
+// The child of the least word from the bound on: the table of children, one row a kind of goal.
+fn child_from(
+    query: &Query,
+    props: &Props,
+    members: &[u64],
+    goal: GoalKind,
+    bound: u64,
+) -> Option<GoalKind>
+    requires props { IsProps query.now props.now }
+    requires candidates { All (IsCandidateWord query.now) members.now }
+    requires ascending { IsStrictlyIncreasing members.now }
+    requires goal { IsGoalOver query.now goal }
+    ensures { FindsFrom (IsChildIn query.now members.now goal) bound result }
+{
+    // For the proof: the words of candidates fit.
+    candidates_are_known();
+    match goal {
+        GoalKind::Exp(group) => {
+            let job = MemberJob::Transform(Phase::Exploration);
+            member_goal_from(query, props, members, group, job, bound)
+        }
+        GoalKind::ExpE(e) => transformed_from(query, e, Phase::Exploration, bound),
+        GoalKind::Xf(e, rule) => left_goal_from(e, rule, bound),
+        GoalKind::Imp(group) => implemented_from(query, props, members, group, bound),
+        GoalKind::ImpE(e) => transformed_from(query, e, Phase::Implementation, bound),
+        GoalKind::Opt(group, wanted) => {
+            chosen_from(query, props, members, group, wanted, bound)
+        }
+        GoalKind::OptE(e, wanted) => asked_goal_from(query, props, e, wanted, bound),
+    }
+}
+
+// A child of the goal of an expression in a phase.
+fn transformed_from(query: &Query, e: ExprParts, phase: Phase, bound: u64) -> Option<GoalKind>
+    requires { IsPacked e }
+    ensures { FindsFrom (IsOfExpression query.now phase e) bound result }
+{
+    sooner(
+        group_goal_from(phase, e.children(), bound),
+        rule_goal_from(query, phase, e, bound),
+    )
+}
+
+// A child of the implementation of a group.
+fn implemented_from(
+    query: &Query,
+    props: &Props,
+    members: &[u64],
+    group: KeyParts,
+    bound: u64,
+) -> Option<GoalKind>
+    requires props { IsProps query.now props.now }
+    requires candidates { All (IsCandidateWord query.now) members.now }
+    requires ascending { IsStrictlyIncreasing members.now }
+    requires known { IsGroup query.now group }
+    ensures { FindsFrom (IsChildIn query.now members.now (GoalKind.Imp group)) bound result }
+{
+    // For the proof: groups have keys.
+    groups_are_known();
+    let job = MemberJob::Transform(Phase::Implementation);
+    sooner(
+        goal_from(GoalKind::Exp(group), bound),
+        member_goal_from(query, props, members, group, job, bound),
+    )
+}
+
+// A child of a group for a request.
+fn chosen_from(
+    query: &Query,
+    props: &Props,
+    members: &[u64],
+    group: KeyParts,
+    wanted: Request,
+    bound: u64,
+) -> Option<GoalKind>
+    requires props { IsProps query.now props.now }
+    requires candidates { All (IsCandidateWord query.now) members.now }
+    requires ascending { IsStrictlyIncreasing members.now }
+    requires known { IsGroup query.now group }
+    requires numbered { IsNumberedRequest query.now wanted }
+    ensures { FindsFrom (IsChildIn query.now members.now (GoalKind.Opt group wanted)) bound result }
+{
+    // For the proof: groups have keys.
+    groups_are_known();
+    let job = MemberJob::Serve(wanted);
+    let served = member_goal_from(query, props, members, group, job, bound);
+    let enforced = enforced_goal_from(query, props, group, wanted, bound);
+    sooner(
+        goal_from(GoalKind::Imp(group), bound),
+        sooner(served, enforced),
+    )
+}

@@ -1,0 +1,151 @@
+//! The goals that a choice of plans waits for: what enforcers and alternatives ask for.
+#![tactic(auto)]
+
+ghost use Rattle.std.specs.Prelude.{◌≡◌, ◌<◌, IfSome, Some};
+ghost use Rattle.std.specs.Option.{option_map};
+ghost use Rattle.query_core.specs.Keys as keys;
+ghost use Rattle.query_core.specs.Keys.{IsGroup};
+ghost use Rattle.query_core.specs.Expressions.{expr_of, AreInRange, IsCandidate};
+ghost use Rattle.request_props.specs.Numbered.{IsProps};
+ghost use Rattle.request_props.specs.Requests.{IsInRange};
+ghost use Rattle.plan_space.specs.Lines.{line_of as line_by_table};
+ghost use Rattle.goal_children.specs.Over.{IsNumberedRequest};
+ghost use Rattle.goal_children.specs.Choices.{IsOfAlt, IsOfAlternatives, IsOfEnforcer, IsOfMode, IsOfRequest};
+ghost use Rattle.goal_children.specs.Finding.{FindsFrom};
+
+use crate::finding::{goal_from, sooner};
+use goal_space::GoalKind;
+use plan_space::{Line, modes_are_few, what_is_asked_fits};
+use plan_tree::{Alt, Enforced, alternative_by, enforcer, next_line};
+use query_core::{
+    Children, Key, KeyParts, PhysicalExpr, Query, candidates_are_known, groups_are_known,
+};
+use request_props::{Props, Request};
+
+/// The first goal of the group for what an enforcer for the request asks of it, from the bound on.
+pub fn enforced_goal_from(
+    query: &Query,
+    props: &Props,
+    group: KeyParts,
+    wanted: Request,
+    bound: u64,
+) -> Option<GoalKind>
+    requires props { IsProps query.now props.now }
+    requires known { IsGroup query.now group }
+    requires numbered { IsNumberedRequest query.now wanted }
+    ensures { FindsFrom (IsOfEnforcer query.now group wanted) bound result }
+{
+    // For the proof: groups have keys.
+    groups_are_known();
+    let key = Key::make(group);
+    let first = below(enforcer(query, props, key, wanted, 0));
+    let second = below(enforcer(query, props, key, wanted, 1));
+    sooner(
+        asked_of_group(group, first, bound),
+        asked_of_group(group, second, bound),
+    )
+}
+
+// What an enforcer asks of its own group.
+fn below(enforced: Option<Enforced>) -> Option<Request>
+    ensures { result ≡ option_map (λ e. e.below) enforced }
+{
+    match enforced {
+        Some(found) => Some(found.below),
+        None => None,
+    }
+}
+
+/// The first goal of a group for what the expression asks of it in some mode, to serve the request,
+/// from the bound on. Several modes may ask for one.
+pub fn asked_goal_from(
+    query: &Query,
+    props: &Props,
+    e: PhysicalExpr,
+    wanted: Request,
+    bound: u64,
+) -> Option<GoalKind>
+    requires props { IsProps query.now props.now }
+    requires candidate { IsCandidate query.now (expr_of e) }
+    requires numbered { IsNumberedRequest query.now wanted }
+    ensures { FindsFrom (IsOfAlternatives query.now e wanted) bound result }
+{
+    // For the proof: modes are below 192.
+    modes_are_few();
+    let (mut next, mut from) = (None, 0);
+    'modes: loop {
+        match next_line(query, props, e, from) {
+            Some((mode, line)) => {
+                next = sooner(next, goal_in_mode(query, props, e, wanted, mode, line, bound));
+                from = mode + 1;
+            }
+            None => return next,
+        }
+    }
+}
+
+// The first goal of a group for what the expression asks of it in one mode.
+fn goal_in_mode(
+    query: &Query,
+    props: &Props,
+    e: PhysicalExpr,
+    wanted: Request,
+    mode: u32,
+    line: Line,
+    bound: u64,
+) -> Option<GoalKind>
+    requires props { IsProps query.now props.now }
+    requires candidate { IsCandidate query.now (expr_of e) }
+    requires numbered { IsNumberedRequest query.now wanted }
+    requires few { mode < 256 }
+    requires line { line_by_table query.now e mode ≡ Some line }
+    ensures { FindsFrom (IsOfMode query.now e wanted mode) bound result }
+{
+    // For the proof: children are groups with keys, and what is asked of them has numbers.
+    candidates_are_known();
+    groups_are_known();
+    what_is_asked_fits();
+    match alternative_by(query, props, e, wanted, mode, line) {
+        Some(alt) => wished_goal_from(e.children(), alt, bound),
+        None => None,
+    }
+}
+
+// The first goal of the children for what the alternative asks of them.
+fn wished_goal_from(children: Children, alt: Alt, bound: u64) -> Option<GoalKind>
+    requires children { AreInRange children }
+    requires left { IfSome alt.left (λ asked. IsInRange asked.1) }
+    requires right { IfSome alt.right (λ asked. IsInRange asked.1) }
+    ensures { FindsFrom (IsOfAlt children alt) bound result }
+{
+    match children {
+        Children::Zero => None,
+        Children::One(child) => asked_of_group(child, asked_of(alt.left), bound),
+        Children::Two(left, right) => sooner(
+            asked_of_group(left, asked_of(alt.left), bound),
+            asked_of_group(right, asked_of(alt.right), bound),
+        ),
+    }
+}
+
+// What is asked of a child.
+fn asked_of(asked: Option<(Key, Request)>) -> Option<Request>
+    ensures { result ≡ option_map (λ a. a.1) asked }
+{
+    match asked {
+        Some((_, wanted)) => Some(wanted),
+        None => None,
+    }
+}
+
+// The goal of the group for what is asked of it, if something is.
+fn asked_of_group(group: KeyParts, wanted: Option<Request>, bound: u64) -> Option<GoalKind>
+    requires group { keys.IsInRange group }
+    requires wanted { IfSome wanted IsInRange }
+    ensures { FindsFrom (IsOfRequest group wanted) bound result }
+{
+    match wanted {
+        Some(wanted) => goal_from(GoalKind::Opt(group, wanted), bound),
+        None => None,
+    }
+}

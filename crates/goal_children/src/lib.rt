@@ -1,0 +1,14 @@
+//! The children of a goal, one after the other.
+#![tactic(auto)]
+
+mod children;
+mod choice;
+mod expressions;
+mod finding;
+mod jobs;
+mod laws;
+mod members;
+
+pub use children::{child, list_children, next_child};
+pub use finding::known_goal;
+pub use laws::{children_are_one, children_are_over_the_query, goals_are_over_the_query};

@@ -1,0 +1,165 @@
+//! The goals of the members of a group, in the order of words.
+#![tactic(auto)]
+
+ghost use Rattle.std.specs.Prelude.{◌≡◌, ◌<◌, ◌≤◌, ◌^◌, ◌↔◌, ℕ, IsTrue, MatchOption, length, slice_index};
+ghost use Rattle.std.specs.List.{All};
+ghost use Rattle.std.specs.List.Sorted.{IsStrictlyIncreasing};
+ghost use Rattle.query_core.specs.declared.expressions.ExprParts.{ExprParts as AnyExpr};
+ghost use Rattle.query_core.specs.declared.expressions.PhysicalExpr.{PhysicalExpr as AnyPhysical};
+ghost use Rattle.query_core.specs.Keys.{IsGroup};
+ghost use Rattle.query_core.specs.Expressions.{expr_of, IsCandidate, IsCandidateWord};
+ghost use Rattle.request_props.specs.Numbered.{IsProps, IsNumbered};
+ghost use Rattle.plan_tree.specs.Alternatives.{HasAlternative};
+ghost use Rattle.goal_children.specs.Finding.{FindsFrom, IsOfMembers};
+ghost use Rattle.goal_space.specs.declared.goals.GoalKind.{GoalKind as AnyGoal};
+ghost use Rattle.goal_children.specs.MemberJobs.{word_at, HasNumberedJob, HaveNoGoals, IsFirstGoal, IsGoalOf, IsJobInRange, IsServed, IsTransformed};
+
+use crate::jobs::{MemberJob, Phase};
+use goal_space::GoalKind;
+use plan_tree::alternative;
+use query_core::{
+    Expr, ExprParts, Goal, GoalParts, KeyParts, PhysicalExpr, Query, candidates_are_known,
+    expressions_are_one, groups_are_known,
+};
+use request_props::{Props, Request, code};
+use xform_rules::words_of;
+
+/// The first of the goals that the members of the group have for the job, from the bound on.
+pub fn member_goal_from(
+    query: &Query,
+    props: &Props,
+    members: &[u64],
+    group: KeyParts,
+    job: MemberJob,
+    bound: u64,
+) -> Option<GoalKind>
+    requires props { IsProps query.now props.now }
+    requires candidates { All (IsCandidateWord query.now) members.now }
+    requires ascending { IsStrictlyIncreasing members.now }
+    requires known { IsGroup query.now group }
+    requires numbered { HasNumberedJob query.now job }
+    ensures { FindsFrom (IsOfMembers query.now members.now group job) bound result }
+{
+    // For the proof: the words of candidates fit, and groups have keys.
+    candidates_are_known();
+    expressions_are_one();
+    groups_are_known();
+    let own = words_of(members, group);
+    let from = first_from(job, own, bound);
+    first_goal(query, props, job, &own[from..])
+}
+
+// The goal of the first of the words that has one for the job.
+fn first_goal(query: &Query, props: &Props, job: MemberJob, words: &[u64]) -> Option<GoalKind>
+    requires props { IsProps query.now props.now }
+    requires candidates { All (IsCandidateWord query.now) words.now }
+    requires numbered { HasNumberedJob query.now job }
+    ensures { MatchOption result
+        (HaveNoGoals query.now job words.now)
+        (IsFirstGoal query.now job words.now) }
+{
+    // For the proof: the words of candidates fit.
+    candidates_are_known();
+    for word in words {
+        match job.goal_of(query, props, Expr(*word).known_parts()) {
+            Some(goal) => return Some(goal),
+            None => {}
+        }
+    }
+    None
+}
+
+// The place of the first of the words whose goal isn't below the bound.
+fn first_from(job: MemberJob, words: &[u64], bound: u64) -> usize
+    requires small { All (λ word. word < 2 ^ 48) words.now }
+    requires ascending { IsStrictlyIncreasing words.now }
+    requires in_range { IsJobInRange job }
+    ensures within { result ≤ length words.now }
+    ensures before { (k : ℕ) → k < result → word_at job (slice_index words.now k) < bound }
+    ensures after { (k : ℕ) → result ≤ k → k < length words.now →
+        bound ≤ word_at job (slice_index words.now k) }
+{
+    let (mut low, mut high) = (0, words.len());
+    'halves: while low < high {
+        let middle = low + (high - low) / 2;
+        if job.word_of(Expr(words[middle])).0 < bound {
+            low = middle + 1;
+        } else {
+            high = middle;
+        }
+    }
+    low
+}
+
+impl MemberJob {
+    // The word of the goal that the expression of this word would have.
+    fn word_of(self, expr: Expr) -> Goal
+        requires small { expr.0 < 2 ^ 48 }
+        requires in_range { IsJobInRange self }
+        ensures { result.0 ≡ word_at self expr.0 }
+    {
+        match self {
+            MemberJob::Transform(Phase::Exploration) => Goal::make(GoalParts::ExpE(expr)),
+            MemberJob::Transform(Phase::Implementation) => Goal::make(GoalParts::ImpE(expr)),
+            MemberJob::Serve(wanted) => Goal::make(GoalParts::OptE(expr, code(wanted))),
+        }
+    }
+
+    // The goal that the expression has.
+    fn goal_of(self, query: &Query, props: &Props, e: ExprParts) -> Option<GoalKind>
+        requires props { IsProps query.now props.now }
+        requires candidate { IsCandidate query.now e }
+        requires numbered { HasNumberedJob query.now self }
+        ensures { MatchOption result
+            ((goal : AnyGoal) → IsGoalOf query.now self e goal → ⊥)
+            (IsGoalOf query.now self e) }
+    {
+        match self {
+            MemberJob::Transform(phase) => transform(phase, e),
+            MemberJob::Serve(wanted) => serve(query, props, e, wanted),
+        }
+    }
+}
+
+// The goal of a logical expression.
+fn transform(phase: Phase, e: ExprParts) -> Option<GoalKind>
+    ensures { MatchOption result
+        ((goal : AnyGoal) → IsTransformed phase e goal → ⊥)
+        (IsTransformed phase e) }
+{
+    if e.operator.is_logical() {
+        Some(phase.of_expr(e))
+    } else {
+        None
+    }
+}
+
+// The goal of a physical expression that may serve the request.
+fn serve(query: &Query, props: &Props, e: ExprParts, wanted: Request) -> Option<GoalKind>
+    requires props { IsProps query.now props.now }
+    requires candidate { IsCandidate query.now e }
+    requires numbered { IsNumbered query.now wanted.order }
+    ensures { MatchOption result
+        ((goal : AnyGoal) → IsServed query.now wanted e goal → ⊥)
+        (IsServed query.now wanted e) }
+{
+    match e.as_physical() {
+        Some(physical) => serve_by(query, props, physical, wanted),
+        None => None,
+    }
+}
+
+fn serve_by(query: &Query, props: &Props, e: PhysicalExpr, wanted: Request) -> Option<GoalKind>
+    requires props { IsProps query.now props.now }
+    requires candidate { IsCandidate query.now (expr_of e) }
+    requires numbered { IsNumbered query.now wanted.order }
+    ensures { MatchOption result
+        ((mode : ℕ) → HasAlternative query.now e wanted mode → ⊥)
+        (λ goal. (goal ≡ GoalKind.OptE e wanted)
+        × ((mode : ℕ) × HasAlternative query.now e wanted mode)) }
+{
+    match alternative(query, props, e, wanted, 0) {
+        Some(_) => Some(GoalKind::OptE(e, wanted)),
+        None => None,
+    }
+}

@@ -1,0 +1,8 @@
+//! The goals of a query as a list, by passes over a set until nothing is new.
+#![tactic(auto)]
+
+mod goals;
+#[cfg(test)]
+mod tests;
+
+pub use goals::{goal_lists_are_known, plain_goals};

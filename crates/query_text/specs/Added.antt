@@ -1,0 +1,6 @@
+-- A text that grows.
+use Rattle.std.specs.Prelude.{ℕ, ◌≡◌, List, ◌++◌}
+
+-- the text after is the one before, and behind it the piece
+abbrev pub Adds : List ℕ → List ℕ → List ℕ → Type 0
+Adds before piece after = after ≡ before ++ piece
