@@ -6,7 +6,8 @@ use Rattle.query_core.specs.declared.query.Query.{Query}
 use Rattle.catalog_json.specs.Outcome.{reading_of}
 use Rattle.orca_cli.specs.Asked.{SaysCatalog, IsNoCatalog, Asks, IsRefused}
 use Rattle.orca_cli.specs.Causes.{ReadRose, Holds, IsSettled, Completes, IsRefusal, Refuses}
-use Rattle.orca_cli.specs.Command.{PlanChoices, PlanCommand}
+use Rattle.command_line.specs.Command.{PlanCommand}
+use Rattle.command_line.specs.declared.choices.Choices.{Choices}
 use Rattle.orca_cli.specs.Run.{AreTold, IsAnswer, planned, unplanned, refused, IsEnding, answered, catalog_refused, catalog_unread, query_unread, IsRun, Ends}
 use Rattle.orca_cli.specs.declared.status.Status.{Status}
 use Rattle.orca_cli.specs.declared.status.Status.TheVariants.{Planned, NoPlan, Usage, QueryRefused, CatalogRefused, TooManyEntries, ReadFault, WriteFault, Memory}
@@ -23,7 +24,7 @@ usage_cause named held reads_before reads_after old new before after status ends
     of_usage (Some command) ends = absurd (never command held reads_before reads_after Usage ends.0 ends.1 tt)
 
 -- an answer isn't a read fault
-answer_read : (catalog : Catalog) (choices : PlanChoices) (asked : List ℕ) (status : Status) (text : List ℕ) → IsAnswer catalog choices asked status text → status ≡ ReadFault → ⊥
+answer_read : (catalog : Catalog) (choices : Choices) (asked : List ℕ) (status : Status) (text : List ℕ) → IsAnswer catalog choices asked status text → status ≡ ReadFault → ⊥
 answer_read catalog choices asked status text (planned is query asks plan is_plan goes) fault = cc
 answer_read catalog choices asked status text (unplanned is query asks impossible goes) fault = cc
 answer_read catalog choices asked status text (refused is cause why line) fault = cc
@@ -83,7 +84,7 @@ module _ (command : PlanCommand) (held : List ℕ → Option (List ℕ)) (catalo
   answer_of before after status text no_read (catalog_unread is unread) = absurd (no_read (inl unread.rose))
   answer_of before after status text no_read (query_unread is k offers unread) = absurd (no_read (inr unread.rose))
 
-module _ (one : OneReading) (catalog : Catalog) (choices : PlanChoices) (asked : List ℕ) (status : Status) (text : List ℕ) where
+module _ (one : OneReading) (catalog : Catalog) (choices : Choices) (asked : List ℕ) (status : Status) (text : List ℕ) where
   -- the answer to a text that asks for a query is a plan or none
   settled_answer : (q : Query) → Asks catalog choices.options asked q → IsAnswer catalog choices asked status text → IsSettled status
   settled_answer q asks (planned is query asks_too plan is_plan goes) = subst IsSettled (sym is) tt

@@ -3,14 +3,8 @@ pub mod Others
 pub mod Queries
 pub mod Limits
 pub mod Refusals
-pub mod Memos
+pub mod Sections
 pub mod Stages
 pub mod Puts
 pub mod Causes
 pub mod Outcomes
-pub mod RuleNames
-pub mod OffSets
-pub mod RulesOff
-pub mod Drafts
-pub mod FirstPieces
-pub mod Spelling

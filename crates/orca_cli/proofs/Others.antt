@@ -2,7 +2,8 @@
 use Rattle.std.proofs.Common.{ℕ, List, Option, subst}
 use Rattle.std.specs.Bool.{⊤}
 use Rattle.query_core.specs.declared.catalog.Catalog.{Catalog}
-use Rattle.orca_cli.specs.Command.{PlanChoices, PlanCommand}
+use Rattle.command_line.specs.Command.{PlanCommand}
+use Rattle.command_line.specs.declared.choices.Choices.{Choices}
 use Rattle.orca_cli.specs.Run.{IsAnswer, planned, unplanned, refused, IsEnding, answered, catalog_refused, catalog_unread, query_unread}
 use Rattle.orca_cli.specs.declared.status.Status.{Status}
 use Rattle.orca_cli.specs.declared.status.Status.TheVariants.{Planned, NoPlan, Usage, QueryRefused, CatalogRefused, TooManyEntries, ReadFault, WriteFault, Memory}
@@ -19,7 +20,7 @@ IsOther ReadFault = ⊥
 IsOther WriteFault = ⊤
 IsOther Memory = ⊤
 
-never_answer : (catalog : Catalog) (choices : PlanChoices) (asked : List ℕ) (status : Status) (text : List ℕ) → IsAnswer catalog choices asked status text → IsOther status → ⊥
+never_answer : (catalog : Catalog) (choices : Choices) (asked : List ℕ) (status : Status) (text : List ℕ) → IsAnswer catalog choices asked status text → IsOther status → ⊥
 never_answer catalog choices asked status text (planned is query asks plan is_plan goes) other = subst IsOther is other
 never_answer catalog choices asked status text (unplanned is query asks impossible goes) other = subst IsOther is other
 never_answer catalog choices asked status text (refused is cause why line) other = subst IsOther is other

@@ -1,7 +1,7 @@
 -- What the sink took, by the status that is answered.
 use Rattle.std.proofs.Common.{◌≡◌, ℕ, List, Option, Some, sym, subst, inl, inr}
 use Rattle.std.specs.Io.KnownBytes.{Appends}
-use Rattle.orca_cli.specs.Command.{PlanCommand}
+use Rattle.command_line.specs.Command.{PlanCommand}
 use Rattle.orca_cli.specs.Run.{IsEnding, IsRun, Ends}
 use Rattle.orca_cli.proofs.Others.{never}
 use Rattle.orca_cli.specs.Puts.{IsPut}

@@ -27,7 +27,8 @@ use Rattle.plan_report.specs.Found.{IsFoundText}
 use Rattle.orca_cli.specs.Asked.{IsNoCatalog, IsBoundAs, Asks, IsUnread, IsUnbound, IsUnnumbered, IsRefused}
 use Rattle.orca_cli.specs.Views.{EndsAs, text_of}
 use Rattle.orca_cli.specs.declared.ending.Ending.{Ending}
-use Rattle.orca_cli.specs.Command.{PlanChoices, PlanCommand}
+use Rattle.command_line.specs.Command.{PlanCommand}
+use Rattle.command_line.specs.declared.choices.Choices.{Choices}
 use Rattle.orca_cli.specs.Reading.{AreHeld}
 use Rattle.orca_cli.specs.Texts as texts
 use Rattle.orca_cli.specs.Run.{AreTold, Offers, GoesOn, IsAnswer, planned, unplanned, refused, IsReadFault, IsEnding, answered, catalog_refused, query_unread}
@@ -55,40 +56,40 @@ plan_of_found query founds.NoPlan status text is impossible told = stages.none i
 pub as_ended : (P : Status → List ℕ → Type 0) (ending : Ending) (status : Status) (text : List ℕ) → EndsAs ending status text → P status text → P ending.status (text_of ending)
 as_ended P ending status text is fact = subst (λ s. P s (text_of ending)) (sym is.status) (subst (λ t. P status t) (sym is.text) fact)
 
--- the plan of the query that is asked for, and the memo where it is asked for
-pub plan_answer : (catalog : Catalog) (choices : PlanChoices) (asked : List ℕ) (query : Query) (status : Status) (front text : List ℕ) → Asks catalog choices.options asked query → IsPlanOf query status front → GoesOn choices.memo query front text
+-- the plan of the query that is asked for, and behind it the sections that are asked for
+pub plan_answer : (catalog : Catalog) (choices : Choices) (asked : List ℕ) (query : Query) (status : Status) (front text : List ℕ) → Asks catalog choices.options asked query → IsPlanOf query status front → GoesOn choices query front text
     → IsAnswer catalog choices asked status text
 plan_answer catalog choices asked query status front text asks (stages.least is plan) goes = planned is query asks front plan goes
 plan_answer catalog choices asked query status front text asks (stages.none is impossible line) goes =
-    unplanned is query asks impossible (subst (λ line. GoesOn choices.memo query line text) line goes)
+    unplanned is query asks impossible (subst (λ line. GoesOn choices query line text) line goes)
 
--- the ending with the section that is asked for behind it
-pub followed_answer : (catalog : Catalog) (choices : PlanChoices) (asked : List ℕ) (query : Query) (front made : Ending) → Asks catalog choices.options asked query → IsPlanOf query front.status (text_of front)
-    → made.status ≡ front.status → GoesOn choices.memo query (text_of front) (text_of made) → IsAnswer catalog choices asked made.status (text_of made)
+-- the ending with the sections that are asked for behind it
+pub followed_answer : (catalog : Catalog) (choices : Choices) (asked : List ℕ) (query : Query) (front made : Ending) → Asks catalog choices.options asked query → IsPlanOf query front.status (text_of front)
+    → made.status ≡ front.status → GoesOn choices query (text_of front) (text_of made) → IsAnswer catalog choices asked made.status (text_of made)
 followed_answer catalog choices asked query front made asks plan same goes =
     plan_answer catalog choices asked query made.status (text_of front) (text_of made) asks (subst (λ s. IsPlanOf query s (text_of front)) (sym same) plan) goes
 
 -- a query that is refused for the cause that the line gives
-pub refused_answer : (catalog : Catalog) (choices : PlanChoices) (asked cause given : List ℕ) (ending : Ending) → IsRefused catalog choices.options asked cause → given ≡ cause → EndsAs ending QueryRefused (texts.query_refused given)
+pub refused_answer : (catalog : Catalog) (choices : Choices) (asked cause given : List ℕ) (ending : Ending) → IsRefused catalog choices.options asked cause → given ≡ cause → EndsAs ending QueryRefused (texts.query_refused given)
     → IsAnswer catalog choices asked ending.status (text_of ending)
 refused_answer catalog choices asked cause given ending why same is = refused is.status cause why (is.text ∙ ap texts.query_refused same)
 
 -- a query with too many hashed lists or orders
-pub unnumbered_answer : (catalog : Catalog) (choices : PlanChoices) (asked given : List ℕ) (query : Query) (fault : PropsFault) (ending : Ending) → IsBoundAs catalog choices.options asked query → IsRefusedFor query fault → fault ≢ limits.Memory
+pub unnumbered_answer : (catalog : Catalog) (choices : Choices) (asked given : List ℕ) (query : Query) (fault : PropsFault) (ending : Ending) → IsBoundAs catalog choices.options asked query → IsRefusedFor query fault → fault ≢ limits.Memory
     → given ≡ texts.props_cause fault → EndsAs ending QueryRefused (texts.query_refused given) → IsAnswer catalog choices asked ending.status (text_of ending)
 unnumbered_answer catalog choices asked given query fault ending bound too_many not_memory same is =
     let why : IsUnnumbered catalog choices.options asked (texts.props_cause fault) = record { query = query; bound = bound; fault = fault; too_many = too_many; not_memory = not_memory; caused = refl } in
     refused_answer catalog choices asked (texts.props_cause fault) given ending (inr (inr why)) same is
 
 -- a select whose names can't be bound
-pub unbound_answer : (catalog : Catalog) (choices : PlanChoices) (asked given : List ℕ) (select : Select) (fault : BindFault) (ending : Ending) → IsReading asked select → binding select catalog ≡ Err fault → fault ≢ names.Memory
+pub unbound_answer : (catalog : Catalog) (choices : Choices) (asked given : List ℕ) (select : Select) (fault : BindFault) (ending : Ending) → IsReading asked select → binding select catalog ≡ Err fault → fault ≢ names.Memory
     → given ≡ texts.bind_cause fault → EndsAs ending QueryRefused (texts.query_refused given) → IsAnswer catalog choices asked ending.status (text_of ending)
 unbound_answer catalog choices asked given select fault ending reading first not_memory same is =
     let why : IsUnbound catalog asked (texts.bind_cause fault) = record { select = select; reading = reading; fault = fault; first = first; not_memory = not_memory; caused = refl } in
     refused_answer catalog choices asked (texts.bind_cause fault) given ending (inr (inl why)) same is
 
 -- a text that is no select
-pub unread_answer : (catalog : Catalog) (choices : PlanChoices) (asked given : List ℕ) (fault : SqlFault) (ending : Ending) → IsFirst asked fault → given ≡ texts.sql_cause fault → EndsAs ending QueryRefused (texts.query_refused given)
+pub unread_answer : (catalog : Catalog) (choices : Choices) (asked given : List ℕ) (fault : SqlFault) (ending : Ending) → IsFirst asked fault → given ≡ texts.sql_cause fault → EndsAs ending QueryRefused (texts.query_refused given)
     → IsAnswer catalog choices asked ending.status (text_of ending)
 unread_answer catalog choices asked given fault ending first same is =
     let why : IsUnread asked (texts.sql_cause fault) = record { fault = fault; first = first; caused = refl } in
@@ -117,12 +118,12 @@ exceeding (Some content) limit exceeds = record { bytes = content; told = refl; 
 -- ---- the query's file
 
 -- the answer to the bytes that were read
-pub answer_read : (catalog : Catalog) (choices : PlanChoices) (name : List ℕ) (held : Option (List ℕ)) (before after : List ℕ → ℕ) (limit : ℕ) (bytes : List ℕ) (status : Status) (text : List ℕ)
+pub answer_read : (catalog : Catalog) (choices : Choices) (name : List ℕ) (held : Option (List ℕ)) (before after : List ℕ → ℕ) (limit : ℕ) (bytes : List ℕ) (status : Status) (text : List ℕ)
     → AreHeld held limit bytes → IsAnswer catalog choices bytes status text → IsEndingAt catalog choices name held before after status text
 answer_read catalog choices name held before after limit bytes status text are is = stages.answered (record { asked = bytes; told = are.told; answer = is })
 
 -- a text over the limit is refused as too long
-pub long_query : (catalog : Catalog) (choices : PlanChoices) (name : List ℕ) (held : Option (List ℕ)) (before after : List ℕ → ℕ) (ending : Ending)
+pub long_query : (catalog : Catalog) (choices : Choices) (name : List ℕ) (held : Option (List ℕ)) (before after : List ℕ → ℕ) (ending : Ending)
     → ((bytes : List ℕ) → 2 ^ 16 < length bytes → IsFirst bytes selects.TooLong) → Exceeds held 65536
     → EndsAs ending QueryRefused (texts.query_refused (texts.sql_cause selects.TooLong))
     → IsEndingAt catalog choices name held before after ending.status (text_of ending)
@@ -148,7 +149,7 @@ long_catalog command held before after ending exceeds is =
     catalog_refused is.status (record { bytes = long.bytes; told = long.told; cause = texts.catalog_cause catalogs.TooLong; no_catalog = none; line = is.text })
 
 -- bytes that are no catalogue, for the cause that the line gives
-pub refused_over : (bytes : List ℕ) (choices : PlanChoices) (name given : List ℕ) (held : Option (List ℕ)) (before after : List ℕ → ℕ) (fault : CatalogFault) (ending : Ending) → CatalogReads bytes (Err fault) → fault ≢ catalogs.Memory
+pub refused_over : (bytes : List ℕ) (choices : Choices) (name given : List ℕ) (held : Option (List ℕ)) (before after : List ℕ → ℕ) (fault : CatalogFault) (ending : Ending) → CatalogReads bytes (Err fault) → fault ≢ catalogs.Memory
     → given ≡ texts.catalog_cause fault → EndsAs ending CatalogRefused (texts.catalog_refused given) → IsEndingOver bytes choices name held before after ending.status (text_of ending)
 refused_over bytes choices name given held before after fault ending reads not_memory same is =
     let none : IsNoCatalog bytes (texts.catalog_cause fault) = record { fault = fault; first = sym (reads (λ e. not_memory cc)); not_memory = not_memory; caused = refl } in
@@ -178,6 +179,6 @@ over_files command held before middle after limit bytes status text are later (s
     catalog_refused is (record { bytes = bytes; told = are.told; cause = cause; no_catalog = none; line = line })
 
 -- what a shelf tells of the query's file stays the same
-pub retold_over : (bytes : List ℕ) (choices : PlanChoices) (name : List ℕ) (held told : Option (List ℕ)) (before after : List ℕ → ℕ) (status : Status) (text : List ℕ) → told ≡ held
+pub retold_over : (bytes : List ℕ) (choices : Choices) (name : List ℕ) (held told : Option (List ℕ)) (before after : List ℕ → ℕ) (status : Status) (text : List ℕ) → told ≡ held
     → IsEndingOver bytes choices name told before after status text → IsEndingOver bytes choices name held before after status text
 retold_over bytes choices name held told before after status text same is = subst (λ content. IsEndingOver bytes choices name content before after status text) same is

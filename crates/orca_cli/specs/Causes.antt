@@ -4,7 +4,7 @@ use Rattle.orca_base.specs.Causes.{Rose}
 use Rattle.query_core.specs.declared.catalog.Catalog.{Catalog}
 use Rattle.query_core.specs.declared.query.Query.{Query}
 use Rattle.orca_cli.specs.Asked.{SaysCatalog, Asks, IsRefused}
-use Rattle.orca_cli.specs.Command.{FileNames, PlanCommand}
+use Rattle.command_line.specs.Command.{FileNames, PlanCommand}
 use Rattle.orca_cli.specs.declared.status.Status.{Status}
 use Rattle.orca_cli.specs.declared.status.Status.TheVariants.{Planned, NoPlan, Usage, QueryRefused, CatalogRefused, TooManyEntries, ReadFault, WriteFault, Memory}
 

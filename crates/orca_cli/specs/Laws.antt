@@ -1,6 +1,8 @@
 -- What follows from how commands are read, and how runs end.
 use Rattle.std.specs.Prelude.{◌≡◌, ◌↔◌, ℕ, List, Option, Some, ⊤}
-use Rattle.orca_cli.specs.Command.{FileNames, PlanChoices, PlanCommand, IsSpelledOut, command_of}
+use Rattle.command_line.specs.Command.{FileNames, PlanCommand, IsSpelledOut}
+use Rattle.command_line.specs.Reading.{command_of}
+use Rattle.command_line.specs.declared.choices.Choices.{Choices}
 use Rattle.orca_cli.specs.Run.{IsEnding}
 use Rattle.orca_cli.specs.declared.status.Status.{Status}
 use Rattle.orca_cli.specs.declared.status.Status.TheVariants.{Planned, NoPlan, Usage, QueryRefused, CatalogRefused, TooManyEntries, ReadFault, WriteFault, Memory}
@@ -18,7 +20,7 @@ IsOutcome WriteFault = ⊥
 IsOutcome Memory = ⊥
 
 -- a run over files that hold these bytes ends so, whatever its counts of faults are
-pub record Outcome (files : FileNames) (choices : PlanChoices) (held : List ℕ → Option (List ℕ)) (catalog query : List ℕ) (status : Status) (text : List ℕ) : Type 0 where
+pub record Outcome (files : FileNames) (choices : Choices) (held : List ℕ → Option (List ℕ)) (catalog query : List ℕ) (status : Status) (text : List ℕ) : Type 0 where
   pub before : List ℕ → ℕ
   pub after : List ℕ → ℕ
   pub catalog_told : held files.catalog ≡ Some catalog
@@ -33,13 +35,5 @@ pub record Same (first second : Status) (text other : List ℕ) : Type 0 where
 
 -- the status and the text are a function of the bytes, and of what the command chooses
 abbrev pub OneOutcome : Type 0
-OneOutcome = (files others : FileNames) (choices : PlanChoices) (held told : List ℕ → Option (List ℕ)) (catalog query : List ℕ) (first second : Status) (text other : List ℕ)
+OneOutcome = (files others : FileNames) (choices : Choices) (held told : List ℕ → Option (List ℕ)) (catalog query : List ℕ) (first second : Status) (text other : List ℕ)
     → Outcome files choices held catalog query first text → Outcome others choices told catalog query second other → Same first second text other
-
--- words are read as the command that they spell, and as no other
-abbrev pub ReadsWhatIsSpelled : Type 0
-ReadsWhatIsSpelled = (words : List (List ℕ)) (command : PlanCommand) → IsSpelledOut words command ↔ (command_of words ≡ Some command)
-
--- words spell one command at most
-abbrev pub SpellsOne : Type 0
-SpellsOne = (words : List (List ℕ)) (command other : PlanCommand) → IsSpelledOut words command → IsSpelledOut words other → command ≡ other

@@ -1,11 +1,9 @@
 pub mod Status
-pub mod Command
 pub mod Reading
 pub mod Texts
 pub mod Asked
 pub mod Run
 pub mod Views
-pub mod Drafts
 pub mod Stages
 pub mod Puts
 pub mod Causes

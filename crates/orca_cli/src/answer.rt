@@ -5,15 +5,16 @@ ghost use Rattle.sql_reader.specs.Faults.{IsReading};
 ghost use Rattle.sql_reader.specs.Readable.{IsReadable};
 ghost use Rattle.query_core.specs.declared.catalog.Catalog.{Catalog};
 ghost use Rattle.request_props.specs.Numbered.{IsProps};
+ghost use Rattle.command_line.specs.Options.{AreChoices};
 ghost use Rattle.orca_cli.specs.Asked.{IsBoundAs};
 ghost use Rattle.orca_cli.specs.Run.{IsAnswer};
-ghost use Rattle.orca_cli.specs.Views.{plan_choices, text_of};
+ghost use Rattle.orca_cli.specs.Views.{text_of};
 
-use crate::command::Choices;
+use command_line::Choices;
 use crate::ending::{Ending, refused_query};
 use crate::faults::{bind_fault_text, props_fault_text, sql_fault_text};
-use crate::memo::with_memo;
 use crate::planning::planned;
+use crate::sections::with_sections;
 use query_core::{Catalog, Query};
 use request_props::Props;
 use sql_bind::bind;
@@ -27,9 +28,10 @@ pub fn answer(
     choices: Choices,
     text: &[u8],
 ) -> Result<Ending, AllocError>
-    requires { IsCatalog catalog.now }
+    requires catalogue { IsCatalog catalog.now }
+    requires choices { AreChoices choices }
     ensures { IfOk result
-        (λ ending. IsAnswer catalog.now (plan_choices choices) text.now
+        (λ ending. IsAnswer catalog.now choices text.now
         ending.status (text_of ending)) }
 {
     match read_sql(alloc, text) {
@@ -47,8 +49,9 @@ fn select_answer(
 ) -> Result<Ending, AllocError>
     requires catalogue { IsCatalog catalog.now }
     requires readable { IsReadable select.now }
+    requires choices { AreChoices choices }
     ensures { (text : List ℕ) → IsReading text select.now → IfOk result
-        (λ ending. IsAnswer catalog.now (plan_choices choices) text
+        (λ ending. IsAnswer catalog.now choices text
         ending.status (text_of ending)) }
 {
     match bind(alloc, select, catalog, choices.options) {
@@ -61,7 +64,7 @@ fn select_answer(
 fn query_answer(alloc: Global, choices: Choices, query: &Query) -> Result<Ending, AllocError>
     ensures { (catalog : Catalog) (text : List ℕ)
         → IsBoundAs catalog choices.options text query.now → IfOk result
-        (λ ending. IsAnswer catalog (plan_choices choices) text ending.status (text_of ending)) }
+        (λ ending. IsAnswer catalog choices text ending.status (text_of ending)) }
 {
     match Props::collect(alloc, query) {
         Ok(props) => numbered_answer(alloc, choices, query, &props),
@@ -79,8 +82,8 @@ fn numbered_answer(
     requires { IsProps query.now props.now }
     ensures { (catalog : Catalog) (text : List ℕ)
         → IsBoundAs catalog choices.options text query.now → IfOk result
-        (λ ending. IsAnswer catalog (plan_choices choices) text ending.status (text_of ending)) }
+        (λ ending. IsAnswer catalog choices text ending.status (text_of ending)) }
 {
     let ending = planned(alloc, query, props)?;
-    with_memo(alloc, choices.memo, query, ending)
+    with_sections(alloc, choices, query, props, ending)
 }

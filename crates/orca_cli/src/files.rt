@@ -1,12 +1,14 @@
 //! The run over two files: the catalogue's, and then the query's.
 ghost use Rattle.std.specs.Prelude.{◌≡◌, IfOk};
+ghost use Rattle.command_line.specs.Views.{plan_command};
 ghost use Rattle.query_core.specs.Catalog.{IsCatalog};
+ghost use Rattle.command_line.specs.Options.{AreChoices};
 ghost use Rattle.orca_cli.specs.Run.{IsEnding};
 ghost use Rattle.orca_cli.specs.Stages.{IsEndingAt, IsEndingOver};
-ghost use Rattle.orca_cli.specs.Views.{text_of, plan_choices, plan_command};
+ghost use Rattle.orca_cli.specs.Views.{text_of};
 
 use crate::answer::answer;
-use crate::command::{Choices, Command, Files};
+use command_line::{Choices, Command, Files};
 use crate::ending::{Ending, failed_read, refused_catalog, refused_query};
 use crate::faults::catalog_fault_text;
 use crate::reading::{Read, read_file};
@@ -47,7 +49,8 @@ fn with_bytes<S: Shelf>(
     query: &str,
     shelf: &mut S,
 ) -> Result<Ending, AllocError>
-    ensures { IfOk result (λ ending. IsEndingOver bytes.now (plan_choices choices) query.now
+    requires { AreChoices choices }
+    ensures { IfOk result (λ ending. IsEndingOver bytes.now choices query.now
         (S.held shelf.old query.now)
         (S.faults shelf.old) (S.faults shelf.new) ending.status (text_of ending)) }
 {
@@ -65,8 +68,9 @@ fn with_catalog<S: Shelf>(
     query: &str,
     shelf: &mut S,
 ) -> Result<Ending, AllocError>
-    requires { IsCatalog catalog.now }
-    ensures { IfOk result (λ ending. IsEndingAt catalog.now (plan_choices choices) query.now
+    requires catalogue { IsCatalog catalog.now }
+    requires choices { AreChoices choices }
+    ensures { IfOk result (λ ending. IsEndingAt catalog.now choices query.now
         (S.held shelf.old query.now)
         (S.faults shelf.old) (S.faults shelf.new) ending.status (text_of ending)) }
 {

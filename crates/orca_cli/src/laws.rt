@@ -1,7 +1,8 @@
 //! What follows from how commands are read, and how runs end.
-ghost use Rattle.orca_cli.specs.Laws.{OneOutcome, ReadsWhatIsSpelled, SpellsOne};
+ghost use Rattle.orca_cli.specs.Laws.{OneOutcome};
 
-use job_trace::memos_are_known;
+use goal_list::goal_lists_are_known;
+use job_trace::{memos_are_known, traces_are_known};
 use plan_space::least_is_one;
 use query_core::links_are_one;
 use xform_rules::members_are_known;
@@ -16,11 +17,6 @@ pub fn one_outcome()
     links_are_one();
     members_are_known();
     memos_are_known();
+    goal_lists_are_known();
+    traces_are_known();
 }
-
-/// Words are a command exactly where they spell one: `plan`, and behind it two names and the
-/// options, in whatever order.
-pub fn commands_are_spelled()
-    ensures reads { ReadsWhatIsSpelled }
-    ensures one { SpellsOne }
-{}

@@ -2,24 +2,18 @@
 #![tactic(auto)]
 
 mod answer;
-mod command;
-mod draft;
 mod ending;
 mod faults;
 mod files;
 mod laws;
-mod memo;
-mod off_rules;
-mod off_set;
-mod pieces;
 mod planning;
 mod reading;
+mod sections;
 mod status;
 mod text;
 mod top;
-mod words;
 
-pub use laws::{commands_are_spelled, one_outcome};
+pub use laws::one_outcome;
 pub use status::Status;
 pub use top::{orca_alone, orca_run, put_usage};
 

@@ -1,6 +1,6 @@
 //! The memos of queries, by the calls that the program makes for them.
 
-use crate::memo::memo_section;
+use crate::sections::memo_section;
 use catalog_json::read_catalog;
 use query_core::{Options, RootDist};
 use sql_bind::bind;

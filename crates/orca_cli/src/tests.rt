@@ -1,7 +1,7 @@
 use super::*;
 use crate::ending::refused_query;
 use crate::faults::props_fault_text;
-use crate::words::read_command;
+use command_line::read_command;
 use orca_io::{MemShelf, MemSink, NoGate};
 use request_props::PropsFault;
 use std::alloc::{AllocError, Global};

@@ -2,7 +2,7 @@
 ghost use Rattle.std.specs.Prelude.{◌≡◌, None, IsSome, map, string_bytes};
 ghost use Rattle.orca_base.specs.Causes.{Rose};
 ghost use Rattle.orca_cli.specs.Causes.{ReadRose, Completes, Refuses};
-ghost use Rattle.orca_cli.specs.Command.{command_of};
+ghost use Rattle.command_line.specs.Reading.{command_of};
 ghost use Rattle.orca_cli.specs.Run.{IsRun, IsUsage, Ends};
 ghost use Rattle.orca_cli.specs.Views.{text_of};
 ghost use Rattle.orca_cli.specs.Puts.{IsPut};
@@ -11,7 +11,7 @@ use crate::ending::Ending;
 use crate::files::run_files;
 use crate::status::Status;
 use crate::text::put_lines;
-use crate::words::read_command;
+use command_line::read_command;
 use orca_io::{Gate, Shelf, Sink};
 use std::alloc::{AllocError, Global};
 use std::sync::Wait;

@@ -1,5 +1,4 @@
 use Rattle.std.proofs.Common.{◌∙◌}
-use Rattle.orca_cli.specs.Views.{plan_choices}
 use Rattle.orca_cli.proofs.Stages.{IfOk-then, unnumbered_answer}
 use Rattle.orca_cli.proofs.answer.query_answer.Goals as goal
 
@@ -8,5 +7,5 @@ pub returns-in_ok-props_fault_text-in-Err : goal.returns-in_ok-props_fault_text-
 returns-in_ok-props_fault_text-in-Err c = λ catalog text bound.
     let told = c.in_ok-props_fault_text-in-Err.ensures in
     IfOk-then _ _ c.refused_query.result
-    (λ ending is. unnumbered_answer catalog (plan_choices c.args.choices) text c.deref.result.now c.args.query.now c.in-Err.fault ending bound c.in-Err.ensures.fault told.not_memory (c.deref.ensures ∙ told.text) is)
+    (λ ending is. unnumbered_answer catalog c.args.choices text c.deref.result.now c.args.query.now c.in-Err.fault ending bound c.in-Err.ensures.fault told.not_memory (c.deref.ensures ∙ told.text) is)
     c.refused_query.ensures

@@ -1,6 +1,5 @@
 use Rattle.std.proofs.Common.{◌∙◌}
 use Rattle.orca_cli.specs.Asked.{IsBoundAs}
-use Rattle.orca_cli.specs.Views.{plan_choices}
 use Rattle.orca_cli.proofs.Stages.{IfOk-then, unbound_answer}
 use Rattle.orca_cli.proofs.answer.select_answer.Goals as goal
 
@@ -15,5 +14,5 @@ pub returns-in_ok-bind_fault_text-in-Err : goal.returns-in_ok-bind_fault_text-in
 returns-in_ok-bind_fault_text-in-Err c = λ text reading.
     let not_memory = c.in_ok-bind_fault_text-in-Err.ensures.not_memory in
     IfOk-then _ _ c.refused_query.result
-    (λ ending is. unbound_answer c.args.catalog.now (plan_choices c.args.choices) text c.deref.result.now c.args.select.now c.in-Err.fault ending reading (c.in-Err.ensures not_memory) not_memory (c.deref.ensures ∙ c.in_ok-bind_fault_text-in-Err.ensures.text) is)
+    (λ ending is. unbound_answer c.args.catalog.now c.args.choices text c.deref.result.now c.args.select.now c.in-Err.fault ending reading (c.in-Err.ensures not_memory) not_memory (c.deref.ensures ∙ c.in_ok-bind_fault_text-in-Err.ensures.text) is)
     c.refused_query.ensures

@@ -1,7 +1,6 @@
 use Rattle.std.proofs.Common.{sym, ◌∙◌}
 use Rattle.orca_cli.specs.Asked.{SaysCatalog}
 use Rattle.orca_cli.specs.Stages.{over}
-use Rattle.orca_cli.specs.Views.{plan_choices}
 use Rattle.orca_cli.proofs.Stages.{IfOk-then, refused_over}
 use Rattle.orca_cli.proofs.files.with_bytes.Goals as goal
 
@@ -16,5 +15,5 @@ pub returns-in_ok-catalog_fault_text-in-Err : goal.returns-in_ok-catalog_fault_t
 returns-in_ok-catalog_fault_text-in-Err g c =
     let text = c.in_ok-catalog_fault_text-in-Err.ensures in
     IfOk-then _ _ c.refused_catalog.result
-    (λ ending is. refused_over c.args.bytes.now (plan_choices c.args.choices) c.args.query.now c.deref.result.now (g.S.Shelf.held c.args.shelf.now c.args.query.now) _ _ c.in-Err.fault ending c.in-Err.ensures.reads text.not_memory (c.deref.ensures ∙ text.text) is)
+    (λ ending is. refused_over c.args.bytes.now c.args.choices c.args.query.now c.deref.result.now (g.S.Shelf.held c.args.shelf.now c.args.query.now) _ _ c.in-Err.fault ending c.in-Err.ensures.reads text.not_memory (c.deref.ensures ∙ text.text) is)
     c.refused_catalog.ensures

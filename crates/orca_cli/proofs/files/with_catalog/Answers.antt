@@ -1,7 +1,7 @@
 use Rattle.std.proofs.Common.{sym, subst}
 use Rattle.orca_io.specs.Shelf.{Exceeds}
 use Rattle.orca_cli.specs.Reading.{AreHeld}
-use Rattle.orca_cli.specs.Views.{text_of, plan_choices}
+use Rattle.orca_cli.specs.Views.{text_of}
 use Rattle.orca_cli.proofs.Stages.{IfOk-then, long_query, answer_read}
 use Rattle.orca_cli.proofs.files.with_catalog.Goals as goal
 
@@ -10,7 +10,7 @@ pub returns-in-TooLong : goal.returns-in-TooLong
 returns-in-TooLong g c =
     let exceeds : Exceeds (g.S.Shelf.held c.args.shelf.now c.args.query.now) 65536 = rw c.in-TooLong.is at c.in_ok-read_file.ensures.read in
     IfOk-then _ _ c.refused_query.result
-    (λ ending is. long_query c.args.catalog.now (plan_choices c.args.choices) c.args.query.now (g.S.Shelf.held c.args.shelf.now c.args.query.now) _ _ ending (λ bytes long. (c.one_outcome.ensures.too_long bytes).1 long) exceeds is)
+    (λ ending is. long_query c.args.catalog.now c.args.choices c.args.query.now (g.S.Shelf.held c.args.shelf.now c.args.query.now) _ _ ending (λ bytes long. (c.one_outcome.ensures.too_long bytes).1 long) exceeds is)
     c.refused_query.ensures
 
 -- the answer to the bytes that were read
@@ -20,5 +20,5 @@ returns-in-Bytes g c =
     let read : AreHeld file 65536 c.in-Bytes.text.items = rw c.in-Bytes.is at c.in_ok-read_file.ensures.read in
     let held : AreHeld file 65536 c.deref.result.now = subst (AreHeld file 65536) (sym c.deref.ensures.value) read in
     IfOk-then _ _ c.answer.result
-    (λ ending is. answer_read c.args.catalog.now (plan_choices c.args.choices) c.args.query.now file _ _ 65536 c.deref.result.now ending.status (text_of ending) held is)
+    (λ ending is. answer_read c.args.catalog.now c.args.choices c.args.query.now file _ _ 65536 c.deref.result.now ending.status (text_of ending) held is)
     c.answer.ensures

@@ -6,4 +6,4 @@ use Rattle.orca_cli.proofs.laws.one_outcome.Goals as goal
 -- a text has one reading, a query one list of links, one least plan and one closure, so the text of a run is one
 pub returns : goal.returns
 returns c = one_outcome_of (record { reading = c.one_outcome.ensures.reading; fault = c.one_outcome.ensures.fault; either = c.one_outcome.ensures.either }) c.links_are_one.ensures.links
-    (record { closure = c.members_are_known.ensures.closure_is_one; text = c.memos_are_known.ensures.text }) (λ q s t within one other. c.least_is_one.ensures q within.few_lists within.few_orders (root_of q) (root_request q) t s other one)
+    (record { closure = c.members_are_known.ensures.closure_is_one; goals = c.goal_lists_are_known.ensures.one; memo = c.memos_are_known.ensures.text; trace = λ q members goals text other within. c.traces_are_known.ensures.text q within.few_lists within.few_orders members goals text other }) (λ q s t within one other. c.least_is_one.ensures q within.few_lists within.few_orders (root_of q) (root_request q) t s other one)

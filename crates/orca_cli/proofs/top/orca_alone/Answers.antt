@@ -1,7 +1,8 @@
 use Rattle.std.proofs.Common.{◌≡◌, None, Some, option_map, map, string_bytes, sym, ap, ◌∙◌}
-use Rattle.orca_cli.specs.Command.{command_of}
+use Rattle.command_line.specs.Views.{plan_command}
+use Rattle.command_line.specs.Reading.{command_of}
 use Rattle.orca_cli.specs.Run.{IsRun, Ends}
-use Rattle.orca_cli.specs.Views.{plan_command, text_of}
+use Rattle.orca_cli.specs.Views.{text_of}
 use Rattle.orca_cli.proofs.Causes.{usage_cause, read_cause, write_cause, completed, refused_there}
 use Rattle.orca_cli.proofs.Puts.{put_ends_named}
 use Rattle.orca_cli.proofs.Refusals.{OneReading}

@@ -1,0 +1,9 @@
+pub mod GivenNumbers
+pub mod RuleNames
+pub mod OptionNames
+pub mod OffSets
+pub mod RulesOff
+pub mod Drafts
+pub mod FirstPieces
+pub mod Values
+pub mod Spelling

@@ -1,0 +1,87 @@
+-- Which rules may be off together, and the set of their bits.
+use Rattle.std.proofs.Common.{◌≡◌, ℕ, ◌+◌, ◌^◌, ◌%◌, ◌<◌, ◌&&◌, ◌↔◌, Bool, true, false, IsTrue, List, [], ◌∷◌, ◌++◌, length, nat_le, Some, refl, sym, ap, ◌∙◌, subst, arith, inl, inr}
+use Rattle.std.proofs.lemmas.List.Sums.{sum_by-append}
+use Rattle.std.proofs.Math.Bool.{and-false}
+use Rattle.std.proofs.lemmas.Bool.{cases_eq, false≢true}
+use Rattle.std.proofs.lemmas.Bool.Decides.{nat_tests}
+use Rattle.std.proofs.lemmas.List.{length-append}
+use Rattle.std.proofs.lemmas.List.Folds.{list_all-append}
+use Rattle.std.proofs.lemmas.Nat.Bits.{bit_at-lt}
+use Rattle.std.specs.Int.{bit_at}
+use Rattle.query_core.specs.Sets.{bit, Has, Adds}
+use Rattle.xform_rules.specs.Rules.{can_be_off, rule_number}
+use Rattle.xform_rules.specs.declared.rules.Rule.{Rule}
+use Rattle.xform_rules.specs.declared.rules.Rule.TheVariants as rules
+use Rattle.command_line.specs.Rules.{may_be_off, off_set}
+use Rattle.command_line.specs.Reading.{set_where_off}
+use Rattle.command_line.specs.Drafts.{IsOffSet}
+use Rattle.command_line.proofs.GivenNumbers.{no_bits, more_bits, comes_twice}
+
+false_inside : (a b : Bool) → (a && false && b) ≡ false
+false_inside true b = refl
+false_inside false b = refl
+
+-- no rule
+pub no_rules : IsOffSet [] 0
+no_rules = record { sum_of = refl; are_bits = no_bits; can = refl }
+
+-- the sum with one rule more behind
+one_more : (before : List Rule) (rule : Rule) → off_set (before ++ rule ∷ []) ≡ off_set before + 2 ^ rule_number rule
+one_more before rule = sum_by-append (λ r. 2 ^ rule_number r) before (rule ∷ []) ∙ omega arith
+
+-- a rule that has its place behind others
+module _ (before : List Rule) (rule : Rule) (set : ℕ) (is : IsOffSet before set) where
+  -- the rule behind the others
+  pub more_rules : (new : ℕ) → can_be_off rule ≡ true → (Has set (rule_number rule) → ⊥) → Adds set (rule_number rule) new → new ≡ set + 2 ^ rule_number rule → IsOffSet (before ++ rule ∷ []) new
+  more_rules new can fresh adds grows =
+      let n = rule_number rule in
+      record {
+        sum_of = grows ∙ ap (λ s. s + 2 ^ n) is.sum_of ∙ sym (one_more before rule);
+        are_bits = more_bits rule_number before rule set is.are_bits new fresh adds;
+        can = rw (list_all-append, is.can, can) refl;
+      }
+
+  -- a rule that must stay on, or that stands there already, refuses the whole
+  pub stays_on : (after : List Rule) → can_be_off rule ≡ false → may_be_off (before ++ rule ∷ after) ≡ false
+  stays_on after never = rw (list_all-append, is.can, never) (false_inside (nat_le 1 (length (before ++ rule ∷ after))) _)
+
+  pub stands_there : (after : List Rule) → Has set (rule_number rule) → may_be_off (before ++ rule ∷ after) ≡ false
+  stands_there after has = rw (comes_twice rule_number before rule set is.are_bits after has) (and-false _)
+
+-- rules that have their place are the set of their bits
+pub set_of_rules : (before : List Rule) (rule : Rule) (new : ℕ) → IsOffSet (before ++ rule ∷ []) new → Some new ≡ set_where_off (before ++ rule ∷ [])
+set_of_rules before rule new is =
+    let some : nat_le 1 (length (before ++ rule ∷ [])) ≡ true = rw length-append (grind (arith, nat_tests)) in
+    rw (some, is.can, is.are_bits.once) (ap Some is.sum_of)
+
+-- a bit that isn't set yet has room among those from 2 to 14
+pub has_room : (rule : Rule) (set : ℕ) → set < 32768 → set % 4 ≡ 0 → can_be_off rule ≡ true → bit set (rule_number rule) ≡ 0 → (set + 2 ^ rule_number rule < 32768) × ((set + 2 ^ rule_number rule) % 4 ≡ 0)
+unfolding bit
+has_room rules.ExpandNAry set small whole can none = absurd (false≢true can)
+has_room rules.JoinCommute set small whole can none = (omega (arith, small, none), omega (arith, whole))
+has_room rules.JoinAssociate set small whole can none = (omega (arith, small, none), omega (arith, whole))
+has_room rules.SplitAgg set small whole can none = (omega (arith, small, none), omega (arith, whole))
+has_room rules.GetToScan set small whole can none = (omega (arith, small, none), omega (arith, whole))
+has_room rules.GetToIndexScan set small whole can none = (omega (arith, small, none), omega (arith, whole))
+has_room rules.SelectToFilter set small whole can none = (omega (arith, small, none), omega (arith, whole))
+has_room rules.SelectToIndexSeek set small whole can none = (omega (arith, small, none), omega (arith, whole))
+has_room rules.JoinToHash set small whole can none = (omega (arith, small, none), omega (arith, whole))
+has_room rules.JoinToMerge set small whole can none = (omega (arith, small, none), omega (arith, whole))
+has_room rules.JoinToLoop set small whole can none = (omega (arith, small, none), omega (arith, whole))
+has_room rules.AggToHash set small whole can none = (omega (arith, small, none), omega (arith, whole))
+has_room rules.AggToStream set small whole can none = (omega (arith, small, none), omega (arith, whole))
+has_room rules.PartialToHash set small whole can none = (omega (arith, small, none), omega (arith, whole))
+
+-- a bit that isn't 1 is 0
+pub unset : (set n : ℕ) → (Has set n → ⊥) → bit set n ≡ 0
+unfolding bit
+unset set n never = elim (cases_eq (bit_at set n) 1) [
+  | inl one ↦ absurd (never one)
+  | inr other ↦ omega (arith, bit_at-lt set n, other)
+]
+
+-- what is read of the set, at the rule's number: the bit isn't there, and the new set is the sum of the two
+pub fresh_sum : (set number n new : ℕ) (has : Bool) → number ≡ n → IsTrue has ↔ Has set number → has ≡ false → (bit set number ≡ 0 → new ≡ set + 2 ^ number) → (Has set n → ⊥) × (bit set n ≡ 0) × (new ≡ set + 2 ^ n)
+fresh_sum set number n new has same read unread grows =
+    let fresh : Has set n → ⊥ = λ there. let was : has ≡ true = read.1 (subst (Has set) (sym same) there) in absurd (false≢true (sym unread ∙ was)) in
+    (fresh, unset set n fresh, subst (λ m. bit set m ≡ 0 → new ≡ set + 2 ^ m) same grows (unset set n fresh))

@@ -1,0 +1,36 @@
+-- What was read of a command so far.
+use Rattle.std.specs.Prelude.{ℕ, true, List, [], ◌∷◌, ◌≡◌, ◌↔◌, map, nat_eq}
+use Rattle.std.specs.List.{filter_map, list_all, list_any}
+use Rattle.query_core.specs.Sets.{Has}
+use Rattle.query_core.specs.Differ.{numbers_differ}
+use Rattle.xform_rules.specs.Rules.{can_be_off, rule_number}
+use Rattle.xform_rules.specs.declared.rules.Rule.{Rule}
+use Rattle.command_line.specs.Rules.{off_set}
+use Rattle.command_line.specs.Options.{choices_of}
+use Rattle.command_line.specs.Command.{Piece, name_in, setting_in, number_of}
+use Rattle.command_line.specs.declared.draft.Draft.{Draft}
+use Rattle.command_line.specs.declared.draft.Names.{Names}
+use Rattle.command_line.specs.declared.draft.Names.TheVariants.{Nothing, Catalog, Both}
+
+-- the set has the bits of these numbers, of which none comes twice
+pub record AreBits (numbers : List ℕ) (bits : ℕ) : Type 0 where
+  pub has : (n : ℕ) → Has bits n ↔ (list_any (nat_eq n) numbers ≡ true)
+  pub once : numbers_differ numbers ≡ true
+
+-- the set has the bits of these rules, of which each can be off and none comes twice
+pub record IsOffSet (some : List Rule) (bits : ℕ) : Type 0 where
+  pub sum_of : bits ≡ off_set some
+  pub are_bits : AreBits (map rule_number some) bits
+  pub can : list_all can_be_off some ≡ true
+
+-- the names that were read
+abbrev pub names_read : Names → List (List ℕ)
+names_read Nothing = []
+names_read (Catalog catalog) = catalog.now ∷ []
+names_read (Both catalog query) = catalog.now ∷ query.now ∷ []
+
+-- the draft has what the pieces ask for
+pub record IsDraft (pieces : List Piece) (draft : Draft) : Type 0 where
+  pub names : filter_map name_in pieces ≡ names_read draft.names
+  pub choices : draft.choices ≡ choices_of (filter_map setting_in pieces)
+  pub given : AreBits (map number_of (filter_map setting_in pieces)) draft.given

@@ -1,0 +1,83 @@
+-- The options of `plan`: how each is spelled, and what it chooses.
+use Rattle.std.specs.Prelude.{ℕ, List, [], ◌∷◌, ◌≡◌, ◌<◌, ◌%◌, ⊤, true, false, codes, IsTrue}
+use Rattle.std.specs.List.{fold}
+use Rattle.query_core.specs.declared.options.RootDist.{RootDist}
+use Rattle.query_core.specs.declared.options.RootDist.TheVariants.{One, Spread}
+use Rattle.query_core.specs.Results.{AreOptions}
+use Rattle.xform_rules.specs.declared.rules.Rule.{Rule}
+use Rattle.command_line.specs.Rules.{may_be_off, off_set, rules_word}
+use Rattle.command_line.specs.declared.choices.Choices.{Choices}
+use Rattle.command_line.specs.declared.choices.OptionName.{OptionName}
+use Rattle.command_line.specs.declared.choices.OptionName.TheVariants as names
+use Rattle.command_line.specs.declared.choices.Setting.{Setting}
+use Rattle.command_line.specs.declared.choices.Setting.TheVariants as settings
+
+-- ---- the table of options, a line for each in every part
+
+-- the word of an option
+abbrev pub option_word : OptionName → List ℕ
+option_word names.Root = codes "--root"
+option_word names.Off = codes "--off"
+option_word names.Memo = codes "--memo"
+option_word names.Trace = codes "--trace"
+
+-- the number of an option among them
+abbrev pub option_number : OptionName → ℕ
+option_number names.Root = 0
+option_number names.Off = 1
+option_number names.Memo = 2
+option_number names.Trace = 3
+
+-- the option that a setting is of
+abbrev pub name_of : Setting → OptionName
+name_of (settings.Root dist) = names.Root
+name_of (settings.Off set) = names.Off
+name_of settings.Memo = names.Memo
+name_of settings.Trace = names.Trace
+
+-- what is chosen, with this setting
+abbrev pub chosen : Choices → Setting → Choices
+chosen c (settings.Root dist) = record c { options = record c.options { root = dist } }
+chosen c (settings.Off set) = record c { options = record c.options { off = set } }
+chosen c settings.Memo = record c { memo = true }
+chosen c settings.Trace = record c { trace = true }
+
+-- the word for a distribution of the root
+abbrev pub root_word : RootDist → List ℕ
+root_word One = codes "one"
+root_word Spread = codes "spread"
+
+-- the word names rules that are this set
+pub record AreRules (set : ℕ) (words : List (List ℕ)) : Type 0 where
+  pub some : List Rule
+  pub may : IsTrue (may_be_off some)
+  pub is_set : set ≡ off_set some
+  pub word : words ≡ rules_word some ∷ []
+
+-- the words behind the option's own
+abbrev pub IsValue : Setting → List (List ℕ) → Type 0
+IsValue (settings.Root dist) words = words ≡ root_word dist ∷ []
+IsValue (settings.Off set) words = AreRules set words
+IsValue settings.Memo words = words ≡ []
+IsValue settings.Trace words = words ≡ []
+
+-- ---- what a command chooses
+
+-- the result at one place, no rule off, and nothing behind the plan
+abbrev pub usual : Choices
+usual = record { options = record { root = One; off = 0 }; memo = false; trace = false }
+
+-- what some settings choose, and what is usual for the rest
+abbrev pub choices_of : List Setting → Choices
+choices_of some = fold chosen usual some
+
+-- the rules may be off
+pub record AreChoices (c : Choices) : Type 0 where
+  pub options : AreOptions c.options
+
+-- the setting's rules may be off
+abbrev pub IsAllowed : Setting → Type 0
+IsAllowed (settings.Root dist) = ⊤
+IsAllowed (settings.Off set) = (set < 32768) × (set % 4 ≡ 0)
+IsAllowed settings.Memo = ⊤
+IsAllowed settings.Trace = ⊤

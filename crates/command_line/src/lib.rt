@@ -1,0 +1,20 @@
+//! What the words of a command line ask for.
+#![tactic(auto)]
+
+mod choices;
+mod command;
+mod draft;
+mod drafting;
+mod laws;
+mod off_rules;
+mod off_set;
+mod options;
+mod pieces;
+#[cfg(test)]
+mod tests;
+mod words;
+
+pub use choices::Choices;
+pub use command::{Command, Files};
+pub use laws::commands_are_spelled;
+pub use words::read_command;

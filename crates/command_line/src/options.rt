@@ -1,0 +1,100 @@
+//! The options of `plan`, as words name them.
+ghost use Rattle.std.specs.Prelude.{◌≡◌, IfSome, Some};
+ghost use Rattle.command_line.specs.Options.{IsAllowed, option_word};
+ghost use Rattle.command_line.specs.declared.choices.OptionName.{OptionName};
+ghost use Rattle.command_line.specs.Reading.{alone, option_named, root_of, takes_value as takes, with_value};
+
+use crate::choices::{OptionName, Setting};
+use crate::off_rules::read_off;
+use query_core::RootDist;
+
+/// The option of this name.
+pub fn option_of(word: &str) -> Option<OptionName>
+    ensures { result ≡ option_named word.now }
+{
+    spelled(word)
+}
+
+fn spelled(word: &str) -> Option<OptionName>
+    ensures found { IfSome result (λ option. option_word option ≡ word.now) }
+    ensures only { (option : OptionName) → option_word option ≡ word.now → result ≡ Some option }
+{
+    match word {
+        "--root" => Some(OptionName::Root),
+        "--off" => Some(OptionName::Off),
+        "--memo" => Some(OptionName::Memo),
+        "--trace" => Some(OptionName::Trace),
+        _ => None,
+    }
+}
+
+impl OptionName {
+    /// Whether a value stands behind it.
+    pub fn takes_value(self) -> bool
+        ensures { result ≡ takes self }
+    {
+        match self {
+            OptionName::Root => true,
+            OptionName::Off => true,
+            OptionName::Memo => false,
+            OptionName::Trace => false,
+        }
+    }
+
+    /// What it asks for, where no value stands behind it.
+    pub fn alone(self) -> Option<Setting>
+        ensures setting { result ≡ alone self }
+        ensures allowed { IfSome result IsAllowed }
+    {
+        match self {
+            OptionName::Root => None,
+            OptionName::Off => None,
+            OptionName::Memo => Some(Setting::Memo),
+            OptionName::Trace => Some(Setting::Trace),
+        }
+    }
+
+    /// What it asks for with this value.
+    pub fn with_value(self, value: &str) -> Option<Setting>
+        ensures setting { result ≡ with_value self value.now }
+        ensures allowed { IfSome result IsAllowed }
+    {
+        match self {
+            OptionName::Root => root(value),
+            OptionName::Off => off(value),
+            OptionName::Memo => None,
+            OptionName::Trace => None,
+        }
+    }
+}
+
+fn root(value: &str) -> Option<Setting>
+    ensures setting { result ≡ with_value OptionName.Root value.now }
+    ensures allowed { IfSome result IsAllowed }
+{
+    match read_root(value) {
+        Some(dist) => Some(Setting::Root(dist)),
+        None => None,
+    }
+}
+
+fn off(value: &str) -> Option<Setting>
+    ensures setting { result ≡ with_value OptionName.Off value.now }
+    ensures allowed { IfSome result IsAllowed }
+{
+    match read_off(value) {
+        Some(set) => Some(Setting::Off(set.bits)),
+        None => None,
+    }
+}
+
+// The distribution that the word names.
+fn read_root(word: &str) -> Option<RootDist>
+    ensures { result ≡ root_of word.now }
+{
+    match word {
+        "one" => Some(RootDist::One),
+        "spread" => Some(RootDist::Spread),
+        _ => None,
+    }
+}

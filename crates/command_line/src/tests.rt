@@ -1,0 +1,74 @@
+//! Words that are commands, and words that are none.
+
+use crate::*;
+use query_core::{Options, RootDist};
+use std::alloc::{AllocError, Global};
+use std::test::Fail;
+
+// The words of a line, between single spaces.
+fn words_of(alloc: Global, line: &str) -> Result<Vec<String>, AllocError> {
+    let mut words = Vec::new(alloc);
+    for word in line.split(' ') {
+        words.push(String::from_str(alloc, word)?)?;
+    }
+    Ok(words)
+}
+
+#[test]
+fn each_option_is_read(rt: HostRuntime) -> Result<(), Fail> {
+    let words = words_of(
+        rt.alloc(),
+        "plan c.json --root spread q.sql --off JoinCommute+AggToHash --memo --trace",
+    )?;
+    let command = read_command(&words).expect(&rt, "a command");
+    let choices = command.choices;
+    assert_eq!(rt; command.files.catalog, "c.json");
+    assert_eq!(rt; command.files.query, "q.sql");
+    assert_eq!(rt;
+        choices.options,
+        Options {
+            root: RootDist::Spread,
+            off: 4100
+        }
+    );
+    assert!(rt; choices.memo && choices.trace);
+    Ok(())
+}
+
+#[test]
+fn what_is_not_given_is_usual(rt: HostRuntime) -> Result<(), Fail> {
+    let words = words_of(rt.alloc(), "plan c.json q.sql")?;
+    let choices = read_command(&words).expect(&rt, "a command").choices;
+    assert_eq!(rt;
+        choices.options,
+        Options {
+            root: RootDist::One,
+            off: 0
+        }
+    );
+    assert!(rt; !choices.memo && !choices.trace);
+    Ok(())
+}
+
+#[test]
+fn other_words_are_no_command(rt: HostRuntime) -> Result<(), Fail> {
+    for line in [
+        "",
+        "plan c.json",
+        "plan c.json q.sql more",
+        "plan c.json q.sql --workers 4",
+        "plan c.json q.sql --root",
+        "plan c.json q.sql --root=one",
+        "plan c.json q.sql --off ExpandNAry",
+        "plan c.json q.sql --off JoinCommute+JoinCommute",
+        "plan c.json q.sql --root two",
+        "plan c.json q.sql --memo --memo",
+        "plan c.json q.sql --help",
+        "plan c.json q.sql --",
+        "plan c.json  q.sql",
+        "Plan c.json q.sql",
+    ] {
+        assert!(rt; read_command(&words_of(rt.alloc(), line)?).is_none());
+    }
+    Ok(())
+}

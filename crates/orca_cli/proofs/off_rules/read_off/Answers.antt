@@ -1,8 +1,0 @@
-use Rattle.std.proofs.Common.{subst, sym, []}
-use Rattle.orca_cli.specs.Drafts.{IsOffSet}
-use Rattle.orca_cli.proofs.OffSets.{no_rules}
-use Rattle.orca_cli.proofs.off_rules.read_off.Goals as goal
-
--- no rule is off before the first name
-pub returns : goal.returns
-returns c = c.read_more.ensures [] (subst (IsOffSet []) (sym c.new.ensures) no_rules)
