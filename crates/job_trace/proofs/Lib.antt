@@ -5,3 +5,4 @@ pub mod Known
 pub mod Adding
 pub mod Traced
 pub mod CrewLines
+pub mod OneTrace

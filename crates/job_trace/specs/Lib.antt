@@ -7,3 +7,4 @@ pub mod Requests
 pub mod Goals
 pub mod Trace
 pub mod GoalLines
+pub mod Laws

@@ -5,6 +5,7 @@ mod counts;
 mod crew;
 mod goals;
 mod groups;
+mod laws;
 mod members;
 mod memo;
 mod requests;
@@ -13,5 +14,6 @@ mod trace;
 mod tests;
 
 pub use crew::crew_text;
+pub use laws::traces_are_known;
 pub use memo::{memo_text, memos_are_known};
 pub use trace::trace_text;

@@ -3,7 +3,7 @@ pub mod Others
 pub mod Queries
 pub mod Limits
 pub mod Refusals
-pub mod Sections
+pub mod SectionTexts
 pub mod Stages
 pub mod Puts
 pub mod Causes

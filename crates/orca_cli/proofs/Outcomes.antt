@@ -16,7 +16,7 @@ use Rattle.orca_cli.specs.Texts as texts
 use Rattle.orca_cli.specs.declared.status.Status.{Status}
 use Rattle.orca_cli.specs.declared.status.Status.TheVariants.{CatalogRefused}
 use Rattle.orca_cli.proofs.Causes.{told_one, one_catalog, some_catalog}
-use Rattle.orca_cli.proofs.Sections.{OneSections, sections_one}
+use Rattle.orca_cli.proofs.SectionTexts.{OneSections, sections_one}
 use Rattle.orca_cli.proofs.Queries.{OneLinks}
 use Rattle.orca_cli.proofs.Refusals.{OneReading, one_query, never_refused, one_cause}
 
