@@ -23,6 +23,7 @@ pub struct Right {
 }
 
 /// A table of words that changes by single atomic steps, without a lock.
+#[derive(Drop)]
 pub struct Board<R: GoalRules> {
     pub(crate) table: Table<(), Hands<R>, Key<R>, Law, Global>,
     pub(crate) key: Key<R>,

@@ -1,0 +1,14 @@
+pub mod Shown
+pub mod MovesLemmas
+pub mod Putting
+pub mod Ascending
+pub mod OneChild
+pub mod Counting
+pub mod Seeing
+pub mod Passing
+pub mod Settling
+pub mod Rounds
+pub mod Working
+pub mod Children
+pub mod CountLemmas
+pub mod Ending

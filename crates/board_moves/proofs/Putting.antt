@@ -1,0 +1,67 @@
+-- An entry that is put in: looks, and then a look that finds it, or a step that puts it in, or none that can.
+use Rattle.std.proofs.Common.{◌≡◌, ◌≢◌, ℕ, ◌<◌, Bool, true, false, Option, None, Some, List, [], ◌∷◌, ◌++◌, ◌∙◌, refl, sym, ap, subst}
+use Rattle.std.specs.Prelude.{is_some}
+use Rattle.word_table.specs.declared.outcome.Inserted.{Inserted}
+use Rattle.word_table.specs.declared.outcome.Inserted.TheVariants.{Fresh, Known, Full}
+use Rattle.board_rule.specs.Words.{cell_word}
+use Rattle.board_rule.specs.Looks.{Looked}
+use Rattle.board_rule.specs.Seats.{placed, filled}
+use Rattle.board_rule.specs.declared.hands.Hands.{Hands}
+use Rattle.board_rule.specs.Meaning.{Meaning}
+use Rattle.goal_board.specs.Seats.{AreHandsOver}
+use Rattle.goal_board.specs.Calls.{seen, IsSeen, PutsFresh, FindsAt, FindsFull, FindsNone, Finds, Inserts}
+use Rattle.goal_board.proofs.Seen.{looked_later, saw_later}
+use Rattle.board_moves.specs.Moves.{OnlyLooks}
+use Rattle.board_moves.proofs.Shown.{seen_both, seen_twice}
+
+module _ {R : Type 0} (room : ℕ) where
+  pub only_looks_none : (v : Hands R) (word : ℕ) (w : Hands R) → FindsNone room v word w → OnlyLooks v w
+  only_looks_none v word w t = record { more = t.more; looks = t.looks; hands_are = t.hands_are }
+
+  pub only_looks_at : (v : Hands R) (word at : ℕ) (w : Hands R) → FindsAt room v word at w → OnlyLooks v w
+  only_looks_at v word at w t = record { more = t.more; looks = t.looks; hands_are = t.hands_are }
+
+  -- an insert after looks
+  pub inserts_looked : (v : Hands R) (word : ℕ) (u : Hands R) (answer : Inserted) (w : Hands R) → OnlyLooks v u → Inserts room u word answer w → Inserts room v word answer w
+  inserts_looked v word u (Fresh at) w first t = record {
+    near = t.near;
+    more = t.more ++ first.more;
+    looks = seen_both v u first.more ((cell_word at, 0) ∷ t.more) first.hands_are first.looks t.looks;
+    hands_are = t.hands_are ∙ ap (λ (h : Hands R). placed h at word) (seen_twice v u (seen t.more u) first.more t.more first.hands_are refl);
+  }
+  inserts_looked v word u (Known at) w first t = record {
+    near = t.near;
+    more = t.more ++ first.more;
+    looks = seen_both v u first.more t.more first.hands_are first.looks t.looks;
+    stands = looked_later t.more first.more (cell_word at) word t.stands;
+    hands_are = seen_twice v u w first.more t.more first.hands_are t.hands_are;
+  }
+  inserts_looked v word u Full w first t = record {
+    more = t.more ++ first.more;
+    looks = seen_both v u first.more t.more first.hands_are first.looks t.looks;
+    others = λ place near. saw_later t.more first.more word place (t.others place near);
+    hands_are = t.hands_are ∙ ap (λ (h : Hands R). filled h) (seen_twice v u (seen t.more u) first.more t.more first.hands_are refl);
+  }
+
+  pub inserts_after : (v : Hands R) (word : ℕ) (u : Hands R) (answer : Inserted) (w : Hands R) → FindsNone room v word u → Inserts room u word answer w → Inserts room v word answer w
+  inserts_after v word u answer w none t = inserts_looked v word u answer w (only_looks_none v word u none) t
+
+  -- a word that is held was found in a cell
+  pub held_at : (v : Hands R) (word : ℕ) (w : Hands R) → ((found : Option ℕ) × (true ≡ is_some found) × Finds room v word found w) → (at : ℕ) × FindsAt room v word at w
+  held_at v word w (None, is, t) = let bad : ⊥ = cc in absurd bad
+  held_at v word w (Some at, is, t) = (at, t)
+
+  -- and one that isn't was found in none
+  pub held_not : (v : Hands R) (word : ℕ) (w : Hands R) → ((found : Option ℕ) × (false ≡ is_some found) × Finds room v word found w) → FindsNone room v word w
+  held_not v word w (None, is, t) = t
+  held_not v word w (Some at, is, t) = let bad : ⊥ = cc in absurd bad
+
+  pub only_looks_held : (v : Hands R) (word : ℕ) (held : Bool) (w : Hands R) → ((found : Option ℕ) × (held ≡ is_some found) × Finds room v word found w) → OnlyLooks v w
+  only_looks_held v word held w (None, is, t) = only_looks_none v word w t
+  only_looks_held v word held w (Some at, is, t) = only_looks_at v word at w t
+
+  -- what a look found in a cell is an entry
+  pub found_enters : (meaning_of : R → Meaning) (rules : R) (v : Hands R) (word at : ℕ) (w : Hands R) → AreHandsOver meaning_of rules room w → word ≢ 0 → FindsAt room v word at w
+      → (meaning_of rules).entry word
+  found_enters meaning_of rules v word at w over some_word t =
+      over.entries at word t.near (subst (λ (h : Hands R). Looked h.looks (cell_word at) word) (sym t.hands_are) (looked_later t.more v.looks (cell_word at) word t.stands)) some_word

@@ -1,0 +1,41 @@
+-- How far the words of a board are from having all their goals finished: counts over its places, which each turn of a goal brings down.
+use Rattle.std.specs.Prelude.{◌≡◌, ℕ, zero, suc, ◌==◌, ◌+◌, ◌^◌, ◌<◌, ◌≤◌, Bool, not, ◌&&◌, cond, nat_le, List, Option, Some}
+use Rattle.board_rule.specs.Meaning.{Meaning}
+use Rattle.board_rule.specs.Words.{Mem, mem}
+use Rattle.board_rule.specs.declared.hands.Hands.{Hands}
+
+-- at how many of the first places it holds
+abbrev pub number_below : (ℕ → Bool) → ℕ → ℕ
+number_below holds zero = 0
+number_below holds (suc n) = cond (holds n) 1 0 + number_below holds n
+
+-- a goal stands there, and is ready
+abbrev pub has_ready : Meaning → Mem → ℕ → Bool
+has_ready meaning m p = (not (m.cell p == 0) && meaning.goal (m.cell p)) && (m.run p == 0)
+
+abbrev pub has_empty : Mem → ℕ → Bool
+has_empty m p = m.cell p == 0
+
+-- no goal there is finished
+abbrev pub has_open : Mem → ℕ → Bool
+has_open m p = not (nat_le (2 ^ 63) (m.head p))
+
+abbrev pub ready_count : Meaning → ℕ → List ℕ → ℕ
+ready_count meaning room words = number_below (has_ready meaning (mem words)) room
+
+abbrev pub empty_count : ℕ → List ℕ → ℕ
+empty_count room words = number_below (has_empty (mem words)) room
+
+abbrev pub open_count : ℕ → List ℕ → ℕ
+open_count room words = number_below (has_open (mem words)) room
+
+module _ (meaning : Meaning) (room : ℕ) (before after : List ℕ) where
+  -- a goal was finished, or else an empty cell was taken, or else there are no more ready goals than before
+  pub data Advances : Type 0 where
+    finishes : open_count room after < open_count room before → empty_count room after ≤ empty_count room before → Advances
+    fills : open_count room after ≤ open_count room before → empty_count room after < empty_count room before → Advances
+    waits : open_count room after ≤ open_count room before → empty_count room after ≤ empty_count room before → ready_count meaning room after ≤ ready_count meaning room before → Advances
+
+-- a seat that is alone stays so, and its words advance
+abbrev pub AdvancesAlone : {R : Type 0} → Meaning → ℕ → Hands R → Hands R → Type 0
+AdvancesAlone meaning room v w = (kept : List ℕ) → v.alone ≡ Some kept → (words : List ℕ) × (w.alone ≡ Some words) × Advances meaning room kept words

@@ -1,0 +1,6 @@
+pub mod Words
+pub mod Moves
+pub mod Turns
+pub mod Collects
+pub mod Passes
+pub mod Counts

@@ -1,0 +1,75 @@
+ghost use Rattle.std.specs.Prelude.{◌≡◌, ◌≢◌, ℕ, ◌<◌};
+ghost use Rattle.goal_board.specs.Seats.{IsSeatOf, hands};
+ghost use Rattle.goal_board.specs.Calls.{IsRightOf};
+ghost use Rattle.board_moves.specs.Moves.{IsEntryOf};
+ghost use Rattle.board_moves.specs.Passes.{AwaitsFound, AwaitsChildren};
+
+use crate::job::Job;
+use crate::progress::Progress;
+use crate::words::{Members, Words};
+use goal_board::{Board, GoalRules, Hints, Seat};
+
+/// Awaits children of the goal one after the other. False where one of them found every cell taken.
+pub fn await_all<R: GoalRules, W: Words, H: Hints>(
+    board: &Board<R>,
+    seat: &mut Seat<R>,
+    job: &mut Job,
+    children: &W,
+    hints: &mut H,
+) -> bool
+    requires seat { IsSeatOf R.meaning board.now seat.old }
+    requires right { IsRightOf (R.meaning board.now.key.rules) board.now.key.room (hands seat.old) job.old.right }
+    requires words { W.can_next children.now }
+    requires children { (word : ℕ) → W.has children.now word → (R.meaning board.now.key.rules).child job.old.right.goal word }
+    requires hints { H.capacity hints.old ≡ board.now.key.room }
+    ensures seat { IsSeatOf R.meaning board.now seat.new }
+    ensures right { IsRightOf (R.meaning board.now.key.rules) board.now.key.room (hands seat.new) job.new.right }
+    ensures awaits { AwaitsChildren (R.meaning board.now.key.rules) board.now.key.room (hands seat.old) (W.has children.now)
+        job.old.right result (hands seat.new) job.new.right }
+    ensures hints { H.capacity hints.new ≡ H.capacity hints.old }
+{
+    let mut before = None;
+    while let Some(child) = children.next(before) {
+        if let Progress::Full = job.await_child(board, seat, child, hints) {
+            return false;
+        }
+        before = Some(child);
+    }
+    true
+}
+
+/// Awaits the goals of all members that are in cells, and tells how many these are. None where one of the goals found every cell taken.
+pub fn await_found<R: GoalRules, M: Members, H: Hints>(
+    board: &Board<R>,
+    seat: &mut Seat<R>,
+    job: &mut Job,
+    members: &M,
+    hints: &mut H,
+) -> Option<u64>
+    requires seat { IsSeatOf R.meaning board.now seat.old }
+    requires right { IsRightOf (R.meaning board.now.key.rules) board.now.key.room (hands seat.old) job.old.right }
+    requires words { M.can_next members.now }
+    requires some_word { (word : ℕ) → M.has members.now word → word ≢ 0 }
+    requires children { (word : ℕ) → IsEntryOf (R.meaning board.now.key.rules) (M.has members.now) word →
+        (R.meaning board.now.key.rules).child job.old.right.goal (M.goal_of members.now word) }
+    requires hints { H.capacity hints.old ≡ board.now.key.room }
+    ensures seat { IsSeatOf R.meaning board.now seat.new }
+    ensures right { IsRightOf (R.meaning board.now.key.rules) board.now.key.room (hands seat.new) job.new.right }
+    ensures awaits { AwaitsFound (R.meaning board.now.key.rules) board.now.key.room (hands seat.old) (M.has members.now) (M.goal_of members.now)
+        job.old.right result (hands seat.new) job.new.right }
+    ensures hints { H.capacity hints.new ≡ H.capacity hints.old }
+{
+    let mut number = 0;
+    let mut before = None;
+    while let Some(word) = members.next(before) {
+        if board.holds(seat, word) {
+            let goal = members.goal_of(word);
+            if let Progress::Full = job.await_child(board, seat, goal, hints) {
+                return None;
+            }
+            number += 1;
+        }
+        before = Some(word);
+    }
+    Some(number)
+}

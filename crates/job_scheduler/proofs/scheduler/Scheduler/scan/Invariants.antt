@@ -1,0 +1,14 @@
+use Rattle.std.proofs.Common.{◌≡◌, ◌-◌}
+use Rattle.goal_board.specs.Seats.{hands}
+use Rattle.job_scheduler.specs.Workers.{IsWorkerOf}
+use Rattle.job_scheduler.specs.Claims.{FindsAllBusy}
+use Rattle.job_scheduler.proofs.scheduler.Scheduler.scan.Given as goal
+
+-- the worker is the same, and found all places so far busy
+abbrev pub invariant-loop-at : goal.invariant-loop-at
+invariant-loop-at g l = IsWorkerOf g.R.GoalRules.meaning l.self.board l.self.root l.self.goal l.worker
+    × (l.worker.number ≡ l.initial.worker.number)
+    × FindsAllBusy (g.R.GoalRules.meaning l.self.board.key.rules) l.self.board.key.room (hands l.initial.worker.seat) l.from l.at (hands l.worker.seat)
+
+abbrev pub decreases-loop-at : goal.decreases-loop-at
+decreases-loop-at g l = l.to - l.at

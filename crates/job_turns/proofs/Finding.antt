@@ -1,0 +1,98 @@
+-- Choices that were found, one after the other.
+use Rattle.std.proofs.Common.{◌≡◌, ◌⊎◌, ℕ, ◌+◌, ◌<◌, ◌≤◌, Option, None, Some, List, [], refl, sym, subst, inl, inr, ⊎_elim, arith}
+use Rattle.query_core.specs.declared.query.Query.{Query}
+use Rattle.board_rule.specs.declared.hands.Hands.{Hands}
+use Rattle.board_rule.specs.Looks.{ShowsFinished}
+use Rattle.goal_board.specs.declared.board.Right.{Right}
+use Rattle.best_answers.specs.Answers.{lesser}
+use Rattle.best_answers.specs.declared.best.Best.{Best}
+use Rattle.board_moves.specs.Moves.{OnlyLooks, Proceeds, RunsOut}
+use Rattle.board_moves.proofs.Shown.{still_finished, later_looked}
+use Rattle.board_moves.proofs.MovesLemmas.{moves_looks, proceeds_moved, proceeds_then}
+use Rattle.goal_space.specs.Words.{goal_word}
+use Rattle.goal_space.specs.Entries.{IsChildWord}
+use Rattle.goal_space.specs.declared.goals.GoalKind.{GoalKind}
+use Rattle.goal_rules.specs.Meaning.{meaning_of}
+use Rattle.goal_rules.specs.declared.rules.Rules.{Rules}
+use Rattle.job_turns.specs.Works.{HasAwaited}
+use Rattle.job_turns.specs.Choices.{choice_of_both, IsChoice, FindsChoice, Chooses}
+use Rattle.job_turns.specs.declared.choice.Choice.{Choice}
+use Rattle.job_turns.specs.declared.choice.Choice.TheVariants.{Known, Open}
+use Rattle.job_turns.proofs.Awaited.{has_none, has_others, has_both, runs_out_after}
+
+-- what is known of one answer and then of another is known of both
+both_known : (IsFirst IsOther IsBoth : Option Best → Type 0) → ((first second : Option Best) → IsFirst first → IsOther second → IsBoth (lesser first second))
+    → (middle after : Right) → middle.waits ≤ after.waits → (one other : Choice) → IsChoice IsFirst middle one → IsChoice IsOther after other → IsChoice IsBoth after (choice_of_both one other)
+both_known IsFirst IsOther IsBoth joins middle after more (Known first) (Known second) is also = joins first second is also
+both_known IsFirst IsOther IsBoth joins middle after more (Known first) Open is also = also
+both_known IsFirst IsOther IsBoth joins middle after more Open other is also = omega arith
+
+-- what is known of an answer is known by another word
+other_known : (Is IsOther : Option Best → Type 0) → ((best : Option Best) → Is best → IsOther best) → (right : Right) (choice : Choice) → IsChoice Is right choice → IsChoice IsOther right choice
+other_known Is IsOther others right (Known best) is = others best is
+other_known Is IsOther others right Open is = is
+
+module _ (q : Query) (room : ℕ) (v : Hands Rules) (before : Right) where
+  -- nothing was to be awaited
+  pub finds_none : (Wanted : GoalKind → Type 0) (Is : Option Best → Type 0) → ((child : GoalKind) → Wanted child → ⊥) → (best : Option Best) → Is best → FindsChoice q room v before Wanted Is (Known best) v before
+  finds_none Wanted Is none best is = record { awaited = has_none q room v before Wanted none; is = is }
+
+  -- others are wanted, all of which were awaited, and the answer is told otherwise
+  pub finds_others : (Wanted Others : GoalKind → Type 0) (Is IsOther : Option Best → Type 0) → ((child : GoalKind) → Others child → Wanted child) → ((best : Option Best) → Is best → IsOther best)
+      → (choice : Choice) (w : Hands Rules) (after : Right) → FindsChoice q room v before Wanted Is choice w after → FindsChoice q room v before Others IsOther choice w after
+  finds_others Wanted Others Is IsOther within others choice w after t = record {
+    awaited = has_others q room v before Wanted Others within w after t.awaited;
+    is = other_known Is IsOther others after choice t.is;
+  }
+
+  pub chooses_others : (Wanted Others : GoalKind → Type 0) (Is IsOther : Option Best → Type 0) → ((child : GoalKind) → Others child → Wanted child) → ((best : Option Best) → Is best → IsOther best)
+      → (found : Option Choice) (w : Hands Rules) (after : Right) → Chooses q room v before Wanted Is found w after → Chooses q room v before Others IsOther found w after
+  chooses_others Wanted Others Is IsOther within others (Some choice) w after t = finds_others Wanted Others Is IsOther within others choice w after t
+  chooses_others Wanted Others Is IsOther within others None w after t = t
+
+  -- a choice, and then another
+  pub finds_both : (First Others : GoalKind → Type 0) (IsFirst IsOther IsBoth : Option Best → Type 0) → ((first second : Option Best) → IsFirst first → IsOther second → IsBoth (lesser first second))
+      → (one other : Choice) (u : Hands Rules) (middle : Right) (w : Hands Rules) (after : Right) → FindsChoice q room v before First IsFirst one u middle → FindsChoice q room u middle Others IsOther other w after
+      → FindsChoice q room v before (λ child. First child ⊎ Others child) IsBoth (choice_of_both one other) w after
+  finds_both First Others IsFirst IsOther IsBoth joins one other u middle w after a b = record {
+    awaited = has_both q room v before First Others u middle w after a.awaited b.awaited;
+    is = both_known IsFirst IsOther IsBoth joins middle after (let more = b.awaited.proceeds.more_waits in omega arith) one other a.is b.is;
+  }
+
+  -- a choice, and then looks alone
+  pub finds_looked : (Wanted : GoalKind → Type 0) (Is : Option Best → Type 0) (choice : Choice) (u : Hands Rules) (middle : Right) (w : Hands Rules) → FindsChoice q room v before Wanted Is choice u middle → OnlyLooks u w
+      → FindsChoice q room v before Wanted Is choice w middle
+  finds_looked Wanted Is choice u middle w t looks =
+      let Adds = IsChildWord q before.goal in
+      let on : Proceeds Adds u middle w middle = proceeds_moved Adds u middle w [] tt (moves_looks middle.place u w looks) in
+      record {
+        awaited = record {
+          proceeds = proceeds_then Adds v before u middle w middle t.awaited.proceeds on;
+          finished = λ none child is. still_finished (meaning_of q) room u.looks w.looks (later_looked u w looks) (goal_word child) (t.awaited.finished none child is);
+        };
+        is = t.is;
+      }
+
+  -- a choice, and then a goal found no cell
+  pub chooses_none : (First : GoalKind → Type 0) (Is : Option Best → Type 0) (choice : Choice) (u : Hands Rules) (middle : Right) (w : Hands Rules) (after : Right) → FindsChoice q room v before First Is choice u middle
+      → RunsOut (IsChildWord q middle.goal) u middle room w after → RunsOut (IsChildWord q before.goal) v before room w after
+  chooses_none First Is choice u middle w after t out = runs_out_after q room v before First u middle w after t.awaited out
+
+  -- two choices, from which a third is made
+  pub finds_two : (First Others Wanted : GoalKind → Type 0) (IsFirst IsOther Is : Option Best → Type 0) → ((child : GoalKind) → Wanted child → First child ⊎ Others child) → (one other : Choice) (u : Hands Rules) (middle : Right) (w : Hands Rules) (after : Right)
+      → FindsChoice q room v before First IsFirst one u middle → FindsChoice q room u middle Others IsOther other w after → (choice : Choice) → IsChoice Is after choice → FindsChoice q room v before Wanted Is choice w after
+  finds_two First Others Wanted IsFirst IsOther Is within one other u middle w after a b choice is = record {
+    awaited = has_others q room v before (λ child. First child ⊎ Others child) Wanted within w after (has_both q room v before First Others u middle w after a.awaited b.awaited);
+    is = is;
+  }
+
+  -- goals that were awaited, and then a choice
+  pub chooses_after : (First Others : GoalKind → Type 0) (Is : Option Best → Type 0) (u : Hands Rules) (middle : Right) (found : Option Choice) (w : Hands Rules) (after : Right) → HasAwaited q room v before First u middle
+      → Chooses q room u middle Others Is found w after → Chooses q room v before (λ child. First child ⊎ Others child) Is found w after
+  chooses_after First Others Is u middle (Some choice) w after first t = record { awaited = has_both q room v before First Others u middle w after first t.awaited; is = t.is }
+  chooses_after First Others Is u middle None w after first t = runs_out_after q room v before First u middle w after first t
+
+  -- a choice, from which another is made
+  pub finds_told : (Wanted Others : GoalKind → Type 0) (Is IsOther : Option Best → Type 0) → ((child : GoalKind) → Others child → Wanted child) → (one : Choice) (w : Hands Rules) (after : Right)
+      → FindsChoice q room v before Wanted Is one w after → (choice : Choice) → IsChoice IsOther after choice → FindsChoice q room v before Others IsOther choice w after
+  finds_told Wanted Others Is IsOther within one w after t choice is = record { awaited = has_others q room v before Wanted Others within w after t.awaited; is = is }

@@ -1,0 +1,29 @@
+-- A goal that is an entry is a goal of the query.
+use Rattle.std.proofs.Common.{◌≡◌, ◌↔◌, ℕ, ◌^◌, ◌<◌, ◌≤◌, Option, None, Some, IsTrue, nat_le, refl, sym, ap, subst, ◌∙◌, inl, inr, arith}
+use Rattle.query_core.specs.Expressions.{word_of, IsCandidate, IsPacked}
+use Rattle.query_core.specs.declared.query.Query.{Query}
+use Rattle.query_core.specs.declared.expressions.ExprParts.{ExprParts}
+use Rattle.xform_rules.specs.Closure.{IsMember}
+use Rattle.goal_space.specs.Words.{goal_word, IsInRange, HasWord}
+use Rattle.goal_space.specs.Entries.{NamesGoal, IsEntry, IsGoalWord}
+use Rattle.goal_space.specs.Laws.{GoalsHaveWords}
+use Rattle.goal_space.specs.declared.goals.GoalKind.{GoalKind}
+use Rattle.job_turns.specs.Laws.{IsSmall}
+
+module _ (q : Query) where
+  -- the word of a member has 48 bits, and that of a goal 63 at least
+  pub held_goal : ((e : ExprParts) → IsMember q e → word_of e < 2 ^ 48) → (word : ℕ) → IsEntry q word → 2 ^ 63 ≤ word → IsGoalWord q word
+  held_goal small word (inl (e, member, is)) high = let low = small e member in absurd (omega arith)
+  held_goal small word (inr named) high = named
+
+  -- the goal of a word that is told
+  pub kind_is : GoalsHaveWords q → IsSmall q → (word : ℕ) → IsGoalWord q word → (found : Option GoalKind) → ((k : GoalKind) → HasWord k word ↔ (found ≡ Some k)) → (goal : GoalKind) × NamesGoal q word goal × (found ≡ Some goal)
+  kind_is words small word (goal, names) found exact = (goal, names, (exact goal).0 (record { in_range = words small.few_lists small.few_orders goal names.is_goal; number = names.number }))
+
+-- an option is not both
+pub not_both : (found : Option GoalKind) (k : GoalKind) → found ≡ None → found ≡ Some k → ⊥
+not_both found k none some = let bad : ⊥ = cc in bad
+
+-- what is told is the goal that the word names
+pub names_told : (q : Query) (word : ℕ) (found : Option GoalKind) (told : GoalKind) → found ≡ Some told → ((k : GoalKind) × NamesGoal q word k × (found ≡ Some k)) → NamesGoal q word told
+names_told q word found told is (k, names, also) = let same : k ≡ told = cc in subst (λ (x : GoalKind). NamesGoal q word x) same names

@@ -1,0 +1,87 @@
+-- What the enforcer asks of the same group was awaited, or no enforcer is there.
+use Rattle.std.proofs.Common.{◌≡◌, ℕ, Option, None, Some, refl, sym, ap, subst, inr}
+use Rattle.std.specs.Prelude.{slice_get}
+use Rattle.request_props.specs.declared.request.Request.{Request}
+use Rattle.plan_space.specs.Enforcers.{EnforcedBy, enforcers_of}
+use Rattle.plan_tree.specs.Enforcers.{IsEnforced}
+use Rattle.best_answers.specs.Best.{IsBest}
+use Rattle.best_answers.specs.Nodes.{all_nodes}
+use Rattle.goal_board.specs.Seats.{hands}
+use Rattle.goal_space.specs.Answers.{IsAnswerTo}
+use Rattle.goal_space.specs.declared.goals.GoalKind.TheVariants.{Opt}
+use Rattle.job_turns.specs.Choices.{FindsChoice, IsChoice}
+use Rattle.job_turns.specs.Requests.{IsEnforcerGoalAt, enforcer_at, enforcer_alone}
+use Rattle.job_turns.specs.declared.choice.Choice.{Choice}
+use Rattle.job_turns.specs.declared.choice.Choice.TheVariants.{Known, Open}
+use Rattle.job_turns.proofs.Finding.{finds_none, finds_told}
+use Rattle.job_turns.proofs.Enforced.{IsFoundAt, found_at, goal_found, no_goal, no_node}
+use Rattle.job_turns.proofs.enforcers.await_enforcer.Goals as goal
+
+pub enforcer_for-requires-clause-known : goal.enforcer_for-requires-clause-known
+enforcer_for-requires-clause-known g c = c.goals_are_known.ensures.candidates c.args.query.now (Opt c.args.group c.args.wanted) c.requires.goal.is_goal
+
+pub enforcer_for-requires-clause-fits : goal.enforcer_for-requires-clause-fits
+enforcer_for-requires-clause-fits g c = c.goals_are_known.ensures.requests c.args.query.now (Opt c.args.group c.args.wanted) c.requires.goal.is_goal
+
+pub await_choice-requires-clause-child : goal.await_choice-requires-clause-child
+await_choice-requires-clause-child g c =
+    let q = c.args.query.now in
+    let group = c.args.group in
+    let wanted = c.args.wanted in
+    let fits = c.goals_are_known.ensures.requests q (Opt group wanted) c.requires.goal.is_goal in
+    let found = found_at q group wanted c.args.place fits c.in-Some.enforced c.in-Some.ensures in
+    (Opt group wanted, c.requires.goal, inr (inr (found.e, found.can, ap (λ (r : Request). Opt group r) found.is.is.1)))
+
+pub best_of_enforcer-best-requires-clause-known : goal.best_of_enforcer-best-requires-clause-known
+best_of_enforcer-best-requires-clause-known g c = c.goals_are_known.ensures.candidates c.args.query.now (Opt c.args.group c.args.wanted) c.requires.goal.is_goal
+
+pub best_of_enforcer-best-requires-clause-fits : goal.best_of_enforcer-best-requires-clause-fits
+best_of_enforcer-best-requires-clause-fits g c = c.goals_are_known.ensures.requests c.args.query.now (Opt c.args.group c.args.wanted) c.requires.goal.is_goal
+
+pub best_of_enforcer-best-requires-clause-enforced : goal.best_of_enforcer-best-requires-clause-enforced
+best_of_enforcer-best-requires-clause-enforced g c =
+    let q = c.args.query.now in
+    let group = c.args.group in
+    let wanted = c.args.wanted in
+    let fits = c.goals_are_known.ensures.requests q (Opt group wanted) c.requires.goal.is_goal in
+    let found = found_at q group wanted c.args.place fits c.in-Some.enforced c.in-Some.ensures in
+    (found.e, found.is)
+
+pub best_of_enforcer-best-requires-clause-below : goal.best_of_enforcer-best-requires-clause-below
+best_of_enforcer-best-requires-clause-below g c =
+    subst (IsChoice (IsAnswerTo c.args.query.now (Opt c.args.group c.in-Some.enforced.below)) c.await_choice.new.job.right) c.in-Known.is c.in_ok-found-in-Some.ensures.chooses.is
+
+pub returns-in-Known-clause-chooses : goal.returns-in-Known-clause-chooses
+returns-in-Known-clause-chooses g c =
+    let q = c.args.query.now in
+    let b = c.args.board.now in
+    let group = c.args.group in
+    let wanted = c.args.wanted in
+    let fits = c.goals_are_known.ensures.requests q (Opt group wanted) c.requires.goal.is_goal in
+    let found = found_at q group wanted c.args.place fits c.in-Some.enforced c.in-Some.ensures in
+    finds_told q b.key.room (hands c.args.seat.now) c.args.job.now.right (λ goal. goal ≡ Opt group c.in-Some.enforced.below) (IsEnforcerGoalAt group wanted c.args.place) (IsAnswerTo q (Opt group c.in-Some.enforced.below))
+    (IsBest q group wanted (enforcer_at wanted c.args.place)) (goal_found q group wanted c.args.place c.in-Some.enforced found) c.in_ok-found-in-Some.found (hands c.await_choice.new.seat) c.await_choice.new.job.right c.in_ok-found-in-Some.ensures.chooses
+    (Known c.best_of_enforcer-best.result)
+    (subst (λ (there : Option EnforcedBy). IsBest q group wanted (enforcer_alone there) c.best_of_enforcer-best.result) (sym found.is_there) (c.best_of_enforcer-best.ensures found.e found.is))
+
+pub returns-in-Open-clause-chooses : goal.returns-in-Open-clause-chooses
+returns-in-Open-clause-chooses g c =
+    let q = c.args.query.now in
+    let b = c.args.board.now in
+    let group = c.args.group in
+    let wanted = c.args.wanted in
+    let fits = c.goals_are_known.ensures.requests q (Opt group wanted) c.requires.goal.is_goal in
+    let found = found_at q group wanted c.args.place fits c.in-Some.enforced c.in-Some.ensures in
+    finds_told q b.key.room (hands c.args.seat.now) c.args.job.now.right (λ goal. goal ≡ Opt group c.in-Some.enforced.below) (IsEnforcerGoalAt group wanted c.args.place) (IsAnswerTo q (Opt group c.in-Some.enforced.below))
+    (IsBest q group wanted (enforcer_at wanted c.args.place)) (goal_found q group wanted c.args.place c.in-Some.enforced found) c.in_ok-found-in-Some.found (hands c.await_choice.new.seat) c.await_choice.new.job.right c.in_ok-found-in-Some.ensures.chooses
+    Open (subst (IsChoice (IsAnswerTo q (Opt group c.in-Some.enforced.below)) c.await_choice.new.job.right) c.in-Open.is c.in_ok-found-in-Some.ensures.chooses.is)
+
+pub returns-in-None-clause-chooses : goal.returns-in-None-clause-chooses
+returns-in-None-clause-chooses g c =
+    let q = c.args.query.now in
+    let b = c.args.board.now in
+    let group = c.args.group in
+    let wanted = c.args.wanted in
+    let none = c.in-None.ensures in
+    finds_none q b.key.room (hands c.args.seat.now) c.args.job.now.right (IsEnforcerGoalAt group wanted c.args.place) (IsBest q group wanted (enforcer_at wanted c.args.place)) (no_goal q group wanted c.args.place none) None
+    (subst (λ (there : Option EnforcedBy). IsBest q group wanted (enforcer_alone there) None) (sym (no_node q group wanted c.args.place none)) (c.answers_are_best.ensures.none q group wanted))

@@ -1,0 +1,27 @@
+-- The order of candidates is that of their words.
+use Rattle.std.proofs.Common.{Option, None, Some, sym, subst}
+use Rattle.std.specs.Prelude.{MatchOption}
+use Rattle.query_core.specs.Keys.{IsKey, Names}
+use Rattle.query_core.specs.Candidates.{IsNext, IsLast}
+use Rattle.query_core.specs.declared.words.Expr.{Expr}
+use Rattle.job_turns.proofs.Held.{as_expr, next_word, last_word}
+use Rattle.job_turns.proofs.members.next_candidate.Goals as goal
+
+pub make-requires : goal.make-requires
+make-requires c = c.groups_are_known.ensures.in_range c.args.query.now c.args.group c.requires
+
+pub next_candidate-requires : goal.next_candidate-requires
+next_candidate-requires c = (c.args.group, record { number = c.make.ensures.number; known = c.requires })
+
+pub returns-in-Some : goal.returns-in-Some
+returns-in-Some c =
+    let q = c.args.query.now in
+    let named : Names q c.make.result c.args.group = record { number = c.make.ensures.number; known = c.requires } in
+    next_word q c.args.group c.args.before c.in-Some.next.0
+    (subst (λ (before : Option Expr). IsNext q c.args.group before c.in-Some.next.0) c.as_expr.ensures (c.in-Some.ensures c.args.group named))
+
+pub returns-in-None : goal.returns-in-None
+returns-in-None c =
+    let q = c.args.query.now in
+    let named : Names q c.make.result c.args.group = record { number = c.make.ensures.number; known = c.requires } in
+    last_word q c.args.group c.args.before (subst (IsLast q c.args.group) c.as_expr.ensures (c.in-None.ensures c.args.group named))

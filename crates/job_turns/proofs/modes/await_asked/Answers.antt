@@ -1,0 +1,42 @@
+-- Something is asked of the group of a key, or nothing.
+use Rattle.std.proofs.Common.{◌≡◌, Option, None, Some, sym, subst}
+use Rattle.query_core.specs.Keys.{IsKey}
+use Rattle.query_core.specs.declared.words.Key.{Key}
+use Rattle.request_props.specs.declared.request.Request.{Request}
+use Rattle.best_answers.specs.Best.{IsBestAsked}
+use Rattle.goal_board.specs.Seats.{hands}
+use Rattle.goal_space.specs.Answers.{IsAnswerTo}
+use Rattle.goal_space.specs.declared.goals.GoalKind.TheVariants.{Opt}
+use Rattle.job_turns.specs.Choices.{Chooses, IsAskedByChild, IsGoalAsked}
+use Rattle.job_turns.specs.declared.choice.Choice.TheVariants.{Known}
+use Rattle.job_turns.proofs.Finding.{finds_none, chooses_others}
+use Rattle.job_turns.proofs.Tried.{goal_of_key, best_of_key, child_of_key}
+use Rattle.job_turns.proofs.modes.await_asked.Goals as goal
+
+pub group-requires : goal.group-requires
+group-requires g c =
+    let asked = subst (IsAskedByChild c.args.query.now c.args.job.now.right.goal) c.in-Some.is c.requires.asked in (asked.0, asked.1)
+
+pub await_choice-requires-clause-child : goal.await_choice-requires-clause-child
+await_choice-requires-clause-child g c =
+    let asked = subst (IsAskedByChild c.args.query.now c.args.job.now.right.goal) c.in-Some.is c.requires.asked in
+    child_of_key c.args.query.now c.in-Some.key c.in-Some.wanted c.group.result c.group.ensures.only c.args.job.now.right.goal asked
+
+pub returns-in-Some-clause-chooses : goal.returns-in-Some-clause-chooses
+returns-in-Some-clause-chooses g c =
+    let q = c.args.query.now in
+    let b = c.args.board.now in
+    let key = c.in-Some.key in
+    let wanted = c.in-Some.wanted in
+    let group = c.group.result in
+    subst (λ (asked : Option (Key × Request)). Chooses q b.key.room (hands c.args.seat.now) c.args.job.now.right (IsGoalAsked q asked) (IsBestAsked q asked) c.await_choice.result (hands c.await_choice.new.seat) c.await_choice.new.job.right) (sym c.in-Some.is)
+    (chooses_others q b.key.room (hands c.args.seat.now) c.args.job.now.right (λ goal. goal ≡ Opt group wanted) (IsGoalAsked q (Some (key, wanted))) (IsAnswerTo q (Opt group wanted)) (IsBestAsked q (Some (key, wanted)))
+    (goal_of_key q key wanted group c.group.ensures.only) (best_of_key q key wanted group c.group.ensures.only) c.await_choice.result (hands c.await_choice.new.seat) c.await_choice.new.job.right c.await_choice.ensures.chooses)
+
+pub returns-in-None-clause-chooses : goal.returns-in-None-clause-chooses
+returns-in-None-clause-chooses g c =
+    let q = c.args.query.now in
+    let b = c.args.board.now in
+    let none : Option (Key × Request) = None in
+    subst (λ (asked : Option (Key × Request)). Chooses q b.key.room (hands c.args.seat.now) c.args.job.now.right (IsGoalAsked q asked) (IsBestAsked q asked) (Some (Known None)) (hands c.args.seat.now) c.args.job.now.right) (sym c.in-None.is)
+    (finds_none q b.key.room (hands c.args.seat.now) c.args.job.now.right (IsGoalAsked q none) (IsBestAsked q none) (λ child is. is.2) None tt)

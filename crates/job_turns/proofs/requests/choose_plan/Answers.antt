@@ -1,0 +1,86 @@
+-- The group's implementation was awaited, and then its members and the enforcers.
+use Rattle.std.proofs.Common.{◌≡◌, ◌⊎◌, ◌≤◌, ℕ, None, Some, refl, sym, subst, inl, arith}
+use Rattle.best_answers.specs.Best.{IsBest}
+use Rattle.best_answers.specs.Nodes.{all_nodes}
+use Rattle.board_moves.specs.declared.progress.Progress.TheVariants as progress
+use Rattle.goal_board.specs.Seats.{hands}
+use Rattle.goal_space.specs.Goals.{child_goal}
+use Rattle.goal_space.specs.Entries.{NamesGoal, IsChildWord}
+use Rattle.goal_space.specs.declared.goals.GoalKind.{GoalKind}
+use Rattle.goal_space.specs.declared.goals.GoalKind.TheVariants.{Imp, Opt}
+use Rattle.job_turns.specs.Requests.{IsPlanGoal, IsEnforcerGoal, first_enforcers}
+use Rattle.job_turns.proofs.Awaited.{has_one}
+use Rattle.job_turns.proofs.Finding.{chooses_after}
+use Rattle.job_turns.proofs.Chosen.{works_chosen, works_waiting, works_full}
+use Rattle.job_turns.proofs.requests.choose_plan.Goals as goal
+
+pub await_goal-requires-clause-child : goal.await_goal-requires-clause-child
+await_goal-requires-clause-child g c = (Opt c.args.group c.args.wanted, c.requires.goal, inl refl)
+
+pub best_plan-found-requires-clause-goal : goal.best_plan-found-requires-clause-goal
+best_plan-found-requires-clause-goal g c = subst (λ (word : ℕ). NamesGoal c.args.query.now word (Opt c.args.group c.args.wanted)) (sym c.in-Complete.ensures.awaits.0.same_goal) c.requires.goal
+
+pub best_plan-found-requires-clause-implemented : goal.best_plan-found-requires-clause-implemented
+best_plan-found-requires-clause-implemented g c = record {
+  is_goal = child_goal (Opt c.args.group c.args.wanted) (Imp c.args.group) c.requires.goal.is_goal (inl refl);
+  finished = c.in-Complete.ensures.awaits.2.finished;
+}
+
+pub returns-in-Complete-clause-works : goal.returns-in-Complete-clause-works
+returns-in-Complete-clause-works g c =
+    let q = c.args.query.now in
+    let b = c.args.board.now in
+    let group = c.args.group in
+    let wanted = c.args.wanted in
+    let v = hands c.args.seat.now in
+    let start = c.args.job.now.right in
+    let u = hands c.await_goal.new.seat in
+    let middle = c.await_goal.new.job.right in
+    let w = hands c.best_plan-found.new.seat in
+    let after = c.best_plan-found.new.job.right in
+    let first = has_one q b.key.room v start (Imp group) (progress.Complete c.in-Complete.field-0) u middle (λ full. let bad : ⊥ = cc in bad) c.in-Complete.ensures.awaits in
+    works_chosen q b.key.room c.requires.board.small (c.words_are_known.ensures.children q) (c.words_are_known.ensures.asked q) (Opt group wanted) (λ e asks. asks) v start c.requires.goal c.best_plan-found.result w after c.progress_of.result
+    (chooses_after q b.key.room v start (λ goal. goal ≡ Imp group) (IsPlanGoal q group wanted) (IsBest q group wanted all_nodes) u middle c.best_plan-found.result w after first c.best_plan-found.ensures.chooses) c.progress_of.ensures
+
+pub best_enforcer-requires-clause-goal : goal.best_enforcer-requires-clause-goal
+best_enforcer-requires-clause-goal g c = subst (λ (word : ℕ). NamesGoal c.args.query.now word (Opt c.args.group c.args.wanted)) (sym c.in-Waiting.ensures.awaits.0.same_goal) c.requires.goal
+
+pub returns-in-Some-clause-works : goal.returns-in-Some-clause-works
+returns-in-Some-clause-works g c =
+    let q = c.args.query.now in
+    let b = c.args.board.now in
+    let group = c.args.group in
+    let wanted = c.args.wanted in
+    let v = hands c.args.seat.now in
+    let start = c.args.job.now.right in
+    let u = hands c.await_goal.new.seat in
+    let middle = c.await_goal.new.job.right in
+    let w = hands c.best_enforcer.new.seat in
+    let after = c.best_enforcer.new.job.right in
+    let first = has_one q b.key.room v start (Imp group) progress.Waiting u middle (λ full. let bad : ⊥ = cc in bad) c.in-Waiting.ensures.awaits in
+    let both = chooses_after q b.key.room v start (λ goal. goal ≡ Imp group) (IsEnforcerGoal q group wanted) (IsBest q group wanted (first_enforcers wanted)) u middle (Some c.in-Some.field-0) w after first c.in-Some.ensures.chooses in
+    let more = c.in-Some.ensures.chooses.awaited.proceeds.more_waits in
+    let waits = c.in-Waiting.ensures.awaits.1 in
+    works_waiting q b.key.room c.requires.board.small (c.words_are_known.ensures.children q) (c.words_are_known.ensures.asked q) (Opt group wanted) (λ e asks. asks) v start c.requires.goal w after both.awaited.proceeds (omega arith)
+
+pub returns-in-None-clause-works : goal.returns-in-None-clause-works
+returns-in-None-clause-works g c =
+    let q = c.args.query.now in
+    let b = c.args.board.now in
+    let group = c.args.group in
+    let wanted = c.args.wanted in
+    let v = hands c.args.seat.now in
+    let start = c.args.job.now.right in
+    let u = hands c.await_goal.new.seat in
+    let middle = c.await_goal.new.job.right in
+    let w = hands c.best_enforcer.new.seat in
+    let after = c.best_enforcer.new.job.right in
+    let first = has_one q b.key.room v start (Imp group) progress.Waiting u middle (λ full. let bad : ⊥ = cc in bad) c.in-Waiting.ensures.awaits in
+    works_full q b.key.room c.requires.board.small (c.words_are_known.ensures.children q) (c.words_are_known.ensures.asked q) (Opt group wanted) (λ e asks. asks) v start c.requires.goal w after
+    (chooses_after q b.key.room v start (λ goal. goal ≡ Imp group) (IsEnforcerGoal q group wanted) (IsBest q group wanted (first_enforcers wanted)) u middle None w after first c.in-None.ensures.chooses)
+
+pub returns-in-Full-clause-works : goal.returns-in-Full-clause-works
+returns-in-Full-clause-works g c =
+    let q = c.args.query.now in
+    works_full q c.args.board.now.key.room c.requires.board.small (c.words_are_known.ensures.children q) (c.words_are_known.ensures.asked q) (Opt c.args.group c.args.wanted) (λ e asks. asks) (hands c.args.seat.now) c.args.job.now.right c.requires.goal
+    (hands c.await_goal.new.seat) c.await_goal.new.job.right c.in-Full.ensures.awaits

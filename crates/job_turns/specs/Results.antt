@@ -1,0 +1,32 @@
+-- What rules bring, with a bound member or without one.
+use Rattle.std.specs.Prelude.{◌≡◌, ℕ, ◌<◌, Option, Some}
+use Rattle.query_core.specs.Expressions.{children_of}
+use Rattle.query_core.specs.declared.query.Query.{Query}
+use Rattle.query_core.specs.declared.expressions.ExprParts.{ExprParts}
+use Rattle.query_core.specs.declared.words.KeyParts.{KeyParts}
+use Rattle.xform_rules.specs.Closure.{IsMember}
+use Rattle.xform_rules.specs.Results.{HasResult}
+use Rattle.xform_rules.specs.declared.rules.Rule.{Rule}
+use Rattle.xform_rules.specs.declared.rules.Rule.TheVariants.{JoinAssociate}
+use Rattle.goal_space.specs.Children.{IsLeft, IsLogicalIn}
+use Rattle.goal_space.specs.Asked.{IsBroughtBy}
+
+-- the n-th result, or the origin of a group that it stands on
+abbrev pub IsBroughtAt : Query → Rule → ExprParts → Option ExprParts → ℕ → ExprParts → Type 0
+IsBroughtAt q rule e bound n other = (found : ExprParts) × HasResult q rule e bound n found × IsBroughtBy q found other
+
+-- the same of some result
+abbrev pub IsBroughtWith : Query → Rule → ExprParts → Option ExprParts → ExprParts → Type 0
+IsBroughtWith q rule e bound other = (n : ℕ) × IsBroughtAt q rule e bound n other
+
+-- the same of a result below the n-th
+abbrev pub IsBroughtBelow : Query → Rule → ExprParts → Option ExprParts → ℕ → ExprParts → Type 0
+IsBroughtBelow q rule e bound below other = (n : ℕ) × (n < below) × IsBroughtAt q rule e bound n other
+
+-- the same with some logical member of the group bound
+abbrev pub IsBroughtFrom : Query → Rule → ExprParts → KeyParts → ExprParts → Type 0
+IsBroughtFrom q rule e group other = (bound : ExprParts) × IsLogicalIn (IsMember q) group bound × IsBroughtWith q rule e (Some bound) other
+
+-- the rule binds a member of the left child's group, which is this one
+abbrev pub IsLeftOf : ExprParts → Rule → KeyParts → Type 0
+IsLeftOf e rule group = (rule ≡ JoinAssociate) × IsLeft (children_of e.operator) group

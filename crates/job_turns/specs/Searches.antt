@@ -1,0 +1,30 @@
+-- The board of a query's search, its seats and rights.
+use Rattle.std.specs.Prelude.{◌≡◌}
+use Rattle.query_core.specs.declared.query.Query.{Query}
+use Rattle.board_rule.specs.Meaning.{Meaning}
+use Rattle.board_rule.specs.declared.hands.Hands.{Hands}
+use Rattle.goal_board.specs.declared.board.Board.{Board}
+use Rattle.goal_board.specs.declared.board.Seat.{Seat}
+use Rattle.goal_board.specs.declared.board.Right.{Right}
+use Rattle.goal_board.specs.Seats.{IsSeatOf, hands}
+use Rattle.goal_board.specs.Calls.{IsRightOf}
+use Rattle.goal_rules.specs.declared.rules.Rules.{Rules}
+use Rattle.goal_rules.specs.Meaning.{meaning_of}
+use Rattle.job_turns.specs.Laws.{IsSmall}
+
+-- what the rules of a search mean
+abbrev pub rules_mean : Rules → Meaning
+rules_mean rules = meaning_of rules.query.now
+
+-- the board's rules are those of the query, which has at most 60 hashed lists and orders
+pub record IsBoardOf (q : Query) (b : Board Rules) : Type 0 where
+  pub same_query : b.key.rules.query.now ≡ q
+  pub small : IsSmall q
+
+-- the seat is one of this board
+abbrev pub IsSeat : Board Rules → Seat Rules → Type 0
+IsSeat b s = IsSeatOf rules_mean b s
+
+-- the seat has the right
+abbrev pub HasRight : Board Rules → Seat Rules → Right → Type 0
+HasRight b s right = IsRightOf (rules_mean b.key.rules) b.key.room (hands s) right

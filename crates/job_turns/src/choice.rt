@@ -1,0 +1,122 @@
+//! What is known of the best plan for a request while its goal is at work.
+#![tactic(auto)]
+
+ghost use Rattle.std.specs.Prelude.{◌≡◌, ◌<◌, ◌-◌, ◌^◌, Option, IfSome};
+ghost use Rattle.query_core.specs.declared.query.Query.{Query as AnyQuery};
+ghost use Rattle.goal_board.specs.Seats.{hands};
+ghost use Rattle.goal_space.specs.Answers.{IsAnswerTo};
+ghost use Rattle.goal_rules.specs.Answers.{AreWordsOf};
+ghost use Rattle.best_answers.specs.declared.best.Best.{Best as AnyBest};
+ghost use Rattle.job_turns.specs.Searches.{IsBoardOf, IsSeat, HasRight};
+ghost use Rattle.job_turns.specs.Works.{IsChildOf};
+ghost use Rattle.job_turns.specs.Choices.{choice_of_both, most_word, AnswersAreKnown, Chooses, IsProgressOf};
+
+use crate::over_query::await_goal;
+use best_answers::{Best, answers_are_best, lesser};
+use board_moves::{Job, Progress};
+use goal_board::{Answer, Board, Hints, Seat};
+use goal_rules::Rules;
+use goal_space::{GoalKind, goal_kinds_are_one, goals_are_known};
+use plan_tree::Node;
+use query_core::Query;
+
+/// What is known of the best answer of some nodes for a request.
+#[derive(Clone, Copy)]
+pub(crate) enum Choice {
+    /// This is it; none where none of them makes a plan.
+    Known(Option<Best>),
+    /// One of them stands on a plan that isn't chosen yet.
+    Open,
+}
+
+impl Choice {
+    /// What is known of the best answer of both.
+    pub(crate) fn or(self, other: Choice) -> Choice
+        ensures { result ≡ choice_of_both self other }
+    {
+        match (self, other) {
+            (Choice::Known(first), Choice::Known(second)) => Choice::Known(lesser(first, second)),
+            (Choice::Known(_), Choice::Open) => Choice::Open,
+            (Choice::Open, _) => Choice::Open,
+        }
+    }
+}
+
+/// Awaits a child of the goal, and tells its answer. None where it found every cell taken.
+pub(crate) fn await_choice<'q, H: Hints>(
+    query: &Query,
+    board: &Board<Rules<'q>>,
+    seat: &mut Seat<Rules<'q>>,
+    job: &mut Job,
+    child: GoalKind,
+    hints: &mut H,
+) -> Option<Choice>
+    requires board { IsBoardOf query.now board.now }
+    requires seat { IsSeat board.now seat.old }
+    requires right { HasRight board.now seat.old job.old.right }
+    requires child { IsChildOf query.now job.old.right.goal child }
+    requires hints { H.capacity hints.old ≡ board.now.key.room }
+    ensures seat { IsSeat board.now seat.new }
+    ensures right { HasRight board.now seat.new job.new.right }
+    ensures chooses { Chooses query.now board.now.key.room (hands seat.old) job.old.right
+        (λ goal. goal ≡ child) (IsAnswerTo query.now child) result (hands seat.new) job.new.right }
+    ensures hints { H.capacity hints.new ≡ H.capacity hints.old }
+{
+    // For the proof: the words of an answer tell it.
+    answers_are_known();
+    match await_goal(query, board, seat, job, child, hints) {
+        Progress::Complete(answer) => Some(Choice::Known(best_of(answer))),
+        Progress::Waiting => Some(Choice::Open),
+        Progress::Full => None,
+    }
+}
+
+/// How far the goal is, where this was found.
+pub(crate) fn progress_of(job: &Job, found: Option<Choice>) -> Progress
+    ensures { IsProgressOf job.now.right found result }
+{
+    match found {
+        Some(Choice::Known(best)) => job.progress(answer_of(best)),
+        Some(Choice::Open) => Progress::Waiting,
+        None => Progress::Full,
+    }
+}
+
+// The answer that these words are.
+fn best_of(answer: Answer) -> Option<Best>
+    ensures { (best : Option AnyBest) → AreWordsOf best answer.cost answer.node →
+        IfSome best (λ b. b.cost < most_word) → result ≡ best }
+{
+    if answer.cost == u64::MAX {
+        return None;
+    }
+    Some(Best {
+        cost: answer.cost,
+        node: Node(answer.node),
+    })
+}
+
+// The words of an answer.
+fn answer_of(best: Option<Best>) -> Answer
+    ensures { AreWordsOf best result.cost result.node }
+{
+    match best {
+        Some(best) => Answer {
+            cost: best.cost,
+            node: best.node.0,
+        },
+        None => Answer {
+            cost: u64::MAX,
+            node: 0,
+        },
+    }
+}
+
+// The words of the answer of a goal of the query tell it.
+fn answers_are_known()
+    ensures { (q : AnyQuery) → AnswersAreKnown q }
+{
+    goal_kinds_are_one();
+    goals_are_known();
+    answers_are_best();
+}

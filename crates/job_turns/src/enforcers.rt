@@ -1,0 +1,122 @@
+//! The enforcers for a request, and the best answer of them.
+#![tactic(auto)]
+
+ghost use Rattle.std.specs.Prelude.{◌≡◌, slice_get};
+ghost use Rattle.query_core.specs.Keys.{IsGroup};
+ghost use Rattle.request_props.specs.Numbered.{IsProps};
+ghost use Rattle.request_props.specs.Fitting.{Fits};
+ghost use Rattle.plan_space.specs.Enforcers.{enforcers_of};
+ghost use Rattle.plan_tree.specs.Enforcers.{IsEnforced};
+ghost use Rattle.best_answers.specs.Best.{IsBest};
+ghost use Rattle.goal_board.specs.Seats.{hands};
+ghost use Rattle.goal_space.specs.Entries.{NamesGoal};
+ghost use Rattle.goal_space.specs.declared.goals.GoalKind.TheVariants.{Opt};
+ghost use Rattle.job_turns.specs.Searches.{IsBoardOf, IsSeat, HasRight};
+ghost use Rattle.job_turns.specs.Choices.{Chooses};
+ghost use Rattle.job_turns.specs.Requests.{IsEnforcerGoal, IsEnforcerGoalAt, enforcer_at, first_enforcers};
+
+use crate::choice::{Choice, await_choice};
+use best_answers::{answers_are_best, best_of_enforcer};
+use board_moves::Job;
+use goal_board::{Board, Hints, Seat};
+use goal_rules::Rules;
+use goal_space::{GoalKind, goals_are_known};
+use plan_tree::{Enforced, enforcer};
+use query_core::{Key, KeyParts, Query, groups_are_known};
+use request_props::{Props, Request};
+
+/// The best answer of the enforcers for the request. None where a goal found every cell taken.
+pub(crate) fn best_enforcer<'q, H: Hints>(
+    query: &Query,
+    props: &Props,
+    board: &Board<Rules<'q>>,
+    seat: &mut Seat<Rules<'q>>,
+    job: &mut Job,
+    group: KeyParts,
+    wanted: Request,
+    hints: &mut H,
+) -> Option<Choice>
+    requires props { IsProps query.now props.now }
+    requires board { IsBoardOf query.now board.now }
+    requires seat { IsSeat board.now seat.old }
+    requires right { HasRight board.now seat.old job.old.right }
+    requires goal { NamesGoal query.now job.old.right.goal (Opt group wanted) }
+    requires hints { H.capacity hints.old ≡ board.now.key.room }
+    ensures seat { IsSeat board.now seat.new }
+    ensures right { HasRight board.now seat.new job.new.right }
+    ensures chooses { Chooses query.now board.now.key.room (hands seat.old) job.old.right
+        (IsEnforcerGoal query.now group wanted)
+        (IsBest query.now group wanted (first_enforcers wanted))
+        result (hands seat.new) job.new.right }
+    ensures hints { H.capacity hints.new ≡ H.capacity hints.old }
+{
+    // For the proof: the best of two sets is that of both.
+    goals_are_known();
+    answers_are_best();
+    let first = await_enforcer(query, props, board, seat, job, group, wanted, 0, hints)?;
+    let second = await_enforcer(query, props, board, seat, job, group, wanted, 1, hints)?;
+    Some(first.or(second))
+}
+
+// The best answer of the enforcer at this place, if there are so many.
+fn await_enforcer<'q, H: Hints>(
+    query: &Query,
+    props: &Props,
+    board: &Board<Rules<'q>>,
+    seat: &mut Seat<Rules<'q>>,
+    job: &mut Job,
+    group: KeyParts,
+    wanted: Request,
+    place: u32,
+    hints: &mut H,
+) -> Option<Choice>
+    requires props { IsProps query.now props.now }
+    requires board { IsBoardOf query.now board.now }
+    requires seat { IsSeat board.now seat.old }
+    requires right { HasRight board.now seat.old job.old.right }
+    requires goal { NamesGoal query.now job.old.right.goal (Opt group wanted) }
+    requires hints { H.capacity hints.old ≡ board.now.key.room }
+    ensures seat { IsSeat board.now seat.new }
+    ensures right { HasRight board.now seat.new job.new.right }
+    ensures chooses { Chooses query.now board.now.key.room (hands seat.old) job.old.right
+        (IsEnforcerGoalAt group wanted place)
+        (IsBest query.now group wanted (enforcer_at wanted place))
+        result (hands seat.new) job.new.right }
+    ensures hints { H.capacity hints.new ≡ H.capacity hints.old }
+{
+    // For the proof: the request fits the group, and no node has no answer.
+    goals_are_known();
+    answers_are_best();
+    match enforcer_for(query, props, group, wanted, place) {
+        Some(enforced) => {
+            let child = GoalKind::Opt(group, enforced.below);
+            let found = await_choice(query, board, seat, job, child, hints)?;
+            match found {
+                Choice::Known(below) => {
+                    let best = best_of_enforcer(query, props, group, wanted, enforced, below);
+                    Some(Choice::Known(best))
+                }
+                Choice::Open => Some(Choice::Open),
+            }
+        }
+        None => Some(Choice::Known(None)),
+    }
+}
+
+// The enforcer for the request at this place, if there are so many.
+fn enforcer_for(
+    query: &Query,
+    props: &Props,
+    group: KeyParts,
+    wanted: Request,
+    place: u32,
+) -> Option<Enforced>
+    requires props { IsProps query.now props.now }
+    requires known { IsGroup query.now group }
+    requires fits { Fits query.now group wanted }
+    ensures { IsEnforced result (slice_get (enforcers_of wanted) place) }
+{
+    // For the proof: a group has one key.
+    groups_are_known();
+    enforcer(query, props, Key::make(group), wanted, place)
+}

@@ -1,0 +1,117 @@
+//! The turns of goals that explore a group, and that implement one.
+#![tactic(auto)]
+
+ghost use Rattle.std.specs.Prelude.{◌≡◌, ℕ};
+ghost use Rattle.request_props.specs.Numbered.{IsProps};
+ghost use Rattle.goal_board.specs.Seats.{hands};
+ghost use Rattle.request_props.specs.declared.props.Props.{Props as AnyProps};
+ghost use Rattle.board_rule.specs.Looks.{ShowsEntry};
+ghost use Rattle.board_moves.specs.Collects.{Settles};
+ghost use Rattle.goal_space.specs.Words.{goal_word};
+ghost use Rattle.goal_space.specs.Goals.{IsGoal};
+ghost use Rattle.goal_space.specs.Entries.{NamesGoal};
+ghost use Rattle.goal_rules.specs.Explored.{explored, origin_word, IsLogicalWord};
+ghost use Rattle.goal_rules.specs.Meaning.{meaning_of};
+ghost use Rattle.goal_space.specs.declared.goals.GoalKind.TheVariants.{Exp, Imp};
+ghost use Rattle.job_turns.specs.Searches.{IsBoardOf, IsSeat, HasRight};
+ghost use Rattle.job_turns.specs.Works.{WorksOn};
+
+use crate::expressions::NO_CHOICE;
+use crate::group_members::{ExploredGroup, ImplementedGroup};
+use crate::laws::words_are_known;
+use crate::over_query::await_goal;
+use board_moves::{Job, Progress, Settled, await_found, explore, settle};
+use goal_board::{Board, Hints, Seat};
+use goal_rules::{Rules, entries_are_known, explorations_are_known};
+use goal_space::{GoalKind, goals_are_known};
+use query_core::{KeyParts, Query};
+use request_props::Props;
+use xform_rules::{members_are_candidates, results_are_known};
+
+/// A group is explored once all its logical members are there and explored.
+pub(crate) fn explore_group<'q, H: Hints>(
+    query: &Query,
+    props: &Props,
+    board: &Board<Rules<'q>>,
+    seat: &mut Seat<Rules<'q>>,
+    job: &mut Job,
+    group: KeyParts,
+    hints: &mut H,
+) -> Progress
+    requires board { IsBoardOf query.now board.now }
+    requires props { IsProps query.now props.now }
+    requires seat { IsSeat board.now seat.old }
+    requires right { HasRight board.now seat.old job.old.right }
+    requires fresh { job.old.right.waits ≡ 0 }
+    requires goal { NamesGoal query.now job.old.right.goal (Exp group) }
+    requires hints { H.capacity hints.old ≡ board.now.key.room }
+    ensures seat { IsSeat board.now seat.new }
+    ensures right { HasRight board.now seat.new job.new.right }
+    ensures works { WorksOn query.now board.now.key.room (hands seat.old) job.old.right (Exp group) result (hands seat.new) job.new.right }
+    ensures hints { H.capacity hints.new ≡ H.capacity hints.old }
+{
+    // For the proof: the goal asks for what is found from the group's origin.
+    explorations_are_known();
+    goals_are_known();
+    words_are_known();
+    explore(board, seat, job, &ExploredGroup { query, group }, hints)
+}
+
+/// A group is implemented once it is explored, and each of its logical members is implemented.
+pub(crate) fn implement_group<'q, H: Hints>(
+    query: &Query,
+    board: &Board<Rules<'q>>,
+    seat: &mut Seat<Rules<'q>>,
+    job: &mut Job,
+    group: KeyParts,
+    hints: &mut H,
+) -> Progress
+    requires board { IsBoardOf query.now board.now }
+    requires seat { IsSeat board.now seat.old }
+    requires right { HasRight board.now seat.old job.old.right }
+    requires goal { NamesGoal query.now job.old.right.goal (Imp group) }
+    requires hints { H.capacity hints.old ≡ board.now.key.room }
+    ensures seat { IsSeat board.now seat.new }
+    ensures right { HasRight board.now seat.new job.new.right }
+    ensures works { WorksOn query.now board.now.key.room (hands seat.old) job.old.right (Imp group) result (hands seat.new) job.new.right }
+    ensures hints { H.capacity hints.new ≡ H.capacity hints.old }
+{
+    // For the proof: what is found in cells are members, and physical ones are results at logical ones.
+    goals_are_known();
+    words_are_known();
+    entries_are_known();
+    members_are_candidates();
+    results_are_known();
+    match await_goal(query, board, seat, job, GoalKind::Exp(group), hints) {
+        Progress::Full => Progress::Full,
+        Progress::Waiting => Progress::Waiting,
+        Progress::Complete(_) => {
+            let members = ImplementedGroup { query, group };
+            match await_found(board, seat, job, &members, hints) {
+                Some(_) => job.progress(NO_CHOICE),
+                None => Progress::Full,
+            }
+        }
+    }
+}
+
+/// The double collection of a group that is explored: whether all its logical members are in cells, and the goals that explore them finished.
+pub fn settled<'q>(
+    query: &Query,
+    board: &Board<Rules<'q>>,
+    seat: &mut Seat<Rules<'q>>,
+    group: KeyParts,
+) -> Settled
+    requires board { IsBoardOf query.now board.now }
+    requires props { (props : AnyProps) × IsProps query.now props }
+    requires seat { IsSeat board.now seat.old }
+    requires goal { IsGoal query.now (Exp group) }
+    requires origin { ShowsEntry (meaning_of query.now) board.now.key.room (hands seat.old).looks (origin_word query.now group) }
+    ensures seat { IsSeat board.now seat.new }
+    ensures settles { Settles (meaning_of query.now) board.now.key.room (IsLogicalWord query.now group) explored (hands seat.old) (goal_word (Exp group)) result (hands seat.new) }
+{
+    // For the proof: the goal asks for what is found from the group's origin.
+    explorations_are_known();
+    goals_are_known();
+    settle(board, seat, &ExploredGroup { query, group })
+}

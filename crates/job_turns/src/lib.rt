@@ -1,0 +1,19 @@
+//! The turns of the jobs: what each kind of goal does once it is claimed.
+#![tactic(auto)]
+
+mod choice;
+mod enforcers;
+mod expressions;
+mod group_members;
+mod groups;
+mod laws;
+mod members;
+mod modes;
+mod one_turn;
+mod over_query;
+mod requests;
+mod rule_results;
+
+pub use board_moves::{Settled, Turned};
+pub use groups::settled;
+pub use one_turn::turn;

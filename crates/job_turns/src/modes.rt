@@ -1,0 +1,233 @@
+//! The turn of a goal that chooses a mode of an expression for a request.
+#![tactic(auto)]
+
+ghost use Rattle.std.specs.Prelude.{◌≡◌, ℕ};
+ghost use Rattle.query_core.specs.declared.query.Query.{Query as AnyQuery};
+ghost use Rattle.xform_rules.specs.Closure.{IsMember};
+ghost use Rattle.request_props.specs.Numbered.{IsProps};
+ghost use Rattle.plan_tree.specs.Alternatives.{IsAltBy};
+ghost use Rattle.best_answers.specs.Best.{IsBestAsked};
+ghost use Rattle.goal_board.specs.Seats.{hands};
+ghost use Rattle.goal_space.specs.Children.{IsChildGoal};
+ghost use Rattle.goal_space.specs.Entries.{NamesGoal};
+ghost use Rattle.goal_space.specs.Answers.{IsAnswerTo};
+ghost use Rattle.goal_space.specs.declared.goals.GoalKind.TheVariants.{OptE};
+ghost use Rattle.job_turns.specs.Searches.{IsBoardOf, IsSeat, HasRight};
+ghost use Rattle.job_turns.specs.Works.{WorksOn};
+ghost use Rattle.job_turns.specs.Choices.{Chooses, IsNative, IsAskedByChild, IsGoalAsked, IsGoalIn, IsBestIn};
+
+use crate::choice::{Choice, await_choice, progress_of};
+use crate::laws::words_are_known;
+use best_answers::{answers_are_best, best_in_mode};
+use board_moves::{Job, Progress};
+use goal_board::{Board, Hints, Seat};
+use goal_rules::Rules;
+use goal_space::{GoalKind, goals_are_known};
+use plan_space::Line;
+use plan_tree::{Alt, ExprRows, alternative_by, expr_rows, next_line};
+use query_core::{Key, PhysicalExpr, Query};
+use request_props::{Props, Request};
+use xform_rules::members_are_candidates;
+
+/// An expression in a mode, for a request, with its line there and the rows of its groups.
+#[derive(Clone, Copy)]
+pub(crate) struct Native {
+    pub(crate) expr: PhysicalExpr,
+    pub(crate) wanted: Request,
+    pub(crate) rows: ExprRows,
+    pub(crate) mode: u32,
+    pub(crate) line: Line,
+}
+
+/// The least plan for the request with the expression at its root is known once those are that its
+/// modes ask for.
+pub(crate) fn choose_mode<'q, H: Hints>(
+    query: &Query,
+    props: &Props,
+    board: &Board<Rules<'q>>,
+    seat: &mut Seat<Rules<'q>>,
+    job: &mut Job,
+    expr: PhysicalExpr,
+    wanted: Request,
+    hints: &mut H,
+) -> Progress
+    requires props { IsProps query.now props.now }
+    requires board { IsBoardOf query.now board.now }
+    requires seat { IsSeat board.now seat.old }
+    requires right { HasRight board.now seat.old job.old.right }
+    requires goal { NamesGoal query.now job.old.right.goal (OptE expr wanted) }
+    requires hints { H.capacity hints.old ≡ board.now.key.room }
+    ensures seat { IsSeat board.now seat.new }
+    ensures right { HasRight board.now seat.new job.new.right }
+    ensures works { WorksOn query.now board.now.key.room (hands seat.old) job.old.right
+        (OptE expr wanted) result (hands seat.new) job.new.right }
+    ensures hints { H.capacity hints.new ≡ H.capacity hints.old }
+{
+    // For the proof: the goal's word says what its children are.
+    words_are_known();
+    let found = best_mode(query, props, board, seat, job, expr, wanted, hints);
+    progress_of(job, found)
+}
+
+// The best answer of the expression in all its modes. None where a goal found every cell taken.
+fn best_mode<'q, H: Hints>(
+    query: &Query,
+    props: &Props,
+    board: &Board<Rules<'q>>,
+    seat: &mut Seat<Rules<'q>>,
+    job: &mut Job,
+    expr: PhysicalExpr,
+    wanted: Request,
+    hints: &mut H,
+) -> Option<Choice>
+    requires props { IsProps query.now props.now }
+    requires board { IsBoardOf query.now board.now }
+    requires seat { IsSeat board.now seat.old }
+    requires right { HasRight board.now seat.old job.old.right }
+    requires goal { NamesGoal query.now job.old.right.goal (OptE expr wanted) }
+    requires hints { H.capacity hints.old ≡ board.now.key.room }
+    ensures seat { IsSeat board.now seat.new }
+    ensures right { HasRight board.now seat.new job.new.right }
+    ensures chooses { Chooses query.now board.now.key.room (hands seat.old) job.old.right
+        (IsChildGoal (IsMember query.now) query.now (OptE expr wanted))
+        (IsAnswerTo query.now (OptE expr wanted))
+        result (hands seat.new) job.new.right }
+    ensures hints { H.capacity hints.new ≡ H.capacity hints.old }
+{
+    // For the proof: the expression is a member, the request fits, and the best of two sets is that
+    // of both.
+    goals_are_known();
+    members_are_candidates();
+    answers_are_best();
+    let rows = expr_rows(query, props, expr);
+    let mut choice = Choice::Known(None);
+    let mut from = 0;
+    'modes: while let Some((mode, line)) = next_line(query, props, expr, from) {
+        let native = Native {
+            expr,
+            wanted,
+            rows,
+            mode,
+            line,
+        };
+        let other = await_mode(query, props, board, seat, job, native, hints)?;
+        choice = choice.or(other);
+        from = mode + 1;
+    }
+    Some(choice)
+}
+
+// The best answer of the expression in the mode, if that is there for the request.
+fn await_mode<'q, H: Hints>(
+    query: &Query,
+    props: &Props,
+    board: &Board<Rules<'q>>,
+    seat: &mut Seat<Rules<'q>>,
+    job: &mut Job,
+    native: Native,
+    hints: &mut H,
+) -> Option<Choice>
+    requires props { IsProps query.now props.now }
+    requires board { IsBoardOf query.now board.now }
+    requires seat { IsSeat board.now seat.old }
+    requires right { HasRight board.now seat.old job.old.right }
+    requires native { IsNative query.now native }
+    requires goal { NamesGoal query.now job.old.right.goal (OptE native.expr native.wanted) }
+    requires hints { H.capacity hints.old ≡ board.now.key.room }
+    ensures seat { IsSeat board.now seat.new }
+    ensures right { HasRight board.now seat.new job.new.right }
+    ensures chooses { Chooses query.now board.now.key.room (hands seat.old) job.old.right
+        (IsGoalIn query.now native.expr native.wanted native.mode)
+        (IsBestIn query.now native.expr native.wanted native.mode)
+        result (hands seat.new) job.new.right }
+    ensures hints { H.capacity hints.new ≡ H.capacity hints.old }
+{
+    // For the proof: members are candidates, and the best of no nodes is none.
+    members_are_candidates();
+    answers_are_best();
+    match alternative_by(
+        query,
+        props,
+        native.expr,
+        native.wanted,
+        native.mode,
+        native.line,
+    ) {
+        Some(alt) => await_alternative(query, board, seat, job, native, alt, hints),
+        None => Some(Choice::Known(None)),
+    }
+}
+
+// The best answer of the expression in the mode.
+fn await_alternative<'q, H: Hints>(
+    query: &Query,
+    board: &Board<Rules<'q>>,
+    seat: &mut Seat<Rules<'q>>,
+    job: &mut Job,
+    native: Native,
+    alt: Alt,
+    hints: &mut H,
+) -> Option<Choice>
+    requires board { IsBoardOf query.now board.now }
+    requires seat { IsSeat board.now seat.old }
+    requires right { HasRight board.now seat.old job.old.right }
+    requires native { IsNative query.now native }
+    requires alternative { IsAltBy query.now native.expr native.wanted native.mode alt native.line }
+    requires goal { NamesGoal query.now job.old.right.goal (OptE native.expr native.wanted) }
+    requires hints { H.capacity hints.old ≡ board.now.key.room }
+    ensures seat { IsSeat board.now seat.new }
+    ensures right { HasRight board.now seat.new job.new.right }
+    ensures chooses { Chooses query.now board.now.key.room (hands seat.old) job.old.right
+        (IsGoalIn query.now native.expr native.wanted native.mode)
+        (IsBestIn query.now native.expr native.wanted native.mode)
+        result (hands seat.new) job.new.right }
+    ensures hints { H.capacity hints.new ≡ H.capacity hints.old }
+{
+    let left = await_asked(query, board, seat, job, alt.left, hints)?;
+    let right = await_asked(query, board, seat, job, alt.right, hints)?;
+    match (left, right) {
+        (Choice::Known(left), Choice::Known(right)) => {
+            let Native {
+                expr,
+                wanted,
+                rows,
+                mode: _,
+                line,
+            } = native;
+            let best = best_in_mode(query, expr, rows, line, wanted, alt, (left, right));
+            Some(Choice::Known(best))
+        }
+        (Choice::Known(_), Choice::Open) => Some(Choice::Open),
+        (Choice::Open, _) => Some(Choice::Open),
+    }
+}
+
+// The best answer for what is asked of a child, if something is.
+fn await_asked<'q, H: Hints>(
+    query: &Query,
+    board: &Board<Rules<'q>>,
+    seat: &mut Seat<Rules<'q>>,
+    job: &mut Job,
+    asked: Option<(Key, Request)>,
+    hints: &mut H,
+) -> Option<Choice>
+    requires board { IsBoardOf query.now board.now }
+    requires seat { IsSeat board.now seat.old }
+    requires right { HasRight board.now seat.old job.old.right }
+    requires asked { IsAskedByChild query.now job.old.right.goal asked }
+    requires hints { H.capacity hints.old ≡ board.now.key.room }
+    ensures seat { IsSeat board.now seat.new }
+    ensures right { HasRight board.now seat.new job.new.right }
+    ensures chooses { Chooses query.now board.now.key.room (hands seat.old) job.old.right
+        (IsGoalAsked query.now asked) (IsBestAsked query.now asked)
+        result (hands seat.new) job.new.right }
+    ensures hints { H.capacity hints.new ≡ H.capacity hints.old }
+{
+    match asked {
+        Some((key, wanted)) => {
+            let child = GoalKind::Opt(query.group(key), wanted);
+            await_choice(query, board, seat, job, child, hints)
+        }
+        None => Some(Choice::Known(None)),
+    }
+}

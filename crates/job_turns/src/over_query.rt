@@ -1,0 +1,97 @@
+//! Calls of a board, told over the query that its rules are of.
+#![tactic(auto)]
+
+ghost use Rattle.std.specs.Prelude.{◌≡◌, ℕ, Some};
+ghost use Rattle.goal_board.specs.Seats.{hands};
+ghost use Rattle.board_moves.specs.Moves.{Awaits};
+ghost use Rattle.goal_space.specs.Words.{goal_word};
+ghost use Rattle.goal_rules.specs.Meaning.{meaning_of};
+ghost use Rattle.job_turns.specs.Searches.{IsBoardOf, IsSeat, HasRight};
+ghost use Rattle.job_turns.specs.Works.{IsChildOf, IsOneOf, AwaitsGoals};
+ghost use Rattle.goal_space.specs.declared.goals.GoalKind.{GoalKind as Kind};
+
+use crate::laws::words_are_known;
+use board_moves::{Job, Progress};
+use goal_board::{Board, Hints, Seat};
+use goal_rules::Rules;
+use goal_space::GoalKind;
+use query_core::Query;
+
+/// Awaits a child of the goal.
+pub(crate) fn await_goal<'q, H: Hints>(
+    query: &Query,
+    board: &Board<Rules<'q>>,
+    seat: &mut Seat<Rules<'q>>,
+    job: &mut Job,
+    child: GoalKind,
+    hints: &mut H,
+) -> Progress
+    requires board { IsBoardOf query.now board.now }
+    requires seat { IsSeat board.now seat.old }
+    requires right { HasRight board.now seat.old job.old.right }
+    requires child { IsChildOf query.now job.old.right.goal child }
+    requires hints { H.capacity hints.old ≡ board.now.key.room }
+    ensures seat { IsSeat board.now seat.new }
+    ensures right { HasRight board.now seat.new job.new.right }
+    ensures awaits { Awaits (meaning_of query.now) board.now.key.room (hands seat.old) job.old.right (goal_word child) result (hands seat.new) job.new.right }
+    ensures hints { H.capacity hints.new ≡ H.capacity hints.old }
+{
+    // For the proof: a child of a goal has a word.
+    words_are_known();
+    job.await_child(board, seat, child.word().0, hints)
+}
+
+/// Awaits those of two children that are there. False where one found every cell taken.
+pub(crate) fn await_both<'q, H: Hints>(
+    query: &Query,
+    board: &Board<Rules<'q>>,
+    seat: &mut Seat<Rules<'q>>,
+    job: &mut Job,
+    children: (Option<GoalKind>, Option<GoalKind>),
+    hints: &mut H,
+) -> bool
+    requires board { IsBoardOf query.now board.now }
+    requires seat { IsSeat board.now seat.old }
+    requires right { HasRight board.now seat.old job.old.right }
+    requires children { (child : Kind) → IsOneOf children child → IsChildOf query.now job.old.right.goal child }
+    requires hints { H.capacity hints.old ≡ board.now.key.room }
+    ensures seat { IsSeat board.now seat.new }
+    ensures right { HasRight board.now seat.new job.new.right }
+    ensures awaits { AwaitsGoals query.now board.now.key.room (hands seat.old) job.old.right (IsOneOf children) result (hands seat.new) job.new.right }
+    ensures hints { H.capacity hints.new ≡ H.capacity hints.old }
+{
+    let (first, second) = children;
+    if !await_if(query, board, seat, job, first, hints) {
+        return false;
+    }
+    await_if(query, board, seat, job, second, hints)
+}
+
+/// Awaits a child, if there is one. False where it found every cell taken.
+pub(crate) fn await_if<'q, H: Hints>(
+    query: &Query,
+    board: &Board<Rules<'q>>,
+    seat: &mut Seat<Rules<'q>>,
+    job: &mut Job,
+    child: Option<GoalKind>,
+    hints: &mut H,
+) -> bool
+    requires board { IsBoardOf query.now board.now }
+    requires seat { IsSeat board.now seat.old }
+    requires right { HasRight board.now seat.old job.old.right }
+    requires child { (goal : Kind) → child ≡ Some goal → IsChildOf query.now job.old.right.goal goal }
+    requires hints { H.capacity hints.old ≡ board.now.key.room }
+    ensures seat { IsSeat board.now seat.new }
+    ensures right { HasRight board.now seat.new job.new.right }
+    ensures awaits { AwaitsGoals query.now board.now.key.room (hands seat.old) job.old.right (λ goal. child ≡ Some goal) result (hands seat.new) job.new.right }
+    ensures hints { H.capacity hints.new ≡ H.capacity hints.old }
+{
+    match child {
+        Some(goal) => match await_goal(query, board, seat, job, goal, hints) {
+            Progress::Full => false,
+            Progress::Complete(_) => true,
+            Progress::Waiting => true,
+        },
+        None => true,
+    }
+}

@@ -1,0 +1,102 @@
+//! The turn of a goal that chooses a plan of a group for a request.
+#![tactic(auto)]
+
+ghost use Rattle.std.specs.Prelude.{◌≡◌};
+ghost use Rattle.request_props.specs.Numbered.{IsProps};
+ghost use Rattle.best_answers.specs.Best.{IsBest};
+ghost use Rattle.best_answers.specs.Nodes.{all_nodes};
+ghost use Rattle.goal_board.specs.Seats.{hands};
+ghost use Rattle.goal_space.specs.Entries.{NamesGoal};
+ghost use Rattle.goal_space.specs.declared.goals.GoalKind.TheVariants.{Opt};
+ghost use Rattle.job_turns.specs.Searches.{IsBoardOf, IsSeat, HasRight};
+ghost use Rattle.job_turns.specs.Works.{WorksOn};
+ghost use Rattle.job_turns.specs.Choices.{Chooses};
+ghost use Rattle.job_turns.specs.Requests.{IsImplemented, IsPlanGoal};
+
+use crate::choice::{Choice, progress_of};
+use crate::enforcers::best_enforcer;
+use crate::laws::words_are_known;
+use crate::members::best_member;
+use crate::over_query::await_goal;
+use best_answers::answers_are_best;
+use board_moves::{Job, Progress};
+use goal_board::{Board, Hints, Seat};
+use goal_rules::Rules;
+use goal_space::{GoalKind, goals_are_known};
+use query_core::{KeyParts, Query};
+use request_props::{Props, Request};
+
+/// The least plan of the group for the request is known once the group is implemented, and the
+/// least plans are known with each node at their root that may serve.
+pub(crate) fn choose_plan<'q, H: Hints>(
+    query: &Query,
+    props: &Props,
+    board: &Board<Rules<'q>>,
+    seat: &mut Seat<Rules<'q>>,
+    job: &mut Job,
+    group: KeyParts,
+    wanted: Request,
+    hints: &mut H,
+) -> Progress
+    requires props { IsProps query.now props.now }
+    requires board { IsBoardOf query.now board.now }
+    requires seat { IsSeat board.now seat.old }
+    requires right { HasRight board.now seat.old job.old.right }
+    requires goal { NamesGoal query.now job.old.right.goal (Opt group wanted) }
+    requires hints { H.capacity hints.old ≡ board.now.key.room }
+    ensures seat { IsSeat board.now seat.new }
+    ensures right { HasRight board.now seat.new job.new.right }
+    ensures works { WorksOn query.now board.now.key.room (hands seat.old) job.old.right
+        (Opt group wanted) result (hands seat.new) job.new.right }
+    ensures hints { H.capacity hints.new ≡ H.capacity hints.old }
+{
+    // For the proof: the goal's word says what its children are.
+    words_are_known();
+    match await_goal(query, board, seat, job, GoalKind::Imp(group), hints) {
+        Progress::Complete(_) => {
+            let found = best_plan(query, props, board, seat, job, group, wanted, hints);
+            progress_of(job, found)
+        }
+        // What enforcers ask for needs no members, so it is put in at once.
+        Progress::Waiting => {
+            match best_enforcer(query, props, board, seat, job, group, wanted, hints) {
+                Some(_) => Progress::Waiting,
+                None => Progress::Full,
+            }
+        }
+        Progress::Full => Progress::Full,
+    }
+}
+
+// The best answer of all nodes. None where a goal found every cell taken.
+fn best_plan<'q, H: Hints>(
+    query: &Query,
+    props: &Props,
+    board: &Board<Rules<'q>>,
+    seat: &mut Seat<Rules<'q>>,
+    job: &mut Job,
+    group: KeyParts,
+    wanted: Request,
+    hints: &mut H,
+) -> Option<Choice>
+    requires props { IsProps query.now props.now }
+    requires board { IsBoardOf query.now board.now }
+    requires seat { IsSeat board.now seat.old }
+    requires right { HasRight board.now seat.old job.old.right }
+    requires goal { NamesGoal query.now job.old.right.goal (Opt group wanted) }
+    requires implemented { IsImplemented query.now board.now.key.room (hands seat.old).looks group }
+    requires hints { H.capacity hints.old ≡ board.now.key.room }
+    ensures seat { IsSeat board.now seat.new }
+    ensures right { HasRight board.now seat.new job.new.right }
+    ensures chooses { Chooses query.now board.now.key.room (hands seat.old) job.old.right
+        (IsPlanGoal query.now group wanted) (IsBest query.now group wanted all_nodes)
+        result (hands seat.new) job.new.right }
+    ensures hints { H.capacity hints.new ≡ H.capacity hints.old }
+{
+    // For the proof: the best of two sets is that of both, and these are all nodes that may serve.
+    goals_are_known();
+    answers_are_best();
+    let member = best_member(query, props, board, seat, job, group, wanted, hints)?;
+    let enforced = best_enforcer(query, props, board, seat, job, group, wanted, hints)?;
+    Some(member.or(enforced))
+}

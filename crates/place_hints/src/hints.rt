@@ -1,0 +1,79 @@
+ghost use Rattle.std.specs.Prelude.{◌≡◌, ℕ, ◌<◌, IfOk, IfSome};
+
+use crate::deque::Deque;
+use crate::sources::Sources;
+use goal_board::Hints;
+use std::alloc::{AllocError, Global};
+use std::marker::Model;
+
+/// The hints that one worker can come by: those that it was told, and those of other workers.
+/// Contracts see the capacity of the board, which each place is below.
+#[derive(Drop)]
+pub struct PlaceHints {
+    own: Deque,
+    others: Sources,
+}
+
+impl Model for PlaceHints {
+    ghost Value = { ℕ };
+
+    ghost view = { λ h. h.others };
+
+    ghost invariant = { λ h. h.own ≡ h.others };
+}
+
+impl PlaceHints {
+    /// No hints, and no other worker.
+    pub fn new(alloc: Global, capacity: u32) -> Result<PlaceHints, AllocError>
+        requires { 0 < capacity }
+        ensures { IfOk result (λ hints. hints ≡ capacity) }
+    {
+        Ok(PlaceHints {
+            own: Deque::open(alloc, capacity)?,
+            others: Sources::none(alloc, capacity),
+        })
+    }
+
+    /// Takes the newest of this worker's own.
+    pub fn take(&mut self) -> Option<u32>
+        ensures below { IfSome result (λ place. place < self.old) }
+        ensures same { self.new ≡ self.old }
+    {
+        self.own.pop()
+    }
+
+    /// How many workers it can steal from.
+    pub fn others(&self) -> usize {
+        self.others.len()
+    }
+
+    /// Steals the oldest of another worker's, where one was there and nobody else took it.
+    pub fn steal(&mut self, other: usize) -> Option<u32>
+        ensures below { IfSome result (λ place. place < self.old) }
+        ensures same { self.new ≡ self.old }
+    {
+        self.others.steal(other)
+    }
+
+    /// The hints of another worker, who has none of its own yet. It can steal from this one, and from those that this one can
+    /// steal from, while there are passes for more. This one can steal from it. After `Err` this one can steal as before.
+    pub fn split(&mut self, alloc: Global) -> Result<PlaceHints, AllocError>
+        ensures other { IfOk result (λ hints. hints ≡ self.old) }
+        ensures same { self.new ≡ self.old }
+    {
+        let mut other = PlaceHints::new(alloc, self.others.capacity())?;
+        let back = other.own.source(alloc)?;
+        other.others.add(self.own.source(alloc)?)?;
+        self.others.share(alloc, &mut other.others)?;
+        self.others.add(back)?;
+        Ok(other)
+    }
+}
+
+impl Hints for PlaceHints {
+    ghost capacity = { λ hints. hints };
+
+    fn hint(&mut self, place: u32) {
+        self.own.push(place);
+    }
+}

@@ -1,0 +1,91 @@
+ghost use Rattle.std.specs.Prelude.{◌≡◌, ℕ, ◌<◌, ◌≤◌};
+
+use crate::PlaceHints;
+use goal_board::Hints;
+use std::process::Abort;
+use std::test::Fail;
+use std::thread;
+
+// Tells of all places below a number.
+fn hint_below(hints: &mut PlaceHints, end: u32)
+    requires { end ≤ hints.old }
+    ensures { hints.new ≡ hints.old }
+{
+    for place in 0..end {
+        hints.hint(place);
+    }
+}
+
+// How many places are left, and their sum.
+fn take_all(hints: &mut PlaceHints) -> (u64, u64) {
+    let (mut count, mut sum) = (0u64, 0u64);
+    for _time in 0..10_000 {
+        let Some(place) = hints.take() else {
+            break;
+        };
+        count = count.wrapping_add(1);
+        sum = sum.wrapping_add(place as u64);
+    }
+    (count, sum)
+}
+
+// How many places were stolen in so many tries, and their sum.
+fn steal_some(hints: &mut PlaceHints, tries: u32) -> (u64, u64) {
+    let (mut count, mut sum) = (0u64, 0u64);
+    for _time in 0..tries {
+        if let Some(place) = hints.steal(0) {
+            count = count.wrapping_add(1);
+            sum = sum.wrapping_add(place as u64);
+        }
+    }
+    (count, sum)
+}
+
+#[test]
+fn the_newest_is_taken_and_the_oldest_stolen(rt: HostRuntime) -> Result<(), Fail> {
+    let mut first = PlaceHints::new(rt.alloc(), 100)?;
+    assert!(rt; first.take().is_none());
+    let mut second = first.split(rt.alloc())?;
+    hint_below(&mut first, 4);
+    assert_eq!(rt; first.take(), Some(3));
+    assert_eq!(rt; second.steal(0), Some(0));
+    assert_eq!(rt; second.steal(0), Some(1));
+    assert_eq!(rt; first.take(), Some(2));
+    assert!(rt; first.take().is_none() && second.steal(0).is_none());
+    Ok(())
+}
+
+#[test]
+fn who_can_steal_from_whom(rt: HostRuntime) -> Result<(), Fail> {
+    let mut first = PlaceHints::new(rt.alloc(), 100)?;
+    let mut second = first.split(rt.alloc())?;
+    let mut third = first.split(rt.alloc())?;
+    assert_eq!(rt;
+        (first.others(), second.others(), third.others()),
+        (2, 1, 2)
+    );
+    hint_below(&mut second, 2);
+    assert_eq!(rt; first.steal(0), Some(0));
+    assert_eq!(rt; third.steal(1), Some(1));
+    hint_below(&mut third, 1);
+    assert_eq!(rt; first.steal(1), Some(0));
+    assert!(rt; first.steal(2).is_none());
+    Ok(())
+}
+
+#[test]
+fn each_hint_comes_out_once(rt: HostRuntime) -> Result<(), Fail> {
+    let mut owner = PlaceHints::new(rt.alloc(), 1000)?;
+    let mut thief = owner.split(rt.alloc())?;
+    let (taken, stolen) = thread::join(
+        &rt,
+        move || {
+            hint_below(&mut owner, 1000);
+            take_all(&mut owner)
+        },
+        move || steal_some(&mut thief, 2000),
+    );
+    assert_eq!(rt; taken.0.wrapping_add(stolen.0), 1000);
+    assert_eq!(rt; taken.1.wrapping_add(stolen.1), 499_500);
+    Ok(())
+}
