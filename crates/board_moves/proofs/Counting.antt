@@ -42,5 +42,5 @@ same_words (word ∷ words) (other ∷ others) falls fall within same x at =
     let at_most : word ≤ other = ⊎_elim (λ (e : other ≡ word). omega arith) (λ (t : Among others word). let less = above_rest other others fall word t in omega arith) first in
     let within_rest : Within words others = λ y among. let less = above_rest word words falls y among in among_below other others y (omega arith) (within y (inr among)) in
     let is_first : other ≡ word = ⊎_elim (λ (e : other ≡ word). e)
-        (λ (t : Among others word). let longer = not_longer (word ∷ words) others falls fall.1 (λ y among. ⊎_elim (λ (e : word ≡ y). subst (Among others) e t) (λ (rest : Among words y). within_rest y rest) among) in absurd (omega arith)) first in
+    (λ (t : Among others word). let longer = not_longer (word ∷ words) others falls fall.1 (λ y among. ⊎_elim (λ (e : word ≡ y). subst (Among others) e t) (λ (rest : Among words y). within_rest y rest) among) in absurd (omega arith)) first in
     ⊎_elim (λ (e : other ≡ x). inl (let same_first : word ≡ x = omega arith in same_first)) (λ (t : Among others x). inr (same_words words others falls.1 fall.1 within_rest (omega arith) x t)) at

@@ -83,7 +83,7 @@ module _ {R : Type 0} (meaning : Meaning) (room : ℕ) (child : ℕ) (some_child
     pub awaits_known : (u : Hands R) (answer : Answer) (w : Hands R) → FindsAt room v child at u → ReadsAnswer meaning room u at answer w → Awaits meaning room v before child (progress.Complete answer) w before
     awaits_known u answer w found read = (
       proceeds_moved (meaning.child before.goal) v before w [] tt
-      (moves_then before.place v [] 0 u [] 0 w (moves_looks before.place v u (only_looks_at room v child at u found)) (moves_looks before.place u w (reads_looks meaning room u at answer w read))),
+          (moves_then before.place v [] 0 u [] 0 w (moves_looks before.place v u (only_looks_at room v child at u found)) (moves_looks before.place u w (reads_looks meaning room u at answer w read))),
       refl,
       answered u at answer w found.near (stands_at v at u found) read,
     )

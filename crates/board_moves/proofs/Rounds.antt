@@ -154,10 +154,10 @@ module _ {R : Type 0} (meaning : Meaning) (room : ℕ) (Has : ℕ → Type 0) (g
             let within : Within knows.found s.grows.was.found = λ other at. s.knew other (knows.each other at).0 (knows.each other at).1 in
             let longer = not_longer knows.found s.grows.was.found knows.falls s.grows.was.falls within in
             let found_in : (word : ℕ) → Among s.grows.is.found word → ShowsEntry meaning room u.looks word = λ word at.
-                let f = s.grows.is.each word at in
-                seen_there word f.1.0 f.1.1 (some_word word f.0)
-                (subst (λ (looks : List (ℕ × ℕ)). Looked looks (cell_word f.1.0) word) (sym (ap (λ (h : Hands R). h.looks) s.hands_are)) (looked_later s.more v.looks (cell_word f.1.0) word
-                (subst (λ (looks : List (ℕ × ℕ)). Looked looks (cell_word f.1.0) word) (sym s.grows.split) (looked_later s.grows.later s.grows.earlier (cell_word f.1.0) word f.1.2)))) in
+            let f = s.grows.is.each word at in
+            seen_there word f.1.0 f.1.1 (some_word word f.0)
+            (subst (λ (looks : List (ℕ × ℕ)). Looked looks (cell_word f.1.0) word) (sym (ap (λ (h : Hands R). h.looks) s.hands_are)) (looked_later s.more v.looks (cell_word f.1.0) word
+            (subst (λ (looks : List (ℕ × ℕ)). Looked looks (cell_word f.1.0) word) (sym s.grows.split) (looked_later s.grows.later s.grows.earlier (cell_word f.1.0) word f.1.2)))) in
             let second_within : Within s.grows.is.found all.found = λ word at. all.knew word (s.grows.is.each word at).0 (found_in word at) in
             let second_longer = not_longer s.grows.is.found all.found s.grows.is.falls all.falls second_within in
             let a = knows.number_is in

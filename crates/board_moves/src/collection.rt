@@ -32,7 +32,11 @@ pub fn settle<R: GoalRules, W: Group>(board: &Board<R>, seat: &mut Seat<R>, grou
 }
 
 // The first pass: how many members are in cells, or a goal of one of them that isn't finished.
-fn collect<R: GoalRules, W: Group>(board: &Board<R>, seat: &mut Seat<R>, group: &W) -> Result<u64, u64>
+fn collect<R: GoalRules, W: Group>(
+    board: &Board<R>,
+    seat: &mut Seat<R>,
+    group: &W,
+) -> Result<u64, u64>
     requires seat { IsSeatOf R.meaning board.now seat.old }
     requires can_next { W.can_next group.now }
     requires group { IsExploration (R.meaning board.now.key.rules) (W.origin group.now) (W.has group.now) (W.goal_of group.now) (W.goal group.now) }

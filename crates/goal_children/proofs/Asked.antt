@@ -129,11 +129,14 @@ module _ (q : Query) where
 
       -- what the alternative asks for has a code
       module _ (few_lists : length (lists_of q) ≤ 60) (few_orders : length (orders_of q) ≤ 60) (asks_what_fits : AsksWhatFits q) (candidate : IsCandidate q (expr_of e))
-        (numbered : IsNumberedRequest q wanted) where
+          (numbered : IsNumberedRequest q wanted) where
         ask_in_range : (group : KeyParts) (below : Request) → IsAsked (groups_of (physical_children e.operator)) (asked_of line wanted) group below → IsInRange below
         ask_in_range group below is_asked =
             request_in_range q few_lists few_orders below (asks_numbered q asks_what_fits e wanted group below candidate numbered (record {
-              mode = mode; line = line; is_alternative = by.is_alternative; is_asked = is_asked
+              mode = mode;
+              line = line;
+              is_alternative = by.is_alternative;
+              is_asked = is_asked;
             }))
 
         pub left_in_range : IfSome alt.left (λ a. IsInRange a.1)

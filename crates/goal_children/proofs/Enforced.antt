@@ -164,4 +164,3 @@ module _ (q : Query) (few_lists : length (lists_of q) ≤ 60) (few_orders : leng
   pub below_in_range : (group : KeyParts) (wanted : Request) (place : ℕ) (found : Option Enforced) (below : Option Request) → IsNumberedRequest q wanted
       → IsEnforcerAt q group wanted place found → below ≡ option_map (λ x. x.below) found → IfSome below IsInRange
   below_in_range group wanted place found below numbered is same = subst (λ (r : Option Request). IfSome r IsInRange) (sym same) (below_by group wanted place found numbered is)
-

@@ -117,14 +117,13 @@ module _ (q : Query) where
   -- ---- the first of them from the bound on
 
   module _ (words own : List ℕ) (group : KeyParts) (job : MemberJob) (bound first : ℕ)
-    (own_words : (e : ExprParts) → IsPacked e → e.group ≡ group → Contains words (word_of e) → Contains own (word_of e))
-    (only : (e : ExprParts) → IsPacked e → Contains own (word_of e) → e.group ≡ group)
-    (part : (word : ℕ) → Contains own word → Contains words word)
-    (rises : IsStrictlyIncreasing own)
-    (before : (k : ℕ) → k < first → word_at job (get_or own k 0) < bound)
-    (after : (k : ℕ) → first ≤ k → k < length own → bound ≤ word_at job (get_or own k 0))
-    (packed : (e : ExprParts) → IsCandidate q e → IsPacked e) where
-
+      (own_words : (e : ExprParts) → IsPacked e → e.group ≡ group → Contains words (word_of e) → Contains own (word_of e))
+      (only : (e : ExprParts) → IsPacked e → Contains own (word_of e) → e.group ≡ group)
+      (part : (word : ℕ) → Contains own word → Contains words word)
+      (rises : IsStrictlyIncreasing own)
+      (before : (k : ℕ) → k < first → word_at job (get_or own k 0) < bound)
+      (after : (k : ℕ) → first ≤ k → k < length own → bound ≤ word_at job (get_or own k 0))
+      (packed : (e : ExprParts) → IsCandidate q e → IsPacked e) where
     -- a goal from the bound on is that of a word from the first place on
     pub record StandsAt (goal : GoalKind) : Type 0 where
       pub has : HasMember words group job goal

@@ -25,13 +25,7 @@ use request_props::{Props, Request};
 use std::alloc::AllocError;
 
 /// The child at this place, from 0, in the order of words, over the listed members.
-pub fn child(
-    query: &Query,
-    props: &Props,
-    members: &[u64],
-    goal: Goal,
-    n: u32,
-) -> Option<Goal>
+pub fn child(query: &Query, props: &Props, members: &[u64], goal: Goal, n: u32) -> Option<Goal>
     requires props { IsProps query.now props.now }
     requires candidates { All (IsCandidateWord query.now) members.now }
     requires ascending { IsStrictlyIncreasing members.now }
@@ -45,13 +39,7 @@ pub fn child(
     nth_child(query, props, members, known_goal(goal), n)
 }
 
-fn nth_child(
-    query: &Query,
-    props: &Props,
-    members: &[u64],
-    goal: GoalKind,
-    n: u32,
-) -> Option<Goal>
+fn nth_child(query: &Query, props: &Props, members: &[u64], goal: GoalKind, n: u32) -> Option<Goal>
     requires props { IsProps query.now props.now }
     requires candidates { All (IsCandidateWord query.now) members.now }
     requires ascending { IsStrictlyIncreasing members.now }
@@ -150,9 +138,7 @@ fn child_from(
         GoalKind::Xf(e, rule) => left_goal_from(e, rule, bound),
         GoalKind::Imp(group) => implemented_from(query, props, members, group, bound),
         GoalKind::ImpE(e) => transformed_from(query, e, Phase::Implementation, bound),
-        GoalKind::Opt(group, wanted) => {
-            chosen_from(query, props, members, group, wanted, bound)
-        }
+        GoalKind::Opt(group, wanted) => { chosen_from(query, props, members, group, wanted, bound) }
         GoalKind::OptE(e, wanted) => asked_goal_from(query, props, e, wanted, bound),
     }
 }

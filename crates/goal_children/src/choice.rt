@@ -76,7 +76,10 @@ pub fn asked_goal_from(
     'modes: loop {
         match next_line(query, props, e, from) {
             Some((mode, line)) => {
-                next = sooner(next, goal_in_mode(query, props, e, wanted, mode, line, bound));
+                next = sooner(
+                    next,
+                    goal_in_mode(query, props, e, wanted, mode, line, bound),
+                );
                 from = mode + 1;
             }
             None => return next,

@@ -26,7 +26,11 @@ pub fn goal_from(goal: GoalKind, bound: u64) -> Option<GoalKind>
     requires { IsInRange goal }
     ensures { FindsFrom (λ k. k ≡ goal) bound result }
 {
-    if bound <= goal.word().0 { Some(goal) } else { None }
+    if bound <= goal.word().0 {
+        Some(goal)
+    } else {
+        None
+    }
 }
 
 /// The one of the two whose word is less, if both are there.

@@ -219,7 +219,12 @@ Opt Join(T1, T2) [One; T1.a]
   OptE MergeJoin(T1 | T2) [One; T1.a]
   OptE LoopJoin(T1 | T2) [One; T1.a]
 ";
-            assert!(rt; trace.as_slice().windows(root.len()).any(|part| part == root.as_bytes()));
+            assert!(rt;
+                trace
+                    .as_slice()
+                    .windows(root.len())
+                    .any(|part| part == root.as_bytes())
+            );
         }
         Err(_) => assert!(rt; false),
     }

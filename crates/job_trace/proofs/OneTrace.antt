@@ -58,5 +58,5 @@ module _ (q : Query) (members : List ℕ) (in_range : (goal : GoalKind) → IsGo
   one_text goals text other is again =
       is.lines
       ∙ ap (λ traced. concat (trace_section q traced))
-        (one_traced is.traced again.traced is.are.are_goals.over again.are.are_goals.over is.are.children again.are.children (is.are.are_goals.numbers ∙ sym again.are.are_goals.numbers))
+      (one_traced is.traced again.traced is.are.are_goals.over again.are.are_goals.over is.are.children again.are.children (is.are.are_goals.numbers ∙ sym again.are.are_goals.numbers))
       ∙ sym again.lines

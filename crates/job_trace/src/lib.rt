@@ -9,9 +9,9 @@ mod laws;
 mod members;
 mod memo;
 mod requests;
-mod trace;
 #[cfg(test)]
 mod tests;
+mod trace;
 
 pub use crew::crew_text;
 pub use laws::traces_are_known;

@@ -28,12 +28,7 @@ pub fn push_request(
     text.push_str("]")
 }
 
-fn push_dist(
-    query: &Query,
-    props: &Props,
-    dist: Dist,
-    text: &mut String,
-) -> Result<(), AllocError>
+fn push_dist(query: &Query, props: &Props, dist: Dist, text: &mut String) -> Result<(), AllocError>
     requires { IsProps query.now props.now }
     ensures ok { OnOk result (Adds (string_bytes text.old)
         (texts.dist_text query.now dist) (string_bytes text.new)) }

@@ -57,18 +57,26 @@ module _ (q : Query) (laws : ResultLaws q) where
   pub implemented_from : (x : ExprParts) → IsMember q x → is_logical x.operator ≡ false → (e : ExprParts) × (rule : Rule) × IsImplementedFrom q x e rule
   implemented_from _ root_origin physical = absurd (false≢true (sym physical))
   implemented_from _ (child_origin e group member child) physical = absurd (false≢true (sym physical))
-  implemented_from _ (result e other rule n member has) physical = (e, rule, record {
-    from = record { member = member; of_group = sym (laws.group rule e None n other has); logical = laws.logical rule e None n other has };
-    kind = sym (laws.explored rule e None n other has) ∙ physical;
-    applies = laws.applies rule e None n other has;
-    is_result = inl (n, has);
-  })
-  implemented_from _ (bound_result e bound other rule n member bound_member has) physical = (e, rule, record {
-    from = record { member = member; of_group = sym (laws.group rule e (Some bound) n other has); logical = laws.logical rule e (Some bound) n other has };
-    kind = sym (laws.explored rule e (Some bound) n other has) ∙ physical;
-    applies = laws.applies rule e (Some bound) n other has;
-    is_result = inr (bound, n, bound_member, has);
-  })
+  implemented_from _ (result e other rule n member has) physical = (
+    e,
+    rule,
+    record {
+      from = record { member = member; of_group = sym (laws.group rule e None n other has); logical = laws.logical rule e None n other has };
+      kind = sym (laws.explored rule e None n other has) ∙ physical;
+      applies = laws.applies rule e None n other has;
+      is_result = inl (n, has);
+    },
+  )
+  implemented_from _ (bound_result e bound other rule n member bound_member has) physical = (
+    e,
+    rule,
+    record {
+      from = record { member = member; of_group = sym (laws.group rule e (Some bound) n other has); logical = laws.logical rule e (Some bound) n other has };
+      kind = sym (laws.explored rule e (Some bound) n other has) ∙ physical;
+      applies = laws.applies rule e (Some bound) n other has;
+      is_result = inr (bound, n, bound_member, has);
+    },
+  )
 
   module _ (room : ℕ) (looks : List (ℕ × ℕ)) (group : KeyParts) (is_goal : IsGoal q (Imp group)) where
     -- a logical member is shown in a cell where the exploration is shown finished
@@ -121,8 +129,8 @@ module _ (q : Query) (group : KeyParts) where
       let later = later_proceeded (IsChildWord q start.goal) u middle w after on in
       let explored_then : ShowsFinished (meaning_of q) room w.looks (goal_word (Exp group)) = still_finished (meaning_of q) room u.looks w.looks later (goal_word (Exp group)) explored in
       let implemented_all : after.waits ≡ 0 → (e : ExprParts) → IsLogicalIn (IsMember q) group e → ShowsFinished (meaning_of q) room w.looks (goal_word (ImpE e)) = λ none e is_in.
-          let held : IsLogicalWord q group (word_of e) = (e, record { candidate = candidates e is_in.member; of_group = is_in.of_group; logical = is_in.logical }, refl) in
-          all.finished none (word_of e) (all.knew (word_of e) held (logical_shown q laws room u.looks group names.is_goal explored e is_in)) in
+      let held : IsLogicalWord q group (word_of e) = (e, record { candidate = candidates e is_in.member; of_group = is_in.of_group; logical = is_in.logical }, refl) in
+      all.finished none (word_of e) (all.knew (word_of e) held (logical_shown q laws room u.looks group names.is_goal explored e is_in)) in
       works_end (meaning_of q) room (Adds q (Imp group)) v start w after (record { cost = 0; node = 0 }) came (goes_on q children small (Imp group) v start w after names whole)
       (λ none. promise_shown q children small (Imp group) asked room w.looks start.goal names
       (λ child is. ⊎_elim (λ exp. subst (λ k. ShowsFinished (meaning_of q) room w.looks (goal_word k)) (sym exp) explored_then) (λ (e, is_in, imp). subst (λ k. ShowsFinished (meaning_of q) room w.looks (goal_word k)) (sym imp) (implemented_all none e is_in)) is)

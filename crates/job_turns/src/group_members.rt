@@ -11,7 +11,10 @@ ghost use Rattle.job_turns.specs.Groups.{implemented, as_expr};
 
 use board_moves::{Group, Members, Words};
 use goal_rules::candidates_are_in_order;
-use query_core::{Expr, Goal, GoalParts, Key, KeyParts, Query, candidates_are_known, expressions_are_one, groups_are_known};
+use query_core::{
+    Expr, Goal, GoalParts, Key, KeyParts, Query, candidates_are_known, expressions_are_one,
+    groups_are_known,
+};
 
 /// A group that is explored.
 #[derive(Clone, Copy)]
@@ -89,13 +92,7 @@ fn next_logical(query: &Query, group: KeyParts, before: Option<u64>) -> Option<u
     groups_are_known();
     let after = expr_before(before);
     match query.next_candidate(Key::make(group), after) {
-        Some(next) => {
-            if next.logical() {
-                Some(next.0)
-            } else {
-                None
-            }
-        }
+        Some(next) => { if next.logical() { Some(next.0) } else { None } }
         None => None,
     }
 }

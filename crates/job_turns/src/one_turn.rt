@@ -101,7 +101,9 @@ fn work<'q, H: Hints>(
         GoalKind::Xf(e, rule) => apply_rule(query, board, seat, job, e, rule, hints),
         GoalKind::Imp(group) => implement_group(query, board, seat, job, group, hints),
         GoalKind::ImpE(e) => implement_expression(query, board, seat, job, e, hints),
-        GoalKind::Opt(group, wanted) => choose_plan(query, props, board, seat, job, group, wanted, hints),
+        GoalKind::Opt(group, wanted) => choose_plan(
+            query, props, board, seat, job, group, wanted, hints,
+        ),
         GoalKind::OptE(e, wanted) => choose_mode(query, props, board, seat, job, e, wanted, hints),
     }
 }

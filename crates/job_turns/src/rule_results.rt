@@ -27,7 +27,9 @@ use goal_board::{Board, Hints, Inserted, Seat};
 use goal_rules::{Rules, entries_are_known};
 use goal_space::{GoalKind, goals_are_known};
 use query_core::{Children, Expr, ExprParts, KeyParts, Query, candidates_are_known};
-use xform_rules::{Rule, members_are_candidates, result_at, results_are_candidates, results_are_known};
+use xform_rules::{
+    Rule, members_are_candidates, result_at, results_are_candidates, results_are_known,
+};
 
 /// Puts in a member that the goal asks for, with the origins of the groups that it stands on. False where one found every cell taken.
 pub(crate) fn put_brought<'q>(

@@ -10,11 +10,11 @@ ghost use Rattle.orca_cli.specs.Asked.{IsBoundAs};
 ghost use Rattle.orca_cli.specs.Run.{IsAnswer};
 ghost use Rattle.orca_cli.specs.Views.{text_of};
 
-use command_line::Choices;
 use crate::ending::{Ending, refused_query};
 use crate::faults::{bind_fault_text, props_fault_text, sql_fault_text};
 use crate::planning::planned;
 use crate::sections::with_sections;
+use command_line::Choices;
 use query_core::{Catalog, Query};
 use request_props::Props;
 use sql_bind::bind;

@@ -8,11 +8,11 @@ ghost use Rattle.orca_cli.specs.Stages.{IsEndingAt, IsEndingOver};
 ghost use Rattle.orca_cli.specs.Views.{text_of};
 
 use crate::answer::answer;
-use command_line::{Choices, Command, Files};
 use crate::ending::{Ending, failed_read, refused_catalog, refused_query};
 use crate::faults::catalog_fault_text;
 use crate::reading::{Read, read_file};
 use catalog_json::read_catalog;
+use command_line::{Choices, Command, Files};
 use orca_io::Shelf;
 use query_core::Catalog;
 use sql_reader::one_outcome;

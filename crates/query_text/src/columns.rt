@@ -102,11 +102,7 @@ fn function_text(function: AggFunc) -> &'static str
 }
 
 // The column that an aggregate goes over, or a star.
-fn push_argument(
-    query: &Query,
-    argument: Option<u32>,
-    text: &mut String,
-) -> Result<(), AllocError>
+fn push_argument(query: &Query, argument: Option<u32>, text: &mut String) -> Result<(), AllocError>
     ensures ok { OnOk result (Adds (string_bytes text.old)
         (texts.argument_text query.now argument) (string_bytes text.new)) }
 {

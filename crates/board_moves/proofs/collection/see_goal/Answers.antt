@@ -15,7 +15,7 @@ returns-in-None-answer-clause-sees g c =
     let b = c.args.board.now in (
       refl,
       sees_open (g.R.GoalRules.meaning b.key.rules) b.key.room (hands c.args.seat.now) c.args.goal c.in-Some.at (hands c.find.new.seat) (hands c.answer.new.seat) c.requires.some_goal c.in-Some.ensures.answer
-      c.in-None-answer.ensures.answer,
+          c.in-None-answer.ensures.answer,
     )
 
 pub returns-in-None-clause-sees : goal.returns-in-None-clause-sees
@@ -23,5 +23,5 @@ returns-in-None-clause-sees g c =
     let b = c.args.board.now in (
       refl,
       sees_absent (g.R.GoalRules.meaning b.key.rules) b.key.room (hands c.args.seat.now) c.args.goal (hands c.find.new.seat) c.in-None.ensures.answer
-      (not_shown (g.R.GoalRules.meaning b.key.rules) b.key.room (hands c.args.seat.now).looks c.args.goal c.find.result c.in-None.is c.find.ensures.shown),
+          (not_shown (g.R.GoalRules.meaning b.key.rules) b.key.room (hands c.args.seat.now).looks c.args.goal c.find.result c.in-None.is c.find.ensures.shown),
     )

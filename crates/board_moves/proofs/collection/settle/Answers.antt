@@ -9,9 +9,9 @@ returns-then-first-second-clause-settles g c =
     let group = c.args.group.now in
     let meaning = g.R.GoalRules.meaning b.key.rules in (
       settles_looks meaning b.key.room (g.W.Words.has group) (g.W.Members.goal_of group) (g.W.Group.origin group) (g.W.Group.goal group) c.requires.group (hands c.args.seat.now) (hands c.collect.new.seat) (hands c.count-second.new.seat) c.in-Ok.first c.count-second.result
-      c.in-Ok.ensures.collects c.count-second.ensures.counts,
+          c.in-Ok.ensures.collects c.count-second.ensures.counts,
       settles_promise meaning b.key.room (g.W.Words.has group) (g.W.Members.goal_of group) (g.W.Group.origin group) (g.W.Group.goal group) c.requires.group (hands c.args.seat.now) (hands c.collect.new.seat) (hands c.count-second.new.seat) c.in-Ok.first c.count-second.result
-      c.in-Ok.ensures.collects c.count-second.ensures.counts c.if-first-second.true c.requires.origin,
+          c.in-Ok.ensures.collects c.count-second.ensures.counts c.if-first-second.true c.requires.origin,
     )
 
 pub returns-else-first-second-clause-settles : goal.returns-else-first-second-clause-settles

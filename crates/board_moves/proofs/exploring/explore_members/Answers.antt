@@ -37,7 +37,7 @@ returns-in-Yes-clause-works g c =
     let Adds = meaning.child c.args.job.now.right.goal in
     let same : c.rounds.job.right.goal ≡ g.W.Group.goal group = c.rounds.invariant.proceeds.same_goal ∙ c.requires.goal in (
       proceeds_then Adds (hands c.args.seat.now) c.args.job.now.right (hands c.rounds.seat) c.rounds.job.right (hands c.settle.new.seat) c.rounds.job.right c.rounds.invariant.proceeds
-      (proceeds_looked Adds (hands c.rounds.seat) c.rounds.job.right (hands c.settle.new.seat) c.in-Yes.ensures.settles.0),
+          (proceeds_looked Adds (hands c.rounds.seat) c.rounds.job.right (hands c.settle.new.seat) c.in-Yes.ensures.settles.0),
       (
         c.rounds.invariant.no_wait,
         subst (ShowsPromise meaning b.key.room (hands c.settle.new.seat).looks) (sym same) c.in-Yes.ensures.settles.1,
@@ -73,9 +73,9 @@ returns-then-is_waiting-clause-works g c =
     let Adds = meaning.child c.args.job.now.right.goal in
     let looks = settles_only_looks meaning b.key.room (g.W.Words.has group) (g.W.Members.goal_of group) (hands c.rounds.seat) (g.W.Group.goal group) c.settle.result (hands c.settle.new.seat) c.settle.ensures.settles in (
       proceeds_then Adds (hands c.args.seat.now) c.args.job.now.right (hands c.settle.new.seat) c.rounds.job.right (hands c.await_found.new.seat) c.await_found.new.job.right
-      (proceeds_then Adds (hands c.args.seat.now) c.args.job.now.right (hands c.rounds.seat) c.rounds.job.right (hands c.settle.new.seat) c.rounds.job.right c.rounds.invariant.proceeds
-      (proceeds_looked Adds (hands c.rounds.seat) c.rounds.job.right (hands c.settle.new.seat) looks))
-      (subst (λ k. Proceeds (meaning.child k) (hands c.settle.new.seat) c.rounds.job.right (hands c.await_found.new.seat) c.await_found.new.job.right) c.rounds.invariant.proceeds.same_goal c.in-Some.ensures.awaits.proceeds),
+          (proceeds_then Adds (hands c.args.seat.now) c.args.job.now.right (hands c.rounds.seat) c.rounds.job.right (hands c.settle.new.seat) c.rounds.job.right c.rounds.invariant.proceeds
+          (proceeds_looked Adds (hands c.rounds.seat) c.rounds.job.right (hands c.settle.new.seat) looks))
+          (subst (λ k. Proceeds (meaning.child k) (hands c.settle.new.seat) c.rounds.job.right (hands c.await_found.new.seat) c.await_found.new.job.right) c.rounds.invariant.proceeds.same_goal c.in-Some.ensures.awaits.proceeds),
       c.if-is_waiting.ensures.0 refl,
     )
 

@@ -46,10 +46,10 @@ put_with_members-requires-clause-shown g c = λ bound is_in.
 
 pub put_with_members-requires-clause-asked : goal.put_with_members-requires-clause-asked
 put_with_members-requires-clause-asked g c = λ bound x is_in (n, (found, has, brought)). (
-      Xf c.args.e c.args.rule,
-      subst (λ k. NamesGoal c.args.query.now k (Xf c.args.e c.args.rule)) (sym c.in-Complete.ensures.awaits.0.same_goal) c.requires.goal,
-      (found, inr (bound, n, is_in.member, has), brought),
-    )
+  Xf c.args.e c.args.rule,
+  subst (λ k. NamesGoal c.args.query.now k (Xf c.args.e c.args.rule)) (sym c.in-Complete.ensures.awaits.0.same_goal) c.requires.goal,
+  (found, inr (bound, n, is_in.member, has), brought),
+)
 
 pub returns-then-put_with_members-clause-works : goal.returns-then-put_with_members-clause-works
 returns-then-put_with_members-clause-works g c =
