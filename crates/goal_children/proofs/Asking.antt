@@ -1,6 +1,5 @@
 -- What is asked of a child, for a request that has numbers, has numbers too, whether or not the request lies in the group.
-use Rattle.std.proofs.Common.{◌≡◌, ℕ, zero, suc, ◌≤◌, List, [], ◌∷◌, ap, sym, subst, inl, inr, arith}
-use Rattle.std.specs.Prelude.{⊤}
+use Rattle.std.proofs.Common.{ℕ, zero, suc, sym, subst, inl, inr, arith}
 use Rattle.query_core.specs.Expressions.{expr_of, physical_children, IsCandidate}
 use Rattle.query_core.specs.declared.query.Query.{Query}
 use Rattle.query_core.specs.declared.words.KeyParts.{KeyParts}
@@ -13,14 +12,14 @@ use Rattle.request_props.specs.declared.request.Dist.{Dist}
 use Rattle.request_props.specs.declared.request.Dist.TheVariants as dists
 use Rattle.request_props.specs.declared.request.Request.{Request}
 use Rattle.request_props.specs.Fitting.{DistFits, Fits}
-use Rattle.plan_space.specs.Lines.{line_of, request}
+use Rattle.plan_space.specs.Lines.{request}
 use Rattle.plan_space.specs.declared.lines.LeftDist.{LeftDist}
 use Rattle.plan_space.specs.declared.lines.LeftDist.TheVariants as left_dists
 use Rattle.plan_space.specs.declared.lines.LeftOrder.{LeftOrder}
 use Rattle.plan_space.specs.declared.lines.LeftOrder.TheVariants as left_orders
 use Rattle.plan_space.specs.declared.lines.Line.{Line}
 use Rattle.plan_space.specs.declared.lines.Line.TheVariants as lines
-use Rattle.plan_space.specs.Alternatives.{dist_asked, order_asked, left_asked, asked_of, DistServes, OrderServes, LeftServes, JoinServes, LineServes, IsAlternative}
+use Rattle.plan_space.specs.Alternatives.{dist_asked, left_asked, asked_of, DistServes, OrderServes, LeftServes, LineServes, IsAlternative}
 use Rattle.plan_space.specs.Choices.{groups_of}
 use Rattle.plan_space.specs.Enforcers.{EnforcedBy, movers_of, enforcers_by, enforcers_of, Among}
 use Rattle.plan_space.specs.Laws.{RequestsFit, AsksWhatFits}

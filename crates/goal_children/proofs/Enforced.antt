@@ -1,35 +1,23 @@
 -- What enforcers ask for, as the program finds it.
-use Rattle.std.proofs.Common.{◌≡◌, ℕ, ◌+◌, ◌<◌, ◌≤◌, List, [], ◌∷◌, Option, None, Some, length, slice_get, refl, sym, subst, ap, ◌∙◌, ◌⊎◌, inl, inr, zero, suc, arith}
+use Rattle.std.proofs.Common.{◌≡◌, ℕ, ◌≤◌, List, [], ◌∷◌, Option, None, Some, length, slice_get, refl, sym, subst, ap, ◌∙◌, ◌⊎◌, inl, inr, zero, suc, arith}
 use Rattle.std.specs.Prelude.{IfSome}
 use Rattle.std.specs.Option.{option_map}
-use Rattle.query_core.specs.Expressions.{expr_of, physical_children, IsCandidate}
-use Rattle.query_core.specs.declared.words.Key.{Key}
 use Rattle.query_core.specs.declared.query.Query.{Query}
 use Rattle.query_core.specs.declared.words.KeyParts.{KeyParts}
-use Rattle.query_core.specs.declared.expressions.Children.{Children}
-use Rattle.query_core.specs.declared.expressions.Children.TheVariants as arities
-use Rattle.query_core.specs.declared.expressions.PhysicalExpr.{PhysicalExpr}
 use Rattle.request_props.specs.Numbered.{lists_of, orders_of}
 use Rattle.request_props.specs.Requests.{IsInRange}
 use Rattle.request_props.specs.declared.request.Dist.{Dist}
 use Rattle.request_props.specs.declared.request.Dist.TheVariants as dists
 use Rattle.request_props.specs.declared.request.Request.{Request}
-use Rattle.plan_space.specs.Alternatives.{IsAlternative, asked_of}
-use Rattle.plan_space.specs.Choices.{groups_of}
-use Rattle.plan_space.specs.Enforcers.{EnforcedBy, movers_of, mergers_of, enforcers_by, enforcers_of, Among}
-use Rattle.plan_space.specs.declared.lines.Line.{Line}
-use Rattle.plan_space.specs.Laws.{AsksWhatFits}
-use Rattle.plan_tree.specs.Alternatives.{AreAsked, Asks, IsAltBy}
+use Rattle.plan_space.specs.Enforcers.{EnforcedBy, movers_of, enforcers_by, enforcers_of, Among}
 use Rattle.plan_tree.specs.Enforcers.{AreKept, IsEnforced, IsEnforcerAt, LiesIn}
-use Rattle.plan_tree.specs.declared.alternatives.Alt.{Alt}
 use Rattle.plan_tree.specs.declared.enforcers.Enforced.{Enforced}
-use Rattle.goal_space.specs.Children.{IsAsked, CanEnforce}
 use Rattle.goal_space.specs.declared.goals.GoalKind.{GoalKind}
 use Rattle.goal_space.specs.declared.goals.GoalKind.TheVariants.{Opt}
 use Rattle.goal_children.specs.Over.{IsNumberedRequest}
-use Rattle.goal_children.specs.Choices.{IsOfAlt, IsOfEnforcer, IsOfMode, IsOfModesBelow, IsOfRequest, IsOfWishes}
+use Rattle.goal_children.specs.Choices.{IsOfEnforcer, IsOfRequest}
 use Rattle.goal_children.specs.Finding.{FindsFrom, sooner_of}
-use Rattle.goal_children.proofs.Asking.{asks_numbered, enforcer_numbered}
+use Rattle.goal_children.proofs.Asking.{enforcer_numbered}
 use Rattle.goal_children.proofs.Finds.{finds_as, sooner_is}
 use Rattle.goal_children.proofs.OverChildren.{request_in_range}
 

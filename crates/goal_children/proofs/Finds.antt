@@ -1,5 +1,5 @@
 -- Laws of the least word of a kind of goals.
-use Rattle.std.proofs.Common.{◌≡◌, ℕ, ◌<◌, ◌≤◌, Option, None, Some, refl, ap, sym, subst, ◌∙◌, arith, ◌⊎◌, inl, inr}
+use Rattle.std.proofs.Common.{◌≡◌, ℕ, ◌≤◌, Option, None, Some, sym, subst, arith, ◌⊎◌, inl, inr}
 use Rattle.std.specs.Prelude.{nat_lt, IfSome}
 use Rattle.std.proofs.lemmas.Bool.{cond_both, ltb-true, ltb-false}
 use Rattle.goal_space.specs.Words.{goal_word, IsInRange}
@@ -23,7 +23,7 @@ finds_as S T bound (Some found) to from finds = record {
 }
 
 -- of one kind there is nothing from the bound on, so what is found is of the other
-finds_right : (S T : GoalKind → Type 0) (bound : ℕ) (found : Option GoalKind) → FindsFrom S bound None → FindsFrom T bound found
+pub finds_right : (S T : GoalKind → Type 0) (bound : ℕ) (found : Option GoalKind) → FindsFrom S bound None → FindsFrom T bound found
     → FindsFrom (λ k. S k ⊎ T k) bound found
 finds_right S T bound None none finds = λ k kind above. elim kind [ inl first ↦ none k first above | inr second ↦ finds k second above ]
 finds_right S T bound (Some found) none finds = record {
@@ -34,7 +34,7 @@ finds_right S T bound (Some found) none finds = record {
 }
 
 -- the lesser word of both kinds
-finds_left : (S T : GoalKind → Type 0) (bound : ℕ) (found : GoalKind) → IsLeastFrom S bound found
+pub finds_left : (S T : GoalKind → Type 0) (bound : ℕ) (found : GoalKind) → IsLeastFrom S bound found
     → ((k : GoalKind) → T k → bound ≤ goal_word k → goal_word found ≤ goal_word k) → IsLeastFrom (λ k. S k ⊎ T k) bound found
 finds_left S T bound found finds other = record {
   is = inl finds.is;

@@ -1,5 +1,5 @@
 -- Words of candidates, looked at one after the other.
-use Rattle.std.proofs.Common.{◌≡◌, ℕ, ◌+◌, ◌<◌, List, get_or, sym, subst, ap, ◌∙◌, inl, inr, arith}
+use Rattle.std.proofs.Common.{◌≡◌, ℕ, ◌+◌, List, get_or, subst, ap, ◌∙◌, inl, inr, arith}
 use Rattle.std.proofs.lemmas.Bool.{cases_lt}
 use Rattle.query_core.specs.Expressions.{word_of, HasWord, IsCandidate, IsCandidateWord, IsPacked, IsWord}
 use Rattle.query_core.specs.declared.query.Query.{Query}

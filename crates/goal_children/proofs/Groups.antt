@@ -1,5 +1,5 @@
 -- The goals of the groups that an expression stands on.
-use Rattle.std.proofs.Common.{◌≡◌, ℕ, Option, Some, refl, sym, subst, ap, ◌∙◌, ◌⊎◌, inl, inr}
+use Rattle.std.proofs.Common.{◌≡◌, ℕ, Option, refl, sym, subst, ap, ◌∙◌, ◌⊎◌, inl, inr}
 use Rattle.query_core.specs.declared.words.KeyParts.{KeyParts}
 use Rattle.query_core.specs.declared.expressions.Children.{Children}
 use Rattle.query_core.specs.declared.expressions.Children.TheVariants.{Two}

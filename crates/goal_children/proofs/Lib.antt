@@ -9,5 +9,7 @@ pub mod Rules
 pub mod OfQuery
 pub mod Groups
 pub mod Enforced
-pub mod Asked
+pub mod Alternatives
 pub mod First
+pub mod Collecting
+pub mod ByKind

@@ -1,12 +1,11 @@
 -- The goals of a query, and their children over the words of all members.
-use Rattle.std.proofs.Common.{◌≡◌, ℕ, List, subst, sym, ◌∙◌, inl, inr}
-use Rattle.std.specs.List.{Contains}
+use Rattle.std.proofs.Common.{◌≡◌, ℕ, List, subst, inl, inr}
 use Rattle.std.proofs.lemmas.List.Elements.{All-contains}
 use Rattle.query_core.specs.Expressions.{word_of, IsCandidate, IsPacked}
 use Rattle.query_core.specs.declared.query.Query.{Query}
 use Rattle.query_core.specs.declared.expressions.ExprParts.{ExprParts}
 use Rattle.xform_rules.specs.Closure.{IsMember, IsMemberWord, IsClosureOf}
-use Rattle.goal_space.specs.Children.{IsChildGoal, IsLogicalIn, CanServe, IsListedIn}
+use Rattle.goal_space.specs.Children.{IsChildGoal, IsListedIn}
 use Rattle.goal_space.specs.Laws.{IsOfCandidate, HasFittingRequest}
 use Rattle.goal_space.specs.declared.goals.GoalKind.{GoalKind}
 use Rattle.goal_space.specs.declared.goals.GoalKind.TheVariants.{Exp, ExpE, Xf, Imp, ImpE, Opt, OptE}

@@ -1,6 +1,5 @@
 -- The children of a goal over a query are goals over it.
 use Rattle.std.proofs.Common.{◌≡◌, ℕ, ◌≤◌, List, length, sym, subst, inl, inr, arith}
-use Rattle.std.specs.Prelude.{⊤}
 use Rattle.query_core.specs.Keys as keys
 use Rattle.query_core.specs.Keys.{IsGroup}
 use Rattle.query_core.specs.Expressions.{children_of, expr_of, physical_children, IsCandidate, IsChild, IsPacked}

@@ -1,12 +1,12 @@
 -- How the next child is found: the least word of each kind of child, and of several kinds.
-use Rattle.std.specs.Prelude.{ℕ, Bool, true, false, ◌≡◌, ◌≤◌, ◌⊎◌, List, Option, None, Some, nat_lt, if◌then◌else◌}
+use Rattle.std.specs.Prelude.{ℕ, Bool, true, false, ◌≡◌, ◌≤◌, ◌⊎◌, ◌↔◌, List, All, Option, None, Some, nat_lt, if◌then◌else◌}
+use Rattle.std.specs.List.{Contains}
 use Rattle.query_core.specs.Expressions.{children_of, IsChild}
 use Rattle.query_core.specs.declared.query.Query.{Query}
 use Rattle.query_core.specs.declared.words.KeyParts.{KeyParts}
 use Rattle.query_core.specs.declared.expressions.Children.{Children}
 use Rattle.query_core.specs.declared.expressions.ExprParts.{ExprParts}
 use Rattle.query_core.specs.declared.expressions.PhysicalExpr.{PhysicalExpr}
-use Rattle.request_props.specs.declared.request.Request.{Request}
 use Rattle.xform_rules.specs.Rules.{explores}
 use Rattle.xform_rules.specs.Results.{Applies}
 use Rattle.xform_rules.specs.declared.rules.Rule.{Rule}
@@ -14,7 +14,7 @@ use Rattle.xform_rules.specs.declared.rules.Rule.TheVariants.{JoinAssociate}
 use Rattle.goal_space.specs.Words.{goal_word, IsInRange}
 use Rattle.goal_space.specs.Children.{IsLeft, IsLogicalIn, IsRuleAt, CanServe, IsListedIn}
 use Rattle.goal_space.specs.declared.goals.GoalKind.{GoalKind}
-use Rattle.goal_space.specs.declared.goals.GoalKind.TheVariants.{Exp, ExpE, Xf, Imp, ImpE, Opt, OptE}
+use Rattle.goal_space.specs.declared.goals.GoalKind.TheVariants.{Exp, ExpE, Xf, Imp, ImpE, OptE}
 use Rattle.goal_children.specs.declared.jobs.Phase.{Phase}
 use Rattle.goal_children.specs.declared.jobs.Phase.TheVariants.{Exploration, Implementation}
 use Rattle.goal_children.specs.declared.jobs.MemberJob.{MemberJob}
@@ -39,6 +39,16 @@ abbrev pub sooner_of : Option GoalKind → Option GoalKind → Option GoalKind
 sooner_of None b = b
 sooner_of (Some a) None = Some a
 sooner_of (Some a) (Some b) = if nat_lt (goal_word b) (goal_word a) then Some b else Some a
+
+-- the list has the goals of the kind, and no others, each as often as it likes
+pub record AreGoalsOf (Kind : GoalKind → Type 0) (goals : List GoalKind) : Type 0 where
+  pub exact : (goal : GoalKind) → Contains goals goal ↔ Kind goal
+  pub in_range : All IsInRange goals
+
+-- the goals of the kind came to the list, and no others
+pub record Collects (Kind : GoalKind → Type 0) (old new : List GoalKind) : Type 0 where
+  pub exact : (goal : GoalKind) → Contains new goal ↔ (Contains old goal ⊎ Kind goal)
+  pub in_range : All IsInRange old → All IsInRange new
 
 -- ---- kinds of children
 

@@ -1,7 +1,7 @@
 //! The children of a goal, in the order of words. No call here takes memory.
 #![tactic(auto)]
 
-ghost use Rattle.std.specs.Prelude.{◌≡◌, IfSome, MatchOption, OnOk};
+ghost use Rattle.std.specs.Prelude.{◌≡◌, IfOk, IfSome, MatchOption, OnOk};
 ghost use Rattle.std.specs.List.{All};
 ghost use Rattle.std.specs.List.Sorted.{IsStrictlyIncreasing};
 ghost use Rattle.query_core.specs.Keys.{IsGroup};
@@ -11,8 +11,10 @@ ghost use Rattle.goal_space.specs.Words.{goal_word, IsInRange};
 ghost use Rattle.goal_space.specs.declared.goals.GoalKind.{GoalKind as AnyGoal};
 ghost use Rattle.goal_children.specs.Over.{IsGoalOver, IsGoalWordOver, IsNumberedRequest};
 ghost use Rattle.goal_children.specs.Children.{AreChildren, AreNoMore, IsChildIn, IsChildWordAt, IsLastChild, IsNextChild};
+ghost use Rattle.goal_children.specs.Choices.{AreAskedBy};
 ghost use Rattle.goal_children.specs.Finding.{FindsFrom, IsOfExpression};
 
+use crate::asked::{asked_goals, first_among};
 use crate::choice::{asked_goal_from, enforced_goal_from};
 use crate::expressions::{group_goal_from, left_goal_from, rule_goal_from};
 use crate::finding::{bound_behind, goal_from, known_goal, sooner};
@@ -22,7 +24,7 @@ use crate::members::member_goal_from;
 use goal_space::{GoalKind, goal_kinds_are_one};
 use query_core::{ExprParts, Goal, KeyParts, Query, candidates_are_known, groups_are_known};
 use request_props::{Props, Request};
-use std::alloc::AllocError;
+use std::alloc::{AllocError, Global};
 
 /// The child at this place, from 0, in the order of words, over the listed members.
 pub fn child(query: &Query, props: &Props, members: &[u64], goal: Goal, n: u32) -> Option<Goal>
@@ -63,6 +65,7 @@ fn nth_child(query: &Query, props: &Props, members: &[u64], goal: GoalKind, n: u
 
 /// Puts the children of the goal into the list, ascending by their words, in place of what it held.
 pub fn list_children(
+    alloc: Global,
     query: &Query,
     props: &Props,
     members: &[u64],
@@ -79,12 +82,79 @@ pub fn list_children(
     children_are_over_the_query();
     goal_kinds_are_one();
     list.clear();
+    let asked = asked_by(alloc, query, props, goal)?;
     let mut after = None;
-    'children: while let Some(child) = next_child(query, props, members, goal, after) {
+    'children: while let Some(child) = next_or_asked(query, props, members, goal, &asked, after) {
         list.push(child)?;
         after = Some(child.word());
     }
     Ok(())
+}
+
+// What an expression asks for to serve a request, if the goal is of that kind. So its modes are
+// looked at once, and not for each child.
+fn asked_by(
+    alloc: Global,
+    query: &Query,
+    props: &Props,
+    goal: GoalKind,
+) -> Result<Vec<GoalKind>, AllocError>
+    requires props { IsProps query.now props.now }
+    requires goal { IsGoalOver query.now goal }
+    ensures { IfOk result (λ asked. AreAskedBy query.now goal asked.items) }
+{
+    match goal {
+        GoalKind::OptE(e, wanted) => asked_goals(alloc, query, props, e, wanted),
+        _ => Ok(Vec::new(alloc)),
+    }
+}
+
+// The next child; where the goal is an expression's for a request, out of what it asks for.
+fn next_or_asked(
+    query: &Query,
+    props: &Props,
+    members: &[u64],
+    goal: GoalKind,
+    asked: &[GoalKind],
+    after: Option<Goal>,
+) -> Option<GoalKind>
+    requires props { IsProps query.now props.now }
+    requires candidates { All (IsCandidateWord query.now) members.now }
+    requires ascending { IsStrictlyIncreasing members.now }
+    requires goal { IsGoalOver query.now goal }
+    requires asked { AreAskedBy query.now goal asked.now }
+    ensures next { MatchOption result
+        (IsLastChild query.now members.now goal after)
+        (IsNextChild query.now members.now goal after) }
+    ensures in_range { IfSome result IsInRange }
+{
+    // For the proof: children have words.
+    children_are_over_the_query();
+    match bound_behind(after) {
+        Some(bound) => child_or_asked_from(query, props, members, goal, asked, bound),
+        None => None,
+    }
+}
+
+fn child_or_asked_from(
+    query: &Query,
+    props: &Props,
+    members: &[u64],
+    goal: GoalKind,
+    asked: &[GoalKind],
+    bound: u64,
+) -> Option<GoalKind>
+    requires props { IsProps query.now props.now }
+    requires candidates { All (IsCandidateWord query.now) members.now }
+    requires ascending { IsStrictlyIncreasing members.now }
+    requires goal { IsGoalOver query.now goal }
+    requires asked { AreAskedBy query.now goal asked.now }
+    ensures { FindsFrom (IsChildIn query.now members.now goal) bound result }
+{
+    match goal {
+        GoalKind::OptE(_, _) => first_among(asked, bound),
+        _ => child_from(query, props, members, goal, bound),
+    }
 }
 
 /// The child of the least word, over the listed members; behind that of a goal, where one is given.
@@ -193,13 +263,22 @@ fn chosen_from(
     requires numbered { IsNumberedRequest query.now wanted }
     ensures { FindsFrom (IsChildIn query.now members.now (GoalKind.Opt group wanted)) bound result }
 {
-    // For the proof: groups have keys.
+    // For the proof: groups have keys, and words fit.
     groups_are_known();
-    let job = MemberJob::Serve(wanted);
-    let served = member_goal_from(query, props, members, group, job, bound);
-    let enforced = enforced_goal_from(query, props, group, wanted, bound);
-    sooner(
-        goal_from(GoalKind::Imp(group), bound),
-        sooner(served, enforced),
+    goal_kinds_are_one();
+    // Words go by kind: the group's implementation, its other requests, and then its members.
+    if let Some(goal) = goal_from(GoalKind::Imp(group), bound) {
+        return Some(goal);
+    }
+    if let Some(goal) = enforced_goal_from(query, props, group, wanted, bound) {
+        return Some(goal);
+    }
+    member_goal_from(
+        query,
+        props,
+        members,
+        group,
+        MemberJob::Serve(wanted),
+        bound,
     )
 }

@@ -131,8 +131,8 @@ fn wished_goal_from(children: Children, alt: Alt, bound: u64) -> Option<GoalKind
     }
 }
 
-// What is asked of a child.
-fn asked_of(asked: Option<(Key, Request)>) -> Option<Request>
+/// What is asked of a child.
+pub fn asked_of(asked: Option<(Key, Request)>) -> Option<Request>
     ensures { result ≡ option_map (λ a. a.1) asked }
 {
     match asked {

@@ -1,6 +1,7 @@
 //! The children of a goal, one after the other.
 #![tactic(auto)]
 
+mod asked;
 mod children;
 mod choice;
 mod expressions;

@@ -1,4 +1,4 @@
-use Rattle.std.proofs.Common.{◌≡◌, ◌<◌, ◌^◌, [], ◌∷◌, ◌++◌, subst, sym, arith}
+use Rattle.std.proofs.Common.{◌<◌, ◌^◌, subst, sym, arith}
 use Rattle.goal_space.specs.Words.{goal_word, IsInRange}
 use Rattle.goal_space.specs.declared.goals.GoalKind.{GoalKind}
 use Rattle.goal_children.specs.Children.{IsChildIn}

@@ -1,4 +1,4 @@
-use Rattle.std.proofs.Common.{◌≡◌, ◌∙◌, [], ◌∷◌, ◌++◌, length, refl, sym, arith}
+use Rattle.std.proofs.Common.{◌∙◌, [], ◌∷◌, ◌++◌, refl, arith}
 use Rattle.std.proofs.lemmas.List.{length-append}
 use Rattle.goal_space.specs.Words.{IsInRange}
 use Rattle.goal_space.specs.declared.goals.GoalKind.{GoalKind}

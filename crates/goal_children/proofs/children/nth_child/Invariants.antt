@@ -1,5 +1,4 @@
-use Rattle.std.proofs.Common.{◌≡◌, ◌≤◌, ◌-◌, List, length}
-use Rattle.goal_space.specs.declared.goals.GoalKind.{GoalKind}
+use Rattle.std.proofs.Common.{◌≤◌, ◌-◌}
 use Rattle.goal_children.proofs.Listing.{ArePassed}
 use Rattle.goal_children.proofs.children.nth_child.Given as goal
 

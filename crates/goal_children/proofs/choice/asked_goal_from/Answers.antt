@@ -1,6 +1,6 @@
 use Rattle.std.proofs.Common.{arith}
 use Rattle.goal_children.specs.Choices.{IsOfModesBelow}
-use Rattle.goal_children.proofs.Asked.{no_modes, mode_more, all_modes}
+use Rattle.goal_children.proofs.Alternatives.{no_modes, mode_more, all_modes}
 use Rattle.goal_children.proofs.Finds.{found_in_range}
 use Rattle.goal_children.proofs.choice.asked_goal_from.Goals as goal
 
@@ -20,8 +20,8 @@ modes-preserved c =
     let step = c.in-Some.ensures in
     record {
       within = omega (arith, step.1);
-      finds = mode_more c.args.query.now c.args.e c.args.wanted c.args.bound c.modes.from c.in-Some.mode c.modes.next c.goal_in_mode.result c.sooner-next.result
-          step.0 step.2 c.sooner-next.ensures c.modes.invariant.finds c.goal_in_mode.ensures;
+      finds = mode_more c.args.query.now c.args.e c.args.wanted c.args.bound c.modes.from c.in-Some.mode step.0 step.2 c.modes.next c.goal_in_mode.result
+          c.sooner-next.result c.sooner-next.ensures c.modes.invariant.finds c.goal_in_mode.ensures;
     }
 
 -- no mode is left

@@ -1,4 +1,4 @@
-use Rattle.goal_children.proofs.Asked.{left_in_range, right_in_range, mode_finds}
+use Rattle.goal_children.proofs.Alternatives.{left_in_range, right_in_range, mode_finds}
 use Rattle.goal_children.proofs.choice.goal_in_mode.Goals as goal
 
 -- what is asked has numbers, and so codes

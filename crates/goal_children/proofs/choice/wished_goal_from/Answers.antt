@@ -1,4 +1,4 @@
-use Rattle.goal_children.proofs.Asked.{two_asked}
+use Rattle.goal_children.proofs.Alternatives.{two_asked}
 use Rattle.goal_children.proofs.choice.wished_goal_from.Goals as goal
 
 pub returns-in-Two : goal.returns-in-Two

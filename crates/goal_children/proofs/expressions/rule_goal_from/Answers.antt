@@ -1,4 +1,4 @@
-use Rattle.std.proofs.Common.{◌≡◌, ◌<◌, ◌≤◌, take, length, get_or, sym, subst, ap, arith}
+use Rattle.std.proofs.Common.{◌<◌, ◌≤◌, take, length, get_or, sym, subst, ap, arith}
 use Rattle.std.proofs.lemmas.List.{take_all, take_more}
 use Rattle.xform_rules.specs.declared.rules.Rule.TheVariants.{ExpandNAry}
 use Rattle.goal_children.specs.Finding.{does_explore, FindsFrom}

@@ -1,5 +1,4 @@
-use Rattle.std.proofs.Common.{◌≡◌, ◌+◌, ◌-◌, ◌/◌, ◌<◌, ◌≤◌, get_or, length, ap, arith}
-use Rattle.goal_children.specs.MemberJobs.{word_at}
+use Rattle.std.proofs.Common.{◌+◌, ◌-◌, ◌/◌, ◌<◌, get_or, arith}
 use Rattle.goal_children.proofs.OfMembers.{word_rises, words_rise}
 use Rattle.goal_children.proofs.members.first_from.Goals as goal
 

@@ -1,6 +1,4 @@
-use Rattle.std.proofs.Common.{◌≡◌, get_or, sym, subst, ◌∙◌, inl, inr, arith}
-use Rattle.std.proofs.lemmas.Bool.{cases_eq}
-use Rattle.query_core.specs.Expressions.{word_of, IsCandidate}
+use Rattle.std.proofs.Common.{get_or}
 use Rattle.goal_children.proofs.First.{known_word, candidate_of_word, none_more}
 use Rattle.goal_children.proofs.members.first_goal.Goals as goal
 

@@ -1,4 +1,4 @@
-use Rattle.std.proofs.Common.{◌^◌, ◌<◌, ◌-◌, All, drop, length, take, sym, subst}
+use Rattle.std.proofs.Common.{All, sym, subst}
 use Rattle.std.specs.Prelude.{MatchOption}
 use Rattle.std.proofs.lemmas.List.{take_rest}
 use Rattle.query_core.specs.Expressions.{IsCandidateWord}

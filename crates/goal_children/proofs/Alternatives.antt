@@ -1,5 +1,5 @@
 -- What alternatives ask for, as the program finds it.
-use Rattle.std.proofs.Common.{◌≡◌, ℕ, ◌+◌, ◌<◌, ◌≤◌, List, [], ◌∷◌, Option, None, Some, length, slice_get, refl, sym, subst, ap, ◌∙◌, ◌⊎◌, inl, inr, zero, suc, arith}
+use Rattle.std.proofs.Common.{◌≡◌, ℕ, ◌+◌, ◌<◌, ◌≤◌, List, [], ◌∷◌, Option, None, Some, length, refl, sym, subst, ap, ◌∙◌, ◌⊎◌, inl, inr, arith}
 use Rattle.std.specs.Prelude.{IfSome}
 use Rattle.std.proofs.lemmas.Bool.{cases_lt}
 use Rattle.std.specs.Option.{option_map}
@@ -12,26 +12,22 @@ use Rattle.query_core.specs.declared.expressions.Children.TheVariants as arities
 use Rattle.query_core.specs.declared.expressions.PhysicalExpr.{PhysicalExpr}
 use Rattle.request_props.specs.Numbered.{lists_of, orders_of}
 use Rattle.request_props.specs.Requests.{IsInRange}
-use Rattle.request_props.specs.declared.request.Dist.{Dist}
-use Rattle.request_props.specs.declared.request.Dist.TheVariants as dists
 use Rattle.request_props.specs.declared.request.Request.{Request}
-use Rattle.plan_space.specs.Alternatives.{IsAlternative, asked_of}
+use Rattle.plan_space.specs.Alternatives.{asked_of}
 use Rattle.plan_space.specs.Choices.{groups_of}
 use Rattle.plan_space.specs.Lines.{line_of}
-use Rattle.plan_space.specs.Enforcers.{EnforcedBy, movers_of, mergers_of, enforcers_by, enforcers_of, Among}
 use Rattle.plan_space.specs.declared.lines.Line.{Line}
 use Rattle.plan_space.specs.Laws.{AsksWhatFits}
 use Rattle.plan_tree.specs.Alternatives.{AreAsked, Asks, IsAltBy}
-use Rattle.plan_tree.specs.Enforcers.{AreKept, IsEnforced, IsEnforcerAt, LiesIn}
 use Rattle.plan_tree.specs.declared.alternatives.Alt.{Alt}
-use Rattle.plan_tree.specs.declared.enforcers.Enforced.{Enforced}
-use Rattle.goal_space.specs.Children.{IsAsked, CanEnforce}
+use Rattle.goal_space.specs.Children.{IsAsked}
 use Rattle.goal_space.specs.declared.goals.GoalKind.{GoalKind}
 use Rattle.goal_space.specs.declared.goals.GoalKind.TheVariants.{Opt}
 use Rattle.goal_children.specs.Over.{IsNumberedRequest}
 use Rattle.goal_children.specs.Choices.{IsOfAlt, IsOfAlternatives, IsOfMode, IsOfModesBelow, IsOfRequest, IsOfWishes}
-use Rattle.goal_children.specs.Finding.{FindsFrom, sooner_of}
-use Rattle.goal_children.proofs.Asking.{asks_numbered, enforcer_numbered}
+use Rattle.goal_children.specs.Finding.{Collects, FindsFrom, sooner_of}
+use Rattle.goal_children.proofs.Asking.{asks_numbered}
+use Rattle.goal_children.proofs.Collecting.{collects_as}
 use Rattle.goal_children.proofs.Finds.{finds_as, sooner_is}
 use Rattle.goal_children.proofs.OverChildren.{request_in_range}
 
@@ -109,10 +105,10 @@ module _ (q : Query) where
     right_is_asked (arities.Two left right) (wanted ∷ other ∷ third ∷ wishes) are ask is = absurd are
 
     module _ (e : PhysicalExpr) (wanted : Request) (mode : ℕ) (line : Line) (by : IsAltBy q e wanted mode alt line) where
-      mode_as : (goal : GoalKind) → IsOfAlt (physical_children e.operator) alt goal → IsOfMode q e wanted mode goal
+      pub mode_as : (goal : GoalKind) → IsOfAlt (physical_children e.operator) alt goal → IsOfMode q e wanted mode goal
       mode_as goal is = (line, by.is_alternative, alt_as (physical_children e.operator) (asked_of line wanted) by.asks goal is)
 
-      as_mode : (goal : GoalKind) → IsOfMode q e wanted mode goal → IsOfAlt (physical_children e.operator) alt goal
+      pub as_mode : (goal : GoalKind) → IsOfMode q e wanted mode goal → IsOfAlt (physical_children e.operator) alt goal
       as_mode goal (other, is_other, of_wishes) =
           let ours = by.is_alternative.is_line in
           let theirs = is_other.is_line in
@@ -126,6 +122,13 @@ module _ (q : Query) where
       mode_finds children bound found are finds =
           finds_as (IsOfAlt (physical_children e.operator) alt) (IsOfMode q e wanted mode) bound found mode_as as_mode
           (subst (λ (x : Children). FindsFrom (IsOfAlt x alt) bound found) are finds)
+
+      -- and what came of the alternative came of the mode
+      pub mode_collected : (children : Children) (old new : List GoalKind) → children ≡ physical_children e.operator → Collects (IsOfAlt children alt) old new
+          → Collects (IsOfMode q e wanted mode) old new
+      mode_collected children old new are collects =
+          collects_as (IsOfAlt (physical_children e.operator) alt) (IsOfMode q e wanted mode) old new mode_as as_mode
+          (subst (λ (x : Children). Collects (IsOfAlt x alt) old new) are collects)
 
       -- what the alternative asks for has a code
       module _ (few_lists : length (lists_of q) ≤ 60) (few_orders : length (orders_of q) ≤ 60) (asks_what_fits : AsksWhatFits q) (candidate : IsCandidate q (expr_of e))
@@ -164,41 +167,49 @@ module _ (q : Query) (e : PhysicalExpr) (wanted : Request) (bound : ℕ) where
   pub no_modes : FindsFrom (IsOfModesBelow q e wanted 0) bound None
   no_modes goal (mode, less, is) above = omega (arith, less)
 
-  -- the goals of the modes up to the next one that has a line
-  pub mode_more : (from mode : ℕ) (before this found : Option GoalKind) → from ≤ mode → ((m : ℕ) → from ≤ m → m < mode → line_of q e m ≡ None)
-      → found ≡ sooner_of before this → FindsFrom (IsOfModesBelow q e wanted from) bound before → FindsFrom (IsOfMode q e wanted mode) bound this
-      → FindsFrom (IsOfModesBelow q e wanted (mode + 1)) bound found
-  mode_more from mode before this found order none is first second =
-      finds_as (λ k. IsOfModesBelow q e wanted from k ⊎ IsOfMode q e wanted mode k) (IsOfModesBelow q e wanted (mode + 1)) bound found
-      (λ k kinds. elim kinds [
-        | inl (m, less, of_mode) ↦ (m, omega (arith, less, order), of_mode)
-        | inr of_mode ↦ (mode, omega arith, of_mode)
-      ])
-      (λ k (m, less, (line, alternative, wishes)). elim (cases_lt m from) [
-        | inl earlier ↦ inl (m, earlier, (line, alternative, wishes))
-        | inr not_earlier ↦ elim (cases_lt m mode) [
-          | inl skipped ↦
-              let nothing : line_of q e m ≡ None = none m not_earlier skipped in
-              let something : line_of q e m ≡ Some line = alternative.is_line in
-              absurd (cc)
-          | inr not_skipped ↦
-              let same : m ≡ mode = omega (arith, less, not_skipped) in
-              inr (subst (λ j. IsOfMode q e wanted j k) same (line, alternative, wishes))
-        ]
-      ])
-      (sooner_is (IsOfModesBelow q e wanted from) (IsOfMode q e wanted mode) bound before this found is first second)
+  -- ---- goals of the modes up to the next one that has a line
 
-  -- where no line is left, these are the goals of all modes
+  module _ (from mode : ℕ) (order : from ≤ mode) (none : (m : ℕ) → from ≤ m → m < mode → line_of q e m ≡ None) where
+    pub mode_there : (k : GoalKind) → IsOfModesBelow q e wanted from k ⊎ IsOfMode q e wanted mode k → IsOfModesBelow q e wanted (mode + 1) k
+    mode_there k (inl (m, less, of_mode)) = (m, omega (arith, less, order), of_mode)
+    mode_there k (inr of_mode) = (mode, omega arith, of_mode)
+
+    pub mode_cases : (k : GoalKind) → IsOfModesBelow q e wanted (mode + 1) k → IsOfModesBelow q e wanted from k ⊎ IsOfMode q e wanted mode k
+    mode_cases k (m, less, (line, alternative, wishes)) = elim (cases_lt m from) [
+      | inl earlier ↦ inl (m, earlier, (line, alternative, wishes))
+      | inr not_earlier ↦ elim (cases_lt m mode) [
+        | inl skipped ↦
+            let nothing : line_of q e m ≡ None = none m not_earlier skipped in
+            let something : line_of q e m ≡ Some line = alternative.is_line in
+            absurd (cc)
+        | inr not_skipped ↦
+            let same : m ≡ mode = omega (arith, less, not_skipped) in
+            inr (subst (λ j. IsOfMode q e wanted j k) same (line, alternative, wishes))
+      ]
+    ]
+
+    -- the first of them
+    pub mode_more : (before this found : Option GoalKind) → found ≡ sooner_of before this → FindsFrom (IsOfModesBelow q e wanted from) bound before
+        → FindsFrom (IsOfMode q e wanted mode) bound this → FindsFrom (IsOfModesBelow q e wanted (mode + 1)) bound found
+    mode_more before this found is first second =
+        finds_as (λ k. IsOfModesBelow q e wanted from k ⊎ IsOfMode q e wanted mode k) (IsOfModesBelow q e wanted (mode + 1)) bound found mode_there mode_cases
+        (sooner_is (IsOfModesBelow q e wanted from) (IsOfMode q e wanted mode) bound before this found is first second)
+
+  -- ---- where no line is left, these are the goals of all modes
+
+  pub mode_asks : (from : ℕ) (k : GoalKind) → IsOfModesBelow q e wanted from k → IsOfAlternatives q e wanted k
+  mode_asks from k (m, less, (line, alternative, (group, below, asked, is))) =
+      (group, below, record { mode = m; line = line; is_alternative = alternative; is_asked = asked }, is)
+
+  pub asks_mode : (from : ℕ) → ((m : ℕ) → from ≤ m → line_of q e m ≡ None) → (k : GoalKind) → IsOfAlternatives q e wanted k → IsOfModesBelow q e wanted from k
+  asks_mode from none k (group, below, asks, is) = elim (cases_lt asks.mode from) [
+    | inl earlier ↦ (asks.mode, earlier, (asks.line, asks.is_alternative, (group, below, asks.is_asked, is)))
+    | inr later ↦
+        let nothing : line_of q e asks.mode ≡ None = none asks.mode later in
+        let something : line_of q e asks.mode ≡ Some asks.line = asks.is_alternative.is_line in
+        absurd (cc)
+  ]
+
   pub all_modes : (from : ℕ) (found : Option GoalKind) → ((m : ℕ) → from ≤ m → line_of q e m ≡ None) → FindsFrom (IsOfModesBelow q e wanted from) bound found
       → FindsFrom (IsOfAlternatives q e wanted) bound found
-  all_modes from found none finds =
-      finds_as (IsOfModesBelow q e wanted from) (IsOfAlternatives q e wanted) bound found
-      (λ k (m, less, (line, alternative, (group, below, asked, is))). (group, below, record { mode = m; line = line; is_alternative = alternative; is_asked = asked }, is))
-      (λ k (group, below, asks, is). elim (cases_lt asks.mode from) [
-        | inl earlier ↦ (asks.mode, earlier, (asks.line, asks.is_alternative, (group, below, asks.is_asked, is)))
-        | inr later ↦
-            let nothing : line_of q e asks.mode ≡ None = none asks.mode later in
-            let something : line_of q e asks.mode ≡ Some asks.line = asks.is_alternative.is_line in
-            absurd (cc)
-      ])
-      finds
+  all_modes from found none finds = finds_as (IsOfModesBelow q e wanted from) (IsOfAlternatives q e wanted) bound found (mode_asks from) (asks_mode from none) finds

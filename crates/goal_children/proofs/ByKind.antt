@@ -1,0 +1,77 @@
+-- Words go by kind, so a goal of a lesser kind comes first.
+use Rattle.std.proofs.Common.{◌≡◌, ℕ, ◌+◌, ◌*◌, ◌^◌, ◌<◌, ◌≤◌, List, Option, None, Some, ◌⊎◌, inl, inr, ap, arith}
+use Rattle.query_core.specs.Goals.{kind_of, subject_of, detail_of, FitsGoal}
+use Rattle.query_core.specs.declared.query.Query.{Query}
+use Rattle.query_core.specs.declared.words.GoalParts.{GoalParts}
+use Rattle.query_core.specs.declared.words.GoalParts.TheVariants as parts
+use Rattle.query_core.specs.declared.words.KeyParts.{KeyParts}
+use Rattle.request_props.specs.declared.request.Request.{Request}
+use Rattle.goal_space.specs.Words.{goal_word, parts_of}
+use Rattle.goal_space.specs.declared.goals.GoalKind.{GoalKind}
+use Rattle.goal_space.specs.declared.goals.GoalKind.TheVariants.{Imp, Opt}
+use Rattle.goal_children.specs.declared.jobs.MemberJob.TheVariants.{Serve}
+use Rattle.goal_children.specs.Children.{IsChildIn}
+use Rattle.goal_children.specs.Choices.{IsOfEnforcer}
+use Rattle.goal_children.specs.Finding.{FindsFrom, IsLeastFrom, IsOfMembers}
+use Rattle.goal_children.proofs.Finds.{finds_as, finds_left, finds_right}
+
+-- the number of the goal's kind
+abbrev kind_number : GoalKind → ℕ
+kind_number goal = kind_of (parts_of goal)
+
+-- what a word has beside its kind has 60 bits
+fields_small : (p : GoalParts) → FitsGoal p → subject_of p * 2 ^ 12 + detail_of p < 2 ^ 60
+fields_small (parts.Exp key) fits = omega (arith, fits)
+fields_small (parts.ExpE expr) fits = omega (arith, fits)
+fields_small (parts.Xf expr rule) fits = omega (arith, fits.0, fits.2)
+fields_small (parts.Imp key) fits = omega (arith, fits)
+fields_small (parts.ImpE expr) fits = omega (arith, fits)
+fields_small (parts.Opt key request) fits = omega (arith, fits.0, fits.1)
+fields_small (parts.OptE expr request) fits = omega (arith, fits.0, fits.1)
+
+-- so a lesser kind has a lesser word
+kind_first : (k l : GoalKind) → FitsGoal (parts_of k) → kind_number k < kind_number l → goal_word k ≤ goal_word l
+kind_first k l fits less = omega (arith, fields_small (parts_of k) fits, less)
+
+module _ (q : Query) (words : List ℕ) (group : KeyParts) (wanted : Request) (bound : ℕ) where
+  -- the members that serve, and what enforcers ask for
+  abbrev Served : GoalKind → Type 0
+  Served = IsOfMembers q words group (Serve wanted)
+
+  abbrev Enforced : GoalKind → Type 0
+  Enforced = IsOfEnforcer q group wanted
+
+  served_kind : (k : GoalKind) → Served k → kind_number k ≡ 6
+  served_kind k (e, can, is) = ap kind_number is
+
+  enforced_kind : (k : GoalKind) → Enforced k → kind_number k ≡ 5
+  enforced_kind k (e, can, is) = ap kind_number is
+
+  -- the implementation comes before both
+  pub imp_is_first : (goal : GoalKind) → FitsGoal (parts_of goal) → IsLeastFrom (λ k. k ≡ Imp group) bound goal → IsLeastFrom (IsChildIn q words (Opt group wanted)) bound goal
+  imp_is_first goal fits first =
+      let kind : kind_number goal ≡ 3 = ap kind_number first.is in
+      finds_left (λ k. k ≡ Imp group) (λ k. Served k ⊎ Enforced k) bound goal first (λ k cases above. elim cases [
+        | inl served ↦ kind_first goal k fits (omega (arith, kind, served_kind k served))
+        | inr enforced ↦ kind_first goal k fits (omega (arith, kind, enforced_kind k enforced))
+      ])
+
+  -- what is asked for comes before members
+  pub request_is_first : (goal : GoalKind) → FitsGoal (parts_of goal) → FindsFrom (λ k. k ≡ Imp group) bound None → IsLeastFrom Enforced bound goal
+      → IsLeastFrom (IsChildIn q words (Opt group wanted)) bound goal
+  request_is_first goal fits none first =
+      let kind : kind_number goal ≡ 5 = enforced_kind goal first.is in
+      let early : IsLeastFrom (λ k. Enforced k ⊎ Served k) bound goal =
+      finds_left Enforced Served bound goal first (λ k served above. kind_first goal k fits (omega (arith, kind, served_kind k served))) in
+      finds_right (λ k. k ≡ Imp group) (λ k. Served k ⊎ Enforced k) bound (Some goal) none
+      (finds_as (λ k. Enforced k ⊎ Served k) (λ k. Served k ⊎ Enforced k) bound (Some goal)
+      (λ k cases. elim cases [ inl is ↦ inr is | inr is ↦ inl is ]) (λ k cases. elim cases [ inl is ↦ inr is | inr is ↦ inl is ]) early)
+
+  -- and members come last
+  pub member_is_first : (found : Option GoalKind) → FindsFrom (λ k. k ≡ Imp group) bound None → FindsFrom Enforced bound None → FindsFrom Served bound found
+      → FindsFrom (IsChildIn q words (Opt group wanted)) bound found
+  member_is_first found none nothing first =
+      finds_right (λ k. k ≡ Imp group) (λ k. Served k ⊎ Enforced k) bound found none
+      (finds_as (λ k. Enforced k ⊎ Served k) (λ k. Served k ⊎ Enforced k) bound found
+      (λ k cases. elim cases [ inl is ↦ inr is | inr is ↦ inl is ]) (λ k cases. elim cases [ inl is ↦ inr is | inr is ↦ inl is ])
+      (finds_right Enforced Served bound found nothing first))
