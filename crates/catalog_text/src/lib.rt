@@ -1,0 +1,9 @@
+//! Writes a catalogue as JSON, so that it is read back as it was.
+#![tactic(auto)]
+
+mod text;
+
+pub use text::write_catalog;
+
+#[cfg(test)]
+mod tests;

@@ -1,0 +1,82 @@
+-- The catalogue of a number keeps the limits.
+use Rattle.std.proofs.Common.{◌≡◌, ℕ, zero, suc, ◌+◌, ◌*◌, ◌%◌, ◌==◌, ◌<◌, ◌≤◌, Bool, true, false, cond, List, [], ◌∷◌, map, length, refl, arith}
+use Rattle.std.specs.Fmt.{digits}
+use Rattle.std.specs.List.{All, range_with_len}
+use Rattle.std.proofs.lemmas.List.FromFn.{length-map-range_with_len}
+use Rattle.query_core.specs.declared.catalog.ColumnInfo.{ColumnInfo}
+use Rattle.query_core.specs.declared.catalog.Placing.{Placing}
+use Rattle.query_core.specs.declared.catalog.Placing.TheVariants.{Hashed, Random}
+use Rattle.query_core.specs.declared.catalog.TableInfo.{TableInfo}
+use Rattle.query_core.specs.Catalog.{trillion, is_catalog_name, IsColumn, IsColumnList, IsPlacing, IsTable, IsCatalog}
+use Rattle.query_core.specs.Differ.{texts_differ}
+use Rattle.query_generator.specs.Draws.{next, draw}
+use Rattle.query_generator.specs.Catalog.{table_name, placing_of, columns_with, table_with, table_of, catalog_of}
+
+pub draw_below : (number count : ℕ) → draw number count < 65537
+unfolding draw
+draw_below number zero = omega arith
+draw_below number (suc count) = omega arith
+
+name_kept : (i : ℕ) → i < 8 → is_catalog_name (table_name i) ≡ true
+unfolding digits
+name_kept zero h = refl
+name_kept (suc zero) h = refl
+name_kept (suc (suc zero)) h = refl
+name_kept (suc (suc (suc zero))) h = refl
+name_kept (suc (suc (suc (suc zero)))) h = refl
+name_kept (suc (suc (suc (suc (suc zero))))) h = refl
+name_kept (suc (suc (suc (suc (suc (suc zero)))))) h = refl
+name_kept (suc (suc (suc (suc (suc (suc (suc zero))))))) h = refl
+name_kept (suc (suc (suc (suc (suc (suc (suc (suc i)))))))) h = absurd (omega arith)
+
+column_kept : (rows values : ℕ) → rows ≤ trillion → values ≤ trillion → All IsColumn (columns_with rows values)
+column_kept rows values few fewer zero d h = record { named = refl; values = few }
+column_kept rows values few fewer (suc zero) d h = record { named = refl; values = fewer }
+column_kept rows values few fewer (suc (suc k)) d h = absurd (omega arith)
+
+placing_kept : (even : Bool) → IsPlacing 2 (cond even (Hashed (0 ∷ [])) Random)
+placing_kept true = record { counted = refl; known = refl; differ = refl }
+placing_kept false = tt
+
+table_kept : (i rows values : ℕ) → i < 8 → rows ≤ trillion → values ≤ trillion → IsTable (table_with i rows values)
+table_kept i rows values h few fewer = record {
+  named = name_kept i h;
+  counted = few;
+  width = refl;
+  each_column = column_kept rows values few fewer;
+  differ = refl;
+  placed = placing_kept (i % 2 == 0);
+  index_count = omega arith;
+  each_index = λ k d none. absurd (omega arith);
+}
+
+tables_kept : (number a n : ℕ) → a + n ≤ 8 → All IsTable (map (table_of number) (range_with_len a n))
+tables_kept number a zero h k d within = absurd (omega arith)
+tables_kept number a (suc n) h zero d within =
+    let rows = draw_below number (2 * a + 1) in
+    table_kept a _ _ (omega arith) (omega (arith, rows)) (omega arith)
+tables_kept number a (suc n) h (suc k) d within = tables_kept number (a + 1) n (omega arith) k d (omega arith)
+
+names_differ : (number n : ℕ) → n ≤ 8 → texts_differ (map (λ t. t.name) (map (table_of number) (range_with_len 0 n))) ≡ true
+unfolding digits
+names_differ number zero h = refl
+names_differ number (suc zero) h = refl
+names_differ number (suc (suc zero)) h = refl
+names_differ number (suc (suc (suc zero))) h = refl
+names_differ number (suc (suc (suc (suc zero)))) h = refl
+names_differ number (suc (suc (suc (suc (suc zero))))) h = refl
+names_differ number (suc (suc (suc (suc (suc (suc zero)))))) h = refl
+names_differ number (suc (suc (suc (suc (suc (suc (suc zero))))))) h = refl
+names_differ number (suc (suc (suc (suc (suc (suc (suc (suc zero)))))))) h = refl
+names_differ number (suc (suc (suc (suc (suc (suc (suc (suc (suc n))))))))) h = absurd (omega arith)
+
+table_count : (number n : ℕ) → n ≤ 8 → length (map (table_of number) (range_with_len 0 n)) ≤ 1000
+table_count number n h = rw (length-map-range_with_len (table_of number) 0 n) (omega arith)
+
+pub catalog_kept : (number tables : ℕ) → tables ≤ 8 → IsCatalog (catalog_of number tables)
+catalog_kept number tables h = record {
+  segment_count = refl;
+  table_count = table_count number tables h;
+  each_table = tables_kept number 0 tables (omega arith);
+  differ = names_differ number tables h;
+}

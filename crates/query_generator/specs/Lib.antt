@@ -1,0 +1,4 @@
+pub mod Catalog
+pub mod Draws
+pub mod Generated
+pub mod Select

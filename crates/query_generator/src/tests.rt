@@ -1,0 +1,39 @@
+use crate::{GenShape, generate};
+use std::test::Fail;
+
+#[test]
+fn texts_are_those_of_the_number(rt: HostRuntime) -> Result<(), Fail> {
+    let one = "{\"version\":1,\"segments\":4,\"tables\":[{\"name\":\"t0\",\"rows\":14900,\"distribution\":[\"id\"],\"columns\":[{\"name\":\"id\",\"ndv\":14900},{\"name\":\"f\",\"ndv\":250}]}]}";
+    let two = "{\"version\":1,\"segments\":4,\"tables\":[{\"name\":\"t0\",\"rows\":14900,\"distribution\":[\"id\"],\"columns\":[{\"name\":\"id\",\"ndv\":14900},{\"name\":\"f\",\"ndv\":250}]},{\"name\":\"t1\",\"rows\":5730500,\"distribution\":\"random\",\"columns\":[{\"name\":\"id\",\"ndv\":5730500},{\"name\":\"f\",\"ndv\":45}]}]}";
+    for (number, tables, want) in [(1, 1, one), (1, 2, two), (65_538, 1, one)] {
+        let (catalog, _) = generate(rt.alloc(), number, tables, GenShape::Chain)?;
+        assert_eq!(rt; catalog.as_slice(), want.as_bytes());
+    }
+    Ok(())
+}
+
+#[test]
+fn shapes_join_their_tables(rt: HostRuntime) -> Result<(), Fail> {
+    for (tables, shape, want) in [
+        (1, GenShape::Chain, "SELECT t0.id FROM t0 ORDER BY t0.id"),
+        (
+            3,
+            GenShape::Chain,
+            "SELECT t0.id FROM t0, t1, t2 WHERE t0.f = t1.id AND t1.f = t2.id ORDER BY t0.id",
+        ),
+        (
+            3,
+            GenShape::Star,
+            "SELECT t0.id FROM t0, t1, t2 WHERE t0.f = t1.id AND t0.f = t2.id ORDER BY t0.id",
+        ),
+        (
+            3,
+            GenShape::Clique,
+            "SELECT t0.id FROM t0, t1, t2 WHERE t0.f = t1.id AND t0.f = t2.id AND t1.f = t2.id ORDER BY t0.id",
+        ),
+    ] {
+        let (_, query) = generate(rt.alloc(), 0, tables, shape)?;
+        assert_eq!(rt; query.as_slice(), want.as_bytes());
+    }
+    Ok(())
+}
