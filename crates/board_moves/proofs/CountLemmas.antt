@@ -1,5 +1,5 @@
 -- Numbers of places: where what holds changes at one place alone, or at none.
-use Rattle.std.proofs.Common.{◌≡◌, ◌≢◌, ℕ, zero, suc, ◌+◌, ◌*◌, ◌<◌, ◌≤◌, ◌==◌, Bool, true, false, not, ◌&&◌, cond, List, length, slice_index, slice_set, get_or, set, eq-eqb, ne_eqb, ap, sym, refl, subst, ◌∙◌, ⊎_elim, inl, inr, arith, get_or-set_other, get_or-set_same, nat_le, ◌^◌}
+use Rattle.std.proofs.Common.{◌≡◌, ◌≢◌, ℕ, zero, suc, ◌+◌, ◌*◌, ◌<◌, ◌≤◌, ◌==◌, Bool, true, false, not, ◌&&◌, cond, List, length, slice_set, eq-eqb, ne_eqb, ap, sym, refl, ◌∙◌, arith, get_or-set_other, get_or-set_same, nat_le, ◌^◌}
 use mathlib.Core.Logic.{dite}
 use native.Mathlib.Decide.{ℕ_discrete}
 use Rattle.board_rule.specs.Meaning.{Meaning}

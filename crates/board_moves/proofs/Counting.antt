@@ -1,7 +1,6 @@
 -- Two falling lists of words, of which one has the words of the other.
-use Rattle.std.proofs.Common.{◌≡◌, ◌≢◌, ◌⊎◌, ℕ, ◌+◌, ◌<◌, ◌≤◌, List, [], ◌∷◌, length, refl, sym, subst, inl, inr, ⊎_elim, arith}
-use Rattle.std.proofs.lemmas.Bool.{cases_eq}
-use Rattle.board_rule.specs.Seats.{Among, Each}
+use Rattle.std.proofs.Common.{◌≡◌, ◌≢◌, ℕ, ◌<◌, ◌≤◌, List, [], ◌∷◌, length, refl, subst, inl, inr, ⊎_elim, arith}
+use Rattle.board_rule.specs.Seats.{Among}
 use Rattle.board_rule.proofs.Lists.{each_at}
 use Rattle.board_moves.specs.Collects.{Falls}
 

@@ -1,21 +1,18 @@
 -- What several calls together did to the hands, call by call.
-use Rattle.std.proofs.Common.{◌≡◌, ◌≢◌, ℕ, ◌+◌, ◌==◌, ◌<◌, ◌≤◌, ◌^◌, Bool, true, false, cond, List, [], ◌∷◌, ◌++◌, map, Option, Some, None, ◌∙◌, refl, sym, ap, subst, append_assoc, add_assoc, ⊎_elim, inl, inr, arith}
-use Rattle.word_table.specs.declared.outcome.Inserted.{Inserted}
-use Rattle.word_table.specs.declared.outcome.Inserted.TheVariants.{Fresh, Known, Full}
+use Rattle.std.proofs.Common.{◌≡◌, ℕ, ◌+◌, ◌==◌, Bool, true, false, cond, List, [], ◌∷◌, ◌++◌, ◌∙◌, refl, sym, ap, subst, append_assoc, add_assoc, ⊎_elim, arith}
 use Rattle.board_rule.specs.Meaning.{Meaning}
 use Rattle.board_rule.specs.Records.{Claimed}
-use Rattle.board_rule.specs.Words.{full_word, cell_word, head_word, cost_word, node_word}
-use Rattle.board_rule.specs.Looks.{Looked, ShowsFinished, seen_closed}
+use Rattle.board_rule.specs.Words.{full_word, cell_word}
+use Rattle.board_rule.specs.Looks.{Looked}
 use Rattle.board_rule.specs.Seats.{Among, Each, placed}
 use Rattle.board_rule.specs.declared.hands.Hands.{Hands}
 use Rattle.board_rule.proofs.Lists.{each_append, each_as}
 use Rattle.board_rule.proofs.Seating.{looked_append}
 use Rattle.goal_board.specs.declared.board.Right.{Right}
-use Rattle.goal_board.specs.declared.answers.Answer.{Answer}
-use Rattle.goal_board.specs.Calls.{seen, IsSeen, PutsFresh, FindsAt, FindsFull, FindsNone, Inserts, waiting_right, IsRightOf, Registers, FindsFinished, ReadsAnswer, FindsOpen}
-use Rattle.goal_board.proofs.Seen.{looked_earlier, looked_later}
+use Rattle.goal_board.specs.Calls.{seen, IsSeen, PutsFresh, waiting_right, IsRightOf, Registers, FindsFinished}
+use Rattle.goal_board.proofs.Seen.{looked_earlier}
 use Rattle.board_moves.specs.Moves.{OnlyLooks, with_waits, Moves, Proceeds, RunsOut}
-use Rattle.board_moves.proofs.Shown.{Later, seen_both, seen_twice, later_seen}
+use Rattle.board_moves.proofs.Shown.{Later}
 
 -- no wait more leaves a right as it was
 pub waits_none : (place : ℕ) (rights : List Claimed) → with_waits place 0 rights ≡ rights

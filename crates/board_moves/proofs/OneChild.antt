@@ -1,21 +1,21 @@
 -- What becomes of one child: it is looked at, put in, waited for, or found finished.
-use Rattle.std.proofs.Common.{◌≡◌, ◌≢◌, ℕ, ◌+◌, ◌^◌, ◌<◌, ◌≤◌, List, [], ◌∷◌, ◌++◌, ◌∙◌, refl, sym, ap, subst, inl, inr, arith, Option, Some, None}
+use Rattle.std.proofs.Common.{◌≡◌, ◌≢◌, ℕ, ◌+◌, ◌<◌, List, [], ◌∷◌, refl, sym, ap, subst, inl, inr, arith, Option, Some, None}
 use Rattle.word_table.specs.declared.outcome.Inserted.{Inserted}
 use Rattle.word_table.specs.declared.outcome.Inserted.TheVariants.{Fresh, Known, Full}
 use Rattle.board_rule.specs.Meaning.{Meaning}
 use Rattle.board_rule.specs.Words.{cell_word, head_word, cost_word, node_word}
-use Rattle.board_rule.specs.Looks.{Looked, ShowsFinished, seen_closed, ShowsClosed}
+use Rattle.board_rule.specs.Looks.{Looked, seen_closed}
 use Rattle.board_rule.specs.declared.hands.Hands.{Hands}
 use Rattle.goal_board.specs.declared.board.Right.{Right}
 use Rattle.goal_board.specs.declared.answers.Answer.{Answer}
-use Rattle.goal_board.specs.Calls.{seen, PutsFresh, FindsAt, FindsFull, Registers, FindsFinished, ReadsAnswer, FindsOpen, Inserts, Reads, IsRightOf, waited}
+use Rattle.goal_board.specs.Calls.{PutsFresh, FindsAt, FindsFull, Registers, FindsFinished, ReadsAnswer, FindsOpen, Inserts, Reads, IsRightOf, waited}
 use Rattle.goal_board.specs.declared.answers.Awaited.TheVariants as awaited
 use Rattle.goal_board.proofs.Seen.{looked_later, looked_earlier}
 use Rattle.board_moves.specs.declared.progress.Progress.{Progress}
 use Rattle.board_moves.specs.declared.progress.Progress.TheVariants as progress
-use Rattle.board_moves.specs.Moves.{OnlyLooks, Moves, Proceeds, RunsOut, IsAnsweredBy, Awaits}
-use Rattle.board_moves.proofs.Shown.{Later, later_looked, later_seen}
-use Rattle.board_moves.proofs.MovesLemmas.{moves_seen, moves_looks, moves_fresh, moves_registered, moves_finished, moves_then, later_moved, right_stays, proceeds_none, proceeds_moved, proceeds_then, runs_out_then}
+use Rattle.board_moves.specs.Moves.{OnlyLooks, Moves, Proceeds, IsAnsweredBy, Awaits}
+use Rattle.board_moves.proofs.Shown.{Later, later_looked}
+use Rattle.board_moves.proofs.MovesLemmas.{moves_looks, moves_fresh, moves_registered, moves_finished, moves_then, later_moved, right_stays, proceeds_none, proceeds_moved, proceeds_then, runs_out_then}
 use Rattle.board_moves.proofs.Putting.{only_looks_at}
 
 module _ {R : Type 0} (meaning : Meaning) (room : ℕ) where

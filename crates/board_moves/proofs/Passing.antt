@@ -1,15 +1,14 @@
 -- One pass over the words that a group may have as members, word by word.
-use Rattle.std.proofs.Common.{◌≡◌, ◌≢◌, ◌⊎◌, ℕ, ◌+◌, ◌^◌, ◌<◌, ◌≤◌, Option, None, Some, List, [], ◌∷◌, ◌++◌, length, ◌∙◌, refl, sym, ap, subst, inl, inr, ⊎_elim, arith}
-use Rattle.std.proofs.lemmas.Bool.{cases_lt}
+use Rattle.std.proofs.Common.{◌≡◌, ◌≢◌, ◌⊎◌, ℕ, ◌+◌, ◌^◌, ◌<◌, ◌≤◌, Option, None, Some, List, [], ◌∷◌, ◌++◌, length, refl, sym, subst, inl, inr, ⊎_elim, arith}
 use Rattle.board_rule.specs.Meaning.{Meaning}
 use Rattle.board_rule.specs.Looks.{ShowsFinished, ShowsEntry}
 use Rattle.board_rule.specs.Seats.{Among, Each}
 use Rattle.board_rule.specs.declared.hands.Hands.{Hands}
 use Rattle.goal_board.specs.Calls.{seen, IsSeen}
 use Rattle.board_moves.specs.Words.{IsAbove, IsNextWord, IsNextOf}
-use Rattle.board_moves.specs.Collects.{FoundIn, FoundNowhere, FoundOpen, Falls, Counts, FindsOpenGoal}
+use Rattle.board_moves.specs.Collects.{FoundIn, FoundNowhere, FoundOpen, Falls, FindsOpenGoal}
 use Rattle.board_moves.specs.Passes.{SeesNone, SeesIn, CountsAgain, CollectsAll}
-use Rattle.board_moves.proofs.Ascending.{IsUpTo, up_to_next, up_to_or_above, above_on}
+use Rattle.board_moves.proofs.Ascending.{IsUpTo, up_to_next, up_to_or_above}
 use Rattle.board_moves.proofs.Shown.{Later, seen_both, seen_twice, still_finished, still_shown, later_seen, looks_none}
 use Rattle.board_moves.proofs.Seeing.{found_later, found_earlier, nowhere_later, nowhere_earlier, open_later}
 use Rattle.board_moves.proofs.Counting.{falls_short}

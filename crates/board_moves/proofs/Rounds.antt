@@ -1,5 +1,5 @@
 -- The work of an exploration: each pass awaits the goals of all members that it finds, and from one round to the next more are found.
-use Rattle.std.proofs.Common.{◌≡◌, ◌≢◌, ◌⊎◌, ℕ, ◌+◌, ◌<◌, ◌≤◌, false, IsTrue, Option, None, Some, List, [], ◌∷◌, length, ◌∙◌, refl, sym, ap, subst, inl, inr, ⊎_elim, arith}
+use Rattle.std.proofs.Common.{◌≡◌, ◌≢◌, ℕ, ◌+◌, ◌<◌, ◌≤◌, false, IsTrue, Option, None, Some, List, [], ◌∷◌, length, refl, sym, ap, subst, inl, inr, ⊎_elim, arith}
 use Rattle.std.proofs.lemmas.Bool.{cases_lt, false≢true}
 use Rattle.board_rule.specs.Meaning.{Meaning}
 use Rattle.board_rule.specs.Words.{cell_word}
@@ -14,11 +14,11 @@ use Rattle.board_moves.specs.declared.progress.Progress.TheVariants as progress
 use Rattle.board_moves.specs.declared.settled.Settled.{Settled}
 use Rattle.board_moves.specs.declared.settled.Settled.TheVariants as settled
 use Rattle.board_moves.specs.Words.{IsAbove, IsNextWord, IsNextOf}
-use Rattle.board_moves.specs.Moves.{OnlyLooks, Proceeds, RunsOut, IsAnsweredBy, Awaits}
-use Rattle.board_moves.specs.Collects.{FoundIn, Falls, Settles}
+use Rattle.board_moves.specs.Moves.{OnlyLooks, Proceeds, RunsOut, Awaits}
+use Rattle.board_moves.specs.Collects.{Falls, Settles}
 use Rattle.board_moves.specs.Passes.{AwaitsAll}
 use Rattle.board_moves.proofs.Ascending.{IsUpTo, up_to_next, up_to_or_above}
-use Rattle.board_moves.proofs.Shown.{Later, later_looked, later_seen, still_finished, still_shown}
+use Rattle.board_moves.proofs.Shown.{Later, later_seen, still_finished, still_shown}
 use Rattle.board_moves.proofs.MovesLemmas.{moves_looks, proceeds_none, proceeds_moved, proceeds_then, later_proceeded, runs_out_then}
 use Rattle.board_moves.proofs.Putting.{only_looks_at, only_looks_none}
 use Rattle.board_moves.proofs.OneChild.{stands_at}

@@ -1,22 +1,22 @@
 -- What is seen of one word, and of its goal.
-use Rattle.std.proofs.Common.{◌≡◌, ◌≢◌, ◌⊎◌, ℕ, ◌^◌, ◌<◌, true, false, Option, None, Some, IsSome, List, [], ◌∷◌, ◌++◌, ◌∙◌, refl, sym, ap, subst, inl, inr, ⊎_elim}
+use Rattle.std.proofs.Common.{◌≡◌, ◌≢◌, ℕ, Option, None, Some, IsSome, List, [], ◌∷◌, ◌++◌, ◌∙◌, refl, sym, subst, inl, inr, ⊎_elim}
 use Rattle.std.proofs.lemmas.Bool.{false≢true}
 use Rattle.word_table.specs.Probing.{home_of, steps_to}
 use Rattle.board_rule.specs.Meaning.{Meaning}
 use Rattle.board_rule.specs.Words.{cell_word, head_word}
-use Rattle.board_rule.specs.Looks.{Looked, SawOthers, ShowsFinished, seen_closed, ShowsEntry, finished}
+use Rattle.board_rule.specs.Looks.{ShowsFinished, ShowsEntry, finished}
 use Rattle.board_rule.specs.declared.hands.Hands.{Hands}
 use Rattle.goal_board.specs.declared.answers.Answer.{Answer}
-use Rattle.goal_board.specs.Calls.{seen, IsSeen, SawAllOthers, EndsAtGap, FindsAt, FindsNone, ReadsAnswer, FindsOpen}
+use Rattle.goal_board.specs.Calls.{SawAllOthers, EndsAtGap, FindsAt, FindsNone, ReadsAnswer, FindsOpen}
 use Rattle.goal_board.proofs.Seen.{looked_later, looked_earlier, saw_later, saw_all_later}
-use Rattle.board_moves.specs.Moves.{OnlyLooks, IsAnsweredBy}
+use Rattle.board_moves.specs.Moves.{OnlyLooks}
 use Rattle.board_moves.specs.Collects.{FoundIn, FoundNowhere, FoundOpen, FindsOpenGoal}
 use Rattle.board_moves.specs.Passes.{SeesOpen, SeesGoal, SeesNone, SeesIn, Sees}
 use Rattle.board_moves.specs.declared.settled.Seen.{Seen}
 use Rattle.board_moves.specs.declared.settled.Seen.TheVariants.{Absent, Explored, Unexplored}
-use Rattle.board_moves.proofs.Shown.{still_finished, seen_both, seen_twice, looks_then, later_seen, later_looked}
-use Rattle.board_moves.proofs.Putting.{only_looks_at, only_looks_none}
-use Rattle.board_moves.proofs.OneChild.{reads_looks, open_looks, stands_at, answered}
+use Rattle.board_moves.proofs.Shown.{still_finished, seen_both, seen_twice, looks_then, later_seen}
+use Rattle.board_moves.proofs.Putting.{only_looks_at}
+use Rattle.board_moves.proofs.OneChild.{reads_looks, stands_at, answered}
 
 -- what was found by some looks was found by these and others
 pub found_later : (room : ℕ) (more looks : List (ℕ × ℕ)) (word : ℕ) → FoundIn room more word → FoundIn room (more ++ looks) word

@@ -1,14 +1,13 @@
 -- The double collection: where the second pass finds as many words as the first, both found the same ones, and these are all members.
-use Rattle.std.proofs.Common.{◌≡◌, ◌≢◌, ◌⊎◌, ℕ, ◌<◌, ◌≤◌, List, ◌∷◌, ◌++◌, length, ◌∙◌, refl, sym, ap, subst, inl, inr, ⊎_elim, append_assoc, arith}
+use Rattle.std.proofs.Common.{◌≡◌, ◌≢◌, ℕ, ◌≤◌, ◌++◌, refl, sym, subst, arith}
 use Rattle.board_rule.specs.Meaning.{Meaning}
 use Rattle.board_rule.specs.Looks.{Looked, ShowsFinished, child_of, ShowsEntry, seen_there, asked_by, ShowsPromise}
 use Rattle.board_rule.specs.Words.{cell_word}
 use Rattle.board_rule.specs.Seats.{Among}
 use Rattle.board_rule.specs.declared.hands.Hands.{Hands}
-use Rattle.goal_board.specs.Calls.{seen, IsSeen}
-use Rattle.goal_board.proofs.Seen.{looked_later, looked_earlier}
+use Rattle.goal_board.proofs.Seen.{looked_later}
 use Rattle.board_moves.specs.Moves.{OnlyLooks}
-use Rattle.board_moves.specs.Collects.{FoundIn, Falls, Counts, Grows, IsReached, from_origin, from_child, IsExploration, FindsMore}
+use Rattle.board_moves.specs.Collects.{IsReached, from_origin, from_child, IsExploration, FindsMore}
 use Rattle.board_moves.specs.Passes.{CountsAgain, CollectsAll}
 use Rattle.board_moves.proofs.Shown.{Later, still_finished, still_shown, later_seen, seen_both, seen_twice}
 use Rattle.board_moves.proofs.Counting.{Within, not_longer, same_words}

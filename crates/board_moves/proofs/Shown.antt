@@ -1,5 +1,5 @@
 -- What looks show stays shown by these and more.
-use Rattle.std.proofs.Common.{◌≡◌, ◌≢◌, ℕ, ◌<◌, List, [], ◌++◌, ◌∙◌, refl, sym, ap, subst, append_assoc, ⊎_elim}
+use Rattle.std.proofs.Common.{◌≡◌, ℕ, List, [], ◌++◌, ◌∙◌, refl, sym, ap, subst, append_assoc, ⊎_elim}
 use Rattle.board_rule.specs.Meaning.{Meaning}
 use Rattle.board_rule.specs.Words.{full_word, cell_word}
 use Rattle.board_rule.specs.Looks.{Looked, ShowsFinished, seen_closed, child_of, ShowsEntry, seen_there, asked_by, finished}

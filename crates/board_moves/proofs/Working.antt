@@ -1,10 +1,9 @@
 -- The work of a turn goes on from what was done before.
-use Rattle.std.proofs.Common.{◌≡◌, ◌≢◌, ℕ, ◌≤◌, List, [], ◌∷◌, ◌++◌, refl, sym, ap, subst, ◌∙◌, inl, arith}
+use Rattle.std.proofs.Common.{◌≡◌, ◌≢◌, ℕ, [], ◌∷◌, refl, sym, subst}
 use Rattle.word_table.specs.declared.outcome.Inserted.{Inserted}
 use Rattle.word_table.specs.declared.outcome.Inserted.TheVariants.{Fresh, Known, Full}
 use Rattle.board_rule.specs.Meaning.{Meaning}
-use Rattle.board_rule.specs.Words.{cell_word}
-use Rattle.board_rule.specs.Looks.{Looked, ShowsEntry, seen_there, ShowsPromise}
+use Rattle.board_rule.specs.Looks.{ShowsEntry, seen_there, ShowsPromise}
 use Rattle.board_rule.specs.declared.hands.Hands.{Hands}
 use Rattle.goal_board.specs.declared.board.Right.{Right}
 use Rattle.goal_board.specs.declared.answers.Answer.{Answer}

@@ -1,5 +1,5 @@
 -- How far the words of a board are from having all their goals finished: counts over its places, which each turn of a goal brings down.
-use Rattle.std.specs.Prelude.{◌≡◌, ℕ, zero, suc, ◌==◌, ◌+◌, ◌^◌, ◌<◌, ◌≤◌, Bool, not, ◌&&◌, cond, nat_le, List, Option, Some}
+use Rattle.std.specs.Prelude.{◌≡◌, ℕ, zero, suc, ◌==◌, ◌+◌, ◌^◌, ◌<◌, ◌≤◌, Bool, not, ◌&&◌, cond, nat_le, List, Some}
 use Rattle.board_rule.specs.Meaning.{Meaning}
 use Rattle.board_rule.specs.Words.{Mem, mem}
 use Rattle.board_rule.specs.declared.hands.Hands.{Hands}

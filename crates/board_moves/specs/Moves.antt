@@ -1,9 +1,9 @@
 -- What several calls on a board together do to the hands of their seat, before the turn of a goal ends.
-use Rattle.std.specs.Prelude.{◌≡◌, ◌==◌, ℕ, ◌+◌, ◌≤◌, List, ◌++◌, map, cond, Option, None, Some}
+use Rattle.std.specs.Prelude.{◌≡◌, ◌==◌, ℕ, ◌+◌, ◌≤◌, List, ◌++◌, map, cond, Option}
 use Rattle.board_rule.specs.Meaning.{Meaning}
 use Rattle.board_rule.specs.Records.{Claimed}
 use Rattle.board_rule.specs.Words.{full_word}
-use Rattle.board_rule.specs.Looks.{Looked, ShowsFinished, ShowsPromise}
+use Rattle.board_rule.specs.Looks.{Looked, ShowsFinished}
 use Rattle.board_rule.specs.Seats.{Each}
 use Rattle.board_rule.specs.declared.hands.Hands.{Hands}
 use Rattle.goal_board.specs.declared.board.Right.{Right}

@@ -1,5 +1,5 @@
 -- What one pass over the words that a group may have as members finds, and what is seen of one word.
-use Rattle.std.specs.Prelude.{◌≡◌, ◌⊎◌, ℕ, ◌<◌, List, ◌++◌, length, Option, None, Some, Result, Ok, Err, Bool, true, false}
+use Rattle.std.specs.Prelude.{◌≡◌, ◌⊎◌, ℕ, List, length, Option, None, Some, Result, Ok, Err, Bool, true, false}
 use Rattle.board_rule.specs.Meaning.{Meaning}
 use Rattle.board_rule.specs.Looks.{ShowsFinished, ShowsEntry}
 use Rattle.board_rule.specs.Seats.{Among}

@@ -12,7 +12,10 @@ fn a_catalogue_is_written_as_it_was(rt: HostRuntime) -> Result<(), Fail> {
         let catalog = read_catalog(rt.alloc(), text.as_bytes())
             .ok()
             .ok_or("the text is a catalogue")?;
-        assert_eq!(rt; write_catalog(rt.alloc(), &catalog)?.as_slice(), text.as_bytes());
+        assert_eq!(rt;
+            write_catalog(rt.alloc(), &catalog)?.as_slice(),
+            text.as_bytes()
+        );
     }
     Ok(())
 }

@@ -9,8 +9,8 @@ ghost use Rattle.catalog_text.specs.Adds.{Adds};
 ghost use Rattle.catalog_text.specs.Text.{catalog_json, catalog_text, column_json, indexes_member, list_json, name_at, places_json, placing_json, table_json};
 
 use json::Writer;
-use query_core::{Catalog, ColumnInfo, Placing, TableInfo};
 use orca_base::List;
+use query_core::{Catalog, ColumnInfo, Placing, TableInfo};
 use std::alloc::{AllocError, Global};
 
 fn write_column(out: &mut Writer, column: &ColumnInfo) -> Result<(), AllocError>
@@ -65,11 +65,7 @@ fn write_each_place(
     Ok(())
 }
 
-fn write_places(
-    out: &mut Writer,
-    columns: &[ColumnInfo],
-    places: &[u32],
-) -> Result<(), AllocError>
+fn write_places(out: &mut Writer, columns: &[ColumnInfo], places: &[u32]) -> Result<(), AllocError>
     requires { IsColumnList (length columns.now) places.now }
     ensures { OnOk result
         (Adds out.old out.new (json_tokens (places_json columns.now places.now))) }

@@ -1,6 +1,6 @@
 -- Results with the members of a group bound, one after the other.
-use Rattle.std.proofs.Common.{◌≡◌, ◌⊎◌, ℕ, ◌≤◌, Option, None, Some, refl, sym, subst, ◌∙◌, inl, inr, ⊎_elim, arith}
-use Rattle.query_core.specs.Expressions.{word_of, IsCandidate, IsPacked, HasWord, IsWord}
+use Rattle.std.proofs.Common.{◌≡◌, ◌⊎◌, ℕ, Option, None, Some, refl, sym, subst, inl, inr, ⊎_elim}
+use Rattle.query_core.specs.Expressions.{word_of, IsCandidate}
 use Rattle.query_core.specs.declared.query.Query.{Query}
 use Rattle.query_core.specs.declared.words.KeyParts.{KeyParts}
 use Rattle.query_core.specs.declared.expressions.ExprParts.{ExprParts}
@@ -9,7 +9,7 @@ use Rattle.xform_rules.specs.declared.rules.Rule.{Rule}
 use Rattle.goal_space.specs.Children.{IsLogicalIn}
 use Rattle.goal_space.specs.Entries.{IsEntry}
 use Rattle.goal_rules.specs.Known.{EntriesAreMembers}
-use Rattle.goal_rules.specs.Explored.{IsLogicalOf, IsLogicalWord}
+use Rattle.goal_rules.specs.Explored.{IsLogicalWord}
 use Rattle.goal_rules.specs.Meaning.{meaning_of}
 use Rattle.board_moves.specs.Moves.{IsEntryOf}
 use Rattle.board_moves.specs.Words.{IsAbove, IsNextWord, IsNextOf}

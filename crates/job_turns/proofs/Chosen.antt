@@ -1,26 +1,23 @@
 -- A goal that chooses a plan is done once all of its children are, with the best answer.
-use Rattle.std.proofs.Common.{◌≡◌, ℕ, ◌+◌, ◌<◌, ◌≤◌, ◌^◌, ◌-◌, Option, None, Some, refl, sym, ap, subst, ◌∙◌, inl, inr, arith}
+use Rattle.std.proofs.Common.{◌≡◌, ℕ, ◌<◌, ◌≤◌, Option, None, Some, sym, subst, ◌∙◌, arith}
 use Rattle.std.specs.Prelude.{IfSome}
 use Rattle.query_core.specs.declared.query.Query.{Query}
 use Rattle.query_core.specs.declared.expressions.ExprParts.{ExprParts}
 use Rattle.xform_rules.specs.Closure.{IsMember}
-use Rattle.cost_units.specs.Cost.{most_cost}
 use Rattle.board_rule.specs.Looks.{ShowsPromise}
 use Rattle.board_rule.specs.declared.hands.Hands.{Hands}
 use Rattle.goal_board.specs.declared.board.Right.{Right}
 use Rattle.goal_board.specs.declared.answers.Answer.{Answer}
-use Rattle.best_answers.specs.Best.{IsBest}
-use Rattle.best_answers.specs.Nodes.{Nodes, all_nodes, modes_of}
+use Rattle.best_answers.specs.Nodes.{all_nodes, modes_of}
 use Rattle.best_answers.specs.Laws.{BestsFit}
 use Rattle.best_answers.specs.declared.best.Best.{Best}
 use Rattle.board_moves.specs.declared.progress.Progress.{Progress}
 use Rattle.board_moves.specs.declared.progress.Progress.TheVariants as progress
 use Rattle.board_moves.specs.Moves.{Proceeds, RunsOut}
-use Rattle.goal_space.specs.Words.{goal_word, IsInRange}
 use Rattle.goal_space.specs.Children.{IsChildGoal}
 use Rattle.goal_space.specs.Asked.{AsksFor}
 use Rattle.goal_space.specs.Answers.{IsAnswerTo}
-use Rattle.goal_space.specs.Entries.{NamesGoal, IsChildWord, IsAskedWord}
+use Rattle.goal_space.specs.Entries.{NamesGoal, IsChildWord}
 use Rattle.goal_space.specs.Laws.{GoalsHaveWords, GoalRequestsFit, HasFittingRequest}
 use Rattle.goal_space.specs.declared.goals.GoalKind.{GoalKind}
 use Rattle.goal_space.specs.declared.goals.GoalKind.TheVariants.{Exp, ExpE, Xf, Imp, ImpE, Opt, OptE}
@@ -29,7 +26,7 @@ use Rattle.goal_rules.specs.Answers.{AreWordsOf, IsAnswerWord}
 use Rattle.goal_rules.specs.declared.rules.Rules.{Rules}
 use Rattle.job_turns.specs.Laws.{IsSmall, ChildrenAreKnown, AskedAreKnown}
 use Rattle.job_turns.specs.Works.{WorksOn}
-use Rattle.job_turns.specs.Choices.{most_word, TellsAnswer, AnswersAreKnown, IsChoice, FindsChoice, Chooses, IsProgressOf}
+use Rattle.job_turns.specs.Choices.{most_word, AnswersAreKnown, FindsChoice, Chooses, IsProgressOf}
 use Rattle.job_turns.specs.declared.choice.Choice.{Choice}
 use Rattle.job_turns.specs.declared.choice.Choice.TheVariants.{Known, Open}
 use Rattle.job_turns.proofs.Naming.{WordsAreOne}

@@ -1,5 +1,5 @@
 -- The enforcers for a request: at most two, each of which lies in a group that the request fits.
-use Rattle.std.proofs.Common.{◌≡◌, ◌⊎◌, ℕ, zero, suc, ◌+◌, ◌<◌, ◌≤◌, Option, None, Some, List, [], ◌∷◌, length, refl, sym, ap, subst, ◌∙◌, inl, inr, ⊎_elim, arith}
+use Rattle.std.proofs.Common.{◌≡◌, ◌⊎◌, ℕ, zero, suc, ◌≤◌, Option, None, Some, List, [], ◌∷◌, length, refl, sym, ap, subst, ◌∙◌, inl, inr, ⊎_elim, arith}
 use Rattle.std.specs.Prelude.{slice_get}
 use Rattle.query_core.specs.declared.query.Query.{Query}
 use Rattle.query_core.specs.declared.words.KeyParts.{KeyParts}
@@ -9,16 +9,15 @@ use Rattle.request_props.specs.declared.request.Dist.TheVariants.{One, Spread, C
 use Rattle.request_props.specs.declared.request.Request.{Request}
 use Rattle.plan_space.specs.Lines.{request}
 use Rattle.plan_space.specs.Enforcers.{EnforcedBy, enforcers_by, enforcers_of, Among}
-use Rattle.plan_space.specs.declared.nodes.Enforcer.{Enforcer}
 use Rattle.plan_space.specs.declared.nodes.NodeKind.TheVariants as nodes
 use Rattle.plan_tree.specs.Enforcers.{LiesIn, IsEnforced}
 use Rattle.plan_tree.specs.declared.enforcers.Enforced.{Enforced}
-use Rattle.best_answers.specs.Nodes.{Nodes, both_of, IsIn}
+use Rattle.best_answers.specs.Nodes.{IsIn}
 use Rattle.best_answers.specs.Best.{IsEnforcedBy}
 use Rattle.goal_space.specs.Children.{CanEnforce}
 use Rattle.goal_space.specs.declared.goals.GoalKind.{GoalKind}
 use Rattle.goal_space.specs.declared.goals.GoalKind.TheVariants.{Opt}
-use Rattle.job_turns.specs.Requests.{enforcer_alone, enforcer_at, first_enforcers, IsEnforcerGoalAt, IsEnforcerGoal}
+use Rattle.job_turns.specs.Requests.{enforcer_alone, first_enforcers, IsEnforcerGoalAt, IsEnforcerGoal}
 
 -- what enforcers for a request sort or move by lies in a group that the request fits
 lies_by : (q : Query) (group : KeyParts) (dist : Dist) (order : ℕ) → Fits q group (request dist order) → (e : EnforcedBy) → Among e (enforcers_by dist order) → LiesIn q group e.node

@@ -1,8 +1,7 @@
 -- Choices that were found, one after the other.
-use Rattle.std.proofs.Common.{◌≡◌, ◌⊎◌, ℕ, ◌+◌, ◌<◌, ◌≤◌, Option, None, Some, List, [], refl, sym, subst, inl, inr, ⊎_elim, arith}
+use Rattle.std.proofs.Common.{◌⊎◌, ℕ, ◌≤◌, Option, None, Some, [], arith}
 use Rattle.query_core.specs.declared.query.Query.{Query}
 use Rattle.board_rule.specs.declared.hands.Hands.{Hands}
-use Rattle.board_rule.specs.Looks.{ShowsFinished}
 use Rattle.goal_board.specs.declared.board.Right.{Right}
 use Rattle.best_answers.specs.Answers.{lesser}
 use Rattle.best_answers.specs.declared.best.Best.{Best}

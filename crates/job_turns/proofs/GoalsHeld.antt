@@ -1,10 +1,10 @@
 -- A goal that is an entry is a goal of the query.
-use Rattle.std.proofs.Common.{◌≡◌, ◌↔◌, ℕ, ◌^◌, ◌<◌, ◌≤◌, Option, None, Some, IsTrue, nat_le, refl, sym, ap, subst, ◌∙◌, inl, inr, arith}
-use Rattle.query_core.specs.Expressions.{word_of, IsCandidate, IsPacked}
+use Rattle.std.proofs.Common.{◌≡◌, ◌↔◌, ℕ, ◌^◌, ◌<◌, ◌≤◌, Option, None, Some, subst, inl, inr, arith}
+use Rattle.query_core.specs.Expressions.{word_of}
 use Rattle.query_core.specs.declared.query.Query.{Query}
 use Rattle.query_core.specs.declared.expressions.ExprParts.{ExprParts}
 use Rattle.xform_rules.specs.Closure.{IsMember}
-use Rattle.goal_space.specs.Words.{goal_word, IsInRange, HasWord}
+use Rattle.goal_space.specs.Words.{HasWord}
 use Rattle.goal_space.specs.Entries.{NamesGoal, IsEntry, IsGoalWord}
 use Rattle.goal_space.specs.Laws.{GoalsHaveWords}
 use Rattle.goal_space.specs.declared.goals.GoalKind.{GoalKind}

@@ -1,12 +1,10 @@
 -- The exploration of a group, over the rules of a board.
-use Rattle.std.proofs.Common.{◌≡◌, ◌≢◌, ℕ, ◌^◌, ◌<◌, ◌≤◌, refl, sym, inl, inr, ⊎_elim, arith}
-use Rattle.query_core.specs.Expressions.{word_of, origin_of}
+use Rattle.std.proofs.Common.{◌≡◌, ◌≢◌, ℕ, refl, sym, inl, inr, ⊎_elim, arith}
+use Rattle.query_core.specs.Expressions.{origin_of}
 use Rattle.query_core.specs.declared.query.Query.{Query}
 use Rattle.query_core.specs.declared.words.KeyParts.{KeyParts}
-use Rattle.query_core.specs.declared.expressions.ExprParts.{ExprParts}
 use Rattle.goal_space.specs.Words.{goal_word}
 use Rattle.goal_space.specs.Entries.{NamesGoal, IsChildWord}
-use Rattle.goal_space.specs.declared.goals.GoalKind.{GoalKind}
 use Rattle.goal_space.specs.declared.goals.GoalKind.TheVariants.{Exp}
 use Rattle.goal_rules.specs.Explored.{explored, origin_word, IsLogicalWord, IsFound, origin_found, asked_found, IsExplorationOf}
 use Rattle.goal_rules.specs.EntryLaws.{word_some}

@@ -1,9 +1,9 @@
 -- Once a group is implemented, its members are the candidates that are in cells.
-use Rattle.std.proofs.Common.{◌≡◌, ◌≢◌, ◌⊎◌, ℕ, ◌+◌, ◌<◌, ◌≤◌, Option, None, Some, List, [], ◌∷◌, refl, sym, ap, subst, ◌∙◌, arith}
-use Rattle.std.specs.Prelude.{slice_get, IsTrue, MatchOption}
+use Rattle.std.proofs.Common.{◌≡◌, ℕ, Option, None, Some, List, [], ◌∷◌, refl, sym, ap, subst, ◌∙◌, arith}
+use Rattle.std.specs.Prelude.{slice_get}
 use Rattle.std.specs.List.{Contains}
 use Rattle.std.specs.Option.{option_map}
-use Rattle.query_core.specs.Expressions.{expr_of, word_of, IsPacked, IsCandidate, IsCandidateOf, IsCandidateWord}
+use Rattle.query_core.specs.Expressions.{expr_of, word_of, IsPacked, IsCandidate, IsCandidateOf}
 use Rattle.query_core.specs.Candidates.{IsAfter, IsNext, IsLast}
 use Rattle.query_core.specs.declared.query.Query.{Query}
 use Rattle.query_core.specs.declared.words.Expr.{Expr}
@@ -14,7 +14,7 @@ use Rattle.query_core.specs.declared.expressions.Physical.{Physical}
 use Rattle.query_core.specs.declared.expressions.PhysicalExpr.{PhysicalExpr}
 use Rattle.xform_rules.specs.Closure.{IsMember}
 use Rattle.request_props.specs.declared.request.Request.{Request}
-use Rattle.plan_tree.specs.Alternatives.{HasAlternative, AreModes, IsAltOf, IsAltAt}
+use Rattle.plan_tree.specs.Alternatives.{IsAltOf, IsAltAt}
 use Rattle.plan_tree.specs.declared.alternatives.Alt.{Alt}
 use Rattle.board_rule.specs.Looks.{ShowsEntry, asked_by}
 use Rattle.board_moves.specs.Words.{IsAbove, IsNextWord, IsNextOf}

@@ -1,5 +1,5 @@
 -- The implementation of a group: its members are all there once the goals of its logical members are finished.
-use Rattle.std.proofs.Common.{◌≡◌, ◌≢◌, ◌⊎◌, ℕ, Bool, true, false, IsTrue, Option, None, Some, List, refl, sym, ap, subst, ◌∙◌, inl, inr, ⊎_elim}
+use Rattle.std.proofs.Common.{◌≡◌, ℕ, Bool, true, false, IsTrue, Option, None, Some, List, refl, sym, ap, subst, ◌∙◌, inl, inr, ⊎_elim}
 use Rattle.std.proofs.lemmas.Bool.{false≢true}
 use Rattle.query_core.specs.Expressions.{is_logical, origin_of, word_of, IsCandidate}
 use Rattle.query_core.specs.declared.query.Query.{Query}
@@ -14,9 +14,8 @@ use Rattle.goal_space.specs.Words.{goal_word}
 use Rattle.goal_space.specs.Children.{IsChildGoal, IsLogicalIn}
 use Rattle.goal_space.specs.Goals.{IsGoal, child_goal}
 use Rattle.goal_space.specs.Asked.{AsksFor, IsResultOf}
-use Rattle.goal_space.specs.Entries.{NamesGoal, IsEntry, IsChildWord, IsAskedWord}
+use Rattle.goal_space.specs.Entries.{NamesGoal, IsEntry, IsChildWord}
 use Rattle.goal_space.specs.Answers.{no_choice}
-use Rattle.goal_space.specs.declared.goals.GoalKind.{GoalKind}
 use Rattle.goal_space.specs.declared.goals.GoalKind.TheVariants.{Exp, Xf, Imp, ImpE}
 use Rattle.goal_rules.specs.Known.{EntriesAreMembers}
 use Rattle.goal_rules.specs.Explored.{IsLogicalOf, IsLogicalWord}

@@ -1,5 +1,5 @@
 -- Where the words of the physical expressions of a group begin.
-use Rattle.std.proofs.Common.{◌≡◌, ℕ, ◌+◌, ◌-◌, ◌*◌, ◌<◌, ◌≤◌, ◌^◌, refl, sym, subst, arith}
+use Rattle.std.proofs.Common.{◌≡◌, ℕ, ◌≤◌, refl, sym, subst, arith}
 use Rattle.query_core.specs.Expressions.{expr_of, word_of, HasPhysical, IsPacked, IsCandidate}
 use Rattle.query_core.specs.Keys.{IsInRange}
 use Rattle.query_core.specs.declared.query.Query.{Query}

@@ -1,5 +1,5 @@
 -- Members that were put in, one after the other.
-use Rattle.std.proofs.Common.{◌≡◌, ◌≢◌, ◌⊎◌, ℕ, ◌<◌, Bool, true, false, Option, None, Some, refl, sym, ap, subst, ◌∙◌, inl, inr, ⊎_elim, arith}
+use Rattle.std.proofs.Common.{◌≡◌, ◌≢◌, ◌⊎◌, ℕ, Bool, true, false, Option, None, Some, refl, sym, ap, subst, ◌∙◌, inl, inr, ⊎_elim, arith}
 use Rattle.word_table.specs.declared.outcome.Inserted.{Inserted}
 use Rattle.word_table.specs.declared.outcome.Inserted.TheVariants.{Full}
 use Rattle.query_core.specs.Expressions.{children_of, origin_of, word_of, IsChild}
@@ -10,12 +10,12 @@ use Rattle.board_rule.specs.Looks.{ShowsEntry}
 use Rattle.board_rule.specs.declared.hands.Hands.{Hands}
 use Rattle.goal_board.specs.declared.board.Right.{Right}
 use Rattle.goal_board.specs.Calls.{Inserts, FindsFull}
-use Rattle.board_moves.specs.Moves.{OnlyLooks, Proceeds, RunsOut}
+use Rattle.board_moves.specs.Moves.{OnlyLooks, RunsOut}
 use Rattle.board_moves.proofs.Shown.{still_shown, later_looked}
 use Rattle.board_moves.proofs.Rounds.{proceeds_looked}
 use Rattle.board_moves.proofs.MovesLemmas.{proceeds_none, proceeds_then, later_proceeded, runs_out_then}
 use Rattle.board_moves.proofs.Working.{proceeds_put, runs_out_at, put_shown}
-use Rattle.goal_space.specs.Entries.{NamesGoal, IsEntry, IsAskedWord}
+use Rattle.goal_space.specs.Entries.{IsEntry, IsAskedWord}
 use Rattle.goal_space.specs.Asked.{IsBroughtBy}
 use Rattle.goal_space.specs.OfMembers.{asked_are_members}
 use Rattle.goal_rules.specs.EntryLaws.{word_some}

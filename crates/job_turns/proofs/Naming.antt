@@ -1,14 +1,12 @@
 -- A word is that of one goal, so its children and what it asks for are that goal's.
 use Rattle.std.proofs.Common.{◌≡◌, ℕ, ◌∙◌, refl, sym, subst}
-use Rattle.query_core.specs.Expressions.{word_of}
 use Rattle.query_core.specs.declared.query.Query.{Query}
-use Rattle.query_core.specs.declared.expressions.ExprParts.{ExprParts}
 use Rattle.xform_rules.specs.Closure.{IsMember}
 use Rattle.goal_space.specs.Words.{goal_word, IsInRange}
 use Rattle.goal_space.specs.Children.{IsChildGoal}
 use Rattle.goal_space.specs.Asked.{AsksFor}
-use Rattle.goal_space.specs.Goals.{IsGoal, child_goal}
-use Rattle.goal_space.specs.Entries.{NamesGoal, IsChildWord, IsAskedWord}
+use Rattle.goal_space.specs.Goals.{child_goal}
+use Rattle.goal_space.specs.Entries.{NamesGoal}
 use Rattle.goal_space.specs.Laws.{GoalsHaveWords}
 use Rattle.goal_space.specs.declared.goals.GoalKind.{GoalKind}
 use Rattle.job_turns.specs.Laws.{IsSmall, ChildrenAreKnown, AskedAreKnown, ChildrenHaveWords}

@@ -1,16 +1,15 @@
 -- The next logical expression of a group: logical candidates come before physical ones.
-use Rattle.std.proofs.Common.{◌≡◌, ◌≢◌, ℕ, ◌<◌, ◌≤◌, Bool, true, false, IsTrue, Option, None, Some, refl, sym, ap, subst, ◌∙◌, arith}
-use Rattle.std.proofs.lemmas.Bool.{false≢true}
+use Rattle.std.proofs.Common.{◌≡◌, ℕ, IsTrue, Option, None, Some, refl, sym, ◌∙◌, arith}
 use Rattle.query_core.specs.Candidates.{IsAfter, IsNext, IsLast}
 use Rattle.query_core.specs.Expressions.{is_logical, word_of, IsCandidate, IsCandidateOf}
 use Rattle.query_core.specs.declared.query.Query.{Query}
 use Rattle.query_core.specs.declared.words.Expr.{Expr}
 use Rattle.query_core.specs.declared.words.KeyParts.{KeyParts}
 use Rattle.query_core.specs.declared.expressions.ExprParts.{ExprParts}
-use Rattle.goal_rules.specs.Explored.{IsLogicalOf, IsLogicalWord}
+use Rattle.goal_rules.specs.Explored.{IsLogicalWord}
 use Rattle.goal_rules.specs.Grown.{LogicalComeFirst}
 use Rattle.job_turns.specs.Groups.{as_expr}
-use Rattle.board_moves.specs.Words.{IsAbove, IsNextWord, IsNextOf}
+use Rattle.board_moves.specs.Words.{IsAbove, IsNextOf}
 
 after_above : (before : Option ℕ) (word : ℕ) → IsAfter (as_expr before) word → IsAbove before word
 after_above None word after = tt

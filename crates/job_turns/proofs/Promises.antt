@@ -1,5 +1,5 @@
 -- The promise of a goal, by its children and by what it asks for, and the answer of a goal that chooses no plan.
-use Rattle.std.proofs.Common.{◌≡◌, ◌⊎◌, ℕ, List, refl, sym, subst, inl, inr}
+use Rattle.std.proofs.Common.{ℕ, List, refl, subst, inl}
 use Rattle.query_core.specs.Expressions.{word_of}
 use Rattle.query_core.specs.declared.query.Query.{Query}
 use Rattle.query_core.specs.declared.expressions.ExprParts.{ExprParts}
@@ -7,7 +7,6 @@ use Rattle.xform_rules.specs.Closure.{IsMember}
 use Rattle.board_rule.specs.Looks.{ShowsFinished, ShowsEntry, ShowsPromise}
 use Rattle.board_rule.specs.declared.hands.Hands.{Hands}
 use Rattle.goal_board.specs.declared.board.Right.{Right}
-use Rattle.goal_board.specs.declared.answers.Answer.{Answer}
 use Rattle.board_moves.specs.declared.progress.Progress.{Progress}
 use Rattle.board_moves.specs.Moves.{Proceeds, RunsOut, IsDoneUnlessWaiting}
 use Rattle.board_moves.proofs.MovesLemmas.{proceeds_wider, runs_out_wider}
@@ -18,7 +17,6 @@ use Rattle.goal_space.specs.Asked.{AsksFor}
 use Rattle.goal_space.specs.Answers.{IsAnswerTo, no_choice}
 use Rattle.goal_space.specs.Entries.{NamesGoal, IsChildWord}
 use Rattle.goal_space.specs.declared.goals.GoalKind.{GoalKind}
-use Rattle.goal_rules.specs.Answers.{IsAnswerWord}
 use Rattle.goal_rules.specs.Meaning.{meaning_of}
 use Rattle.goal_rules.specs.declared.rules.Rules.{Rules}
 use Rattle.job_turns.specs.Laws.{IsSmall, ChildrenAreKnown, AskedAreKnown}

@@ -1,8 +1,8 @@
 -- What rules bring at an expression, with a bound member or without one.
-use Rattle.std.proofs.Common.{◌≡◌, ◌≢◌, ◌⊎◌, ℕ, ◌+◌, ◌<◌, ◌≤◌, Bool, true, false, IsTrue, Option, None, Some, IfSome, refl, sym, ap, subst, ◌∙◌, inl, inr, ⊎_elim, arith}
+use Rattle.std.proofs.Common.{◌≡◌, ◌⊎◌, ℕ, ◌+◌, ◌<◌, ◌≤◌, IsTrue, Option, None, Some, IfSome, refl, sym, ap, subst, ◌∙◌, inl, inr, ⊎_elim, arith}
 use Rattle.std.specs.Prelude.{is_some}
 use Rattle.std.proofs.lemmas.Bool.{cases_lt, false≢true}
-use Rattle.query_core.specs.Expressions.{children_of, is_logical, word_of, IsCandidate, IsPacked}
+use Rattle.query_core.specs.Expressions.{children_of, is_logical, IsCandidate, IsPacked}
 use Rattle.query_core.specs.declared.query.Query.{Query}
 use Rattle.query_core.specs.declared.words.KeyParts.{KeyParts}
 use Rattle.query_core.specs.declared.expressions.ExprParts.{ExprParts}
@@ -22,13 +22,13 @@ use Rattle.goal_board.specs.declared.board.Right.{Right}
 use Rattle.board_moves.specs.declared.progress.Progress.{Progress}
 use Rattle.board_moves.specs.Moves.{Proceeds, RunsOut, IsDoneUnlessWaiting}
 use Rattle.board_moves.proofs.Shown.{still_finished}
-use Rattle.board_moves.proofs.MovesLemmas.{proceeds_wider, runs_out_wider, proceeds_then, later_proceeded, runs_out_then}
+use Rattle.board_moves.proofs.MovesLemmas.{proceeds_wider, runs_out_wider, proceeds_then, later_proceeded}
 use Rattle.board_moves.proofs.Working.{works_end}
 use Rattle.goal_space.specs.Words.{goal_word}
-use Rattle.goal_space.specs.Children.{IsLeft, IsLogicalIn, IsChildGoal}
-use Rattle.goal_space.specs.Asked.{AsksFor, IsBroughtBy}
+use Rattle.goal_space.specs.Children.{IsLeft, IsChildGoal}
+use Rattle.goal_space.specs.Asked.{AsksFor}
 use Rattle.goal_space.specs.Answers.{no_choice}
-use Rattle.goal_space.specs.Entries.{NamesGoal, IsChildWord, IsAskedWord}
+use Rattle.goal_space.specs.Entries.{NamesGoal, IsAskedWord}
 use Rattle.goal_space.specs.declared.goals.GoalKind.{GoalKind}
 use Rattle.goal_space.specs.declared.goals.GoalKind.TheVariants.{Exp, Xf}
 use Rattle.goal_rules.specs.Meaning.{meaning_of}
@@ -36,7 +36,7 @@ use Rattle.goal_rules.specs.declared.rules.Rules.{Rules}
 use Rattle.job_turns.specs.Laws.{IsSmall, ChildrenAreKnown, AskedAreKnown}
 use Rattle.job_turns.specs.Results.{IsBroughtAt, IsBroughtWith, IsBroughtBelow, IsBroughtFrom, IsLeftOf}
 use Rattle.job_turns.specs.Works.{Adds, HasPut, WorksOn}
-use Rattle.job_turns.proofs.Promises.{goes_on, promise_shown}
+use Rattle.job_turns.proofs.Promises.{promise_shown}
 
 -- a bound member that fits has a word
 pub bound_packed : (q : Query) → ((e : ExprParts) → IsCandidate q e → IsPacked e) → (bound : Option ExprParts) → IfSome bound (IsCandidate q) → IfSome bound IsPacked

@@ -1,6 +1,6 @@
 -- The members of a group that may serve a request, in the order of their words.
-use Rattle.std.proofs.Common.{◌≡◌, ◌≢◌, ◌⊎◌, ℕ, ◌+◌, ◌<◌, ◌≤◌, ◌^◌, Option, None, Some, List, [], ◌∷◌, refl, sym, ap, subst, ◌∙◌, inl, inr, ⊎_elim, arith}
-use Rattle.query_core.specs.Expressions.{expr_of, word_of, IsPacked, IsCandidate, IsCandidateOf}
+use Rattle.std.proofs.Common.{◌≡◌, ◌⊎◌, ℕ, ◌<◌, ◌≤◌, Option, None, Some, refl, sym, ap, subst, ◌∙◌, inl, inr, ⊎_elim, arith}
+use Rattle.query_core.specs.Expressions.{expr_of, word_of, IsPacked, IsCandidate}
 use Rattle.query_core.specs.declared.query.Query.{Query}
 use Rattle.query_core.specs.declared.words.KeyParts.{KeyParts}
 use Rattle.query_core.specs.declared.expressions.ExprParts.{ExprParts}
@@ -10,7 +10,6 @@ use Rattle.request_props.specs.Fitting.{Fits}
 use Rattle.request_props.specs.Numbered.{IsProps}
 use Rattle.request_props.specs.declared.props.Props.{Props}
 use Rattle.request_props.specs.declared.request.Request.{Request}
-use Rattle.plan_space.specs.Enforcers.{EnforcedBy, enforcers_of, Among}
 use Rattle.plan_space.specs.declared.nodes.NodeKind.TheVariants as nodes
 use Rattle.best_answers.specs.Nodes.{Nodes, no_nodes, modes_of, both_of, all_nodes, IsIn}
 use Rattle.best_answers.specs.Answers.{lesser}
@@ -19,11 +18,11 @@ use Rattle.best_answers.specs.Laws.{NoneIsBest, LesserIsBest, CoveredIsBest}
 use Rattle.best_answers.specs.declared.best.Best.{Best}
 use Rattle.board_moves.specs.Words.{IsAbove, IsNextWord, IsNextOf}
 use Rattle.board_moves.proofs.Ascending.{IsUpTo, up_to_next, up_to_or_above}
-use Rattle.goal_space.specs.Children.{CanServe, IsChildGoal}
+use Rattle.goal_space.specs.Children.{CanServe}
 use Rattle.goal_space.specs.Answers.{IsAnswerTo}
 use Rattle.goal_space.specs.declared.goals.GoalKind.{GoalKind}
-use Rattle.goal_space.specs.declared.goals.GoalKind.TheVariants.{Imp, Opt, OptE}
-use Rattle.job_turns.specs.Requests.{IsServing, IsServingWord, IsMemberGoal, IsBestOfMembers, IsEnforcerGoal, IsPlanGoal, first_enforcers}
+use Rattle.goal_space.specs.declared.goals.GoalKind.TheVariants.{OptE}
+use Rattle.job_turns.specs.Requests.{IsServing, IsServingWord, IsMemberGoal, IsBestOfMembers, first_enforcers}
 use Rattle.job_turns.proofs.Enforced.{first_has}
 use Rattle.job_turns.proofs.Held.{same_physical}
 

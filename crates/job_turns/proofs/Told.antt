@@ -2,7 +2,6 @@
 use Rattle.std.proofs.Common.{◌≡◌, ◌<◌, ℕ, Option, refl, sym, subst}
 use Rattle.std.specs.Prelude.{IfSome}
 use Rattle.query_core.specs.declared.query.Query.{Query}
-use Rattle.board_rule.specs.Looks.{ShowsFinished}
 use Rattle.board_rule.specs.declared.hands.Hands.{Hands}
 use Rattle.goal_board.specs.declared.board.Right.{Right}
 use Rattle.goal_board.specs.declared.answers.Answer.{Answer}
@@ -18,7 +17,7 @@ use Rattle.goal_rules.specs.Meaning.{meaning_of}
 use Rattle.goal_rules.specs.Answers.{AreWordsOf}
 use Rattle.goal_rules.specs.declared.rules.Rules.{Rules}
 use Rattle.job_turns.specs.Laws.{IsSmall}
-use Rattle.job_turns.specs.Works.{IsChildOf, HasAwaited}
+use Rattle.job_turns.specs.Works.{IsChildOf}
 use Rattle.job_turns.specs.Choices.{most_word, AnswersAreKnown, FindsChoice}
 use Rattle.job_turns.specs.declared.choice.Choice.TheVariants.{Known}
 use Rattle.job_turns.proofs.Awaited.{has_one}

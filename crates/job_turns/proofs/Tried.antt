@@ -1,7 +1,7 @@
 -- The modes of an expression that were tried for a request.
 use Rattle.std.proofs.Common.{◌≡◌, ◌⊎◌, ℕ, ◌+◌, ◌<◌, ◌≤◌, Option, None, Some, List, [], ◌∷◌, refl, sym, ap, subst, ◌∙◌, inl, inr, ⊎_elim, arith}
 use Rattle.std.proofs.lemmas.Bool.{cases_lt}
-use Rattle.query_core.specs.Expressions.{expr_of, physical_children}
+use Rattle.query_core.specs.Expressions.{physical_children}
 use Rattle.query_core.specs.Keys.{Names}
 use Rattle.query_core.specs.declared.query.Query.{Query}
 use Rattle.query_core.specs.declared.words.Key.{Key}

@@ -2,7 +2,6 @@
 use Rattle.std.specs.Prelude.{◌≡◌}
 use Rattle.query_core.specs.declared.query.Query.{Query}
 use Rattle.board_rule.specs.Meaning.{Meaning}
-use Rattle.board_rule.specs.declared.hands.Hands.{Hands}
 use Rattle.goal_board.specs.declared.board.Board.{Board}
 use Rattle.goal_board.specs.declared.board.Seat.{Seat}
 use Rattle.goal_board.specs.declared.board.Right.{Right}

@@ -60,12 +60,7 @@ fn table_with(alloc: Global, i: u32, rows: u64, values: u64) -> Result<TableInfo
 }
 
 /// Table `i`, by the next two draws.
-fn table_of(
-    alloc: Global,
-    number: u64,
-    i: u32,
-    draws: &mut Draws,
-) -> Result<TableInfo, AllocError>
+fn table_of(alloc: Global, number: u64, i: u32, draws: &mut Draws) -> Result<TableInfo, AllocError>
     requires place { i < 8 }
     requires drawn { draws.old ≡ draw_of number (2 * i) }
     ensures table { IfOk result (λ table. table ≡ table_of number i) }

@@ -7,8 +7,8 @@ mod select;
 mod shape;
 mod texts;
 
-pub use texts::generate;
 pub use shape::GenShape;
+pub use texts::generate;
 
 #[cfg(test)]
 mod tests;

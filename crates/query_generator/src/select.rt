@@ -6,9 +6,7 @@ ghost use Rattle.query_generator.specs.Select.{column_of, from_of, is_joined, it
 use crate::catalog::{table_name, text_of};
 use crate::shape::GenShape;
 use orca_base::List;
-use sql_reader::{
-    ColRef, FromItem, SelExpr, SelItem, SelKey, SelOp, SelOperand, SelPred, Select,
-};
+use sql_reader::{ColRef, FromItem, SelExpr, SelItem, SelKey, SelOp, SelOperand, SelPred, Select};
 use std::alloc::{AllocError, Global};
 
 fn column_of(alloc: Global, i: u32, name: &str) -> Result<ColRef, AllocError>

@@ -3,8 +3,10 @@ use std::test::Fail;
 
 #[test]
 fn texts_are_those_of_the_number(rt: HostRuntime) -> Result<(), Fail> {
-    let one = "{\"version\":1,\"segments\":4,\"tables\":[{\"name\":\"t0\",\"rows\":14900,\"distribution\":[\"id\"],\"columns\":[{\"name\":\"id\",\"ndv\":14900},{\"name\":\"f\",\"ndv\":250}]}]}";
-    let two = "{\"version\":1,\"segments\":4,\"tables\":[{\"name\":\"t0\",\"rows\":14900,\"distribution\":[\"id\"],\"columns\":[{\"name\":\"id\",\"ndv\":14900},{\"name\":\"f\",\"ndv\":250}]},{\"name\":\"t1\",\"rows\":5730500,\"distribution\":\"random\",\"columns\":[{\"name\":\"id\",\"ndv\":5730500},{\"name\":\"f\",\"ndv\":45}]}]}";
+    let one =
+        "{\"version\":1,\"segments\":4,\"tables\":[{\"name\":\"t0\",\"rows\":14900,\"distribution\":[\"id\"],\"columns\":[{\"name\":\"id\",\"ndv\":14900},{\"name\":\"f\",\"ndv\":250}]}]}";
+    let two =
+        "{\"version\":1,\"segments\":4,\"tables\":[{\"name\":\"t0\",\"rows\":14900,\"distribution\":[\"id\"],\"columns\":[{\"name\":\"id\",\"ndv\":14900},{\"name\":\"f\",\"ndv\":250}]},{\"name\":\"t1\",\"rows\":5730500,\"distribution\":\"random\",\"columns\":[{\"name\":\"id\",\"ndv\":5730500},{\"name\":\"f\",\"ndv\":45}]}]}";
     for (number, tables, want) in [(1, 1, one), (1, 2, two), (65_538, 1, one)] {
         let (catalog, _) = generate(rt.alloc(), number, tables, GenShape::Chain)?;
         assert_eq!(rt; catalog.as_slice(), want.as_bytes());

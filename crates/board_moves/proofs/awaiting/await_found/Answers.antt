@@ -1,9 +1,8 @@
 -- Each word that is found has its goal awaited, and the others are passed.
-use Rattle.std.proofs.Common.{◌≡◌, ◌≢◌, ◌+◌, ◌^◌, ◌<◌, ℕ, false, sym, subst, ◌∙◌, rules, arith}
+use Rattle.std.proofs.Common.{◌+◌, ◌^◌, ◌<◌, sym, subst, ◌∙◌, rules, arith}
 use Rattle.std.proofs.lemmas.Bool.{false≢true}
 use Rattle.goal_board.specs.Seats.{hands}
 use Rattle.board_moves.specs.Moves.{Awaits}
-use Rattle.board_moves.specs.declared.progress.Progress.TheVariants as progress
 use Rattle.board_moves.proofs.Putting.{held_at, held_not, only_looks_held, found_enters}
 use Rattle.board_moves.proofs.OneChild.{right_looked}
 use Rattle.board_moves.proofs.Passing.{number_fits}

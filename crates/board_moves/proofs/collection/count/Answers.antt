@@ -1,5 +1,5 @@
 -- Each word is found in a cell or in none.
-use Rattle.std.proofs.Common.{◌+◌, ◌^◌, ◌<◌, false, sym, ◌∙◌, rules, arith}
+use Rattle.std.proofs.Common.{◌+◌, ◌^◌, ◌<◌, sym, ◌∙◌, rules, arith}
 use Rattle.std.proofs.lemmas.Bool.{false≢true}
 use Rattle.goal_board.specs.Seats.{hands}
 use Rattle.board_moves.proofs.Putting.{held_at, held_not}

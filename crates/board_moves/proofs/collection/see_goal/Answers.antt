@@ -1,5 +1,5 @@
 -- A goal in a cell is open or has an answer.
-use Rattle.std.proofs.Common.{None, refl}
+use Rattle.std.proofs.Common.{refl}
 use Rattle.goal_board.specs.Seats.{hands}
 use Rattle.board_moves.proofs.Seeing.{not_shown, sees_explored, sees_open, sees_absent}
 use Rattle.board_moves.proofs.collection.see_goal.Goals as goal

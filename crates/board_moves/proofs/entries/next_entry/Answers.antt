@@ -1,9 +1,9 @@
 -- A word that is held is an entry, and one that isn't is none: the looks would show it.
-use Rattle.std.proofs.Common.{false, sym, ◌∙◌}
+use Rattle.std.proofs.Common.{sym, ◌∙◌}
 use Rattle.std.proofs.lemmas.Bool.{false≢true}
 use Rattle.goal_board.specs.Seats.{hands}
 use Rattle.board_moves.specs.Moves.{IsEntryOf}
-use Rattle.board_moves.proofs.Shown.{later_seen, still_shown, looks_none, looks_then, later_looked}
+use Rattle.board_moves.proofs.Shown.{still_shown, looks_none, looks_then, later_looked}
 use Rattle.board_moves.proofs.Ascending.{passes_none, passes_next, passes_found}
 use Rattle.board_moves.proofs.Putting.{held_at, only_looks_held, found_enters}
 use Rattle.board_moves.proofs.entries.next_entry.Goals as goal

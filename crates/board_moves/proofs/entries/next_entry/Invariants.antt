@@ -1,5 +1,4 @@
 -- The seat only looked, and passed no entry.
-use Rattle.std.proofs.Common.{ℕ}
 use Rattle.goal_board.specs.Seats.{IsSeatOf, hands}
 use Rattle.board_moves.specs.Moves.{OnlyLooks, IsEntryOf}
 use Rattle.board_moves.proofs.Ascending.{left_above, Passes}

@@ -1,5 +1,5 @@
 -- The origin is put in first, and then the members that are found are awaited.
-use Rattle.std.proofs.Common.{◌≡◌, ◌≢◌, ℕ, sym, subst, inl, inr}
+use Rattle.std.proofs.Common.{◌≢◌, sym, subst, inl, inr}
 use Rattle.word_table.specs.declared.outcome.Inserted.TheVariants.{Full}
 use Rattle.board_rule.specs.Looks.{ShowsEntry}
 use Rattle.goal_board.specs.Seats.{hands}

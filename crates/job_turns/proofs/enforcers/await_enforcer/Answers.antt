@@ -1,20 +1,16 @@
 -- What the enforcer asks of the same group was awaited, or no enforcer is there.
-use Rattle.std.proofs.Common.{◌≡◌, ℕ, Option, None, Some, refl, sym, ap, subst, inr}
-use Rattle.std.specs.Prelude.{slice_get}
+use Rattle.std.proofs.Common.{◌≡◌, Option, None, sym, ap, subst, inr}
 use Rattle.request_props.specs.declared.request.Request.{Request}
-use Rattle.plan_space.specs.Enforcers.{EnforcedBy, enforcers_of}
-use Rattle.plan_tree.specs.Enforcers.{IsEnforced}
+use Rattle.plan_space.specs.Enforcers.{EnforcedBy}
 use Rattle.best_answers.specs.Best.{IsBest}
-use Rattle.best_answers.specs.Nodes.{all_nodes}
 use Rattle.goal_board.specs.Seats.{hands}
 use Rattle.goal_space.specs.Answers.{IsAnswerTo}
 use Rattle.goal_space.specs.declared.goals.GoalKind.TheVariants.{Opt}
-use Rattle.job_turns.specs.Choices.{FindsChoice, IsChoice}
+use Rattle.job_turns.specs.Choices.{IsChoice}
 use Rattle.job_turns.specs.Requests.{IsEnforcerGoalAt, enforcer_at, enforcer_alone}
-use Rattle.job_turns.specs.declared.choice.Choice.{Choice}
 use Rattle.job_turns.specs.declared.choice.Choice.TheVariants.{Known, Open}
 use Rattle.job_turns.proofs.Finding.{finds_none, finds_told}
-use Rattle.job_turns.proofs.Enforced.{IsFoundAt, found_at, goal_found, no_goal, no_node}
+use Rattle.job_turns.proofs.Enforced.{found_at, goal_found, no_goal, no_node}
 use Rattle.job_turns.proofs.enforcers.await_enforcer.Goals as goal
 
 pub enforcer_for-requires-clause-known : goal.enforcer_for-requires-clause-known

@@ -1,10 +1,10 @@
 -- One rule more.
-use Rattle.std.proofs.Common.{◌≡◌, ◌<◌, ◌≤◌, ℕ, ◌+◌, ◌⊎◌, Some, length, get_or, refl, sym, ap, subst, ◌∙◌, inl, inr, ⊎_elim, arith}
+use Rattle.std.proofs.Common.{◌≡◌, ◌+◌, ◌⊎◌, Some, length, get_or, sym, ap, subst, ◌∙◌, inl, inr, ⊎_elim, arith}
 use Rattle.xform_rules.specs.declared.rules.Rule.TheVariants.{ExpandNAry}
 use Rattle.goal_board.specs.Seats.{hands}
 use Rattle.goal_space.specs.Children.{IsRuleAt}
 use Rattle.goal_space.specs.declared.goals.GoalKind.{GoalKind}
-use Rattle.job_turns.specs.Works.{IsChildOf, IsRuleOf}
+use Rattle.job_turns.specs.Works.{IsChildOf}
 use Rattle.job_turns.proofs.Awaited.{IsRuleBefore, rule_more, each_rule, has_none, has_both, has_others, runs_out_after}
 use Rattle.job_turns.proofs.expressions.await_rules.Goals as goal
 

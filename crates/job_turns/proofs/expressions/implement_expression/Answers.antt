@@ -1,11 +1,10 @@
 -- The goals of the children's groups and of the rules are all children that the goal has.
-use Rattle.std.proofs.Common.{◌≡◌, ◌⊎◌, true, false, refl, sym, subst, inl, inr, ⊎_elim}
+use Rattle.std.proofs.Common.{◌⊎◌, false, refl, sym, subst, inl, inr, ⊎_elim}
 use Rattle.goal_board.specs.Seats.{hands}
 use Rattle.goal_space.specs.Children.{IsRuleAt}
-use Rattle.goal_space.specs.declared.goals.GoalKind.{GoalKind}
-use Rattle.goal_space.specs.declared.goals.GoalKind.TheVariants.{Imp, ImpE}
+use Rattle.goal_space.specs.declared.goals.GoalKind.TheVariants.{ImpE}
 use Rattle.job_turns.specs.Works.{IsChildOf, IsOneOf}
-use Rattle.job_turns.proofs.Awaited.{has_both, has_others, runs_out_after}
+use Rattle.job_turns.proofs.Awaited.{has_both, runs_out_after}
 use Rattle.job_turns.proofs.Promises.{runs_out, works_of_children}
 use Rattle.job_turns.proofs.expressions.implement_expression.Goals as goal
 

@@ -1,5 +1,5 @@
 -- The next candidate is logical, or no logical one comes any more.
-use Rattle.std.proofs.Common.{◌≡◌, Option, false, sym, subst, ◌∙◌}
+use Rattle.std.proofs.Common.{Option, sym, subst, ◌∙◌}
 use Rattle.std.proofs.lemmas.Bool.{false≢true}
 use Rattle.query_core.specs.Candidates.{IsNext, IsLast}
 use Rattle.query_core.specs.Keys.{Names}

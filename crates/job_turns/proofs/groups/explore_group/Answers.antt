@@ -1,5 +1,5 @@
 -- The exploration that the goal is, over the board's rules, which are the query's.
-use Rattle.std.proofs.Common.{◌≡◌, ℕ, refl, sym, subst}
+use Rattle.std.proofs.Common.{refl, sym, subst}
 use Rattle.query_core.specs.declared.query.Query.{Query}
 use Rattle.goal_board.specs.Seats.{hands}
 use Rattle.board_moves.specs.Collects.{IsExploration, ExplorationAdds}

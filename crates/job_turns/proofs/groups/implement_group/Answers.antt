@@ -1,7 +1,7 @@
 -- Once the group is explored all its logical members are found, and once they are implemented all others are there.
-use Rattle.std.proofs.Common.{◌≡◌, refl, sym, subst, inl, inr}
+use Rattle.std.proofs.Common.{refl, sym, subst, inl}
 use Rattle.goal_board.specs.Seats.{hands}
-use Rattle.goal_space.specs.declared.goals.GoalKind.TheVariants.{Exp, Imp, ImpE}
+use Rattle.goal_space.specs.declared.goals.GoalKind.TheVariants.{Imp}
 use Rattle.goal_space.specs.Entries.{NamesGoal, IsEntry, IsChildWord}
 use Rattle.goal_rules.specs.Explored.{IsLogicalWord}
 use Rattle.goal_rules.specs.Meaning.{meaning_of}

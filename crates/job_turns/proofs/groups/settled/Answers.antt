@@ -1,5 +1,5 @@
 -- The exploration of the group, over the board's rules, which are the query's.
-use Rattle.std.proofs.Common.{◌≡◌, sym, subst}
+use Rattle.std.proofs.Common.{sym, subst}
 use Rattle.query_core.specs.declared.query.Query.{Query}
 use Rattle.board_rule.specs.Looks.{ShowsEntry}
 use Rattle.goal_board.specs.Seats.{hands}

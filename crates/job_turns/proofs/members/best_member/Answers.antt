@@ -11,7 +11,6 @@ use Rattle.board_moves.proofs.Shown.{still_finished}
 use Rattle.board_moves.proofs.MovesLemmas.{later_proceeded}
 use Rattle.goal_space.specs.Answers.{IsAnswerTo}
 use Rattle.goal_space.specs.Entries.{NamesGoal, IsChildWord}
-use Rattle.goal_space.specs.Goals.{child_goal}
 use Rattle.goal_space.specs.Words.{goal_word}
 use Rattle.goal_space.specs.declared.goals.GoalKind.TheVariants.{Imp, Opt, OptE}
 use Rattle.goal_rules.specs.Meaning.{meaning_of}

@@ -1,10 +1,9 @@
 -- The order of candidates is that of their words.
-use Rattle.std.proofs.Common.{Option, None, Some, sym, subst}
-use Rattle.std.specs.Prelude.{MatchOption}
-use Rattle.query_core.specs.Keys.{IsKey, Names}
+use Rattle.std.proofs.Common.{Option, subst}
+use Rattle.query_core.specs.Keys.{Names}
 use Rattle.query_core.specs.Candidates.{IsNext, IsLast}
 use Rattle.query_core.specs.declared.words.Expr.{Expr}
-use Rattle.job_turns.proofs.Held.{as_expr, next_word, last_word}
+use Rattle.job_turns.proofs.Held.{next_word, last_word}
 use Rattle.job_turns.proofs.members.next_candidate.Goals as goal
 
 pub make-requires : goal.make-requires

@@ -1,7 +1,7 @@
 -- A candidate that is held is a member, and one that isn't is none: the looks would show it.
-use Rattle.std.proofs.Common.{◌≢◌, ℕ, ◌<◌, false, sym, subst, ◌∙◌, arith}
+use Rattle.std.proofs.Common.{◌≢◌, sym, subst, ◌∙◌, arith}
 use Rattle.std.proofs.lemmas.Bool.{false≢true}
-use Rattle.query_core.specs.Expressions.{IsCandidateOf, word_of}
+use Rattle.query_core.specs.Expressions.{IsCandidateOf}
 use Rattle.query_core.specs.declared.query.Query.{Query}
 use Rattle.board_rule.specs.Looks.{ShowsEntry}
 use Rattle.goal_board.specs.Seats.{hands}

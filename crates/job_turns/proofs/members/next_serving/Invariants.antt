@@ -1,5 +1,4 @@
 -- The seat only looked, and passed no member that may serve.
-use Rattle.std.proofs.Common.{ℕ}
 use Rattle.goal_board.specs.Seats.{hands}
 use Rattle.board_moves.specs.Moves.{OnlyLooks}
 use Rattle.board_moves.proofs.Ascending.{left_above, Passes}

@@ -1,7 +1,6 @@
 -- A candidate has one word, and serves where it has a first alternative.
 use Rattle.std.proofs.Common.{◌≡◌, sym, ap, subst, ◌∙◌}
 use Rattle.query_core.specs.Expressions.{expr_of, word_of, HasWord, IsCandidate}
-use Rattle.query_core.specs.declared.expressions.ExprParts.{ExprParts}
 use Rattle.query_core.specs.declared.expressions.PhysicalExpr.{PhysicalExpr}
 use Rattle.job_turns.specs.Requests.{MayServe}
 use Rattle.job_turns.proofs.Held.{same_physical, may_serve, may_not_serve}

@@ -1,5 +1,5 @@
 -- What is asked of both children was awaited, the left one first.
-use Rattle.std.proofs.Common.{◌≡◌, ◌≤◌, ℕ, sym, subst, arith}
+use Rattle.std.proofs.Common.{◌≤◌, ℕ, sym, subst, arith}
 use Rattle.query_core.specs.declared.query.Query.{Query}
 use Rattle.plan_tree.specs.Alternatives.{IsAltBy}
 use Rattle.plan_tree.specs.declared.alternatives.Alt.{Alt}

@@ -1,6 +1,5 @@
 -- Something is asked of the group of a key, or nothing.
 use Rattle.std.proofs.Common.{◌≡◌, Option, None, Some, sym, subst}
-use Rattle.query_core.specs.Keys.{IsKey}
 use Rattle.query_core.specs.declared.words.Key.{Key}
 use Rattle.request_props.specs.declared.request.Request.{Request}
 use Rattle.best_answers.specs.Best.{IsBestAsked}

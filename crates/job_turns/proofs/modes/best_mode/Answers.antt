@@ -1,6 +1,5 @@
 -- One mode after the other.
-use Rattle.std.proofs.Common.{ℕ, ◌+◌, ◌≤◌, ◌<◌, None, sym, subst, ◌∙◌, arith}
-use Rattle.query_core.specs.Expressions.{expr_of}
+use Rattle.std.proofs.Common.{ℕ, ◌+◌, None, sym, subst, ◌∙◌, arith}
 use Rattle.goal_board.specs.Seats.{hands}
 use Rattle.goal_space.specs.Children.{IsChildGoal}
 use Rattle.goal_space.specs.Answers.{IsAnswerTo}

@@ -1,10 +1,9 @@
 -- The goal that the seat holds is an entry and a goal, so its word is that of a goal of the query.
-use Rattle.std.proofs.Common.{◌≡◌, ℕ, ◌^◌, Option, None, Some, sym, subst, ◌∙◌, ◌↔◌}
+use Rattle.std.proofs.Common.{◌≡◌, ℕ, ◌^◌, Some, subst, ◌↔◌}
 use Rattle.std.proofs.lemmas.Bool.{leb-true}
 use Rattle.query_core.specs.declared.query.Query.{Query}
 use Rattle.goal_space.specs.Words.{HasWord}
-use Rattle.goal_space.specs.Entries.{IsEntry, NamesGoal}
-use Rattle.goal_space.specs.declared.goals.GoalKind.{GoalKind}
+use Rattle.goal_space.specs.Entries.{IsEntry}
 use Rattle.job_turns.proofs.GoalsHeld.{held_goal, kind_is, not_both, names_told}
 use Rattle.job_turns.proofs.one_turn.goal_of.Goals as goal
 

@@ -1,5 +1,5 @@
 -- The turn begins with the claimed right, and ends as its work has come out.
-use Rattle.std.proofs.Common.{◌≡◌, sym, subst}
+use Rattle.std.proofs.Common.{sym, subst}
 use Rattle.query_core.specs.declared.query.Query.{Query}
 use Rattle.goal_board.specs.Seats.{hands}
 use Rattle.goal_board.specs.declared.board.Right.{Right}

@@ -1,5 +1,5 @@
 -- The first and then the second.
-use Rattle.std.proofs.Common.{◌≡◌, Some, inl, inr, sym, subst, refl}
+use Rattle.std.proofs.Common.{◌≡◌, Some, inl, inr, sym, subst}
 use Rattle.goal_board.specs.Seats.{hands}
 use Rattle.goal_space.specs.declared.goals.GoalKind.{GoalKind}
 use Rattle.job_turns.specs.Works.{IsChildOf}

@@ -1,8 +1,7 @@
 -- Of one child, what came of it; of none, nothing.
-use Rattle.std.proofs.Common.{◌≡◌, None, Some, refl, sym, ◌∙◌}
+use Rattle.std.proofs.Common.{◌≡◌, Some, sym, ◌∙◌}
 use Rattle.goal_board.specs.Seats.{hands}
 use Rattle.board_moves.specs.declared.progress.Progress.TheVariants as progress
-use Rattle.goal_space.specs.Words.{goal_word}
 use Rattle.goal_space.specs.declared.goals.GoalKind.{GoalKind}
 use Rattle.job_turns.proofs.Awaited.{has_none, has_one, has_others, some_is, none_is}
 use Rattle.job_turns.proofs.over_query.await_if.Goals as goal

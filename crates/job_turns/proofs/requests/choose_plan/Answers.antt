@@ -1,12 +1,11 @@
 -- The group's implementation was awaited, and then its members and the enforcers.
-use Rattle.std.proofs.Common.{◌≡◌, ◌⊎◌, ◌≤◌, ℕ, None, Some, refl, sym, subst, inl, arith}
+use Rattle.std.proofs.Common.{◌≡◌, ℕ, None, Some, refl, sym, subst, inl, arith}
 use Rattle.best_answers.specs.Best.{IsBest}
 use Rattle.best_answers.specs.Nodes.{all_nodes}
 use Rattle.board_moves.specs.declared.progress.Progress.TheVariants as progress
 use Rattle.goal_board.specs.Seats.{hands}
 use Rattle.goal_space.specs.Goals.{child_goal}
-use Rattle.goal_space.specs.Entries.{NamesGoal, IsChildWord}
-use Rattle.goal_space.specs.declared.goals.GoalKind.{GoalKind}
+use Rattle.goal_space.specs.Entries.{NamesGoal}
 use Rattle.goal_space.specs.declared.goals.GoalKind.TheVariants.{Imp, Opt}
 use Rattle.job_turns.specs.Requests.{IsPlanGoal, IsEnforcerGoal, first_enforcers}
 use Rattle.job_turns.proofs.Awaited.{has_one}

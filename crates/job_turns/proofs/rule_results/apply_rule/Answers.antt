@@ -1,8 +1,7 @@
 -- A rule without a left group to bind a member of has no child, and all that it brings is put in.
-use Rattle.std.proofs.Common.{◌≡◌, ℕ, None, Some, sym, subst, inl, inr}
-use Rattle.query_core.specs.declared.expressions.ExprParts.{ExprParts}
+use Rattle.std.proofs.Common.{None, inl}
 use Rattle.goal_board.specs.Seats.{hands}
-use Rattle.goal_space.specs.declared.goals.GoalKind.TheVariants.{Exp, Xf}
+use Rattle.goal_space.specs.declared.goals.GoalKind.TheVariants.{Xf}
 use Rattle.board_moves.proofs.MovesLemmas.{proceeds_none}
 use Rattle.job_turns.specs.Results.{IsBroughtWith}
 use Rattle.job_turns.specs.Works.{Adds}

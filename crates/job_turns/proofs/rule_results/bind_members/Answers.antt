@@ -1,10 +1,7 @@
 -- Once the left child's group is explored all members that can be bound are in cells.
-use Rattle.std.proofs.Common.{◌≡◌, ℕ, None, Some, refl, sym, subst, inl, inr}
-use Rattle.query_core.specs.declared.query.Query.{Query}
-use Rattle.query_core.specs.declared.expressions.ExprParts.{ExprParts}
+use Rattle.std.proofs.Common.{refl, sym, subst, inr}
 use Rattle.board_rule.specs.Looks.{ShowsFinished, asked_by}
 use Rattle.goal_board.specs.Seats.{hands}
-use Rattle.board_moves.specs.Moves.{RunsOut}
 use Rattle.board_moves.proofs.MovesLemmas.{runs_out_then}
 use Rattle.goal_space.specs.Words.{goal_word}
 use Rattle.goal_space.specs.Goals.{child_goal}

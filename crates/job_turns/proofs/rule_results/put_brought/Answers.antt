@@ -1,5 +1,5 @@
 -- The member, and then the origins on either side.
-use Rattle.std.proofs.Common.{◌≡◌, ◌⊎◌, false, Some, refl, sym, subst, inl, inr}
+use Rattle.std.proofs.Common.{◌≡◌, ◌⊎◌, false, refl, inl, inr}
 use Rattle.query_core.specs.Expressions.{origin_of}
 use Rattle.query_core.specs.declared.expressions.ExprParts.{ExprParts}
 use Rattle.goal_board.specs.Seats.{hands}

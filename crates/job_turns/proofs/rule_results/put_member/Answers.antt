@@ -1,9 +1,8 @@
 -- What the goal asks for is an entry.
-use Rattle.std.proofs.Common.{◌≡◌, sym, subst}
+use Rattle.std.proofs.Common.{sym, subst}
 use Rattle.query_core.specs.declared.query.Query.{Query}
 use Rattle.goal_board.specs.Seats.{hands}
 use Rattle.goal_space.specs.Entries.{IsEntry}
-use Rattle.goal_rules.specs.Meaning.{meaning_of}
 use Rattle.board_moves.proofs.OneChild.{right_put}
 use Rattle.job_turns.specs.Searches.{rules_mean}
 use Rattle.job_turns.proofs.MembersPut.{asked_enters, put_one, puts_full}

@@ -1,7 +1,6 @@
 -- The origin of the group that is there, or of none.
-use Rattle.std.proofs.Common.{◌≡◌, None, Some, sym, subst, ◌∙◌}
-use Rattle.query_core.specs.Expressions.{origin_of, IsPacked}
-use Rattle.query_core.specs.declared.words.KeyParts.{KeyParts}
+use Rattle.std.proofs.Common.{◌≡◌, sym, subst, ◌∙◌}
+use Rattle.query_core.specs.Expressions.{IsPacked}
 use Rattle.query_core.specs.declared.expressions.ExprParts.{ExprParts}
 use Rattle.goal_board.specs.Seats.{hands}
 use Rattle.job_turns.specs.Works.{IsAskedOf, IsOriginOf}

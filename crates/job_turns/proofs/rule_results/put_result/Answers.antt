@@ -1,6 +1,5 @@
 -- A result of a candidate is one, and there is one of each number.
-use Rattle.std.proofs.Common.{◌≡◌, ℕ, sym, subst}
-use Rattle.query_core.specs.declared.expressions.ExprParts.{ExprParts}
+use Rattle.std.proofs.Common.{subst}
 use Rattle.goal_board.specs.Seats.{hands}
 use Rattle.goal_space.specs.Asked.{IsBroughtBy}
 use Rattle.job_turns.specs.Results.{IsBroughtAt}

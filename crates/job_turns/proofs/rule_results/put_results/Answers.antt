@@ -1,6 +1,5 @@
 -- One number more, up to the rule's limit.
-use Rattle.std.proofs.Common.{◌≡◌, ◌⊎◌, ◌<◌, ℕ, ◌+◌, false, ◌∙◌, arith}
-use Rattle.query_core.specs.declared.expressions.ExprParts.{ExprParts}
+use Rattle.std.proofs.Common.{◌⊎◌, ◌<◌, ◌+◌, false, arith}
 use Rattle.xform_rules.specs.Rules.{rule_limit}
 use Rattle.goal_board.specs.Seats.{hands}
 use Rattle.job_turns.specs.Results.{IsBroughtAt, IsBroughtBelow, IsBroughtWith}

@@ -1,8 +1,7 @@
 -- Each logical member that is in a cell is bound in turn.
-use Rattle.std.proofs.Common.{◌≡◌, ◌⊎◌, ℕ, None, Some, sym, subst, rules}
+use Rattle.std.proofs.Common.{◌⊎◌, None, Some, sym, subst, rules}
 use Rattle.query_core.specs.Expressions.{word_of, IsCandidate}
 use Rattle.query_core.specs.declared.query.Query.{Query}
-use Rattle.query_core.specs.declared.expressions.ExprParts.{ExprParts}
 use Rattle.xform_rules.specs.Closure.{IsMember}
 use Rattle.board_rule.specs.Looks.{ShowsEntry}
 use Rattle.goal_board.specs.Seats.{hands}

@@ -1,5 +1,5 @@
 -- A child that isn't finished has one waiter more, unless the goal has eight waits.
-use Rattle.std.proofs.Common.{◌≡◌, ◌≢◌, ℕ, ◌≤◌, sym, subst, arith}
+use Rattle.std.proofs.Common.{◌≢◌, arith}
 use Rattle.goal_board.specs.Seats.{hands}
 use Rattle.board_moves.proofs.MovesLemmas.{proceeds_none}
 use Rattle.board_moves.proofs.OneChild.{not_open, awaits_registered, awaits_finished}
