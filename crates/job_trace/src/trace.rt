@@ -134,7 +134,7 @@ fn push_all_traced(
     let mut children = Vec::new(alloc);
     for goal in goals {
         push_goal_line(query, props, *goal, text)?;
-        list_children(query, props, members, *goal, &mut children)?;
+        list_children(alloc, query, props, members, *goal, &mut children)?;
         push_child_lines(query, props, children.as_slice(), text)?;
     }
     Ok(())
