@@ -1,5 +1,5 @@
 -- Choices that were found, one after the other.
-use Rattle.std.proofs.Common.{◌⊎◌, ℕ, ◌≤◌, Option, None, Some, [], arith}
+use Rattle.std.proofs.Common.{◌⊎◌, ℕ, ◌≤◌, Bool, true, false, Option, None, Some, [], subst, arith}
 use Rattle.query_core.specs.declared.query.Query.{Query}
 use Rattle.board_rule.specs.declared.hands.Hands.{Hands}
 use Rattle.goal_board.specs.declared.board.Right.{Right}
@@ -7,14 +7,14 @@ use Rattle.best_answers.specs.Answers.{lesser}
 use Rattle.best_answers.specs.declared.best.Best.{Best}
 use Rattle.board_moves.specs.Moves.{OnlyLooks, Proceeds, RunsOut}
 use Rattle.board_moves.proofs.Shown.{still_finished, later_looked}
-use Rattle.board_moves.proofs.MovesLemmas.{moves_looks, proceeds_moved, proceeds_then}
+use Rattle.board_moves.proofs.MovesLemmas.{moves_looks, proceeds_moved, proceeds_then, runs_out_then}
 use Rattle.goal_space.specs.Words.{goal_word}
 use Rattle.goal_space.specs.Entries.{IsChildWord}
 use Rattle.goal_space.specs.declared.goals.GoalKind.{GoalKind}
 use Rattle.goal_rules.specs.Meaning.{meaning_of}
 use Rattle.goal_rules.specs.declared.rules.Rules.{Rules}
 use Rattle.job_turns.specs.Works.{HasAwaited}
-use Rattle.job_turns.specs.Choices.{choice_of_both, IsChoice, FindsChoice, Chooses}
+use Rattle.job_turns.specs.Choices.{choice_of_both, IsChoice, FindsChoice, Chooses, PutsChildren}
 use Rattle.job_turns.specs.declared.choice.Choice.{Choice}
 use Rattle.job_turns.specs.declared.choice.Choice.TheVariants.{Known, Open}
 use Rattle.job_turns.proofs.Awaited.{has_none, has_others, has_both, runs_out_after}
@@ -95,3 +95,15 @@ module _ (q : Query) (room : ℕ) (v : Hands Rules) (before : Right) where
   pub finds_told : (Wanted Others : GoalKind → Type 0) (Is IsOther : Option Best → Type 0) → ((child : GoalKind) → Others child → Wanted child) → (one : Choice) (w : Hands Rules) (after : Right)
       → FindsChoice q room v before Wanted Is one w after → (choice : Choice) → IsChoice IsOther after choice → FindsChoice q room v before Others IsOther choice w after
   finds_told Wanted Others Is IsOther within one w after t choice is = record { awaited = has_others q room v before Wanted Others within w after t.awaited; is = is }
+
+  -- children that were put in, and then others or one of them that found no cell
+  pub puts_children_then : (u : Hands Rules) (fits : Bool) (w : Hands Rules) → PutsChildren q room v before true u → PutsChildren q room u before fits w → PutsChildren q room v before fits w
+  puts_children_then u true w first t = proceeds_then (IsChildWord q before.goal) v before u before w before first t
+  puts_children_then u false w first t = runs_out_then (IsChildWord q before.goal) room v before u before w before first t
+
+  -- a child was awaited, and then children were put in, or one of them found no cell
+  pub children_put : (u : Hands Rules) (middle : Right) (w : Hands Rules) → Proceeds (IsChildWord q before.goal) v before u middle → PutsChildren q room u middle true w → Proceeds (IsChildWord q before.goal) v before w middle
+  children_put u middle w first t = proceeds_then (IsChildWord q before.goal) v before u middle w middle first (subst (λ word. Proceeds (IsChildWord q word) u middle w middle) first.same_goal t)
+
+  pub children_full : (u : Hands Rules) (middle : Right) (w : Hands Rules) → Proceeds (IsChildWord q before.goal) v before u middle → PutsChildren q room u middle false w → RunsOut (IsChildWord q before.goal) v before room w middle
+  children_full u middle w first t = runs_out_then (IsChildWord q before.goal) room v before u middle w middle first (subst (λ word. RunsOut (IsChildWord q word) u middle room w middle) first.same_goal t)

@@ -86,12 +86,12 @@ module _ (q : Query) (group : KeyParts) (wanted : Request) where
     pub best_all : (best : Option Best) → IsBestUpTo before best → IsBestOfMembers q group wanted best
     best_all best so_far = record { set = so_far.set; has = λ e mode can. so_far.has e mode can (all_up_to e can); is_best = so_far.is_best }
 
-  -- the lesser answer of members and enforcers is that of all nodes
-  pub best_of_all : LesserIsBest q → CoveredIsBest q → (props : Props) → IsProps q props → Fits q group wanted → (first second : Option Best) → IsBestOfMembers q group wanted first → IsBest q group wanted (first_enforcers wanted) second
+  -- the lesser answer of enforcers and members is that of all nodes
+  pub best_of_all : LesserIsBest q → CoveredIsBest q → (props : Props) → IsProps q props → Fits q group wanted → (first second : Option Best) → IsBest q group wanted (first_enforcers wanted) first → IsBestOfMembers q group wanted second
       → IsBest q group wanted all_nodes (lesser first second)
-  best_of_all lesser_best covered props is_props fits first second members enforcers =
-      covered group wanted (both_of members.set (first_enforcers wanted)) all_nodes (lesser first second) (record {
+  best_of_all lesser_best covered props is_props fits first second enforcers members =
+      covered group wanted (both_of (first_enforcers wanted) members.set) all_nodes (lesser first second) (record {
         within = λ node at. tt;
-        enforcers = λ e among at. inr (first_has wanted e among);
-        members = λ e mode line member of_group at alternative. inl (members.has e mode (record { member = member; of_group = of_group; mode = mode; serves = (line, alternative) }));
-      }) (lesser_best props is_props group wanted members.set (first_enforcers wanted) first second fits members.is_best enforcers)
+        enforcers = λ e among at. inl (first_has wanted e among);
+        members = λ e mode line member of_group at alternative. inr (members.has e mode (record { member = member; of_group = of_group; mode = mode; serves = (line, alternative) }));
+      }) (lesser_best props is_props group wanted (first_enforcers wanted) members.set first second fits enforcers members.is_best)

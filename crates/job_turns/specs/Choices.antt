@@ -1,5 +1,5 @@
 -- What the turn of a goal that chooses the least plan for a request finds.
-use Rattle.std.specs.Prelude.{◌≡◌, ℕ, ◌-◌, ◌^◌, ◌<◌, ◌≤◌, Option, None, Some, IfSome}
+use Rattle.std.specs.Prelude.{◌≡◌, ℕ, ◌-◌, ◌^◌, ◌<◌, ◌≤◌, Option, None, Some, IfSome, Bool, true, false}
 use Rattle.query_core.specs.Expressions.{expr_of, physical_children}
 use Rattle.query_core.specs.Keys.{Names}
 use Rattle.query_core.specs.declared.query.Query.{Query}
@@ -23,7 +23,7 @@ use Rattle.best_answers.specs.Best.{IsBest}
 use Rattle.best_answers.specs.declared.best.Best.{Best}
 use Rattle.board_rule.specs.declared.hands.Hands.{Hands}
 use Rattle.goal_board.specs.declared.board.Right.{Right}
-use Rattle.board_moves.specs.Moves.{RunsOut}
+use Rattle.board_moves.specs.Moves.{Proceeds, RunsOut}
 use Rattle.board_moves.specs.declared.progress.Progress.{Progress}
 use Rattle.board_moves.specs.declared.progress.Progress.TheVariants as progress
 use Rattle.goal_space.specs.Children.{IsAsked}
@@ -79,6 +79,11 @@ module _ (q : Query) (room : ℕ) (v : Hands Rules) (before : Right) (Wanted : G
   abbrev pub Chooses : Option Choice → Hands Rules → Right → Type 0
   Chooses (Some choice) w after = FindsChoice choice w after
   Chooses None w after = RunsOut (IsChildWord q before.goal) v before room w after
+
+-- children of the goal were put in, or found in cells, or one of them found no cell
+abbrev pub PutsChildren : Query → ℕ → Hands Rules → Right → Bool → Hands Rules → Type 0
+PutsChildren q room v right true w = Proceeds (IsChildWord q right.goal) v right w right
+PutsChildren q room v right false w = RunsOut (IsChildWord q right.goal) v right room w right
 
 -- complete with the words of what is known where the right has no wait, and else waiting; full where a goal found no cell
 abbrev pub IsProgressOf : Right → Option Choice → Progress → Type 0

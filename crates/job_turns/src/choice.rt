@@ -9,12 +9,13 @@ ghost use Rattle.goal_rules.specs.Answers.{AreWordsOf};
 ghost use Rattle.best_answers.specs.declared.best.Best.{Best as AnyBest};
 ghost use Rattle.job_turns.specs.Searches.{IsBoardOf, IsSeat, HasRight};
 ghost use Rattle.job_turns.specs.Works.{IsChildOf};
-ghost use Rattle.job_turns.specs.Choices.{choice_of_both, most_word, AnswersAreKnown, Chooses, IsProgressOf};
+ghost use Rattle.job_turns.specs.Choices.{choice_of_both, most_word, AnswersAreKnown, Chooses, IsProgressOf, PutsChildren};
 
+use crate::laws::words_are_known;
 use crate::over_query::await_goal;
 use best_answers::{Best, answers_are_best, lesser};
-use board_moves::{Job, Progress};
-use goal_board::{Answer, Board, Hints, Seat};
+use board_moves::{Job, Progress, put_goal};
+use goal_board::{Answer, Board, Hints, Inserted, Seat};
 use goal_rules::Rules;
 use goal_space::{GoalKind, goal_kinds_are_one, goals_are_known};
 use plan_tree::Node;
@@ -68,6 +69,34 @@ pub(crate) fn await_choice<'q, H: Hints>(
         Progress::Complete(answer) => Some(Choice::Known(best_of(answer))),
         Progress::Waiting => Some(Choice::Open),
         Progress::Full => None,
+    }
+}
+
+/// Puts in a child of the goal. False where it found every cell taken.
+pub(crate) fn put_child<'q, H: Hints>(
+    query: &Query,
+    board: &Board<Rules<'q>>,
+    seat: &mut Seat<Rules<'q>>,
+    job: &Job,
+    child: GoalKind,
+    hints: &mut H,
+) -> bool
+    requires board { IsBoardOf query.now board.now }
+    requires seat { IsSeat board.now seat.old }
+    requires right { HasRight board.now seat.old job.now.right }
+    requires child { IsChildOf query.now job.now.right.goal child }
+    requires hints { H.capacity hints.old ≡ board.now.key.room }
+    ensures seat { IsSeat board.now seat.new }
+    ensures right { HasRight board.now seat.new job.now.right }
+    ensures puts { PutsChildren query.now board.now.key.room (hands seat.old) job.now.right
+        result (hands seat.new) }
+    ensures hints { H.capacity hints.new ≡ H.capacity hints.old }
+{
+    // For the proof: a child of a goal has a word.
+    words_are_known();
+    match put_goal(board, seat, child.word().0, hints) {
+        Inserted::Full => false,
+        _ => true,
     }
 }
 

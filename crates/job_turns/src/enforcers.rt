@@ -12,10 +12,10 @@ ghost use Rattle.goal_board.specs.Seats.{hands};
 ghost use Rattle.goal_space.specs.Entries.{NamesGoal};
 ghost use Rattle.goal_space.specs.declared.goals.GoalKind.TheVariants.{Opt};
 ghost use Rattle.job_turns.specs.Searches.{IsBoardOf, IsSeat, HasRight};
-ghost use Rattle.job_turns.specs.Choices.{Chooses};
+ghost use Rattle.job_turns.specs.Choices.{Chooses, PutsChildren};
 ghost use Rattle.job_turns.specs.Requests.{IsEnforcerGoal, IsEnforcerGoalAt, enforcer_at, first_enforcers};
 
-use crate::choice::{Choice, await_choice};
+use crate::choice::{Choice, await_choice, put_child};
 use best_answers::{answers_are_best, best_of_enforcer};
 use board_moves::Job;
 use goal_board::{Board, Hints, Seat};
@@ -56,6 +56,70 @@ pub(crate) fn best_enforcer<'q, H: Hints>(
     let first = await_enforcer(query, props, board, seat, job, group, wanted, 0, hints)?;
     let second = await_enforcer(query, props, board, seat, job, group, wanted, 1, hints)?;
     Some(first.or(second))
+}
+
+/// Puts in what the enforcers for the request ask for. False where it found every cell taken.
+pub(crate) fn put_enforcers<'q, H: Hints>(
+    query: &Query,
+    props: &Props,
+    board: &Board<Rules<'q>>,
+    seat: &mut Seat<Rules<'q>>,
+    job: &Job,
+    group: KeyParts,
+    wanted: Request,
+    hints: &mut H,
+) -> bool
+    requires props { IsProps query.now props.now }
+    requires board { IsBoardOf query.now board.now }
+    requires seat { IsSeat board.now seat.old }
+    requires right { HasRight board.now seat.old job.now.right }
+    requires goal { NamesGoal query.now job.now.right.goal (Opt group wanted) }
+    requires hints { H.capacity hints.old ≡ board.now.key.room }
+    ensures seat { IsSeat board.now seat.new }
+    ensures right { HasRight board.now seat.new job.now.right }
+    ensures puts { PutsChildren query.now board.now.key.room (hands seat.old) job.now.right
+        result (hands seat.new) }
+    ensures hints { H.capacity hints.new ≡ H.capacity hints.old }
+{
+    if !put_enforcer(query, props, board, seat, job, group, wanted, 0, hints) {
+        return false;
+    }
+    put_enforcer(query, props, board, seat, job, group, wanted, 1, hints)
+}
+
+// Puts in what the enforcer at this place asks for, if there are so many.
+fn put_enforcer<'q, H: Hints>(
+    query: &Query,
+    props: &Props,
+    board: &Board<Rules<'q>>,
+    seat: &mut Seat<Rules<'q>>,
+    job: &Job,
+    group: KeyParts,
+    wanted: Request,
+    place: u32,
+    hints: &mut H,
+) -> bool
+    requires props { IsProps query.now props.now }
+    requires board { IsBoardOf query.now board.now }
+    requires seat { IsSeat board.now seat.old }
+    requires right { HasRight board.now seat.old job.now.right }
+    requires goal { NamesGoal query.now job.now.right.goal (Opt group wanted) }
+    requires hints { H.capacity hints.old ≡ board.now.key.room }
+    ensures seat { IsSeat board.now seat.new }
+    ensures right { HasRight board.now seat.new job.now.right }
+    ensures puts { PutsChildren query.now board.now.key.room (hands seat.old) job.now.right
+        result (hands seat.new) }
+    ensures hints { H.capacity hints.new ≡ H.capacity hints.old }
+{
+    // For the proof: the request fits the group.
+    goals_are_known();
+    match enforcer_for(query, props, group, wanted, place) {
+        Some(enforced) => {
+            let child = GoalKind::Opt(group, enforced.below);
+            put_child(query, board, seat, job, child, hints)
+        }
+        None => true,
+    }
 }
 
 // The best answer of the enforcer at this place, if there are so many.

@@ -14,7 +14,7 @@ ghost use Rattle.job_turns.specs.Choices.{Chooses};
 ghost use Rattle.job_turns.specs.Requests.{IsImplemented, IsPlanGoal};
 
 use crate::choice::{Choice, progress_of};
-use crate::enforcers::best_enforcer;
+use crate::enforcers::{best_enforcer, put_enforcers};
 use crate::laws::words_are_known;
 use crate::members::best_member;
 use crate::over_query::await_goal;
@@ -59,9 +59,10 @@ pub(crate) fn choose_plan<'q, H: Hints>(
         }
         // What enforcers ask for needs no members, so it is put in at once.
         Progress::Waiting => {
-            match best_enforcer(query, props, board, seat, job, group, wanted, hints) {
-                Some(_) => Progress::Waiting,
-                None => Progress::Full,
+            if put_enforcers(query, props, board, seat, job, group, wanted, hints) {
+                Progress::Waiting
+            } else {
+                Progress::Full
             }
         }
         Progress::Full => Progress::Full,
@@ -96,7 +97,8 @@ fn best_plan<'q, H: Hints>(
     // For the proof: the best of two sets is that of both, and these are all nodes that may serve.
     goals_are_known();
     answers_are_best();
-    let member = best_member(query, props, board, seat, job, group, wanted, hints)?;
+    // What enforcers ask for waits for more, so it is waited for first.
     let enforced = best_enforcer(query, props, board, seat, job, group, wanted, hints)?;
-    Some(member.or(enforced))
+    let member = best_member(query, props, board, seat, job, group, wanted, hints)?;
+    Some(enforced.or(member))
 }

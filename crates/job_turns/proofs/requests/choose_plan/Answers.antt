@@ -7,9 +7,9 @@ use Rattle.goal_board.specs.Seats.{hands}
 use Rattle.goal_space.specs.Goals.{child_goal}
 use Rattle.goal_space.specs.Entries.{NamesGoal}
 use Rattle.goal_space.specs.declared.goals.GoalKind.TheVariants.{Imp, Opt}
-use Rattle.job_turns.specs.Requests.{IsPlanGoal, IsEnforcerGoal, first_enforcers}
+use Rattle.job_turns.specs.Requests.{IsPlanGoal}
 use Rattle.job_turns.proofs.Awaited.{has_one}
-use Rattle.job_turns.proofs.Finding.{chooses_after}
+use Rattle.job_turns.proofs.Finding.{chooses_after, children_put, children_full}
 use Rattle.job_turns.proofs.Chosen.{works_chosen, works_waiting, works_full}
 use Rattle.job_turns.proofs.requests.choose_plan.Goals as goal
 
@@ -41,42 +41,24 @@ returns-in-Complete-clause-works g c =
     works_chosen q b.key.room c.requires.board.small (c.words_are_known.ensures.children q) (c.words_are_known.ensures.asked q) (Opt group wanted) (λ e asks. asks) v start c.requires.goal c.best_plan-found.result w after c.progress_of.result
     (chooses_after q b.key.room v start (λ goal. goal ≡ Imp group) (IsPlanGoal q group wanted) (IsBest q group wanted all_nodes) u middle c.best_plan-found.result w after first c.best_plan-found.ensures.chooses) c.progress_of.ensures
 
-pub best_enforcer-requires-clause-goal : goal.best_enforcer-requires-clause-goal
-best_enforcer-requires-clause-goal g c = subst (λ (word : ℕ). NamesGoal c.args.query.now word (Opt c.args.group c.args.wanted)) (sym c.in-Waiting.ensures.awaits.0.same_goal) c.requires.goal
+pub put_enforcers-requires-clause-goal : goal.put_enforcers-requires-clause-goal
+put_enforcers-requires-clause-goal g c = subst (λ (word : ℕ). NamesGoal c.args.query.now word (Opt c.args.group c.args.wanted)) (sym c.in-Waiting.ensures.awaits.0.same_goal) c.requires.goal
 
-pub returns-in-Some-clause-works : goal.returns-in-Some-clause-works
-returns-in-Some-clause-works g c =
+pub returns-then-put_enforcers-clause-works : goal.returns-then-put_enforcers-clause-works
+returns-then-put_enforcers-clause-works g c =
     let q = c.args.query.now in
-    let b = c.args.board.now in
-    let group = c.args.group in
-    let wanted = c.args.wanted in
-    let v = hands c.args.seat.now in
-    let start = c.args.job.now.right in
-    let u = hands c.await_goal.new.seat in
-    let middle = c.await_goal.new.job.right in
-    let w = hands c.best_enforcer.new.seat in
-    let after = c.best_enforcer.new.job.right in
-    let first = has_one q b.key.room v start (Imp group) progress.Waiting u middle (λ full. let bad : ⊥ = cc in bad) c.in-Waiting.ensures.awaits in
-    let both = chooses_after q b.key.room v start (λ goal. goal ≡ Imp group) (IsEnforcerGoal q group wanted) (IsBest q group wanted (first_enforcers wanted)) u middle (Some c.in-Some.field-0) w after first c.in-Some.ensures.chooses in
-    let more = c.in-Some.ensures.chooses.awaited.proceeds.more_waits in
-    let waits = c.in-Waiting.ensures.awaits.1 in
-    works_waiting q b.key.room c.requires.board.small (c.words_are_known.ensures.children q) (c.words_are_known.ensures.asked q) (Opt group wanted) (λ e asks. asks) v start c.requires.goal w after both.awaited.proceeds (omega arith)
+    let first = c.in-Waiting.ensures.awaits in
+    works_waiting q c.args.board.now.key.room c.requires.board.small (c.words_are_known.ensures.children q) (c.words_are_known.ensures.asked q) (Opt c.args.group c.args.wanted) (λ e asks. asks) (hands c.args.seat.now) c.args.job.now.right c.requires.goal
+    (hands c.put_enforcers.new.seat) c.await_goal.new.job.right
+    (children_put q c.args.board.now.key.room (hands c.args.seat.now) c.args.job.now.right (hands c.await_goal.new.seat) c.await_goal.new.job.right (hands c.put_enforcers.new.seat) first.0 c.if-put_enforcers.ensures.puts) first.1
 
-pub returns-in-None-clause-works : goal.returns-in-None-clause-works
-returns-in-None-clause-works g c =
+pub returns-else-put_enforcers-clause-works : goal.returns-else-put_enforcers-clause-works
+returns-else-put_enforcers-clause-works g c =
     let q = c.args.query.now in
-    let b = c.args.board.now in
-    let group = c.args.group in
-    let wanted = c.args.wanted in
-    let v = hands c.args.seat.now in
-    let start = c.args.job.now.right in
-    let u = hands c.await_goal.new.seat in
-    let middle = c.await_goal.new.job.right in
-    let w = hands c.best_enforcer.new.seat in
-    let after = c.best_enforcer.new.job.right in
-    let first = has_one q b.key.room v start (Imp group) progress.Waiting u middle (λ full. let bad : ⊥ = cc in bad) c.in-Waiting.ensures.awaits in
-    works_full q b.key.room c.requires.board.small (c.words_are_known.ensures.children q) (c.words_are_known.ensures.asked q) (Opt group wanted) (λ e asks. asks) v start c.requires.goal w after
-    (chooses_after q b.key.room v start (λ goal. goal ≡ Imp group) (IsEnforcerGoal q group wanted) (IsBest q group wanted (first_enforcers wanted)) u middle None w after first c.in-None.ensures.chooses)
+    let first = c.in-Waiting.ensures.awaits in
+    works_full q c.args.board.now.key.room c.requires.board.small (c.words_are_known.ensures.children q) (c.words_are_known.ensures.asked q) (Opt c.args.group c.args.wanted) (λ e asks. asks) (hands c.args.seat.now) c.args.job.now.right c.requires.goal
+    (hands c.put_enforcers.new.seat) c.await_goal.new.job.right
+    (children_full q c.args.board.now.key.room (hands c.args.seat.now) c.args.job.now.right (hands c.await_goal.new.seat) c.await_goal.new.job.right (hands c.put_enforcers.new.seat) first.0 c.if-put_enforcers.ensures.puts)
 
 pub returns-in-Full-clause-works : goal.returns-in-Full-clause-works
 returns-in-Full-clause-works g c =

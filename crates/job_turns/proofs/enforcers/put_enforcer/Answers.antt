@@ -1,0 +1,27 @@
+-- What an enforcer for the request asks of the same group is a child.
+use Rattle.std.proofs.Common.{ap, inr}
+use Rattle.request_props.specs.declared.request.Request.{Request}
+use Rattle.goal_board.specs.Seats.{hands}
+use Rattle.board_moves.proofs.MovesLemmas.{proceeds_none}
+use Rattle.goal_space.specs.Entries.{IsChildWord}
+use Rattle.goal_space.specs.declared.goals.GoalKind.TheVariants.{Opt}
+use Rattle.job_turns.proofs.Enforced.{found_at}
+use Rattle.job_turns.proofs.enforcers.put_enforcer.Goals as goal
+
+pub enforcer_for-requires-clause-known : goal.enforcer_for-requires-clause-known
+enforcer_for-requires-clause-known g c = c.goals_are_known.ensures.candidates c.args.query.now (Opt c.args.group c.args.wanted) c.requires.goal.is_goal
+
+pub enforcer_for-requires-clause-fits : goal.enforcer_for-requires-clause-fits
+enforcer_for-requires-clause-fits g c = c.goals_are_known.ensures.requests c.args.query.now (Opt c.args.group c.args.wanted) c.requires.goal.is_goal
+
+pub put_child-requires-clause-child : goal.put_child-requires-clause-child
+put_child-requires-clause-child g c =
+    let q = c.args.query.now in
+    let group = c.args.group in
+    let wanted = c.args.wanted in
+    let fits = c.goals_are_known.ensures.requests q (Opt group wanted) c.requires.goal.is_goal in
+    let found = found_at q group wanted c.args.place fits c.in-Some.enforced c.in-Some.ensures in
+    (Opt group wanted, c.requires.goal, inr (inr (found.e, found.can, ap (λ (r : Request). Opt group r) found.is.is.1)))
+
+pub returns-in-None-clause-puts : goal.returns-in-None-clause-puts
+returns-in-None-clause-puts g c = proceeds_none (IsChildWord c.args.query.now c.args.job.now.right.goal) (hands c.args.seat.now) c.args.job.now.right
