@@ -1,5 +1,6 @@
 //! The sections that may stand behind the plan.
 ghost use Rattle.std.specs.Prelude.{◌≡◌, ◌++◌, IfOk};
+ghost use Rattle.xform_rules.specs.Closure.{IsClosureOf};
 ghost use Rattle.request_props.specs.Numbered.{IsProps};
 ghost use Rattle.orca_cli.specs.Run.{GoesOn, IsMemoText, IsTrace, IsBehind, IsSectionText, is_asked as is_asked_by};
 ghost use Rattle.orca_cli.specs.Views.{text_of};
@@ -100,12 +101,26 @@ fn trace_section(alloc: Global, query: &Query, props: &Props) -> Result<Vec<u8>,
     requires { IsProps query.now props.now }
     ensures { IfOk result (λ text. IsTrace query.now text.items) }
 {
+    let members = plain_closure(alloc, query)?;
+    trace_over(alloc, query, props, members.as_slice())
+}
+
+// The same over the words of all members.
+fn trace_over(
+    alloc: Global,
+    query: &Query,
+    props: &Props,
+    members: &[u64],
+) -> Result<Vec<u8>, AllocError>
+    requires props { IsProps query.now props.now }
+    requires closure { IsClosureOf query.now members.now }
+    ensures { IfOk result (λ text. IsTrace query.now text.items) }
+{
     // The words of members are those of expressions that groups can hold, and those of goals are over these.
     members_are_known();
     goal_lists_are_known();
-    let members = plain_closure(alloc, query)?;
-    let goals = plain_goals(alloc, query, props, members.as_slice())?;
-    trace_text(alloc, query, props, members.as_slice(), goals.as_slice())
+    let goals = plain_goals(alloc, query, props, members)?;
+    trace_text(alloc, query, props, members, goals.as_slice())
 }
 
 // The ending with more text behind its own.

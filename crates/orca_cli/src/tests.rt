@@ -145,6 +145,19 @@ fn prints_the_memo_where_it_is_asked_for(rt: HostRuntime) -> Result<(), Fail> {
 }
 
 #[test]
+fn prints_the_trace_behind_the_memo(rt: HostRuntime) -> Result<(), Fail> {
+    let empty =
+        r#"{"version":1,"segments":4,"tables":[{"name":"t","rows":0,"distribution":"random","columns":[{"name":"a","ndv":1000},{"name":"b","ndv":10}]}]}"#;
+    let text =
+        "cost 2\noutput t.a\nGather rows=0 cost=1\n  Scan(t) rows=0 cost=1\nmemo groups=1 members=2\ngroup Get(t) rows=0\n  Get(t)\n  Scan(t)\ntrace goals=8 exp=1 expe=1 xf=1 imp=1 impe=1 opt=2 opte=1\nExp Get(t)\n  ExpE Get(t)\nExpE Get(t)\nXf GetToScan Get(t)\nImp Get(t)\n  Exp Get(t)\n  ImpE Get(t)\nImpE Get(t)\n  Xf GetToScan Get(t)\nOpt Get(t) [One]\n  Imp Get(t)\n  Opt Get(t) [Spread]\nOpt Get(t) [Spread]\n  Imp Get(t)\n  OptE Scan(t) [Spread]\nOptE Scan(t) [Spread]\n";
+    let words = ["plan", "--trace", "c.json", "q.sql", "--memo"];
+    let (status, sink) = answered(&rt, &words, empty.as_bytes(), b"SELECT a FROM t")?;
+    assert_eq!(rt; status, Status::Planned);
+    assert_eq!(rt; sink.taken(), text.as_bytes());
+    Ok(())
+}
+
+#[test]
 fn a_refused_query_is_told_with_its_cause(rt: HostRuntime) -> Result<(), Fail> {
     let none = r#"{"version":1,"segments":4,"tables":[]}"#;
     for (catalog, query, told) in [
@@ -353,7 +366,7 @@ fn other_words_get_the_usage_line(rt: HostRuntime) -> Result<(), Fail> {
         &["plan", "-c.json", "q.sql"],
         &["--memo", "plan", "c.json", "q.sql"],
         &["plan", "c.json", "q.sql", "--memo", "--memo"],
-        &["plan", "c.json", "q.sql", "--trace"],
+        &["plan", "c.json", "q.sql", "--workers", "4"],
     ];
     for texts in others {
         let words = words_of(rt.alloc(), texts)?;

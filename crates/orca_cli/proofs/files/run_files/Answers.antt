@@ -22,5 +22,5 @@ returns-in-Bytes g c =
     let held : AreHeld file 1048576 c.deref.result.now = subst (AreHeld file 1048576) (sym c.deref.ensures.value) read in
     IfOk-then _ _ c.with_bytes.result
     (λ ending over. over_files (plan_command c.args.command.now) (g.S.Shelf.held c.args.shelf.now) (g.S.Shelf.faults c.args.shelf.now) _ _ 1048576 c.deref.result.now ending.status (text_of ending) held c.in_ok-read_file.ensures.later
-    (retold_over c.deref.result.now (c.args.command.now.choices c.args.command.now.files.query.now _ _ _ _ ending.status (text_of ending) (c.in_ok-read_file.ensures.same c.args.command.now.files.query.now) over))
+    (retold_over c.deref.result.now c.args.command.now.choices c.args.command.now.files.query.now _ _ _ _ ending.status (text_of ending) (c.in_ok-read_file.ensures.same c.args.command.now.files.query.now) over))
     c.with_bytes.ensures
