@@ -1,4 +1,5 @@
 pub mod Shown
+pub mod Going
 pub mod MovesLemmas
 pub mod Putting
 pub mod Ascending
@@ -12,3 +13,4 @@ pub mod Working
 pub mod Children
 pub mod CountLemmas
 pub mod Ending
+pub mod EndsAlone

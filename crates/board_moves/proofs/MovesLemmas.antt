@@ -1,5 +1,5 @@
 -- What several calls together did to the hands, call by call.
-use Rattle.std.proofs.Common.{◌≡◌, ℕ, ◌+◌, ◌==◌, Bool, true, false, cond, List, [], ◌∷◌, ◌++◌, ◌∙◌, refl, sym, ap, subst, append_assoc, add_assoc, ⊎_elim, arith}
+use Rattle.std.proofs.Common.{◌≡◌, ◌≢◌, ℕ, ◌+◌, ◌==◌, Bool, true, false, cond, List, [], ◌∷◌, ◌++◌, ◌∙◌, refl, sym, ap, subst, append_assoc, add_assoc, ⊎_elim, arith}
 use Rattle.board_rule.specs.Meaning.{Meaning}
 use Rattle.board_rule.specs.Records.{Claimed}
 use Rattle.board_rule.specs.Words.{full_word, cell_word}
@@ -11,6 +11,7 @@ use Rattle.board_rule.proofs.Seating.{looked_append}
 use Rattle.goal_board.specs.declared.board.Right.{Right}
 use Rattle.goal_board.specs.Calls.{seen, IsSeen, PutsFresh, waiting_right, IsRightOf, Registers, FindsFinished}
 use Rattle.goal_board.proofs.Seen.{looked_earlier}
+use Rattle.board_moves.proofs.Going.{goes_none, goes_fresh, goes_registered, goes_finished, goes_then, each_first, each_second}
 use Rattle.board_moves.specs.Moves.{OnlyLooks, with_waits, Moves, Proceeds, RunsOut}
 use Rattle.board_moves.proofs.Shown.{Later}
 
@@ -43,6 +44,7 @@ module _ {R : Type 0} where
     words = v.alone;
     more = more;
     quiet = looks.quiet;
+    kept = λ some. goes_none place v.alone;
     hands_are = is ∙ ap (λ (rights : List Claimed). let h : Hands R = record v { looks = more ++ v.looks; rights = rights } in h) (sym (waits_none place v.rights));
   }
 
@@ -56,19 +58,21 @@ module _ {R : Type 0} where
       record {
         words = put.alone;
         more = (cell_word at, word) ∷ ((cell_word at, 0) ∷ t.more);
+        kept = λ some. goes_fresh place room v word at w t some.0;
         quiet = λ value saw. ⊎_elim (λ (e : (cell_word at ≡ full_word) × (word ≡ value)). let bad : ⊥ = omega (arith, e.0) in bad) (λ saw_before. t.looks.quiet value saw_before) saw;
         hands_are = t.hands_are ∙ ap (λ (rights : List Claimed). let h : Hands R = record put { rights = rights } in h) (sym (waits_none place v.rights));
       }
 
   -- a wait was registered, or the child was found finished
   pub moves_registered : (v : Hands R) (place at : ℕ) (w : Hands R) → Registers v place at w → Moves place v [] 1 w
-  moves_registered v place at w t = record { words = t.words; more = t.more; quiet = t.quiet; hands_are = t.hands_are }
+  moves_registered v place at w t = record { words = t.words; more = t.more; quiet = t.quiet; kept = λ some. goes_registered v place at w t; hands_are = t.hands_are }
 
   pub moves_finished : (v : Hands R) (place at : ℕ) (w : Hands R) → FindsFinished v place at w → Moves place v [] 0 w
   moves_finished v place at w t = record {
     words = t.words;
     more = t.more;
     quiet = t.quiet;
+    kept = λ some. goes_finished v place at w t;
     hands_are = t.hands_are ∙ ap (λ (rights : List Claimed). let h : Hands R = record v { alone = t.words; looks = t.more ++ v.looks; rights = rights } in h) (sym (waits_none place v.rights));
   }
 
@@ -83,6 +87,8 @@ module _ {R : Type 0} where
   moves_then place v first waits u second others w a b = record {
     words = b.words;
     more = b.more ++ a.more;
+    kept = λ some. goes_then place waits others v.alone a.words u.alone b.words (ap (λ (h : Hands R). h.alone) a.hands_are)
+        (a.kept (each_second (λ word. word ≢ 0) second first some)) (b.kept (each_first (λ word. word ≢ 0) second first some));
     quiet = λ value at. ⊎_elim (λ (t : Looked b.more full_word value). b.quiet value t) (λ (t : Looked a.more full_word value). a.quiet value t) (looked_append b.more a.more full_word value at);
     hands_are = b.hands_are
         ∙ ap (λ (h : Hands R). let x : Hands R = record h { alone = b.words; looks = b.more ++ h.looks; puts = second ++ h.puts; rights = with_waits place others h.rights } in x) a.hands_are
@@ -117,6 +123,7 @@ module _ {R : Type 0} (Adds : ℕ → Type 0) where
       words = v.alone;
       more = [];
       quiet = λ value at. at;
+      kept = λ some. goes_none before.place v.alone;
       hands_are = ap (λ (rights : List Claimed). let h : Hands R = record v { rights = rights } in h) (sym (waits_none before.place v.rights));
     };
     same_place = refl;

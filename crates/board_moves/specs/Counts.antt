@@ -1,8 +1,9 @@
 -- How far the words of a board are from having all their goals finished: counts over its places, which each turn of a goal brings down.
-use Rattle.std.specs.Prelude.{◌≡◌, ℕ, zero, suc, ◌==◌, ◌+◌, ◌^◌, ◌<◌, ◌≤◌, Bool, not, ◌&&◌, cond, nat_le, List, Some}
+use Rattle.std.specs.Prelude.{◌≡◌, ◌≢◌, ◌⊎◌, ℕ, zero, suc, ◌==◌, ◌+◌, ◌*◌, ◌^◌, ◌<◌, ◌≤◌, Bool, not, ◌&&◌, cond, nat_le, List, length, Option, Some}
 use Rattle.board_rule.specs.Meaning.{Meaning}
 use Rattle.board_rule.specs.Words.{Mem, mem}
 use Rattle.board_rule.specs.declared.hands.Hands.{Hands}
+use Rattle.goal_board.specs.Alone.{HasWait}
 
 -- at how many of the first places it holds
 abbrev pub number_below : (ℕ → Bool) → ℕ → ℕ
@@ -39,3 +40,15 @@ module _ (meaning : Meaning) (room : ℕ) (before after : List ℕ) where
 -- a seat that is alone stays so, and its words advance
 abbrev pub AdvancesAlone : {R : Type 0} → Meaning → ℕ → Hands R → Hands R → Type 0
 AdvancesAlone meaning room v w = (kept : List ℕ) → v.alone ≡ Some kept → (words : List ℕ) × (w.alone ≡ Some words) × Advances meaning room kept words
+
+-- words in which no goal was finished and no run word has changed but that of the place; a cell was taken, or none has changed; the goal there has a wait where it had one or so many more
+pub record GoesOn (room place more_waits : ℕ) (before after : List ℕ) : Type 0 where
+  pub same_length : length after ≡ length before
+  pub heads : (p : ℕ) → nat_le (2 ^ 63) ((mem after).head p) ≡ nat_le (2 ^ 63) ((mem before).head p)
+  pub others : (p : ℕ) → p ≢ place → (mem after).run p ≡ (mem before).run p
+  pub cells : ((p : ℕ) → p < room → (mem after).cell p ≡ (mem before).cell p) ⊎ (empty_count room after < empty_count room before)
+  pub waiting : (1 ≤ more_waits) ⊎ HasWait ((mem before).run place) → HasWait ((mem after).run place)
+
+-- a seat that is alone stays so, and its words go on so, however many places they have
+abbrev pub GoesOnAlone : (place more_waits : ℕ) → Option (List ℕ) → Option (List ℕ) → Type 0
+GoesOnAlone place more_waits v w = (room : ℕ) (before : List ℕ) → v ≡ Some before → length before ≡ 14 * room + 1 → (after : List ℕ) × (w ≡ Some after) × GoesOn room place more_waits before after

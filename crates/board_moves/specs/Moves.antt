@@ -1,5 +1,5 @@
 -- What several calls on a board together do to the hands of their seat, before the turn of a goal ends.
-use Rattle.std.specs.Prelude.{◌≡◌, ◌==◌, ℕ, ◌+◌, ◌≤◌, List, ◌++◌, map, cond, Option}
+use Rattle.std.specs.Prelude.{◌≡◌, ◌≢◌, ◌==◌, ℕ, ◌+◌, ◌≤◌, List, ◌++◌, map, cond, Option}
 use Rattle.board_rule.specs.Meaning.{Meaning}
 use Rattle.board_rule.specs.Records.{Claimed}
 use Rattle.board_rule.specs.Words.{full_word}
@@ -9,6 +9,7 @@ use Rattle.board_rule.specs.declared.hands.Hands.{Hands}
 use Rattle.goal_board.specs.declared.board.Right.{Right}
 use Rattle.goal_board.specs.declared.answers.Answer.{Answer}
 use Rattle.goal_board.specs.Calls.{seen, IsSeen, FindsFull}
+use Rattle.board_moves.specs.Counts.{GoesOnAlone}
 use Rattle.board_moves.specs.declared.progress.Progress.{Progress}
 use Rattle.board_moves.specs.declared.progress.Progress.TheVariants.{Complete, Waiting, Full}
 
@@ -28,6 +29,8 @@ pub record Moves {R : Type 0} (place : ℕ) (v : Hands R) (puts : List ℕ) (wai
   pub more : List (ℕ × ℕ)
   pub quiet : (value : ℕ) → Looked more full_word value → ⊥
   pub hands_are : w ≡ record v { alone = words; looks = more ++ v.looks; puts = puts ++ v.puts; rights = with_waits place waits v.rights }
+  -- how the words that a seat keeps while it is alone go on, where no put word is 0
+  pub kept : Each (λ word. word ≢ 0) puts → GoesOnAlone place waits v.alone words
 
 module _ {R : Type 0} (Adds : ℕ → Type 0) (v : Hands R) (before : Right) where
   -- a turn has come from hands and a right to others: what it put into cells it may put there

@@ -15,7 +15,7 @@ use query_core::{Query, expressions_are_one, groups_are_known};
 use request_props::Props;
 
 /// The members of a query's groups and the goals of its search, as the rules of a board.
-#[derive(Drop)]
+#[derive(Clone, Copy, Drop)]
 pub struct Rules<'q> {
     pub query: &'q Query,
     ghost ranks: { WordRanksFall query.now },

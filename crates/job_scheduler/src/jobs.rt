@@ -1,8 +1,9 @@
-ghost use Rattle.std.specs.Prelude.{◌≡◌, ℕ, ◌<◌};
+ghost use Rattle.std.specs.Prelude.{◌≡◌, ◌≢◌, ℕ, ◌<◌};
 ghost use Rattle.goal_board.specs.Seats.{IsSeatOf, hands};
 ghost use Rattle.goal_board.specs.Calls.{IsRightOf};
 ghost use Rattle.board_moves.specs.Turns.{Turns};
 ghost use Rattle.board_moves.specs.Counts.{AdvancesAlone};
+ghost use Rattle.board_moves.specs.declared.progress.Turned.TheVariants as turned;
 
 use board_moves::Turned;
 use goal_board::{Board, GoalRules, Right, Seat};
@@ -15,7 +16,8 @@ pub trait Jobs<R: GoalRules>: Send + Sync {
     // The words that the turn of a goal may put into cells.
     ghost adds: { Self → ℕ → ℕ → Type 0 };
 
-    /// Finishes the goal, or suspends it with a wait, or finds the board full.
+    /// Finishes the goal, or suspends it with a wait, or finds the board full. A seat that is alone has less left to do
+    /// after it, unless the board is full.
     fn turn(
         &self,
         board: &Board<R>,
@@ -32,6 +34,6 @@ pub trait Jobs<R: GoalRules>: Send + Sync {
         requires hints { hints.old ≡ board.now.key.room }
         ensures seat { IsSeatOf R.meaning board.now seat.new }
         ensures turns { Turns board.now.key.room (adds self.now right.goal) (hands seat.old) right worker result (hands seat.new) }
-        ensures alone { AdvancesAlone (R.meaning board.now.key.rules) board.now.key.room (hands seat.old) (hands seat.new) }
+        ensures alone { result ≢ turned.Full → AdvancesAlone (R.meaning board.now.key.rules) board.now.key.room (hands seat.old) (hands seat.new) }
         ensures hints { hints.new ≡ hints.old };
 }

@@ -1,0 +1,9 @@
+pub mod Lists
+pub mod Places
+pub mod Finishing
+pub mod Told
+pub mod Counting
+pub mod Reading
+pub mod Ending
+pub mod Outcomes
+pub mod Finishers

@@ -1,0 +1,80 @@
+-- The outcome by its three cases.
+use Rattle.std.proofs.Common.{◌≡◌, ℕ, ◌^◌, ◌<◌, nat_eq, true, false, List, ◌∷◌, Some, refl, sym, subst, arith, leb-true, ne_eqb, map, Contains}
+use Rattle.std.proofs.lemmas.List.Elements.{All-cons, recursion_from_All}
+use Rattle.std.proofs.lemmas.Map.Keys.{IsDistinct-cons}
+use Rattle.query_core.specs.Expressions.{word_of}
+use Rattle.query_core.specs.declared.query.Query.{Query}
+use Rattle.query_core.specs.declared.expressions.ExprParts.{ExprParts}
+use Rattle.xform_rules.specs.Closure.{IsMember}
+use Rattle.best_answers.specs.Laws.{BestsFit}
+use Rattle.goal_space.specs.Words.{goal_word}
+use Rattle.goal_space.specs.Goals.{root_goal_of}
+use Rattle.goal_space.specs.Laws.{GoalRequestsFit, MembersAreAsked}
+use Rattle.goal_space.specs.Entries.{IsEntry, IsGoalWord}
+use Rattle.goal_rules.specs.Meaning.{meaning_of}
+use Rattle.board_rule.specs.Records.{Ended}
+use Rattle.board_rule.specs.Words.{Mem}
+use Rattle.goal_board.specs.Closed.{cells_below, IsFirstReady}
+use Rattle.goal_board.specs.declared.answers.Answer.{Answer}
+use Rattle.goal_board.specs.declared.answers.Closed.{Closed}
+use Rattle.job_outcome.specs.Outcomes.{HasFinishedRoot, HasMoreEntries, IsFullFor, IsOutcome, IsUnfinished}
+use Rattle.job_outcome.specs.Finished.{Orders}
+use Rattle.job_outcome.specs.declared.outcome.Outcome.{Outcome}
+use Rattle.job_outcome.specs.declared.outcome.Outcome.TheVariants.{Done, Full, Unfinished}
+use Rattle.job_outcome.proofs.Places.{all_cells, cells_differ}
+use Rattle.job_outcome.proofs.Finishing.{goal_entry}
+use Rattle.job_outcome.proofs.Counting.{cells_all}
+use Rattle.job_outcome.proofs.Reading.{ReadsSearch}
+use Rattle.job_outcome.proofs.Ending.{is_done}
+
+module _ (q : Query) (cap place : ℕ) (m : Mem) (done : List Ended) (closed : Closed) (its : ReadsSearch q cap place m done closed) where
+  -- the entry that stands in no cell, and those that stand in all
+  more_entries : closed.full ≡ true → HasMoreEntries q cap
+  more_entries full =
+      let is_full = its.full full in
+      let (word, enters, nowhere) = is_full.left_out in
+      let cells = cells_below m cap in
+      record {
+        entries = word ∷ cells;
+        enter = All-cons (IsEntry q) word cells enters (all_cells m (IsEntry q) cap its.searched.cells.enter);
+        differ = IsDistinct-cons nat_eq word cells
+            (recursion_from_All (λ x. nat_eq word x ≡ false) cells
+            (all_cells m (λ x. nat_eq word x ≡ false) cap (λ p near taken. ne_eqb word (m.cell p) (λ same. nowhere p near (sym same)))))
+            (cells_differ m cap its.searched.cells.are_set cap (omega arith));
+        more = let all = cells_all m cap is_full.taken cap (omega arith) in omega (arith, all);
+      }
+
+  pub is_full : (HasFinishedRoot q closed → ⊥) → closed.full ≡ true → IsFullFor q cap closed cap
+  is_full open_root full = record { open_root = open_root; full = full; capacity = refl; more = more_entries full }
+
+  -- the goal that is ready stands in a cell, so it is an entry
+  pub is_unfinished : ((e : ExprParts) → IsMember q e → word_of e < 2 ^ 48) → (HasFinishedRoot q closed → ⊥) → closed.full ≡ false → (goal : ℕ) → closed.ready ≡ Some goal
+      → IsUnfinished q closed goal
+  is_unfinished small open_root some_room goal ready =
+      let (p, near, at, is_ready, first) = subst (IsFirstReady (meaning_of q) m cap) ready its.ready in
+      record {
+        open_root = open_root;
+        some_room = some_room;
+        is_ready = ready;
+        is_goal = subst (IsGoalWord q) at (goal_entry q (m.cell p) small (its.searched.cells.enter p near is_ready.some_goal) (leb-true (2 ^ 63) (m.cell p) is_ready.is_goal));
+      }
+
+  -- what was put in order is the outcome where the root's goal is finished
+  pub done_outcome : HasFinishedRoot q closed → BestsFit q → GoalRequestsFit q → MembersAreAsked q → ((e : ExprParts) → IsMember q e → word_of e < 2 ^ 48)
+      → (outcome : Outcome) → Orders closed outcome → IsOutcome q cap m.cell done closed outcome
+  done_outcome has fit requests asked small (Done members goals answers who) ordered =
+      (has, is_done q cap place m done closed its has fit requests asked small members goals answers.list who ordered)
+  done_outcome has fit requests asked small (Full room) none = absurd none
+  done_outcome has fit requests asked small (Unfinished goal) none = absurd none
+
+-- the root's goal was found among those that are finished
+pub has_root : (q : Query) (closed : Closed) (answers : List (ℕ × Answer)) (root : ℕ) → answers ≡ closed.answers → root ≡ goal_word (root_goal_of q)
+    → Contains (map (λ (x : ℕ × Answer). x.0) answers) root → HasFinishedRoot q closed
+has_root q closed answers root same is has =
+    subst (Contains (map (λ (x : ℕ × Answer). x.0) closed.answers)) is (subst (λ (l : List (ℕ × Answer)). Contains (map (λ (x : ℕ × Answer). x.0) l) root) same has)
+
+-- or it was not
+pub has_no_root : (q : Query) (closed : Closed) (answers : List (ℕ × Answer)) (root : ℕ) → answers ≡ closed.answers → root ≡ goal_word (root_goal_of q)
+    → (Contains (map (λ (x : ℕ × Answer). x.0) answers) root → ⊥) → HasFinishedRoot q closed → ⊥
+has_no_root q closed answers root same is none has =
+    none (subst (λ (l : List (ℕ × Answer)). Contains (map (λ (x : ℕ × Answer). x.0) l) root) (sym same) (subst (Contains (map (λ (x : ℕ × Answer). x.0) closed.answers)) (sym is) has))

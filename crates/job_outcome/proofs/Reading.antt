@@ -1,0 +1,107 @@
+-- What was read of the closed board of a query's search, and the words that it was read of.
+use Rattle.std.proofs.Common.{◌≡◌, ◌≢◌, ℕ, ◌^◌, ◌<◌, ◌≤◌, true, List, map, length, Contains, None, refl, sym, subst, ap, ◌∙◌, arith, inl, inr, nat_le, IsTrue, le-leb}
+use Rattle.query_core.specs.declared.query.Query.{Query}
+use Rattle.goal_space.specs.Words.{goal_word}
+use Rattle.goal_space.specs.Goals.{root_goal_of}
+use Rattle.goal_rules.specs.Meaning.{meaning_of}
+use Rattle.goal_rules.specs.EntryLaws.{goal_high}
+use Rattle.goal_rules.specs.declared.rules.Rules.{Rules}
+use Rattle.board_rule.specs.Records.{Ended}
+use Rattle.board_rule.specs.Words.{Mem, mem}
+use Rattle.board_rule.specs.Looks.{ShowsClosed}
+use Rattle.board_rule.specs.Waiters.{IsLater}
+use Rattle.board_rule.specs.Seats.{Among}
+use Rattle.board_rule.specs.Rule.{AreCells, HoldsGoal, IsFull, IsRecorded, KeepsPromises, Stays}
+use Rattle.board_rule.specs.declared.hands.Hands.{Hands}
+use Rattle.goal_board.specs.Closed.{cells_below, answers_below, who_below, IsFirstReady}
+use Rattle.goal_board.specs.declared.answers.Answer.{Answer}
+use Rattle.goal_board.specs.declared.answers.Closed.{Closed}
+use Rattle.job_outcome.specs.Outcomes.{ClosesSearch, HasFinishedRoot}
+use Rattle.job_outcome.specs.declared.finished.Finished.{Finished}
+use Rattle.job_outcome.proofs.Lists.{contains_map, contains_unmap}
+use Rattle.job_outcome.proofs.Places.{all_below, contains_below, finished_at, finished_below, goal_in, goals_below, lengths_below}
+use Rattle.job_outcome.proofs.Finishing.{Finishes, Searched}
+use Rattle.std.proofs.lemmas.List.Elements.{All-contains}
+
+-- what the last words of the board say, and what was read of them
+pub record ReadsSearch (q : Query) (cap place : ℕ) (m : Mem) (done : List Ended) (closed : Closed) : Type 0 where
+  pub searched : Searched q cap m
+  pub near : place < cap
+  pub root : m.cell place ≡ goal_word (root_goal_of q)
+  pub full : closed.full ≡ true → IsFull (meaning_of q) cap m.cell
+  pub none_ready : closed.ready ≡ None → (p : ℕ) → p < cap → HoldsGoal (meaning_of q) cap m.cell p → 2 ^ 63 ≤ m.head p
+  pub finished_by : (p : ℕ) → p < cap → 2 ^ 63 ≤ m.head p → (e : Ended) × Among done e × (e.place ≡ p) × IsRecorded cap m.head m.cost m.node m.who e
+  pub cells : closed.cells ≡ cells_below m cap
+  pub answers : closed.answers ≡ answers_below m cap
+  pub who : closed.who ≡ who_below m cap
+  pub ready : IsFirstReady (meaning_of q) m cap closed.ready
+
+-- a head that is later than a closed one is closed
+later : (found now : ℕ) → 2 ^ 63 ≤ found → IsLater found now → 2 ^ 63 ≤ now
+later found now closed (inl is) = is
+later found now closed (inr (inl same)) = subst (λ (x : ℕ). 2 ^ 63 ≤ x) (sym same) closed
+later found now closed (inr (inr (low, more))) = absurd (omega (arith, low, closed))
+
+-- no goal has the word 0
+pub goal_some : (q : Query) → goal_word (root_goal_of q) ≢ 0
+goal_some q none = absurd (omega (arith, none, goal_high (root_goal_of q)))
+
+module _ (q : Query) (cap place : ℕ) (v : Hands Rules) (closed : Closed) (its : ClosesSearch q cap place v closed) where
+  stays : Stays (mem its.closes.words).cell (mem its.closes.words).head (mem its.closes.words).full v.looks
+  stays = (its.closes.sound.by_kinds.hands its.closes.id v its.closes.mine).stays
+
+  pub reads_search : ReadsSearch q cap place (mem its.closes.words) v.done closed
+  reads_search =
+      let m = mem its.closes.words in
+      let by_kinds = its.closes.sound.by_kinds in
+      let same = its.its_query in
+      record {
+        searched = record {
+          cells = subst (λ (x : Query). AreCells (meaning_of x) cap m.cell) same by_kinds.cells;
+          promises = subst (λ (x : Query). KeepsPromises (meaning_of x) cap m.cell m.head m.cost m.node) same by_kinds.promises;
+        };
+        near = its.near;
+        root = stays.cells place (goal_word (root_goal_of q)) its.root (goal_some q);
+        full = λ full. subst (λ (x : Query). IsFull (meaning_of x) cap m.cell) same (its.closes.left_out full);
+        none_ready = its.closes.none_ready;
+        finished_by = its.closes.finished_by;
+        cells = its.closes.reads.cells;
+        answers = its.closes.reads.answers;
+        who = its.closes.reads.who;
+        ready = subst (λ (x : Query). IsFirstReady (meaning_of x) m cap closed.ready) same its.closes.reads.ready;
+      }
+
+  -- a head that was found closed is closed
+  pub shown_closed : ShowsClosed v.looks place → 2 ^ 63 ≤ (mem its.closes.words).head place
+  shown_closed (found, looked, closed_then) = later found ((mem its.closes.words).head place) closed_then (stays.heads place found looked)
+
+module _ (q : Query) (cap place : ℕ) (m : Mem) (done : List Ended) (closed : Closed) (its : ReadsSearch q cap place m done closed) where
+  -- the goals that were read are those of the finished ones
+  pub goals_read : map (λ (x : ℕ × Answer). x.0) closed.answers ≡ map goal_in (finished_below m cap)
+  goals_read = ap (map (λ (x : ℕ × Answer). x.0)) its.answers ∙ goals_below m cap
+
+  -- and there are as many workers
+  pub as_many_workers : length closed.who ≡ length closed.answers
+  as_many_workers = ap length its.who ∙ sym (lengths_below m cap) ∙ sym (ap length its.answers)
+
+  abbrev IsPlaced : Finished → Type 0
+  IsPlaced f = (p : ℕ) × (p < cap) × (2 ^ 63 ≤ m.head p) × (f.goal ≡ m.cell p)
+
+  -- where the root's goal is among them it is finished
+  pub root_finished : HasFinishedRoot q closed → Finishes q cap m (root_goal_of q)
+  root_finished has =
+      let (f, there, is) = contains_unmap goal_in (goal_word (root_goal_of q)) (finished_below m cap) (subst (λ (l : List ℕ). Contains l (goal_word (root_goal_of q))) goals_read has) in
+      let (p, near, head, at) = All-contains IsPlaced (finished_below m cap) f (all_below m IsPlaced cap (λ p near head. (p, near, head, refl))) there in
+      (p, near, goal_some q, sym at ∙ is, head)
+
+  -- and it is among them where its head is closed
+  pub finished_root : 2 ^ 63 ≤ m.head place → HasFinishedRoot q closed
+  finished_root head =
+      subst (λ (l : List ℕ). Contains l (goal_word (root_goal_of q))) (sym goals_read)
+      (subst (Contains (map goal_in (finished_below m cap))) its.root (contains_map goal_in (finished_at m place) (finished_below m cap) (contains_below m cap place its.near head)))
+
+  -- as where no goal is ready
+  pub none_left : closed.ready ≡ None → HasFinishedRoot q closed
+  none_left none =
+      let high = goal_high (root_goal_of q) in
+      finished_root (its.none_ready none place its.near (λ empty. absurd (goal_some q (sym its.root ∙ empty)), subst (λ (x : ℕ). IsTrue (nat_le (2 ^ 63) x)) (sym its.root) (le-leb (2 ^ 63) (goal_word (root_goal_of q)) high)))

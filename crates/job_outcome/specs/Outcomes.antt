@@ -1,0 +1,111 @@
+-- What a finished search gives.
+use Rattle.std.specs.Prelude.{◌≡◌, ℕ, ◌+◌, ◌<◌, ◌≤◌, true, false, nat_eq, List, length, map, Some, ⊤}
+use Rattle.std.specs.List.{All, AllZip, Contains, IsDistinct}
+use Rattle.query_core.specs.declared.query.Query.{Query}
+use Rattle.xform_rules.specs.Closure.{IsClosureOf}
+use Rattle.plan_tree.specs.declared.answers.Answered.{Answered}
+use Rattle.goal_space.specs.Words.{goal_word}
+use Rattle.goal_space.specs.Goals.{root_goal_of}
+use Rattle.goal_space.specs.Entries.{IsEntry, IsGoalWord}
+use Rattle.goal_space.specs.Answers.{AreAnswers, words_told}
+use Rattle.goal_list.specs.Listed.{AreGoalsOf}
+use Rattle.board_rule.specs.Records.{Ended}
+use Rattle.board_rule.specs.Words.{cell_word}
+use Rattle.board_rule.specs.Looks.{Looked}
+use Rattle.board_rule.specs.Seats.{Among}
+use Rattle.board_rule.specs.declared.hands.Hands.{Hands}
+use Rattle.goal_board.specs.Closed.{ClosesWith}
+use Rattle.goal_board.specs.declared.answers.Answer.{Answer}
+use Rattle.goal_board.specs.declared.answers.Closed.{Closed}
+use Rattle.goal_rules.specs.Meaning.{meaning_of}
+use Rattle.goal_rules.specs.declared.rules.Rules.{Rules}
+use Rattle.job_outcome.specs.declared.outcome.Outcome.{Outcome}
+use Rattle.job_outcome.specs.declared.outcome.Outcome.TheVariants.{Done, Full, Unfinished}
+
+-- ---- how many entries a query has
+
+-- different entries that are more than the capacity
+pub record HasMoreEntries (q : Query) (cap : ℕ) : Type 0 where
+  pub entries : List ℕ
+  pub enter : All (IsEntry q) entries
+  pub differ : IsDistinct nat_eq entries
+  pub more : cap < length entries
+
+-- the lists of all members and of all goals, together not more than the capacity
+pub record FitsIn (q : Query) (cap : ℕ) (members goals : List ℕ) : Type 0 where
+  pub closure : IsClosureOf q members
+  pub all_goals : AreGoalsOf q goals
+  pub few : length members + length goals ≤ cap
+
+-- ---- the board of a query's search
+
+-- a seat with these hands closed the board of the query's search, which has that many cells; its looks show the root's goal
+pub record ClosesSearch (q : Query) (cap place : ℕ) (v : Hands Rules) (closed : Closed) : Type 0 where
+  pub rules : Rules
+  pub its_query : rules.query.now ≡ q
+  pub closes : ClosesWith (λ (r : Rules). meaning_of r.query.now) rules cap v closed
+  pub near : place < cap
+  pub root : Looked v.looks (cell_word place) (goal_word (root_goal_of q))
+
+-- the goal is among those that are finished
+abbrev pub HasFinished : Closed → ℕ → Type 0
+HasFinished closed goal = Contains (map (λ (x : ℕ × Answer). x.0) closed.answers) goal
+
+-- the root's goal is finished
+abbrev pub HasFinishedRoot : Query → Closed → Type 0
+HasFinishedRoot q closed = HasFinished closed (goal_word (root_goal_of q))
+
+-- ---- outcomes
+
+-- the worker finished the goal that stands at a place
+pub record IsFinisher (cell : ℕ → ℕ) (done : List Ended) (goal worker : ℕ) : Type 0 where
+  pub ended : Ended
+  pub among : Among done ended
+  pub its_goal : cell ended.place ≡ goal
+  pub its_worker : ended.worker ≡ worker
+  pub few : worker < 64
+
+-- these workers finished these goals, place by place
+abbrev pub AreFinishers : (cell : ℕ → ℕ) → (done : List Ended) → (goals who : List ℕ) → Type 0
+AreFinishers cell done = AllZip (IsFinisher cell done)
+
+-- all members, all goals, which are as many as fit, the answers to all goals and who finished them, in one order
+pub record IsDone (q : Query) (cap : ℕ) (cell : ℕ → ℕ) (done : List Ended)
+    (members goals : List ℕ) (answers : List Answered) (who : List ℕ) : Type 0 where
+  pub fits : FitsIn q cap members goals
+  pub are_answers : AreAnswers q answers
+  pub in_order : words_told answers ≡ goals
+  pub finishers : AreFinishers cell done goals who
+
+-- the root's goal isn't finished, and the board was full: the query has more entries than cells
+pub record IsFullFor (q : Query) (cap : ℕ) (closed : Closed) (room : ℕ) : Type 0 where
+  pub open_root : HasFinishedRoot q closed → ⊥
+  pub full : closed.full ≡ true
+  pub capacity : room ≡ cap
+  pub more : HasMoreEntries q cap
+
+-- the root's goal isn't finished, the board wasn't full, and this goal is ready
+pub record IsUnfinished (q : Query) (closed : Closed) (goal : ℕ) : Type 0 where
+  pub open_root : HasFinishedRoot q closed → ⊥
+  pub some_room : closed.full ≡ false
+  pub is_ready : closed.ready ≡ Some goal
+  pub is_goal : IsGoalWord q goal
+
+-- what the search gave
+abbrev pub IsOutcome : Query → (cap : ℕ) → (cell : ℕ → ℕ) → (done : List Ended) → Closed → Outcome → Type 0
+IsOutcome q cap cell done closed (Done members goals answers who) =
+    HasFinishedRoot q closed × IsDone q cap cell done members goals answers.list who
+IsOutcome q cap cell done closed (Full room) = IsFullFor q cap closed room
+IsOutcome q cap cell done closed (Unfinished goal) = IsUnfinished q closed goal
+
+-- all goals are finished
+abbrev pub IsDoneCase : Outcome → Type 0
+IsDoneCase (Done members goals answers who) = ⊤
+IsDoneCase (Full room) = ⊥
+IsDoneCase (Unfinished goal) = ⊥
+
+-- nothing is left to do
+abbrev pub IsEnd : Outcome → Type 0
+IsEnd (Done members goals answers who) = ⊤
+IsEnd (Full room) = ⊤
+IsEnd (Unfinished goal) = ⊥

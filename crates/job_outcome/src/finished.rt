@@ -1,0 +1,116 @@
+//! Finished goals in the order of their words.
+#![tactic(auto)]
+
+ghost use Rattle.std.specs.Prelude.{◌≡◌, IfOk, length, map};
+ghost use Rattle.std.specs.List.{filter};
+ghost use Rattle.std.specs.List.Sorted.{IsPermutation, IsNonDecreasing, IsNonDecreasingBy};
+ghost use Rattle.job_outcome.specs.Finished.{is_member_word, pairs_of, told_of};
+ghost use Rattle.job_outcome.specs.declared.finished.Finished.{Finished as AnyFinished};
+
+use goal_board::Answer;
+use orca_base::List;
+use plan_tree::{Answered, Answers, Node};
+use query_core::Goal;
+use std::alloc::{AllocError, Global};
+
+// The words of goals are those from here on.
+const FIRST_GOAL: u64 = 1 << 63;
+
+/// A goal, with its answer and the worker that finished it.
+#[derive(Clone, Copy)]
+pub struct Finished {
+    pub goal: u64,
+    pub answer: Answer,
+    pub who: u32,
+}
+
+/// The members among these words, ascending.
+pub fn members_of(alloc: Global, cells: &[u64]) -> Result<List<u64>, AllocError>
+    ensures same { IfOk result (IsPermutation (filter is_member_word cells.now)) }
+    ensures ascending { IfOk result IsNonDecreasing }
+{
+    let mut members = Vec::new(alloc);
+    for word in cells {
+        if *word < FIRST_GOAL {
+            members.push(*word)?;
+        }
+    }
+    members.sort()?;
+    Ok(List::of(members))
+}
+
+/// Finished goals with their answers and their workers.
+pub fn finished_of(
+    alloc: Global,
+    answers: &[(u64, Answer)],
+    who: &[u32],
+) -> Result<Vec<Finished>, AllocError>
+    requires { length who.now ≡ length answers.now }
+    ensures { IfOk result (λ finished. finished.items ≡ pairs_of answers.now who.now) }
+{
+    let mut finished = Vec::new(alloc);
+    for place in 0..answers.len() {
+        let (goal, answer) = answers[place];
+        finished.push(Finished {
+            goal,
+            answer,
+            who: who[place],
+        })?;
+    }
+    Ok(finished)
+}
+
+/// The same goals in the order of their words.
+pub fn in_order(finished: Vec<Finished>) -> Result<Vec<Finished>, AllocError>
+    ensures same { IfOk result (λ sorted. IsPermutation finished.items sorted.items) }
+    ensures ascending { IfOk result (λ sorted. IsNonDecreasingBy (λ (f : AnyFinished). f.goal) sorted.items) }
+{
+    let mut sorted = finished;
+    sorted.sort_by_key(|one| one.goal)?;
+    Ok(sorted)
+}
+
+/// Their words.
+pub fn goals_of(alloc: Global, finished: &[Finished]) -> Result<List<u64>, AllocError>
+    ensures { IfOk result (λ goals. goals ≡ map (λ (f : AnyFinished). f.goal) finished.now) }
+{
+    let mut goals = List::new(alloc);
+    for one in finished {
+        goals.push(one.goal)?;
+    }
+    Ok(goals)
+}
+
+/// Their answers.
+pub fn answers_of(alloc: Global, finished: &[Finished]) -> Result<Answers, AllocError>
+    ensures { IfOk result (λ answers. answers.list ≡ map told_of finished.now) }
+{
+    let mut list = List::new(alloc);
+    for one in finished {
+        list.push(told(one))?;
+    }
+    Ok(Answers { list })
+}
+
+/// The workers that finished them.
+pub fn workers_of(alloc: Global, finished: &[Finished]) -> Result<List<u32>, AllocError>
+    ensures { IfOk result (λ who. who ≡ map (λ (f : AnyFinished). f.who) finished.now) }
+{
+    let mut who = List::new(alloc);
+    for one in finished {
+        who.push(one.who)?;
+    }
+    Ok(who)
+}
+
+// The answer in its two words says that there is no plan where the cost is the greatest number.
+fn told(finished: &Finished) -> Answered
+    ensures { result ≡ told_of finished.now }
+{
+    let cost = finished.answer.cost;
+    Answered {
+        goal: Goal(finished.goal),
+        node: Node(finished.answer.node),
+        cost: if cost == u64::MAX { None } else { Some(cost) },
+    }
+}

@@ -1,0 +1,116 @@
+//! What a search gave: the answers to all goals, or that the board was full, or that goals are left.
+#![tactic(auto)]
+
+ghost use Rattle.std.specs.Prelude.{◌≡◌, ℕ, IfOk, length, map, true, false};
+ghost use Rattle.std.specs.List.{Contains};
+ghost use Rattle.board_rule.specs.Words.{mem};
+ghost use Rattle.board_rule.specs.Looks.{ShowsClosed, ShowsFull};
+ghost use Rattle.board_rule.specs.declared.hands.Hands.{Hands};
+ghost use Rattle.goal_board.specs.declared.answers.Answer.{Answer as AnyAnswer};
+ghost use Rattle.goal_rules.specs.declared.rules.Rules.{Rules};
+ghost use Rattle.goal_space.specs.Words.{goal_word};
+ghost use Rattle.goal_space.specs.Goals.{root_goal_of};
+ghost use Rattle.job_outcome.specs.Outcomes.{ClosesSearch, HasFinished, IsOutcome, IsDoneCase, IsEnd};
+ghost use Rattle.job_outcome.specs.Finished.{Orders};
+
+use crate::finished::{answers_of, finished_of, goals_of, in_order, members_of, workers_of};
+use best_answers::answers_are_best;
+use goal_board::{Answer, Closed};
+use goal_space::{goals_are_known, goals_ask_for_members};
+use orca_base::List;
+use plan_tree::Answers;
+use query_core::{Goal, Query};
+use std::alloc::{AllocError, Global};
+use xform_rules::members_are_known;
+
+/// What the search of a query gave.
+#[derive(Debug, Drop)]
+pub enum Outcome {
+    /// The root's goal is finished, and with it every goal.
+    Done {
+        /// The words of all members, ascending.
+        members: List<u64>,
+        /// The words of all goals, ascending.
+        goals: List<u64>,
+        /// The answers to these goals, in their order.
+        answers: Answers,
+        /// The numbers of the workers that finished them, in their order, each below 64.
+        who: List<u32>,
+    },
+    /// The query has more entries than the board has cells.
+    Full {
+        cap: u32,
+    },
+    /// The search was ended before, when this goal was ready.
+    Unfinished {
+        ready: u64,
+    },
+}
+
+/// What a closed board held, whose rules are those of the query and whose root's goal was put in.
+pub fn outcome_of(
+    alloc: Global,
+    query: &Query,
+    root: Goal,
+    cap: u32,
+    closed: Closed,
+) -> Result<Outcome, AllocError>
+    requires closed { (place : ℕ) × (v : Hands Rules) × ClosesSearch query.now cap place v closed }
+    requires root { root.0 ≡ goal_word (root_goal_of query.now) }
+
+    // What it is, by whichever seat closed the board.
+    ensures outcome { IfOk result (λ outcome. (place : ℕ) (v : Hands Rules)
+        (its : ClosesSearch query.now cap place v closed) →
+        IsOutcome query.now cap (mem its.closes.words).cell v.done closed outcome) }
+
+    // What that seat saw.
+    ensures finished { IfOk result (λ outcome. (place : ℕ) (v : Hands Rules) →
+        ClosesSearch query.now cap place v closed → ShowsClosed v.looks place → IsDoneCase outcome) }
+    ensures ended { IfOk result (λ outcome. (place : ℕ) (v : Hands Rules) →
+        ClosesSearch query.now cap place v closed → ShowsFull v.looks → IsEnd outcome) }
+{
+    // For the proof: what finished goals promise, members and goals by their words, and what plans cost.
+    goals_are_known();
+    goals_ask_for_members();
+    members_are_known();
+    answers_are_best();
+    if is_finished(closed.answers.as_slice(), root.0) {
+        return done(alloc, &closed);
+    }
+    if closed.full {
+        return Ok(Outcome::Full { cap });
+    }
+    match closed.ready {
+        Some(ready) => Ok(Outcome::Unfinished { ready }),
+        None => unreachable!(),
+    }
+}
+
+// Whether the goal is among those that are finished.
+fn is_finished(answers: &[(u64, Answer)], goal: u64) -> bool
+    ensures found { result ≡ true → Contains (map (λ (x : ℕ × AnyAnswer). x.0) answers.now) goal }
+    ensures absent { result ≡ false → Contains (map (λ (x : ℕ × AnyAnswer). x.0) answers.now) goal → ⊥ }
+{
+    for (finished, _) in answers {
+        if *finished == goal {
+            return true;
+        }
+    }
+    false
+}
+
+// What the board held, in the order of words.
+fn done(alloc: Global, closed: &Closed) -> Result<Outcome, AllocError>
+    requires { length closed.now.who ≡ length closed.now.answers }
+    ensures { IfOk result (Orders closed.now) }
+{
+    let members = members_of(alloc, closed.cells.as_slice())?;
+    let finished = finished_of(alloc, closed.answers.as_slice(), closed.who.as_slice())?;
+    let finished = in_order(finished)?;
+    Ok(Outcome::Done {
+        members,
+        goals: goals_of(alloc, &finished)?,
+        answers: answers_of(alloc, &finished)?,
+        who: workers_of(alloc, &finished)?,
+    })
+}
