@@ -20,3 +20,4 @@ pub mod Valid
 pub mod Outcome
 pub mod MeaningLemmas
 pub mod Told
+pub mod QueryThere

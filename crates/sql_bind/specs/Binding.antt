@@ -1,7 +1,8 @@
 -- The query that a select is bound to, or the first fault.
-use Rattle.std.specs.Prelude.{◌≡◌, ◌≢◌, Result, Ok, Err}
+use Rattle.std.specs.Prelude.{◌≡◌, ◌≢◌, List, Result, Ok, Err}
 use Rattle.query_core.specs.declared.catalog.Catalog.{Catalog}
 use Rattle.query_core.specs.declared.options.Options.{Options}
+use Rattle.query_core.specs.declared.predicate.Link.{Link}
 use Rattle.query_core.specs.declared.query.Query.{Query}
 use Rattle.query_core.specs.Links.{AreLinks}
 use Rattle.sql_reader.specs.declared.syntax.Select.{Select}
@@ -39,6 +40,11 @@ pub record IsBound (select : Select) (catalog : Catalog) (options : Options) (q 
   pub parts : Parts
   pub no_fault : binding select catalog ≡ Ok parts
   pub query : IsQueryOf parts catalog options q
+
+-- the links are those of the query that has these parts
+abbrev pub AreLinksOf : Parts → List Link → Type 0
+AreLinksOf parts links =
+    AreLinks (tables_from (used_by parts) 0 parts.scope) (items_of (used_by parts)) (preds_of (used_by parts) parts.compared) links
 
 -- the query, or the first fault, unless memory ran out
 abbrev pub Binds : Select → Catalog → Options → Result Query BindFault → Type 0

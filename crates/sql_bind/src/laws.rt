@@ -1,14 +1,18 @@
 //! What follows from what the names of a query are bound to.
-ghost use Rattle.std.specs.Prelude.{◌≡◌, ◌≢◌, Ok, Err};
+ghost use Rattle.std.specs.Prelude.{◌≡◌, ◌≢◌, List, Ok, Err};
 ghost use Rattle.query_core.specs.Catalog.{IsCatalog};
+ghost use Rattle.query_core.specs.Results.{AreOptions};
 ghost use Rattle.query_core.specs.declared.catalog.Catalog.{Catalog};
+ghost use Rattle.query_core.specs.declared.options.Options.{Options};
+ghost use Rattle.query_core.specs.declared.predicate.Link.{Link};
+ghost use Rattle.query_core.specs.declared.query.Query.{Query};
 ghost use Rattle.sql_reader.specs.declared.syntax.Select.{Select};
 ghost use Rattle.sql_bind.specs.declared.fault.BindFault.{BindFault};
 ghost use Rattle.sql_bind.specs.declared.parts.Parts.{Parts};
 ghost use Rattle.sql_bind.specs.Used.{used_by as used_columns};
 ghost use Rattle.sql_bind.specs.UsedColumns.{AreUsedColumns};
 ghost use Rattle.sql_reader.specs.Readable.{IsReadable};
-ghost use Rattle.sql_bind.specs.Binding.{binding as bound_parts};
+ghost use Rattle.sql_bind.specs.Binding.{binding as bound_parts, AreLinksOf, IsBound};
 
 /// A query's names are bound or have a fault of theirs, which is never want of memory. So each fault
 /// comes exactly where it is the first, unless memory runs out.
@@ -23,4 +27,12 @@ pub fn used_columns_are_known()
     ensures { (select : Select) (catalog : Catalog) (parts : Parts)
         → IsReadable select → IsCatalog catalog → bound_parts select catalog ≡ Ok parts
         → AreUsedColumns parts (used_columns parts) }
+{}
+
+/// A select that is bound without a fault is bound to a query, with whichever links its parts have.
+pub fn bound_queries_are_there()
+    ensures { (select : Select) (catalog : Catalog) (options : Options) (parts : Parts) (links : List Link)
+        → IsReadable select → IsCatalog catalog → AreOptions options
+        → bound_parts select catalog ≡ Ok parts → AreLinksOf parts links
+        → (query : Query) × IsBound select catalog options query }
 {}
