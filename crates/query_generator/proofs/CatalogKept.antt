@@ -1,16 +1,13 @@
 -- The catalogue of a number keeps the limits.
-use Rattle.std.proofs.Common.{◌≡◌, ℕ, zero, suc, ◌+◌, ◌*◌, ◌%◌, ◌==◌, ◌<◌, ◌≤◌, Bool, true, false, cond, List, [], ◌∷◌, map, length, refl, arith}
+use Rattle.std.proofs.Common.{◌≡◌, ℕ, zero, suc, ◌+◌, ◌*◌, ◌%◌, ◌==◌, ◌<◌, ◌≤◌, Bool, true, false, cond, [], ◌∷◌, map, length, refl, arith}
 use Rattle.std.specs.Fmt.{digits}
 use Rattle.std.specs.List.{All, range_with_len}
 use Rattle.std.proofs.lemmas.List.FromFn.{length-map-range_with_len}
-use Rattle.query_core.specs.declared.catalog.ColumnInfo.{ColumnInfo}
-use Rattle.query_core.specs.declared.catalog.Placing.{Placing}
 use Rattle.query_core.specs.declared.catalog.Placing.TheVariants.{Hashed, Random}
-use Rattle.query_core.specs.declared.catalog.TableInfo.{TableInfo}
-use Rattle.query_core.specs.Catalog.{trillion, is_catalog_name, IsColumn, IsColumnList, IsPlacing, IsTable, IsCatalog}
+use Rattle.query_core.specs.Catalog.{trillion, is_catalog_name, IsColumn, IsPlacing, IsTable, IsCatalog}
 use Rattle.query_core.specs.Differ.{texts_differ}
-use Rattle.query_generator.specs.Draws.{next, draw}
-use Rattle.query_generator.specs.Catalog.{table_name, placing_of, columns_with, table_with, table_of, catalog_of}
+use Rattle.query_generator.specs.Draws.{draw}
+use Rattle.query_generator.specs.Catalog.{table_name, columns_with, table_with, table_of, catalog_of}
 
 pub draw_below : (number count : ℕ) → draw number count < 65537
 unfolding draw

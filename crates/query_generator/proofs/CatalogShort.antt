@@ -1,11 +1,10 @@
 -- The text of a number's catalogue isn't too long to be read.
-use Rattle.std.proofs.Common.{◌≡◌, ℕ, zero, suc, ◌+◌, ◌*◌, ◌%◌, ◌^◌, ◌<◌, ◌≤◌, ◌&&◌, Bool, true, false, cond, List, [], ◌∷◌, ◌++◌, map, length, decimal, refl, arith, length-append}
+use Rattle.std.proofs.Common.{ℕ, zero, suc, ◌+◌, ◌*◌, ◌%◌, ◌^◌, ◌<◌, ◌≤◌, ◌&&◌, Bool, true, false, cond, List, [], ◌∷◌, ◌++◌, map, length, decimal, arith, length-append}
 use Rattle.std.specs.Fmt.{digits}
 use Rattle.std.specs.List.{range_with_len}
 use Rattle.std.proofs.lemmas.Fmt.{length-decimal-le}
 use Rattle.json.specs.Token.{Token}
 use Rattle.json.specs.Print.{escape_byte, begins, ends, token_text, separator, print_from}
-use Rattle.json.specs.Json.{Json}
 use Rattle.json.specs.Tree.{json_tokens, items_tokens, room}
 use Rattle.json.proofs.Printed.Trees.{room-append}
 use Rattle.catalog_json.specs.Outcome.{most_bytes}

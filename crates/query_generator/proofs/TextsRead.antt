@@ -1,5 +1,5 @@
 -- What the two texts are read as.
-use Rattle.std.proofs.Common.{◌≡◌, ℕ, ◌^◌, ◌≤◌, List, length, Result, Ok, Err, IfOk, refl, sym, ap, subst, ◌∙◌}
+use Rattle.std.proofs.Common.{◌≡◌, ℕ, ◌^◌, ◌≤◌, List, length, Result, Ok, Err, IfOk, sym, ap, subst, ◌∙◌}
 use Rattle.sql_reader.specs.declared.syntax.Select.{Select}
 use Rattle.sql_reader.specs.Faults.{IsReading}
 use Rattle.sql_print.specs.Canonical.{canonical_text}
