@@ -5,3 +5,10 @@ pub mod Joins
 pub mod SelectKept
 pub mod TextsRead
 pub mod Drawn
+pub mod Offsets
+pub mod FirstBound
+pub mod Linked
+pub mod ReadableSame
+pub mod BoundParts
+pub mod BoundCases
+pub mod QueryBound

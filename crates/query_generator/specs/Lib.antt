@@ -1,4 +1,5 @@
 pub mod Catalog
 pub mod Draws
 pub mod Generated
+pub mod ReadAs
 pub mod Select

@@ -3,10 +3,12 @@
 
 mod catalog;
 mod draws;
+mod laws;
 mod select;
 mod shape;
 mod texts;
 
+pub use laws::generated_queries_are_bound;
 pub use shape::GenShape;
 pub use texts::generate;
 
