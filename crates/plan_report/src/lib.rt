@@ -9,5 +9,5 @@ mod section;
 #[cfg(test)]
 mod tests;
 
-pub use extraction::extract;
+pub use extraction::{answer_to, best_in, extract};
 pub use section::plan_text;

@@ -17,7 +17,7 @@ mod requests;
 mod word_set;
 
 pub use closure::plain_closure;
-pub use least::plain_least;
+pub use least::{plain_least, plain_least_of};
 pub use word_set::WordSet;
 
 #[cfg(test)]
