@@ -1,0 +1,121 @@
+-- The enforcers for a request: at most two, each asking for what is a goal of a lesser rank.
+use Rattle.std.proofs.Common.{◌≡◌, ◌⊎◌, ℕ, zero, suc, ◌+◌, ◌≤◌, Option, None, Some, List, [], ◌∷◌, length, refl, sym, ap, subst, ◌∙◌, inl, inr, ⊎_elim, arith}
+use Rattle.std.specs.Prelude.{slice_get}
+use Rattle.query_core.specs.Keys.{IsGroup}
+use Rattle.query_core.specs.declared.query.Query.{Query}
+use Rattle.query_core.specs.declared.words.KeyParts.{KeyParts}
+use Rattle.request_props.specs.Fitting.{Fits}
+use Rattle.request_props.specs.Numbered.{IsProps}
+use Rattle.request_props.specs.declared.props.Props.{Props}
+use Rattle.request_props.specs.declared.request.Dist.{Dist}
+use Rattle.request_props.specs.declared.request.Dist.TheVariants.{One, Spread, Copies, Hashed}
+use Rattle.request_props.specs.declared.request.Request.{Request}
+use Rattle.plan_space.specs.Enforcers.{EnforcedBy, enforcers_by, enforcers_of, Among}
+use Rattle.plan_space.specs.declared.nodes.NodeKind.{NodeKind}
+use Rattle.plan_space.specs.declared.nodes.NodeKind.TheVariants as nodes
+use Rattle.plan_tree.specs.Enforcers.{IsEnforced}
+use Rattle.plan_tree.specs.declared.answers.Answered.{Answered}
+use Rattle.plan_tree.specs.declared.enforcers.Enforced.{Enforced}
+use Rattle.best_answers.specs.Nodes.{one_node, all_nodes}
+use Rattle.best_answers.specs.Answers.{lesser}
+use Rattle.best_answers.specs.Best.{IsBest, IsEnforcedBy}
+use Rattle.best_answers.specs.Laws.{NoneIsBest, LesserIsBest, CoveredIsBest}
+use Rattle.best_answers.specs.declared.best.Best.{Best}
+use Rattle.goal_space.specs.Laws.{RanksFall}
+use Rattle.goal_space.specs.Ranks.{rank_of}
+use Rattle.goal_space.specs.declared.goals.GoalKind.TheVariants.{Opt}
+use Rattle.plan_report.proofs.Linking.{enforcer_lower}
+use Rattle.goal_answers.specs.Told.{IsReady, IsAnswered}
+use Rattle.goal_answers.specs.Among.{IsAnyNode, IsEnforcerAt, IsOfMember, IsBestOfEnforcer, IsBestOfMembers}
+use Rattle.goal_answers.proofs.ByRank.{told_below}
+use Rattle.goal_answers.proofs.Trying.{best_of_none, best_of_both}
+
+-- an enforcer at a place is one of them
+at_place : (list : List EnforcedBy) (place : ℕ) (e : EnforcedBy) → slice_get list place ≡ Some e → Among e list
+at_place [] place e is = cc
+at_place (first ∷ others) zero e is = inl cc
+at_place (first ∷ others) (suc place) e is = inr (at_place others place e is)
+
+-- there are at most two
+few_by : (dist : Dist) (order : ℕ) → length (enforcers_by dist order) ≤ 2
+few_by One zero = omega arith
+few_by Spread zero = omega arith
+few_by Copies zero = omega arith
+few_by (Hashed list) zero = omega arith
+few_by One (suc o) = omega arith
+few_by Spread (suc o) = omega arith
+few_by Copies (suc o) = omega arith
+few_by (Hashed list) (suc o) = omega arith
+
+-- of at most two each is at one of the first two places
+at_either : (list : List EnforcedBy) → length list ≤ 2 → (e : EnforcedBy) → Among e list → (slice_get list 0 ≡ Some e) ⊎ (slice_get list 1 ≡ Some e)
+at_either [] few e none = absurd none
+at_either (first ∷ []) few e (inl is) = inl (ap (λ (x : EnforcedBy). Some x) (sym is))
+at_either (first ∷ []) few e (inr none) = absurd none
+at_either (first ∷ second ∷ []) few e (inl is) = inl (ap (λ (x : EnforcedBy). Some x) (sym is))
+at_either (first ∷ second ∷ []) few e (inr (inl is)) = inr (ap (λ (x : EnforcedBy). Some x) (sym is))
+at_either (first ∷ second ∷ []) few e (inr (inr none)) = absurd none
+at_either (first ∷ second ∷ third ∷ others) few e among = absurd (omega arith)
+
+some_enforced : (found : Enforced) (there : Option EnforcedBy) → IsEnforced (Some found) there → (e : EnforcedBy) × (there ≡ Some e) × IsEnforced (Some found) (Some e)
+some_enforced found None is = absurd is
+some_enforced found (Some e) is = (e, refl, is)
+
+none_enforced : (there : Option EnforcedBy) → IsEnforced None there → there ≡ None
+none_enforced None is = refl
+none_enforced (Some e) is = absurd is
+
+-- the enforcer that was found at a place
+pub record IsFoundAt (wanted : Request) (place : ℕ) (found : Enforced) : Type 0 where
+  pub e : EnforcedBy
+  pub is_there : slice_get (enforcers_of wanted) place ≡ Some e
+  pub is : IsEnforcedBy wanted found e
+
+module _ (q : Query) (group : KeyParts) (wanted : Request) (place : ℕ) where
+  pub found_at : (found : Enforced) → IsEnforced (Some found) (slice_get (enforcers_of wanted) place) → IsFoundAt wanted place found
+  found_at found is =
+      let there = some_enforced found (slice_get (enforcers_of wanted) place) is in
+      record { e = there.0; is_there = there.1; is = record { among = at_place (enforcers_of wanted) place there.0 there.1; is = there.2 } }
+
+  -- what it asks for is a goal of a lesser rank
+  pub enforcer_answered : RanksFall q → (answers : List Answered) → IsReady q answers (Opt group wanted) → IsGroup q group → Fits q group wanted → (found : Enforced) → IsFoundAt wanted place found
+      → IsAnswered q answers (Opt group found.below)
+  enforcer_answered falls answers ready known fits found at =
+      let lower = enforcer_lower q falls (record { group = group; wanted = wanted }) ready.is_goal known at.e fits at.is.among in
+      subst (λ (r : Request). IsAnswered q answers (Opt group r)) (sym at.is.is.1) (record {
+        is_goal = lower.is_goal;
+        told = told_below q answers (rank_of (Opt group at.e.below) + 1) (rank_of (Opt group wanted)) (let less = lower.lower in omega (arith, less)) ready.below;
+      })
+
+  -- its answer is that of the place
+  pub best_found : (found : Enforced) (at : IsFoundAt wanted place found) (answer : Option Best) → IsBest q group wanted (one_node (nodes.Enforcer at.e.node)) answer → IsBestOfEnforcer q group wanted place answer
+  best_found found at answer best = record {
+    set = one_node (nodes.Enforcer at.e.node);
+    has = λ node (e, is_there, is). let both : Some e ≡ Some at.e = sym is_there ∙ at.is_there in let same : e ≡ at.e = cc in is ∙ ap (λ (x : EnforcedBy). nodes.Enforcer x.node) same;
+    within = λ node within. tt;
+    is_best = best;
+  }
+
+  -- no enforcer is there
+  pub best_not_found : NoneIsBest q → IsEnforced None (slice_get (enforcers_of wanted) place) → IsBestOfEnforcer q group wanted place None
+  best_not_found none_best is =
+      best_of_none q group wanted IsAnyNode none_best (IsEnforcerAt wanted place)
+      (λ node (e, is_there, same). let never : None ≡ Some e = sym (none_enforced (slice_get (enforcers_of wanted) place) is) ∙ is_there in cc)
+
+module _ (q : Query) (group : KeyParts) (wanted : Request) (lesser_best : LesserIsBest q) (props : Props) (is_props : IsProps q props) (fits : Fits q group wanted) where
+  -- the least of the answers of both enforcers and of the members is that of all nodes
+  pub best_of_all : CoveredIsBest q → (first second member : Option Best) → IsBestOfEnforcer q group wanted 0 first → IsBestOfEnforcer q group wanted 1 second → IsBestOfMembers q group wanted member
+      → IsBest q group wanted all_nodes (lesser (lesser first second) member)
+  best_of_all covered first second member one two of_members =
+      let Either : NodeKind → Type 0 = λ node. IsEnforcerAt wanted 0 node ⊎ IsEnforcerAt wanted 1 node in
+      let Any : NodeKind → Type 0 = λ node. Either node ⊎ IsOfMember q group wanted node in
+      let enforced = best_of_both q group wanted IsAnyNode lesser_best props is_props fits (IsEnforcerAt wanted 0) (IsEnforcerAt wanted 1) Either first second (λ node is. is) one two in
+      let best = best_of_both q group wanted IsAnyNode lesser_best props is_props fits Either (IsOfMember q group wanted) Any (lesser first second) member (λ node is. is) enforced of_members in
+      covered group wanted best.set all_nodes (lesser (lesser first second) member) (record {
+        within = λ node at. tt;
+        enforcers = λ e among at. best.has (nodes.Enforcer e.node) (⊎_elim
+            (λ (is : slice_get (enforcers_of wanted) 0 ≡ Some e). inl (inl (e, is, refl))) (λ (is : slice_get (enforcers_of wanted) 1 ≡ Some e). inl (inr (e, is, refl)))
+            (at_either (enforcers_of wanted) (few_by wanted.dist wanted.order) e among));
+        members = λ e mode line member of_group at alternative.
+            best.has (nodes.Native e mode) (inr (e, mode, record { member = member; of_group = of_group; mode = mode; serves = (line, alternative) }, refl));
+      }) best.is_best
