@@ -1,0 +1,228 @@
+//! The entries of a query in the cells of a board.
+
+ghost use Rattle.std.specs.Prelude.{◌≡◌, [], All, IfOk};
+ghost use Rattle.request_props.specs.Numbered.{IsProps};
+ghost use Rattle.goal_space.specs.Entries.{IsEntry};
+ghost use Rattle.goal_board.specs.Seats.{IsSeatOf, hands};
+
+use goal_board::{Board, GoalRules, Inserted, Seat};
+use goal_list::plain_goals;
+use goal_rules::Rules;
+use orca_base::{List, Text};
+use plan_search::plain_closure;
+use query_core::*;
+use request_props::Props;
+use std::alloc::{AllocError, Global};
+use std::test::Fail;
+use std::thread;
+use std::thread::Threads;
+
+fn text(alloc: Global, part: &str) -> Result<Text, AllocError>
+    ensures { IfOk result (λ made. made ≡ part.now) }
+{
+    Ok(Text::of(String::from_str(alloc, part)?))
+}
+
+// `SELECT T1.a FROM T1, T2 WHERE T1.a = T2.b ORDER BY T1.a`, each table hashed on its column a
+fn two_tables(alloc: Global) -> Result<Query, AllocError> {
+    let tables = vec![in alloc;
+        QueryTable {
+            alias: text(alloc, "T1")?,
+            rows: 1000,
+            hashed: Some(List::of(vec![in alloc; 0]?)),
+            indexes: List::new(alloc)
+        },
+        QueryTable {
+            alias: text(alloc, "T2")?,
+            rows: 1000,
+            hashed: Some(List::of(vec![in alloc; 1]?)),
+            indexes: List::new(alloc)
+        },
+    ]?;
+    let items = vec![in alloc;
+        Item {
+            table: 0,
+            name: text(alloc, "a")?,
+            ndv: 1000
+        },
+        Item {
+            table: 1,
+            name: text(alloc, "a")?,
+            ndv: 1000
+        },
+        Item {
+            table: 1,
+            name: text(alloc, "b")?,
+            ndv: 500
+        },
+    ]?;
+    let preds = vec![in alloc;
+        Pred {
+            left: 0,
+            op: CmpOp::Eq,
+            right: Operand::Item(2)
+        },
+    ]?;
+    let links = links_of(alloc, &tables, &items, &preds)?;
+    Ok(Query {
+        segments: 4,
+        tables: List::of(tables),
+        items: List::of(items),
+        preds: List::of(preds),
+        links,
+        grouped: false,
+        group_by: List::new(alloc),
+        aggs: List::new(alloc),
+        output: List::of(vec![in alloc;
+            OutItem {
+                item: 0,
+                name: None
+            },
+        ]?),
+        order: List::of(vec![in alloc;
+            OrderKey {
+                item: 0,
+                desc: false
+            },
+        ]?),
+        options: Options {
+            root: RootDist::One,
+            off: 0,
+        },
+    })
+}
+
+// The words of all members, and those of all goals.
+fn entries_of(
+    alloc: Global,
+    query: &Query,
+    props: &Props,
+) -> Result<(List<u64>, List<u64>), AllocError>
+    requires { IsProps query.now props.now }
+    ensures members { IfOk result (λ made. All (IsEntry query.now) made.0) }
+    ensures goals { IfOk result (λ made. All (IsEntry query.now) made.1) }
+{
+    let members = plain_closure(alloc, query)?;
+    let goals = plain_goals(alloc, query, props, members.as_slice())?;
+    Ok((members, goals))
+}
+
+// Puts an entry in, and says whether it was new.
+fn put_in<R: GoalRules>(board: &Board<R>, seat: &mut Seat<R>, word: u64) -> bool
+    requires seat { IsSeatOf R.meaning board.now seat.old }
+    requires enters { (R.meaning board.now.key.rules).entry word }
+    ensures seat { IsSeatOf R.meaning board.now seat.new }
+    ensures parts { (hands seat.new).parts ≡ (hands seat.old).parts }
+    ensures rights { (hands seat.new).rights ≡ (hands seat.old).rights }
+{
+    match board.insert(seat, word) {
+        Inserted::Fresh { at: _at } => true,
+        Inserted::Known { at: _at } => false,
+        Inserted::Full => false,
+    }
+}
+
+// Puts these entries in, and says how many of them were new.
+fn put_all<R: GoalRules>(board: &Board<R>, seat: &mut Seat<R>, entries: &[u64]) -> usize
+    requires seat { IsSeatOf R.meaning board.now seat.old }
+    requires enter { All (R.meaning board.now.key.rules).entry entries.now }
+    ensures seat { IsSeatOf R.meaning board.now seat.new }
+    ensures parts { (hands seat.new).parts ≡ (hands seat.old).parts }
+    ensures rights { (hands seat.new).rights ≡ (hands seat.old).rights }
+{
+    let mut fresh = 0;
+    for place in 0..entries.len() {
+        if put_in(board, seat, entries[place]) {
+            fresh += 1;
+        }
+    }
+    fresh
+}
+
+// Puts the first entries in and then the others, and says how many of each were new.
+fn put_both<R: GoalRules>(
+    board: &Board<R>,
+    mut seat: Seat<R>,
+    first: &[u64],
+    then: &[u64],
+) -> (Seat<R>, usize, usize)
+    requires seat { IsSeatOf R.meaning board.now seat }
+    requires first { All (R.meaning board.now.key.rules).entry first.now }
+    requires then { All (R.meaning board.now.key.rules).entry then.now }
+    requires rights { (hands seat).rights ≡ [] }
+    ensures seat { IsSeatOf R.meaning board.now result.0 }
+    ensures parts { (hands result.0).parts ≡ (hands seat).parts }
+    ensures rights { (hands result.0).rights ≡ [] }
+{
+    let fresh = put_all(board, &mut seat, first);
+    let others = put_all(board, &mut seat, then);
+    (seat, fresh, others)
+}
+
+// Two threads put the same entries in, in different orders. Says how many members were new, and how many goals.
+fn put_by_two<R: GoalRules>(
+    rt: &impl Threads,
+    board: &Board<R>,
+    mut seat: Seat<R>,
+    members: &[u64],
+    goals: &[u64],
+) -> (Seat<R>, usize, usize)
+    requires seat { IsSeatOf R.meaning board.now seat }
+    requires members { All (R.meaning board.now.key.rules).entry members.now }
+    requires goals { All (R.meaning board.now.key.rules).entry goals.now }
+    requires parts { (hands seat).parts ≡ 64 }
+    requires rights { (hands seat).rights ≡ [] }
+    ensures seat { IsSeatOf R.meaning board.now result.0 }
+    ensures parts { (hands result.0).parts ≡ 64 }
+    ensures rights { (hands result.0).rights ≡ [] }
+{
+    let other = board.split(&mut seat);
+    let ((other, new_members, new_goals), (mut seat, more_goals, more_members)) = thread::join(
+        rt,
+        ||
+            requires seat { IsSeatOf R.meaning board.now other }
+            requires members { All (R.meaning board.now.key.rules).entry members.now }
+            requires goals { All (R.meaning board.now.key.rules).entry goals.now }
+            requires rights { (hands other).rights ≡ [] }
+        { put_both(board, other, members, goals) },
+        ||
+            requires seat { IsSeatOf R.meaning board.now seat }
+            requires members { All (R.meaning board.now.key.rules).entry members.now }
+            requires goals { All (R.meaning board.now.key.rules).entry goals.now }
+            requires rights { (hands seat).rights ≡ [] }
+        { put_both(board, seat, goals, members) },
+    );
+    board.join(&mut seat, other);
+    (
+        seat,
+        new_members.wrapping_add(more_members),
+        new_goals.wrapping_add(more_goals),
+    )
+}
+
+#[test]
+fn two_threads_put_each_entry_of_a_query_once(rt: HostRuntime) -> Result<(), Fail> {
+    let alloc = rt.alloc();
+    let query = two_tables(alloc)?;
+    let Ok(props) = Props::collect(alloc, &query) else {
+        panic!(rt; "there are too many lists");
+    };
+    let (members, goals) = entries_of(alloc, &query, &props)?;
+    let (board, seat) = Board::start(alloc, Rules::new(&query, &props), 79)?;
+    let (seat, new_members, new_goals) = put_by_two(
+        &rt,
+        &board,
+        seat,
+        members.as_slice(),
+        goals.as_slice(),
+    );
+    assert_eq!(rt; new_members, 13);
+    assert_eq!(rt; new_goals, 66);
+    let closed = board.close(alloc, seat)?;
+    let mut cells = Vec::from_slice(alloc, closed.cells.as_slice())?;
+    cells.sort()?;
+    let mut entries = Vec::from_slice(alloc, members.as_slice())?;
+    entries.extend_from_slice(goals.as_slice())?;
+    assert_eq!(rt; cells.as_slice(), entries.as_slice());
+    Ok(())
+}
