@@ -1,0 +1,4 @@
+pub mod Wider
+pub mod Closing
+pub mod Ending
+pub mod Shown

@@ -1,0 +1,62 @@
+-- What a run of a search to its end gives, and what its note says.
+use Rattle.std.specs.Prelude.{◌≡◌, ℕ, ◌<◌, List, All, length, Option, Some}
+use Rattle.query_core.specs.declared.query.Query.{Query}
+use Rattle.plan_tree.specs.declared.answers.Answered.{Answered}
+use Rattle.goal_space.specs.Answers.{AreAnswers, words_told}
+use Rattle.board_rule.specs.declared.hands.Hands.{Hands}
+use Rattle.goal_board.specs.declared.answers.Closed.{Closed}
+use Rattle.goal_rules.specs.declared.rules.Rules.{Rules}
+use Rattle.job_scheduler.specs.Crews.{AreDoneBelow}
+use Rattle.job_outcome.specs.Outcomes.{HasMoreEntries, FitsIn, IsEnd}
+use Rattle.job_outcome.specs.declared.outcome.Outcome.{Outcome}
+use Rattle.job_outcome.specs.declared.outcome.Outcome.TheVariants.{Done, Full, Unfinished}
+use Rattle.job_engine.specs.Searching.{Gives}
+
+-- ---- what a run gives
+
+-- n workers finished all goals of the query: all members, all goals, the answers to these in their order, and for each
+-- the number of a worker
+pub record IsDoneBy (q : Query) (cap n : ℕ)
+    (members goals : List ℕ) (answers : List Answered) (who : List ℕ) : Type 0 where
+  pub fits : FitsIn q cap members goals
+  pub are_answers : AreAnswers q answers
+  pub in_order : words_told answers ≡ goals
+  pub one_each : length who ≡ length goals
+  pub below : All (λ worker. worker < n) who
+
+-- the query has more entries than this capacity
+pub record Exceeds (q : Query) (cap room : ℕ) : Type 0 where
+  pub capacity : room ≡ cap
+  pub more : HasMoreEntries q cap
+
+-- all goals are finished, or the query has more entries than the capacity
+abbrev pub RunEnds : Query → (cap n : ℕ) → Outcome → Type 0
+RunEnds q cap n (Done members goals answers who) = IsDoneBy q cap n members goals answers.list who
+RunEnds q cap n (Full room) = Exceeds q cap room
+RunEnds q cap n (Unfinished goal) = ⊥
+
+-- ---- what a note says
+
+-- the capacity, the number of workers, and how many goals were finished, which are all of them where the run is done
+abbrev pub IsNoted : (cap n : ℕ) → Outcome → Option (ℕ × ℕ × ℕ) → Type 0
+IsNoted cap n (Done members goals answers who) last = last ≡ Some (cap, n, length goals)
+IsNoted cap n (Full room) last = (finished : ℕ) × (last ≡ Some (cap, n, finished))
+IsNoted cap n (Unfinished goal) last = ⊥
+
+-- ---- the board that was closed
+
+-- how many goals were finished
+abbrev pub finished_count : Closed → Outcome → ℕ
+finished_count closed (Done members goals answers who) = length goals
+finished_count closed (Full room) = length closed.answers
+finished_count closed (Unfinished goal) = length closed.answers
+
+-- the outcome is of a board whose last seat has in its list what n workers finished; the note counts the goals that
+-- were finished on it
+pub record IsRun (q : Query) (cap n : ℕ) (outcome : Outcome) (note : Option (ℕ × ℕ × ℕ)) : Type 0 where
+  pub place : ℕ
+  pub view : Hands Rules
+  pub gives : Gives q cap place view outcome
+  pub ended : IsEnd outcome
+  pub done : AreDoneBelow n view.done
+  pub noted : note ≡ Some (cap, n, finished_count gives.closed outcome)

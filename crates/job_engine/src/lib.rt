@@ -1,0 +1,16 @@
+//! The search of a query by any number of workers, from its root goal to all answers.
+#![tactic(auto)]
+
+mod engine;
+mod jobs;
+mod note;
+mod runs;
+#[cfg(test)]
+mod tests;
+
+pub use engine::Engine;
+pub use job_outcome::Outcome;
+pub use job_scheduler::{Stepped, Worker};
+pub use jobs::QueryJobs;
+pub use note::RunNote;
+pub use runs::{run_alone, run_crew};
