@@ -58,7 +58,8 @@ module _ (e : Engine) (n : ℕ) (w : Worker Rules) (is_last : IsLast e n w) (clo
     few_finished = finished_few (query_of e) e.cap e.scheduler.root (hands w.seat) closed its outcome is
 
     -- it has seen the end, so this is what the run gave
-    pub last_run : (ShowsClosed (hands w.seat).looks e.scheduler.root → IsDoneCase outcome) → (ShowsFull (hands w.seat).looks → IsEnd outcome) → (finished : ℕ) → finished ≡ finished_count closed outcome
+    pub last_run : (ShowsClosed (hands w.seat).looks e.scheduler.root → IsDoneCase outcome) → (ShowsFull (hands w.seat).looks → IsEnd outcome)
+        → (finished : ℕ) → finished ≡ finished_count closed outcome
         → IsRun (query_of e) e.cap n outcome (Some (e.cap, n, finished))
     last_run if_done if_full finished counted = record {
       place = e.scheduler.root;

@@ -53,7 +53,8 @@ module _ (q : Query) (room root number : ℕ) (near : root < room) (asked : Memb
       not_both q room w.looks asked (seen_closed (goal_word (root_goal_of q)) root near shown.some_goal shown.stands closed) done.left_out (found, later _ found look, set)
 
   -- where the full word was seen set, the answer of a step is that the board is full
-  pub full_again : (result : Stepped) → ShowsFull v.looks → Later v.looks w.looks → ShowsGoal (meaning_of q) w.looks root (goal_word (root_goal_of q)) → Steps (meaning_of q) room root number v result w
+  pub full_again : (result : Stepped) → ShowsFull v.looks → Later v.looks w.looks → ShowsGoal (meaning_of q) w.looks root (goal_word (root_goal_of q))
+      → Steps (meaning_of q) room root number v result w
       → (result ≡ stepped.Full) ⊎ (result ≡ stepped.Done) → result ≡ stepped.Full
   full_again result full later shown steps (inl is) = is
   full_again result full later shown steps (inr is) = absurd (never_done full later shown (subst (λ (s : Stepped). Steps (meaning_of q) room root number v s w) is steps))

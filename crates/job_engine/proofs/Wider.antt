@@ -12,7 +12,8 @@ use Rattle.goal_rules.specs.EntryLaws.{word_some, goal_high}
 use Rattle.job_turns.specs.Works.{Adds}
 
 -- what may be put in by one measure may be by a wider one
-pub turns_wider : {R : Type 0} → (Adds Wider : ℕ → Type 0) → ((word : ℕ) → Adds word → Wider word) → (room : ℕ) (v : Hands R) (right : Right) (worker : ℕ) (result : Turned) (w : Hands R)
+pub turns_wider : {R : Type 0} → (Adds Wider : ℕ → Type 0) → ((word : ℕ) → Adds word → Wider word)
+    → (room : ℕ) (v : Hands R) (right : Right) (worker : ℕ) (result : Turned) (w : Hands R)
     → Turns room Adds v right worker result w → Turns room Wider v right worker result w
 turns_wider Adds Wider wider room v right worker (turned.Finished woken) w t = record {
   middle = t.middle;

@@ -111,7 +111,7 @@ fn one_worker_and_two_find_the_same(rt: HostRuntime) -> Result<(), Fail> {
             assert_eq!(rt; members.len(), 2);
             assert_eq!(rt; goals.len(), 8);
             assert!(rt; goals.as_slice().contains(&ROOT));
-            assert_eq!(rt; who.as_slice(), &[0; 8]);
+            assert_eq!(rt; who.as_slice(), [0; 8].as_slice());
             assert_eq!(rt; members.as_slice(), same_members.as_slice());
             assert_eq!(rt; goals.as_slice(), same_goals.as_slice());
             assert_eq!(rt; answers.list.as_slice(), same_answers.list.as_slice());

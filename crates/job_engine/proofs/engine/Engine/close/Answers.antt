@@ -18,10 +18,19 @@ outcome_of-requires-clause-closed c = (
 
 pub returns-clause-gives : goal.returns-clause-gives
 returns-clause-gives c =
-    IfOk-weaker c.outcome_of.result _ _ (λ outcome is. record { closed = c.in_ok-closed.closed; its = searched c; is = is c.args.self.scheduler.root (hands c.args.worker.seat) (searched c) }) c.outcome_of.ensures.outcome
+    let root = c.args.self.scheduler.root in
+    let v = hands c.args.worker.seat in
+    IfOk-weaker c.outcome_of.result _ _ (λ outcome is. record { closed = c.in_ok-closed.closed; its = searched c; is = is root v (searched c) })
+    c.outcome_of.ensures.outcome
 
 pub returns-clause-finished : goal.returns-clause-finished
-returns-clause-finished c = IfOk-weaker c.outcome_of.result _ _ (λ outcome is. is c.args.self.scheduler.root (hands c.args.worker.seat) (searched c)) c.outcome_of.ensures.finished
+returns-clause-finished c =
+    let root = c.args.self.scheduler.root in
+    let v = hands c.args.worker.seat in
+    IfOk-weaker c.outcome_of.result _ _ (λ outcome is. is root v (searched c)) c.outcome_of.ensures.finished
 
 pub returns-clause-ended : goal.returns-clause-ended
-returns-clause-ended c = IfOk-weaker c.outcome_of.result _ _ (λ outcome is. is c.args.self.scheduler.root (hands c.args.worker.seat) (searched c)) c.outcome_of.ensures.ended
+returns-clause-ended c =
+    let root = c.args.self.scheduler.root in
+    let v = hands c.args.worker.seat in
+    IfOk-weaker c.outcome_of.result _ _ (λ outcome is. is root v (searched c)) c.outcome_of.ensures.ended

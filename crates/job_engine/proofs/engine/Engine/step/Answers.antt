@@ -33,8 +33,10 @@ returns-clause-alone c =
 pub returns-clause-full : goal.returns-clause-full
 returns-clause-full c full =
     let e = c.args.self.now in
+    let q = e.rules.query.now in
+    let root = e.scheduler.root in
     let w = hands c.step.new.worker.seat in
-    let shown = subst (λ (r : Rules). ShowsGoal (rules_mean r) w.looks e.scheduler.root e.scheduler.goal) e.of_rules c.step.ensures.worker.its.root_shown in
-    full_again e.rules.query.now e.cap e.scheduler.root c.args.worker.now.number (subst (λ (room : ℕ). e.scheduler.root < room) e.same_room e.scheduler.near) (c.goals_ask_for_members.ensures.all e.rules.query.now)
-    (hands c.args.worker.now.seat) w c.step.result full c.step.ensures.keeps.looks
-    (subst (ShowsGoal (rules_mean e.rules) w.looks e.scheduler.root) (e.same_goal ∙ e.its_root) shown) (steps_in c) (c.step.ensures.full full)
+    let near = subst (λ (room : ℕ). root < room) e.same_room e.scheduler.near in
+    let shown = subst (λ (r : Rules). ShowsGoal (rules_mean r) w.looks root e.scheduler.goal) e.of_rules c.step.ensures.worker.its.root_shown in
+    full_again q e.cap root c.args.worker.now.number near (c.goals_ask_for_members.ensures.all q) (hands c.args.worker.now.seat) w c.step.result full
+    c.step.ensures.keeps.looks (subst (ShowsGoal (rules_mean e.rules) w.looks root) (e.same_goal ∙ e.its_root) shown) (steps_in c) (c.step.ensures.full full)

@@ -24,6 +24,7 @@ returns-clause-turns c =
 pub returns-clause-alone : goal.returns-clause-alone
 returns-clause-alone c =
     let q = c.self.inside.rules.query.now in
+    let key = c.args.board.now.key in
     let t = c.turn.ensures.turns in
-    turns_alone (meaning_of c.args.board.now.key.rules.query.now) c.args.board.now.key.room (Adds q t.goal) (hands c.args.seat.now) c.args.right c.args.worker c.requires.right.near c.requires.fresh c.requires.seat.over.all (adds_some q t.goal)
-    c.turn.result (hands c.turn.new.seat) t.turns
+    turns_alone (meaning_of key.rules.query.now) key.room (Adds q t.goal) (hands c.args.seat.now) c.args.right c.args.worker
+    c.requires.right.near c.requires.fresh c.requires.seat.over.all (adds_some q t.goal) c.turn.result (hands c.turn.new.seat) t.turns
