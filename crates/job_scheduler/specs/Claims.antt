@@ -4,13 +4,16 @@ use Rattle.board_rule.specs.Meaning.{Meaning}
 use Rattle.board_rule.specs.Words.{head_word}
 use Rattle.board_rule.specs.Looks.{Looked, ShowsFull, ShowsClosed}
 use Rattle.board_rule.specs.declared.hands.Hands.{Hands}
+use Rattle.goal_board.specs.declared.board.Board.{Board}
 use Rattle.goal_board.specs.declared.board.Right.{Right}
+use Rattle.goal_board.specs.Seats.{hands}
 use Rattle.goal_board.specs.Calls.{ShowsBusy, ClaimsGoal, IsReadyIn, LeavesOut}
 use Rattle.job_scheduler.specs.Workers.{OnlyLooked}
 use Rattle.job_scheduler.specs.declared.sought.Sought.{Sought}
 use Rattle.job_scheduler.specs.declared.sought.Sought.TheVariants as sought
 use Rattle.job_scheduler.specs.declared.sought.Standing.{Standing}
 use Rattle.job_scheduler.specs.declared.sought.Standing.TheVariants as standing
+use Rattle.job_scheduler.specs.declared.worker.Worker.{Worker}
 
 -- one of the looks found the head at the place open
 abbrev pub ShowsOpen : List (ℕ × ℕ) → ℕ → Type 0
@@ -67,3 +70,28 @@ module _ {R : Type 0} (meaning : Meaning) (room : ℕ) (v : Hands R) where
   Seeks root from to sought.Busy w = FindsAllBusy from to w
   Seeks root from to sought.Done w = FindsRootClosed root w
   Seeks root from to sought.Full w = FindsFullSet w
+
+-- the same of a worker of a board, before and after
+module _ {R : Type 0} (meaning_of : R → Meaning) (b : Board R) (worker : Worker R) where
+  -- it claimed a goal, or only looked
+  abbrev pub WorkerClaims : Option Right → Worker R → Type 0
+  WorkerClaims found after = MayClaimOne (meaning_of b.key.rules) b.key.room (hands worker.seat) found (hands after.seat)
+
+  -- it claimed a goal, or found all these places busy
+  abbrev pub WorkerSweeps : (from to : ℕ) → Option Right → Worker R → Type 0
+  WorkerSweeps from to found after =
+      Sweeps (meaning_of b.key.rules) b.key.room (hands worker.seat) from to found (hands after.seat)
+
+  -- how it found the board to stand
+  abbrev pub WorkerFinds : (root : ℕ) → Standing → Worker R → Type 0
+  WorkerFinds root found after =
+      Finds (meaning_of b.key.rules) b.key.room (hands worker.seat) root found (hands after.seat)
+
+  -- what came of its look at all these places
+  abbrev pub WorkerSeeks : (root from to : ℕ) → Sought → Worker R → Type 0
+  WorkerSeeks root from to found after =
+      Seeks (meaning_of b.key.rules) b.key.room (hands worker.seat) root from to found (hands after.seat)
+
+  -- what came of its look at all places of the board
+  abbrev pub WorkerSeeksAll : (root : ℕ) → Sought → Worker R → Type 0
+  WorkerSeeksAll root found after = WorkerSeeks root 0 b.key.room found after

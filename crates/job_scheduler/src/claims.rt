@@ -3,7 +3,7 @@ ghost use Rattle.std.specs.Prelude.{◌≡◌, ◌⊎◌, ◌<◌, ◌≤◌, If
 ghost use Rattle.board_rule.specs.Looks.{ShowsFull, ShowsClosed};
 ghost use Rattle.goal_board.specs.Seats.{hands};
 ghost use Rattle.job_scheduler.specs.Workers.{IsWorkerOf};
-ghost use Rattle.job_scheduler.specs.Claims.{MayClaimOne, Sweeps, Finds, Seeks};
+ghost use Rattle.job_scheduler.specs.Claims.{WorkerClaims, WorkerSweeps, WorkerFinds, WorkerSeeks, WorkerSeeksAll};
 ghost use Rattle.job_scheduler.specs.declared.sought.Standing.TheVariants as standing;
 
 use crate::jobs::Jobs;
@@ -21,9 +21,10 @@ impl<R: GoalRules, J: Jobs<R>> Scheduler<R, J> {
         requires worker { IsWorkerOf R.meaning self.now.board self.now.root self.now.goal worker.old }
         ensures worker { IsWorkerOf R.meaning self.now.board self.now.root self.now.goal worker.new }
         ensures number { worker.new.number ≡ worker.old.number }
-        ensures finds { Finds (R.meaning self.now.board.key.rules) self.now.board.key.room (hands worker.old.seat) self.now.root result (hands worker.new.seat) }
+        ensures finds { WorkerFinds R.meaning self.now.board worker.old self.now.root result worker.new }
         ensures closed { ShowsClosed (hands worker.old.seat).looks self.now.root → result ≡ standing.Done }
-        ensures full { ShowsFull (hands worker.old.seat).looks → (result ≡ standing.Full) ⊎ (result ≡ standing.Done) }
+        ensures full { ShowsFull (hands worker.old.seat).looks →
+            (result ≡ standing.Full) ⊎ (result ≡ standing.Done) }
     {
         match self.board.answer(&mut worker.seat, self.root) {
             Some(_) => Standing::Done,
@@ -43,7 +44,7 @@ impl<R: GoalRules, J: Jobs<R>> Scheduler<R, J> {
         requires near { IfSome hint (λ at. at < self.now.board.key.room) }
         ensures worker { IsWorkerOf R.meaning self.now.board self.now.root self.now.goal worker.new }
         ensures number { worker.new.number ≡ worker.old.number }
-        ensures claims { MayClaimOne (R.meaning self.now.board.key.rules) self.now.board.key.room (hands worker.old.seat) result (hands worker.new.seat) }
+        ensures claims { WorkerClaims R.meaning self.now.board worker.old result worker.new }
     {
         match hint {
             Some(at) => self.board.claim(&mut worker.seat, at),
@@ -56,7 +57,7 @@ impl<R: GoalRules, J: Jobs<R>> Scheduler<R, J> {
         requires worker { IsWorkerOf R.meaning self.now.board self.now.root self.now.goal worker.old }
         ensures worker { IsWorkerOf R.meaning self.now.board self.now.root self.now.goal worker.new }
         ensures number { worker.new.number ≡ worker.old.number }
-        ensures claims { MayClaimOne (R.meaning self.now.board.key.rules) self.now.board.key.room (hands worker.old.seat) result (hands worker.new.seat) }
+        ensures claims { WorkerClaims R.meaning self.now.board worker.old result worker.new }
     {
         for _hint in 0..self.board.cap() {
             let hint = worker.hints.take();
@@ -75,7 +76,7 @@ impl<R: GoalRules, J: Jobs<R>> Scheduler<R, J> {
         requires worker { IsWorkerOf R.meaning self.now.board self.now.root self.now.goal worker.old }
         ensures worker { IsWorkerOf R.meaning self.now.board self.now.root self.now.goal worker.new }
         ensures number { worker.new.number ≡ worker.old.number }
-        ensures claims { MayClaimOne (R.meaning self.now.board.key.rules) self.now.board.key.room (hands worker.old.seat) result (hands worker.new.seat) }
+        ensures claims { WorkerClaims R.meaning self.now.board worker.old result worker.new }
     {
         for other in 0..worker.hints.others() {
             let hint = worker.hints.steal(other);
@@ -92,7 +93,7 @@ impl<R: GoalRules, J: Jobs<R>> Scheduler<R, J> {
         requires near { to ≤ self.now.board.key.room }
         ensures worker { IsWorkerOf R.meaning self.now.board self.now.root self.now.goal worker.new }
         ensures number { worker.new.number ≡ worker.old.number }
-        ensures sweeps { Sweeps (R.meaning self.now.board.key.rules) self.now.board.key.room (hands worker.old.seat) from to result (hands worker.new.seat) }
+        ensures sweeps { WorkerSweeps R.meaning self.now.board worker.old from to result worker.new }
     {
         for at in from..to {
             if let Some(right) = self.board.claim(&mut worker.seat, at) {
@@ -109,7 +110,8 @@ impl<R: GoalRules, J: Jobs<R>> Scheduler<R, J> {
         requires near { to ≤ self.now.board.key.room }
         ensures worker { IsWorkerOf R.meaning self.now.board self.now.root self.now.goal worker.new }
         ensures number { worker.new.number ≡ worker.old.number }
-        ensures seeks { Seeks (R.meaning self.now.board.key.rules) self.now.board.key.room (hands worker.old.seat) self.now.root from to result (hands worker.new.seat) }
+        ensures seeks { WorkerSeeks R.meaning self.now.board worker.old
+            self.now.root from to result worker.new }
     {
         match self.claim_between(worker, from, to) {
             Some(right) => Sought::Claimed(right),
@@ -127,7 +129,8 @@ impl<R: GoalRules, J: Jobs<R>> Scheduler<R, J> {
         requires near { to ≤ self.now.board.key.room }
         ensures worker { IsWorkerOf R.meaning self.now.board self.now.root self.now.goal worker.new }
         ensures number { worker.new.number ≡ worker.old.number }
-        ensures seeks { Seeks (R.meaning self.now.board.key.rules) self.now.board.key.room (hands worker.old.seat) self.now.root from to result (hands worker.new.seat) }
+        ensures seeks { WorkerSeeks R.meaning self.now.board worker.old
+            self.now.root from to result worker.new }
     {
         let mut at = from;
         while at < to {
@@ -145,7 +148,7 @@ impl<R: GoalRules, J: Jobs<R>> Scheduler<R, J> {
         requires worker { IsWorkerOf R.meaning self.now.board self.now.root self.now.goal worker.old }
         ensures worker { IsWorkerOf R.meaning self.now.board self.now.root self.now.goal worker.new }
         ensures number { worker.new.number ≡ worker.old.number }
-        ensures seeks { Seeks (R.meaning self.now.board.key.rules) self.now.board.key.room (hands worker.old.seat) self.now.root 0 self.now.board.key.room result (hands worker.new.seat) }
+        ensures seeks { WorkerSeeksAll R.meaning self.now.board worker.old self.now.root result worker.new }
     {
         let from = worker.next;
         match self.scan(worker, from, self.board.cap()) {
@@ -159,7 +162,7 @@ impl<R: GoalRules, J: Jobs<R>> Scheduler<R, J> {
         requires worker { IsWorkerOf R.meaning self.now.board self.now.root self.now.goal worker.old }
         ensures worker { IsWorkerOf R.meaning self.now.board self.now.root self.now.goal worker.new }
         ensures number { worker.new.number ≡ worker.old.number }
-        ensures seeks { Seeks (R.meaning self.now.board.key.rules) self.now.board.key.room (hands worker.old.seat) self.now.root 0 self.now.board.key.room result (hands worker.new.seat) }
+        ensures seeks { WorkerSeeksAll R.meaning self.now.board worker.old self.now.root result worker.new }
     {
         match self.claim_own(worker) {
             Some(right) => Sought::Claimed(right),

@@ -6,3 +6,4 @@ pub mod Results
 pub mod Choices
 pub mod Requests
 pub mod Turns
+pub mod Seats

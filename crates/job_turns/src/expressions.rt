@@ -2,13 +2,13 @@
 #![tactic(auto)]
 
 ghost use Rattle.std.specs.Prelude.{◌≡◌, ◌↔◌, ℕ, Some};
-ghost use Rattle.goal_board.specs.Seats.{hands};
 ghost use Rattle.goal_space.specs.Children.{IsRuleAt};
 ghost use Rattle.goal_space.specs.Entries.{NamesGoal};
 ghost use Rattle.goal_space.specs.declared.goals.GoalKind.{GoalKind as Kind};
 ghost use Rattle.goal_space.specs.declared.goals.GoalKind.TheVariants.{Exp, ExpE, Imp, ImpE};
 ghost use Rattle.job_turns.specs.Searches.{IsBoardOf, IsSeat, HasRight};
-ghost use Rattle.job_turns.specs.Works.{IsChildOf, IsOneOf, IsOfChild, IsRuleOf, AwaitsGoals, WorksOn};
+ghost use Rattle.job_turns.specs.Works.{IsOneOf, IsOfChild, IsRuleOf};
+ghost use Rattle.job_turns.specs.Seats.{AreChildrenOf, SeatAwaits, SeatWorks};
 
 use crate::laws::words_are_known;
 use crate::over_query::{await_both, await_if};
@@ -38,7 +38,7 @@ pub(crate) fn explore_expression<'q, H: Hints>(
     requires hints { H.capacity hints.old ≡ board.now.key.room }
     ensures seat { IsSeat board.now seat.new }
     ensures right { HasRight board.now seat.new job.new.right }
-    ensures works { WorksOn query.now board.now.key.room (hands seat.old) job.old.right (ExpE e) result (hands seat.new) job.new.right }
+    ensures works { SeatWorks query.now board.now seat.old job.old (ExpE e) result seat.new job.new }
     ensures hints { H.capacity hints.new ≡ H.capacity hints.old }
 {
     // For the proof: the goal's word says what its children are.
@@ -69,7 +69,7 @@ pub(crate) fn implement_expression<'q, H: Hints>(
     requires hints { H.capacity hints.old ≡ board.now.key.room }
     ensures seat { IsSeat board.now seat.new }
     ensures right { HasRight board.now seat.new job.new.right }
-    ensures works { WorksOn query.now board.now.key.room (hands seat.old) job.old.right (ImpE e) result (hands seat.new) job.new.right }
+    ensures works { SeatWorks query.now board.now seat.old job.old (ImpE e) result seat.new job.new }
     ensures hints { H.capacity hints.new ≡ H.capacity hints.old }
 {
     // For the proof: the goal's word says what its children are.
@@ -119,11 +119,12 @@ fn await_rules<'q, H: Hints>(
     requires board { IsBoardOf query.now board.now }
     requires seat { IsSeat board.now seat.old }
     requires right { HasRight board.now seat.old job.old.right }
-    requires children { (goal : Kind) → IsRuleAt query.now exploring e goal → IsChildOf query.now job.old.right.goal goal }
+    requires children { AreChildrenOf query.now job.old.right.goal (IsRuleAt query.now exploring e) }
     requires hints { H.capacity hints.old ≡ board.now.key.room }
     ensures seat { IsSeat board.now seat.new }
     ensures right { HasRight board.now seat.new job.new.right }
-    ensures awaits { AwaitsGoals query.now board.now.key.room (hands seat.old) job.old.right (IsRuleAt query.now exploring e) result (hands seat.new) job.new.right }
+    ensures awaits { SeatAwaits query.now board.now seat.old job.old
+        (IsRuleAt query.now exploring e) result seat.new job.new }
     ensures hints { H.capacity hints.new ≡ H.capacity hints.old }
 {
     let rules = Rule::all();

@@ -3,18 +3,12 @@
 
 ghost use Rattle.std.specs.Prelude.{◌≡◌, ℕ};
 ghost use Rattle.request_props.specs.Numbered.{IsProps};
-ghost use Rattle.goal_board.specs.Seats.{hands};
 ghost use Rattle.request_props.specs.declared.props.Props.{Props as AnyProps};
-ghost use Rattle.board_rule.specs.Looks.{ShowsEntry};
-ghost use Rattle.board_moves.specs.Collects.{Settles};
-ghost use Rattle.goal_space.specs.Words.{goal_word};
 ghost use Rattle.goal_space.specs.Goals.{IsGoal};
 ghost use Rattle.goal_space.specs.Entries.{NamesGoal};
-ghost use Rattle.goal_rules.specs.Explored.{explored, origin_word, IsLogicalWord};
-ghost use Rattle.goal_rules.specs.Meaning.{meaning_of};
 ghost use Rattle.goal_space.specs.declared.goals.GoalKind.TheVariants.{Exp, Imp};
 ghost use Rattle.job_turns.specs.Searches.{IsBoardOf, IsSeat, HasRight};
-ghost use Rattle.job_turns.specs.Works.{WorksOn};
+ghost use Rattle.job_turns.specs.Seats.{ShowsOrigin, SeatSettles, SeatWorks};
 
 use crate::expressions::NO_CHOICE;
 use crate::group_members::{ExploredGroup, ImplementedGroup};
@@ -47,7 +41,7 @@ pub(crate) fn explore_group<'q, H: Hints>(
     requires hints { H.capacity hints.old ≡ board.now.key.room }
     ensures seat { IsSeat board.now seat.new }
     ensures right { HasRight board.now seat.new job.new.right }
-    ensures works { WorksOn query.now board.now.key.room (hands seat.old) job.old.right (Exp group) result (hands seat.new) job.new.right }
+    ensures works { SeatWorks query.now board.now seat.old job.old (Exp group) result seat.new job.new }
     ensures hints { H.capacity hints.new ≡ H.capacity hints.old }
 {
     // For the proof: the goal asks for what is found from the group's origin.
@@ -73,7 +67,7 @@ pub(crate) fn implement_group<'q, H: Hints>(
     requires hints { H.capacity hints.old ≡ board.now.key.room }
     ensures seat { IsSeat board.now seat.new }
     ensures right { HasRight board.now seat.new job.new.right }
-    ensures works { WorksOn query.now board.now.key.room (hands seat.old) job.old.right (Imp group) result (hands seat.new) job.new.right }
+    ensures works { SeatWorks query.now board.now seat.old job.old (Imp group) result seat.new job.new }
     ensures hints { H.capacity hints.new ≡ H.capacity hints.old }
 {
     // For the proof: what is found in cells are members, and physical ones are results at logical ones.
@@ -95,7 +89,8 @@ pub(crate) fn implement_group<'q, H: Hints>(
     }
 }
 
-/// The double collection of a group that is explored: whether all its logical members are in cells, and the goals that explore them finished.
+/// The double collection of a group that is explored: whether all its logical members are in cells, and the goals that
+/// explore them finished.
 pub fn settled<'q>(
     query: &Query,
     board: &Board<Rules<'q>>,
@@ -106,9 +101,9 @@ pub fn settled<'q>(
     requires props { (props : AnyProps) × IsProps query.now props }
     requires seat { IsSeat board.now seat.old }
     requires goal { IsGoal query.now (Exp group) }
-    requires origin { ShowsEntry (meaning_of query.now) board.now.key.room (hands seat.old).looks (origin_word query.now group) }
+    requires origin { ShowsOrigin query.now board.now seat.old group }
     ensures seat { IsSeat board.now seat.new }
-    ensures settles { Settles (meaning_of query.now) board.now.key.room (IsLogicalWord query.now group) explored (hands seat.old) (goal_word (Exp group)) result (hands seat.new) }
+    ensures settles { SeatSettles query.now board.now seat.old group result seat.new }
 {
     // For the proof: the goal asks for what is found from the group's origin.
     explorations_are_known();

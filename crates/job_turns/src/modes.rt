@@ -13,7 +13,7 @@ ghost use Rattle.goal_space.specs.Entries.{NamesGoal};
 ghost use Rattle.goal_space.specs.Answers.{IsAnswerTo};
 ghost use Rattle.goal_space.specs.declared.goals.GoalKind.TheVariants.{OptE};
 ghost use Rattle.job_turns.specs.Searches.{IsBoardOf, IsSeat, HasRight};
-ghost use Rattle.job_turns.specs.Works.{WorksOn};
+ghost use Rattle.job_turns.specs.Seats.{SeatWorks};
 ghost use Rattle.job_turns.specs.Choices.{Chooses, IsNative, IsAskedByChild, IsGoalAsked, IsGoalIn, IsBestIn};
 
 use crate::choice::{Choice, await_choice, progress_of};
@@ -59,8 +59,8 @@ pub(crate) fn choose_mode<'q, H: Hints>(
     requires hints { H.capacity hints.old ≡ board.now.key.room }
     ensures seat { IsSeat board.now seat.new }
     ensures right { HasRight board.now seat.new job.new.right }
-    ensures works { WorksOn query.now board.now.key.room (hands seat.old) job.old.right
-        (OptE expr wanted) result (hands seat.new) job.new.right }
+    ensures works { SeatWorks query.now board.now seat.old job.old
+        (OptE expr wanted) result seat.new job.new }
     ensures hints { H.capacity hints.new ≡ H.capacity hints.old }
 {
     // For the proof: the goal's word says what its children are.

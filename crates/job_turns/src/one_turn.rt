@@ -7,7 +7,7 @@ ghost use Rattle.goal_board.specs.Seats.{hands};
 ghost use Rattle.goal_space.specs.Entries.{NamesGoal};
 ghost use Rattle.goal_space.specs.declared.goals.GoalKind.{GoalKind as Kind};
 ghost use Rattle.job_turns.specs.Searches.{IsBoardOf, IsSeat, HasRight};
-ghost use Rattle.job_turns.specs.Works.{WorksOn};
+ghost use Rattle.job_turns.specs.Seats.{SeatWorks};
 ghost use Rattle.job_turns.specs.Turns.{TurnsGoal};
 
 use crate::expressions::{explore_expression, implement_expression};
@@ -23,8 +23,8 @@ use query_core::{Goal, Query};
 use request_props::Props;
 use xform_rules::members_are_known;
 
-/// One turn of the job whose goal was claimed: it finishes the goal, or suspends it with a wait, or finds no cell for an entry. The
-/// worker's number is below 64. It claims no other goal.
+/// One turn of the job whose goal was claimed: it finishes the goal, or suspends it with a wait, or finds no cell for an
+/// entry. The worker's number is below 64. It claims no other goal.
 pub fn turn<'q, H: Hints>(
     query: &Query,
     props: &Props,
@@ -42,7 +42,8 @@ pub fn turn<'q, H: Hints>(
     requires worker { worker < 64 }
     requires hints { H.capacity hints.old ≡ board.now.key.room }
     ensures seat { IsSeat board.now seat.new }
-    ensures turns { TurnsGoal query.now board.now.key.room (hands seat.old) right worker result (hands seat.new) }
+    ensures turns { TurnsGoal query.now board.now.key.room (hands seat.old) right worker
+        result (hands seat.new) }
     ensures hints { H.capacity hints.new ≡ H.capacity hints.old }
 {
     let mut job = Job::of(right);
@@ -92,7 +93,7 @@ fn work<'q, H: Hints>(
     requires hints { H.capacity hints.old ≡ board.now.key.room }
     ensures seat { IsSeat board.now seat.new }
     ensures right { HasRight board.now seat.new job.new.right }
-    ensures works { WorksOn query.now board.now.key.room (hands seat.old) job.old.right goal result (hands seat.new) job.new.right }
+    ensures works { SeatWorks query.now board.now seat.old job.old goal result seat.new job.new }
     ensures hints { H.capacity hints.new ≡ H.capacity hints.old }
 {
     match goal {

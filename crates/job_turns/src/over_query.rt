@@ -2,12 +2,9 @@
 #![tactic(auto)]
 
 ghost use Rattle.std.specs.Prelude.{◌≡◌, ℕ, Some};
-ghost use Rattle.goal_board.specs.Seats.{hands};
-ghost use Rattle.board_moves.specs.Moves.{Awaits};
-ghost use Rattle.goal_space.specs.Words.{goal_word};
-ghost use Rattle.goal_rules.specs.Meaning.{meaning_of};
 ghost use Rattle.job_turns.specs.Searches.{IsBoardOf, IsSeat, HasRight};
-ghost use Rattle.job_turns.specs.Works.{IsChildOf, IsOneOf, AwaitsGoals};
+ghost use Rattle.job_turns.specs.Works.{IsChildOf, IsOneOf};
+ghost use Rattle.job_turns.specs.Seats.{AreChildrenOf, SeatAwaitsOne, SeatAwaits};
 ghost use Rattle.goal_space.specs.declared.goals.GoalKind.{GoalKind as Kind};
 
 use crate::laws::words_are_known;
@@ -33,7 +30,7 @@ pub(crate) fn await_goal<'q, H: Hints>(
     requires hints { H.capacity hints.old ≡ board.now.key.room }
     ensures seat { IsSeat board.now seat.new }
     ensures right { HasRight board.now seat.new job.new.right }
-    ensures awaits { Awaits (meaning_of query.now) board.now.key.room (hands seat.old) job.old.right (goal_word child) result (hands seat.new) job.new.right }
+    ensures awaits { SeatAwaitsOne query.now board.now seat.old job.old child result seat.new job.new }
     ensures hints { H.capacity hints.new ≡ H.capacity hints.old }
 {
     // For the proof: a child of a goal has a word.
@@ -53,11 +50,12 @@ pub(crate) fn await_both<'q, H: Hints>(
     requires board { IsBoardOf query.now board.now }
     requires seat { IsSeat board.now seat.old }
     requires right { HasRight board.now seat.old job.old.right }
-    requires children { (child : Kind) → IsOneOf children child → IsChildOf query.now job.old.right.goal child }
+    requires children { AreChildrenOf query.now job.old.right.goal (IsOneOf children) }
     requires hints { H.capacity hints.old ≡ board.now.key.room }
     ensures seat { IsSeat board.now seat.new }
     ensures right { HasRight board.now seat.new job.new.right }
-    ensures awaits { AwaitsGoals query.now board.now.key.room (hands seat.old) job.old.right (IsOneOf children) result (hands seat.new) job.new.right }
+    ensures awaits { SeatAwaits query.now board.now seat.old job.old
+        (IsOneOf children) result seat.new job.new }
     ensures hints { H.capacity hints.new ≡ H.capacity hints.old }
 {
     let (first, second) = children;
@@ -83,7 +81,8 @@ pub(crate) fn await_if<'q, H: Hints>(
     requires hints { H.capacity hints.old ≡ board.now.key.room }
     ensures seat { IsSeat board.now seat.new }
     ensures right { HasRight board.now seat.new job.new.right }
-    ensures awaits { AwaitsGoals query.now board.now.key.room (hands seat.old) job.old.right (λ goal. child ≡ Some goal) result (hands seat.new) job.new.right }
+    ensures awaits { SeatAwaits query.now board.now seat.old job.old
+        (λ goal. child ≡ Some goal) result seat.new job.new }
     ensures hints { H.capacity hints.new ≡ H.capacity hints.old }
 {
     match child {

@@ -16,7 +16,8 @@ ghost use Rattle.goal_space.specs.declared.goals.GoalKind.TheVariants.{Xf};
 ghost use Rattle.goal_rules.specs.Meaning.{meaning_of};
 ghost use Rattle.job_turns.specs.Searches.{IsBoardOf, IsSeat, HasRight};
 ghost use Rattle.job_turns.specs.Results.{IsBroughtAt, IsBroughtWith, IsBroughtFrom, IsLeftOf};
-ghost use Rattle.job_turns.specs.Works.{IsAskedOf, IsOneOfGroups, IsOriginOf, PutsMembers, WorksOn};
+ghost use Rattle.job_turns.specs.Works.{IsAskedOf, IsOneOfGroups, IsOriginOf};
+ghost use Rattle.job_turns.specs.Seats.{AsksForAll, SeatPuts, SeatWorks};
 
 use crate::expressions::NO_CHOICE;
 use crate::group_members::ExploredGroup;
@@ -31,7 +32,8 @@ use xform_rules::{
     Rule, members_are_candidates, result_at, results_are_candidates, results_are_known,
 };
 
-/// Puts in a member that the goal asks for, with the origins of the groups that it stands on. False where one found every cell taken.
+/// Puts in a member that the goal asks for, with the origins of the groups that it stands on. False where one found
+/// every cell taken.
 pub(crate) fn put_brought<'q>(
     query: &Query,
     board: &Board<Rules<'q>>,
@@ -43,10 +45,10 @@ pub(crate) fn put_brought<'q>(
     requires seat { IsSeat board.now seat.old }
     requires right { HasRight board.now seat.old job.now.right }
     requires candidate { IsCandidate query.now e }
-    requires asked { (other : Parts) → IsBroughtBy query.now e other → IsAskedOf query.now job.now.right.goal other }
+    requires asked { AsksForAll query.now job.now.right.goal (IsBroughtBy query.now e) }
     ensures seat { IsSeat board.now seat.new }
     ensures right { HasRight board.now seat.new job.now.right }
-    ensures puts { PutsMembers query.now board.now.key.room (hands seat.old) job.now.right (IsBroughtBy query.now e) result (hands seat.new) }
+    ensures puts { SeatPuts query.now board.now seat.old job.now (IsBroughtBy query.now e) result seat.new }
 {
     // For the proof: a candidate has a word, and so have the origins of its children's groups.
     candidates_are_known();
@@ -72,10 +74,12 @@ fn put_origin<'q>(
     requires seat { IsSeat board.now seat.old }
     requires right { HasRight board.now seat.old job.now.right }
     requires packed { (key : Key) → group ≡ Some key → IsPacked (origin_of query.now key) }
-    requires asked { (key : Key) → group ≡ Some key → IsAskedOf query.now job.now.right.goal (origin_of query.now key) }
+    requires asked { (key : Key) → group ≡ Some key →
+        IsAskedOf query.now job.now.right.goal (origin_of query.now key) }
     ensures seat { IsSeat board.now seat.new }
     ensures right { HasRight board.now seat.new job.now.right }
-    ensures puts { PutsMembers query.now board.now.key.room (hands seat.old) job.now.right (IsOriginOf query.now group) result (hands seat.new) }
+    ensures puts { SeatPuts query.now board.now seat.old job.now
+        (IsOriginOf query.now group) result seat.new }
 {
     match group {
         Some(key) => put_member(query, board, seat, job, query.origin_of_group(key)),
@@ -98,7 +102,7 @@ fn put_member<'q>(
     requires asked { IsAskedOf query.now job.now.right.goal e }
     ensures seat { IsSeat board.now seat.new }
     ensures right { HasRight board.now seat.new job.now.right }
-    ensures puts { PutsMembers query.now board.now.key.room (hands seat.old) job.now.right (λ other. other ≡ e) result (hands seat.new) }
+    ensures puts { SeatPuts query.now board.now seat.old job.now (λ other. other ≡ e) result seat.new }
 {
     match put(board, seat, Expr::make(e).0) {
         Inserted::Full => false,
@@ -117,8 +121,8 @@ fn groups_below(e: ExprParts) -> (Option<KeyParts>, Option<KeyParts>)
     }
 }
 
-/// The results of a rule at an expression are there once they are put in, each with the origins of the groups that it stands on. A rule
-/// that binds a member waits for the exploration of the left child's group.
+/// The results of a rule at an expression are there once they are put in, each with the origins of the groups that it
+/// stands on. A rule that binds a member waits for the exploration of the left child's group.
 pub(crate) fn apply_rule<'q, H: Hints>(
     query: &Query,
     board: &Board<Rules<'q>>,
@@ -135,10 +139,11 @@ pub(crate) fn apply_rule<'q, H: Hints>(
     requires hints { H.capacity hints.old ≡ board.now.key.room }
     ensures seat { IsSeat board.now seat.new }
     ensures right { HasRight board.now seat.new job.new.right }
-    ensures works { WorksOn query.now board.now.key.room (hands seat.old) job.old.right (Xf e rule) result (hands seat.new) job.new.right }
+    ensures works { SeatWorks query.now board.now seat.old job.old (Xf e rule) result seat.new job.new }
     ensures hints { H.capacity hints.new ≡ H.capacity hints.old }
 {
-    // For the proof: a rule has results with a bound member only where it binds one, and that is of the left child's group.
+    // For the proof: a rule has results with a bound member only where it binds one, and that is of the left child's
+    // group.
     words_are_known();
     goals_are_known();
     results_are_known();
@@ -154,7 +159,8 @@ pub(crate) fn apply_rule<'q, H: Hints>(
     }
 }
 
-// Puts in the results of a rule at an expression, with a bound member or without one. False where one found every cell taken.
+// Puts in the results of a rule at an expression, with a bound member or without one. False where one found every
+// cell taken.
 fn put_results<'q>(
     query: &Query,
     board: &Board<Rules<'q>>,
@@ -169,10 +175,11 @@ fn put_results<'q>(
     requires right { HasRight board.now seat.old job.now.right }
     requires e { IsCandidate query.now e }
     requires bound { IfSome bound (IsCandidate query.now) }
-    requires asked { (other : Parts) → IsBroughtWith query.now rule e bound other → IsAskedOf query.now job.now.right.goal other }
+    requires asked { AsksForAll query.now job.now.right.goal (IsBroughtWith query.now rule e bound) }
     ensures seat { IsSeat board.now seat.new }
     ensures right { HasRight board.now seat.new job.now.right }
-    ensures puts { PutsMembers query.now board.now.key.room (hands seat.old) job.now.right (IsBroughtWith query.now rule e bound) result (hands seat.new) }
+    ensures puts { SeatPuts query.now board.now seat.old job.now
+        (IsBroughtWith query.now rule e bound) result seat.new }
 {
     // For the proof: a rule has no more results than its limit.
     results_are_candidates();
@@ -200,10 +207,11 @@ fn put_result<'q>(
     requires right { HasRight board.now seat.old job.now.right }
     requires e { IsCandidate query.now e }
     requires bound { IfSome bound (IsCandidate query.now) }
-    requires asked { (other : Parts) → IsBroughtAt query.now rule e bound n other → IsAskedOf query.now job.now.right.goal other }
+    requires asked { AsksForAll query.now job.now.right.goal (IsBroughtAt query.now rule e bound n) }
     ensures seat { IsSeat board.now seat.new }
     ensures right { HasRight board.now seat.new job.now.right }
-    ensures puts { PutsMembers query.now board.now.key.room (hands seat.old) job.now.right (IsBroughtAt query.now rule e bound n) result (hands seat.new) }
+    ensures puts { SeatPuts query.now board.now seat.old job.now
+        (IsBroughtAt query.now rule e bound n) result seat.new }
 {
     // For the proof: a result of a candidate is one, and there is one of each number.
     results_are_candidates();
@@ -247,7 +255,7 @@ fn bind_members<'q, H: Hints>(
     requires hints { H.capacity hints.old ≡ board.now.key.room }
     ensures seat { IsSeat board.now seat.new }
     ensures right { HasRight board.now seat.new job.new.right }
-    ensures works { WorksOn query.now board.now.key.room (hands seat.old) job.old.right (Xf e rule) result (hands seat.new) job.new.right }
+    ensures works { SeatWorks query.now board.now seat.old job.old (Xf e rule) result seat.new job.new }
     ensures hints { H.capacity hints.new ≡ H.capacity hints.old }
 {
     // For the proof: a bound member is a logical one of the left child's group.
@@ -290,7 +298,8 @@ fn put_with_members<'q>(
         IsBroughtWith query.now rule e (Some bound) other → IsAskedOf query.now job.now.right.goal other }
     ensures seat { IsSeat board.now seat.new }
     ensures right { HasRight board.now seat.new job.now.right }
-    ensures puts { PutsMembers query.now board.now.key.room (hands seat.old) job.now.right (IsBroughtFrom query.now rule e group) result (hands seat.new) }
+    ensures puts { SeatPuts query.now board.now seat.old job.now
+        (IsBroughtFrom query.now rule e group) result seat.new }
 {
     // For the proof: what is found in cells are members.
     entries_are_known();

@@ -1,5 +1,5 @@
 -- A child of a goal of the query is an entry.
-use Rattle.std.proofs.Common.{ℕ, inr, refl, sym, subst}
+use Rattle.std.proofs.Common.{inr, sym, subst}
 use Rattle.query_core.specs.declared.query.Query.{Query}
 use Rattle.goal_board.specs.Seats.{hands}
 use Rattle.board_moves.proofs.OneChild.{right_put}

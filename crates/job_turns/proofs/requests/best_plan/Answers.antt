@@ -1,5 +1,5 @@
 -- First the enforcers, then the members, which together are all nodes that may serve.
-use Rattle.std.proofs.Common.{◌⊎◌, ℕ, sym, subst, inl, inr, ⊎_elim}
+use Rattle.std.proofs.Common.{ℕ, sym, subst, inl, inr, ⊎_elim}
 use Rattle.best_answers.specs.Best.{IsBest}
 use Rattle.best_answers.specs.Nodes.{all_nodes}
 use Rattle.board_moves.proofs.Shown.{still_finished}

@@ -1,5 +1,5 @@
 -- The group's implementation was awaited, and then its members and the enforcers.
-use Rattle.std.proofs.Common.{◌≡◌, ℕ, None, Some, refl, sym, subst, inl, arith}
+use Rattle.std.proofs.Common.{◌≡◌, ℕ, refl, sym, subst, inl}
 use Rattle.best_answers.specs.Best.{IsBest}
 use Rattle.best_answers.specs.Nodes.{all_nodes}
 use Rattle.board_moves.specs.declared.progress.Progress.TheVariants as progress
