@@ -1,3 +1,4 @@
+pub mod WrittenNumbers
 pub mod GivenNumbers
 pub mod RuleNames
 pub mod OptionNames

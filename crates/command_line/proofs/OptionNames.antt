@@ -9,10 +9,13 @@ use Rattle.command_line.proofs.RuleNames.{found_passes}
 
 -- an option's word is the word of that option
 pub option_of_own_word : (option : OptionName) → option_named (option_word option) ≡ Some option
+option_of_own_word names.Workers = refl
+option_of_own_word names.Capacity = refl
 option_of_own_word names.Root = refl
 option_of_own_word names.Off = refl
 option_of_own_word names.Memo = refl
 option_of_own_word names.Trace = refl
+option_of_own_word names.ByWorker = refl
 
 -- an option that is found has this word
 pub word_of_found : (word : List ℕ) (option : OptionName) → option_named word ≡ Some option → option_word option ≡ word

@@ -1,7 +1,8 @@
 -- Words are read as the command that they spell, and as no other.
-use Rattle.std.proofs.Common.{◌≡◌, ℕ, ◌==◌, Bool, true, false, IsTrue, cond, List, [], ◌∷◌, ◌++◌, Option, None, Some, option_map, codes, refl, sym, ap, ◌∙◌, subst}
+use Rattle.std.proofs.Common.{◌≡◌, ℕ, ◌==◌, Bool, true, false, IsTrue, cond, List, [], ◌∷◌, ◌++◌, Option, None, Some, option_map, codes, decimal, refl, sym, ap, ◌∙◌, subst, arith}
 use Rattle.std.specs.Option.{option_and_then, option_map_or}
 use Rattle.std.proofs.lemmas.Bool.{false≢true}
+use Rattle.command_line.specs.Numbers.{number_within}
 use Rattle.command_line.specs.Rules.{rules_word}
 use Rattle.command_line.specs.Options.{option_word, name_of, root_word, IsValue}
 use Rattle.command_line.specs.Command.{PlanCommand, Piece, name, setting, is_positional, IsSpelled, a_name, an_option, AreSpelled, no_more, one_more, command_from, IsSpelledOut}
@@ -12,6 +13,7 @@ use Rattle.command_line.specs.declared.choices.Setting.{Setting}
 use Rattle.command_line.specs.declared.choices.Setting.TheVariants as settings
 use Rattle.command_line.proofs.OptionNames.{word_of_found}
 use Rattle.command_line.proofs.FirstPieces.{valued_first, alone_first, of_plan}
+use Rattle.command_line.proofs.WrittenNumbers.{number_read, number_spelled}
 use Rattle.command_line.proofs.Values.{is_text, root_read, root_spelled, off_read, off_spelled}
 
 -- ---- what is spelled is read
@@ -39,12 +41,17 @@ by_itself option given back pieces takes read rest = alone_first (option_word op
 
 -- an option is read as it is spelled
 option_read : (given : Setting) (value back : List (List ℕ)) (pieces : List Piece) → IsValue given value → pieces_of back ≡ Some pieces → pieces_of ((option_word (name_of given) ∷ value) ++ back) ≡ Some (setting given ∷ pieces)
+option_read (settings.Workers number) value back pieces is rest =
+    rw is.word (with_its_value names.Workers (settings.Workers number) (decimal number) back pieces refl (ap (λ o. option_map setting (option_map settings.Workers o)) (number_read 1 64 number is.within (omega (arith, is.within.to)))) rest)
+option_read (settings.Capacity number) value back pieces is rest =
+    rw is.word (with_its_value names.Capacity (settings.Capacity number) (decimal number) back pieces refl (ap (λ o. option_map setting (option_map settings.Capacity o)) (number_read 64 1048576 number is.within (omega (arith, is.within.to)))) rest)
 option_read (settings.Root dist) value back pieces is rest =
     rw is (with_its_value names.Root (settings.Root dist) (root_word dist) back pieces refl (ap (λ o. option_map setting (option_map settings.Root o)) (root_read dist)) rest)
 option_read (settings.Off set) value back pieces is rest =
     rw is.word (with_its_value names.Off (settings.Off set) (rules_word is.some) back pieces refl (ap (λ o. option_map setting (option_map settings.Off o)) (off_read is.some is.may ∙ ap Some (sym is.is_set))) rest)
 option_read settings.Memo value back pieces is rest = rw is (by_itself names.Memo settings.Memo back pieces refl refl rest)
 option_read settings.Trace value back pieces is rest = rw is (by_itself names.Trace settings.Trace back pieces refl refl rest)
+option_read settings.ByWorker value back pieces is rest = rw is (by_itself names.ByWorker settings.ByWorker back pieces refl refl rest)
 
 -- the first piece's words are read as that piece
 piece_read : (piece : Piece) (pieces : List Piece) (front back : List (List ℕ)) → IsSpelled piece front → pieces_of back ≡ Some pieces → pieces_of (front ++ back) ≡ Some (piece ∷ pieces)
@@ -75,10 +82,13 @@ front_parts (Some p) (Some ps) pieces is = record { piece = p; more = ps; is_fir
 
 -- an option that is read without a value
 alone_read : (option : OptionName) (given : Setting) → alone option ≡ Some given → IsSpelled (setting given) (option_word option ∷ [])
+alone_read names.Workers given is = cc
+alone_read names.Capacity given is = cc
 alone_read names.Root given is = cc
 alone_read names.Off given is = cc
 alone_read names.Memo given is = let same : settings.Memo ≡ given = cc in subst (λ g. IsSpelled (setting g) (option_word names.Memo ∷ [])) same (an_option settings.Memo [] refl)
 alone_read names.Trace given is = let same : settings.Trace ≡ given = cc in subst (λ g. IsSpelled (setting g) (option_word names.Trace ∷ [])) same (an_option settings.Trace [] refl)
+alone_read names.ByWorker given is = let same : settings.ByWorker ≡ given = cc in subst (λ g. IsSpelled (setting g) (option_word names.ByWorker ∷ [])) same (an_option settings.ByWorker [] refl)
 
 -- what a value makes of an option
 value_parts : {V : Type 0} (make : V → Setting) (read : Option V) (given : Setting) → option_map make read ≡ Some given → (v : V) × (read ≡ Some v) × (make v ≡ given)
@@ -87,6 +97,12 @@ value_parts make (Some v) given is = (v, refl, let same : make v ≡ given = cc 
 
 -- an option that is read with a value
 valued_read : (option : OptionName) (value : List ℕ) (given : Setting) → with_value option value ≡ Some given → IsSpelled (setting given) (option_word option ∷ value ∷ [])
+valued_read names.Workers value given is =
+    let (number, read, same) = value_parts settings.Workers (number_within 1 64 value) given is in
+    subst (λ g. IsSpelled (setting g) (option_word names.Workers ∷ value ∷ [])) same (an_option (settings.Workers number) (value ∷ []) (number_spelled 1 64 value number read))
+valued_read names.Capacity value given is =
+    let (number, read, same) = value_parts settings.Capacity (number_within 64 1048576 value) given is in
+    subst (λ g. IsSpelled (setting g) (option_word names.Capacity ∷ value ∷ [])) same (an_option (settings.Capacity number) (value ∷ []) (number_spelled 64 1048576 value number read))
 valued_read names.Root value given is =
     let (dist, read, same) = value_parts settings.Root (root_of value) given is in
     subst (λ g. IsSpelled (setting g) (option_word names.Root ∷ value ∷ [])) same (an_option (settings.Root dist) (value ∷ []) (ap (λ w. w ∷ []) (root_spelled value dist read)))
@@ -95,6 +111,7 @@ valued_read names.Off value given is =
     subst (λ g. IsSpelled (setting g) (option_word names.Off ∷ value ∷ [])) same (an_option (settings.Off set) (value ∷ []) (off_spelled value set read))
 valued_read names.Memo value given is = cc
 valued_read names.Trace value given is = cc
+valued_read names.ByWorker value given is = cc
 
 -- the setting in a piece that was read
 piece_parts : (read : Option Setting) (piece : Piece) → option_map setting read ≡ Some piece → (given : Setting) × (read ≡ Some given) × (setting given ≡ piece)

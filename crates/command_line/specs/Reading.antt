@@ -6,6 +6,7 @@ use Rattle.query_core.specs.declared.options.RootDist.{RootDist}
 use Rattle.query_core.specs.declared.options.RootDist.TheVariants.{One, Spread}
 use Rattle.xform_rules.specs.Rules.{all_rules, rule_name}
 use Rattle.xform_rules.specs.declared.rules.Rule.{Rule}
+use Rattle.command_line.specs.Numbers.{number_within}
 use Rattle.command_line.specs.Rules.{may_be_off, off_set}
 use Rattle.command_line.specs.Options.{option_word}
 use Rattle.command_line.specs.Command.{PlanCommand, Piece, name, setting, is_positional, command_from}
@@ -41,7 +42,7 @@ off_of word = option_and_then set_where_off (rules_of (slice_split (λ byte. byt
 
 -- all options
 abbrev pub all_options : List OptionName
-all_options = names.Root ∷ names.Off ∷ names.Memo ∷ names.Trace ∷ []
+all_options = names.Workers ∷ names.Capacity ∷ names.Root ∷ names.Off ∷ names.Memo ∷ names.Trace ∷ names.ByWorker ∷ []
 
 -- the option that the word names
 abbrev pub option_named : List ℕ → Option OptionName
@@ -49,24 +50,33 @@ option_named word = find (λ option. bytes_eq word (option_word option)) all_opt
 
 -- a value stands behind the option
 abbrev pub takes_value : OptionName → Bool
+takes_value names.Workers = true
+takes_value names.Capacity = true
 takes_value names.Root = true
 takes_value names.Off = true
 takes_value names.Memo = false
 takes_value names.Trace = false
+takes_value names.ByWorker = false
 
 -- the setting of an option alone
 abbrev pub alone : OptionName → Option Setting
+alone names.Workers = None
+alone names.Capacity = None
 alone names.Root = None
 alone names.Off = None
 alone names.Memo = Some settings.Memo
 alone names.Trace = Some settings.Trace
+alone names.ByWorker = Some settings.ByWorker
 
 -- the setting of an option and the word behind it
 abbrev pub with_value : OptionName → List ℕ → Option Setting
+with_value names.Workers word = option_map settings.Workers (number_within 1 64 word)
+with_value names.Capacity word = option_map settings.Capacity (number_within 64 1048576 word)
 with_value names.Root word = option_map settings.Root (root_of word)
 with_value names.Off word = option_map settings.Off (off_of word)
 with_value names.Memo word = None
 with_value names.Trace word = None
+with_value names.ByWorker word = None
 
 -- ---- pieces
 

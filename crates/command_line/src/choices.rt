@@ -7,43 +7,58 @@ use query_core::{Options, RootDist};
 /// The options of `plan`.
 #[derive(Clone, Copy, Debug, PartialEq, Eq)]
 pub enum OptionName {
+    Workers,
+    Capacity,
     Root,
     Off,
     Memo,
     Trace,
+    ByWorker,
 }
 
 /// What an option asks for.
 #[derive(Clone, Copy, Debug)]
 pub enum Setting {
+    Workers(u32),
+    Capacity(u32),
     Root(RootDist),
     /// Rules that are off, as the bits of their numbers.
     Off(u32),
     Memo,
     Trace,
+    ByWorker,
 }
 
 /// What a command chooses by its options.
 #[derive(Clone, Copy, Debug)]
 pub struct Choices {
+    /// How many workers search.
+    pub workers: u32,
+    /// How many members and goals there is room for.
+    pub capacity: u32,
     pub options: Options,
     /// Whether the memo is printed behind the plan.
     pub memo: bool,
     /// Whether the goals are printed.
     pub trace: bool,
+    /// Whether the worker that finished each goal is printed.
+    pub by_worker: bool,
 }
 
 impl OptionName {
-    /// The number of the option among all: 0 to 3.
+    /// The number of the option among all: 0 to 6.
     pub fn number(self) -> u32
         ensures number { result ≡ option_number self }
-        ensures small { result < 4 }
+        ensures small { result < 7 }
     {
         match self {
-            OptionName::Root => 0,
-            OptionName::Off => 1,
-            OptionName::Memo => 2,
-            OptionName::Trace => 3,
+            OptionName::Workers => 0,
+            OptionName::Capacity => 1,
+            OptionName::Root => 2,
+            OptionName::Off => 3,
+            OptionName::Memo => 4,
+            OptionName::Trace => 5,
+            OptionName::ByWorker => 6,
         }
     }
 }
@@ -54,10 +69,13 @@ impl Setting {
         ensures { result ≡ option_of self }
     {
         match self {
+            Setting::Workers(_) => OptionName::Workers,
+            Setting::Capacity(_) => OptionName::Capacity,
             Setting::Root(_) => OptionName::Root,
             Setting::Off(_) => OptionName::Off,
             Setting::Memo => OptionName::Memo,
             Setting::Trace => OptionName::Trace,
+            Setting::ByWorker => OptionName::ByWorker,
         }
     }
 }
@@ -69,12 +87,15 @@ impl Choices {
         ensures allowed { AreChoices result }
     {
         Choices {
+            workers: 1,
+            capacity: 131_072,
             options: Options {
                 root: RootDist::One,
                 off: 0,
             },
             memo: false,
             trace: false,
+            by_worker: false,
         }
     }
 
@@ -86,6 +107,8 @@ impl Choices {
         ensures allowed { AreChoices result }
     {
         match setting {
+            Setting::Workers(workers) => Choices { workers, ..self },
+            Setting::Capacity(capacity) => Choices { capacity, ..self },
             Setting::Root(root) => Choices {
                 options: Options {
                     root,
@@ -103,6 +126,10 @@ impl Choices {
             Setting::Memo => Choices { memo: true, ..self },
             Setting::Trace => Choices {
                 trace: true,
+                ..self
+            },
+            Setting::ByWorker => Choices {
+                by_worker: true,
                 ..self
             },
         }

@@ -6,6 +6,7 @@ mod command;
 mod draft;
 mod drafting;
 mod laws;
+mod numbers;
 mod off_rules;
 mod off_set;
 mod options;

@@ -5,6 +5,7 @@ ghost use Rattle.command_line.specs.declared.choices.OptionName.{OptionName};
 ghost use Rattle.command_line.specs.Reading.{alone, option_named, root_of, takes_value as takes, with_value};
 
 use crate::choices::{OptionName, Setting};
+use crate::numbers::number_within;
 use crate::off_rules::read_off;
 use query_core::RootDist;
 
@@ -20,10 +21,13 @@ fn spelled(word: &str) -> Option<OptionName>
     ensures only { (option : OptionName) → option_word option ≡ word.now → result ≡ Some option }
 {
     match word {
+        "--workers" => Some(OptionName::Workers),
+        "--capacity" => Some(OptionName::Capacity),
         "--root" => Some(OptionName::Root),
         "--off" => Some(OptionName::Off),
         "--memo" => Some(OptionName::Memo),
         "--trace" => Some(OptionName::Trace),
+        "--by-worker" => Some(OptionName::ByWorker),
         _ => None,
     }
 }
@@ -34,10 +38,13 @@ impl OptionName {
         ensures { result ≡ takes self }
     {
         match self {
+            OptionName::Workers => true,
+            OptionName::Capacity => true,
             OptionName::Root => true,
             OptionName::Off => true,
             OptionName::Memo => false,
             OptionName::Trace => false,
+            OptionName::ByWorker => false,
         }
     }
 
@@ -47,10 +54,13 @@ impl OptionName {
         ensures allowed { IfSome result IsAllowed }
     {
         match self {
+            OptionName::Workers => None,
+            OptionName::Capacity => None,
             OptionName::Root => None,
             OptionName::Off => None,
             OptionName::Memo => Some(Setting::Memo),
             OptionName::Trace => Some(Setting::Trace),
+            OptionName::ByWorker => Some(Setting::ByWorker),
         }
     }
 
@@ -60,11 +70,34 @@ impl OptionName {
         ensures allowed { IfSome result IsAllowed }
     {
         match self {
+            OptionName::Workers => workers(value),
+            OptionName::Capacity => capacity(value),
             OptionName::Root => root(value),
             OptionName::Off => off(value),
             OptionName::Memo => None,
             OptionName::Trace => None,
+            OptionName::ByWorker => None,
         }
+    }
+}
+
+fn workers(value: &str) -> Option<Setting>
+    ensures setting { result ≡ with_value OptionName.Workers value.now }
+    ensures allowed { IfSome result IsAllowed }
+{
+    match number_within(value, 1, 64) {
+        Some(number) => Some(Setting::Workers(number as u32)),
+        None => None,
+    }
+}
+
+fn capacity(value: &str) -> Option<Setting>
+    ensures setting { result ≡ with_value OptionName.Capacity value.now }
+    ensures allowed { IfSome result IsAllowed }
+{
+    match number_within(value, 64, 1_048_576) {
+        Some(number) => Some(Setting::Capacity(number as u32)),
+        None => None,
     }
 }
 

@@ -18,7 +18,7 @@ fn words_of(alloc: Global, line: &str) -> Result<Vec<String>, AllocError> {
 fn each_option_is_read(rt: HostRuntime) -> Result<(), Fail> {
     let words = words_of(
         rt.alloc(),
-        "plan c.json --root spread q.sql --off JoinCommute+AggToHash --memo --trace",
+        "plan c.json --root spread --workers 64 q.sql --off JoinCommute+AggToHash --memo --capacity 1048576 --trace --by-worker",
     )?;
     let command = read_command(&words).expect(&rt, "a command");
     let choices = command.choices;
@@ -31,7 +31,9 @@ fn each_option_is_read(rt: HostRuntime) -> Result<(), Fail> {
             off: 4100
         }
     );
-    assert!(rt; choices.memo && choices.trace);
+    assert_eq!(rt; choices.workers, 64);
+    assert_eq!(rt; choices.capacity, 1_048_576);
+    assert!(rt; choices.memo && choices.trace && choices.by_worker);
     Ok(())
 }
 
@@ -46,7 +48,9 @@ fn what_is_not_given_is_usual(rt: HostRuntime) -> Result<(), Fail> {
             off: 0
         }
     );
-    assert!(rt; !choices.memo && !choices.trace);
+    assert_eq!(rt; choices.workers, 1);
+    assert_eq!(rt; choices.capacity, 131_072);
+    assert!(rt; !choices.memo && !choices.trace && !choices.by_worker);
     Ok(())
 }
 
@@ -56,7 +60,18 @@ fn other_words_are_no_command(rt: HostRuntime) -> Result<(), Fail> {
         "",
         "plan c.json",
         "plan c.json q.sql more",
-        "plan c.json q.sql --workers 4",
+        "plan c.json q.sql --workers",
+        "plan c.json q.sql --workers 0",
+        "plan c.json q.sql --workers 65",
+        "plan c.json q.sql --workers=4",
+        "plan c.json q.sql --workers 04",
+        "plan c.json q.sql --workers +4",
+        "plan c.json q.sql --workers 4 --workers 4",
+        "plan c.json q.sql --workers 18446744073709551620",
+        "plan c.json q.sql --capacity 63",
+        "plan c.json q.sql --capacity 064",
+        "plan c.json q.sql --capacity 1048577",
+        "plan c.json q.sql --by-worker --by-worker",
         "plan c.json q.sql --root",
         "plan c.json q.sql --root=one",
         "plan c.json q.sql --off ExpandNAry",
