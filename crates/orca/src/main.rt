@@ -1,7 +1,7 @@
 //! The program `orca`: hands the words, the host's files and standard output to the top call.
 #![tactic(auto)]
 
-use orca_cli::{Status, orca_run, put_usage};
+use orca_cli::{RunNote, Status, orca_run, put_usage};
 use orca_io::{FileShelf, NoGate, StdSink};
 use std::io::ErrorKind;
 use std::process::ExitCode;
@@ -21,7 +21,16 @@ fn main(rt: HostRuntime) -> ExitCode {
     let status = match words_of(&rt) {
         Ok(words) => {
             let mut shelf = FileShelf::new(&rt);
-            orca_run(&rt, rt.alloc(), &words, &mut shelf, &mut out, &NoGate)
+            let mut note = RunNote::new();
+            orca_run(
+                &rt,
+                rt.alloc(),
+                &words,
+                &mut shelf,
+                &mut out,
+                &NoGate,
+                &mut note,
+            )
         }
         Err(e) if e.kind() == ErrorKind::OutOfMemory => Status::Memory,
         // A word that isn't text is no word of a command.

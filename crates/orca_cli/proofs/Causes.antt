@@ -4,15 +4,20 @@ use Rattle.orca_base.specs.Causes.{Rose}
 use Rattle.query_core.specs.declared.catalog.Catalog.{Catalog}
 use Rattle.query_core.specs.declared.query.Query.{Query}
 use Rattle.catalog_json.specs.Outcome.{reading_of}
+use Rattle.sql_reader.specs.Faults.{IsFirst, IsReading}
+use Rattle.sql_reader.specs.declared.faults.SqlFault.{SqlFault}
+use Rattle.sql_reader.specs.declared.syntax.Select.{Select}
 use Rattle.orca_cli.specs.Asked.{SaysCatalog, IsNoCatalog, Asks, IsRefused}
-use Rattle.orca_cli.specs.Causes.{ReadRose, Holds, IsSettled, Completes, IsRefusal, Refuses}
+use Rattle.job_outcome.specs.Outcomes.{HasMoreEntries, FitsIn}
+use Rattle.orca_cli.specs.Causes.{ReadRose, Holds, HoldsQuery, IsSettled, Completes, IsOverflow, Overflows, IsRefusal, Refuses}
 use Rattle.command_line.specs.Command.{PlanCommand}
 use Rattle.command_line.specs.declared.choices.Choices.{Choices}
-use Rattle.orca_cli.specs.Run.{AreTold, IsAnswer, planned, unplanned, refused, IsEnding, answered, catalog_refused, catalog_unread, query_unread, IsRun, Ends}
+use Rattle.orca_cli.specs.Run.{AreTold, HasRoom, IsSearched, planned, unplanned, too_many, IsAnswer, searched, refused, IsEnding, answered, catalog_refused, catalog_unread, query_unread, IsRun, Ends}
 use Rattle.orca_cli.specs.declared.status.Status.{Status}
 use Rattle.orca_cli.specs.declared.status.Status.TheVariants.{Planned, NoPlan, Usage, QueryRefused, CatalogRefused, TooManyEntries, ReadFault, WriteFault, Memory}
 use Rattle.orca_cli.proofs.Others.{never}
-use Rattle.orca_cli.proofs.Refusals.{OneReading, never_refused}
+use Rattle.orca_cli.proofs.Queries.{OneLinks}
+use Rattle.orca_cli.proofs.Refusals.{OneReading, one_query, never_refused}
 
 -- the usage line is put for words that are no command
 pub usage_cause : (named : Option PlanCommand) (held : List ℕ → Option (List ℕ)) (reads_before reads_after : List ℕ → ℕ) (old new : Option (List ℕ)) (before after : ℕ) (status : Status)
@@ -23,10 +28,14 @@ usage_cause named held reads_before reads_after old new before after status ends
     of_usage None ends = refl
     of_usage (Some command) ends = absurd (never command held reads_before reads_after Usage ends.0 ends.1 tt)
 
--- an answer isn't a read fault
+-- neither a search nor an answer is a read fault
+search_read : (choices : Choices) (query : Query) (status : Status) (text : List ℕ) → IsSearched choices query status text → status ≡ ReadFault → ⊥
+search_read choices query status text (planned is room plan is_plan goes) fault = cc
+search_read choices query status text (unplanned is room impossible goes) fault = cc
+search_read choices query status text (too_many is more line) fault = cc
+
 answer_read : (catalog : Catalog) (choices : Choices) (asked : List ℕ) (status : Status) (text : List ℕ) → IsAnswer catalog choices asked status text → status ≡ ReadFault → ⊥
-answer_read catalog choices asked status text (planned is query asks plan is_plan goes) fault = cc
-answer_read catalog choices asked status text (unplanned is query asks impossible goes) fault = cc
+answer_read catalog choices asked status text (searched query asks is) fault = search_read choices query status text is fault
 answer_read catalog choices asked status text (refused is cause why line) fault = cc
 
 -- a run that ends with a read fault has the count of a file risen
@@ -84,27 +93,57 @@ module _ (command : PlanCommand) (held : List ℕ → Option (List ℕ)) (catalo
   answer_of before after status text no_read (catalog_unread is unread) = absurd (no_read (inl unread.rose))
   answer_of before after status text no_read (query_unread is k offers unread) = absurd (no_read (inr unread.rose))
 
-module _ (one : OneReading) (catalog : Catalog) (choices : Choices) (asked : List ℕ) (status : Status) (text : List ℕ) where
-  -- the answer to a text that asks for a query is a plan or none
-  settled_answer : (q : Query) → Asks catalog choices.options asked q → IsAnswer catalog choices asked status text → IsSettled status
-  settled_answer q asks (planned is query asks_too plan is_plan goes) = subst IsSettled (sym is) tt
-  settled_answer q asks (unplanned is query asks_too impossible goes) = subst IsSettled (sym is) tt
-  settled_answer q asks (refused is cause why line) = absurd (never_refused one catalog choices.options asked q cause asks why)
+-- what the layers below promise: a text has one reading or one fault, a query one list of links, and it has room or too many entries
+pub record OneAnswer : Type 0 where
+  pub reading : OneReading
+  pub links : OneLinks
+  pub room : (q : Query) (cap : ℕ) (members goals : List ℕ) → FitsIn q cap members goals → HasMoreEntries q cap → ⊥
+
+pub one_answer_of : ((text : List ℕ) (a b : Select) → IsReading text a → IsReading text b → a ≡ b) → ((text : List ℕ) (f g : SqlFault) → IsFirst text f → IsFirst text g → f ≡ g)
+    → ((text : List ℕ) (select : Select) (f : SqlFault) → IsReading text select → IsFirst text f → ⊥) → OneLinks
+    → ((q : Query) (cap : ℕ) (members goals : List ℕ) → FitsIn q cap members goals → HasMoreEntries q cap → ⊥) → OneAnswer
+one_answer_of reading fault either links room = record { reading = record { reading = reading; fault = fault; either = either }; links = links; room = room }
+
+-- a query has room, or it has too many entries
+pub room_or_more : OneAnswer → (query : Query) (capacity : ℕ) → HasRoom query capacity → HasMoreEntries query capacity → ⊥
+room_or_more one query capacity room more = one.room query capacity room.members room.goals room.fits more
+
+-- the search of a query with room settles it
+settled_search : OneAnswer → (choices : Choices) (query : Query) (status : Status) (text : List ℕ) → HasRoom query choices.capacity → IsSearched choices query status text → IsSettled status
+settled_search one choices query status text room (planned is has plan is_plan goes) = subst IsSettled (sym is) tt
+settled_search one choices query status text room (unplanned is has impossible goes) = subst IsSettled (sym is) tt
+settled_search one choices query status text room (too_many is more line) = absurd (room_or_more one query choices.capacity room more)
+
+-- the search of a query with too many entries ends for want of room
+overflow_search : OneAnswer → (choices : Choices) (query : Query) (status : Status) (text : List ℕ) → HasMoreEntries query choices.capacity → IsSearched choices query status text → IsOverflow status
+overflow_search one choices query status text more (planned is room plan is_plan goes) = absurd (room_or_more one query choices.capacity room more)
+overflow_search one choices query status text more (unplanned is room impossible goes) = absurd (room_or_more one query choices.capacity room more)
+overflow_search one choices query status text more (too_many is has line) = subst IsOverflow (sym is) tt
+
+module _ (one : OneAnswer) (catalog : Catalog) (choices : Choices) (asked : List ℕ) (status : Status) (text : List ℕ) where
+  -- the answer to a text that asks for a query is the search of this query
+  search_of : (q : Query) → Asks catalog choices.options asked q → IsAnswer catalog choices asked status text → IsSearched choices q status text
+  search_of q asks (searched query asks_too is) = subst (λ r. IsSearched choices r status text) (one_query one.reading catalog choices.options asked one.links query q asks_too.bound asks.bound) is
+  search_of q asks (refused is cause why line) = absurd (never_refused one.reading catalog choices.options asked q cause asks why)
 
   -- the answer to a text that is refused is a refusal
   refusal_answer : (cause : List ℕ) → IsRefused catalog choices.options asked cause → IsAnswer catalog choices asked status text → IsRefusal status
-  refusal_answer cause why (planned is query asks plan is_plan goes) = absurd (never_refused one catalog choices.options asked query cause asks why)
-  refusal_answer cause why (unplanned is query asks impossible goes) = absurd (never_refused one catalog choices.options asked query cause asks why)
+  refusal_answer cause why (searched query asks is) = absurd (never_refused one.reading catalog choices.options asked query cause asks why)
   refusal_answer cause why (refused is other why_too line) = subst IsRefusal (sym is) tt
 
--- files that ask for a query are answered where no count rose
-pub completed : OneReading → (named : Option PlanCommand) (held : List ℕ → Option (List ℕ)) (reads_before reads_after : List ℕ → ℕ) (old new : Option (List ℕ)) (before after : ℕ) (status : Status)
+-- how a run ended that asks for a query, and in which no count rose
+module _ (one : OneAnswer) (command : PlanCommand) (held : List ℕ → Option (List ℕ)) (q : HoldsQuery command held) (reads_before reads_after : List ℕ → ℕ) (no_read : ReadRose (Some command) reads_before reads_after → ⊥) where
+  search_held : (status : Status) (text : List ℕ) → IsEnding command held reads_before reads_after status text → IsSearched command.choices q.query status text
+  search_held status text ending = search_of one q.catalog command.choices q.text status text q.query q.asks (answer_of command held q.catalog q.text q.holds reads_before reads_after status text no_read ending)
+
+-- files that ask for a query with room are answered where no count rose
+pub completed : OneAnswer → (named : Option PlanCommand) (held : List ℕ → Option (List ℕ)) (reads_before reads_after : List ℕ → ℕ) (old new : Option (List ℕ)) (before after : ℕ) (status : Status)
     → Ends (IsRun named held reads_before reads_after) old new before after status → Completes named held reads_before reads_after before after status
-completed one named held reads_before reads_after old new before after status ends command is q no_read no_write =
+completed one named held reads_before reads_after old new before after status ends command is q room no_read no_write =
     by_status status (subst (λ n. Ends (IsRun n held reads_before reads_after) old new before after status) is ends)
   where
     settled : (s : Status) (text : List ℕ) → IsEnding command held reads_before reads_after s text → IsSettled s
-    settled s text ending = settled_answer one q.catalog command.choices q.text s text q.query q.asks (answer_of command held q.catalog q.text q.holds reads_before reads_after s text no_read ending)
+    settled s text ending = settled_search one command.choices q.query s text room (search_held one command held q reads_before reads_after no_read s text ending)
 
     by_status : (s : Status) → Ends (IsRun (Some command) held reads_before reads_after) old new before after s → IsSettled s
     by_status Planned e = tt
@@ -117,8 +156,28 @@ completed one named held reads_before reads_after old new before after status en
     by_status WriteFault e = no_write e.rose
     by_status Memory e = tt
 
+-- files that ask for a query with too many entries end so where no count rose
+pub overflowed : OneAnswer → (named : Option PlanCommand) (held : List ℕ → Option (List ℕ)) (reads_before reads_after : List ℕ → ℕ) (old new : Option (List ℕ)) (before after : ℕ) (status : Status)
+    → Ends (IsRun named held reads_before reads_after) old new before after status → Overflows named held reads_before reads_after before after status
+overflowed one named held reads_before reads_after old new before after status ends command is q more no_read no_write =
+    by_status status (subst (λ n. Ends (IsRun n held reads_before reads_after) old new before after status) is ends)
+  where
+    overflow : (s : Status) (text : List ℕ) → IsEnding command held reads_before reads_after s text → IsOverflow s
+    overflow s text ending = overflow_search one command.choices q.query s text more (search_held one command held q reads_before reads_after no_read s text ending)
+
+    by_status : (s : Status) → Ends (IsRun (Some command) held reads_before reads_after) old new before after s → IsOverflow s
+    by_status Planned e = overflow Planned e.0 e.1
+    by_status NoPlan e = overflow NoPlan e.0 e.1
+    by_status Usage e = overflow Usage e.0 e.1
+    by_status QueryRefused e = overflow QueryRefused e.0 e.1
+    by_status CatalogRefused e = overflow CatalogRefused e.0 e.1
+    by_status TooManyEntries e = tt
+    by_status ReadFault e = overflow ReadFault e.0 e.1
+    by_status WriteFault e = no_write e.rose
+    by_status Memory e = tt
+
 -- files whose query is refused have it refused where no count rose
-pub refused_there : OneReading → (named : Option PlanCommand) (held : List ℕ → Option (List ℕ)) (reads_before reads_after : List ℕ → ℕ) (old new : Option (List ℕ)) (before after : ℕ) (status : Status)
+pub refused_there : OneAnswer → (named : Option PlanCommand) (held : List ℕ → Option (List ℕ)) (reads_before reads_after : List ℕ → ℕ) (old new : Option (List ℕ)) (before after : ℕ) (status : Status)
     → Ends (IsRun named held reads_before reads_after) old new before after status → Refuses named held reads_before reads_after before after status
 refused_there one named held reads_before reads_after old new before after status ends command is r no_read no_write =
     by_status status (subst (λ n. Ends (IsRun n held reads_before reads_after) old new before after status) is ends)

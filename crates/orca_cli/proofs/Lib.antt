@@ -7,4 +7,5 @@ pub mod SectionTexts
 pub mod Stages
 pub mod Puts
 pub mod Causes
+pub mod Served
 pub mod Outcomes

@@ -2,27 +2,32 @@
 use Rattle.std.proofs.Common.{ℕ, List, Option, subst}
 use Rattle.std.specs.Bool.{⊤}
 use Rattle.query_core.specs.declared.catalog.Catalog.{Catalog}
+use Rattle.query_core.specs.declared.query.Query.{Query}
 use Rattle.command_line.specs.Command.{PlanCommand}
 use Rattle.command_line.specs.declared.choices.Choices.{Choices}
-use Rattle.orca_cli.specs.Run.{IsAnswer, planned, unplanned, refused, IsEnding, answered, catalog_refused, catalog_unread, query_unread}
+use Rattle.orca_cli.specs.Run.{IsSearched, planned, unplanned, too_many, IsAnswer, searched, refused, IsEnding, answered, catalog_refused, catalog_unread, query_unread}
 use Rattle.orca_cli.specs.declared.status.Status.{Status}
 use Rattle.orca_cli.specs.declared.status.Status.TheVariants.{Planned, NoPlan, Usage, QueryRefused, CatalogRefused, TooManyEntries, ReadFault, WriteFault, Memory}
 
--- the words, the entries, the sink or memory decide
+-- the words, the sink or memory decide
 abbrev pub IsOther : Status → Type 0
 IsOther Planned = ⊥
 IsOther NoPlan = ⊥
 IsOther Usage = ⊤
 IsOther QueryRefused = ⊥
 IsOther CatalogRefused = ⊥
-IsOther TooManyEntries = ⊤
+IsOther TooManyEntries = ⊥
 IsOther ReadFault = ⊥
 IsOther WriteFault = ⊤
 IsOther Memory = ⊤
 
+never_searched : (choices : Choices) (query : Query) (status : Status) (text : List ℕ) → IsSearched choices query status text → IsOther status → ⊥
+never_searched choices query status text (planned is room plan is_plan goes) other = subst IsOther is other
+never_searched choices query status text (unplanned is room impossible goes) other = subst IsOther is other
+never_searched choices query status text (too_many is more line) other = subst IsOther is other
+
 never_answer : (catalog : Catalog) (choices : Choices) (asked : List ℕ) (status : Status) (text : List ℕ) → IsAnswer catalog choices asked status text → IsOther status → ⊥
-never_answer catalog choices asked status text (planned is query asks plan is_plan goes) other = subst IsOther is other
-never_answer catalog choices asked status text (unplanned is query asks impossible goes) other = subst IsOther is other
+never_answer catalog choices asked status text (searched query asks is) other = never_searched choices query status text is other
 never_answer catalog choices asked status text (refused is cause why line) other = subst IsOther is other
 
 -- files decide with other statuses than these

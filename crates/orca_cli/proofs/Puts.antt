@@ -1,5 +1,5 @@
 -- What the sink took, by the status that is answered.
-use Rattle.std.proofs.Common.{◌≡◌, ℕ, List, Option, Some, sym, subst, inl, inr}
+use Rattle.std.proofs.Common.{ℕ, List, Option, Some, sym, subst, inl, inr}
 use Rattle.std.specs.Io.KnownBytes.{Appends}
 use Rattle.command_line.specs.Command.{PlanCommand}
 use Rattle.orca_cli.specs.Run.{IsEnding, IsRun, Ends}
@@ -29,9 +29,3 @@ put_ends command held reads_before reads_after status text old new before after 
 put_ends command held reads_before reads_after status text old new before after result is (inr cut) =
     subst (λ r. Ends (IsRun (Some command) held reads_before reads_after) old new before after r) (sym cut.fault)
     (record { rose = cut.rose; status = status; text = text; is_text = is; taken = cut.taken })
-
--- the same for the files that words name
-pub put_ends_named : (named : Option PlanCommand) (command : PlanCommand) (held : List ℕ → Option (List ℕ)) (reads_before reads_after : List ℕ → ℕ) (status : Status) (text : List ℕ) (old new : Option (List ℕ)) (before after : ℕ) (result : Status)
-    → named ≡ Some command → IsEnding command held reads_before reads_after status text → IsPut status text old new before after result → Ends (IsRun named held reads_before reads_after) old new before after result
-put_ends_named named command held reads_before reads_after status text old new before after result is_named is put =
-    subst (λ n. Ends (IsRun n held reads_before reads_after) old new before after result) (sym is_named) (put_ends command held reads_before reads_after status text old new before after result is put)

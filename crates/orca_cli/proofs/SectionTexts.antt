@@ -1,5 +1,6 @@
--- The texts of the sections of a query are one.
-use Rattle.std.proofs.Common.{◌≡◌, ℕ, Bool, true, false, List, [], ◌∷◌, ◌++◌, sym, ap, ◌∙◌, subst, length, ◌≤◌}
+-- The texts of the sections of a query are one, but for the numbers of workers.
+use Rattle.std.proofs.Common.{◌≡◌, ℕ, Bool, true, false, List, [], ◌++◌, refl, sym, ap, ◌∙◌, subst, inl, inr}
+use Rattle.std.proofs.lemmas.List.{append-nil}
 use Rattle.query_core.specs.declared.query.Query.{Query}
 use Rattle.xform_rules.specs.Closure.{IsClosureOf}
 use Rattle.goal_list.specs.Listed.{AreGoalsOf}
@@ -7,7 +8,8 @@ use Rattle.job_trace.specs.Memo as memos
 use Rattle.job_trace.specs.Trace.{IsTraceText}
 use Rattle.command_line.specs.declared.choices.Choices.{Choices}
 use Rattle.orca_cli.specs.Asked.{IsWithinLimits}
-use Rattle.orca_cli.specs.Run.{IsSectionText, IsWhere, IsBehind, AreBehind, is_asked}
+use Rattle.orca_cli.specs.Laws.{by, AreLines, SameTexts}
+use Rattle.orca_cli.specs.Sections.{IsMemoText, IsTrace, IsSectionText, IsWhere, GoesOn}
 use Rattle.orca_cli.specs.declared.sections.Section.{Section}
 use Rattle.orca_cli.specs.declared.sections.Section.TheVariants as sections
 
@@ -18,27 +20,64 @@ pub record OneSections : Type 0 where
   pub memo : (q : Query) (words text other : List ℕ) → memos.IsMemoText q words text → memos.IsMemoText q words other → text ≡ other
   pub trace : (q : Query) (members goals text other : List ℕ) → IsWithinLimits q → IsTraceText q members goals text → IsTraceText q members goals other → text ≡ other
 
-module _ (one : OneSections) (choices : Choices) (q : Query) where
-  -- a section has one text
-  section_one : (section : Section) (text other : List ℕ) → IsWithinLimits q → IsSectionText q section text → IsSectionText q section other → text ≡ other
-  section_one sections.Memo text other within is again =
-      let words : is.words ≡ again.words = one.closure q is.words again.words is.closure again.closure in
-      one.memo q is.words text other is.is_text (subst (λ ws. memos.IsMemoText q ws other) (sym words) again.is_text)
-  section_one sections.Trace text other within is again =
-      let members : is.members ≡ again.members = one.closure q is.members again.members is.closure again.closure in
-      let goals : is.goals ≡ again.goals = one.goals q is.goals again.goals is.all_goals again.all_goals in
-      one.trace q is.members is.goals text other within is.is_text
-      (subst (λ gs. IsTraceText q is.members gs other) (sym goals) (subst (λ ms. IsTraceText q ms again.goals other) (sym members) again.is_text))
+-- a query has one memo's text
+memo_one : OneSections → (q : Query) (text other : List ℕ) → IsMemoText q text → IsMemoText q other → text ≡ other
+memo_one one q text other is again =
+    let words : is.words ≡ again.words = one.closure q is.words again.words is.closure again.closure in
+    one.memo q is.words text other is.is_text (subst (λ ws. memos.IsMemoText q ws other) (sym words) again.is_text)
 
-  -- so what stands where it is asked for is one
-  where_one : (asked : Bool) (section : Section) (text other : List ℕ) → IsWithinLimits q → IsWhere asked q section text → IsWhere asked q section other → text ≡ other
-  where_one true section text other within is again = section_one section text other within is again
-  where_one false section text other within is again = is ∙ sym again
+-- and one trace
+trace_one : OneSections → (q : Query) (text other : List ℕ) → IsWithinLimits q → IsTrace q text → IsTrace q other → text ≡ other
+trace_one one q text other within is again =
+    let members : is.members ≡ again.members = one.closure q is.members again.members is.closure again.closure in
+    let goals : is.goals ≡ again.goals = one.goals q is.goals again.goals is.all_goals again.all_goals in
+    one.trace q is.members is.goals text other within is.is_text
+    (subst (λ gs. IsTraceText q is.members gs other) (sym goals) (subst (λ ms. IsTraceText q ms again.goals other) (sym members) again.is_text))
 
-  -- and so is the whole behind one front
-  pub sections_one : (some : List Section) (front fore text other : List ℕ) → IsWithinLimits q → front ≡ fore → AreBehind choices q some front text → AreBehind choices q some fore other → text ≡ other
-  sections_one [] front fore text other within fronts is again = is ∙ fronts ∙ sym again
-  sections_one (section ∷ more) front fore text other within fronts (middle, behind, rest) (again, behind_too, rest_too) =
-      let added : behind.added ≡ behind_too.added = where_one (is_asked choices section) section behind.added behind_too.added within behind.is_added behind_too.is_added in
-      let middles : middle ≡ again = behind.joined ∙ ap (λ f. f ++ behind.added) fronts ∙ ap (λ a. fore ++ a) added ∙ sym behind_too.joined in
-      sections_one more middle again text other within middles rest rest_too
+module _ (choices : Choices) (workers more : ℕ) (q : Query) where
+  -- what stands where it is asked for is one, where the section's text is
+  where_one : (asked : Bool) (section : Section) (text other : List ℕ) → ((t o : List ℕ) → IsSectionText (by workers choices) q section t → IsSectionText (by more choices) q section o → t ≡ o)
+      → IsWhere asked (by workers choices) q section text → IsWhere asked (by more choices) q section other → text ≡ other
+  where_one true section text other one is again = one text other is again
+  where_one false section text other one is again = is ∙ sym again
+
+  -- the lines by worker, where they are asked for
+  lines_by : (asked : Bool) (lines others : List ℕ) → IsWhere asked (by workers choices) q sections.ByWorker lines → IsWhere asked (by more choices) q sections.ByWorker others → AreLines asked workers more lines others
+  lines_by true lines others is again = inr (q, is, again)
+  lines_by false lines others is again = (is, again)
+
+  -- what stands behind one front
+  joined_one : (front fore added more_added text other : List ℕ) → front ≡ fore → added ≡ more_added → text ≡ front ++ added → other ≡ fore ++ more_added → text ≡ other
+  joined_one front fore added more_added text other fronts addeds is again = is ∙ ap (λ f. f ++ added) fronts ∙ ap (λ a. fore ++ a) addeds ∙ sym again
+
+  -- so all sections behind one front are one text up to the lines by worker
+  pub sections_same : OneSections → (front fore text other : List ℕ) → IsWithinLimits q → front ≡ fore → GoesOn (by workers choices) q front text → GoesOn (by more choices) q fore other → SameTexts choices workers more text other
+  sections_same one front fore text other within fronts (memo, behind, (trace, traced, (crew, crewed, whole))) (memo_too, behind_too, (trace_too, traced_too, (crew_too, crewed_too, whole_too))) =
+      let memos_one = where_one choices.memo sections.Memo behind.added behind_too.added (λ t o is again. memo_one one q t o is again) behind.is_added behind_too.is_added in
+      let middles = joined_one front fore behind.added behind_too.added memo memo_too fronts memos_one behind.joined behind_too.joined in
+      let traces_one = where_one choices.trace sections.Trace traced.added traced_too.added (λ t o is again. trace_one one q t o within is again) traced.is_added traced_too.is_added in
+      let both = joined_one memo memo_too traced.added traced_too.added trace trace_too middles traces_one traced.joined traced_too.joined in
+      record {
+        front = trace;
+        lines = crewed.added;
+        others = crewed_too.added;
+        whole = whole ∙ crewed.joined;
+        other_whole = whole_too ∙ crewed_too.joined ∙ ap (λ f. f ++ crewed_too.added) (sym both);
+        are_lines = lines_by choices.by_worker crewed.added crewed_too.added crewed.is_added crewed_too.is_added;
+      }
+
+-- no lines by worker
+no_lines : (asked : Bool) (workers more : ℕ) → AreLines asked workers more [] []
+no_lines true workers more = inl (refl, refl)
+no_lines false workers more = (refl, refl)
+
+-- texts that are the same
+pub same_texts : (choices : Choices) (workers more : ℕ) (text other : List ℕ) → text ≡ other → SameTexts choices workers more text other
+same_texts choices workers more text other same = record {
+  front = text;
+  lines = [];
+  others = [];
+  whole = sym (append-nil text);
+  other_whole = sym same ∙ sym (append-nil text);
+  are_lines = no_lines choices.by_worker workers more;
+}

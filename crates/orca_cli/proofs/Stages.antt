@@ -1,9 +1,10 @@
 -- How the ending of a stage of a run is the ending of the stage around it.
-use Rattle.std.proofs.Common.{◌≡◌, ◌≢◌, ℕ, ◌<◌, ◌≤◌, List, length, Option, None, Some, Result, Ok, Err, IfOk, ◌+◌, ◌^◌, refl, sym, subst, ap, ◌∙◌, inl, inr, arith}
+use Rattle.std.proofs.Common.{◌≡◌, ◌≢◌, ℕ, ◌<◌, ◌≤◌, List, length, Option, None, Some, Result, Ok, Err, IfOk, ◌+◌, ◌^◌, refl, sym, subst, ap, inl, inr, arith}
 use Rattle.std.specs.Prelude.{replicate}
 use Rattle.std.proofs.lemmas.List.{length-replicate}
 use Rattle.std.proofs.lemmas.Bool.{lt-ltb}
 use Rattle.query_core.specs.declared.catalog.Catalog.{Catalog}
+use Rattle.query_core.specs.declared.options.Options.{Options}
 use Rattle.query_core.specs.declared.query.Query.{Query}
 use Rattle.orca_base.specs.Causes.{Rose}
 use Rattle.orca_io.specs.Shelf.{Exceeds}
@@ -31,9 +32,12 @@ use Rattle.command_line.specs.Command.{PlanCommand}
 use Rattle.command_line.specs.declared.choices.Choices.{Choices}
 use Rattle.orca_cli.specs.Reading.{AreHeld}
 use Rattle.orca_cli.specs.Texts as texts
-use Rattle.orca_cli.specs.Run.{AreTold, Offers, GoesOn, IsAnswer, planned, unplanned, refused, IsReadFault, IsEnding, answered, catalog_refused, query_unread}
+use Rattle.orca_cli.specs.Run.{AreTold, Offers, HasRoom, IsSearched, planned, unplanned, IsAnswer, refused, IsAskedAt, IsAskedBy, IsReadFault, IsEnding, answered, catalog_refused, query_unread}
 use Rattle.orca_cli.specs.Stages as stages
-use Rattle.orca_cli.specs.Stages.{IsPlanOf, IsEndingAt, IsEndingOver}
+use Rattle.orca_cli.specs.Sections.{GoesOn}
+use Rattle.orca_cli.specs.Stages.{IsPlanOf, IsDone, IsStop, Asking, Stops, IsAskedOver, IsEndingAt, IsEndingOver}
+use Rattle.orca_cli.specs.declared.asked.Asked.{Asked}
+use Rattle.orca_cli.specs.declared.asked.Asked.TheVariants as askeds
 use Rattle.orca_cli.specs.declared.status.Status.{Status}
 use Rattle.orca_cli.specs.declared.status.Status.TheVariants.{QueryRefused, CatalogRefused}
 
@@ -56,50 +60,55 @@ plan_of_found query founds.NoPlan status text is impossible told = stages.none i
 pub as_ended : (P : Status → List ℕ → Type 0) (ending : Ending) (status : Status) (text : List ℕ) → EndsAs ending status text → P status text → P ending.status (text_of ending)
 as_ended P ending status text is fact = subst (λ s. P s (text_of ending)) (sym is.status) (subst (λ t. P status t) (sym is.text) fact)
 
--- the plan of the query that is asked for, and behind it the sections that are asked for
-pub plan_answer : (catalog : Catalog) (choices : Choices) (asked : List ℕ) (query : Query) (status : Status) (front text : List ℕ) → Asks catalog choices.options asked query → IsPlanOf query status front → GoesOn choices query front text
-    → IsAnswer catalog choices asked status text
-plan_answer catalog choices asked query status front text asks (stages.least is plan) goes = planned is query asks front plan goes
-plan_answer catalog choices asked query status front text asks (stages.none is impossible line) goes =
-    unplanned is query asks impossible (subst (λ line. GoesOn choices query line text) line goes)
+-- the plan of a query for which there is room, and behind it the sections that are asked for
+pub plan_searched : (choices : Choices) (query : Query) (status : Status) (front text : List ℕ) → HasRoom query choices.capacity → IsPlanOf query status front → GoesOn choices query front text → IsSearched choices query status text
+plan_searched choices query status front text room (stages.least is plan) goes = planned is room front plan goes
+plan_searched choices query status front text room (stages.none is impossible line) goes = unplanned is room impossible (subst (λ line. GoesOn choices query line text) line goes)
 
 -- the ending with the sections that are asked for behind it
-pub followed_answer : (catalog : Catalog) (choices : Choices) (asked : List ℕ) (query : Query) (front made : Ending) → Asks catalog choices.options asked query → IsPlanOf query front.status (text_of front)
-    → made.status ≡ front.status → GoesOn choices query (text_of front) (text_of made) → IsAnswer catalog choices asked made.status (text_of made)
-followed_answer catalog choices asked query front made asks plan same goes =
-    plan_answer catalog choices asked query made.status (text_of front) (text_of made) asks (subst (λ s. IsPlanOf query s (text_of front)) (sym same) plan) goes
+pub followed_searched : (choices : Choices) (query : Query) (front made : Ending) → HasRoom query choices.capacity → IsPlanOf query front.status (text_of front)
+    → made.status ≡ front.status → GoesOn choices query (text_of front) (text_of made) → IsSearched choices query made.status (text_of made)
+followed_searched choices query front made room plan same goes =
+    plan_searched choices query made.status (text_of front) (text_of made) room (subst (λ s. IsPlanOf query s (text_of front)) (sym same) plan) goes
+
+-- ---- refusals
+
+-- a run that stops with a status and a text of which a fact holds
+pub stopped : (IsAsked : Query → Type 0) (IsText : Status → List ℕ → Type 0) (status : Status) (text : List ℕ) (a : Asked) → IsStop status → IsText status text → Stops status text a → Asking IsAsked IsText a
+stopped IsAsked IsText status text (askeds.Query query props) stop fact is = absurd is
+stopped IsAsked IsText status text (askeds.Ended ending) stop fact is = (subst IsStop (sym is.status) stop, as_ended IsText ending status text is fact)
+
+-- what is asked for, as seen from the stage around
+pub asking_then : (IsAsked IsMore : Query → Type 0) (IsText IsWhole : Status → List ℕ → Type 0) (a : Asked) → ((query : Query) → IsAsked query → IsMore query) → ((status : Status) (text : List ℕ) → IsText status text → IsWhole status text)
+    → Asking IsAsked IsText a → Asking IsMore IsWhole a
+asking_then IsAsked IsMore IsText IsWhole (askeds.Query query props) more whole is = (more query is.0, is.1)
+asking_then IsAsked IsMore IsText IsWhole (askeds.Ended ending) more whole is = (is.0, whole ending.status (text_of ending) is.1)
 
 -- a query that is refused for the cause that the line gives
-pub refused_answer : (catalog : Catalog) (choices : Choices) (asked cause given : List ℕ) (ending : Ending) → IsRefused catalog choices.options asked cause → given ≡ cause → EndsAs ending QueryRefused (texts.query_refused given)
-    → IsAnswer catalog choices asked ending.status (text_of ending)
-refused_answer catalog choices asked cause given ending why same is = refused is.status cause why (is.text ∙ ap texts.query_refused same)
+pub refused_answer : (catalog : Catalog) (choices : Choices) (asked cause given : List ℕ) → IsRefused catalog choices.options asked cause → given ≡ cause → IsAnswer catalog choices asked QueryRefused (texts.query_refused given)
+refused_answer catalog choices asked cause given why same = refused refl cause why (ap texts.query_refused same)
 
 -- a query with too many hashed lists or orders
-pub unnumbered_answer : (catalog : Catalog) (choices : Choices) (asked given : List ℕ) (query : Query) (fault : PropsFault) (ending : Ending) → IsBoundAs catalog choices.options asked query → IsRefusedFor query fault → fault ≢ limits.Memory
-    → given ≡ texts.props_cause fault → EndsAs ending QueryRefused (texts.query_refused given) → IsAnswer catalog choices asked ending.status (text_of ending)
-unnumbered_answer catalog choices asked given query fault ending bound too_many not_memory same is =
+pub unnumbered_answer : (catalog : Catalog) (choices : Choices) (asked given : List ℕ) (query : Query) (fault : PropsFault) → IsBoundAs catalog choices.options asked query → IsRefusedFor query fault → fault ≢ limits.Memory
+    → given ≡ texts.props_cause fault → IsAnswer catalog choices asked QueryRefused (texts.query_refused given)
+unnumbered_answer catalog choices asked given query fault bound too_many not_memory same =
     let why : IsUnnumbered catalog choices.options asked (texts.props_cause fault) = record { query = query; bound = bound; fault = fault; too_many = too_many; not_memory = not_memory; caused = refl } in
-    refused_answer catalog choices asked (texts.props_cause fault) given ending (inr (inr why)) same is
+    refused_answer catalog choices asked (texts.props_cause fault) given (inr (inr why)) same
 
 -- a select whose names can't be bound
-pub unbound_answer : (catalog : Catalog) (choices : Choices) (asked given : List ℕ) (select : Select) (fault : BindFault) (ending : Ending) → IsReading asked select → binding select catalog ≡ Err fault → fault ≢ names.Memory
-    → given ≡ texts.bind_cause fault → EndsAs ending QueryRefused (texts.query_refused given) → IsAnswer catalog choices asked ending.status (text_of ending)
-unbound_answer catalog choices asked given select fault ending reading first not_memory same is =
+pub unbound_answer : (catalog : Catalog) (choices : Choices) (asked given : List ℕ) (select : Select) (fault : BindFault) → IsReading asked select → binding select catalog ≡ Err fault → fault ≢ names.Memory
+    → given ≡ texts.bind_cause fault → IsAnswer catalog choices asked QueryRefused (texts.query_refused given)
+unbound_answer catalog choices asked given select fault reading first not_memory same =
     let why : IsUnbound catalog asked (texts.bind_cause fault) = record { select = select; reading = reading; fault = fault; first = first; not_memory = not_memory; caused = refl } in
-    refused_answer catalog choices asked (texts.bind_cause fault) given ending (inr (inl why)) same is
+    refused_answer catalog choices asked (texts.bind_cause fault) given (inr (inl why)) same
 
 -- a text that is no select
-pub unread_answer : (catalog : Catalog) (choices : Choices) (asked given : List ℕ) (fault : SqlFault) (ending : Ending) → IsFirst asked fault → given ≡ texts.sql_cause fault → EndsAs ending QueryRefused (texts.query_refused given)
-    → IsAnswer catalog choices asked ending.status (text_of ending)
-unread_answer catalog choices asked given fault ending first same is =
+pub unread_answer : (catalog : Catalog) (choices : Choices) (asked given : List ℕ) (fault : SqlFault) → IsFirst asked fault → given ≡ texts.sql_cause fault → IsAnswer catalog choices asked QueryRefused (texts.query_refused given)
+unread_answer catalog choices asked given fault first same =
     let why : IsUnread asked (texts.sql_cause fault) = record { fault = fault; first = first; caused = refl } in
-    refused_answer catalog choices asked (texts.sql_cause fault) given ending (inl why) same is
+    refused_answer catalog choices asked (texts.sql_cause fault) given (inl why) same
 
 -- ---- what a shelf tells
-
--- bytes that were read are those that are told of
-pub read_told : (held : Option (List ℕ)) (limit : ℕ) (bytes : List ℕ) → AreHeld held limit bytes → AreTold held bytes
-read_told held limit bytes are = are.told
 
 -- some bytes that are longer than the limit, as what is told
 pub record AreLong (held : Option (List ℕ)) (limit : ℕ) : Type 0 where
@@ -122,14 +131,17 @@ pub answer_read : (catalog : Catalog) (choices : Choices) (name : List ℕ) (hel
     → AreHeld held limit bytes → IsAnswer catalog choices bytes status text → IsEndingAt catalog choices name held before after status text
 answer_read catalog choices name held before after limit bytes status text are is = stages.answered (record { asked = bytes; told = are.told; answer = is })
 
+-- the query for which the bytes that were read ask
+pub asked_read : (catalog : Catalog) (options : Options) (held : Option (List ℕ)) (limit : ℕ) (bytes : List ℕ) (query : Query) → AreHeld held limit bytes → Asks catalog options bytes query → IsAskedAt catalog options held query
+asked_read catalog options held limit bytes query are asks = record { asked = bytes; told = are.told; asks = asks }
+
 -- a text over the limit is refused as too long
-pub long_query : (catalog : Catalog) (choices : Choices) (name : List ℕ) (held : Option (List ℕ)) (before after : List ℕ → ℕ) (ending : Ending)
+pub long_query : (catalog : Catalog) (choices : Choices) (name : List ℕ) (held : Option (List ℕ)) (before after : List ℕ → ℕ)
     → ((bytes : List ℕ) → 2 ^ 16 < length bytes → IsFirst bytes selects.TooLong) → Exceeds held 65536
-    → EndsAs ending QueryRefused (texts.query_refused (texts.sql_cause selects.TooLong))
-    → IsEndingAt catalog choices name held before after ending.status (text_of ending)
-long_query catalog choices name held before after ending first exceeds is =
+    → IsEndingAt catalog choices name held before after QueryRefused (texts.query_refused (texts.sql_cause selects.TooLong))
+long_query catalog choices name held before after first exceeds =
     let long = exceeding held 65536 exceeds in
-    let answer = unread_answer catalog choices long.bytes (texts.sql_cause selects.TooLong) selects.TooLong ending (first long.bytes long.long) refl is in
+    let answer = unread_answer catalog choices long.bytes (texts.sql_cause selects.TooLong) selects.TooLong (first long.bytes long.long) refl in
     stages.answered (record { asked = long.bytes; told = long.told; answer = answer })
 
 -- ---- the catalogue's file
@@ -140,20 +152,19 @@ unfolding reading_of
 too_long bytes long = rw (lt-ltb 1048576 (length bytes) long) refl
 
 -- a catalogue's file over the limit is refused as too long
-pub long_catalog : (command : PlanCommand) (held : List ℕ → Option (List ℕ)) (before after : List ℕ → ℕ) (ending : Ending) → Exceeds (held command.files.catalog) 1048576
-    → EndsAs ending CatalogRefused (texts.catalog_refused (texts.catalog_cause catalogs.TooLong))
-    → IsEnding command held before after ending.status (text_of ending)
-long_catalog command held before after ending exceeds is =
+pub long_catalog : (command : PlanCommand) (held : List ℕ → Option (List ℕ)) (before after : List ℕ → ℕ) → Exceeds (held command.files.catalog) 1048576
+    → IsEnding command held before after CatalogRefused (texts.catalog_refused (texts.catalog_cause catalogs.TooLong))
+long_catalog command held before after exceeds =
     let long = exceeding (held command.files.catalog) 1048576 exceeds in
     let none : IsNoCatalog long.bytes (texts.catalog_cause catalogs.TooLong) = record { fault = catalogs.TooLong; first = too_long long.bytes long.long; not_memory = λ same. cc; caused = refl } in
-    catalog_refused is.status (record { bytes = long.bytes; told = long.told; cause = texts.catalog_cause catalogs.TooLong; no_catalog = none; line = is.text })
+    catalog_refused refl (record { bytes = long.bytes; told = long.told; cause = texts.catalog_cause catalogs.TooLong; no_catalog = none; line = refl })
 
 -- bytes that are no catalogue, for the cause that the line gives
-pub refused_over : (bytes : List ℕ) (choices : Choices) (name given : List ℕ) (held : Option (List ℕ)) (before after : List ℕ → ℕ) (fault : CatalogFault) (ending : Ending) → CatalogReads bytes (Err fault) → fault ≢ catalogs.Memory
-    → given ≡ texts.catalog_cause fault → EndsAs ending CatalogRefused (texts.catalog_refused given) → IsEndingOver bytes choices name held before after ending.status (text_of ending)
-refused_over bytes choices name given held before after fault ending reads not_memory same is =
+pub refused_over : (bytes : List ℕ) (choices : Choices) (name given : List ℕ) (held : Option (List ℕ)) (before after : List ℕ → ℕ) (fault : CatalogFault) → CatalogReads bytes (Err fault) → fault ≢ catalogs.Memory
+    → given ≡ texts.catalog_cause fault → IsEndingOver bytes choices name held before after CatalogRefused (texts.catalog_refused given)
+refused_over bytes choices name given held before after fault reads not_memory same =
     let none : IsNoCatalog bytes (texts.catalog_cause fault) = record { fault = fault; first = sym (reads (λ e. not_memory cc)); not_memory = not_memory; caused = refl } in
-    stages.refused is.status (texts.catalog_cause fault) none (is.text ∙ ap texts.catalog_refused same)
+    stages.refused refl (texts.catalog_cause fault) none (ap texts.catalog_refused same)
 
 -- a count that rose since later on rose since before
 rose_since : (before middle after : ℕ) → before ≤ middle → Rose middle after → Rose before after
@@ -182,3 +193,12 @@ over_files command held before middle after limit bytes status text are later (s
 pub retold_over : (bytes : List ℕ) (choices : Choices) (name : List ℕ) (held told : Option (List ℕ)) (before after : List ℕ → ℕ) (status : Status) (text : List ℕ) → told ≡ held
     → IsEndingOver bytes choices name told before after status text → IsEndingOver bytes choices name held before after status text
 retold_over bytes choices name held told before after status text same is = subst (λ content. IsEndingOver bytes choices name content before after status text) same is
+
+-- the query for which a catalogue's bytes that were read and the query's file ask
+pub asked_files : (command : PlanCommand) (held : List ℕ → Option (List ℕ)) (limit : ℕ) (bytes : List ℕ) (told : Option (List ℕ)) (query : Query) → AreHeld (held command.files.catalog) limit bytes → told ≡ held command.files.query
+    → IsAskedOver bytes command.choices.options told query → IsAskedBy command held query
+asked_files command held limit bytes told query are same is = record {
+  catalog = is.catalog;
+  offers = record { bytes = bytes; told = are.told; says = is.says };
+  asked = subst (λ h. IsAskedAt is.catalog command.choices.options h query) same is.asked;
+}

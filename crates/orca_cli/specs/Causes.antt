@@ -3,7 +3,9 @@ use Rattle.std.specs.Prelude.{◌≡◌, ◌⊎◌, ℕ, List, Option, None, Som
 use Rattle.orca_base.specs.Causes.{Rose}
 use Rattle.query_core.specs.declared.catalog.Catalog.{Catalog}
 use Rattle.query_core.specs.declared.query.Query.{Query}
+use Rattle.job_outcome.specs.Outcomes.{HasMoreEntries}
 use Rattle.orca_cli.specs.Asked.{SaysCatalog, Asks, IsRefused}
+use Rattle.orca_cli.specs.Run.{HasRoom}
 use Rattle.command_line.specs.Command.{FileNames, PlanCommand}
 use Rattle.orca_cli.specs.declared.status.Status.{Status}
 use Rattle.orca_cli.specs.declared.status.Status.TheVariants.{Planned, NoPlan, Usage, QueryRefused, CatalogRefused, TooManyEntries, ReadFault, WriteFault, Memory}
@@ -49,10 +51,30 @@ IsSettled ReadFault = ⊥
 IsSettled WriteFault = ⊥
 IsSettled Memory = ⊤
 
--- a run over such files, in which neither file's count rose nor the sink's, is answered
+-- a run over files that ask for a query with room, in which neither file's count rose nor the sink's, is answered
 abbrev pub Completes : Option PlanCommand → (List ℕ → Option (List ℕ)) → (List ℕ → ℕ) → (List ℕ → ℕ) → ℕ → ℕ → Status → Type 0
 Completes named held reads_before reads_after before after status =
-    (command : PlanCommand) → named ≡ Some command → HoldsQuery command held → (ReadRose (Some command) reads_before reads_after → ⊥) → (Rose before after → ⊥) → IsSettled status
+    (command : PlanCommand) → named ≡ Some command → (q : HoldsQuery command held) → HasRoom q.query command.choices.capacity
+    → (ReadRose (Some command) reads_before reads_after → ⊥) → (Rose before after → ⊥) → IsSettled status
+
+-- the run ended for want of room, or of memory
+abbrev pub IsOverflow : Status → Type 0
+IsOverflow Planned = ⊥
+IsOverflow NoPlan = ⊥
+IsOverflow Usage = ⊥
+IsOverflow QueryRefused = ⊥
+IsOverflow CatalogRefused = ⊥
+IsOverflow TooManyEntries = ⊤
+IsOverflow ReadFault = ⊥
+IsOverflow WriteFault = ⊥
+IsOverflow Memory = ⊤
+
+-- a run over files that ask for a query with more entries than the capacity, in which no count rose, ends for want
+-- of room
+abbrev pub Overflows : Option PlanCommand → (List ℕ → Option (List ℕ)) → (List ℕ → ℕ) → (List ℕ → ℕ) → ℕ → ℕ → Status → Type 0
+Overflows named held reads_before reads_after before after status =
+    (command : PlanCommand) → named ≡ Some command → (q : HoldsQuery command held) → HasMoreEntries q.query command.choices.capacity
+    → (ReadRose (Some command) reads_before reads_after → ⊥) → (Rose before after → ⊥) → IsOverflow status
 
 -- the run ended with the query refused, or for want of memory
 abbrev pub IsRefusal : Status → Type 0

@@ -1,9 +1,10 @@
 -- What follows from how commands are read, and how runs end.
-use Rattle.std.specs.Prelude.{◌≡◌, ◌↔◌, ℕ, List, Option, Some, ⊤}
-use Rattle.command_line.specs.Command.{FileNames, PlanCommand, IsSpelledOut}
-use Rattle.command_line.specs.Reading.{command_of}
+use Rattle.std.specs.Prelude.{◌≡◌, ◌⊎◌, ◌++◌, ℕ, Bool, true, false, List, [], Option, Some, ⊤}
+use Rattle.query_core.specs.declared.query.Query.{Query}
+use Rattle.command_line.specs.Command.{FileNames}
 use Rattle.command_line.specs.declared.choices.Choices.{Choices}
 use Rattle.orca_cli.specs.Run.{IsEnding}
+use Rattle.orca_cli.specs.Sections.{IsByWorker}
 use Rattle.orca_cli.specs.declared.status.Status.{Status}
 use Rattle.orca_cli.specs.declared.status.Status.TheVariants.{Planned, NoPlan, Usage, QueryRefused, CatalogRefused, TooManyEntries, ReadFault, WriteFault, Memory}
 
@@ -28,12 +29,34 @@ pub record Outcome (files : FileNames) (choices : Choices) (held : List ℕ → 
   pub ends : IsEnding (record { files = files; choices = choices }) held before after status text
   pub by_files : IsOutcome status
 
--- two such runs have one status and one text
-pub record Same (first second : Status) (text other : List ℕ) : Type 0 where
-  pub status : first ≡ second
-  pub same_text : text ≡ other
+-- the same choices, with so many workers
+abbrev pub by : ℕ → Choices → Choices
+by workers choices = record choices { workers = workers }
 
--- the status and the text are a function of the bytes, and of what the command chooses
+-- the lines by worker: none where they aren't asked for; and else none, or those of one query, each with a number
+-- below that of the workers
+abbrev pub AreLines : Bool → (workers more : ℕ) → List ℕ → List ℕ → Type 0
+AreLines false workers more lines others = (lines ≡ []) × (others ≡ [])
+AreLines true workers more lines others =
+    ((lines ≡ []) × (others ≡ [])) ⊎ ((query : Query) × IsByWorker query workers lines × IsByWorker query more others)
+
+-- two texts that are one up to the lines by worker
+pub record SameTexts (choices : Choices) (workers more : ℕ) (text other : List ℕ) : Type 0 where
+  pub front : List ℕ
+  pub lines : List ℕ
+  pub others : List ℕ
+  pub whole : text ≡ front ++ lines
+  pub other_whole : other ≡ front ++ others
+  pub are_lines : AreLines choices.by_worker workers more lines others
+
+-- two such runs have one status, and one text up to the lines by worker
+pub record Same (choices : Choices) (workers more : ℕ) (first second : Status) (text other : List ℕ) : Type 0 where
+  pub status : first ≡ second
+  pub texts : SameTexts choices workers more text other
+
+-- the status and the text are a function of the bytes, and of what the command chooses but for the workers; only the
+-- numbers in the lines by worker may differ
 abbrev pub OneOutcome : Type 0
-OneOutcome = (files others : FileNames) (choices : Choices) (held told : List ℕ → Option (List ℕ)) (catalog query : List ℕ) (first second : Status) (text other : List ℕ)
-    → Outcome files choices held catalog query first text → Outcome others choices told catalog query second other → Same first second text other
+OneOutcome = (files others : FileNames) (choices : Choices) (workers more : ℕ) (held told : List ℕ → Option (List ℕ)) (catalog query : List ℕ) (first second : Status) (text other : List ℕ)
+    → Outcome files (by workers choices) held catalog query first text → Outcome others (by more choices) told catalog query second other
+    → Same choices workers more first second text other

@@ -1,24 +1,21 @@
 -- How a run ends: its status and its text, and what the sink took of the text.
-use Rattle.std.specs.Prelude.{◌≡◌, ℕ, Bool, true, false, List, [], ◌∷◌, ◌++◌, Option, None, Some, IfSome}
+use Rattle.std.specs.Prelude.{◌≡◌, ℕ, List, Option, None, Some, IfSome}
 use Rattle.std.specs.List.{concat}
 use Rattle.std.specs.Io.KnownBytes.{Appends, Keeps}
 use Rattle.orca_base.specs.Causes.{Rose}
 use Rattle.orca_io.specs.Sink.{TakesPrefix}
 use Rattle.query_core.specs.declared.catalog.Catalog.{Catalog}
 use Rattle.query_core.specs.declared.query.Query.{Query}
-use Rattle.xform_rules.specs.Closure.{IsClosureOf}
-use Rattle.job_trace.specs.Memo as memos
-use Rattle.job_trace.specs.Trace.{IsTraceText}
-use Rattle.goal_list.specs.Listed.{AreGoalsOf}
+use Rattle.query_core.specs.declared.options.Options.{Options}
+use Rattle.job_outcome.specs.Outcomes.{HasMoreEntries, FitsIn}
 use Rattle.plan_space.specs.Nodes.{Tree}
 use Rattle.plan_space.specs.Least.{IsLeastPlan, QueryHasNoPlan}
 use Rattle.plan_report.specs.Text.{plan_section}
 use Rattle.orca_cli.specs.Asked.{SaysCatalog, IsNoCatalog, Asks, IsRefused}
 use Rattle.command_line.specs.Command.{PlanCommand}
 use Rattle.command_line.specs.declared.choices.Choices.{Choices}
+use Rattle.orca_cli.specs.Sections.{GoesOn}
 use Rattle.orca_cli.specs.Texts as texts
-use Rattle.orca_cli.specs.declared.sections.Section.{Section}
-use Rattle.orca_cli.specs.declared.sections.Section.TheVariants as sections
 use Rattle.orca_cli.specs.declared.status.Status.{Status}
 use Rattle.orca_cli.specs.declared.status.Status.TheVariants.{Planned, NoPlan, Usage, QueryRefused, CatalogRefused, TooManyEntries, ReadFault, WriteFault, Memory}
 
@@ -32,60 +29,21 @@ pub record IsPlanText (query : Query) (text : List ℕ) : Type 0 where
 abbrev pub IsImpossible : Query → Type 0
 IsImpossible query = QueryHasNoPlan query
 
--- the text is that of the memo, whose members are the closure under the rules
-pub record IsMemoText (query : Query) (text : List ℕ) : Type 0 where
-  pub words : List ℕ
-  pub closure : IsClosureOf query words
-  pub is_text : memos.IsMemoText query words text
-
--- the text is that of the trace: all goals of the query, each with its children over the closure
-pub record IsTrace (query : Query) (text : List ℕ) : Type 0 where
+-- there is room for the query's members and goals together
+pub record HasRoom (query : Query) (capacity : ℕ) : Type 0 where
   pub members : List ℕ
-  pub closure : IsClosureOf query members
   pub goals : List ℕ
-  pub all_goals : AreGoalsOf query goals
-  pub is_text : IsTraceText query members goals text
+  pub fits : FitsIn query capacity members goals
 
--- ---- the sections behind the plan
-
--- in the order in which they stand
-abbrev pub all_sections : List Section
-all_sections = sections.Memo ∷ sections.Trace ∷ []
-
--- the command asks for the section
-abbrev pub is_asked : Choices → Section → Bool
-is_asked choices sections.Memo = choices.memo
-is_asked choices sections.Trace = choices.trace
-
--- the text is the section's
-abbrev pub IsSectionText : Query → Section → List ℕ → Type 0
-IsSectionText query sections.Memo text = IsMemoText query text
-IsSectionText query sections.Trace text = IsTrace query text
-
--- the section's text where it is asked for, and else nothing
-abbrev pub IsWhere : Bool → Query → Section → List ℕ → Type 0
-IsWhere false query section text = text ≡ []
-IsWhere true query section text = IsSectionText query section text
-
--- the text goes on behind the front with the section, where it is asked for
-pub record IsBehind (choices : Choices) (query : Query) (section : Section) (front text : List ℕ) : Type 0 where
-  pub added : List ℕ
-  pub is_added : IsWhere (is_asked choices section) query section added
-  pub joined : text ≡ front ++ added
-
--- and so with one section after the other
-abbrev pub AreBehind : Choices → Query → List Section → List ℕ → List ℕ → Type 0
-AreBehind choices query [] front text = text ≡ front
-AreBehind choices query (section ∷ more) front text = (middle : List ℕ) × IsBehind choices query section front middle × AreBehind choices query more middle text
-
--- the text goes on behind the front with all sections that are asked for
-abbrev pub GoesOn : Choices → Query → List ℕ → List ℕ → Type 0
-GoesOn choices query front text = AreBehind choices query all_sections front text
+-- what the search of a query ends with, by what the command chooses
+pub data IsSearched (choices : Choices) (query : Query) (status : Status) (text : List ℕ) : Type 0 where
+  planned : status ≡ Planned → HasRoom query choices.capacity → (plan : List ℕ) → IsPlanText query plan → GoesOn choices query plan text → IsSearched choices query status text
+  unplanned : status ≡ NoPlan → HasRoom query choices.capacity → IsImpossible query → GoesOn choices query texts.no_plan text → IsSearched choices query status text
+  too_many : status ≡ TooManyEntries → HasMoreEntries query choices.capacity → text ≡ texts.too_many_entries choices.capacity → IsSearched choices query status text
 
 -- the answer to a query's bytes over a catalogue, by what the command chooses
 pub data IsAnswer (catalog : Catalog) (choices : Choices) (asked : List ℕ) (status : Status) (text : List ℕ) : Type 0 where
-  planned : status ≡ Planned → (query : Query) → Asks catalog choices.options asked query → (plan : List ℕ) → IsPlanText query plan → GoesOn choices query plan text → IsAnswer catalog choices asked status text
-  unplanned : status ≡ NoPlan → (query : Query) → Asks catalog choices.options asked query → IsImpossible query → GoesOn choices query texts.no_plan text → IsAnswer catalog choices asked status text
+  searched : (query : Query) → Asks catalog choices.options asked query → IsSearched choices query status text → IsAnswer catalog choices asked status text
   refused : status ≡ QueryRefused → (cause : List ℕ) → IsRefused catalog choices.options asked cause → text ≡ texts.query_refused cause → IsAnswer catalog choices asked status text
 
 -- the bytes are those that the shelf tells of, where it tells
@@ -97,6 +55,18 @@ pub record Offers (held : Option (List ℕ)) (catalog : Catalog) : Type 0 where
   pub bytes : List ℕ
   pub told : AreTold held bytes
   pub says : SaysCatalog bytes catalog
+
+-- the bytes under a name ask for this query
+pub record IsAskedAt (catalog : Catalog) (options : Options) (held : Option (List ℕ)) (query : Query) : Type 0 where
+  pub asked : List ℕ
+  pub told : AreTold held asked
+  pub asks : Asks catalog options asked query
+
+-- the files of a command ask for this query
+pub record IsAskedBy (command : PlanCommand) (held : List ℕ → Option (List ℕ)) (query : Query) : Type 0 where
+  pub catalog : Catalog
+  pub offers : Offers (held command.files.catalog) catalog
+  pub asked : IsAskedAt catalog command.choices.options (held command.files.query) query
 
 -- the answer to the bytes under a name
 pub record IsAnswered (catalog : Catalog) (choices : Choices) (held : Option (List ℕ)) (status : Status) (text : List ℕ) : Type 0 where

@@ -21,6 +21,10 @@ read_fault name = codes "read fault: " ++ name ++ codes "\n"
 abbrev pub no_plan : List ℕ
 no_plan = codes "no plan\n"
 
+-- the line for a query with more members and goals than this capacity
+abbrev pub too_many_entries : ℕ → List ℕ
+too_many_entries capacity = codes "too many entries: capacity " ++ decimal capacity ++ codes "\n"
+
 -- the line of a refused catalogue
 abbrev pub catalog_refused : List ℕ → List ℕ
 catalog_refused cause = codes "catalog refused: " ++ cause ++ codes "\n"

@@ -1,89 +1,120 @@
-//! The answer to a query's text over a catalogue.
-ghost use Rattle.std.specs.Prelude.{◌≡◌, ℕ, List, IfOk};
-ghost use Rattle.query_core.specs.Catalog.{IsCatalog};
-ghost use Rattle.sql_reader.specs.Faults.{IsReading};
-ghost use Rattle.sql_reader.specs.Readable.{IsReadable};
-ghost use Rattle.query_core.specs.declared.catalog.Catalog.{Catalog};
+//! How a run ends whose query was searched.
+ghost use Rattle.std.specs.Prelude.{◌≡◌, IfOk};
 ghost use Rattle.request_props.specs.Numbered.{IsProps};
+ghost use Rattle.goal_space.specs.Answers.{AreAnswers};
+ghost use Rattle.job_engine.specs.Runs.{RunEnds, IsNoted};
 ghost use Rattle.command_line.specs.Options.{AreChoices};
-ghost use Rattle.orca_cli.specs.Asked.{IsBoundAs};
-ghost use Rattle.orca_cli.specs.Run.{IsAnswer};
+ghost use Rattle.orca_cli.specs.Notes.{Note, NotesSearch};
+ghost use Rattle.orca_cli.specs.Run.{HasRoom, IsSearched};
+ghost use Rattle.orca_cli.specs.Searches.{IsSearch};
+ghost use Rattle.orca_cli.specs.Stages.{IsDone};
 ghost use Rattle.orca_cli.specs.Views.{text_of};
 
-use crate::ending::{Ending, refused_query};
-use crate::faults::{bind_fault_text, props_fault_text, sql_fault_text};
+use crate::ending::{Ending, too_many_entries};
 use crate::planning::planned;
+use crate::search::{Search, search_alone, search_by_crew};
 use crate::sections::with_sections;
 use command_line::Choices;
-use query_core::{Catalog, Query};
+use job_engine::{Outcome, RunNote};
+use orca_io::Gate;
+use plan_tree::Answers;
+use query_core::Query;
 use request_props::Props;
-use sql_bind::bind;
-use sql_reader::{Select, read_sql};
 use std::alloc::{AllocError, Global};
+use std::sync::Wait;
+use std::thread::Threads;
 
-/// The answer to a query's text.
-pub fn answer(
-    alloc: Global,
-    catalog: &Catalog,
-    choices: Choices,
-    text: &[u8],
-) -> Result<Ending, AllocError>
-    requires catalogue { IsCatalog catalog.now }
-    requires choices { AreChoices choices }
-    ensures { IfOk result
-        (λ ending. IsAnswer catalog.now choices text.now
-        ending.status (text_of ending)) }
-{
-    match read_sql(alloc, text) {
-        Ok(select) => select_answer(alloc, catalog, choices, &select),
-        Err(fault) => refused_query(alloc, &sql_fault_text(alloc, fault)?),
-    }
-}
-
-// The answer to each text of which the select is the reading.
-fn select_answer(
-    alloc: Global,
-    catalog: &Catalog,
-    choices: Choices,
-    select: &Select,
-) -> Result<Ending, AllocError>
-    requires catalogue { IsCatalog catalog.now }
-    requires readable { IsReadable select.now }
-    requires choices { AreChoices choices }
-    ensures { (text : List ℕ) → IsReading text select.now → IfOk result
-        (λ ending. IsAnswer catalog.now choices text
-        ending.status (text_of ending)) }
-{
-    match bind(alloc, select, catalog, choices.options) {
-        Ok(query) => query_answer(alloc, choices, &query),
-        Err(fault) => refused_query(alloc, &bind_fault_text(alloc, fault)?),
-    }
-}
-
-// The answer to each text that is bound to the query.
-fn query_answer(alloc: Global, choices: Choices, query: &Query) -> Result<Ending, AllocError>
-    ensures { (catalog : Catalog) (text : List ℕ)
-        → IsBoundAs catalog choices.options text query.now → IfOk result
-        (λ ending. IsAnswer catalog choices text ending.status (text_of ending)) }
-{
-    match Props::collect(alloc, query) {
-        Ok(props) => numbered_answer(alloc, choices, query, &props),
-        Err(fault) => refused_query(alloc, &props_fault_text(alloc, fault)?),
-    }
-}
-
-// The answer to each text that is bound to the query, whose lists and orders have numbers.
-fn numbered_answer(
+/// The ending of a run whose query is searched by one worker. It returns.
+pub fn answer_alone(
     alloc: Global,
     choices: Choices,
     query: &Query,
     props: &Props,
+    note: &mut RunNote,
 ) -> Result<Ending, AllocError>
-    requires { IsProps query.now props.now }
-    ensures { (catalog : Catalog) (text : List ℕ)
-        → IsBoundAs catalog choices.options text query.now → IfOk result
-        (λ ending. IsAnswer catalog choices text ending.status (text_of ending)) }
+    requires props { IsProps query.now props.now }
+    requires choices { AreChoices choices }
+    requires alone { choices.workers ≡ 1 }
+    ensures ending { IfOk result
+        (λ ending. IsSearched choices query.now ending.status (text_of ending)) }
+    ensures notes { IfOk result
+        (λ ending. NotesSearch choices query.now note.new ending.status) }
 {
-    let ending = planned(alloc, query, props)?;
-    with_sections(alloc, choices, query, props, ending)
+    let outcome = search_alone(alloc, choices, query, props, note)?;
+    ending_of(alloc, choices, query, props, &outcome)
+}
+
+/// The ending of a run whose query is searched by the workers that the command chooses.
+pub fn answer_by_crew<R: Threads + Wait + Sync, G: Gate>(
+    rt: &R,
+    alloc: Global,
+    choices: Choices,
+    query: &Query,
+    props: &Props,
+    gate: &G,
+    note: &mut RunNote,
+) -> Result<Ending, AllocError>
+    requires props { IsProps query.now props.now }
+    requires choices { AreChoices choices }
+    ensures ending { IfOk result
+        (λ ending. IsSearched choices query.now ending.status (text_of ending)) }
+    ensures notes { IfOk result
+        (λ ending. NotesSearch choices query.now note.new ending.status) }
+{
+    let outcome = search_by_crew(rt, alloc, choices, query, props, gate, note)?;
+    ending_of(alloc, choices, query, props, &outcome)
+}
+
+// The ending of a run, by the outcome of its search.
+fn ending_of(
+    alloc: Global,
+    choices: Choices,
+    query: &Query,
+    props: &Props,
+    outcome: &Outcome,
+) -> Result<Ending, AllocError>
+    requires props { IsProps query.now props.now }
+    requires ends { RunEnds query.now choices.capacity choices.workers outcome.now }
+    ensures ending { IfOk result
+        (λ ending. IsSearched choices query.now ending.status (text_of ending)) }
+    ensures notes { (note : Note) → IsNoted choices.capacity choices.workers outcome.now note
+        → IfOk result (λ ending. NotesSearch choices query.now note ending.status) }
+{
+    match outcome {
+        Outcome::Done {
+            members,
+            goals,
+            answers,
+            who,
+        } => {
+            let search = Search {
+                query,
+                props,
+                members: members.as_slice(),
+                goals: goals.as_slice(),
+                who: who.as_slice(),
+            };
+            done(alloc, choices, search, answers)
+        }
+        Outcome::Full { cap } => too_many_entries(alloc, *cap),
+        Outcome::Unfinished { ready: _ } => unreachable!(),
+    }
+}
+
+// The plan from the answers to all goals, and the sections behind it.
+fn done(
+    alloc: Global,
+    choices: Choices,
+    search: Search<'_>,
+    answers: &Answers,
+) -> Result<Ending, AllocError>
+    requires search { IsSearch search choices.workers }
+    requires room { HasRoom search.query.now choices.capacity }
+    requires answers { AreAnswers search.query.now answers.now.list }
+    ensures ending { IfOk result
+        (λ ending. IsSearched choices search.entry.query.now ending.status (text_of ending)) }
+    ensures done { IfOk result (λ ending. IsDone ending.status) }
+{
+    let ending = planned(alloc, search.query, search.props, answers)?;
+    with_sections(alloc, choices, search, ending)
 }

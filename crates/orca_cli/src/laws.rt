@@ -2,17 +2,20 @@
 ghost use Rattle.orca_cli.specs.Laws.{OneOutcome};
 
 use goal_list::goal_lists_are_known;
+use job_outcome::entries_fit_or_not;
 use job_trace::{memos_are_known, traces_are_known};
 use plan_space::least_is_one;
 use query_core::links_are_one;
 use xform_rules::members_are_known;
 
 /// The status and the text of a run are determined by what the two files hold, as long as no read
-/// fails and memory lasts: no other run over the same bytes ends in another way.
+/// fails and memory lasts: no other run over the same bytes ends in another way, by however many
+/// workers, but for their numbers in the lines by worker.
 pub fn one_outcome()
     ensures { OneOutcome }
 {
     least_is_one();
+    entries_fit_or_not();
     sql_reader::one_outcome();
     links_are_one();
     members_are_known();

@@ -2,21 +2,27 @@
 #![tactic(auto)]
 
 mod answer;
+mod asked;
+mod binding;
 mod ending;
 mod faults;
 mod files;
 mod laws;
 mod planning;
 mod reading;
+mod search;
 mod sections;
 mod status;
 mod text;
 mod top;
 
+pub use job_engine::RunNote;
 pub use laws::one_outcome;
 pub use status::Status;
 pub use top::{orca_alone, orca_run, put_usage};
 
+#[cfg(test)]
+mod crew_tests;
 #[cfg(test)]
 mod grouped_tests;
 #[cfg(test)]

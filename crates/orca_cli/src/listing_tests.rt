@@ -1,12 +1,17 @@
 //! The least plan of small queries, against a listing of all their plans up to a number of nodes: each
 //! member in each of its modes and each enforcer, over all smaller valid plans.
 
+ghost use Rattle.std.specs.Prelude.{IfOk};
 ghost use Rattle.request_props.specs.Numbered.{IsProps};
+ghost use Rattle.job_engine.specs.Runs.{RunEnds};
 ghost use Rattle.plan_tree.specs.Nodes.{EnforcerInRange};
 
+use crate::search::search_alone;
 use catalog_json::read_catalog;
+use command_line::Choices;
+use job_engine::{Outcome, RunNote};
 use plan_check::{PlanFault, check_plan};
-use plan_search::{plain_closure, plain_least};
+use plan_report::extract;
 use plan_space::{Enforcer, NodeKind, root_request_fits, root_request_is_collected};
 use plan_tree::{Found, Node, Plan, line_of};
 use query_core::{Children, Expr, KeyParts, Options, PhysicalExpr, Query, RootDist};
@@ -100,11 +105,33 @@ fn enforced(enforcer: Enforcer) -> Node
     Node::make(NodeKind::Enforcer(enforcer))
 }
 
+// The outcome of the search by one worker.
+fn searched(alloc: Global, query: &Query, props: &Props) -> Result<Outcome, AllocError>
+    requires { IsProps query.now props.now }
+    ensures { IfOk result (RunEnds query.now 131072 1) }
+{
+    let mut note = RunNote::new();
+    search_alone(alloc, Choices::usual(), query, props, &mut note)
+}
+
+fn members_of(outcome: &Outcome) -> &[u64] {
+    match outcome {
+        Outcome::Done {
+            members,
+            goals: _,
+            answers: _,
+            who: _,
+        } => members.as_slice(),
+        _ => &[],
+    }
+}
+
 fn roots_of(alloc: Global, query: &Query, props: &Props) -> Result<Roots, AllocError>
     requires { IsProps query.now props.now }
 {
     let mut natives = Vec::new(alloc);
-    for word in plain_closure(alloc, query)?.as_slice() {
+    let outcome = searched(alloc, query, props)?;
+    for word in members_of(&outcome) {
         let Some(parts) = Expr(*word).parts() else {
             continue;
         };
@@ -349,9 +376,17 @@ fn least_listed(
 fn least_searched(alloc: Global, query: &Query, props: &Props) -> Result<Option<Ranked>, AllocError>
     requires { IsProps query.now props.now }
 {
-    match plain_least(alloc, query, props)? {
-        Found::Least { plan, cost } => Ok(Some(rank_of(alloc, &plan, cost)?)),
-        Found::NoPlan => Ok(None),
+    match searched(alloc, query, props)? {
+        Outcome::Done {
+            members: _,
+            goals: _,
+            answers,
+            who: _,
+        } => match extract(alloc, query, props, &answers)? {
+            Found::Least { plan, cost } => Ok(Some(rank_of(alloc, &plan, cost)?)),
+            Found::NoPlan => Ok(None),
+        },
+        _ => Ok(None),
     }
 }
 

@@ -1,38 +1,24 @@
-//! The memos of queries, by the calls that the program makes for them.
+//! The memos of queries, as the program prints them.
 
-use crate::sections::memo_section;
-use catalog_json::read_catalog;
-use query_core::{Options, RootDist};
-use sql_bind::bind;
-use sql_reader::read_sql;
-use std::alloc::{AllocError, Global};
+use crate::tests::answered;
+use std::alloc::{AllocError, AllocGlobal, Global};
+use std::sync::Wait;
 use std::test::Fail;
+use std::thread::Threads;
 
-const PLAIN: Options = Options {
-    root: RootDist::One,
-    off: 0,
-};
-
-// The bytes of the memo of a query over a catalogue, or why there is none.
-fn memo_text(alloc: Global, catalog: &str, query: &str) -> Result<Vec<u8>, AllocError> {
-    let Ok(catalog) = read_catalog(alloc, catalog.as_bytes()) else {
-        return b"no catalogue".to_vec(alloc);
-    };
-    let Ok(select) = read_sql(alloc, query.as_bytes()) else {
-        return b"no query".to_vec(alloc);
-    };
-    match bind(alloc, &select, &catalog, PLAIN) {
-        Ok(query) => memo_section(alloc, &query),
-        Err(_) => b"not bound".to_vec(alloc),
-    }
-}
-
-// The lines of it.
-fn memo_of(alloc: Global, catalog: &str, query: &str) -> Result<Vec<String>, Fail> {
-    let text = memo_text(alloc, catalog, query)?;
-    let mut lines = Vec::new(alloc);
-    for line in str::from_utf8(&text)?.split_inclusive('\n') {
-        lines.push(String::from_str(alloc, line)?)?;
+// The lines of the memo of a query over a catalogue.
+fn memo_of<R: Threads + Wait + Sync + AllocGlobal>(
+    rt: &R,
+    catalog: &str,
+    query: &str,
+) -> Result<Vec<String>, Fail> {
+    let words = ["plan", "c.json", "q.sql", "--memo"];
+    let (_, sink) = answered(rt, &words, catalog.as_bytes(), query.as_bytes())?;
+    let mut lines = Vec::new(rt.alloc());
+    for line in str::from_utf8(sink.taken())?.split_inclusive('\n') {
+        if !lines.is_empty() || line.starts_with("memo ") {
+            lines.push(String::from_str(rt.alloc(), line)?)?;
+        }
     }
     Ok(lines)
 }
@@ -50,7 +36,7 @@ fn a_join_of_two_tables(rt: HostRuntime) -> Result<(), Fail> {
     let catalog =
         r#"{"version":1,"segments":4,"tables":[{"name":"T1","rows":1000,"distribution":["a"],"columns":[{"name":"a","ndv":1000}]},{"name":"T2","rows":1000,"distribution":["a"],"columns":[{"name":"a","ndv":1000},{"name":"b","ndv":500}]}]}"#;
     let query = "SELECT T1.a FROM T1, T2 WHERE T1.a = T2.b ORDER BY T1.a";
-    let lines = memo_of(rt.alloc(), catalog, query)?;
+    let lines = memo_of(&rt, catalog, query)?;
     let wanted = [
         "memo groups=3 members=13\n",
         "group Get(T1) rows=1000\n",
@@ -85,7 +71,7 @@ fn three_tables_with_two_equalities_on_a_link(rt: HostRuntime) -> Result<(), Fai
         "{{\"version\":1,\"segments\":4,\"tables\":[{{\"name\":\"A\",\"rows\":100,\"distribution\":\"random\",{columns}}},{{\"name\":\"B\",\"rows\":100,\"distribution\":\"random\",{columns}}},{{\"name\":\"C\",\"rows\":100,\"distribution\":\"random\",{columns}}}]}}"
     )?;
     let query = "SELECT A.x FROM A, B, C WHERE A.x = B.x AND A.y = B.y AND B.z = C.z AND A.w = C.w";
-    let lines = memo_of(rt.alloc(), catalog.as_str(), query)?;
+    let lines = memo_of(&rt, catalog.as_str(), query)?;
     assert_eq!(rt; first_line(&lines), "memo groups=7 members=58\n");
     for want in [
         "group Join(A, B) rows=100\n",
@@ -119,7 +105,7 @@ fn a_star_of_eight_tables_with_grouping(rt: HostRuntime) -> Result<(), Fail> {
     let catalog = star_catalog(rt.alloc())?;
     let query =
         "SELECT d1.a, COUNT(*) AS n FROM sales, d1, d2, d3, d4, d5, d6, d7 WHERE sales.f1 = d1.id AND sales.f2 = d2.id AND sales.f3 = d3.id AND sales.f4 = d4.id AND sales.f5 = d5.id AND sales.f6 = d6.id AND sales.f7 = d7.id AND d2.a = 5 AND d3.a < 10 GROUP BY d1.a ORDER BY n DESC, d1.a";
-    let lines = memo_of(rt.alloc(), catalog.as_str(), query)?;
+    let lines = memo_of(&rt, catalog.as_str(), query)?;
     assert_eq!(rt; first_line(&lines), "memo groups=139 members=3739\n");
     Ok(())
 }
@@ -235,16 +221,17 @@ fn tables_text(alloc: Global, count: usize) -> Result<(String, String), AllocErr
 }
 
 // The joins of each group of the shape's memo, and those that there should be.
-fn counts(
-    alloc: Global,
+fn counts<R: Threads + Wait + Sync + AllocGlobal>(
+    rt: &R,
     shape: Shape,
     tables: &[u32],
     limit: u32,
 ) -> Result<(Vec<u32>, Vec<u32>), Fail> {
+    let alloc = rt.alloc();
     let (catalog, names) = tables_text(alloc, tables.len())?;
     let (pairs, predicates) = linked(alloc, shape, tables)?;
     let query = format!(in alloc; "SELECT t0.a FROM {names}{predicates}")?;
-    let lines = memo_of(alloc, catalog.as_str(), query.as_str())?;
+    let lines = memo_of(rt, catalog.as_str(), query.as_str())?;
     Ok((
         joins_of_groups(alloc, &lines)?,
         splits_of_sets(alloc, &pairs, limit)?,
@@ -262,7 +249,7 @@ fn a_group_has_a_join_for_each_split_of_its_tables(rt: HostRuntime) -> Result<()
     ];
     for shape in [Shape::Chain, Shape::Star, Shape::Clique] {
         for (tables, limit) in sizes {
-            let (found, wanted) = counts(rt.alloc(), shape, tables, limit)?;
+            let (found, wanted) = counts(&rt, shape, tables, limit)?;
             assert_eq!(rt; found.as_slice(), wanted.as_slice());
         }
     }
@@ -282,7 +269,7 @@ fn chains_and_stars_of_four_tables(rt: HostRuntime) -> Result<(), Fail> {
             "memo groups=11 members=111\n",
         ),
     ] {
-        let lines = memo_of(rt.alloc(), catalog.as_str(), query)?;
+        let lines = memo_of(&rt, catalog.as_str(), query)?;
         assert_eq!(rt; first_line(&lines), want);
     }
     Ok(())

@@ -1,17 +1,14 @@
 //! The sections that may stand behind the plan.
 ghost use Rattle.std.specs.Prelude.{◌≡◌, ◌++◌, IfOk};
-ghost use Rattle.xform_rules.specs.Closure.{IsClosureOf};
-ghost use Rattle.request_props.specs.Numbered.{IsProps};
-ghost use Rattle.orca_cli.specs.Run.{GoesOn, IsMemoText, IsTrace, IsBehind, IsSectionText, is_asked as is_asked_by};
+ghost use Rattle.orca_cli.specs.Searches.{IsSearch};
+ghost use Rattle.orca_cli.specs.Sections.{GoesOn, IsBehind, IsByWorker, IsMemoText, IsSectionText, IsTrace, is_asked as is_asked_by};
 ghost use Rattle.orca_cli.specs.Views.{text_of};
 
 use crate::ending::Ending;
+use crate::search::Search;
 use command_line::Choices;
-use goal_list::{goal_lists_are_known, plain_goals};
-use job_trace::{memo_text, trace_text};
-use plan_search::plain_closure;
-use query_core::Query;
-use request_props::Props;
+use goal_list::goal_lists_are_known;
+use job_trace::{crew_text, memo_text, trace_text};
 use std::alloc::{AllocError, Global};
 use xform_rules::members_are_known;
 
@@ -22,23 +19,25 @@ pub enum Section {
     Memo,
     /// The goals, each with those that it waits for.
     Trace,
+    /// The goals, each with the worker that finished it.
+    ByWorker,
 }
 
 /// The ending, and behind it the sections that are asked for.
 pub fn with_sections(
     alloc: Global,
     choices: Choices,
-    query: &Query,
-    props: &Props,
+    search: Search<'_>,
     ending: Ending,
 ) -> Result<Ending, AllocError>
-    requires { IsProps query.now props.now }
+    requires { IsSearch search choices.workers }
     ensures status { IfOk result (λ made. made.status ≡ ending.status) }
     ensures text { IfOk result
-        (λ made. GoesOn choices query.now (text_of ending) (text_of made)) }
+        (λ made. GoesOn choices search.entry.query.now (text_of ending) (text_of made)) }
 {
-    let ending = with_section(alloc, Section::Memo, choices, query, props, ending)?;
-    with_section(alloc, Section::Trace, choices, query, props, ending)
+    let ending = with_section(alloc, Section::Memo, choices, search, ending)?;
+    let ending = with_section(alloc, Section::Trace, choices, search, ending)?;
+    with_section(alloc, Section::ByWorker, choices, search, ending)
 }
 
 // The ending, and the section behind it where it is asked for.
@@ -46,17 +45,16 @@ fn with_section(
     alloc: Global,
     section: Section,
     choices: Choices,
-    query: &Query,
-    props: &Props,
+    search: Search<'_>,
     ending: Ending,
 ) -> Result<Ending, AllocError>
-    requires { IsProps query.now props.now }
+    requires { IsSearch search choices.workers }
     ensures status { IfOk result (λ made. made.status ≡ ending.status) }
     ensures text { IfOk result
-        (λ made. IsBehind choices query.now section (text_of ending) (text_of made)) }
+        (λ made. IsBehind choices search.entry.query.now section (text_of ending) (text_of made)) }
 {
     if section.is_asked(choices) {
-        let text = section.text(alloc, query, props)?;
+        let text = section.text(alloc, choices, search)?;
         followed(ending, text)
     } else {
         Ok(ending)
@@ -71,56 +69,66 @@ impl Section {
         match self {
             Section::Memo => choices.memo,
             Section::Trace => choices.trace,
+            Section::ByWorker => choices.by_worker,
         }
     }
 
     // The bytes of its text.
-    fn text(self, alloc: Global, query: &Query, props: &Props) -> Result<Vec<u8>, AllocError>
-        requires { IsProps query.now props.now }
-        ensures { IfOk result (λ text. IsSectionText query.now self text.items) }
+    fn text(
+        self,
+        alloc: Global,
+        choices: Choices,
+        search: Search<'_>,
+    ) -> Result<Vec<u8>, AllocError>
+        requires { IsSearch search choices.workers }
+        ensures { IfOk result
+            (λ text. IsSectionText choices search.entry.query.now self text.items) }
     {
         match self {
-            Section::Memo => memo_section(alloc, query),
-            Section::Trace => trace_section(alloc, query, props),
+            Section::Memo => memo_section(alloc, choices, search),
+            Section::Trace => trace_section(alloc, choices, search),
+            Section::ByWorker => crew_section(alloc, choices, search),
         }
     }
 }
 
 // The bytes of the memo's text.
-pub(crate) fn memo_section(alloc: Global, query: &Query) -> Result<Vec<u8>, AllocError>
-    ensures { IfOk result (λ text. IsMemoText query.now text.items) }
+fn memo_section(alloc: Global, choices: Choices, search: Search<'_>) -> Result<Vec<u8>, AllocError>
+    requires { IsSearch search choices.workers }
+    ensures { IfOk result (λ text. IsMemoText search.entry.query.now text.items) }
 {
     // The words of members are those of expressions that groups can hold.
     members_are_known();
-    let members = plain_closure(alloc, query)?;
-    memo_text(alloc, query, members.as_slice())
+    memo_text(alloc, search.query, search.members)
 }
 
 // The bytes of the trace's text.
-fn trace_section(alloc: Global, query: &Query, props: &Props) -> Result<Vec<u8>, AllocError>
-    requires { IsProps query.now props.now }
-    ensures { IfOk result (λ text. IsTrace query.now text.items) }
-{
-    let members = plain_closure(alloc, query)?;
-    trace_over(alloc, query, props, members.as_slice())
-}
-
-// The same over the words of all members.
-fn trace_over(
-    alloc: Global,
-    query: &Query,
-    props: &Props,
-    members: &[u64],
-) -> Result<Vec<u8>, AllocError>
-    requires props { IsProps query.now props.now }
-    requires closure { IsClosureOf query.now members.now }
-    ensures { IfOk result (λ text. IsTrace query.now text.items) }
+fn trace_section(alloc: Global, choices: Choices, search: Search<'_>) -> Result<Vec<u8>, AllocError>
+    requires { IsSearch search choices.workers }
+    ensures { IfOk result (λ text. IsTrace search.entry.query.now text.items) }
 {
     // The words of members are those of expressions that groups can hold, and those of goals are over these.
     members_are_known();
     goal_lists_are_known();
-    let goals = plain_goals(alloc, query, props, members)?;
-    trace_text(alloc, query, props, members, goals.as_slice())
+    let Search {
+        query,
+        props,
+        members,
+        goals,
+        who: _,
+    } = search;
+    trace_text(alloc, query, props, members, goals)
+}
+
+// The bytes of the text by worker.
+fn crew_section(alloc: Global, choices: Choices, search: Search<'_>) -> Result<Vec<u8>, AllocError>
+    requires { IsSearch search choices.workers }
+    ensures { IfOk result
+        (λ text. IsByWorker search.entry.query.now choices.workers text.items) }
+{
+    // The words of goals are those of goals over the query.
+    goal_lists_are_known();
+    crew_text(alloc, search.query, search.props, search.goals, search.who)
 }
 
 // The ending with more text behind its own.

@@ -1,5 +1,5 @@
 use super::*;
-use crate::ending::refused_query;
+use crate::asked::{Asked, refused_query};
 use crate::faults::props_fault_text;
 use command_line::read_command;
 use orca_io::{MemShelf, MemSink, NoGate};
@@ -58,8 +58,17 @@ pub fn answered<R: Threads + Wait + Sync + AllocGlobal>(
 ) -> Result<(Status, MemSink), AllocError> {
     let words = words_of(rt.alloc(), texts)?;
     let mut shelf = shelf_of(rt.alloc(), catalog, query)?;
-    let mut sink = MemSink::with_room(rt.alloc(), 4096)?;
-    let status = orca_run(rt, rt.alloc(), &words, &mut shelf, &mut sink, &NoGate);
+    let mut sink = MemSink::with_room(rt.alloc(), 1 << 20)?;
+    let mut note = RunNote::new();
+    let status = orca_run(
+        rt,
+        rt.alloc(),
+        &words,
+        &mut shelf,
+        &mut sink,
+        &NoGate,
+        &mut note,
+    );
     Ok((status, sink))
 }
 
@@ -232,9 +241,13 @@ fn too_many_lists_or_orders_are_told_with_their_number(rt: HostRuntime) -> Resul
             "query refused: too many orders: 61\n",
         ),
     ] {
-        let ending = refused_query(rt.alloc(), &props_fault_text(rt.alloc(), fault)?)?;
-        assert_eq!(rt; ending.status, Status::QueryRefused);
-        assert_eq!(rt; ending.text.as_slice(), told.as_bytes());
+        match refused_query(rt.alloc(), &props_fault_text(rt.alloc(), fault)?)? {
+            Asked::Ended(ending) => {
+                assert_eq!(rt; ending.status, Status::QueryRefused);
+                assert_eq!(rt; ending.text.as_slice(), told.as_bytes());
+            }
+            Asked::Query(_, _) => assert!(rt; false),
+        }
     }
     Ok(())
 }
@@ -366,13 +379,22 @@ fn other_words_get_the_usage_line(rt: HostRuntime) -> Result<(), Fail> {
         &["plan", "-c.json", "q.sql"],
         &["--memo", "plan", "c.json", "q.sql"],
         &["plan", "c.json", "q.sql", "--memo", "--memo"],
-        &["plan", "c.json", "q.sql", "--workers", "4"],
+        &["plan", "c.json", "q.sql", "--workers", "0"],
     ];
     for texts in others {
         let words = words_of(rt.alloc(), texts)?;
         let mut shelf = shelf_of(rt.alloc(), CATALOG.as_bytes(), QUERY.as_bytes())?;
         let mut sink = MemSink::with_room(rt.alloc(), 4096)?;
-        let status = orca_run(&rt, rt.alloc(), &words, &mut shelf, &mut sink, &NoGate);
+        let mut note = RunNote::new();
+        let status = orca_run(
+            &rt,
+            rt.alloc(),
+            &words,
+            &mut shelf,
+            &mut sink,
+            &NoGate,
+            &mut note,
+        );
         assert_eq!(rt; status, Status::Usage);
         assert!(rt;
             sink.taken()
@@ -390,7 +412,16 @@ fn a_file_that_fails_is_named(rt: HostRuntime) -> Result<(), Fail> {
         let mut shelf = shelf_of(rt.alloc(), CATALOG.as_bytes(), QUERY.as_bytes())?;
         shelf.fail_at(call as u64)?;
         let mut sink = MemSink::with_room(rt.alloc(), 4096)?;
-        let status = orca_run(&rt, rt.alloc(), &words, &mut shelf, &mut sink, &NoGate);
+        let mut note = RunNote::new();
+        let status = orca_run(
+            &rt,
+            rt.alloc(),
+            &words,
+            &mut shelf,
+            &mut sink,
+            &NoGate,
+            &mut note,
+        );
         assert_eq!(rt; status, Status::ReadFault);
         assert_eq!(rt; sink.taken(), line.as_bytes());
     }
@@ -406,7 +437,16 @@ fn a_sink_that_fails_has_a_prefix(rt: HostRuntime) -> Result<(), Fail> {
             let mut shelf = shelf_of(rt.alloc(), CATALOG.as_bytes(), QUERY.as_bytes())?;
             let mut sink = MemSink::with_room(rt.alloc(), 4096)?;
             sink.fail_at(put as u64, kept)?;
-            let status = orca_run(&rt, rt.alloc(), &words, &mut shelf, &mut sink, &NoGate);
+            let mut note = RunNote::new();
+            let status = orca_run(
+                &rt,
+                rt.alloc(),
+                &words,
+                &mut shelf,
+                &mut sink,
+                &NoGate,
+                &mut note,
+            );
             assert_eq!(rt; status, Status::WriteFault);
             let taken = sink.taken();
             assert!(rt; taken.starts_with(before.as_bytes()));
@@ -417,17 +457,19 @@ fn a_sink_that_fails_has_a_prefix(rt: HostRuntime) -> Result<(), Fail> {
     Ok(())
 }
 
-// What one worker answers, where the words are a command.
+// What one worker answers, where the words are a command for one.
 fn alone(
     alloc: Global,
     words: &[String],
     shelf: &mut MemShelf,
     sink: &mut MemSink,
 ) -> Option<Status> {
-    if read_command(words).is_some() {
-        Some(orca_alone(alloc, words, shelf, sink))
-    } else {
-        None
+    match read_command(words) {
+        Some(command) if command.choices.workers == 1 => {
+            let mut note = RunNote::new();
+            Some(orca_alone(alloc, words, shelf, sink, &mut note))
+        }
+        _ => None,
     }
 }
 
@@ -440,4 +482,27 @@ fn one_worker_answers_alone(rt: HostRuntime) -> Result<(), Fail> {
     assert_eq!(rt; status, Some(Status::Planned));
     assert!(rt; sink.taken().starts_with(b"cost 5253\n"));
     Ok(())
+}
+
+// The status and the note of these words, over the two files `c.json` and `q.sql`.
+pub fn noted<R: Threads + Wait + Sync + AllocGlobal>(
+    rt: &R,
+    texts: &[&str],
+    catalog: &[u8],
+    query: &[u8],
+) -> Result<(Status, Option<(u32, u32, u32)>), AllocError> {
+    let words = words_of(rt.alloc(), texts)?;
+    let mut shelf = shelf_of(rt.alloc(), catalog, query)?;
+    let mut sink = MemSink::with_room(rt.alloc(), 1 << 20)?;
+    let mut note = RunNote::new();
+    let status = orca_run(
+        rt,
+        rt.alloc(),
+        &words,
+        &mut shelf,
+        &mut sink,
+        &NoGate,
+        &mut note,
+    );
+    Ok((status, note.last()))
 }

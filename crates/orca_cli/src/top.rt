@@ -1,18 +1,24 @@
 // The top call.
-ghost use Rattle.std.specs.Prelude.{◌≡◌, None, IsSome, map, string_bytes};
-ghost use Rattle.orca_base.specs.Causes.{Rose};
-ghost use Rattle.orca_cli.specs.Causes.{ReadRose, Completes, Refuses};
+ghost use Rattle.std.specs.Prelude.{◌≡◌, ◌⊎◌, ℕ, List, Option, None, Some, IfOk, map, string_bytes};
 ghost use Rattle.command_line.specs.Reading.{command_of};
-ghost use Rattle.orca_cli.specs.Run.{IsRun, IsUsage, Ends};
-ghost use Rattle.orca_cli.specs.Views.{text_of};
+ghost use Rattle.command_line.specs.Views.{plan_command};
+ghost use Rattle.orca_cli.specs.Notes.{Note};
 ghost use Rattle.orca_cli.specs.Puts.{IsPut};
+ghost use Rattle.orca_cli.specs.Run.{IsUsage, Ends};
+ghost use Rattle.orca_cli.specs.Serves.{AsksForOne, IsEnded, Serves};
+ghost use Rattle.orca_cli.specs.Views.{text_of};
 
+use crate::answer::{answer_alone, answer_by_crew};
+use crate::asked::Asked;
 use crate::ending::Ending;
-use crate::files::run_files;
+use crate::files::asked_by_files;
 use crate::status::Status;
 use crate::text::put_lines;
-use command_line::read_command;
+use command_line::{Command, read_command};
+use job_engine::RunNote;
+use job_outcome::entries_fit_or_not;
 use orca_io::{Gate, Shelf, Sink};
+use query_core::links_are_one;
 use std::alloc::{AllocError, Global};
 use std::sync::Wait;
 use std::thread::Threads;
@@ -20,85 +26,119 @@ use std::thread::Threads;
 const USAGE: &str =
     "usage: orca plan CATALOG QUERY [--workers N] [--capacity N] [--root one|spread] [--off RULE+RULE] [--memo] [--trace] [--by-worker] | orca gen NUMBER TABLES SHAPE [--workers N] [--capacity N]\n";
 
-/// Does what the words of a command line ask for: reads the files on the shelf, and puts the text
-/// into the sink line by line. The text is made whole in memory first.
+/// Does what the words of a command line ask for: reads the files on the shelf, searches the query by
+/// so many workers as the command chooses, and puts the text into the sink line by line. The text is
+/// made whole in memory first.
 pub fn orca_run<R: Threads + Wait + Sync, S: Shelf, K: Sink, G: Gate>(
-    _rt: &R,
+    rt: &R,
     alloc: Global,
     words: &[String],
     shelf: &mut S,
     out: &mut K,
-    _gate: &G,
+    gate: &G,
+    note: &mut RunNote,
 ) -> Status
-    // The status, and what the sink took of its text.
-    ensures ends { Ends (IsRun (command_of (map string_bytes words.now)) (S.held shelf.old)
-        (S.faults shelf.old) (S.faults shelf.new))
-        (K.taken out.old) (K.taken out.new) (K.faults out.old) (K.faults out.new) result }
-
-    // What an answer other than a plan comes from.
-    ensures usage { result ≡ Status.Usage → command_of (map string_bytes words.now) ≡ None }
-    ensures read_fault { result ≡ Status.ReadFault
-        → ReadRose (command_of (map string_bytes words.now))
-        (S.faults shelf.old) (S.faults shelf.new) }
-    ensures write_fault { result ≡ Status.WriteFault → Rose (K.faults out.old) (K.faults out.new) }
-
-    // Where nothing failed, a query that is asked for is answered, and a text with a cause of
-    // refusal is refused.
-    ensures completes { Completes (command_of (map string_bytes words.now)) (S.held shelf.old)
-        (S.faults shelf.old) (S.faults shelf.new) (K.faults out.old) (K.faults out.new) result }
-    ensures refuses { Refuses (command_of (map string_bytes words.now)) (S.held shelf.old)
-        (S.faults shelf.old) (S.faults shelf.new) (K.faults out.old) (K.faults out.new) result }
+    requires empty { note.old ≡ None }
+    ensures { Serves (command_of (map string_bytes words.now)) (S.held shelf.old)
+        (S.faults shelf.old) (S.faults shelf.new) (K.taken out.old) (K.taken out.new)
+        (K.faults out.old) (K.faults out.new) note.old note.new result }
 {
-    if read_command(words).is_some() {
-        orca_alone(alloc, words, shelf, out)
-    } else {
-        put_usage(out)
+    let Some(command) = read_command(words) else {
+        return put_usage(out);
+    };
+    if command.choices.workers == 1 {
+        return orca_alone(alloc, words, shelf, out, note);
     }
+    let made = ending_by_crew(rt, alloc, &command, shelf, gate, note);
+    put_made(out, &command, made)
 }
 
-/// The part of `orca_run` for one worker.
+/// The part of `orca_run` for one worker. It returns.
 pub fn orca_alone<S: Shelf, K: Sink>(
     alloc: Global,
     words: &[String],
     shelf: &mut S,
     out: &mut K,
+    note: &mut RunNote,
 ) -> Status
-    requires { IsSome (command_of (map string_bytes words.now)) }
-    // The status, and what the sink took of its text.
-    ensures ends { Ends (IsRun (command_of (map string_bytes words.now)) (S.held shelf.old)
-        (S.faults shelf.old) (S.faults shelf.new))
-        (K.taken out.old) (K.taken out.new) (K.faults out.old) (K.faults out.new) result }
-
-    ensures not_usage { result ≡ Status.Usage → ⊥ }
-    ensures read_fault { result ≡ Status.ReadFault
-        → ReadRose (command_of (map string_bytes words.now))
-        (S.faults shelf.old) (S.faults shelf.new) }
-    ensures write_fault { result ≡ Status.WriteFault → Rose (K.faults out.old) (K.faults out.new) }
-
-    // Where nothing failed, a query that is asked for is answered, and a text with a cause of
-    // refusal is refused.
-    ensures completes { Completes (command_of (map string_bytes words.now)) (S.held shelf.old)
-        (S.faults shelf.old) (S.faults shelf.new) (K.faults out.old) (K.faults out.new) result }
-    ensures refuses { Refuses (command_of (map string_bytes words.now)) (S.held shelf.old)
-        (S.faults shelf.old) (S.faults shelf.new) (K.faults out.old) (K.faults out.new) result }
+    requires words { AsksForOne (command_of (map string_bytes words.now)) }
+    requires empty { note.old ≡ None }
+    ensures { Serves (command_of (map string_bytes words.now)) (S.held shelf.old)
+        (S.faults shelf.old) (S.faults shelf.new) (K.taken out.old) (K.taken out.new)
+        (K.faults out.old) (K.faults out.new) note.old note.new result }
 {
-    // A text asks for one query, or has one fault.
-    sql_reader::one_outcome();
     let command = read_command(words).unwrap();
-    match run_files(alloc, &command, shelf) {
-        Ok(ending) => put_ending(out, &ending),
-        Err(AllocError) => Status::Memory,
-    }
+    let made = ending_alone(alloc, &command, shelf, note);
+    put_made(out, &command, made)
 }
 
 /// Puts the line that says which commands there are, as for words that are none.
 pub fn put_usage<K: Sink>(out: &mut K) -> Status
-    ensures { Ends IsUsage (K.taken out.old) (K.taken out.new)
+    ensures ends { Ends IsUsage (K.taken out.old) (K.taken out.new)
         (K.faults out.old) (K.faults out.new) result }
+    ensures one { (result ≡ Status.Usage) ⊎ (result ≡ Status.WriteFault) }
 {
     match out.put(USAGE.as_bytes()) {
         Ok(()) => Status::Usage,
         Err(_) => Status::WriteFault,
+    }
+}
+
+// The ending of the run of a command, by one worker.
+fn ending_alone<S: Shelf>(
+    alloc: Global,
+    command: &Command<'_>,
+    shelf: &mut S,
+    note: &mut RunNote,
+) -> Result<Ending, AllocError>
+    requires { command.now.choices.workers ≡ 1 }
+    ensures { IfOk result (λ ending. IsEnded (plan_command command.now) (S.held shelf.old)
+        (S.faults shelf.old) (S.faults shelf.new) note.old note.new
+        ending.status (text_of ending)) }
+{
+    match asked_by_files(alloc, command, shelf)? {
+        Asked::Query(query, props) => { answer_alone(alloc, command.choices, &query, &props, note) }
+        Asked::Ended(ending) => Ok(ending),
+    }
+}
+
+// The ending of the run of a command, by the workers that it chooses.
+fn ending_by_crew<R: Threads + Wait + Sync, S: Shelf, G: Gate>(
+    rt: &R,
+    alloc: Global,
+    command: &Command<'_>,
+    shelf: &mut S,
+    gate: &G,
+    note: &mut RunNote,
+) -> Result<Ending, AllocError>
+    ensures { IfOk result (λ ending. IsEnded (plan_command command.now) (S.held shelf.old)
+        (S.faults shelf.old) (S.faults shelf.new) note.old note.new
+        ending.status (text_of ending)) }
+{
+    match asked_by_files(alloc, command, shelf)? {
+        Asked::Query(query, props) => {
+            answer_by_crew(rt, alloc, command.choices, &query, &props, gate, note)
+        }
+        Asked::Ended(ending) => Ok(ending),
+    }
+}
+
+// Puts the text that was made for a command, if memory lasted.
+fn put_made<K: Sink>(out: &mut K, command: &Command<'_>, made: Result<Ending, AllocError>) -> Status
+    ensures { (held : List ℕ → Option (List ℕ)) (before after : List ℕ → ℕ) (empty note : Note)
+        → IfOk made (λ ending. IsEnded (plan_command command.now) held before after empty note
+        ending.status (text_of ending))
+        → Serves (Some (plan_command command.now)) held before after
+        (K.taken out.old) (K.taken out.new) (K.faults out.old) (K.faults out.new)
+        empty note result }
+{
+    // A text asks for one query, or has one fault, and a query has room or not.
+    sql_reader::one_outcome();
+    links_are_one();
+    entries_fit_or_not();
+    match made {
+        Ok(ending) => put_ending(out, &ending),
+        Err(AllocError) => Status::Memory,
     }
 }
 

@@ -1,0 +1,71 @@
+-- The sections that may stand behind the plan.
+use Rattle.std.specs.Prelude.{◌≡◌, ◌<◌, ℕ, All, Bool, true, false, List, [], ◌∷◌, ◌++◌, length}
+use Rattle.query_core.specs.declared.query.Query.{Query}
+use Rattle.xform_rules.specs.Closure.{IsClosureOf}
+use Rattle.goal_list.specs.Listed.{AreGoalsOf}
+use Rattle.job_trace.specs.Memo as memos
+use Rattle.job_trace.specs.Trace.{IsTraceText, IsCrewText}
+use Rattle.command_line.specs.declared.choices.Choices.{Choices}
+use Rattle.orca_cli.specs.declared.sections.Section.{Section}
+use Rattle.orca_cli.specs.declared.sections.Section.TheVariants as sections
+
+-- the text is that of the memo, whose members are the closure under the rules
+pub record IsMemoText (query : Query) (text : List ℕ) : Type 0 where
+  pub words : List ℕ
+  pub closure : IsClosureOf query words
+  pub is_text : memos.IsMemoText query words text
+
+-- the text is that of the trace: all goals of the query, each with its children over the closure
+pub record IsTrace (query : Query) (text : List ℕ) : Type 0 where
+  pub members : List ℕ
+  pub closure : IsClosureOf query members
+  pub goals : List ℕ
+  pub all_goals : AreGoalsOf query goals
+  pub is_text : IsTraceText query members goals text
+
+-- the text is that by worker: all goals of the query, each with the number of one of so many workers
+pub record IsByWorker (query : Query) (workers : ℕ) (text : List ℕ) : Type 0 where
+  pub goals : List ℕ
+  pub all_goals : AreGoalsOf query goals
+  pub who : List ℕ
+  pub one_each : length who ≡ length goals
+  pub below : All (λ worker. worker < workers) who
+  pub is_text : IsCrewText query goals who text
+
+-- ---- the sections behind the plan
+
+-- in the order in which they stand
+abbrev pub all_sections : List Section
+all_sections = sections.Memo ∷ sections.Trace ∷ sections.ByWorker ∷ []
+
+-- the command asks for the section
+abbrev pub is_asked : Choices → Section → Bool
+is_asked choices sections.Memo = choices.memo
+is_asked choices sections.Trace = choices.trace
+is_asked choices sections.ByWorker = choices.by_worker
+
+-- the text is the section's
+abbrev pub IsSectionText : Choices → Query → Section → List ℕ → Type 0
+IsSectionText choices query sections.Memo text = IsMemoText query text
+IsSectionText choices query sections.Trace text = IsTrace query text
+IsSectionText choices query sections.ByWorker text = IsByWorker query choices.workers text
+
+-- the section's text where it is asked for, and else nothing
+abbrev pub IsWhere : Bool → Choices → Query → Section → List ℕ → Type 0
+IsWhere false choices query section text = text ≡ []
+IsWhere true choices query section text = IsSectionText choices query section text
+
+-- the text goes on behind the front with the section, where it is asked for
+pub record IsBehind (choices : Choices) (query : Query) (section : Section) (front text : List ℕ) : Type 0 where
+  pub added : List ℕ
+  pub is_added : IsWhere (is_asked choices section) choices query section added
+  pub joined : text ≡ front ++ added
+
+-- and so with one section after the other
+abbrev pub AreBehind : Choices → Query → List Section → List ℕ → List ℕ → Type 0
+AreBehind choices query [] front text = text ≡ front
+AreBehind choices query (section ∷ more) front text = (middle : List ℕ) × IsBehind choices query section front middle × AreBehind choices query more middle text
+
+-- the text goes on behind the front with all sections that are asked for
+abbrev pub GoesOn : Choices → Query → List ℕ → List ℕ → Type 0
+GoesOn choices query front text = AreBehind choices query all_sections front text
