@@ -1,10 +1,15 @@
 #!/usr/bin/env bash
-# Times the program on chains, stars and cliques of 2 to 8 tables, one equality for each link, each over columns of its
-# own, and on a star of eight tables with two filters and a grouping (examples/star.sql). Prints the least time of
-# several runs and the greatest memory of one, with the plan's cost.
-# Usage: bench/plans.sh [RUNS [GREATEST NUMBER OF TABLES]]
+# Times the program on chains, stars and cliques of tables, one equality for each link, each over columns of its own,
+# and on a star of eight tables with two filters and a grouping (examples/star.sql), with each number of workers that
+# is named. Prints the least time of several runs and the greatest memory of one, with the plan's cost. Where another
+# program with the same command line is named in OTHER, that is timed in the same run, without options.
+# Usage: [OTHER=PROGRAM] bench/plans.sh [RUNS [GREATEST NUMBER OF TABLES [LEAST NUMBER OF TABLES [WORKERS...]]]]
 runs=${1:-3}
 greatest=${2:-8}
+first=${3:-2}
+workers=("${@:4}")
+[ ${#workers[@]} -gt 0 ] || workers=(1 4)
+other=${OTHER:-}
 . "$(dirname "${BASH_SOURCE[0]}")/timing.sh"
 
 # the pairs of tables that a shape links, one a line
@@ -45,19 +50,34 @@ ask() {
   printf ' ORDER BY t0.c1'
 } >"$folder/query"
 
-# the line of a query
+# a line of the table: who plans, with how many workers, and the command
+line() {
+  local shape=$1 tables=$2 who=$3 answer time
+  shift 3
+  answer=$("$@" | sed -n 1p)
+  time=$(least "$@")
+  printf '%-8s %6d %9s %12s %12s %s\n' "$shape" "$tables" "$who" "$(milliseconds "$time")" "$(memory "$@")" "$answer"
+}
+
+# room for the members and goals of a query: a clique of eight tables has more than there is usually room for
+room() {
+  if [ "$1" = clique ] && [ "$2" -ge 8 ]; then echo 524288; else echo 131072; fi
+}
+
+# the lines of a query
 measure() {
-  local shape=$1 tables=$2 answer time
+  local shape=$1 tables=$2 count
   shift 2
-  answer=$("$program" plan "$@" | head -n 1)
-  time=$(least "$program" plan "$@")
-  printf '%-8s %6d %12s %12s %s\n' "$shape" "$tables" "$(milliseconds "$time")" "$(memory "$program" plan "$@")" "$answer"
+  for count in "${workers[@]}"; do
+    line "$shape" "$tables" "$count" "$program" plan "$@" --workers "$count" --capacity "$(room "$shape" "$tables")"
+  done
+  if [ -n "$other" ]; then line "$shape" "$tables" other "$other" plan "$@"; fi
 }
 
 build || exit 1
-printf '%-8s %6s %12s %12s %s\n' shape tables 'time, ms' 'memory, KiB' answer
+printf '%-8s %6s %9s %12s %12s %s\n' shape tables workers 'time, ms' 'memory, KiB' answer
 for shape in chain star clique; do
-  for ((tables = 2; tables <= greatest; tables++)); do
+  for ((tables = first; tables <= greatest; tables++)); do
     write "$shape" "$tables"
     ask "$shape" "$tables"
     measure "$shape" "$tables" "$folder/catalog" "$folder/query"
