@@ -1,22 +1,22 @@
 -- Answers that are told below a rank: of children, and in the end of all goals.
-use Rattle.std.proofs.Common.{◌≡◌, ℕ, ◌+◌, ◌≤◌, List, get_or, sym, subst, arith}
-use Rattle.std.specs.List.{Contains}
-use Rattle.std.proofs.lemmas.List.{get_or-map, length-map}
+use Rattle.std.proofs.Common.{◌≡◌, ℕ, ◌+◌, ◌<◌, ◌≤◌, List, Option, None, Some, get_or, length, sym, subst, ◌∙◌, inl, inr, arith}
+use Rattle.std.specs.List.{All, Contains}
+use Rattle.std.proofs.lemmas.Bool.{cases_eq}
+use Rattle.std.proofs.lemmas.List.{get_or-map, get_or_default, length-map}
 use Rattle.std.proofs.lemmas.List.Elements.{All-contains, Contains-get_or}
 use Rattle.query_core.specs.declared.query.Query.{Query}
 use Rattle.xform_rules.specs.Closure.{IsMember}
 use Rattle.plan_tree.specs.declared.answers.Answered.{Answered}
 use Rattle.goal_space.specs.Children.{IsChildGoal}
-use Rattle.goal_space.specs.Goals.{child_goal}
+use Rattle.goal_space.specs.Goals.{IsGoal, child_goal}
 use Rattle.goal_space.specs.Ranks.{rank_of}
 use Rattle.goal_space.specs.Words.{goal_word}
-use Rattle.goal_space.specs.Entries.{IsGoalWord}
+use Rattle.goal_space.specs.Entries.{IsGoalWord, NamesGoal}
 use Rattle.goal_space.specs.Laws.{RanksFall, GoalsAreOfCandidates}
 use Rattle.goal_space.specs.Answers.{Tells, AreAnswers, words_told}
 use Rattle.goal_space.specs.declared.goals.GoalKind.{GoalKind}
 use Rattle.goal_list.specs.Listed.{AreGoalsOf}
-use Rattle.goal_answers.specs.Told.{IsToldBelow, AreToldBelow, IsReady, IsAnswered}
-use Rattle.goal_answers.proofs.FewRanks.{few_ranks}
+use Rattle.goal_answers.specs.Told.{IsToldBelow, AreToldBelow, IsPassed, FindsRank, IsReady, IsAnswered}
 
 module _ (q : Query) (answers : List Answered) where
   -- what is told below a rank is told below a lesser one
@@ -44,13 +44,41 @@ module _ (q : Query) (answers : List Answered) where
       let is : IsGoalWord q (get_or (words_told answers) k 0) = goals.sound k 0 (omega (arith, many, within)) in
       subst (λ (a : Answered). IsGoalWord q a.goal.0) at (subst (IsGoalWord q) here is)
 
+  -- what is told below one rank is told below the next, where no goal is between
+  pub told_until : (from rank : ℕ) → FindsRank q from (Some rank) → All (IsToldBelow q from) answers → All (IsToldBelow q rank) answers
+  told_until from rank finds told k d within goal names below = elim (finds.passed goal names.is_goal) [
+    | inl before ↦ told k d within goal names before
+    | inr behind ↦ absurd (omega (arith, below, behind))
+  ]
+
   -- once those of all ranks are told, these are the answers
-  pub all_told : (rank : ℕ) → 2000 ≤ rank → AreToldBelow q rank answers → AreAnswers q answers
-  all_told rank most told = record {
+  pub all_told : (from : ℕ) → FindsRank q from None → AreToldBelow q from answers → AreAnswers q answers
+  all_told from finds told = record {
     ascending = told.goals.ascending;
     sound = λ k d within.
         let here = get_or answers k d in
         let (goal, names) = word_of_goal told.goals here (Contains-get_or answers k d within) in
-        (goal, told.told k d within goal names (let few = few_ranks goal in omega (arith, few, most)));
+        (goal, told.told k d within goal names (finds.passed goal names.is_goal));
     complete = told.goals.complete;
   }
+
+-- ---- the ranks of goals
+
+module _ (q : Query) (from : ℕ) (words : List ℕ) where
+  -- the rank of the goal of the word at this place is passed
+  abbrev pub IsPassedAt : ℕ → Option ℕ → Type 0
+  IsPassedAt k next = (goal : GoalKind) → NamesGoal q (get_or words k 0) goal → IsPassed from next (rank_of goal)
+
+  -- one word more
+  pub passed_more : (before next : Option ℕ) (n rank : ℕ) → ((other : ℕ) → IsPassed from before other → IsPassed from next other) → ((goal : GoalKind) → NamesGoal q (get_or words n 0) goal → rank_of goal ≡ rank)
+      → IsPassed from next rank → ((k : ℕ) → k < n → IsPassedAt k before) → (k : ℕ) → k < n + 1 → IsPassedAt k next
+  passed_more before next n rank kept is passed old k below goal names = elim (cases_eq k n) [
+    | inl same ↦ subst (IsPassed from next) (sym (is goal (subst (λ (i : ℕ). NamesGoal q (get_or words i 0) goal) same names))) passed
+    | inr other ↦ kept (rank_of goal) (old k (omega (arith, below, other)) goal names)
+  ]
+
+  -- the ranks of all goals are
+  pub all_passed : (next : Option ℕ) → AreGoalsOf q words → ((k : ℕ) → k < length words → IsPassedAt k next) → (goal : GoalKind) → IsGoal q goal → IsPassed from next (rank_of goal)
+  all_passed next goals passed goal is_goal =
+      let (k, within, at) = goals.complete goal is_goal in
+      passed k within goal (record { is_goal = is_goal; number = sym (get_or_default words k 0 (goal_word goal) within ∙ at) })

@@ -1,5 +1,5 @@
 pub mod ByRank
-pub mod FewRanks
+pub mod Bits
 pub mod Trying
 pub mod Enforcing
 pub mod Asking

@@ -1,5 +1,5 @@
 -- Answers that are told, by the ranks of their goals.
-use Rattle.std.specs.Prelude.{ℕ, ◌+◌, ◌<◌, List, Option, None, Some, ⊤}
+use Rattle.std.specs.Prelude.{ℕ, ◌+◌, ◌<◌, ◌≤◌, ◌⊎◌, List, Option, None, Some, ⊤}
 use Rattle.std.specs.List.{All}
 use Rattle.query_core.specs.Keys.{Names}
 use Rattle.query_core.specs.declared.query.Query.{Query}
@@ -27,6 +27,25 @@ IsToldBelow q rank told = (goal : GoalKind) → NamesGoal q told.goal.0 goal →
 pub record AreToldBelow (q : Query) (rank : ℕ) (answers : List Answered) : Type 0 where
   pub goals : AreGoalsOf q (words_told answers)
   pub told : All (IsToldBelow q rank) answers
+
+-- ---- one rank after the other
+
+-- the rank isn't below this one
+abbrev pub IsRankFrom : ℕ → Option ℕ → Type 0
+IsRankFrom from None = ⊤
+IsRankFrom from (Some next) = (from ≤ next) × (next < 2000)
+
+-- the rank is below the first one, or not below the next
+abbrev pub IsPassed : ℕ → Option ℕ → ℕ → Type 0
+IsPassed from None rank = rank < from
+IsPassed from (Some next) rank = (rank < from) ⊎ (next ≤ rank)
+
+-- no goal of the query has a rank from this one on that is below the next
+pub record FindsRank (q : Query) (from : ℕ) (next : Option ℕ) : Type 0 where
+  pub is_from : IsRankFrom from next
+  pub passed : (goal : GoalKind) → IsGoal q goal → IsPassed from next (rank_of goal)
+
+-- ---- one goal
 
 -- a goal of the query, with the answers to all goals of lesser ranks
 pub record IsReady (q : Query) (answers : List Answered) (goal : GoalKind) : Type 0 where

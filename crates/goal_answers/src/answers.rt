@@ -7,10 +7,10 @@ ghost use Rattle.xform_rules.specs.Closure.{IsClosureOf};
 ghost use Rattle.request_props.specs.Numbered.{IsProps};
 ghost use Rattle.goal_space.specs.Answers.{AreAnswers, words_told};
 ghost use Rattle.goal_list.specs.Listed.{AreGoalsOf};
-ghost use Rattle.goal_answers.specs.Told.{AreOf, AreToldBelow, IsToldBelow};
+ghost use Rattle.goal_answers.specs.Told.{AreOf, AreToldBelow, FindsRank, IsToldBelow};
 
 use crate::choices::answer;
-use crate::ranks::rank;
+use crate::ranks::{rank, sooner};
 use crate::told::{Source, telling};
 use goal_children::known_goal;
 use goal_space::{goal_kinds_are_one, goals_are_known};
@@ -19,9 +19,6 @@ use plan_tree::{Answered, Answers, Node};
 use query_core::{Goal, Query};
 use request_props::Props;
 use std::alloc::{AllocError, Global};
-
-// The ranks of all goals are below it.
-const RANKS: u64 = 2000;
 
 /// The answers to all goals of the query. `members` are the words of all members, and `goals` those
 /// of all goals, ascending.
@@ -38,7 +35,8 @@ pub fn plain_answers(
     ensures { IfOk result (λ answers. AreAnswers query.now answers.list) }
 {
     let mut known = untold(alloc, goals)?;
-    for rank in 0..RANKS {
+    let mut from = 0;
+    'ranks: while let Some(rank) = next_rank(query, props, goals, from) {
         let source = Source {
             query,
             props,
@@ -47,10 +45,26 @@ pub fn plain_answers(
         };
         let told = tell_rank(alloc, source, rank)?;
         known = told;
+        from = rank + 1;
     }
     Ok(Answers {
         list: List::of(known),
     })
+}
+
+// The least rank of the goals of these words, from this one on.
+fn next_rank(query: &Query, props: &Props, goals: &[u64], from: u64) -> Option<u64>
+    requires props { IsProps query.now props.now }
+    requires goals { AreGoalsOf query.now goals.now }
+    ensures { FindsRank query.now from result }
+{
+    // For the proof: goals of the query have words.
+    goals_are_known();
+    let mut next = None;
+    for word in goals {
+        next = sooner(from, next, rank(known_goal(Goal(*word))));
+    }
+    next
 }
 
 // The goals with no answers yet.

@@ -1,12 +1,13 @@
 //! The ranks of goals.
 #![tactic(auto)]
 
-ghost use Rattle.std.specs.Prelude.{◌≡◌, ◌≤◌, ◌<◌};
+ghost use Rattle.std.specs.Prelude.{◌≡◌, ◌≤◌, ◌<◌, ℕ};
 ghost use Rattle.query_core.specs.Sets.{bit as bit_of};
 ghost use Rattle.xform_rules.specs.Counts.{table_count as count_of};
 ghost use Rattle.goal_space.specs.Ranks.{asked_rank as asked_rank_of, dist_rank as dist_rank_of};
 ghost use Rattle.goal_space.specs.Ranks.{kind_rank as kind_rank_of, level_of, order_rank as order_rank_of};
 ghost use Rattle.goal_space.specs.Ranks.{rank_of};
+ghost use Rattle.goal_answers.specs.Told.{IsPassed, IsRankFrom};
 
 use goal_space::GoalKind;
 use query_core::{KeyParts, sets};
@@ -18,6 +19,23 @@ pub fn rank(goal: GoalKind) -> u64
     ensures few { result < 2000 }
 {
     100 * level(goal.group()) + 10 * kind_rank(goal) + asked_rank(goal)
+}
+
+/// The rank, where it comes from this one on and before the next; or else the next.
+pub fn sooner(from: u64, next: Option<u64>, rank: u64) -> Option<u64>
+    requires few { rank < 2000 }
+    requires next { IsRankFrom from next }
+    ensures from { IsRankFrom from result }
+    ensures passed { IsPassed from result rank }
+    ensures kept { (other : ℕ) → IsPassed from next other → IsPassed from result other }
+{
+    if rank < from {
+        return next;
+    }
+    match next {
+        Some(least) => Some(least.min(rank)),
+        None => Some(rank),
+    }
 }
 
 // The level of the group.

@@ -1,7 +1,7 @@
 //! The answers to all goals of small queries, beside what the plain search finds, and the plans made
 //! of them.
 
-ghost use Rattle.std.specs.Prelude.{IfOk};
+ghost use Rattle.std.specs.Prelude.{All, IfOk};
 ghost use Rattle.request_props.specs.Numbered.{IsProps};
 ghost use Rattle.goal_space.specs.Answers.{AreAnswers, TellsAnswer};
 
@@ -65,15 +65,30 @@ fn is_as_searched(
     }
 }
 
+// Whether all of these are.
+fn all_as_searched(
+    alloc: Global,
+    query: &Query,
+    props: &Props,
+    answers: &[Answered],
+) -> Result<bool, AllocError>
+    requires props { IsProps query.now props.now }
+    requires answers { All (TellsAnswer query.now) answers.now }
+{
+    let mut same = true;
+    for told in answers {
+        if !is_as_searched(alloc, query, props, *told)? {
+            same = false;
+        }
+    }
+    Ok(same)
+}
+
 // Whether all answers of the query are.
 fn are_as_searched(alloc: Global, query: &Query) -> Result<bool, Fail> {
     let props = Props::collect(alloc, query)?;
     let answers = answers_of(alloc, query, &props)?;
-    let mut same = true;
-    for told in answers.list.as_slice() {
-        same = same && is_as_searched(alloc, query, &props, *told)?;
-    }
-    Ok(same)
+    Ok(all_as_searched(alloc, query, &props, answers.list.as_slice())?)
 }
 
 // The plan's text by the answers, and by the plain search.

@@ -1,4 +1,4 @@
-use Rattle.goal_answers.proofs.FewRanks.{no_bit}
+use Rattle.goal_answers.proofs.Bits.{no_bit}
 use Rattle.goal_answers.proofs.ranks.bit.Goals as goal
 
 pub returns-else-has-clause-value : goal.returns-else-has-clause-value
