@@ -6,7 +6,10 @@ It makes random small catalogues and queries, works out the text of the least pl
 against plans that were worked out by hand (known_plans.py), and with --trees against a listing of all plans. With
 --alone that is all: the program isn't run.
 
-Usage: tools/compare.py [--cases N] [--seed N] [--tables N] [--parts PART,PART] [--memo] [--trees NODES] [--alone]
+The program is run with each number of workers that --workers names, and has to print the same with all of them.
+
+Usage: tools/compare.py [--cases N] [--seed N] [--tables N] [--parts PART,PART] [--workers N,N] [--memo] [--trees NODES]
+       [--alone]
 """
 
 import argparse
@@ -86,13 +89,13 @@ def random_query(pick, most_tables, parts):
 # ---- the program
 
 
-def printed(program, folder, query, memo):
+def printed(program, folder, query, workers, memo):
     catalog, text = os.path.join(folder, "catalog.json"), os.path.join(folder, "query.sql")
     with open(catalog, "w") as file:
         file.write(query.catalog())
     with open(text, "w") as file:
         file.write(query.sql())
-    words = ["plan", catalog, text, *query.words()] + (["--memo"] if memo else [])
+    words = ["plan", catalog, text, *query.words(), "--workers", workers] + (["--memo"] if memo else [])
     return subprocess.run([program, *words], capture_output=True, text=True).stdout
 
 
@@ -128,6 +131,7 @@ def main():
     options.add_argument("--seed", type=int, default=1)
     options.add_argument("--tables", type=int, default=4, help="the most tables of a query")
     options.add_argument("--parts", default=",".join(PARTS), help="what queries may have, of " + ", ".join(PARTS))
+    options.add_argument("--workers", default="1,4", help="with how many workers the program is run")
     options.add_argument("--memo", action="store_true", help="compare the memos, too")
     options.add_argument("--trees", type=int, default=0, metavar="NODES", help="list all plans of at most so many nodes")
     options.add_argument("--alone", action="store_true", help="only check the plain program")
@@ -147,10 +151,11 @@ def main():
             if asked.alone:
                 continue
             wanted = text_of(query, least) + (memo_text(query) if asked.memo else "")
-            got = printed(asked.program, folder, query, asked.memo)
-            if wanted != got:
-                differ += 1
-                print(f"case {case}\n{told(query)}\nexpected\n{wanted}printed\n{got}")
+            for workers in asked.workers.split(","):
+                got = printed(asked.program, folder, query, workers, asked.memo)
+                if wanted != got:
+                    differ += 1
+                    print(f"case {case}, {workers} workers\n{told(query)}\nexpected\n{wanted}printed\n{got}")
     print(f"{asked.cases} cases, {without} of them without a plan, {differ} differ")
     if asked.trees:
         print(f"{listings} of them by listing, with {listed} plans")
