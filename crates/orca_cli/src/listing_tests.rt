@@ -108,10 +108,14 @@ fn enforced(enforcer: Enforcer) -> Node
 // The outcome of the search by one worker.
 fn searched(alloc: Global, query: &Query, props: &Props) -> Result<Outcome, AllocError>
     requires { IsProps query.now props.now }
-    ensures { IfOk result (RunEnds query.now 131072 1) }
+    ensures { IfOk result (RunEnds query.now 8192 1) }
 {
     let mut note = RunNote::new();
-    search_alone(alloc, Choices::usual(), query, props, &mut note)
+    let choices = Choices {
+        capacity: 8192,
+        ..Choices::usual()
+    };
+    search_alone(alloc, choices, query, props, &mut note)
 }
 
 fn members_of(outcome: &Outcome) -> &[u64] {

@@ -150,7 +150,7 @@ fn options_stand_before_between_and_behind_the_names(rt: HostRuntime) -> Result<
 
 #[test]
 fn options_of_another_form_get_the_usage_line(rt: HostRuntime) -> Result<(), Fail> {
-    let others: [&[&str]; 22] = [
+    let others: [&[&str]; 25] = [
         &["--off", "ExpandNAry"],
         &["--off", "JoinToLoop+ExpandNAry"],
         &["--off", "JoinToLoop+JoinToLoop"],
@@ -171,7 +171,10 @@ fn options_of_another_form_get_the_usage_line(rt: HostRuntime) -> Result<(), Fai
         &["--root", "one", "--root", "one"],
         &["--root=one"],
         &["--memo", "--memo"],
-        &["--workers", "1"],
+        &["--workers", "0"],
+        &["--workers=4"],
+        &["--workers", "04"],
+        &["--capacity", "63"],
         &["one"],
     ];
     for options in others {
@@ -233,7 +236,15 @@ fn no_plan_costs_less_with_rules_off(rt: HostRuntime) -> Result<(), Fail> {
                 } else {
                     format!(in alloc; "{first}+{second}")?
                 };
-                let words = ["plan", "c.json", "q.sql", "--off", off.as_str()];
+                let words = [
+                    "plan",
+                    "c.json",
+                    "q.sql",
+                    "--capacity",
+                    "4096",
+                    "--off",
+                    off.as_str(),
+                ];
                 let (_, sink) = answered(&rt, &words, catalog, query.as_bytes())?;
                 assert!(rt; cost_of(sink.taken())? >= least, "{query}");
             }
