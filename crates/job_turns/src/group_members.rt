@@ -3,6 +3,7 @@
 
 ghost use Rattle.std.specs.Prelude.{◌≡◌, ◌<◌, ◌^◌, ℕ};
 ghost use Rattle.query_core.specs.Keys.{IsGroup};
+ghost use Rattle.request_props.specs.Numbered.{IsProps};
 ghost use Rattle.goal_space.specs.Words.{goal_word};
 ghost use Rattle.goal_space.specs.declared.goals.GoalKind.TheVariants.{Exp};
 ghost use Rattle.goal_rules.specs.Explored.{explored, origin_word, IsLogicalWord};
@@ -11,25 +12,27 @@ ghost use Rattle.job_turns.specs.Groups.{implemented, as_expr};
 
 use board_moves::{Group, Members, Words};
 use goal_rules::candidates_are_in_order;
+use group_candidates::next_candidate;
 use query_core::{
-    Expr, Goal, GoalParts, Key, KeyParts, Query, candidates_are_known, expressions_are_one,
-    groups_are_known,
+    Expr, Goal, GoalParts, KeyParts, Query, candidates_are_known, expressions_are_one,
 };
+use request_props::Props;
 
 /// A group that is explored.
 #[derive(Clone, Copy)]
 pub(crate) struct ExploredGroup<'q> {
     pub(crate) query: &'q Query,
+    pub(crate) props: &'q Props,
     pub(crate) group: KeyParts,
 }
 
 impl<'q> Words for ExploredGroup<'q> {
     ghost has = { λ g word. IsLogicalWord g.query.now g.group word };
 
-    ghost can_next = { λ g. IsGroup g.query.now g.group };
+    ghost can_next = { λ g. IsGroup g.query.now g.group × IsProps g.query.now g.props.now };
 
     fn next(&self, before: Option<u64>) -> Option<u64> {
-        next_logical(self.query, self.group, before)
+        next_logical(self.query, self.props, self.group, before)
     }
 }
 
@@ -58,16 +61,17 @@ impl<'q> Group for ExploredGroup<'q> {
 #[derive(Clone, Copy)]
 pub(crate) struct ImplementedGroup<'q> {
     pub(crate) query: &'q Query,
+    pub(crate) props: &'q Props,
     pub(crate) group: KeyParts,
 }
 
 impl<'q> Words for ImplementedGroup<'q> {
     ghost has = { λ g word. IsLogicalWord g.query.now g.group word };
 
-    ghost can_next = { λ g. IsGroup g.query.now g.group };
+    ghost can_next = { λ g. IsGroup g.query.now g.group × IsProps g.query.now g.props.now };
 
     fn next(&self, before: Option<u64>) -> Option<u64> {
-        next_logical(self.query, self.group, before)
+        next_logical(self.query, self.props, self.group, before)
     }
 }
 
@@ -82,16 +86,16 @@ impl<'q> Members for ImplementedGroup<'q> {
 }
 
 // The next logical expression that the group can hold. These come before the physical ones.
-fn next_logical(query: &Query, group: KeyParts, before: Option<u64>) -> Option<u64>
-    requires { IsGroup query.now group }
+fn next_logical(query: &Query, props: &Props, group: KeyParts, before: Option<u64>) -> Option<u64>
+    requires known { IsGroup query.now group }
+    requires props { IsProps query.now props.now }
     ensures { IsNextOf (IsLogicalWord query.now group) before result }
 {
     // For the proof: logical candidates come before physical ones.
     candidates_are_in_order();
     candidates_are_known();
-    groups_are_known();
     let after = expr_before(before);
-    match query.next_candidate(Key::make(group), after) {
+    match next_candidate(query, props, group, after) {
         Some(next) => { if next.logical() { Some(next.0) } else { None } }
         None => None,
     }

@@ -1,9 +1,8 @@
 //! The turns of goals that explore a group, and that implement one.
 #![tactic(auto)]
 
-ghost use Rattle.std.specs.Prelude.{◌≡◌, ℕ};
+ghost use Rattle.std.specs.Prelude.{◌≡◌};
 ghost use Rattle.request_props.specs.Numbered.{IsProps};
-ghost use Rattle.request_props.specs.declared.props.Props.{Props as AnyProps};
 ghost use Rattle.goal_space.specs.Goals.{IsGoal};
 ghost use Rattle.goal_space.specs.Entries.{NamesGoal};
 ghost use Rattle.goal_space.specs.declared.goals.GoalKind.TheVariants.{Exp, Imp};
@@ -48,12 +47,23 @@ pub(crate) fn explore_group<'q, H: Hints>(
     explorations_are_known();
     goals_are_known();
     words_are_known();
-    explore(board, seat, job, &ExploredGroup { query, group }, hints)
+    explore(
+        board,
+        seat,
+        job,
+        &ExploredGroup {
+            query,
+            props,
+            group,
+        },
+        hints,
+    )
 }
 
 /// A group is implemented once it is explored, and each of its logical members is implemented.
 pub(crate) fn implement_group<'q, H: Hints>(
     query: &Query,
+    props: &Props,
     board: &Board<Rules<'q>>,
     seat: &mut Seat<Rules<'q>>,
     job: &mut Job,
@@ -61,6 +71,7 @@ pub(crate) fn implement_group<'q, H: Hints>(
     hints: &mut H,
 ) -> Progress
     requires board { IsBoardOf query.now board.now }
+    requires props { IsProps query.now props.now }
     requires seat { IsSeat board.now seat.old }
     requires right { HasRight board.now seat.old job.old.right }
     requires goal { NamesGoal query.now job.old.right.goal (Imp group) }
@@ -80,7 +91,11 @@ pub(crate) fn implement_group<'q, H: Hints>(
         Progress::Full => Progress::Full,
         Progress::Waiting => Progress::Waiting,
         Progress::Complete(_) => {
-            let members = ImplementedGroup { query, group };
+            let members = ImplementedGroup {
+                query,
+                props,
+                group,
+            };
             match await_found(board, seat, job, &members, hints) {
                 Some(_) => job.progress(NO_CHOICE),
                 None => Progress::Full,
@@ -93,12 +108,13 @@ pub(crate) fn implement_group<'q, H: Hints>(
 /// explore them finished.
 pub fn settled<'q>(
     query: &Query,
+    props: &Props,
     board: &Board<Rules<'q>>,
     seat: &mut Seat<Rules<'q>>,
     group: KeyParts,
 ) -> Settled
     requires board { IsBoardOf query.now board.now }
-    requires props { (props : AnyProps) × IsProps query.now props }
+    requires props { IsProps query.now props.now }
     requires seat { IsSeat board.now seat.old }
     requires goal { IsGoal query.now (Exp group) }
     requires origin { ShowsOrigin query.now board.now seat.old group }
@@ -108,5 +124,13 @@ pub fn settled<'q>(
     // For the proof: the goal asks for what is found from the group's origin.
     explorations_are_known();
     goals_are_known();
-    settle(board, seat, &ExploredGroup { query, group })
+    settle(
+        board,
+        seat,
+        &ExploredGroup {
+            query,
+            props,
+            group,
+        },
+    )
 }

@@ -23,9 +23,10 @@ use board_moves::Job;
 use goal_board::{Board, Hints, Seat};
 use goal_rules::{Rules, entries_are_known};
 use goal_space::{GoalKind, goals_are_known};
+use group_candidates::next_candidate;
 use plan_tree::alternative;
 use query_core::{
-    Expr, Key, KeyParts, Physical, PhysicalExpr, Query, candidates_are_known, expressions_are_one,
+    Expr, KeyParts, Physical, PhysicalExpr, Query, candidates_are_known, expressions_are_one,
     groups_are_known,
 };
 use request_props::{Props, Request};
@@ -101,7 +102,7 @@ fn next_serving<'q>(
     candidates_are_known();
     expressions_are_one();
     let mut before = before;
-    'candidates: while let Some(word) = next_candidate(query, group, before) {
+    'candidates: while let Some(word) = next_word(query, props, group, before) {
         if let Some(expr) = serving_expr(query, props, Expr(word), wanted) {
             if board.holds(seat, word) {
                 return Some((word, expr));
@@ -138,13 +139,12 @@ fn least_operator(group: KeyParts) -> Physical
 }
 
 // The next word of an expression that the group can hold.
-fn next_candidate(query: &Query, group: KeyParts, before: Option<u64>) -> Option<u64>
-    requires { IsGroup query.now group }
+fn next_word(query: &Query, props: &Props, group: KeyParts, before: Option<u64>) -> Option<u64>
+    requires props { IsProps query.now props.now }
+    requires known { IsGroup query.now group }
     ensures { IsNextOf (IsCandidateOf query.now group) before result }
 {
-    // For the proof: a group has one key.
-    groups_are_known();
-    match query.next_candidate(Key::make(group), as_expr(before)) {
+    match next_candidate(query, props, group, as_expr(before)) {
         Some(next) => Some(next.0),
         None => None,
     }

@@ -99,8 +99,8 @@ fn work<'q, H: Hints>(
     match goal {
         GoalKind::Exp(group) => explore_group(query, props, board, seat, job, group, hints),
         GoalKind::ExpE(e) => explore_expression(query, board, seat, job, e, hints),
-        GoalKind::Xf(e, rule) => apply_rule(query, board, seat, job, e, rule, hints),
-        GoalKind::Imp(group) => implement_group(query, board, seat, job, group, hints),
+        GoalKind::Xf(e, rule) => apply_rule(query, props, board, seat, job, e, rule, hints),
+        GoalKind::Imp(group) => implement_group(query, props, board, seat, job, group, hints),
         GoalKind::ImpE(e) => implement_expression(query, board, seat, job, e, hints),
         GoalKind::Opt(group, wanted) => choose_plan(
             query, props, board, seat, job, group, wanted, hints,

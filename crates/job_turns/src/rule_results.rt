@@ -6,6 +6,7 @@ ghost use Rattle.query_core.specs.Keys.{IsGroup};
 ghost use Rattle.query_core.specs.Expressions.{children_of, origin_of, word_of, IsCandidate, IsChild, IsPacked};
 ghost use Rattle.query_core.specs.declared.expressions.ExprParts.{ExprParts as Parts};
 ghost use Rattle.query_core.specs.declared.words.KeyParts.{KeyParts as Key};
+ghost use Rattle.request_props.specs.Numbered.{IsProps};
 ghost use Rattle.xform_rules.specs.Closure.{IsMember};
 ghost use Rattle.board_rule.specs.Looks.{ShowsEntry};
 ghost use Rattle.goal_board.specs.Seats.{hands};
@@ -28,6 +29,7 @@ use goal_board::{Board, Hints, Inserted, Seat};
 use goal_rules::{Rules, entries_are_known};
 use goal_space::{GoalKind, goals_are_known};
 use query_core::{Children, Expr, ExprParts, KeyParts, Query, candidates_are_known};
+use request_props::Props;
 use xform_rules::{
     Rule, members_are_candidates, result_at, results_are_candidates, results_are_known,
 };
@@ -125,6 +127,7 @@ fn groups_below(e: ExprParts) -> (Option<KeyParts>, Option<KeyParts>)
 /// stands on. A rule that binds a member waits for the exploration of the left child's group.
 pub(crate) fn apply_rule<'q, H: Hints>(
     query: &Query,
+    props: &Props,
     board: &Board<Rules<'q>>,
     seat: &mut Seat<Rules<'q>>,
     job: &mut Job,
@@ -132,6 +135,7 @@ pub(crate) fn apply_rule<'q, H: Hints>(
     rule: Rule,
     hints: &mut H,
 ) -> Progress
+    requires props { IsProps query.now props.now }
     requires board { IsBoardOf query.now board.now }
     requires seat { IsSeat board.now seat.old }
     requires right { HasRight board.now seat.old job.old.right }
@@ -148,7 +152,7 @@ pub(crate) fn apply_rule<'q, H: Hints>(
     goals_are_known();
     results_are_known();
     match left_group(e, rule) {
-        Some(left) => bind_members(query, board, seat, job, e, rule, left, hints),
+        Some(left) => bind_members(query, props, board, seat, job, e, rule, left, hints),
         None => {
             if put_results(query, board, seat, job, e, rule, None) {
                 job.progress(NO_CHOICE)
@@ -239,6 +243,7 @@ fn left_group(e: ExprParts, rule: Rule) -> Option<KeyParts>
 // Awaits the exploration of the left child's group, and puts in the results with each of its logical members bound.
 fn bind_members<'q, H: Hints>(
     query: &Query,
+    props: &Props,
     board: &Board<Rules<'q>>,
     seat: &mut Seat<Rules<'q>>,
     job: &mut Job,
@@ -247,6 +252,7 @@ fn bind_members<'q, H: Hints>(
     left: KeyParts,
     hints: &mut H,
 ) -> Progress
+    requires props { IsProps query.now props.now }
     requires board { IsBoardOf query.now board.now }
     requires seat { IsSeat board.now seat.old }
     requires right { HasRight board.now seat.old job.old.right }
@@ -268,7 +274,7 @@ fn bind_members<'q, H: Hints>(
         Progress::Full => Progress::Full,
         Progress::Waiting => Progress::Waiting,
         Progress::Complete(_) => {
-            if put_with_members(query, board, seat, job, e, rule, left) {
+            if put_with_members(query, props, board, seat, job, e, rule, left) {
                 job.progress(NO_CHOICE)
             } else {
                 Progress::Full
@@ -280,6 +286,7 @@ fn bind_members<'q, H: Hints>(
 // Puts in the results of a rule with each logical member of a group bound, where the looks show all of these in cells.
 fn put_with_members<'q>(
     query: &Query,
+    props: &Props,
     board: &Board<Rules<'q>>,
     seat: &mut Seat<Rules<'q>>,
     job: &Job,
@@ -287,6 +294,7 @@ fn put_with_members<'q>(
     rule: Rule,
     group: KeyParts,
 ) -> bool
+    requires props { IsProps query.now props.now }
     requires board { IsBoardOf query.now board.now }
     requires seat { IsSeat board.now seat.old }
     requires right { HasRight board.now seat.old job.now.right }
@@ -305,7 +313,11 @@ fn put_with_members<'q>(
     entries_are_known();
     members_are_candidates();
     candidates_are_known();
-    let members = ExploredGroup { query, group };
+    let members = ExploredGroup {
+        query,
+        props,
+        group,
+    };
     let mut before = None;
     while let Some(word) = next_entry(board, seat, &members, before) {
         let bound = Expr(word).known_parts();

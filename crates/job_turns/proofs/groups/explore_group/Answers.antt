@@ -19,7 +19,7 @@ pub explore-requires-clause-goal : goal.explore-requires-clause-goal
 explore-requires-clause-goal g c κs within = sym c.requires.goal.number
 
 pub explore-requires-clause-can_next : goal.explore-requires-clause-can_next
-explore-requires-clause-can_next g c κs within = c.goals_are_known.ensures.candidates c.args.query.now (Exp c.args.group) c.requires.goal.is_goal
+explore-requires-clause-can_next g c κs within = (c.goals_are_known.ensures.candidates c.args.query.now (Exp c.args.group) c.requires.goal.is_goal, c.requires.props)
 
 pub explore-requires-clause-group : goal.explore-requires-clause-group
 explore-requires-clause-group g c κs within =

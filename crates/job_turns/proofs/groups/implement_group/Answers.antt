@@ -31,7 +31,7 @@ returns-in-Waiting-clause-works g c =
     (goes_on q (c.words_are_known.ensures.children q) c.requires.board.small (Imp c.args.group) (hands c.args.seat.now) c.args.job.now.right (hands c.await_goal.new.seat) c.await_goal.new.job.right c.requires.goal waits.0, waits.1)
 
 pub await_found-requires-clause-words : goal.await_found-requires-clause-words
-await_found-requires-clause-words g c κs within = c.goals_are_known.ensures.candidates c.args.query.now (Imp c.args.group) c.requires.goal.is_goal
+await_found-requires-clause-words g c κs within = (c.goals_are_known.ensures.candidates c.args.query.now (Imp c.args.group) c.requires.goal.is_goal, c.requires.props)
 
 pub await_found-requires-clause-some_word : goal.await_found-requires-clause-some_word
 await_found-requires-clause-some_word g c κs within = some_logical c.args.query.now c.args.group

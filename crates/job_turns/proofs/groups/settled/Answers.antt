@@ -12,14 +12,14 @@ use Rattle.job_turns.proofs.GroupLemmas.{exploration_of}
 use Rattle.job_turns.proofs.groups.settled.Goals as goal
 
 pub settle-requires-clause-can_next : goal.settle-requires-clause-can_next
-settle-requires-clause-can_next c κs = c.goals_are_known.ensures.candidates c.args.query.now (Exp c.args.group) c.requires.goal
+settle-requires-clause-can_next c κs = (c.goals_are_known.ensures.candidates c.args.query.now (Exp c.args.group) c.requires.goal, c.requires.props)
 
 pub settle-requires-clause-group : goal.settle-requires-clause-group
 settle-requires-clause-group c κs =
     let q = c.args.query.now in
     let group = c.args.group in
     subst (λ (p : Query). IsExploration (meaning_of p) (origin_word q group) (IsLogicalWord q group) explored (goal_word (Exp group))) (sym c.requires.board.same_query)
-    (exploration_of q group (c.explorations_are_known.ensures q c.requires.props.0 c.requires.props.1 group c.requires.goal))
+    (exploration_of q group (c.explorations_are_known.ensures q c.args.props.now c.requires.props group c.requires.goal))
 
 pub settle-requires-clause-origin : goal.settle-requires-clause-origin
 settle-requires-clause-origin c κs =

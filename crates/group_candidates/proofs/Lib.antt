@@ -1,0 +1,3 @@
+mod SideLemmas
+mod LeftRanges
+mod KindOrder
