@@ -33,7 +33,7 @@ fn equal(left: u32, right: u32) -> Pred
 fn chain(alloc: Global) -> Result<Vec<Pred>, AllocError>
     ensures { IfOk result (λ preds. (items : Numbers Column) → length items ≡ 4 → ArePredicates items preds.items) }
 {
-    vec![in alloc; equal(0, 1), equal(1, 2), equal(2, 3)]
+    Ok(vec![in alloc; equal(0, 1), equal(1, 2), equal(2, 3)]?)
 }
 
 // The first table's column is equal to each other's, and the second table has an own predicate.
@@ -45,21 +45,14 @@ fn star(alloc: Global) -> Result<Vec<Pred>, AllocError>
         op: CmpOp::Lt,
         right: Operand::Int(5),
     };
-    vec![in alloc; equal(0, 1), equal(0, 2), equal(0, 3), own]
+    Ok(vec![in alloc; equal(0, 1), equal(0, 2), equal(0, 3), own]?)
 }
 
 // All four columns are equal.
 fn clique(alloc: Global) -> Result<Vec<Pred>, AllocError>
     ensures { IfOk result (λ preds. (items : Numbers Column) → length items ≡ 4 → ArePredicates items preds.items) }
 {
-    vec![in alloc;
-        equal(0, 1),
-        equal(0, 2),
-        equal(0, 3),
-        equal(1, 2),
-        equal(1, 3),
-        equal(2, 3),
-    ]
+    Ok(vec![in alloc; equal(0, 1), equal(0, 2), equal(0, 3), equal(1, 2), equal(1, 3), equal(2, 3)]?)
 }
 
 // `SELECT A.a FROM A, B, C, D WHERE ..`
