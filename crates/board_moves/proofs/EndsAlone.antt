@@ -1,19 +1,18 @@
 -- What the turn of a goal leaves to do for a seat that is alone.
-use Rattle.std.proofs.Common.{◌≡◌, ◌≢◌, ℕ, ◌+◌, ◌*◌, ◌<◌, ◌≤◌, ◌==◌, ◌^◌, nat_le, Bool, true, false, not, ◌&&◌, List, length, length-set, set, get_or-set_other, get_or-set_same, Option, None, Some, eq-eqb, ne_eqb, refl, sym, ap, subst, ◌∙◌, ⊎_elim, inl, inr, arith}
-use Rattle.std.proofs.lemmas.Bool.{lt-leb, le-leb}
+use Rattle.std.proofs.Common.{◌≡◌, ◌≢◌, ℕ, ◌+◌, ◌*◌, ◌<◌, ◌≤◌, ◌==◌, ◌^◌, nat_le, Bool, true, false, not, ◌&&◌, List, length, length-set, set, get_or-set_other, get_or-set_same, Some, ne_eqb, refl, sym, ap, subst, ◌∙◌, ⊎_elim, inl, arith}
+use Rattle.std.proofs.lemmas.Bool.{lt-leb}
 use Rattle.board_rule.specs.Meaning.{Meaning}
 use Rattle.board_rule.specs.Words.{mem, cell_word, run_word, head_word, cost_word, node_word, who_word}
 use Rattle.board_rule.specs.Waiters.{cleared}
-use Rattle.board_rule.specs.Seats.{Each, changed}
+use Rattle.board_rule.specs.Seats.{changed}
 use Rattle.board_rule.specs.declared.hands.Hands.{Hands}
 use Rattle.board_rule.proofs.Lists.{each_as}
 use Rattle.goal_board.specs.Alone.{KeepsAll, StaysAlone, ChangesRuns, HasWait}
 use Rattle.goal_board.specs.declared.board.Right.{Right}
 use Rattle.goal_board.specs.declared.answers.Woken.{Woken}
-use Rattle.goal_board.specs.Calls.{FinishesGoal, ended_words}
-use Rattle.board_moves.specs.Counts.{has_ready, has_empty, has_open, ready_count, empty_count, open_count, Advances, AdvancesAlone, GoesOn, GoesOnAlone, finishes, fills, waits}
-use Rattle.board_moves.specs.Moves.{Moves}
-use Rattle.board_moves.specs.Turns.{GivesUp, TurnFinishes, TurnSuspends, Turns}
+use Rattle.goal_board.specs.Calls.{ended_words}
+use Rattle.board_moves.specs.Counts.{has_ready, has_open, empty_count, open_count, Advances, AdvancesAlone, GoesOn, finishes, fills, waits}
+use Rattle.board_moves.specs.Turns.{TurnFinishes, TurnSuspends, Turns}
 use Rattle.board_moves.specs.declared.progress.Turned.{Turned}
 use Rattle.board_moves.specs.declared.progress.Turned.TheVariants as turned
 use Rattle.board_moves.proofs.CountLemmas.{one_if, number_same, one_changed}

@@ -1,5 +1,5 @@
 -- How the words that a seat keeps while it is alone go on, call by call, before the turn of a goal ends.
-use Rattle.std.proofs.Common.{◌≡◌, ◌≢◌, ◌⊎◌, ℕ, ◌+◌, ◌*◌, ◌<◌, ◌≤◌, ◌==◌, ◌^◌, nat_le, List, [], ◌∷◌, ◌++◌, length, length-set, set, get_or-set_other, get_or-set_same, Option, None, Some, eq-eqb, ne_eqb, refl, sym, ap, subst, ◌∙◌, ⊎_elim, inl, inr, arith}
+use Rattle.std.proofs.Common.{◌≡◌, ◌≢◌, ℕ, ◌+◌, ◌*◌, ◌<◌, ◌≤◌, ◌==◌, ◌^◌, nat_le, List, [], ◌∷◌, ◌++◌, length, length-set, set, get_or-set_other, get_or-set_same, Option, eq-eqb, ne_eqb, refl, sym, ap, subst, ◌∙◌, ⊎_elim, inl, inr, arith}
 use Rattle.std.proofs.lemmas.Bool.{cases_lt}
 use Rattle.board_rule.specs.Words.{mem, cell_word, run_word, head_word}
 use Rattle.board_rule.specs.Seats.{Each, changed, waits_at}

@@ -4,3 +4,4 @@ pub mod Turns
 pub mod Collects
 pub mod Passes
 pub mod Counts
+pub mod Seats

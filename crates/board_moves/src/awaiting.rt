@@ -1,8 +1,8 @@
 ghost use Rattle.std.specs.Prelude.{◌≡◌, ◌≢◌, ℕ, ◌<◌};
-ghost use Rattle.goal_board.specs.Seats.{IsSeatOf, hands};
-ghost use Rattle.goal_board.specs.Calls.{IsRightOf};
+ghost use Rattle.goal_board.specs.Seats.{IsSeatOf};
+ghost use Rattle.goal_board.specs.SeatCalls.{HasRightTo};
 ghost use Rattle.board_moves.specs.Moves.{IsEntryOf};
-ghost use Rattle.board_moves.specs.Passes.{AwaitsFound, AwaitsChildren};
+ghost use Rattle.board_moves.specs.Seats.{SeatAwaitsChildren, SeatAwaitsFound};
 
 use crate::job::Job;
 use crate::progress::Progress;
@@ -18,14 +18,15 @@ pub fn await_all<R: GoalRules, W: Words, H: Hints>(
     hints: &mut H,
 ) -> bool
     requires seat { IsSeatOf R.meaning board.now seat.old }
-    requires right { IsRightOf (R.meaning board.now.key.rules) board.now.key.room (hands seat.old) job.old.right }
+    requires right { HasRightTo R.meaning board.now seat.old job.old.right }
     requires words { W.can_next children.now }
-    requires children { (word : ℕ) → W.has children.now word → (R.meaning board.now.key.rules).child job.old.right.goal word }
+    requires children { (word : ℕ) → W.has children.now word →
+        (R.meaning board.now.key.rules).child job.old.right.goal word }
     requires hints { H.capacity hints.old ≡ board.now.key.room }
     ensures seat { IsSeatOf R.meaning board.now seat.new }
-    ensures right { IsRightOf (R.meaning board.now.key.rules) board.now.key.room (hands seat.new) job.new.right }
-    ensures awaits { AwaitsChildren (R.meaning board.now.key.rules) board.now.key.room (hands seat.old) (W.has children.now)
-        job.old.right result (hands seat.new) job.new.right }
+    ensures right { HasRightTo R.meaning board.now seat.new job.new.right }
+    ensures awaits { SeatAwaitsChildren R.meaning board.now seat.old (W.has children.now)
+        job.old.right result seat.new job.new.right }
     ensures hints { H.capacity hints.new ≡ H.capacity hints.old }
 {
     let mut before = None;
@@ -38,7 +39,8 @@ pub fn await_all<R: GoalRules, W: Words, H: Hints>(
     true
 }
 
-/// Awaits the goals of all members that are in cells, and tells how many these are. None where one of the goals found every cell taken.
+/// Awaits the goals of all members that are in cells, and tells how many these are. None where one of the goals found
+/// every cell taken.
 pub fn await_found<R: GoalRules, M: Members, H: Hints>(
     board: &Board<R>,
     seat: &mut Seat<R>,
@@ -47,16 +49,16 @@ pub fn await_found<R: GoalRules, M: Members, H: Hints>(
     hints: &mut H,
 ) -> Option<u64>
     requires seat { IsSeatOf R.meaning board.now seat.old }
-    requires right { IsRightOf (R.meaning board.now.key.rules) board.now.key.room (hands seat.old) job.old.right }
+    requires right { HasRightTo R.meaning board.now seat.old job.old.right }
     requires words { M.can_next members.now }
     requires some_word { (word : ℕ) → M.has members.now word → word ≢ 0 }
     requires children { (word : ℕ) → IsEntryOf (R.meaning board.now.key.rules) (M.has members.now) word →
         (R.meaning board.now.key.rules).child job.old.right.goal (M.goal_of members.now word) }
     requires hints { H.capacity hints.old ≡ board.now.key.room }
     ensures seat { IsSeatOf R.meaning board.now seat.new }
-    ensures right { IsRightOf (R.meaning board.now.key.rules) board.now.key.room (hands seat.new) job.new.right }
-    ensures awaits { AwaitsFound (R.meaning board.now.key.rules) board.now.key.room (hands seat.old) (M.has members.now) (M.goal_of members.now)
-        job.old.right result (hands seat.new) job.new.right }
+    ensures right { HasRightTo R.meaning board.now seat.new job.new.right }
+    ensures awaits { SeatAwaitsFound R.meaning board.now seat.old (M.has members.now) (M.goal_of members.now)
+        job.old.right result seat.new job.new.right }
     ensures hints { H.capacity hints.new ≡ H.capacity hints.old }
 {
     let mut number = 0;

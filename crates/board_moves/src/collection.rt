@@ -1,8 +1,8 @@
 ghost use Rattle.std.specs.Prelude.{◌≡◌, ◌≢◌, ℕ};
-ghost use Rattle.board_rule.specs.Looks.{ShowsEntry};
-ghost use Rattle.goal_board.specs.Seats.{IsSeatOf, hands};
-ghost use Rattle.board_moves.specs.Collects.{IsExploration, Settles};
-ghost use Rattle.board_moves.specs.Passes.{SeesGoal, Sees, Collects, CountsAgain};
+ghost use Rattle.goal_board.specs.Seats.{IsSeatOf};
+ghost use Rattle.goal_board.specs.SeatCalls.{HasSeenEntry};
+ghost use Rattle.board_moves.specs.Collects.{IsExploration};
+ghost use Rattle.board_moves.specs.Seats.{SeatSeesGoal, SeatSees, SeatCounts, SeatCollects, SeatCollectsTwice};
 
 use crate::settled::{Seen, Settled};
 use crate::words::{Group, Words};
@@ -13,10 +13,12 @@ use goal_board::{Board, GoalRules, Seat};
 pub fn settle<R: GoalRules, W: Group>(board: &Board<R>, seat: &mut Seat<R>, group: &W) -> Settled
     requires seat { IsSeatOf R.meaning board.now seat.old }
     requires can_next { W.can_next group.now }
-    requires group { IsExploration (R.meaning board.now.key.rules) (W.origin group.now) (W.has group.now) (W.goal_of group.now) (W.goal group.now) }
-    requires origin { ShowsEntry (R.meaning board.now.key.rules) board.now.key.room (hands seat.old).looks (W.origin group.now) }
+    requires group { IsExploration (R.meaning board.now.key.rules)
+        (W.origin group.now) (W.has group.now) (W.goal_of group.now) (W.goal group.now) }
+    requires origin { HasSeenEntry R.meaning board.now seat.old (W.origin group.now) }
     ensures seat { IsSeatOf R.meaning board.now seat.new }
-    ensures settles { Settles (R.meaning board.now.key.rules) board.now.key.room (W.has group.now) (W.goal_of group.now) (hands seat.old) (W.goal group.now) result (hands seat.new) }
+    ensures settles { SeatCollectsTwice R.meaning board.now seat.old (W.has group.now) (W.goal_of group.now)
+        (W.goal group.now) result seat.new }
 {
     match collect(board, seat, group) {
         Err(goal) => Settled::Open { goal },
@@ -39,9 +41,11 @@ fn collect<R: GoalRules, W: Group>(
 ) -> Result<u64, u64>
     requires seat { IsSeatOf R.meaning board.now seat.old }
     requires can_next { W.can_next group.now }
-    requires group { IsExploration (R.meaning board.now.key.rules) (W.origin group.now) (W.has group.now) (W.goal_of group.now) (W.goal group.now) }
+    requires group { IsExploration (R.meaning board.now.key.rules)
+        (W.origin group.now) (W.has group.now) (W.goal_of group.now) (W.goal group.now) }
     ensures seat { IsSeatOf R.meaning board.now seat.new }
-    ensures collects { Collects (R.meaning board.now.key.rules) board.now.key.room (hands seat.old) (W.has group.now) (W.goal_of group.now) result (hands seat.new) }
+    ensures collects { SeatCollects R.meaning board.now seat.old (W.has group.now) (W.goal_of group.now)
+        result seat.new }
 {
     let mut number = 0;
     let mut before = None;
@@ -62,7 +66,7 @@ fn count<R: GoalRules, W: Words>(board: &Board<R>, seat: &mut Seat<R>, group: &W
     requires can_next { W.can_next group.now }
     requires words { (word : ℕ) → W.has group.now word → word ≢ 0 }
     ensures seat { IsSeatOf R.meaning board.now seat.new }
-    ensures counts { CountsAgain (R.meaning board.now.key.rules) board.now.key.room (hands seat.old) (W.has group.now) result (hands seat.new) }
+    ensures counts { SeatCounts R.meaning board.now seat.old (W.has group.now) result seat.new }
 {
     let mut number = 0;
     let mut before = None;
@@ -78,10 +82,12 @@ fn count<R: GoalRules, W: Words>(board: &Board<R>, seat: &mut Seat<R>, group: &W
 // Whether a word is in a cell, and its goal finished.
 fn see<R: GoalRules, W: Group>(board: &Board<R>, seat: &mut Seat<R>, group: &W, word: u64) -> Seen
     requires seat { IsSeatOf R.meaning board.now seat.old }
-    requires group { IsExploration (R.meaning board.now.key.rules) (W.origin group.now) (W.has group.now) (W.goal_of group.now) (W.goal group.now) }
+    requires group { IsExploration (R.meaning board.now.key.rules)
+        (W.origin group.now) (W.has group.now) (W.goal_of group.now) (W.goal group.now) }
     requires word { W.has group.now word }
     ensures seat { IsSeatOf R.meaning board.now seat.new }
-    ensures sees { Sees (R.meaning board.now.key.rules) board.now.key.room (hands seat.old) (W.has group.now) (W.goal_of group.now) word result (hands seat.new) }
+    ensures sees { SeatSees R.meaning board.now seat.old (W.has group.now) (W.goal_of group.now)
+        word result seat.new }
 {
     match board.find(seat, word) {
         Some(_) => see_goal(board, seat, group.goal_of(word)),
@@ -94,7 +100,7 @@ fn see_goal<R: GoalRules>(board: &Board<R>, seat: &mut Seat<R>, goal: u64) -> Se
     requires seat { IsSeatOf R.meaning board.now seat.old }
     requires some_goal { goal ≢ 0 }
     ensures seat { IsSeatOf R.meaning board.now seat.new }
-    ensures sees { SeesGoal (R.meaning board.now.key.rules) board.now.key.room (hands seat.old) goal result (hands seat.new) }
+    ensures sees { SeatSeesGoal R.meaning board.now seat.old goal result seat.new }
 {
     match board.find(seat, goal) {
         Some(at) => match board.answer(seat, at) {

@@ -1,7 +1,6 @@
 ghost use Rattle.std.specs.Prelude.{◌≡◌, ℕ, ◌<◌};
-ghost use Rattle.board_rule.specs.Looks.{ShowsEntry};
 ghost use Rattle.goal_board.specs.Seats.{IsSeatOf, hands};
-ghost use Rattle.goal_board.specs.Calls.{IsRightOf};
+ghost use Rattle.goal_board.specs.SeatCalls.{HasRightTo, HasSeenEntry};
 ghost use Rattle.board_moves.specs.Turns.{Works};
 ghost use Rattle.board_moves.specs.Collects.{IsExploration, ExplorationAdds};
 
@@ -23,15 +22,16 @@ pub fn explore<R: GoalRules, W: Group, H: Hints>(
     hints: &mut H,
 ) -> Progress
     requires seat { IsSeatOf R.meaning board.now seat.old }
-    requires right { IsRightOf (R.meaning board.now.key.rules) board.now.key.room (hands seat.old) job.old.right }
+    requires right { HasRightTo R.meaning board.now seat.old job.old.right }
     requires fresh { job.old.right.waits ≡ 0 }
     requires goal { job.old.right.goal ≡ W.goal group.now }
     requires can_next { W.can_next group.now }
-    requires group { IsExploration (R.meaning board.now.key.rules) (W.origin group.now) (W.has group.now) (W.goal_of group.now) (W.goal group.now) }
+    requires group { IsExploration (R.meaning board.now.key.rules)
+        (W.origin group.now) (W.has group.now) (W.goal_of group.now) (W.goal group.now) }
     requires answer { (R.meaning board.now.key.rules).answer (W.goal group.now) 0 0 }
     requires hints { H.capacity hints.old ≡ board.now.key.room }
     ensures seat { IsSeatOf R.meaning board.now seat.new }
-    ensures right { IsRightOf (R.meaning board.now.key.rules) board.now.key.room (hands seat.new) job.new.right }
+    ensures right { HasRightTo R.meaning board.now seat.new job.new.right }
     ensures works { Works (R.meaning board.now.key.rules) board.now.key.room
         (ExplorationAdds (R.meaning board.now.key.rules) (W.origin group.now) job.old.right.goal)
         (hands seat.old) job.old.right result (hands seat.new) job.new.right }
@@ -52,17 +52,19 @@ fn explore_members<R: GoalRules, W: Group, H: Hints>(
     hints: &mut H,
 ) -> Progress
     requires seat { IsSeatOf R.meaning board.now seat.old }
-    requires right { IsRightOf (R.meaning board.now.key.rules) board.now.key.room (hands seat.old) job.old.right }
+    requires right { HasRightTo R.meaning board.now seat.old job.old.right }
     requires fresh { job.old.right.waits ≡ 0 }
     requires goal { job.old.right.goal ≡ W.goal group.now }
     requires can_next { W.can_next group.now }
-    requires group { IsExploration (R.meaning board.now.key.rules) (W.origin group.now) (W.has group.now) (W.goal_of group.now) (W.goal group.now) }
-    requires origin { ShowsEntry (R.meaning board.now.key.rules) board.now.key.room (hands seat.old).looks (W.origin group.now) }
+    requires group { IsExploration (R.meaning board.now.key.rules)
+        (W.origin group.now) (W.has group.now) (W.goal_of group.now) (W.goal group.now) }
+    requires origin { HasSeenEntry R.meaning board.now seat.old (W.origin group.now) }
     requires answer { (R.meaning board.now.key.rules).answer (W.goal group.now) 0 0 }
     requires hints { H.capacity hints.old ≡ board.now.key.room }
     ensures seat { IsSeatOf R.meaning board.now seat.new }
-    ensures right { IsRightOf (R.meaning board.now.key.rules) board.now.key.room (hands seat.new) job.new.right }
-    ensures works { Works (R.meaning board.now.key.rules) board.now.key.room ((R.meaning board.now.key.rules).child job.old.right.goal)
+    ensures right { HasRightTo R.meaning board.now seat.new job.new.right }
+    ensures works { Works (R.meaning board.now.key.rules) board.now.key.room
+        ((R.meaning board.now.key.rules).child job.old.right.goal)
         (hands seat.old) job.old.right result (hands seat.new) job.new.right }
     ensures hints { H.capacity hints.new ≡ H.capacity hints.old }
 {

@@ -15,9 +15,9 @@ impl Job {
     ghost use Rattle.board_rule.specs.Words.{cell_word};
     ghost use Rattle.board_rule.specs.Looks.{Looked};
     ghost use Rattle.goal_board.specs.Seats.{IsSeatOf, hands};
-    ghost use Rattle.goal_board.specs.Calls.{IsRightOf};
-    ghost use Rattle.board_moves.specs.Moves.{Awaits, IsDoneUnlessWaiting};
-    ghost use Rattle.board_moves.specs.Turns.{IsReady, Ends};
+    ghost use Rattle.goal_board.specs.SeatCalls.{HasRightTo};
+    ghost use Rattle.board_moves.specs.Moves.{IsDoneUnlessWaiting};
+    ghost use Rattle.board_moves.specs.Seats.{SeatAwaitsChild, SeatIsReady, SeatEnds};
 
     /// The job of a right that was just claimed.
     pub fn of(right: Right) -> Job
@@ -52,7 +52,8 @@ impl Job {
         }
     }
 
-    /// Sees whether a child of the goal is finished. Otherwise puts it in, and waits for it, unless the goal waits for eight others.
+    /// Sees whether a child of the goal is finished. Otherwise puts it in, and waits for it, unless the goal waits for
+    /// eight others.
     pub fn await_child<R: GoalRules, H: Hints>(
         &mut self,
         board: &Board<R>,
@@ -61,12 +62,13 @@ impl Job {
         hints: &mut H,
     ) -> Progress
         requires seat { IsSeatOf R.meaning board.now seat.old }
-        requires right { IsRightOf (R.meaning board.now.key.rules) board.now.key.room (hands seat.old) self.old.right }
+        requires right { HasRightTo R.meaning board.now seat.old self.old.right }
         requires child { (R.meaning board.now.key.rules).child self.old.right.goal child }
         requires hints { H.capacity hints.old ≡ board.now.key.room }
         ensures seat { IsSeatOf R.meaning board.now seat.new }
-        ensures right { IsRightOf (R.meaning board.now.key.rules) board.now.key.room (hands seat.new) self.new.right }
-        ensures awaits { Awaits (R.meaning board.now.key.rules) board.now.key.room (hands seat.old) self.old.right child result (hands seat.new) self.new.right }
+        ensures right { HasRightTo R.meaning board.now seat.new self.new.right }
+        ensures awaits { SeatAwaitsChild R.meaning board.now seat.old self.old.right child
+            result seat.new self.new.right }
         ensures hints { H.capacity hints.new ≡ H.capacity hints.old }
     {
         match put_goal(board, seat, child, hints) {
@@ -88,13 +90,14 @@ impl Job {
         child: u64,
     ) -> Progress
         requires seat { IsSeatOf R.meaning board.now seat.old }
-        requires right { IsRightOf (R.meaning board.now.key.rules) board.now.key.room (hands seat.old) self.old.right }
+        requires right { HasRightTo R.meaning board.now seat.old self.old.right }
         requires near { at < board.now.key.room }
         requires stands { Looked (hands seat.old).looks (cell_word at) child }
         requires child { (R.meaning board.now.key.rules).child self.old.right.goal child }
         ensures seat { IsSeatOf R.meaning board.now seat.new }
-        ensures right { IsRightOf (R.meaning board.now.key.rules) board.now.key.room (hands seat.new) self.new.right }
-        ensures awaits { Awaits (R.meaning board.now.key.rules) board.now.key.room (hands seat.old) self.old.right child result (hands seat.new) self.new.right }
+        ensures right { HasRightTo R.meaning board.now seat.new self.new.right }
+        ensures awaits { SeatAwaitsChild R.meaning board.now seat.old self.old.right child
+            result seat.new self.new.right }
     {
         if self.waits == 8 {
             return Progress::Waiting;
@@ -121,12 +124,13 @@ impl Job {
         hints: &mut H,
     ) -> Turned
         requires seat { IsSeatOf R.meaning board.now seat.old }
-        requires right { IsRightOf (R.meaning board.now.key.rules) board.now.key.room (hands seat.old) self.right }
-        requires ready { IsReady (R.meaning board.now.key.rules) board.now.key.room (hands seat.old).looks self.right progress }
+        requires right { HasRightTo R.meaning board.now seat.old self.right }
+        requires ready { SeatIsReady R.meaning board.now seat.old self.right progress }
         requires worker { worker < 64 }
         requires hints { H.capacity hints.old ≡ board.now.key.room }
         ensures seat { IsSeatOf R.meaning board.now seat.new }
-        ensures ends { Ends board.now.key.room (hands seat.old) self.right.place worker progress result (hands seat.new) }
+        ensures ends { SeatEnds R.meaning board.now seat.old self.right.place worker progress
+            result seat.new }
         ensures hints { H.capacity hints.new ≡ H.capacity hints.old }
     {
         let Job { right, waits: _ } = self;

@@ -4,3 +4,4 @@ pub mod Steps
 pub mod Calls
 pub mod Closed
 pub mod Numbers
+pub mod SeatCalls

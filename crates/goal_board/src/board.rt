@@ -35,13 +35,15 @@ impl<R: GoalRules> Board<R> {
     ghost use Rattle.goal_board.specs.Seats.{IsSeatOf, hands};
     ghost use Rattle.board_rule.specs.Seats.{opening_hands};
 
-    /// An empty board of `cap` cells, and the first seat. It takes the board's memory, and no other call but `close` takes any.
+    /// An empty board of `cap` cells, and the first seat. It takes the board's memory, and no other call but `close` takes
+    /// any.
     pub fn start(alloc: Global, rules: R, cap: u32) -> Result<(Board<R>, Seat<R>), AllocError>
     where
         R: Drop,
         requires { (1 ≤ cap) × (cap ≤ 2 ^ 20) }
         ensures board { IfOk result (λ made. (made.0.key.rules ≡ rules) × (made.0.key.room ≡ cap)) }
-        ensures seat { IfOk result (λ made. IsSeatOf R.meaning made.0 made.1 × (hands made.1 ≡ opening_hands rules cap)) }
+        ensures seat { IfOk result (λ made.
+            IsSeatOf R.meaning made.0 made.1 × (hands made.1 ≡ opening_hands rules cap)) }
     {
         let words = vec![in alloc; 0; 14 * cap as usize + 1]?;
         let key = Key { rules, room: cap };

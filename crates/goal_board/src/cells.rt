@@ -1,7 +1,7 @@
 ghost use Rattle.std.specs.Prelude.{◌≡◌, ◌≢◌, ℕ, ◌<◌, IsSome, IsTrue};
-ghost use Rattle.board_rule.specs.Looks.{ShowsEntry};
 ghost use Rattle.goal_board.specs.Seats.{IsSeatOf, hands};
 ghost use Rattle.goal_board.specs.Calls.{Inserts, Finds, FindsWhether, ReadsCell};
+ghost use Rattle.goal_board.specs.SeatCalls.{HasSeenEntry};
 
 use crate::board::{Board, Seat};
 use crate::steps::cell_at;
@@ -37,7 +37,7 @@ impl<R: GoalRules> Board<R> {
         requires { IsSeatOf R.meaning self.now seat.old }
         ensures seat { IsSeatOf R.meaning self.now seat.new }
         ensures answer { Finds self.now.key.room (hands seat.old) word result (hands seat.new) }
-        ensures shown { ShowsEntry (R.meaning self.now.key.rules) self.now.key.room (hands seat.old).looks word → IsSome result }
+        ensures shown { HasSeenEntry R.meaning self.now seat.old word → IsSome result }
     {
         let cells = self.key.room;
         let mut place = home(word, cells);
@@ -59,7 +59,7 @@ impl<R: GoalRules> Board<R> {
         requires { IsSeatOf R.meaning self.now seat.old }
         ensures seat { IsSeatOf R.meaning self.now seat.new }
         ensures answer { FindsWhether self.now.key.room (hands seat.old) word result (hands seat.new) }
-        ensures shown { ShowsEntry (R.meaning self.now.key.rules) self.now.key.room (hands seat.old).looks word → IsTrue result }
+        ensures shown { HasSeenEntry R.meaning self.now seat.old word → IsTrue result }
     {
         self.find(seat, word).is_some()
     }

@@ -134,7 +134,8 @@ pub fn read_all<R: GoalRules>(
 ) -> Result<Closed, AllocError>
     requires read { IsFull words.now.words × (slots_len words.now.words ≡ 14 * key.now.room + 1) }
     requires workers { HasWorkers (mem (slots_items words.now.words)) key.now.room }
-    ensures { IfOk result (λ c. ReadsBoard (R.meaning key.now.rules) key.now.room (mem (slots_items words.now.words)) c) }
+    ensures { IfOk result (λ closed.
+        ReadsBoard (R.meaning key.now.rules) key.now.room (mem (slots_items words.now.words)) closed) }
 {
     Ok(Closed {
         cells: cells_of(alloc, words, key.room)?,

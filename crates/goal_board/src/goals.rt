@@ -1,7 +1,7 @@
 ghost use Rattle.std.specs.Prelude.{◌≡◌, ℕ, ◌<◌};
-ghost use Rattle.board_rule.specs.Looks.{ShowsPromise};
 ghost use Rattle.goal_board.specs.Seats.{IsSeatOf, hands};
-ghost use Rattle.goal_board.specs.Calls.{IsRightOf, Claims, SuspendsGoal, FinishesGoal, Reads};
+ghost use Rattle.goal_board.specs.Calls.{SuspendsGoal};
+ghost use Rattle.goal_board.specs.SeatCalls.{HasRightTo, HasSeenPromise, SeatClaims, SeatFinishes, SeatReads};
 
 use crate::answers::{Answer, Suspended, Woken};
 use crate::board::{Board, Right, Seat};
@@ -15,7 +15,7 @@ impl<R: GoalRules> Board<R> {
         requires seat { IsSeatOf R.meaning self.now seat.old }
         requires near { at < self.now.key.room }
         ensures seat { IsSeatOf R.meaning self.now seat.new }
-        ensures answer { Claims (R.meaning self.now.key.rules) self.now.key.room (hands seat.old) at result (hands seat.new) }
+        ensures answer { SeatClaims R.meaning self.now seat.old at result seat.new }
     {
         let goal = self.look(seat, cell_at(at));
         if goal == 0 || !self.key.rules.is_goal(goal) {
@@ -35,7 +35,7 @@ impl<R: GoalRules> Board<R> {
     /// Gives up the right to a goal that isn't finished.
     pub fn suspend(&self, seat: &mut Seat<R>, right: Right) -> Suspended
         requires seat { IsSeatOf R.meaning self.now seat.old }
-        requires right { IsRightOf (R.meaning self.now.key.rules) self.now.key.room (hands seat.old) right }
+        requires right { HasRightTo R.meaning self.now seat.old right }
         ensures seat { IsSeatOf R.meaning self.now seat.new }
         ensures answer { SuspendsGoal (hands seat.old) right.place result (hands seat.new) }
     {
@@ -61,14 +61,14 @@ impl<R: GoalRules> Board<R> {
         hints: &mut H,
     ) -> Woken
         requires seat { IsSeatOf R.meaning self.now seat.old }
-        requires right { IsRightOf (R.meaning self.now.key.rules) self.now.key.room (hands seat.old) right }
+        requires right { HasRightTo R.meaning self.now seat.old right }
         requires waits { right.waits ≡ 0 }
         requires worker { worker < 64 }
-        requires promise { ShowsPromise (R.meaning self.now.key.rules) self.now.key.room (hands seat.old).looks right.goal }
+        requires promise { HasSeenPromise R.meaning self.now seat.old right.goal }
         requires answer { (R.meaning self.now.key.rules).answer right.goal answer.cost answer.node }
         requires hints { H.capacity hints.old ≡ self.now.key.room }
         ensures seat { IsSeatOf R.meaning self.now seat.new }
-        ensures answer { FinishesGoal self.now.key.room (hands seat.old) right.place worker answer.cost answer.node result (hands seat.new) }
+        ensures answer { SeatFinishes R.meaning self.now seat.old right.place worker answer result seat.new }
         ensures hints { H.capacity hints.new ≡ H.capacity hints.old }
     {
         let Right {
@@ -88,7 +88,7 @@ impl<R: GoalRules> Board<R> {
         requires seat { IsSeatOf R.meaning self.now seat.old }
         requires near { at < self.now.key.room }
         ensures seat { IsSeatOf R.meaning self.now seat.new }
-        ensures answer { Reads (R.meaning self.now.key.rules) self.now.key.room (hands seat.old) at result (hands seat.new) }
+        ensures answer { SeatReads R.meaning self.now seat.old at result seat.new }
     {
         if self.look(seat, head_at(at)) < CLOSED {
             return None;

@@ -1,7 +1,7 @@
 ghost use Rattle.std.specs.Prelude.{◌≡◌, ℕ, ◌≤◌, [], IfOk};
 ghost use Rattle.board_rule.specs.Seats.{parted, part, joined};
 ghost use Rattle.goal_board.specs.Seats.{IsSeatOf, hands};
-ghost use Rattle.goal_board.specs.Calls.{ReadsFull};
+ghost use Rattle.goal_board.specs.SeatCalls.{SeatReadsFull};
 ghost use Rattle.goal_board.specs.Closed.{ClosesWith};
 
 use crate::answers::Closed;
@@ -15,7 +15,7 @@ impl<R: GoalRules> Board<R> {
     pub fn full_seen(&self, seat: &mut Seat<R>) -> bool
         requires { IsSeatOf R.meaning self.now seat.old }
         ensures seat { IsSeatOf R.meaning self.now seat.new }
-        ensures answer { ReadsFull (R.meaning self.now.key.rules) self.now.key.room (hands seat.old) result (hands seat.new) }
+        ensures answer { SeatReadsFull R.meaning self.now seat.old result seat.new }
     {
         self.look(seat, 0) != 0
     }
@@ -53,7 +53,8 @@ impl<R: GoalRules> Board<R> {
         requires seat { IsSeatOf R.meaning self seat }
         requires parts { (hands seat).parts ≡ 64 }
         requires rights { (hands seat).rights ≡ [] }
-        ensures { IfOk result (λ closed. ClosesWith R.meaning self.key.rules self.key.room (hands seat) closed) }
+        ensures { IfOk result (λ closed.
+            ClosesWith R.meaning self.key.rules self.key.room (hands seat) closed) }
     {
         let Board { table, key } = self;
         let Seat { seat } = seat;

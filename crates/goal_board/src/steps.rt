@@ -114,9 +114,11 @@ impl<R: GoalRules> Board<R> {
         _node: u64,
     ) -> u64
         requires seat { IsSeatOf R.meaning self.now seat.old }
-        requires may { CanClose (R.meaning self.now.key.rules) self.now.key.room (hands seat.old) place _worker _cost _node }
+        requires may { CanClose (R.meaning self.now.key.rules) self.now.key.room (hands seat.old)
+            place _worker _cost _node }
         ensures seat { IsInCall R.meaning self.now seat.new }
-        ensures told { ClosesHead R.meaning (hands seat.old) place _worker _cost _node result (hands seat.new) }
+        ensures told { ClosesHead R.meaning (hands seat.old) place _worker _cost _node
+            result (hands seat.new) }
     {
         self.table
             .shared

@@ -1,8 +1,9 @@
 ghost use Rattle.std.specs.Prelude.{◌≡◌, ℕ, ◌<◌, ◌≤◌, [], ◌∷◌};
-ghost use Rattle.board_rule.specs.Looks.{ShowsFinished, ShowsPromise};
+ghost use Rattle.board_rule.specs.Looks.{ShowsFinished};
 ghost use Rattle.goal_board.specs.Numbers.{HasOnly};
 ghost use Rattle.goal_board.specs.Seats.{IsSeatOf, hands};
 ghost use Rattle.goal_board.specs.Calls.{Inserts, IsRightOf};
+ghost use Rattle.goal_board.specs.SeatCalls.{HasSeenPromise};
 
 use crate::{Answer, Awaited, Board, GoalRules, Hints, Inserted, Right, Seat, Suspended, Woken};
 use std::process::Abort;
@@ -190,7 +191,7 @@ fn finish_one<R: GoalRules>(
     requires only { HasOnly (hands seat.old).rights right.place }
     requires waits { right.waits ≡ 0 }
     requires worker { worker < 64 }
-    requires promise { ShowsPromise (R.meaning board.now.key.rules) board.now.key.room (hands seat.old).looks right.goal }
+    requires promise { HasSeenPromise R.meaning board.now seat.old right.goal }
     requires answer { (R.meaning board.now.key.rules).answer right.goal answer.cost answer.node }
     ensures seat { IsSeatOf R.meaning board.now seat.new }
     ensures rights { (hands seat.new).rights ≡ [] }
@@ -225,7 +226,8 @@ fn see_finished<R: GoalRules>(
     requires right { IsRightOf (R.meaning board.now.key.rules) board.now.key.room (hands seat.old) right.now }
     ensures seat { IsSeatOf R.meaning board.now seat.new }
     ensures right { IsRightOf (R.meaning board.now.key.rules) board.now.key.room (hands seat.new) right.now }
-    ensures finished { ShowsFinished (R.meaning board.now.key.rules) board.now.key.room (hands seat.new).looks goal }
+    ensures finished { ShowsFinished (R.meaning board.now.key.rules) board.now.key.room
+        (hands seat.new).looks goal }
     ensures rights { (hands seat.new).rights ≡ (hands seat.old).rights }
     ensures parts { (hands seat.new).parts ≡ (hands seat.old).parts }
 {

@@ -1,6 +1,7 @@
 ghost use Rattle.std.specs.Prelude.{◌≡◌, ℕ, ◌<◌};
 ghost use Rattle.goal_board.specs.Seats.{IsSeatOf, hands};
-ghost use Rattle.goal_board.specs.Calls.{IsRightOf, SeesChild, WaitsFor, waited};
+ghost use Rattle.goal_board.specs.Calls.{WaitsFor, waited};
+ghost use Rattle.goal_board.specs.SeatCalls.{HasRightTo, HasSeenChild};
 
 use crate::answers::Awaited;
 use crate::board::{Board, Right, Seat};
@@ -11,14 +12,14 @@ impl<R: GoalRules> Board<R> {
     /// Lets a goal wait for a child, unless the child is finished. A goal that waits is not ready before.
     pub fn wait_for(&self, seat: &mut Seat<R>, right: &mut Right, child_at: u32) -> Awaited
         requires seat { IsSeatOf R.meaning self.now seat.old }
-        requires right { IsRightOf (R.meaning self.now.key.rules) self.now.key.room (hands seat.old) right.old }
+        requires right { HasRightTo R.meaning self.now seat.old right.old }
         requires near { child_at < self.now.key.room }
-        requires child { SeesChild (R.meaning self.now.key.rules) (hands seat.old).looks right.old.goal child_at }
+        requires child { HasSeenChild R.meaning self.now seat.old right.old.goal child_at }
         requires fewer { right.old.waits < 8 }
         ensures seat { IsSeatOf R.meaning self.now seat.new }
         ensures answer { WaitsFor (hands seat.old) right.old.place child_at result (hands seat.new) }
         ensures right { right.new ≡ waited result right.old }
-        ensures its { IsRightOf (R.meaning self.now.key.rules) self.now.key.room (hands seat.new) right.new }
+        ensures its { HasRightTo R.meaning self.now seat.new right.new }
     {
         let waiter = 8 * right.place + right.waits;
         self.begin_wait(seat, right.place, right.waits);

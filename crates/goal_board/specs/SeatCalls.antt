@@ -1,0 +1,45 @@
+-- What a call finds and does, over a board and a seat of it before and after.
+use Rattle.std.specs.Prelude.{ℕ, Option, Bool}
+use Rattle.board_rule.specs.Meaning.{Meaning}
+use Rattle.board_rule.specs.Looks.{ShowsEntry, ShowsPromise}
+use Rattle.goal_board.specs.declared.board.Board.{Board}
+use Rattle.goal_board.specs.declared.board.Seat.{Seat}
+use Rattle.goal_board.specs.declared.board.Right.{Right}
+use Rattle.goal_board.specs.declared.answers.Answer.{Answer}
+use Rattle.goal_board.specs.declared.answers.Woken.{Woken}
+use Rattle.goal_board.specs.Seats.{hands}
+use Rattle.goal_board.specs.Calls.{IsRightOf, SeesChild, Claims, FinishesGoal, Reads, ReadsFull}
+
+module _ {R : Type 0} (meaning_of : R → Meaning) (b : Board R) (s : Seat R) where
+  -- the seat has the right
+  abbrev pub HasRightTo : Right → Type 0
+  HasRightTo right = IsRightOf (meaning_of b.key.rules) b.key.room (hands s) right
+
+  -- its looks show the entry
+  abbrev pub HasSeenEntry : ℕ → Type 0
+  HasSeenEntry word = ShowsEntry (meaning_of b.key.rules) b.key.room (hands s).looks word
+
+  -- its looks show the goal's promise
+  abbrev pub HasSeenPromise : ℕ → Type 0
+  HasSeenPromise goal = ShowsPromise (meaning_of b.key.rules) b.key.room (hands s).looks goal
+
+  -- one of its looks found a child of the goal in the cell
+  abbrev pub HasSeenChild : (goal at : ℕ) → Type 0
+  HasSeenChild goal at = SeesChild (meaning_of b.key.rules) (hands s).looks goal at
+
+  -- it claimed the goal at the place, or found it busy
+  abbrev pub SeatClaims : (at : ℕ) → Option Right → Seat R → Type 0
+  SeatClaims at found t = Claims (meaning_of b.key.rules) b.key.room (hands s) at found (hands t)
+
+  -- it finished the goal at the place with the answer, and woke the goals that wait for it
+  abbrev pub SeatFinishes : (place worker : ℕ) → Answer → Woken → Seat R → Type 0
+  SeatFinishes place worker answer woken t =
+      FinishesGoal b.key.room (hands s) place worker answer.cost answer.node woken (hands t)
+
+  -- it read the answer at the place, or found the goal open
+  abbrev pub SeatReads : (at : ℕ) → Option Answer → Seat R → Type 0
+  SeatReads at found t = Reads (meaning_of b.key.rules) b.key.room (hands s) at found (hands t)
+
+  -- it looked at the full word
+  abbrev pub SeatReadsFull : Bool → Seat R → Type 0
+  SeatReadsFull full t = ReadsFull (meaning_of b.key.rules) b.key.room (hands s) full (hands t)
