@@ -1,10 +1,11 @@
 -- Laws of the next join over a range of left children.
-use Rattle.std.proofs.Common.{◌≡◌, ℕ, ◌+◌, ◌<◌, ◌≤◌, ◌^◌, ◌⊎◌, inl, inr, Option, None, Some, true, refl, ap, arith, max}
+use Rattle.std.proofs.Common.{◌≡◌, ℕ, ◌+◌, ◌-◌, ◌<◌, ◌≤◌, ◌^◌, ◌⊎◌, inl, inr, Option, None, Some, true, refl, ap, sym, ◌∙◌, arith, max}
 use Rattle.std.specs.Prelude.{◌==◌}
 use Rattle.std.specs.Option.{option_map_or}
 use Rattle.std.specs.Int.{trailing_zeros, w32}
 use Rattle.std.proofs.lemmas.Bool.{cond_both, cases_lt, cases_eq, eqb-true}
 use Rattle.std.proofs.lemmas.Nat.{or_disjoint}
+use Rattle.query_core.specs.Sets.{bit}
 use Rattle.query_core.specs.Keys.{key_number, IsInRange, has_own, alone, top_of}
 use Rattle.query_core.specs.Expressions.{word_of, FallsInto}
 use Rattle.query_core.specs.ByKind.{expr, join_by, join, IsJoinBy, IsJoinAt, IsLeastFrom, FindsFrom}
@@ -13,6 +14,7 @@ use Rattle.query_core.specs.declared.words.Expr.{Expr}
 use Rattle.query_core.specs.declared.words.KeyParts.{KeyParts}
 use Rattle.query_core.specs.declared.words.KeyParts.TheVariants.{Get, Filter, Join}
 use Rattle.query_core.specs.declared.expressions.ExprParts.{ExprParts}
+use Rattle.query_core.proofs.Bits.{bit-or, same_tables}
 use Rattle.query_core.proofs.GroupLemmas.{exponent_lt}
 use Rattle.query_core.proofs.Joins.{join_ordered, sides_in_range}
 use Rattle.group_candidates.specs.declared.kinds.JoinKind.{JoinKind}
@@ -37,6 +39,10 @@ top_number q a small =
     (λ same. inl (cond_both (has_own q least) (Filter least) (Get least) (λ g. key_number g < 26) (λ own. omega (arith, there same)) (λ none. omega (arith, there same))))
     (λ differs. inr refl)
 
+-- a side has tables of the set alone
+pub left_among : (q : Query) (set a b union : ℕ) → FallsInto q set a b → ((t : ℕ) → bit union t ≡ max (bit a t) (bit set t)) → union ≡ set
+left_among q set a b union falls each = same_tables union set (λ t. omega (arith, each t, bit-or a b t, ap (λ x. bit x t) falls.whole))
+
 -- a side has fewer tables than the set
 pub left_less : (q : Query) (set a b : ℕ) → FallsInto q set a b → a < set
 left_less q set a b falls = omega (arith, or_disjoint a b falls.disjoint, falls.whole, falls.some_right)
@@ -52,6 +58,16 @@ module _ (q : Query) (set : ℕ) (small : set < 1024) (kind : JoinKind) (bound :
   none_further first left before this e (n, from, below, (a, b, falls, same, number)) above = elim (cases_lt n left) [
     | inl less ↦ before e (n, from, less, (a, b, falls, same, number)) above
     | inr more ↦ this e (a, b, falls, same, omega (arith, number, more, below)) above
+  ]
+
+  -- nothing over a left child that has other tables than the set
+  pub none_among : (tables union : ℕ) → ((t : ℕ) → bit union t ≡ max (bit tables t) (bit set t)) → (union ≡ set → ⊥)
+      → FindsFrom (IsJoinAt q set (kind_of kind) (1025 + tables)) bound None
+  none_among tables union each other e (a, b, falls, same, number) above = elim (top_number q a (omega (arith, left_less q set a b falls, small))) [
+    | inl one ↦ omega (arith, one, number)
+    | inr several ↦
+        let own : a ≡ tables = omega (arith, several, number) in
+        other (left_among q set a b union falls (λ t. each t ∙ ap (λ x. max (bit x t) (bit set t)) (sym own)))
   ]
 
   -- nothing over all of them
@@ -104,9 +120,9 @@ module _ (q : Query) (set : ℕ) (small : set < 1024) (kind : JoinKind) (bound :
 
     -- where no left child is one table, what is found over those of several tables is found of all
     pub finds_of_several : (found : Option Expr) → FindsFrom (IsJoinBetween q set kind first 27) bound None
-        → FindsFrom (IsJoinBetween q set kind (max first 1025) (1025 + set)) bound found → FindsFrom (IsJoinBy q set (kind_of kind)) bound found
+        → FindsFrom (IsJoinBetween q set kind (1025 + (first - 1025)) (1025 + set)) bound found → FindsFrom (IsJoinBy q set (kind_of kind)) bound found
     finds_of_several found none finds =
-        finds_of_part (IsJoinBetween q set kind (max first 1025) (1025 + set)) (IsJoinBy q set (kind_of kind)) bound found
+        finds_of_part (IsJoinBetween q set kind (1025 + (first - 1025)) (1025 + set)) (IsJoinBy q set (kind_of kind)) bound found
         (λ e (n, from, below, (a, b, falls, same, number)). (a, b, falls, same))
         (λ e (a, b, falls, same) above.
         let from = from_first a b e falls same above in

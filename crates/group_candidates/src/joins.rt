@@ -12,7 +12,7 @@ ghost use Rattle.group_candidates.specs.Joins.{kind_of, IsJoinBetween};
 use crate::bounds::word_from;
 use crate::kinds::JoinKind;
 use crate::sides::sides;
-use query_core::{Expr, ExprParts, KeyParts, Logical, Operator, Query};
+use query_core::{Expr, ExprParts, KeyParts, Logical, Operator, Query, sets};
 use request_props::Props;
 
 // The numbers of left children that are one table are below this one.
@@ -53,15 +53,13 @@ fn next_join(query: &Query, props: &Props, set: u32, kind: JoinKind, bound: u64)
     if let Some(found) = next_between(query, props, set, kind, bound, first, AFTER_ONE) {
         return Some(found);
     }
-    let after_all = FIRST_OF_SEVERAL + set as u64;
-    next_between(
+    next_of_several(
         query,
         props,
         set,
         kind,
         bound,
-        first.max(FIRST_OF_SEVERAL),
-        after_all,
+        first.saturating_sub(FIRST_OF_SEVERAL),
     )
 }
 
@@ -83,6 +81,31 @@ fn next_between(
     for left in first..after {
         if let Some(found) = join_at(query, props, set, kind, bound, left as u32) {
             return Some(found);
+        }
+    }
+    None
+}
+
+// The next join whose left child is several tables, from this set on.
+fn next_of_several(
+    query: &Query,
+    props: &Props,
+    set: u32,
+    kind: JoinKind,
+    bound: u64,
+    first: u64,
+) -> Option<Expr>
+    requires props { IsProps query.now props.now }
+    requires known { IsGroup query.now (KeyParts.Join set) }
+    ensures { FindsFrom (IsJoinBetween query.now set kind (1025 + first) (1025 + set)) bound result }
+{
+    for tables in first..set as u64 {
+        // Most numbers have other tables too, so this is looked at first.
+        if sets::union(tables as u32, set) == set {
+            let left = FIRST_OF_SEVERAL + tables;
+            if let Some(found) = join_at(query, props, set, kind, bound, left as u32) {
+                return Some(found);
+            }
         }
     }
     None

@@ -52,7 +52,14 @@ fn star(alloc: Global) -> Result<Vec<Pred>, AllocError>
 fn clique(alloc: Global) -> Result<Vec<Pred>, AllocError>
     ensures { IfOk result (λ preds. (items : Numbers Column) → length items ≡ 4 → ArePredicates items preds.items) }
 {
-    Ok(vec![in alloc; equal(0, 1), equal(0, 2), equal(0, 3), equal(1, 2), equal(1, 3), equal(2, 3)]?)
+    Ok(vec![in alloc;
+        equal(0, 1),
+        equal(0, 2),
+        equal(0, 3),
+        equal(1, 2),
+        equal(1, 3),
+        equal(2, 3),
+    ]?)
 }
 
 // `SELECT A.a FROM A, B, C, D WHERE ..`

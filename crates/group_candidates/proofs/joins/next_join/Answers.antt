@@ -1,5 +1,5 @@
 -- Left children of one table come before those of several, and others there are none.
-use Rattle.std.proofs.Common.{rules, ◌≡◌, ◌+◌, arith, max, subst}
+use Rattle.std.proofs.Common.{rules, ◌≡◌, ◌+◌, ◌-◌, subst}
 use Rattle.query_core.specs.ByKind.{FindsFrom}
 use Rattle.group_candidates.specs.Joins.{IsJoinBetween}
 use Rattle.group_candidates.proofs.SideLemmas.{of_tables_small}
@@ -15,13 +15,10 @@ returns-in-Some c =
     found_of_one q c.args.set (of_tables_small q c.args.set c.requires.known.0) c.args.kind c.args.bound c.first_left-first.result c.first_left-first.ensures c.in-Some.found
     c.in-Some.ensures
 
-pub next_between-requires-2-clause-few : goal.next_between-requires-2-clause-few
-next_between-requires-2-clause-few c = omega (arith, of_tables_small c.args.query.now c.args.set c.requires.known.0)
-
 pub returns : goal.returns
 returns c =
     let q = c.args.query.now in
-    let start : c.max.result ≡ max c.first_left-first.result 1025 = search rules in
-    finds_of_several q c.args.set (of_tables_small q c.args.set c.requires.known.0) c.args.kind c.args.bound c.first_left-first.result c.first_left-first.ensures c.next_between-2.result
+    let start : c.saturating_sub.result ≡ c.first_left-first.result - 1025 = search rules in
+    finds_of_several q c.args.set (of_tables_small q c.args.set c.requires.known.0) c.args.kind c.args.bound c.first_left-first.result c.first_left-first.ensures c.next_of_several.result
     c.in_default.ensures
-    (subst (λ from. FindsFrom (IsJoinBetween q c.args.set c.args.kind from (1025 + c.args.set)) c.args.bound c.next_between-2.result) start c.next_between-2.ensures)
+    (subst (λ from. FindsFrom (IsJoinBetween q c.args.set c.args.kind (1025 + from) (1025 + c.args.set)) c.args.bound c.next_of_several.result) start c.next_of_several.ensures)
