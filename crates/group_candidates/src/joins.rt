@@ -21,7 +21,8 @@ const AFTER_ONE: u64 = 27;
 // The numbers of left children that are several tables are from this one on: it is that of the empty set.
 const FIRST_OF_SEVERAL: u64 = 1025;
 
-/// The least word from the bound on of what a group of several tables can hold. Words of one kind come before those of the next.
+/// The least word from the bound on of what a group of several tables can hold. Words of one kind come before those of
+/// the next.
 pub(crate) fn next_of_join(query: &Query, props: &Props, set: u32, bound: u64) -> Option<Expr>
     requires props { IsProps query.now props.now }
     requires known { IsGroup query.now (KeyParts.Join set) }
@@ -50,35 +51,27 @@ fn next_join(query: &Query, props: &Props, set: u32, kind: JoinKind, bound: u64)
     ensures { FindsFrom (IsJoinBy query.now set (kind_of kind)) bound result }
 {
     let first = first_left(set, kind, bound);
-    if let Some(found) = next_between(query, props, set, kind, bound, first, AFTER_ONE) {
+    if let Some(found) = next_of_one(query, props, set, kind, bound, first) {
         return Some(found);
     }
-    next_of_several(
-        query,
-        props,
-        set,
-        kind,
-        bound,
-        first.saturating_sub(FIRST_OF_SEVERAL),
-    )
+    let first_set = first.saturating_sub(FIRST_OF_SEVERAL);
+    next_of_several(query, props, set, kind, bound, first_set)
 }
 
-// The next join whose left child has one of these numbers.
-fn next_between(
+// The next join whose left child is one table, from this number on.
+fn next_of_one(
     query: &Query,
     props: &Props,
     set: u32,
     kind: JoinKind,
     bound: u64,
     first: u64,
-    after: u64,
 ) -> Option<Expr>
     requires props { IsProps query.now props.now }
     requires known { IsGroup query.now (KeyParts.Join set) }
-    requires few { after ≤ 2048 }
-    ensures { FindsFrom (IsJoinBetween query.now set kind first after) bound result }
+    ensures { FindsFrom (IsJoinBetween query.now set kind first 27) bound result }
 {
-    for left in first..after {
+    for left in first..AFTER_ONE {
         if let Some(found) = join_at(query, props, set, kind, bound, left as u32) {
             return Some(found);
         }

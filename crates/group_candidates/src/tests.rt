@@ -31,14 +31,16 @@ fn equal(left: u32, right: u32) -> Pred
 
 // Each table's column is equal to the next one's.
 fn chain(alloc: Global) -> Result<Vec<Pred>, AllocError>
-    ensures { IfOk result (λ preds. (items : Numbers Column) → length items ≡ 4 → ArePredicates items preds.items) }
+    ensures { IfOk result (λ preds. (items : Numbers Column) → length items ≡ 4 →
+        ArePredicates items preds.items) }
 {
     Ok(vec![in alloc; equal(0, 1), equal(1, 2), equal(2, 3)]?)
 }
 
 // The first table's column is equal to each other's, and the second table has an own predicate.
 fn star(alloc: Global) -> Result<Vec<Pred>, AllocError>
-    ensures { IfOk result (λ preds. (items : Numbers Column) → length items ≡ 4 → ArePredicates items preds.items) }
+    ensures { IfOk result (λ preds. (items : Numbers Column) → length items ≡ 4 →
+        ArePredicates items preds.items) }
 {
     let own = Pred {
         left: 1,
@@ -50,7 +52,8 @@ fn star(alloc: Global) -> Result<Vec<Pred>, AllocError>
 
 // All four columns are equal.
 fn clique(alloc: Global) -> Result<Vec<Pred>, AllocError>
-    ensures { IfOk result (λ preds. (items : Numbers Column) → length items ≡ 4 → ArePredicates items preds.items) }
+    ensures { IfOk result (λ preds. (items : Numbers Column) → length items ≡ 4 →
+        ArePredicates items preds.items) }
 {
     Ok(vec![in alloc;
         equal(0, 1),
@@ -172,8 +175,8 @@ fn all_candidates(query: &Query, props: &Props) -> Option<u64>
     Some(all)
 }
 
-// A table has 2 expressions of its own, and one of a filter 2 more. A set has 1 and four kinds of each split: a chain of n
-// tables has 2(n - 1) splits, a star too, and a clique 2^n - 2.
+// A table has 2 expressions, and 2 more where it is filtered. A set has 1, and one of each of four kinds for each split:
+// a chain or a star of n tables has 2(n - 1) splits, and a clique has 2^n - 2.
 #[test]
 fn look_ups_tell_the_candidates_in_their_order(rt: HostRuntime) -> Result<(), Fail> {
     let chained = four_tables(rt.alloc(), chain(rt.alloc())?)?;

@@ -18,7 +18,7 @@ returns-in-Some c =
 pub returns : goal.returns
 returns c =
     let q = c.args.query.now in
-    let start : c.saturating_sub.result ≡ c.first_left-first.result - 1025 = search rules in
+    let start : c.saturating_sub-first_set.result ≡ c.first_left-first.result - 1025 = search rules in
     finds_of_several q c.args.set (of_tables_small q c.args.set c.requires.known.0) c.args.kind c.args.bound c.first_left-first.result c.first_left-first.ensures c.next_of_several.result
     c.in_default.ensures
     (subst (λ from. FindsFrom (IsJoinBetween q c.args.set c.args.kind (1025 + from) (1025 + c.args.set)) c.args.bound c.next_of_several.result) start c.next_of_several.ensures)

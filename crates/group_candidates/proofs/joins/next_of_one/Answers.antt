@@ -2,7 +2,7 @@
 use Rattle.std.proofs.Common.{arith}
 use Rattle.group_candidates.proofs.SideLemmas.{of_tables_small}
 use Rattle.group_candidates.proofs.LeftRanges.{none_between, none_further, none_of_range, first_found}
-use Rattle.group_candidates.proofs.joins.next_between.Goals as goal
+use Rattle.group_candidates.proofs.joins.next_of_one.Goals as goal
 
 pub loop-left-init : goal.loop-left-init
 loop-left-init c =
@@ -17,10 +17,10 @@ loop-left-preserved c =
 pub returns-in-Some : goal.returns-in-Some
 returns-in-Some c =
     let q = c.args.query.now in
-    first_found q c.args.set (of_tables_small q c.args.set c.requires.known.0) c.args.kind c.args.bound c.args.first c.args.after c.loop-left.left c.in-Some.found
+    first_found q c.args.set (of_tables_small q c.args.set c.requires.known.0) c.args.kind c.args.bound c.args.first 27 c.loop-left.left c.in-Some.found
     (omega arith) (omega arith) c.loop-left.invariant c.in-Some.ensures
 
 pub returns : goal.returns
 returns c =
     let q = c.args.query.now in
-    none_of_range q c.args.set (of_tables_small q c.args.set c.requires.known.0) c.args.kind c.args.bound c.args.first c.args.after c.loop-left.left (omega arith) c.loop-left.invariant
+    none_of_range q c.args.set (of_tables_small q c.args.set c.requires.known.0) c.args.kind c.args.bound c.args.first 27 c.loop-left.left (omega arith) c.loop-left.invariant

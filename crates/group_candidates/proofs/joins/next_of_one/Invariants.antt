@@ -2,7 +2,7 @@
 use Rattle.std.proofs.Common.{None}
 use Rattle.query_core.specs.ByKind.{FindsFrom}
 use Rattle.group_candidates.specs.Joins.{IsJoinBetween}
-use Rattle.group_candidates.proofs.joins.next_between.Given as goal
+use Rattle.group_candidates.proofs.joins.next_of_one.Given as goal
 
 abbrev pub invariant-loop-left : goal.invariant-loop-left
 invariant-loop-left l = FindsFrom (IsJoinBetween l.query l.set l.kind l.first l.left) l.bound None
