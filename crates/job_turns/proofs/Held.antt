@@ -1,7 +1,5 @@
 -- Once a group is implemented, its members are the candidates that are in cells.
-use Rattle.std.proofs.Common.{◌≡◌, ℕ, Option, None, Some, List, [], ◌∷◌, refl, sym, ap, subst, ◌∙◌, arith}
-use Rattle.std.specs.Prelude.{slice_get}
-use Rattle.std.specs.List.{Contains}
+use Rattle.std.proofs.Common.{◌≡◌, ℕ, Option, None, Some, List, refl, sym, ap, subst, ◌∙◌}
 use Rattle.std.specs.Option.{option_map}
 use Rattle.query_core.specs.Expressions.{expr_of, word_of, IsPacked, IsCandidate, IsCandidateOf}
 use Rattle.query_core.specs.Candidates.{IsAfter, IsNext, IsLast}
@@ -14,8 +12,6 @@ use Rattle.query_core.specs.declared.expressions.Physical.{Physical}
 use Rattle.query_core.specs.declared.expressions.PhysicalExpr.{PhysicalExpr}
 use Rattle.xform_rules.specs.Closure.{IsMember}
 use Rattle.request_props.specs.declared.request.Request.{Request}
-use Rattle.plan_tree.specs.Alternatives.{IsAltOf, IsAltAt}
-use Rattle.plan_tree.specs.declared.alternatives.Alt.{Alt}
 use Rattle.board_rule.specs.Looks.{ShowsEntry, asked_by}
 use Rattle.board_moves.specs.Words.{IsAbove, IsNextWord, IsNextOf}
 use Rattle.goal_space.specs.Entries.{IsEntry}
@@ -59,22 +55,6 @@ same_physical e other same =
     let both : operators.Physical e.operator ≡ operators.Physical other.operator = ap (λ (x : ExprParts). x.operator) same in
     let own : e.operator ≡ other.operator = cc in
     ap (λ (g : KeyParts). let x : PhysicalExpr = record { group = g; operator = e.operator } in x) groups ∙ ap (λ (o : Physical). let x : PhysicalExpr = record { group = other.group; operator = o } in x) own
-
--- an alternative at the first place serves
-some_serves : (q : Query) (e : PhysicalExpr) (wanted : Request) (at : Option ℕ) (alt : Alt) → IsAltOf q e wanted at (Some alt) → MayServe q e wanted
-some_serves q e wanted None alt is = let bad : ⊥ = cc in absurd bad
-some_serves q e wanted (Some mode) alt is = (mode, (is.0, is.1.is_alternative))
-
-pub may_serve : (q : Query) (e : PhysicalExpr) (wanted : Request) (alt : Alt) → IsAltAt q e wanted 0 (Some alt) → MayServe q e wanted
-may_serve q e wanted alt is = some_serves q e wanted (slice_get is.modes 0) alt is.at_place
-
--- and where none is there, there is none at all
-none_contained : (q : Query) (e : PhysicalExpr) (wanted : Request) (modes : List ℕ) → IsAltOf q e wanted (slice_get modes 0) None → (mode : ℕ) → Contains modes mode → ⊥
-none_contained q e wanted [] is mode (k, below, there) = omega arith
-none_contained q e wanted (first ∷ modes) is mode contained = is
-
-pub may_not_serve : (q : Query) (e : PhysicalExpr) (wanted : Request) → IsAltAt q e wanted 0 None → MayServe q e wanted → ⊥
-may_not_serve q e wanted is (mode, serves) = none_contained q e wanted is.modes is.at_place mode ((is.are_modes.exact mode).1 serves)
 
 -- ---- members
 

@@ -12,13 +12,12 @@ use Rattle.request_props.specs.Fitting.{Fits}
 use Rattle.request_props.specs.Numbered.{IsProps}
 use Rattle.request_props.specs.declared.props.Props.{Props}
 use Rattle.request_props.specs.declared.request.Request.{Request}
-use Rattle.plan_space.specs.Lines.{line_of}
 use Rattle.plan_space.specs.Alternatives.{IsAlternative, asked_of}
 use Rattle.plan_space.specs.Choices.{groups_of}
 use Rattle.plan_space.specs.declared.lines.Line.{Line}
 use Rattle.plan_space.specs.declared.nodes.NodeKind.{NodeKind}
 use Rattle.plan_space.specs.declared.nodes.NodeKind.TheVariants as nodes
-use Rattle.plan_tree.specs.Alternatives.{Asks, AreAsked, IsAltBy}
+use Rattle.plan_tree.specs.Alternatives.{Asks, AreAsked, IsAltBy, HasAlternative}
 use Rattle.plan_tree.specs.Walks.{AreNone}
 use Rattle.plan_tree.specs.declared.alternatives.Alt.{Alt}
 use Rattle.best_answers.specs.Nodes.{Nodes, no_nodes, one_node, modes_of, both_of, all_nodes, IsIn, IsModeOf}
@@ -139,16 +138,18 @@ module _ (q : Query) (e : PhysicalExpr) (wanted : Request) where
     pub has : (mode : ℕ) (line : Line) → mode < from → IsAlternative q e wanted mode line → IsIn set (nodes.Native e mode)
     pub is_best : IsBest q e.group wanted set best
 
-  pub goal_below_none : (child : GoalKind) → IsGoalBelow 0 child → ⊥
-  goal_below_none child (mode, below, of) = omega arith
+  module _ (start : ℕ) (none : (mode : ℕ) → mode < start → HasAlternative q e wanted mode → ⊥) where
+    -- no mode below the first that may serve is there for the request
+    pub goal_below_none : (child : GoalKind) → IsGoalBelow start child → ⊥
+    goal_below_none child (mode, below, of) = none mode below (of.line, of.is_alternative)
 
-  pub best_below_none : NoneIsBest q → IsBestBelow 0 None
-  best_below_none none_best = record {
-    set = no_nodes;
-    within = λ node at. absurd at;
-    has = λ mode line below alternative. absurd (omega arith);
-    is_best = none_best e.group wanted;
-  }
+    pub best_below_none : NoneIsBest q → IsBestBelow start None
+    best_below_none none_best = record {
+      set = no_nodes;
+      within = λ node at. absurd at;
+      has = λ mode line below alternative. absurd (none mode below (line, alternative));
+      is_best = none_best e.group wanted;
+    }
 
   -- a mode with an alternative is one of those before, or the next one
   before_or_next : (from mode : ℕ) → AreNone q e from mode → (other : ℕ) (line : Line) → other < mode + 1 → IsAlternative q e wanted other line → (other < from) ⊎ (other ≡ mode)
@@ -178,17 +179,12 @@ module _ (q : Query) (e : PhysicalExpr) (wanted : Request) where
       is_best = lesser_best props is_props e.group wanted old.set new.set first second fits old.is_best new.is_best;
     }
 
-  module _ (from : ℕ) (none : (mode : ℕ) → from ≤ mode → line_of q e mode ≡ None) where
-    -- from this number on no mode has a line
-    no_more : (mode : ℕ) (line : Line) → IsAlternative q e wanted mode line → mode < from
-    no_more mode line alternative =
-        ⊎_elim (λ (less : mode < from). less) (λ (most : from ≤ mode). let never : None ≡ Some line = sym (none mode most) ∙ alternative.is_line in let bad : ⊥ = cc in absurd bad) (cases_lt mode from)
-
-    -- so the children of the goal are those of the modes so far
+  module _ (from : ℕ) (all_below : (mode : ℕ) → HasAlternative q e wanted mode → mode < from) where
+    -- where all modes that may serve are below this number, the children of the goal are those of the modes so far
     pub goal_below_all : (child : GoalKind) → IsChildGoal (IsMember q) q (OptE e wanted) child → IsGoalBelow from child
     goal_below_all child (group, below, asks, is) = (
       asks.mode,
-      no_more asks.mode asks.line asks.is_alternative,
+      all_below asks.mode (asks.line, asks.is_alternative),
       record { group = group; below = below; line = asks.line; is_alternative = asks.is_alternative; is_asked = asks.is_asked; is = is },
     )
 
@@ -199,5 +195,5 @@ module _ (q : Query) (e : PhysicalExpr) (wanted : Request) where
       enforcers = λ enforcer among at. absurd at;
       members = λ other mode line member of_group same alternative.
           subst (λ (x : PhysicalExpr). IsIn so_far.set (nodes.Native x mode)) (sym same)
-          (let own = subst (λ (x : PhysicalExpr). IsAlternative q x wanted mode line) same alternative in so_far.has mode line (no_more mode line own) own);
+          (let own = subst (λ (x : PhysicalExpr). IsAlternative q x wanted mode line) same alternative in so_far.has mode line (all_below mode (line, own)) own);
     }) so_far.is_best

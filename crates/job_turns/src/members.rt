@@ -18,13 +18,13 @@ ghost use Rattle.job_turns.specs.Choices.{Chooses};
 ghost use Rattle.job_turns.specs.Requests.{IsImplemented, IsMemberGoal, IsBestOfMembers, IsNextServing, MayServe, least_in};
 
 use crate::choice::{Choice, await_choice};
+use crate::may_serve::may_serve;
 use best_answers::answers_are_best;
 use board_moves::Job;
 use goal_board::{Board, Hints, Seat};
 use goal_rules::{Rules, entries_are_known};
 use goal_space::{GoalKind, goals_are_known};
 use group_candidates::next_candidate;
-use plan_tree::alternative;
 use query_core::{
     Expr, KeyParts, Physical, PhysicalExpr, Query, candidates_are_known, expressions_are_one,
     groups_are_known,
@@ -175,8 +175,9 @@ fn serving_expr(query: &Query, props: &Props, word: Expr, wanted: Request) -> Op
     candidates_are_known();
     expressions_are_one();
     let expr = word.known_parts().as_physical()?;
-    match alternative(query, props, expr, wanted, 0) {
-        Some(_) => Some(expr),
-        None => None,
+    if may_serve(query, props, expr, wanted) {
+        Some(expr)
+    } else {
+        None
     }
 }

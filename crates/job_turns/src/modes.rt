@@ -18,13 +18,14 @@ ghost use Rattle.job_turns.specs.Choices.{Chooses, IsNative, IsAskedByChild, IsG
 
 use crate::choice::{Choice, await_choice, progress_of};
 use crate::laws::words_are_known;
+use crate::may_serve::{modes_for, next_among};
 use best_answers::{answers_are_best, best_in_mode};
 use board_moves::{Job, Progress};
 use goal_board::{Board, Hints, Seat};
 use goal_rules::Rules;
 use goal_space::{GoalKind, goals_are_known};
 use plan_space::Line;
-use plan_tree::{Alt, ExprRows, alternative_by, expr_rows, next_line};
+use plan_tree::{Alt, ExprRows, alternative_by, expr_rows};
 use query_core::{Key, PhysicalExpr, Query};
 use request_props::{Props, Request};
 use xform_rules::members_are_candidates;
@@ -101,8 +102,9 @@ fn best_mode<'q, H: Hints>(
     answers_are_best();
     let rows = expr_rows(query, props, expr);
     let mut choice = Choice::Known(None);
-    let mut from = 0;
-    'modes: while let Some((mode, line)) = next_line(query, props, expr, from) {
+    let serving = modes_for(query, props, expr, wanted);
+    let mut from = serving.from;
+    'modes: while let Some((mode, line)) = next_among(query, props, expr, serving, from) {
         let native = Native {
             expr,
             wanted,

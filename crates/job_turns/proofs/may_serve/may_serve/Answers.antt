@@ -1,0 +1,8 @@
+-- The modes in which it may serve are among those that are tried.
+use Rattle.job_turns.proofs.may_serve.may_serve.Goals as goal
+
+pub returns-then-fits_left : goal.returns-then-fits_left
+returns-then-fits_left c = (
+  λ is. let found = c.serves_among.ensures.0 is in (found.0, found.2),
+  λ serves. c.serves_among.ensures.1 (serves.0, c.modes_for.ensures serves.0 serves.1, serves.1),
+)

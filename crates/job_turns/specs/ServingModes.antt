@@ -1,0 +1,52 @@
+-- In which modes an expression may serve a request, as its operator and the distribution that is asked for say.
+use Rattle.std.specs.Prelude.{ℕ, ◌≡◌, ◌≤◌, ◌<◌, Bool, true, false, Option, None, Some}
+use Rattle.query_core.specs.declared.expressions.Physical.{Physical}
+use Rattle.query_core.specs.declared.expressions.Physical.TheVariants as physical
+use Rattle.query_core.specs.declared.expressions.PhysicalExpr.{PhysicalExpr}
+use Rattle.query_core.specs.declared.query.Query.{Query}
+use Rattle.request_props.specs.declared.request.Request.{Request}
+use Rattle.plan_space.specs.Lines.{line_of}
+use Rattle.plan_space.specs.declared.lines.Line.{Line}
+use Rattle.plan_tree.specs.Alternatives.{HasAlternative}
+use Rattle.plan_tree.specs.Walks.{IsNextLine}
+use Rattle.job_turns.specs.declared.may_serve.Modes.{Modes}
+
+-- the operator gives an order in some mode; each other one gives none in any
+abbrev pub gives_order : Physical → Bool
+gives_order physical.Scan = false
+gives_order (physical.IndexScan index) = true
+gives_order (physical.Filter child) = true
+gives_order (physical.IndexSeek index) = true
+gives_order (physical.HashJoin left right) = false
+gives_order (physical.MergeJoin left right) = true
+gives_order (physical.LoopJoin left right) = true
+gives_order (physical.HashAgg child) = false
+gives_order (physical.StreamAgg child) = true
+gives_order (physical.PartialAgg child) = false
+
+-- the operator has all rows on one segment in its modes below 64, and spread ones in those from 64 on
+abbrev pub has_both : Physical → Bool
+has_both physical.Scan = false
+has_both (physical.IndexScan index) = false
+has_both (physical.Filter child) = false
+has_both (physical.IndexSeek index) = false
+has_both (physical.HashJoin left right) = true
+has_both (physical.MergeJoin left right) = true
+has_both (physical.LoopJoin left right) = true
+has_both (physical.HashAgg child) = true
+has_both (physical.StreamAgg child) = true
+has_both (physical.PartialAgg child) = false
+
+-- the mode is one of these
+pub record IsAmong (modes : Modes) (mode : ℕ) : Type 0 where
+  pub above : modes.from ≤ mode
+  pub below : mode < modes.to
+
+-- the expression may serve the request in one of the modes
+abbrev pub MayServeAmong : Query → PhysicalExpr → Request → Modes → Type 0
+MayServeAmong q e wanted modes = (mode : ℕ) × IsAmong modes mode × HasAlternative q e wanted mode
+
+-- the first of the modes from the number on that has a line, with its line; or none has one
+abbrev pub IsNextAmong : Query → PhysicalExpr → Modes → ℕ → Option (ℕ × Line) → Type 0
+IsNextAmong q e modes from None = (mode : ℕ) → from ≤ mode → mode < modes.to → line_of q e mode ≡ None
+IsNextAmong q e modes from (Some found) = (found.0 < modes.to) × IsNextLine q e from (Some found)
