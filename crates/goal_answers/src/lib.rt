@@ -10,5 +10,3 @@ pub use answers::plain_answers;
 
 #[cfg(test)]
 mod tests;
-#[cfg(test)]
-mod worked;

@@ -6,7 +6,6 @@ ghost use Rattle.request_props.specs.Numbered.{IsProps};
 ghost use Rattle.goal_space.specs.Answers.{AreAnswers, TellsAnswer};
 
 use crate::plain_answers;
-use crate::worked::{chain, grouped, joined, one_table, sorted, without_a_plan};
 use goal_children::known_goal;
 use goal_list::plain_goals;
 use goal_space::{GoalKind, goals_are_known};
@@ -17,6 +16,7 @@ use query_core::Query;
 use request_props::Props;
 use std::alloc::{AllocError, Global};
 use std::test::Fail;
+use worked_queries::{chain, grouped, large_and_small, one_table, two_tables, without_a_plan};
 
 fn answers_of(alloc: Global, query: &Query, props: &Props) -> Result<Answers, AllocError>
     requires { IsProps query.now props.now }
@@ -111,9 +111,9 @@ fn extracts_what_is_searched(alloc: Global, query: &Query) -> Result<bool, Fail>
 #[test]
 fn best_pairs_are_those_of_the_plain_search(rt: HostRuntime) -> Result<(), Fail> {
     let alloc = rt.alloc();
-    assert!(rt; are_as_searched(alloc, &one_table(alloc)?)?);
-    assert!(rt; are_as_searched(alloc, &joined(alloc)?)?);
-    assert!(rt; are_as_searched(alloc, &sorted(alloc)?)?);
+    assert!(rt; are_as_searched(alloc, &one_table(alloc, 100)?)?);
+    assert!(rt; are_as_searched(alloc, &large_and_small(alloc)?)?);
+    assert!(rt; are_as_searched(alloc, &two_tables(alloc)?)?);
     assert!(rt; are_as_searched(alloc, &chain(alloc)?)?);
     assert!(rt; are_as_searched(alloc, &grouped(alloc)?)?);
     assert!(rt; are_as_searched(alloc, &without_a_plan(alloc)?)?);
@@ -123,8 +123,8 @@ fn best_pairs_are_those_of_the_plain_search(rt: HostRuntime) -> Result<(), Fail>
 #[test]
 fn the_least_plan_is_made_of_the_answers(rt: HostRuntime) -> Result<(), Fail> {
     let alloc = rt.alloc();
-    assert!(rt; extracts_what_is_searched(alloc, &one_table(alloc)?)?);
-    assert!(rt; extracts_what_is_searched(alloc, &joined(alloc)?)?);
+    assert!(rt; extracts_what_is_searched(alloc, &one_table(alloc, 100)?)?);
+    assert!(rt; extracts_what_is_searched(alloc, &large_and_small(alloc)?)?);
     assert!(rt; extracts_what_is_searched(alloc, &chain(alloc)?)?);
     assert!(rt; extracts_what_is_searched(alloc, &grouped(alloc)?)?);
     Ok(())
@@ -134,7 +134,7 @@ fn the_least_plan_is_made_of_the_answers(rt: HostRuntime) -> Result<(), Fail> {
 #[test]
 fn an_order_is_made_on_each_segment_and_kept_by_the_merge(rt: HostRuntime) -> Result<(), Fail> {
     let alloc = rt.alloc();
-    let (extracted, searched) = texts_of(alloc, &sorted(alloc)?)?;
+    let (extracted, searched) = texts_of(alloc, &two_tables(alloc)?)?;
     assert!(rt; extracted == searched);
     assert!(rt; extracted.starts_with("cost 7506\n".as_bytes()));
     Ok(())
