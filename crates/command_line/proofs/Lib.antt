@@ -7,4 +7,5 @@ pub mod RulesOff
 pub mod Drafts
 pub mod FirstPieces
 pub mod Values
+pub mod Made
 pub mod Spelling

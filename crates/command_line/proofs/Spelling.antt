@@ -1,20 +1,23 @@
 -- Words are read as the command that they spell, and as no other.
-use Rattle.std.proofs.Common.{◌≡◌, ℕ, ◌==◌, Bool, true, false, IsTrue, cond, List, [], ◌∷◌, ◌++◌, Option, None, Some, option_map, codes, decimal, refl, sym, ap, ◌∙◌, subst, arith}
+use Rattle.std.proofs.Common.{◌≡◌, ℕ, ◌==◌, Bool, true, false, IsTrue, cond, List, [], ◌∷◌, ◌++◌, Option, None, Some, option_map, decimal, refl, sym, ap, ◌∙◌, subst, arith}
+use Rattle.std.specs.List.{filter_map}
 use Rattle.std.specs.Option.{option_and_then, option_map_or}
 use Rattle.std.proofs.lemmas.Bool.{false≢true}
 use Rattle.command_line.specs.Numbers.{number_within}
 use Rattle.command_line.specs.Rules.{rules_word}
-use Rattle.command_line.specs.Options.{option_word, name_of, root_word, IsValue}
-use Rattle.command_line.specs.Command.{PlanCommand, Piece, name, setting, is_positional, IsSpelled, a_name, an_option, AreSpelled, no_more, one_more, command_from, IsSpelledOut}
-use Rattle.command_line.specs.Reading.{root_of, off_of, option_named, alone, with_value, is_valued, named, piece_of, valued_piece, in_front, pieces_of, behind_plan, is_plan, command_of}
+use Rattle.command_line.specs.Options.{option_word, name_of, root_word, IsValue, choices_of}
+use Rattle.command_line.specs.Command.{AnyCommand, command_name, command_word, Piece, name, setting, is_positional, IsSpelled, a_name, an_option, AreSpelled, no_more, one_more, name_in, setting_in, may_be_given, IsSpelledOut}
+use Rattle.command_line.specs.Reading.{root_of, off_of, option_named, alone, with_value, is_valued, named, piece_of, valued_piece, in_front, pieces_of, command_from, command_with, behind_name, command_named, command_of}
+use Rattle.command_line.specs.declared.choices.CommandName.{CommandName}
 use Rattle.command_line.specs.declared.choices.OptionName.{OptionName}
 use Rattle.command_line.specs.declared.choices.OptionName.TheVariants as names
 use Rattle.command_line.specs.declared.choices.Setting.{Setting}
 use Rattle.command_line.specs.declared.choices.Setting.TheVariants as settings
 use Rattle.command_line.proofs.OptionNames.{word_of_found}
-use Rattle.command_line.proofs.FirstPieces.{valued_first, alone_first, of_plan}
+use Rattle.command_line.proofs.FirstPieces.{valued_first, alone_first, of_name}
+use Rattle.command_line.proofs.Made.{name_read, name_spelled, command_made_of, made_command}
 use Rattle.command_line.proofs.WrittenNumbers.{number_read, number_spelled}
-use Rattle.command_line.proofs.Values.{is_text, root_read, root_spelled, off_read, off_spelled}
+use Rattle.command_line.proofs.Values.{root_read, root_spelled, off_read, off_spelled}
 
 -- ---- what is spelled is read
 
@@ -169,24 +172,42 @@ pieces_spelled (word ∷ value ∷ more) pieces is = of_word (λ ps rest. pieces
 -- ---- commands
 
 -- a command that is spelled out is read
-pub spelled_read : (words : List (List ℕ)) (command : PlanCommand) → IsSpelledOut words command → command_of words ≡ Some command
-spelled_read words command is = of_plan words (codes "plan") is.behind is.plan_first refl ∙ ap (option_and_then command_from) (pieces_read is.pieces is.behind is.spelled) ∙ is.made
+pub spelled_read : (words : List (List ℕ)) (command : AnyCommand) → IsSpelledOut words command → command_of words ≡ Some command
+spelled_read words command is =
+    let kind = command_name command in
+    of_name kind words (command_word kind) is.behind is.word_first (name_read kind) ∙ ap (option_and_then (command_from kind)) (pieces_read is.pieces is.behind is.spelled)
+    ∙ rw is.given (command_made_of command (filter_map name_in is.pieces) (choices_of (filter_map setting_in is.pieces)) is.names is.chosen)
 
 -- a command that is read is spelled out
-pub read_spelled : (words : List (List ℕ)) (command : PlanCommand) → command_of words ≡ Some command → IsSpelledOut words command
+pub read_spelled : (words : List (List ℕ)) (command : AnyCommand) → command_of words ≡ Some command → IsSpelledOut words command
 read_spelled [] command is = cc
-read_spelled (first ∷ others) command is = of_first (is_plan first) refl is
+read_spelled (first ∷ others) command is = of_name_read (command_named first) refl is
   where
-    of_pieces : (ps : Option (List Piece)) → pieces_of others ≡ ps → option_and_then command_from ps ≡ Some command → first ≡ codes "plan" → IsSpelledOut (first ∷ others) command
-    of_pieces None read made plan = cc
-    of_pieces (Some pieces) read made plan = record { pieces = pieces; behind = others; plan_first = ap (λ w. w ∷ others) plan; spelled = pieces_spelled others pieces read; made = made }
+    of_given : (kind : CommandName) (pieces : List Piece) (g : Bool) → command_named first ≡ Some kind → pieces_of others ≡ Some pieces → may_be_given kind (filter_map setting_in pieces) ≡ g
+        → cond g (command_with kind (filter_map name_in pieces) (choices_of (filter_map setting_in pieces))) None ≡ Some command → IsSpelledOut (first ∷ others) command
+    of_given kind pieces false spelt read given made = cc
+    of_given kind pieces true spelt read given made =
+        let parts = made_command kind (filter_map name_in pieces) (choices_of (filter_map setting_in pieces)) command made in
+        record {
+          pieces = pieces;
+          behind = others;
+          word_first = ap (λ w. w ∷ others) (name_spelled first (command_name command) (spelt ∙ ap Some parts.named));
+          spelled = pieces_spelled others pieces read;
+          given = subst (λ n. may_be_given n (filter_map setting_in pieces) ≡ true) parts.named given;
+          names = parts.are_names;
+          chosen = parts.chosen;
+        }
 
-    of_first : (b : Bool) → is_plan first ≡ b → cond b (behind_plan others) None ≡ Some command → IsSpelledOut (first ∷ others) command
-    of_first true plan found = of_pieces (pieces_of others) refl found (is_text first (codes "plan") plan)
-    of_first false plan found = cc
+    of_pieces : (kind : CommandName) (ps : Option (List Piece)) → command_named first ≡ Some kind → pieces_of others ≡ ps → option_and_then (command_from kind) ps ≡ Some command → IsSpelledOut (first ∷ others) command
+    of_pieces kind None spelt read made = cc
+    of_pieces kind (Some pieces) spelt read made = of_given kind pieces (may_be_given kind (filter_map setting_in pieces)) spelt read refl made
+
+    of_name_read : (n : Option CommandName) → command_named first ≡ n → option_and_then (λ kind. behind_name kind others) n ≡ Some command → IsSpelledOut (first ∷ others) command
+    of_name_read None spelt made = cc
+    of_name_read (Some kind) spelt made = of_pieces kind (pieces_of others) spelt refl made
 
 -- words spell one command at most
-pub one_command : (words : List (List ℕ)) (command other : PlanCommand) → IsSpelledOut words command → IsSpelledOut words other → command ≡ other
+pub one_command : (words : List (List ℕ)) (command other : AnyCommand) → IsSpelledOut words command → IsSpelledOut words other → command ≡ other
 one_command words command other is again =
     let read : command_of words ≡ Some command = spelled_read words command is in
     let read_again : command_of words ≡ Some other = spelled_read words other again in

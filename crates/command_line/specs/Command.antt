@@ -1,10 +1,16 @@
 -- The commands that the words of a command line may be.
-use Rattle.std.specs.Prelude.{ℕ, Bool, false, not, IsTrue, List, [], ◌∷◌, ◌++◌, ◌==◌, ◌≡◌, Option, None, Some, codes, map, option_map, if◌then◌else◌}
-use Rattle.std.specs.List.{filter_map}
+use Rattle.std.specs.Prelude.{ℕ, ◌-◌, ◌^◌, Bool, false, not, ◌&&◌, IsTrue, List, [], ◌∷◌, ◌++◌, ◌==◌, ◌≡◌, Option, None, Some, codes, decimal, map}
+use Rattle.std.specs.List.{filter_map, list_all}
 use Rattle.query_core.specs.Differ.{numbers_differ}
-use Rattle.command_line.specs.Options.{option_word, option_number, name_of, IsValue, choices_of}
+use Rattle.command_line.specs.Options.{option_word, option_number, name_of, takes_option, IsValue, choices_of}
+use Rattle.command_line.specs.Numbers.{IsWithin}
 use Rattle.command_line.specs.declared.choices.Choices.{Choices}
+use Rattle.command_line.specs.declared.choices.CommandName.{CommandName}
+use Rattle.command_line.specs.declared.choices.CommandName.TheVariants as commands
 use Rattle.command_line.specs.declared.choices.Setting.{Setting}
+use Rattle.command_line.specs.declared.command.GenInput.{GenInput}
+use Rattle.query_generator.specs.declared.shape.GenShape.{GenShape}
+use Rattle.query_generator.specs.declared.shape.GenShape.TheVariants.{Chain, Star, Clique}
 
 -- the files that a command names
 pub record FileNames : Type 0 where
@@ -15,6 +21,33 @@ pub record FileNames : Type 0 where
 pub record PlanCommand : Type 0 where
   pub files : FileNames
   pub choices : Choices
+
+-- `gen` of what a catalogue and a query are made of, with so many workers and so much room
+pub record GenCommand : Type 0 where
+  pub input : GenInput
+  pub workers : ℕ
+  pub capacity : ℕ
+
+-- a command
+pub data AnyCommand : Type 0 where
+  plan : PlanCommand → AnyCommand
+  gen : GenCommand → AnyCommand
+
+-- its name
+abbrev pub command_name : AnyCommand → CommandName
+command_name (plan command) = commands.Plan
+command_name (gen command) = commands.Gen
+
+-- the word of a name
+abbrev pub command_word : CommandName → List ℕ
+command_word commands.Plan = codes "plan"
+command_word commands.Gen = codes "gen"
+
+-- the word of a shape
+abbrev pub shape_word : GenShape → List ℕ
+shape_word Chain = codes "chain"
+shape_word Star = codes "star"
+shape_word Clique = codes "clique"
 
 -- a piece of a command line: a name, or an option with what it asks for
 pub data Piece : Type 0 where
@@ -48,33 +81,36 @@ abbrev pub setting_in : Piece → Option Setting
 setting_in (name word) = None
 setting_in (setting given) = Some given
 
--- two names are those of the catalogue's file and of the query's
-abbrev pub files_of : List (List ℕ) → Option FileNames
-files_of [] = None
-files_of (catalog ∷ []) = None
-files_of (catalog ∷ query ∷ []) = Some (record { catalog = catalog; query = query })
-files_of (catalog ∷ query ∷ third ∷ more) = None
+-- the words are a number of 64 bits, how many tables there are, of which there are 1 to 8, and a shape
+pub record IsInput (input : GenInput) (words : List (List ℕ)) : Type 0 where
+  pub number : IsWithin 0 (2 ^ 64 - 1) input.number
+  pub tables : IsWithin 1 8 input.tables
+  pub are : words ≡ decimal input.number ∷ decimal input.tables ∷ shape_word input.shape ∷ []
+
+-- the names are those of the command: of the catalogue's file and of the query's, or what a catalogue and a query are made of
+abbrev pub AreNames : AnyCommand → List (List ℕ) → Type 0
+AreNames (plan command) names = names ≡ command.files.catalog ∷ command.files.query ∷ []
+AreNames (gen command) names = IsInput command.input names
+
+-- the command has what is chosen
+abbrev pub AreChosen : AnyCommand → Choices → Type 0
+AreChosen (plan command) choices = command.choices ≡ choices
+AreChosen (gen command) choices = (command.workers ≡ choices.workers) × (command.capacity ≡ choices.capacity)
 
 -- the number of the option that a setting is of
 abbrev pub number_of : Setting → ℕ
 number_of given = option_number (name_of given)
 
--- no option is given twice
-abbrev pub are_given_once : List Setting → Bool
-are_given_once some = numbers_differ (map number_of some)
+-- the command takes each option, and none is given twice
+abbrev pub may_be_given : CommandName → List Setting → Bool
+may_be_given command some = list_all (λ given. takes_option command (name_of given)) some && numbers_differ (map number_of some)
 
--- the command over the files of these names, with these settings
-abbrev pub command_with : List (List ℕ) → List Setting → Option PlanCommand
-command_with names some = if are_given_once some then option_map (λ files. record { files = files; choices = choices_of some }) (files_of names) else None
-
--- the command that the pieces make: two names, with each option at most once, in whatever order
-abbrev pub command_from : List Piece → Option PlanCommand
-command_from pieces = command_with (filter_map name_in pieces) (filter_map setting_in pieces)
-
--- the words are this command: `plan`, and behind it the pieces that make it
-pub record IsSpelledOut (words : List (List ℕ)) (command : PlanCommand) : Type 0 where
+-- the words are this command: its word, and behind it its names and its options, each at most once, in whatever order
+pub record IsSpelledOut (words : List (List ℕ)) (command : AnyCommand) : Type 0 where
   pub pieces : List Piece
   pub behind : List (List ℕ)
-  pub plan_first : words ≡ codes "plan" ∷ behind
+  pub word_first : words ≡ command_word (command_name command) ∷ behind
   pub spelled : AreSpelled pieces behind
-  pub made : command_from pieces ≡ Some command
+  pub given : IsTrue (may_be_given (command_name command) (filter_map setting_in pieces))
+  pub names : AreNames command (filter_map name_in pieces)
+  pub chosen : AreChosen command (choices_of (filter_map setting_in pieces))

@@ -6,11 +6,12 @@ use Rattle.query_core.specs.Differ.{numbers_differ}
 use Rattle.xform_rules.specs.Rules.{can_be_off, rule_number}
 use Rattle.xform_rules.specs.declared.rules.Rule.{Rule}
 use Rattle.command_line.specs.Rules.{off_set}
-use Rattle.command_line.specs.Options.{choices_of}
+use Rattle.command_line.specs.Options.{choices_of, name_of, takes_option}
 use Rattle.command_line.specs.Command.{Piece, name_in, setting_in, number_of}
+use Rattle.command_line.specs.declared.choices.CommandName.{CommandName}
 use Rattle.command_line.specs.declared.draft.Draft.{Draft}
 use Rattle.command_line.specs.declared.draft.Names.{Names}
-use Rattle.command_line.specs.declared.draft.Names.TheVariants.{Nothing, Catalog, Both}
+use Rattle.command_line.specs.declared.draft.Names.TheVariants.{Nothing, One, Two, Three}
 
 -- the set has the bits of these numbers, of which none comes twice
 pub record AreBits (numbers : List ℕ) (bits : ℕ) : Type 0 where
@@ -26,11 +27,14 @@ pub record IsOffSet (some : List Rule) (bits : ℕ) : Type 0 where
 -- the names that were read
 abbrev pub names_read : Names → List (List ℕ)
 names_read Nothing = []
-names_read (Catalog catalog) = catalog.now ∷ []
-names_read (Both catalog query) = catalog.now ∷ query.now ∷ []
+names_read (One first) = first.now ∷ []
+names_read (Two first second) = first.now ∷ second.now ∷ []
+names_read (Three first second third) = first.now ∷ second.now ∷ third.now ∷ []
 
--- the draft has what the pieces ask for
-pub record IsDraft (pieces : List Piece) (draft : Draft) : Type 0 where
+-- the draft of a command has what the pieces ask for
+pub record IsDraft (command : CommandName) (pieces : List Piece) (draft : Draft) : Type 0 where
+  pub command_is : draft.command ≡ command
+  pub taken : list_all (λ given. takes_option command (name_of given)) (filter_map setting_in pieces) ≡ true
   pub names : filter_map name_in pieces ≡ names_read draft.names
   pub choices : draft.choices ≡ choices_of (filter_map setting_in pieces)
   pub given : AreBits (map number_of (filter_map setting_in pieces)) draft.given

@@ -1,5 +1,5 @@
--- The options of `plan`: how each is spelled, and what it chooses.
-use Rattle.std.specs.Prelude.{ℕ, List, [], ◌∷◌, ◌≡◌, ◌<◌, ◌%◌, ⊤, true, false, codes, IsTrue}
+-- The options of the commands: which take them, how each is spelled, and what it chooses.
+use Rattle.std.specs.Prelude.{ℕ, List, [], ◌∷◌, ◌≡◌, ◌<◌, ◌%◌, ⊤, Bool, true, false, codes, IsTrue}
 use Rattle.std.specs.List.{fold}
 use Rattle.query_core.specs.declared.options.RootDist.{RootDist}
 use Rattle.query_core.specs.declared.options.RootDist.TheVariants.{One, Spread}
@@ -8,6 +8,8 @@ use Rattle.xform_rules.specs.declared.rules.Rule.{Rule}
 use Rattle.command_line.specs.Numbers.{IsWithin, IsNumber}
 use Rattle.command_line.specs.Rules.{may_be_off, off_set, rules_word}
 use Rattle.command_line.specs.declared.choices.Choices.{Choices}
+use Rattle.command_line.specs.declared.choices.CommandName.{CommandName}
+use Rattle.command_line.specs.declared.choices.CommandName.TheVariants as commands
 use Rattle.command_line.specs.declared.choices.OptionName.{OptionName}
 use Rattle.command_line.specs.declared.choices.OptionName.TheVariants as names
 use Rattle.command_line.specs.declared.choices.Setting.{Setting}
@@ -24,6 +26,21 @@ option_word names.Off = codes "--off"
 option_word names.Memo = codes "--memo"
 option_word names.Trace = codes "--trace"
 option_word names.ByWorker = codes "--by-worker"
+
+-- `gen` takes the option
+abbrev pub gen_takes : OptionName → Bool
+gen_takes names.Workers = true
+gen_takes names.Capacity = true
+gen_takes names.Root = false
+gen_takes names.Off = false
+gen_takes names.Memo = false
+gen_takes names.Trace = false
+gen_takes names.ByWorker = false
+
+-- the command takes the option; `plan` takes all of them
+abbrev pub takes_option : CommandName → OptionName → Bool
+takes_option commands.Plan option = true
+takes_option commands.Gen option = gen_takes option
 
 -- the number of an option among them
 abbrev pub option_number : OptionName → ℕ

@@ -1,6 +1,6 @@
 -- How the words of a command line are read.
-use Rattle.std.specs.Prelude.{ℕ, Bool, true, false, List, [], ◌∷◌, ◌==◌, Option, None, Some, codes, bytes_eq, if◌then◌else◌, option_map}
-use Rattle.std.specs.List.{find, slice_split}
+use Rattle.std.specs.Prelude.{ℕ, ◌-◌, ◌^◌, Bool, true, false, List, [], ◌∷◌, ◌==◌, Option, None, Some, codes, bytes_eq, if◌then◌else◌, option_map}
+use Rattle.std.specs.List.{filter_map, find, slice_split}
 use Rattle.std.specs.Option.{option_and_then, option_map_or}
 use Rattle.query_core.specs.declared.options.RootDist.{RootDist}
 use Rattle.query_core.specs.declared.options.RootDist.TheVariants.{One, Spread}
@@ -8,8 +8,14 @@ use Rattle.xform_rules.specs.Rules.{all_rules, rule_name}
 use Rattle.xform_rules.specs.declared.rules.Rule.{Rule}
 use Rattle.command_line.specs.Numbers.{number_within}
 use Rattle.command_line.specs.Rules.{may_be_off, off_set}
-use Rattle.command_line.specs.Options.{option_word}
-use Rattle.command_line.specs.Command.{PlanCommand, Piece, name, setting, is_positional, command_from}
+use Rattle.command_line.specs.Options.{option_word, choices_of}
+use Rattle.command_line.specs.Command.{FileNames, AnyCommand, plan, gen, Piece, name, setting, is_positional, name_in, setting_in, may_be_given}
+use Rattle.command_line.specs.declared.choices.Choices.{Choices}
+use Rattle.command_line.specs.declared.choices.CommandName.{CommandName}
+use Rattle.command_line.specs.declared.choices.CommandName.TheVariants as commands
+use Rattle.command_line.specs.declared.command.GenInput.{GenInput}
+use Rattle.query_generator.specs.declared.shape.GenShape.{GenShape}
+use Rattle.query_generator.specs.declared.shape.GenShape.TheVariants.{Chain, Star, Clique}
 use Rattle.command_line.specs.declared.choices.OptionName.{OptionName}
 use Rattle.command_line.specs.declared.choices.OptionName.TheVariants as names
 use Rattle.command_line.specs.declared.choices.Setting.{Setting}
@@ -108,15 +114,53 @@ pieces_of (word ∷ value ∷ more) = if is_valued word then in_front (valued_pi
 
 -- ---- commands
 
--- the command of the words behind `plan`
-abbrev pub behind_plan : List (List ℕ) → Option PlanCommand
-behind_plan words = option_and_then command_from (pieces_of words)
+-- two names are those of the catalogue's file and of the query's
+abbrev pub files_of : List (List ℕ) → Option FileNames
+files_of [] = None
+files_of (catalog ∷ []) = None
+files_of (catalog ∷ query ∷ []) = Some (record { catalog = catalog; query = query })
+files_of (catalog ∷ query ∷ third ∷ more) = None
 
--- the word is `plan`
-abbrev pub is_plan : List ℕ → Bool
-is_plan word = bytes_eq word (codes "plan")
+-- the shape of a word
+abbrev pub shape_of : List ℕ → Option GenShape
+shape_of word =
+    if bytes_eq word (codes "chain") then Some Chain else if bytes_eq word (codes "star") then Some Star else if bytes_eq word (codes "clique") then Some Clique else None
+
+-- what the words of a number, of a count of tables and of a shape say
+abbrev pub input_with : Option ℕ → Option ℕ → Option GenShape → Option GenInput
+input_with number tables shape =
+    option_and_then (λ n. option_and_then (λ t. option_map (λ s. record { number = n; tables = t; shape = s }) shape) tables) number
+
+-- three names are those of a number, of how many tables there are, and of a shape
+abbrev pub input_of : List (List ℕ) → Option GenInput
+input_of [] = None
+input_of (number ∷ []) = None
+input_of (number ∷ tables ∷ []) = None
+input_of (number ∷ tables ∷ shape ∷ []) = input_with (number_within 0 (2 ^ 64 - 1) number) (number_within 1 8 tables) (shape_of shape)
+input_of (number ∷ tables ∷ shape ∷ fourth ∷ more) = None
+
+-- the command of these names, with what is chosen
+abbrev pub command_with : CommandName → List (List ℕ) → Choices → Option AnyCommand
+command_with commands.Plan names choices = option_map (λ files. plan (record { files = files; choices = choices })) (files_of names)
+command_with commands.Gen names choices = option_map (λ input. gen (record { input = input; workers = choices.workers; capacity = choices.capacity })) (input_of names)
+
+-- the command of these names and of these settings
+abbrev pub command_made : CommandName → List (List ℕ) → List Setting → Option AnyCommand
+command_made command names some = if may_be_given command some then command_with command names (choices_of some) else None
+
+-- the command that the pieces make behind its name
+abbrev pub command_from : CommandName → List Piece → Option AnyCommand
+command_from command pieces = command_made command (filter_map name_in pieces) (filter_map setting_in pieces)
+
+-- the command that the words behind its name make
+abbrev pub behind_name : CommandName → List (List ℕ) → Option AnyCommand
+behind_name command words = option_and_then (command_from command) (pieces_of words)
+
+-- the command of a word
+abbrev pub command_named : List ℕ → Option CommandName
+command_named word = if bytes_eq word (codes "plan") then Some commands.Plan else if bytes_eq word (codes "gen") then Some commands.Gen else None
 
 -- the command that the words are; there is none where they are spelled otherwise
-abbrev pub command_of : List (List ℕ) → Option PlanCommand
+abbrev pub command_of : List (List ℕ) → Option AnyCommand
 command_of [] = None
-command_of (first ∷ others) = if is_plan first then behind_plan others else None
+command_of (first ∷ others) = option_and_then (λ command. behind_name command others) (command_named first)

@@ -1,10 +1,17 @@
 //! What a command chooses by its options.
 ghost use Rattle.std.specs.Prelude.{◌≡◌, ◌<◌};
-ghost use Rattle.command_line.specs.Options.{AreChoices, IsAllowed, chosen, name_of as option_of, option_number, usual as is_usual};
+ghost use Rattle.command_line.specs.Options.{AreChoices, IsAllowed, chosen, gen_takes, name_of as option_of, option_number, takes_option, usual as is_usual};
 
 use query_core::{Options, RootDist};
 
-/// The options of `plan`.
+/// The commands.
+#[derive(Clone, Copy, Debug, PartialEq, Eq)]
+pub enum CommandName {
+    Plan,
+    Gen,
+}
+
+/// The options of the commands.
 #[derive(Clone, Copy, Debug, PartialEq, Eq)]
 pub enum OptionName {
     Workers,
@@ -59,6 +66,30 @@ impl OptionName {
             OptionName::Memo => 4,
             OptionName::Trace => 5,
             OptionName::ByWorker => 6,
+        }
+    }
+
+    /// Whether the command takes it.
+    pub fn is_of(self, command: CommandName) -> bool
+        ensures { result ≡ takes_option command self }
+    {
+        match command {
+            CommandName::Plan => true,
+            CommandName::Gen => self.is_of_gen(),
+        }
+    }
+
+    fn is_of_gen(self) -> bool
+        ensures { result ≡ gen_takes self }
+    {
+        match self {
+            OptionName::Workers => true,
+            OptionName::Capacity => true,
+            OptionName::Root => false,
+            OptionName::Off => false,
+            OptionName::Memo => false,
+            OptionName::Trace => false,
+            OptionName::ByWorker => false,
         }
     }
 }

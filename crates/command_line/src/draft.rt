@@ -2,19 +2,21 @@
 ghost use Rattle.std.proofs.Props.{props};
 ghost use Rattle.command_line.specs.Options.{AreChoices};
 
-use crate::choices::Choices;
+use crate::choices::{Choices, CommandName};
 
 /// The names that were read.
 #[derive(Clone, Copy, Debug)]
 pub enum Names<'w> {
     Nothing,
-    Catalog(&'w str),
-    Both(&'w str, &'w str),
+    One(&'w str),
+    Two(&'w str, &'w str),
+    Three(&'w str, &'w str, &'w str),
 }
 
 /// What was read of a command so far.
 #[derive(Clone, Copy, Debug)]
 pub struct Draft<'w> {
+    pub command: CommandName,
     pub names: Names<'w>,
     pub choices: Choices,
     /// The bits of the numbers of the options that were given.

@@ -5,6 +5,7 @@ mod choices;
 mod command;
 mod draft;
 mod drafting;
+mod inputs;
 mod laws;
 mod numbers;
 mod off_rules;
@@ -16,6 +17,6 @@ mod tests;
 mod words;
 
 pub use choices::Choices;
-pub use command::{Command, Files};
+pub use command::{Command, Files, GenCommand, GenInput, PlanCommand};
 pub use laws::commands_are_spelled;
 pub use words::read_command;

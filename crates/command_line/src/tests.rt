@@ -2,6 +2,7 @@
 
 use crate::*;
 use query_core::{Options, RootDist};
+use query_generator::GenShape;
 use std::alloc::{AllocError, Global};
 use std::test::Fail;
 
@@ -20,7 +21,10 @@ fn each_option_is_read(rt: HostRuntime) -> Result<(), Fail> {
         rt.alloc(),
         "plan c.json --root spread --workers 64 q.sql --off JoinCommute+AggToHash --memo --capacity 1048576 --trace --by-worker",
     )?;
-    let command = read_command(&words).expect(&rt, "a command");
+    let Some(Command::Plan(command)) = read_command(&words) else {
+        assert!(rt; false);
+        return Ok(());
+    };
     let choices = command.choices;
     assert_eq!(rt; command.files.catalog, "c.json");
     assert_eq!(rt; command.files.query, "q.sql");
@@ -40,7 +44,11 @@ fn each_option_is_read(rt: HostRuntime) -> Result<(), Fail> {
 #[test]
 fn what_is_not_given_is_usual(rt: HostRuntime) -> Result<(), Fail> {
     let words = words_of(rt.alloc(), "plan c.json q.sql")?;
-    let choices = read_command(&words).expect(&rt, "a command").choices;
+    let Some(Command::Plan(command)) = read_command(&words) else {
+        assert!(rt; false);
+        return Ok(());
+    };
+    let choices = command.choices;
     assert_eq!(rt;
         choices.options,
         Options {
@@ -51,6 +59,22 @@ fn what_is_not_given_is_usual(rt: HostRuntime) -> Result<(), Fail> {
     assert_eq!(rt; choices.workers, 1);
     assert_eq!(rt; choices.capacity, 131_072);
     assert!(rt; !choices.memo && !choices.trace && !choices.by_worker);
+    Ok(())
+}
+
+#[test]
+fn a_number_tables_and_a_shape_are_generated(rt: HostRuntime) -> Result<(), Fail> {
+    let line = "gen 18446744073709551615 --capacity 64 8 clique --workers 2";
+    let words = words_of(rt.alloc(), line)?;
+    let Some(Command::Gen(command)) = read_command(&words) else {
+        assert!(rt; false);
+        return Ok(());
+    };
+    assert_eq!(rt; command.input.number, u64::MAX);
+    assert_eq!(rt; command.input.tables, 8);
+    assert!(rt; matches!(command.input.shape, GenShape::Clique));
+    assert_eq!(rt; command.workers, 2);
+    assert_eq!(rt; command.capacity, 64);
     Ok(())
 }
 
@@ -82,6 +106,15 @@ fn other_words_are_no_command(rt: HostRuntime) -> Result<(), Fail> {
         "plan c.json q.sql --",
         "plan c.json  q.sql",
         "Plan c.json q.sql",
+        "gen 1 9 chain",
+        "gen 1 0 chain",
+        "gen 01 1 chain",
+        "gen 18446744073709551616 1 chain",
+        "gen 1 1 ring",
+        "gen 1 1",
+        "gen 1 1 chain more",
+        "gen 1 1 chain --memo",
+        "gen 1 1 chain --workers 2 --workers 2",
     ] {
         assert!(rt; read_command(&words_of(rt.alloc(), line)?).is_none());
     }

@@ -12,7 +12,8 @@ use Rattle.job_outcome.specs.Outcomes.{HasMoreEntries, FitsIn}
 use Rattle.orca_cli.specs.Causes.{ReadRose, Holds, HoldsQuery, IsSettled, Completes, IsOverflow, Overflows, IsRefusal, Refuses}
 use Rattle.command_line.specs.Command.{PlanCommand}
 use Rattle.command_line.specs.declared.choices.Choices.{Choices}
-use Rattle.orca_cli.specs.Run.{AreTold, HasRoom, IsSearched, planned, unplanned, too_many, IsAnswer, searched, refused, IsEnding, answered, catalog_refused, catalog_unread, query_unread, IsRun, Ends}
+use Rattle.orca_cli.specs.Run.{AreTold, HasRoom, IsSearchEnd, IsSearched, planned, unplanned, too_many, IsAnswer, searched, refused, IsEnding, answered, catalog_refused, catalog_unread, query_unread, IsRun, Ends}
+use Rattle.orca_cli.specs.Sections.{Tells}
 use Rattle.orca_cli.specs.declared.status.Status.{Status}
 use Rattle.orca_cli.specs.declared.status.Status.TheVariants.{Planned, NoPlan, Usage, QueryRefused, CatalogRefused, TooManyEntries, ReadFault, WriteFault, Memory}
 use Rattle.orca_cli.proofs.Others.{never}
@@ -109,16 +110,16 @@ pub room_or_more : OneAnswer → (query : Query) (capacity : ℕ) → HasRoom qu
 room_or_more one query capacity room more = one.room query capacity room.members room.goals room.fits more
 
 -- the search of a query with room settles it
-settled_search : OneAnswer → (choices : Choices) (query : Query) (status : Status) (text : List ℕ) → HasRoom query choices.capacity → IsSearched choices query status text → IsSettled status
-settled_search one choices query status text room (planned is has plan is_plan goes) = subst IsSettled (sym is) tt
-settled_search one choices query status text room (unplanned is has impossible goes) = subst IsSettled (sym is) tt
-settled_search one choices query status text room (too_many is more line) = absurd (room_or_more one query choices.capacity room more)
+pub settled_search : OneAnswer → (Tells : List ℕ → List ℕ → Type 0) (capacity : ℕ) (query : Query) (status : Status) (text : List ℕ) → HasRoom query capacity → IsSearchEnd Tells capacity query status text → IsSettled status
+settled_search one Tells capacity query status text room (planned is has plan is_plan goes) = subst IsSettled (sym is) tt
+settled_search one Tells capacity query status text room (unplanned is has impossible goes) = subst IsSettled (sym is) tt
+settled_search one Tells capacity query status text room (too_many is more line) = absurd (room_or_more one query capacity room more)
 
 -- the search of a query with too many entries ends for want of room
-overflow_search : OneAnswer → (choices : Choices) (query : Query) (status : Status) (text : List ℕ) → HasMoreEntries query choices.capacity → IsSearched choices query status text → IsOverflow status
-overflow_search one choices query status text more (planned is room plan is_plan goes) = absurd (room_or_more one query choices.capacity room more)
-overflow_search one choices query status text more (unplanned is room impossible goes) = absurd (room_or_more one query choices.capacity room more)
-overflow_search one choices query status text more (too_many is has line) = subst IsOverflow (sym is) tt
+pub overflow_search : OneAnswer → (Tells : List ℕ → List ℕ → Type 0) (capacity : ℕ) (query : Query) (status : Status) (text : List ℕ) → HasMoreEntries query capacity → IsSearchEnd Tells capacity query status text → IsOverflow status
+overflow_search one Tells capacity query status text more (planned is room plan is_plan goes) = absurd (room_or_more one query capacity room more)
+overflow_search one Tells capacity query status text more (unplanned is room impossible goes) = absurd (room_or_more one query capacity room more)
+overflow_search one Tells capacity query status text more (too_many is has line) = subst IsOverflow (sym is) tt
 
 module _ (one : OneAnswer) (catalog : Catalog) (choices : Choices) (asked : List ℕ) (status : Status) (text : List ℕ) where
   -- the answer to a text that asks for a query is the search of this query
@@ -143,7 +144,7 @@ completed one named held reads_before reads_after old new before after status en
     by_status status (subst (λ n. Ends (IsRun n held reads_before reads_after) old new before after status) is ends)
   where
     settled : (s : Status) (text : List ℕ) → IsEnding command held reads_before reads_after s text → IsSettled s
-    settled s text ending = settled_search one command.choices q.query s text room (search_held one command held q reads_before reads_after no_read s text ending)
+    settled s text ending = settled_search one (Tells None command.choices q.query) command.choices.capacity q.query s text room (search_held one command held q reads_before reads_after no_read s text ending)
 
     by_status : (s : Status) → Ends (IsRun (Some command) held reads_before reads_after) old new before after s → IsSettled s
     by_status Planned e = tt
@@ -163,7 +164,7 @@ overflowed one named held reads_before reads_after old new before after status e
     by_status status (subst (λ n. Ends (IsRun n held reads_before reads_after) old new before after status) is ends)
   where
     overflow : (s : Status) (text : List ℕ) → IsEnding command held reads_before reads_after s text → IsOverflow s
-    overflow s text ending = overflow_search one command.choices q.query s text more (search_held one command held q reads_before reads_after no_read s text ending)
+    overflow s text ending = overflow_search one (Tells None command.choices q.query) command.choices.capacity q.query s text more (search_held one command held q reads_before reads_after no_read s text ending)
 
     by_status : (s : Status) → Ends (IsRun (Some command) held reads_before reads_after) old new before after s → IsOverflow s
     by_status Planned e = overflow Planned e.0 e.1

@@ -8,4 +8,7 @@ pub mod Stages
 pub mod Puts
 pub mod Causes
 pub mod Served
+pub mod ServedGen
+pub mod Made
+pub mod FirstLines
 pub mod Outcomes

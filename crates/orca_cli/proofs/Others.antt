@@ -1,11 +1,12 @@
 -- The statuses with which no run over two files ends.
-use Rattle.std.proofs.Common.{ℕ, List, Option, subst}
+use Rattle.std.proofs.Common.{ℕ, List, Option, None, subst}
 use Rattle.std.specs.Bool.{⊤}
 use Rattle.query_core.specs.declared.catalog.Catalog.{Catalog}
 use Rattle.query_core.specs.declared.query.Query.{Query}
 use Rattle.command_line.specs.Command.{PlanCommand}
 use Rattle.command_line.specs.declared.choices.Choices.{Choices}
-use Rattle.orca_cli.specs.Run.{IsSearched, planned, unplanned, too_many, IsAnswer, searched, refused, IsEnding, answered, catalog_refused, catalog_unread, query_unread}
+use Rattle.orca_cli.specs.Run.{IsSearchEnd, planned, unplanned, too_many, IsAnswer, searched, refused, IsEnding, answered, catalog_refused, catalog_unread, query_unread}
+use Rattle.orca_cli.specs.Sections.{Tells}
 use Rattle.orca_cli.specs.declared.status.Status.{Status}
 use Rattle.orca_cli.specs.declared.status.Status.TheVariants.{Planned, NoPlan, Usage, QueryRefused, CatalogRefused, TooManyEntries, ReadFault, WriteFault, Memory}
 
@@ -21,13 +22,13 @@ IsOther ReadFault = ⊥
 IsOther WriteFault = ⊤
 IsOther Memory = ⊤
 
-never_searched : (choices : Choices) (query : Query) (status : Status) (text : List ℕ) → IsSearched choices query status text → IsOther status → ⊥
-never_searched choices query status text (planned is room plan is_plan goes) other = subst IsOther is other
-never_searched choices query status text (unplanned is room impossible goes) other = subst IsOther is other
-never_searched choices query status text (too_many is more line) other = subst IsOther is other
+pub never_searched : (Tells : List ℕ → List ℕ → Type 0) (capacity : ℕ) (query : Query) (status : Status) (text : List ℕ) → IsSearchEnd Tells capacity query status text → IsOther status → ⊥
+never_searched Tells capacity query status text (planned is room plan is_plan goes) other = subst IsOther is other
+never_searched Tells capacity query status text (unplanned is room impossible goes) other = subst IsOther is other
+never_searched Tells capacity query status text (too_many is more line) other = subst IsOther is other
 
 never_answer : (catalog : Catalog) (choices : Choices) (asked : List ℕ) (status : Status) (text : List ℕ) → IsAnswer catalog choices asked status text → IsOther status → ⊥
-never_answer catalog choices asked status text (searched query asks is) other = never_searched choices query status text is other
+never_answer catalog choices asked status text (searched query asks is) other = never_searched (Tells None choices query) choices.capacity query status text is other
 never_answer catalog choices asked status text (refused is cause why line) other = subst IsOther is other
 
 -- files decide with other statuses than these

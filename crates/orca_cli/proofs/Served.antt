@@ -2,14 +2,15 @@
 use Rattle.std.proofs.Common.{◌≡◌, ℕ, List, Option, Some, refl, sym, subst, inl, inr}
 use Rattle.std.specs.Io.KnownBytes.{Keeps}
 use Rattle.query_core.specs.declared.query.Query.{Query}
-use Rattle.command_line.specs.Command.{PlanCommand}
+use Rattle.command_line.specs.Command.{PlanCommand, AnyCommand}
 use Rattle.orca_cli.specs.Notes.{Note, NotesSearch, NotesRun, Notes}
 use Rattle.orca_cli.specs.Puts.{IsPut}
 use Rattle.orca_cli.specs.Run.{IsAskedBy, IsSearched, searched, answered, IsRun, Ends}
-use Rattle.orca_cli.specs.Serves.{IsEnded, Serves}
+use Rattle.orca_cli.specs.Serves.{IsEnded, Serves, ServesWords}
 use Rattle.orca_cli.specs.declared.status.Status.{Status}
 use Rattle.orca_cli.specs.declared.status.Status.TheVariants.{Planned, NoPlan, Usage, QueryRefused, CatalogRefused, TooManyEntries, ReadFault, WriteFault, Memory}
 use Rattle.orca_cli.proofs.Causes.{OneAnswer, usage_cause, read_cause, write_cause, completed, overflowed, refused_there}
+use Rattle.orca_cli.proofs.Others.{never}
 use Rattle.orca_cli.proofs.Puts.{put_ends}
 
 -- ---- the ending of a command's run
@@ -62,7 +63,7 @@ module _ (one : OneAnswer) (command : PlanCommand) (held : List ℕ → Option (
       → Serves (Some command) held reads_before reads_after old new before after empty note result
   put_served status text is put =
       serves one (Some command) held reads_before reads_after old new before after empty note result
-      (put_ends command held reads_before reads_after status text old new before after result is.ending put) (put_notes status text put is.notes)
+      (put_ends (IsRun (Some command) held reads_before reads_after) (λ t e. never command held reads_before reads_after WriteFault t e tt) (λ t e. never command held reads_before reads_after Memory t e tt) old new before after status text result is.ending put) (put_notes status text put is.notes)
 
   -- memory ran out before a text was made
   pub memory_served : result ≡ Memory → Keeps old new → Serves (Some command) held reads_before reads_after old new before after empty note result
@@ -73,7 +74,7 @@ module _ (one : OneAnswer) (command : PlanCommand) (held : List ℕ → Option (
 -- ---- words that are one
 
 -- what is served for a command is served for the words that name it
-pub named_served : (named : Option PlanCommand) (command : PlanCommand) (held : List ℕ → Option (List ℕ)) (reads_before reads_after : List ℕ → ℕ) (old new : Option (List ℕ)) (before after : ℕ) (empty note : Note) (status : Status)
-    → named ≡ Some command → Serves (Some command) held reads_before reads_after old new before after empty note status → Serves named held reads_before reads_after old new before after empty note status
+pub named_served : (named : Option AnyCommand) (command : AnyCommand) (held : List ℕ → Option (List ℕ)) (reads_before reads_after : List ℕ → ℕ) (old new : Option (List ℕ)) (before after : ℕ) (empty note : Note) (status : Status)
+    → named ≡ Some command → ServesWords (Some command) held reads_before reads_after old new before after empty note status → ServesWords named held reads_before reads_after old new before after empty note status
 named_served named command held reads_before reads_after old new before after empty note status is serves =
-    subst (λ n. Serves n held reads_before reads_after old new before after empty note status) (sym is) serves
+    subst (λ n. ServesWords n held reads_before reads_after old new before after empty note status) (sym is) serves

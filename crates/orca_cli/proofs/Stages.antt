@@ -32,9 +32,8 @@ use Rattle.command_line.specs.Command.{PlanCommand}
 use Rattle.command_line.specs.declared.choices.Choices.{Choices}
 use Rattle.orca_cli.specs.Reading.{AreHeld}
 use Rattle.orca_cli.specs.Texts as texts
-use Rattle.orca_cli.specs.Run.{AreTold, Offers, HasRoom, IsSearched, planned, unplanned, IsAnswer, refused, IsAskedAt, IsAskedBy, IsReadFault, IsEnding, answered, catalog_refused, query_unread}
+use Rattle.orca_cli.specs.Run.{AreTold, Offers, HasRoom, IsSearchEnd, planned, unplanned, IsAnswer, refused, IsAskedAt, IsAskedBy, IsReadFault, IsEnding, answered, catalog_refused, query_unread}
 use Rattle.orca_cli.specs.Stages as stages
-use Rattle.orca_cli.specs.Sections.{GoesOn}
 use Rattle.orca_cli.specs.Stages.{IsPlanOf, IsDone, IsStop, Asking, Stops, IsAskedOver, IsEndingAt, IsEndingOver}
 use Rattle.orca_cli.specs.declared.asked.Asked.{Asked}
 use Rattle.orca_cli.specs.declared.asked.Asked.TheVariants as askeds
@@ -60,16 +59,16 @@ plan_of_found query founds.NoPlan status text is impossible told = stages.none i
 pub as_ended : (P : Status → List ℕ → Type 0) (ending : Ending) (status : Status) (text : List ℕ) → EndsAs ending status text → P status text → P ending.status (text_of ending)
 as_ended P ending status text is fact = subst (λ s. P s (text_of ending)) (sym is.status) (subst (λ t. P status t) (sym is.text) fact)
 
--- the plan of a query for which there is room, and behind it the sections that are asked for
-pub plan_searched : (choices : Choices) (query : Query) (status : Status) (front text : List ℕ) → HasRoom query choices.capacity → IsPlanOf query status front → GoesOn choices query front text → IsSearched choices query status text
-plan_searched choices query status front text room (stages.least is plan) goes = planned is room front plan goes
-plan_searched choices query status front text room (stages.none is impossible line) goes = unplanned is room impossible (subst (λ line. GoesOn choices query line text) line goes)
+-- the plan of a query for which there is room, and what is printed for it
+pub plan_searched : (Tells : List ℕ → List ℕ → Type 0) (capacity : ℕ) (query : Query) (status : Status) (front text : List ℕ) → HasRoom query capacity → IsPlanOf query status front → Tells front text → IsSearchEnd Tells capacity query status text
+plan_searched Tells capacity query status front text room (stages.least is plan) goes = planned is room front plan goes
+plan_searched Tells capacity query status front text room (stages.none is impossible line) goes = unplanned is room impossible (subst (λ line. Tells line text) line goes)
 
--- the ending with the sections that are asked for behind it
-pub followed_searched : (choices : Choices) (query : Query) (front made : Ending) → HasRoom query choices.capacity → IsPlanOf query front.status (text_of front)
-    → made.status ≡ front.status → GoesOn choices query (text_of front) (text_of made) → IsSearched choices query made.status (text_of made)
-followed_searched choices query front made room plan same goes =
-    plan_searched choices query made.status (text_of front) (text_of made) room (subst (λ s. IsPlanOf query s (text_of front)) (sym same) plan) goes
+-- the ending with what is printed for its plan
+pub followed_searched : (Tells : List ℕ → List ℕ → Type 0) (capacity : ℕ) (query : Query) (front made : Ending) → HasRoom query capacity → IsPlanOf query front.status (text_of front)
+    → made.status ≡ front.status → Tells (text_of front) (text_of made) → IsSearchEnd Tells capacity query made.status (text_of made)
+followed_searched Tells capacity query front made room plan same goes =
+    plan_searched Tells capacity query made.status (text_of front) (text_of made) room (subst (λ s. IsPlanOf query s (text_of front)) (sym same) plan) goes
 
 -- ---- refusals
 

@@ -10,5 +10,6 @@ pub mod Puts
 pub mod Searches
 pub mod Notes
 pub mod Causes
+pub mod Generated
 pub mod Serves
 pub mod Laws

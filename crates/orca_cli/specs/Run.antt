@@ -14,7 +14,7 @@ use Rattle.plan_report.specs.Text.{plan_section}
 use Rattle.orca_cli.specs.Asked.{SaysCatalog, IsNoCatalog, Asks, IsRefused}
 use Rattle.command_line.specs.Command.{PlanCommand}
 use Rattle.command_line.specs.declared.choices.Choices.{Choices}
-use Rattle.orca_cli.specs.Sections.{GoesOn}
+use Rattle.orca_cli.specs.Sections.{Tells}
 use Rattle.orca_cli.specs.Texts as texts
 use Rattle.orca_cli.specs.declared.status.Status.{Status}
 use Rattle.orca_cli.specs.declared.status.Status.TheVariants.{Planned, NoPlan, Usage, QueryRefused, CatalogRefused, TooManyEntries, ReadFault, WriteFault, Memory}
@@ -35,11 +35,15 @@ pub record HasRoom (query : Query) (capacity : ℕ) : Type 0 where
   pub goals : List ℕ
   pub fits : FitsIn query capacity members goals
 
--- what the search of a query ends with, by what the command chooses
-pub data IsSearched (choices : Choices) (query : Query) (status : Status) (text : List ℕ) : Type 0 where
-  planned : status ≡ Planned → HasRoom query choices.capacity → (plan : List ℕ) → IsPlanText query plan → GoesOn choices query plan text → IsSearched choices query status text
-  unplanned : status ≡ NoPlan → HasRoom query choices.capacity → IsImpossible query → GoesOn choices query texts.no_plan text → IsSearched choices query status text
-  too_many : status ≡ TooManyEntries → HasMoreEntries query choices.capacity → text ≡ texts.too_many_entries choices.capacity → IsSearched choices query status text
+-- what the search of a query ends with, where Tells says which text is printed for a plan's
+pub data IsSearchEnd (Tells : List ℕ → List ℕ → Type 0) (capacity : ℕ) (query : Query) (status : Status) (text : List ℕ) : Type 0 where
+  planned : status ≡ Planned → HasRoom query capacity → (plan : List ℕ) → IsPlanText query plan → Tells plan text → IsSearchEnd Tells capacity query status text
+  unplanned : status ≡ NoPlan → HasRoom query capacity → IsImpossible query → Tells texts.no_plan text → IsSearchEnd Tells capacity query status text
+  too_many : status ≡ TooManyEntries → HasMoreEntries query capacity → text ≡ texts.too_many_entries capacity → IsSearchEnd Tells capacity query status text
+
+-- what the search of a query ends with, by what a command over files chooses
+abbrev pub IsSearched : Choices → Query → Status → List ℕ → Type 0
+IsSearched choices query status text = IsSearchEnd (Tells None choices query) choices.capacity query status text
 
 -- the answer to a query's bytes over a catalogue, by what the command chooses
 pub data IsAnswer (catalog : Catalog) (choices : Choices) (asked : List ℕ) (status : Status) (text : List ℕ) : Type 0 where

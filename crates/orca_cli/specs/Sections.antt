@@ -1,11 +1,13 @@
 -- The sections that may stand behind the plan.
-use Rattle.std.specs.Prelude.{◌≡◌, ◌<◌, ℕ, All, Bool, true, false, List, [], ◌∷◌, ◌++◌, length}
+use Rattle.std.specs.Prelude.{◌≡◌, ◌<◌, ℕ, All, Bool, true, false, List, [], ◌∷◌, ◌++◌, ◌==◌, Option, None, Some, codes, decimal, if◌then◌else◌, length}
 use Rattle.query_core.specs.declared.query.Query.{Query}
 use Rattle.xform_rules.specs.Closure.{IsClosureOf}
 use Rattle.goal_list.specs.Listed.{AreGoalsOf}
 use Rattle.job_trace.specs.Memo as memos
 use Rattle.job_trace.specs.Trace.{IsTraceText, IsCrewText}
+use Rattle.command_line.specs.Command.{shape_word}
 use Rattle.command_line.specs.declared.choices.Choices.{Choices}
+use Rattle.command_line.specs.declared.command.GenInput.{GenInput}
 use Rattle.orca_cli.specs.declared.sections.Section.{Section}
 use Rattle.orca_cli.specs.declared.sections.Section.TheVariants as sections
 
@@ -69,3 +71,34 @@ AreBehind choices query (section ∷ more) front text = (middle : List ℕ) × I
 -- the text goes on behind the front with all sections that are asked for
 abbrev pub GoesOn : Choices → Query → List ℕ → List ℕ → Type 0
 GoesOn choices query front text = AreBehind choices query all_sections front text
+
+-- ---- first lines
+
+-- a text up to its first line feed
+abbrev pub first_line : List ℕ → List ℕ
+first_line [] = []
+first_line (byte ∷ more) = if byte == 10 then byte ∷ [] else byte ∷ first_line more
+
+-- the line of a number, of how many tables, and of the word of a shape
+abbrev pub gen_words : ℕ → ℕ → List ℕ → List ℕ
+gen_words number tables shape = codes "gen number=" ++ decimal number ++ codes " tables=" ++ decimal tables ++ codes " shape=" ++ shape ++ codes "\n"
+
+-- the line of what was generated
+abbrev pub gen_line : GenInput → List ℕ
+gen_line input = gen_words input.number input.tables (shape_word input.shape)
+
+-- the text has the line of what was generated, and the first lines of the plan, of the memo and of the trace
+pub record HasFirstLines (input : GenInput) (query : Query) (plan text : List ℕ) : Type 0 where
+  pub memo : List ℕ
+  pub is_memo : IsMemoText query memo
+  pub trace : List ℕ
+  pub is_trace : IsTrace query trace
+  pub lines : text ≡ gen_line input ++ first_line plan ++ first_line memo ++ first_line trace
+
+-- ---- what is printed of a search
+
+-- the text that is printed where the plan has this text: first lines where the query was generated, and else the plan and the sections that are
+-- asked for
+abbrev pub Tells : Option GenInput → Choices → Query → List ℕ → List ℕ → Type 0
+Tells None choices query plan text = GoesOn choices query plan text
+Tells (Some input) choices query plan text = HasFirstLines input query plan text

@@ -1,17 +1,19 @@
 -- What a call does for the words that it is given.
 use Rattle.std.specs.Prelude.{◌≡◌, ℕ, List, Option, None, Some}
 use Rattle.orca_base.specs.Causes.{Rose}
-use Rattle.command_line.specs.Command.{PlanCommand}
+use Rattle.command_line.specs.Command.{PlanCommand, AnyCommand, plan, gen}
 use Rattle.orca_cli.specs.Causes.{ReadRose, Completes, Overflows, Refuses}
+use Rattle.orca_cli.specs.Generated.{ServesGen}
 use Rattle.orca_cli.specs.Notes.{Note, Notes}
 use Rattle.orca_cli.specs.Run.{IsEnding, IsRun, Ends}
 use Rattle.orca_cli.specs.declared.status.Status.{Status}
 use Rattle.orca_cli.specs.declared.status.Status.TheVariants.{Usage, ReadFault, WriteFault}
 
 -- the words are a command, and it asks for one worker
-abbrev pub AsksForOne : Option PlanCommand → Type 0
+abbrev pub AsksForOne : Option AnyCommand → Type 0
 AsksForOne None = ⊥
-AsksForOne (Some command) = command.choices.workers ≡ 1
+AsksForOne (Some (plan command)) = command.choices.workers ≡ 1
+AsksForOne (Some (gen command)) = command.workers ≡ 1
 
 -- how the run of a command ends, before its text is put
 pub record IsEnded (command : PlanCommand) (held : List ℕ → Option (List ℕ)) (before after : List ℕ → ℕ) (empty note : Note) (status : Status) (text : List ℕ) : Type 0 where
@@ -36,3 +38,13 @@ pub record Serves (named : Option PlanCommand) (held : List ℕ → Option (List
   pub refuses : Refuses named held reads_before reads_after before after status
   -- what the note says of the search
   pub notes : Notes named held empty note status
+
+-- the call serves the words, by the command that they are
+abbrev pub ServesWords : Option AnyCommand → (List ℕ → Option (List ℕ)) → (List ℕ → ℕ) → (List ℕ → ℕ)
+    → Option (List ℕ) → Option (List ℕ) → ℕ → ℕ → Note → Note → Status → Type 0
+ServesWords None held reads_before reads_after old new before after empty note status =
+    Serves None held reads_before reads_after old new before after empty note status
+ServesWords (Some (plan command)) held reads_before reads_after old new before after empty note status =
+    Serves (Some command) held reads_before reads_after old new before after empty note status
+ServesWords (Some (gen command)) held reads_before reads_after old new before after empty note status =
+    ServesGen command old new before after note status

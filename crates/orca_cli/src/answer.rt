@@ -5,16 +5,18 @@ ghost use Rattle.goal_space.specs.Answers.{AreAnswers};
 ghost use Rattle.job_engine.specs.Runs.{RunEnds, IsNoted};
 ghost use Rattle.command_line.specs.Options.{AreChoices};
 ghost use Rattle.orca_cli.specs.Notes.{Note, NotesSearch};
-ghost use Rattle.orca_cli.specs.Run.{HasRoom, IsSearched};
+ghost use Rattle.orca_cli.specs.Run.{HasRoom, IsSearchEnd};
 ghost use Rattle.orca_cli.specs.Searches.{IsSearch};
+ghost use Rattle.orca_cli.specs.Sections.{Tells};
 ghost use Rattle.orca_cli.specs.Stages.{IsDone};
 ghost use Rattle.orca_cli.specs.Views.{text_of};
 
 use crate::ending::{Ending, too_many_entries};
+use crate::lines::with_first_lines;
 use crate::planning::planned;
 use crate::search::{Search, search_alone, search_by_crew};
 use crate::sections::with_sections;
-use command_line::Choices;
+use command_line::{Choices, GenInput};
 use job_engine::{Outcome, RunNote};
 use orca_io::Gate;
 use plan_tree::Answers;
@@ -28,6 +30,7 @@ use std::thread::Threads;
 pub fn answer_alone(
     alloc: Global,
     choices: Choices,
+    generated: Option<GenInput>,
     query: &Query,
     props: &Props,
     note: &mut RunNote,
@@ -36,12 +39,13 @@ pub fn answer_alone(
     requires choices { AreChoices choices }
     requires alone { choices.workers ≡ 1 }
     ensures ending { IfOk result
-        (λ ending. IsSearched choices query.now ending.status (text_of ending)) }
+        (λ ending. IsSearchEnd (Tells generated choices query.now) choices.capacity query.now
+        ending.status (text_of ending)) }
     ensures notes { IfOk result
         (λ ending. NotesSearch choices query.now note.new ending.status) }
 {
     let outcome = search_alone(alloc, choices, query, props, note)?;
-    ending_of(alloc, choices, query, props, &outcome)
+    ending_of(alloc, choices, generated, query, props, &outcome)
 }
 
 /// The ending of a run whose query is searched by the workers that the command chooses.
@@ -49,6 +53,7 @@ pub fn answer_by_crew<R: Threads + Wait + Sync, G: Gate>(
     rt: &R,
     alloc: Global,
     choices: Choices,
+    generated: Option<GenInput>,
     query: &Query,
     props: &Props,
     gate: &G,
@@ -57,18 +62,20 @@ pub fn answer_by_crew<R: Threads + Wait + Sync, G: Gate>(
     requires props { IsProps query.now props.now }
     requires choices { AreChoices choices }
     ensures ending { IfOk result
-        (λ ending. IsSearched choices query.now ending.status (text_of ending)) }
+        (λ ending. IsSearchEnd (Tells generated choices query.now) choices.capacity query.now
+        ending.status (text_of ending)) }
     ensures notes { IfOk result
         (λ ending. NotesSearch choices query.now note.new ending.status) }
 {
     let outcome = search_by_crew(rt, alloc, choices, query, props, gate, note)?;
-    ending_of(alloc, choices, query, props, &outcome)
+    ending_of(alloc, choices, generated, query, props, &outcome)
 }
 
 // The ending of a run, by the outcome of its search.
 fn ending_of(
     alloc: Global,
     choices: Choices,
+    generated: Option<GenInput>,
     query: &Query,
     props: &Props,
     outcome: &Outcome,
@@ -76,7 +83,8 @@ fn ending_of(
     requires props { IsProps query.now props.now }
     requires ends { RunEnds query.now choices.capacity choices.workers outcome.now }
     ensures ending { IfOk result
-        (λ ending. IsSearched choices query.now ending.status (text_of ending)) }
+        (λ ending. IsSearchEnd (Tells generated choices query.now) choices.capacity query.now
+        ending.status (text_of ending)) }
     ensures notes { (note : Note) → IsNoted choices.capacity choices.workers outcome.now note
         → IfOk result (λ ending. NotesSearch choices query.now note ending.status) }
 {
@@ -94,7 +102,7 @@ fn ending_of(
                 goals: goals.as_slice(),
                 who: who.as_slice(),
             };
-            done(alloc, choices, search, answers)
+            done(alloc, choices, generated, search, answers)
         }
         Outcome::Full { cap } => too_many_entries(alloc, *cap),
         Outcome::Unfinished { ready: _ } => unreachable!(),
@@ -105,6 +113,7 @@ fn ending_of(
 fn done(
     alloc: Global,
     choices: Choices,
+    generated: Option<GenInput>,
     search: Search<'_>,
     answers: &Answers,
 ) -> Result<Ending, AllocError>
@@ -112,9 +121,30 @@ fn done(
     requires room { HasRoom search.query.now choices.capacity }
     requires answers { AreAnswers search.query.now answers.now.list }
     ensures ending { IfOk result
-        (λ ending. IsSearched choices search.entry.query.now ending.status (text_of ending)) }
+        (λ ending. IsSearchEnd (Tells generated choices search.entry.query.now) choices.capacity
+        search.entry.query.now ending.status (text_of ending)) }
     ensures done { IfOk result (λ ending. IsDone ending.status) }
 {
     let ending = planned(alloc, search.query, search.props, answers)?;
-    with_sections(alloc, choices, search, ending)
+    told(alloc, choices, generated, search, ending)
+}
+
+// What is printed of the plan: first lines where the query was generated, and else all of it with
+// the sections that are asked for.
+fn told(
+    alloc: Global,
+    choices: Choices,
+    generated: Option<GenInput>,
+    search: Search<'_>,
+    ending: Ending,
+) -> Result<Ending, AllocError>
+    requires { IsSearch search choices.workers }
+    ensures status { IfOk result (λ made. made.status ≡ ending.status) }
+    ensures text { IfOk result (λ made. Tells generated choices search.entry.query.now
+        (text_of ending) (text_of made)) }
+{
+    match generated {
+        Some(input) => with_first_lines(alloc, input, choices, search, ending),
+        None => with_sections(alloc, choices, search, ending),
+    }
 }

@@ -11,7 +11,7 @@ use crate::binding::asked_by_text;
 use crate::faults::catalog_fault_text;
 use crate::reading::{Read, read_file};
 use catalog_json::read_catalog;
-use command_line::{Choices, Command, Files};
+use command_line::{Choices, Files, PlanCommand};
 use orca_io::Shelf;
 use query_core::Catalog;
 use sql_reader::one_outcome;
@@ -26,7 +26,7 @@ const QUERY_LIMIT: u64 = 65_536;
 /// Reads the two files, and binds the query over the catalogue.
 pub fn asked_by_files<S: Shelf>(
     alloc: Global,
-    command: &Command<'_>,
+    command: &PlanCommand<'_>,
     shelf: &mut S,
 ) -> Result<Asked, AllocError>
     ensures { IfOk result (Asking (IsAskedBy (plan_command command.now) (S.held shelf.old))

@@ -7,7 +7,9 @@ mod binding;
 mod ending;
 mod faults;
 mod files;
+mod generated;
 mod laws;
+mod lines;
 mod planning;
 mod reading;
 mod search;
@@ -23,6 +25,10 @@ pub use top::{orca_alone, orca_run, put_usage};
 
 #[cfg(test)]
 mod crew_tests;
+#[cfg(test)]
+mod gate_tests;
+#[cfg(test)]
+mod gen_tests;
 #[cfg(test)]
 mod grouped_tests;
 #[cfg(test)]

@@ -92,8 +92,12 @@ impl Section {
     }
 }
 
-// The bytes of the memo's text.
-fn memo_section(alloc: Global, choices: Choices, search: Search<'_>) -> Result<Vec<u8>, AllocError>
+/// The bytes of the memo's text.
+pub fn memo_section(
+    alloc: Global,
+    choices: Choices,
+    search: Search<'_>,
+) -> Result<Vec<u8>, AllocError>
     requires { IsSearch search choices.workers }
     ensures { IfOk result (λ text. IsMemoText search.entry.query.now text.items) }
 {
@@ -102,8 +106,12 @@ fn memo_section(alloc: Global, choices: Choices, search: Search<'_>) -> Result<V
     memo_text(alloc, search.query, search.members)
 }
 
-// The bytes of the trace's text.
-fn trace_section(alloc: Global, choices: Choices, search: Search<'_>) -> Result<Vec<u8>, AllocError>
+/// The bytes of the trace's text.
+pub fn trace_section(
+    alloc: Global,
+    choices: Choices,
+    search: Search<'_>,
+) -> Result<Vec<u8>, AllocError>
     requires { IsSearch search choices.workers }
     ensures { IfOk result (λ text. IsTrace search.entry.query.now text.items) }
 {

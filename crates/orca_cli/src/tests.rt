@@ -1,7 +1,7 @@
 use super::*;
 use crate::asked::{Asked, refused_query};
 use crate::faults::props_fault_text;
-use command_line::read_command;
+use command_line::{Command, read_command};
 use orca_io::{MemShelf, MemSink, NoGate};
 use request_props::PropsFault;
 use std::alloc::{AllocError, Global};
@@ -25,7 +25,7 @@ const PLAN: [&str; 5] = [
     "    Scan(t) rows=1000 cost=251\n",
 ];
 
-fn words_of(alloc: Global, texts: &[&str]) -> Result<Vec<String>, AllocError> {
+pub fn words_of(alloc: Global, texts: &[&str]) -> Result<Vec<String>, AllocError> {
     let mut words = Vec::new(alloc);
     for text in texts {
         words.push(String::from_str(alloc, text)?)?;
@@ -33,7 +33,7 @@ fn words_of(alloc: Global, texts: &[&str]) -> Result<Vec<String>, AllocError> {
     Ok(words)
 }
 
-fn shelf_of(alloc: Global, catalog: &[u8], query: &[u8]) -> Result<MemShelf, AllocError> {
+pub fn shelf_of(alloc: Global, catalog: &[u8], query: &[u8]) -> Result<MemShelf, AllocError> {
     let mut shelf = MemShelf::new(alloc);
     shelf.put_file("c.json", catalog)?;
     shelf.put_file("q.sql", query)?;
@@ -465,7 +465,7 @@ fn alone(
     sink: &mut MemSink,
 ) -> Option<Status> {
     match read_command(words) {
-        Some(command) if command.choices.workers == 1 => {
+        Some(Command::Plan(command)) if command.choices.workers == 1 => {
             let mut note = RunNote::new();
             Some(orca_alone(alloc, words, shelf, sink, &mut note))
         }

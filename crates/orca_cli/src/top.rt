@@ -1,20 +1,23 @@
 // The top call.
 ghost use Rattle.std.specs.Prelude.{◌≡◌, ◌⊎◌, ℕ, List, Option, None, Some, IfOk, map, string_bytes};
 ghost use Rattle.command_line.specs.Reading.{command_of};
-ghost use Rattle.command_line.specs.Views.{plan_command};
+ghost use Rattle.command_line.specs.Options.{AreChoices};
+ghost use Rattle.command_line.specs.Views.{gen_command, plan_command};
+ghost use Rattle.orca_cli.specs.Generated.{IsGenEnded, ServesGen, gen_choices as choices_of_gen};
 ghost use Rattle.orca_cli.specs.Notes.{Note};
 ghost use Rattle.orca_cli.specs.Puts.{IsPut};
 ghost use Rattle.orca_cli.specs.Run.{IsUsage, Ends};
-ghost use Rattle.orca_cli.specs.Serves.{AsksForOne, IsEnded, Serves};
+ghost use Rattle.orca_cli.specs.Serves.{AsksForOne, IsEnded, Serves, ServesWords};
 ghost use Rattle.orca_cli.specs.Views.{text_of};
 
 use crate::answer::{answer_alone, answer_by_crew};
 use crate::asked::Asked;
 use crate::ending::Ending;
 use crate::files::asked_by_files;
+use crate::generated::asked_by_input;
 use crate::status::Status;
 use crate::text::put_lines;
-use command_line::{Command, read_command};
+use command_line::{Choices, Command, GenCommand, PlanCommand, read_command};
 use job_engine::RunNote;
 use job_outcome::entries_fit_or_not;
 use orca_io::{Gate, Shelf, Sink};
@@ -39,18 +42,27 @@ pub fn orca_run<R: Threads + Wait + Sync, S: Shelf, K: Sink, G: Gate>(
     note: &mut RunNote,
 ) -> Status
     requires empty { note.old ≡ None }
-    ensures { Serves (command_of (map string_bytes words.now)) (S.held shelf.old)
+    ensures { ServesWords (command_of (map string_bytes words.now)) (S.held shelf.old)
         (S.faults shelf.old) (S.faults shelf.new) (K.taken out.old) (K.taken out.new)
         (K.faults out.old) (K.faults out.new) note.old note.new result }
 {
-    let Some(command) = read_command(words) else {
-        return put_usage(out);
-    };
-    if command.choices.workers == 1 {
-        return orca_alone(alloc, words, shelf, out, note);
+    match read_command(words) {
+        None => put_usage(out),
+        Some(Command::Plan(command)) => {
+            if command.choices.workers == 1 {
+                return orca_alone(alloc, words, shelf, out, note);
+            }
+            let made = ending_by_crew(rt, alloc, &command, shelf, gate, note);
+            put_made(out, &command, made)
+        }
+        Some(Command::Gen(command)) => {
+            if command.workers == 1 {
+                return orca_alone(alloc, words, shelf, out, note);
+            }
+            let made = generated_by_crew(rt, alloc, command, gate, note);
+            put_generated(out, command, made)
+        }
     }
-    let made = ending_by_crew(rt, alloc, &command, shelf, gate, note);
-    put_made(out, &command, made)
 }
 
 /// The part of `orca_run` for one worker. It returns.
@@ -63,13 +75,20 @@ pub fn orca_alone<S: Shelf, K: Sink>(
 ) -> Status
     requires words { AsksForOne (command_of (map string_bytes words.now)) }
     requires empty { note.old ≡ None }
-    ensures { Serves (command_of (map string_bytes words.now)) (S.held shelf.old)
+    ensures { ServesWords (command_of (map string_bytes words.now)) (S.held shelf.old)
         (S.faults shelf.old) (S.faults shelf.new) (K.taken out.old) (K.taken out.new)
         (K.faults out.old) (K.faults out.new) note.old note.new result }
 {
-    let command = read_command(words).unwrap();
-    let made = ending_alone(alloc, &command, shelf, note);
-    put_made(out, &command, made)
+    match read_command(words).unwrap() {
+        Command::Plan(command) => {
+            let made = ending_alone(alloc, &command, shelf, note);
+            put_made(out, &command, made)
+        }
+        Command::Gen(command) => {
+            let made = generated_alone(alloc, command, note);
+            put_generated(out, command, made)
+        }
+    }
 }
 
 /// Puts the line that says which commands there are, as for words that are none.
@@ -87,7 +106,7 @@ pub fn put_usage<K: Sink>(out: &mut K) -> Status
 // The ending of the run of a command, by one worker.
 fn ending_alone<S: Shelf>(
     alloc: Global,
-    command: &Command<'_>,
+    command: &PlanCommand<'_>,
     shelf: &mut S,
     note: &mut RunNote,
 ) -> Result<Ending, AllocError>
@@ -97,7 +116,9 @@ fn ending_alone<S: Shelf>(
         ending.status (text_of ending)) }
 {
     match asked_by_files(alloc, command, shelf)? {
-        Asked::Query(query, props) => { answer_alone(alloc, command.choices, &query, &props, note) }
+        Asked::Query(query, props) => {
+            answer_alone(alloc, command.choices, None, &query, &props, note)
+        }
         Asked::Ended(ending) => Ok(ending),
     }
 }
@@ -106,7 +127,7 @@ fn ending_alone<S: Shelf>(
 fn ending_by_crew<R: Threads + Wait + Sync, S: Shelf, G: Gate>(
     rt: &R,
     alloc: Global,
-    command: &Command<'_>,
+    command: &PlanCommand<'_>,
     shelf: &mut S,
     gate: &G,
     note: &mut RunNote,
@@ -117,14 +138,18 @@ fn ending_by_crew<R: Threads + Wait + Sync, S: Shelf, G: Gate>(
 {
     match asked_by_files(alloc, command, shelf)? {
         Asked::Query(query, props) => {
-            answer_by_crew(rt, alloc, command.choices, &query, &props, gate, note)
+            answer_by_crew(rt, alloc, command.choices, None, &query, &props, gate, note)
         }
         Asked::Ended(ending) => Ok(ending),
     }
 }
 
 // Puts the text that was made for a command, if memory lasted.
-fn put_made<K: Sink>(out: &mut K, command: &Command<'_>, made: Result<Ending, AllocError>) -> Status
+fn put_made<K: Sink>(
+    out: &mut K,
+    command: &PlanCommand<'_>,
+    made: Result<Ending, AllocError>,
+) -> Status
     ensures { (held : List ℕ → Option (List ℕ)) (before after : List ℕ → ℕ) (empty note : Note)
         → IfOk made (λ ending. IsEnded (plan_command command.now) held before after empty note
         ending.status (text_of ending))
@@ -133,6 +158,80 @@ fn put_made<K: Sink>(out: &mut K, command: &Command<'_>, made: Result<Ending, Al
         empty note result }
 {
     // A text asks for one query, or has one fault, and a query has room or not.
+    sql_reader::one_outcome();
+    links_are_one();
+    entries_fit_or_not();
+    match made {
+        Ok(ending) => put_ending(out, &ending),
+        Err(AllocError) => Status::Memory,
+    }
+}
+
+// The ending of a run of `gen` by one worker.
+fn generated_alone(
+    alloc: Global,
+    command: GenCommand,
+    note: &mut RunNote,
+) -> Result<Ending, AllocError>
+    requires { command.workers ≡ 1 }
+    ensures { IfOk result (λ ending. IsGenEnded (gen_command command) note.new
+        ending.status (text_of ending)) }
+{
+    let (query, props) = asked_by_input(alloc, command.input)?;
+    let input = Some(command.input);
+    answer_alone(alloc, gen_choices(command), input, &query, &props, note)
+}
+
+// The ending of a run of `gen` by the workers that it chooses.
+fn generated_by_crew<R: Threads + Wait + Sync, G: Gate>(
+    rt: &R,
+    alloc: Global,
+    command: GenCommand,
+    gate: &G,
+    note: &mut RunNote,
+) -> Result<Ending, AllocError>
+    ensures { IfOk result (λ ending. IsGenEnded (gen_command command) note.new
+        ending.status (text_of ending)) }
+{
+    let (query, props) = asked_by_input(alloc, command.input)?;
+    let input = Some(command.input);
+    answer_by_crew(
+        rt,
+        alloc,
+        gen_choices(command),
+        input,
+        &query,
+        &props,
+        gate,
+        note,
+    )
+}
+
+// What `gen` chooses.
+fn gen_choices(command: GenCommand) -> Choices
+    ensures choices { result ≡ choices_of_gen (gen_command command) }
+    ensures allowed { AreChoices result }
+{
+    Choices {
+        workers: command.workers,
+        capacity: command.capacity,
+        ..Choices::usual()
+    }
+}
+
+// Puts the text that was made for `gen`, if memory lasted.
+fn put_generated<K: Sink>(
+    out: &mut K,
+    command: GenCommand,
+    made: Result<Ending, AllocError>,
+) -> Status
+    ensures { (note : Note)
+        → IfOk made (λ ending. IsGenEnded (gen_command command) note
+        ending.status (text_of ending))
+        → ServesGen (gen_command command) (K.taken out.old) (K.taken out.new)
+        (K.faults out.old) (K.faults out.new) note result }
+{
+    // A text asks for one query, which has room or not.
     sql_reader::one_outcome();
     links_are_one();
     entries_fit_or_not();

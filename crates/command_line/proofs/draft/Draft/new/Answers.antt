@@ -3,4 +3,4 @@ use Rattle.command_line.proofs.GivenNumbers.{no_bits}
 use Rattle.command_line.proofs.draft.Draft.new.Goals as goal
 
 pub returns : goal.returns
-returns c = record { names = refl; choices = c.usual.ensures.usual; given = no_bits }
+returns c = record { command_is = refl; taken = refl; names = refl; choices = c.usual.ensures.usual; given = no_bits }

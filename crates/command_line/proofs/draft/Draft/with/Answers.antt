@@ -1,14 +1,14 @@
 use Rattle.std.proofs.Common.{refl}
-use Rattle.command_line.proofs.Drafts.{with_name, third_name}
+use Rattle.command_line.proofs.Drafts.{with_name, fourth_name}
 use Rattle.command_line.proofs.draft.Draft.with.Goals as goal
 
--- both names were read
+-- three names were read
 pub returns-in_err-with-in-Name-clause-refused : goal.returns-in_err-with-in-Name-clause-refused
-returns-in_err-with-in-Name-clause-refused c = λ same before after is.
+returns-in_err-with-in-Name-clause-refused c = λ same command before after is.
     let full = c.in_err-with-in-Name.ensures in
-    rw c.in-Name.is (third_name before after c.args.self is c.in-Name.name.now (full.full refl))
+    rw c.in-Name.is (fourth_name command before after c.args.self is c.in-Name.name.now (full.full refl))
 
 -- the name is behind the others
 pub returns-in_ok-with-in-Name-clause-added : goal.returns-in_ok-with-in-Name-clause-added
-returns-in_ok-with-in-Name-clause-added c = λ before is.
-    rw c.in-Name.is (with_name before c.args.self is c.in-Name.name.now _ refl refl c.in_ok-with-in-Name.ensures.more)
+returns-in_ok-with-in-Name-clause-added c = λ command before is.
+    rw c.in-Name.is (with_name command before c.args.self is c.in-Name.name.now _ refl refl refl c.in_ok-with-in-Name.ensures.more)

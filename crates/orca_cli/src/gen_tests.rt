@@ -1,0 +1,40 @@
+//! What the program prints for queries that it makes itself.
+use crate::status::Status;
+use crate::tests::{answered, noted};
+use std::test::Fail;
+
+#[test]
+fn a_generated_query_is_planned(rt: HostRuntime) -> Result<(), Fail> {
+    let words = ["gen", "1", "1", "chain"];
+    let text =
+        "gen number=1 tables=1 shape=chain\ncost 93128\nmemo groups=1 members=2\ntrace goals=10 exp=1 expe=1 xf=1 imp=1 impe=1 opt=4 opte=1\n";
+    let (status, sink) = answered(&rt, &words, b"", b"")?;
+    assert_eq!(rt; status, Status::Planned);
+    assert_eq!(rt; sink.taken(), text.as_bytes());
+    let (_, note) = noted(&rt, &words, b"", b"")?;
+    assert_eq!(rt; note, Some((131_072, 1, 10)));
+    Ok(())
+}
+
+#[test]
+fn a_generated_query_takes_workers_and_a_capacity(rt: HostRuntime) -> Result<(), Fail> {
+    let (_, alone) = answered(&rt, &["gen", "7", "3", "star"], b"", b"")?;
+    let words = [
+        "gen",
+        "--workers",
+        "2",
+        "7",
+        "3",
+        "star",
+        "--capacity",
+        "8192",
+    ];
+    let (status, sink) = answered(&rt, &words, b"", b"")?;
+    assert_eq!(rt; status, Status::Planned);
+    assert_eq!(rt; sink.taken(), alone.taken());
+    let words = ["gen", "7", "3", "star", "--capacity", "64"];
+    let (status, sink) = answered(&rt, &words, b"", b"")?;
+    assert_eq!(rt; status, Status::TooManyEntries);
+    assert_eq!(rt; sink.taken(), "too many entries: capacity 64\n".as_bytes());
+    Ok(())
+}

@@ -1,0 +1,92 @@
+//! What is printed of a query that was generated: first lines.
+ghost use Rattle.std.specs.Prelude.{◌≡◌, ◌++◌, IfOk};
+ghost use Rattle.command_line.specs.Command.{shape_word};
+ghost use Rattle.orca_cli.specs.Searches.{IsSearch};
+ghost use Rattle.orca_cli.specs.Sections.{HasFirstLines, first_line as line_first, gen_line as line_of, gen_words as line_words};
+ghost use Rattle.orca_cli.specs.Views.{text_of};
+
+use crate::ending::Ending;
+use crate::search::Search;
+use crate::sections::{memo_section, trace_section};
+use command_line::{Choices, GenInput};
+use query_generator::GenShape;
+use std::alloc::{AllocError, Global};
+
+/// What was generated, and the first lines of the plan, of the memo and of the trace.
+pub fn with_first_lines(
+    alloc: Global,
+    input: GenInput,
+    choices: Choices,
+    search: Search<'_>,
+    ending: Ending,
+) -> Result<Ending, AllocError>
+    requires { IsSearch search choices.workers }
+    ensures status { IfOk result (λ made. made.status ≡ ending.status) }
+    ensures text { IfOk result (λ made. HasFirstLines input search.entry.query.now
+        (text_of ending) (text_of made)) }
+{
+    let memo = memo_section(alloc, choices, search)?;
+    let trace = trace_section(alloc, choices, search)?;
+    let line = gen_line(alloc, input)?;
+    let text = with_lines_of(line, &ending.text, &memo, &trace)?;
+    Ok(Ending {
+        status: ending.status,
+        text,
+    })
+}
+
+// The text with the first lines of these behind it.
+fn with_lines_of(
+    front: Vec<u8>,
+    plan: &[u8],
+    memo: &[u8],
+    trace: &[u8],
+) -> Result<Vec<u8>, AllocError>
+    ensures { IfOk result (λ text. text.items
+        ≡ front.items ++ line_first plan.now ++ line_first memo.now ++ line_first trace.now) }
+{
+    let mut text = front;
+    text.extend_from_slice(first_line(plan))?;
+    text.extend_from_slice(first_line(memo))?;
+    text.extend_from_slice(first_line(trace))?;
+    Ok(text)
+}
+
+// The line of what was generated.
+fn gen_line(alloc: Global, input: GenInput) -> Result<Vec<u8>, AllocError>
+    ensures { IfOk result (λ line. line.items ≡ line_of input) }
+{
+    let shape = shape_name(input.shape);
+    line_with(alloc, input.number, input.tables, shape)
+}
+
+// The same with the word of the shape.
+fn line_with(alloc: Global, number: u64, tables: u32, shape: &str) -> Result<Vec<u8>, AllocError>
+    ensures { IfOk result (λ line. line.items ≡ line_words number tables shape.now) }
+{
+    let line = format!(in alloc; "gen number={number} tables={tables} shape={shape}\n")?;
+    Ok(line.into_bytes())
+}
+
+// The word of a shape.
+fn shape_name(shape: GenShape) -> &'static str
+    ensures { result.now ≡ shape_word shape }
+{
+    match shape {
+        GenShape::Chain => "chain",
+        GenShape::Star => "star",
+        GenShape::Clique => "clique",
+    }
+}
+
+// The text up to its first line feed.
+fn first_line(text: &[u8]) -> &[u8]
+    ensures { result.now ≡ line_first text.now }
+{
+    for (at, byte) in text.iter().enumerate() {
+        if *byte == b'\n' {
+            return &text[..at + 1];
+        }
+    }
+    text
+}
