@@ -1,5 +1,5 @@
 -- The outcome of a run is one, by the bytes of its files.
-use Rattle.std.proofs.Common.{◌≡◌, ℕ, List, Option, Err, sym, ap, ◌∙◌, subst, refl}
+use Rattle.std.proofs.Common.{◌≡◌, ℕ, List, Option, Some, Err, sym, ap, ◌∙◌, subst, refl}
 use Rattle.std.specs.List.{concat}
 use Rattle.query_core.specs.declared.catalog.Catalog.{Catalog}
 use Rattle.query_core.specs.declared.query.Query.{Query}
@@ -8,15 +8,21 @@ use Rattle.plan_space.specs.Nodes.{Tree}
 use Rattle.plan_space.specs.Least.{IsLeastPlan}
 use Rattle.plan_report.specs.Text.{plan_section}
 use Rattle.orca_cli.specs.Asked.{SaysCatalog, IsNoCatalog, IsWithinLimits}
-use Rattle.orca_cli.specs.Run.{IsPlanText, IsSearched, planned, unplanned, too_many, IsAnswer, searched, refused, IsEnding, answered, catalog_refused, catalog_unread, query_unread}
-use Rattle.orca_cli.specs.Laws.{IsOutcome, Outcome, by, Same, OneOutcome}
+use Rattle.orca_cli.specs.Run.{IsPlanText, IsSearchEnd, IsSearched, planned, unplanned, too_many, IsAnswer, searched, refused, IsEnding, answered, catalog_refused, catalog_unread, query_unread}
+use Rattle.orca_cli.specs.Laws.{IsOutcome, Outcome, by, Same, OneOutcome, OneGenerated}
 use Rattle.command_line.specs.Command.{FileNames}
+use Rattle.sql_print.specs.Canonical.{canonical_text}
+use Rattle.query_generator.specs.Catalog.{catalog_of}
+use Rattle.query_generator.specs.Select.{select_of}
+use Rattle.command_line.specs.Options.{usual}
 use Rattle.command_line.specs.declared.choices.Choices.{Choices}
+use Rattle.command_line.specs.declared.command.GenInput.{GenInput}
+use Rattle.orca_cli.specs.Sections.{Tells}
 use Rattle.orca_cli.specs.Texts as texts
 use Rattle.orca_cli.specs.declared.status.Status.{Status}
 use Rattle.orca_cli.specs.declared.status.Status.TheVariants.{CatalogRefused}
 use Rattle.orca_cli.proofs.Causes.{OneAnswer, room_or_more, told_one, one_catalog, some_catalog}
-use Rattle.orca_cli.proofs.SectionTexts.{OneSections, sections_same, same_texts}
+use Rattle.orca_cli.proofs.SectionTexts.{OneSections, sections_same, first_lines_one, same_texts}
 use Rattle.orca_cli.proofs.Refusals.{one_query, never_refused, one_cause}
 
 -- a query within the limits has one least plan
@@ -97,6 +103,35 @@ same_known one bytes choices workers more asked first second text other (without
 same_known one bytes choices workers more asked first second text other (without a cause none line) (without b cause_too none_too line_too) =
     let same : text ≡ other = line ∙ ap texts.catalog_refused (one_fault bytes cause cause_too none none_too) ∙ sym line_too in
     record { status = a ∙ sym b; texts = same_texts choices workers more text other same }
+
+-- two searches of one generated query end in one way
+module _ (one : OneOf) (input : GenInput) (capacity : ℕ) (choices others : Choices) (q : Query) (within : IsWithinLimits q) (first second : Status) (text other : List ℕ) where
+  same_lines : IsSearchEnd (Tells (Some input) choices q) capacity q first text → IsSearchEnd (Tells (Some input) others q) capacity q second other → (first ≡ second) × (text ≡ other)
+  same_lines (planned a room plan is lines) (planned b room_too plan_too is_too lines_too) =
+      (a ∙ sym b, first_lines_one one.sections input q plan plan_too text other within (one_text one.least q q plan plan_too within refl is is_too) lines lines_too)
+  same_lines (planned a room plan is lines) (unplanned b room_too none lines_too) = absurd (none is.plan is.least.serves)
+  same_lines (planned a room plan is lines) (too_many b many line) = absurd (room_or_more one.answer q capacity room many)
+  same_lines (unplanned a room none lines) (planned b room_too plan is lines_too) = absurd (none is.plan is.least.serves)
+  same_lines (unplanned a room none lines) (unplanned b room_too none_too lines_too) = (a ∙ sym b, first_lines_one one.sections input q texts.no_plan texts.no_plan text other within refl lines lines_too)
+  same_lines (unplanned a room none lines) (too_many b many line) = absurd (room_or_more one.answer q capacity room many)
+  same_lines (too_many a many line) (planned b room plan is lines) = absurd (room_or_more one.answer q capacity room many)
+  same_lines (too_many a many line) (unplanned b room none lines) = absurd (room_or_more one.answer q capacity room many)
+  same_lines (too_many a many line) (too_many b many_too line_too) = (a ∙ sym b, line ∙ sym line_too)
+
+-- what makes outcomes one, of their parts
+one_of : OneAnswer → OneSections → ((q : Query) (s t : Tree) → IsWithinLimits q → IsLeastPlan q s → IsLeastPlan q t → s ≡ t) → OneOf
+unfolding OneLeast
+one_of answer sections least = record { answer = answer; least = least; sections = sections }
+
+-- two runs of `gen` over one input have one outcome
+pub one_generated_of : OneAnswer → OneSections → ((q : Query) (s t : Tree) → IsWithinLimits q → IsLeastPlan q s → IsLeastPlan q t → s ≡ t) → OneGenerated
+one_generated_of answer sections least input capacity workers more first second text other is again =
+    let mine : Choices = record usual { workers = workers; capacity = capacity } in
+    let theirs : Choices = record usual { workers = more; capacity = capacity } in
+    let same : is.query ≡ again.query =
+    one_query answer.reading (catalog_of input.number input.tables) usual.options (canonical_text (select_of input.shape input.tables)) answer.links is.query again.query is.generated.bound again.generated.bound in
+    same_lines (one_of answer sections least) input capacity mine theirs is.query is.generated.within first second text other is.search
+    (subst (λ r. IsSearchEnd (Tells (Some input) theirs r) capacity r second other) (sym same) again.search)
 
 -- two runs over the same bytes have one outcome
 pub one_outcome_of : OneAnswer → OneSections → ((q : Query) (s t : Tree) → IsWithinLimits q → IsLeastPlan q s → IsLeastPlan q t → s ≡ t) → OneOutcome

@@ -7,9 +7,10 @@ use Rattle.goal_list.specs.Listed.{AreGoalsOf}
 use Rattle.job_trace.specs.Memo as memos
 use Rattle.job_trace.specs.Trace.{IsTraceText}
 use Rattle.command_line.specs.declared.choices.Choices.{Choices}
+use Rattle.command_line.specs.declared.command.GenInput.{GenInput}
 use Rattle.orca_cli.specs.Asked.{IsWithinLimits}
 use Rattle.orca_cli.specs.Laws.{by, AreLines, SameTexts}
-use Rattle.orca_cli.specs.Sections.{IsMemoText, IsTrace, IsSectionText, IsWhere, GoesOn}
+use Rattle.orca_cli.specs.Sections.{IsMemoText, IsTrace, IsSectionText, IsWhere, GoesOn, first_line, gen_line, HasFirstLines}
 use Rattle.orca_cli.specs.declared.sections.Section.{Section}
 use Rattle.orca_cli.specs.declared.sections.Section.TheVariants as sections
 
@@ -21,13 +22,13 @@ pub record OneSections : Type 0 where
   pub trace : (q : Query) (members goals text other : List ℕ) → IsWithinLimits q → IsTraceText q members goals text → IsTraceText q members goals other → text ≡ other
 
 -- a query has one memo's text
-memo_one : OneSections → (q : Query) (text other : List ℕ) → IsMemoText q text → IsMemoText q other → text ≡ other
+pub memo_one : OneSections → (q : Query) (text other : List ℕ) → IsMemoText q text → IsMemoText q other → text ≡ other
 memo_one one q text other is again =
     let words : is.words ≡ again.words = one.closure q is.words again.words is.closure again.closure in
     one.memo q is.words text other is.is_text (subst (λ ws. memos.IsMemoText q ws other) (sym words) again.is_text)
 
 -- and one trace
-trace_one : OneSections → (q : Query) (text other : List ℕ) → IsWithinLimits q → IsTrace q text → IsTrace q other → text ≡ other
+pub trace_one : OneSections → (q : Query) (text other : List ℕ) → IsWithinLimits q → IsTrace q text → IsTrace q other → text ≡ other
 trace_one one q text other within is again =
     let members : is.members ≡ again.members = one.closure q is.members again.members is.closure again.closure in
     let goals : is.goals ≡ again.goals = one.goals q is.goals again.goals is.all_goals again.all_goals in
@@ -81,3 +82,12 @@ same_texts choices workers more text other same = record {
   other_whole = sym same ∙ sym (append-nil text);
   are_lines = no_lines choices.by_worker workers more;
 }
+
+-- first lines of one query are one text
+pub first_lines_one : OneSections → (input : GenInput) (q : Query) (plan fore text other : List ℕ) → IsWithinLimits q → plan ≡ fore → HasFirstLines input q plan text → HasFirstLines input q fore other → text ≡ other
+first_lines_one one input q plan fore text other within same is again =
+    is.lines
+    ∙ ap (λ p. gen_line input ++ first_line p ++ first_line is.memo ++ first_line is.trace) same
+    ∙ ap (λ m. gen_line input ++ first_line fore ++ first_line m ++ first_line is.trace) (memo_one one q is.memo again.memo is.is_memo again.is_memo)
+    ∙ ap (λ t. gen_line input ++ first_line fore ++ first_line again.memo ++ first_line t) (trace_one one q is.trace again.trace within is.is_trace again.is_trace)
+    ∙ sym again.lines

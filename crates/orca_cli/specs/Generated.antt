@@ -41,15 +41,15 @@ pub record NotesGenerated (command : GenCommand) (note : Note) (status : Status)
 
 -- the note after a run of `gen`, which ends so alone
 abbrev pub NotesGen : GenCommand → Note → Status → Type 0
-NotesGen command note Planned = NotesGenerated command note Planned
-NotesGen command note NoPlan = NotesGenerated command note NoPlan
-NotesGen command note Usage = ⊥
-NotesGen command note QueryRefused = ⊥
-NotesGen command note CatalogRefused = ⊥
-NotesGen command note TooManyEntries = NotesGenerated command note TooManyEntries
-NotesGen command note ReadFault = ⊥
-NotesGen command note WriteFault = ⊤
-NotesGen command note Memory = ⊤
+NotesGen command told Planned = NotesGenerated command told Planned
+NotesGen command told NoPlan = NotesGenerated command told NoPlan
+NotesGen command told Usage = ⊥
+NotesGen command told QueryRefused = ⊥
+NotesGen command told CatalogRefused = ⊥
+NotesGen command told TooManyEntries = NotesGenerated command told TooManyEntries
+NotesGen command told ReadFault = ⊥
+NotesGen command told WriteFault = ⊤
+NotesGen command told Memory = ⊤
 
 -- how a run of `gen` ends, before its text is put
 pub record IsGenEnded (command : GenCommand) (note : Note) (status : Status) (text : List ℕ) : Type 0 where

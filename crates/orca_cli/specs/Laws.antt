@@ -3,6 +3,8 @@ use Rattle.std.specs.Prelude.{◌≡◌, ◌⊎◌, ◌++◌, ℕ, Bool, true, f
 use Rattle.query_core.specs.declared.query.Query.{Query}
 use Rattle.command_line.specs.Command.{FileNames}
 use Rattle.command_line.specs.declared.choices.Choices.{Choices}
+use Rattle.command_line.specs.declared.command.GenInput.{GenInput}
+use Rattle.orca_cli.specs.Generated.{IsGenEnding}
 use Rattle.orca_cli.specs.Run.{IsEnding}
 use Rattle.orca_cli.specs.Sections.{IsByWorker}
 use Rattle.orca_cli.specs.declared.status.Status.{Status}
@@ -60,3 +62,9 @@ abbrev pub OneOutcome : Type 0
 OneOutcome = (files others : FileNames) (choices : Choices) (workers more : ℕ) (held told : List ℕ → Option (List ℕ)) (catalog query : List ℕ) (first second : Status) (text other : List ℕ)
     → Outcome files (by workers choices) held catalog query first text → Outcome others (by more choices) told catalog query second other
     → Same choices workers more first second text other
+
+-- those of `gen` are a function of the input and of the capacity
+abbrev pub OneGenerated : Type 0
+OneGenerated = (input : GenInput) (capacity workers more : ℕ) (first second : Status) (text other : List ℕ)
+    → IsGenEnding (record { input = input; workers = workers; capacity = capacity }) first text
+    → IsGenEnding (record { input = input; workers = more; capacity = capacity }) second other → (first ≡ second) × (text ≡ other)

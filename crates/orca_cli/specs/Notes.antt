@@ -24,15 +24,15 @@ pub record NotesGoals (choices : Choices) (query : Query) (note : Note) : Type 0
 
 -- the note of the search of a query, by the status with which it ends
 abbrev pub NotesSearch : Choices → Query → Note → Status → Type 0
-NotesSearch choices query note Planned = NotesGoals choices query note
-NotesSearch choices query note NoPlan = NotesGoals choices query note
-NotesSearch choices query note Usage = ⊥
-NotesSearch choices query note QueryRefused = ⊥
-NotesSearch choices query note CatalogRefused = ⊥
-NotesSearch choices query note TooManyEntries = (finished : ℕ) × (note ≡ noted choices finished)
-NotesSearch choices query note ReadFault = ⊥
-NotesSearch choices query note WriteFault = ⊥
-NotesSearch choices query note Memory = ⊥
+NotesSearch choices query told Planned = NotesGoals choices query told
+NotesSearch choices query told NoPlan = NotesGoals choices query told
+NotesSearch choices query told Usage = ⊥
+NotesSearch choices query told QueryRefused = ⊥
+NotesSearch choices query told CatalogRefused = ⊥
+NotesSearch choices query told TooManyEntries = (finished : ℕ) × (told ≡ noted choices finished)
+NotesSearch choices query told ReadFault = ⊥
+NotesSearch choices query told WriteFault = ⊥
+NotesSearch choices query told Memory = ⊥
 
 -- the note is that of the search of a query for which the command's files ask
 pub record NotesRun (named : Option PlanCommand) (held : List ℕ → Option (List ℕ)) (note : Note) (status : Status) : Type 0 where

@@ -9,7 +9,7 @@ ghost use Rattle.orca_cli.specs.Generated.{IsGenerated};
 
 use crate::asked::Asked;
 use crate::binding::asked_by_text;
-use catalog_json::read_catalog;
+use catalog_json::{CatalogFault, read_catalog};
 use command_line::{Choices, GenInput};
 use query_core::{Catalog, Query};
 use query_generator::{generate, generated_queries_are_bound};
@@ -24,8 +24,9 @@ pub fn asked_by_input(alloc: Global, input: GenInput) -> Result<(Query, Props), 
     let (bytes, text) = generate(alloc, input.number, input.tables, input.shape)?;
     match read_catalog(alloc, &bytes) {
         Ok(catalog) => asked_over_generated(alloc, input, &catalog, &text),
-        // The bytes say a catalogue, so memory ran out.
-        Err(_) => Err(AllocError),
+        Err(CatalogFault::Memory) => Err(AllocError),
+        // The bytes say a catalogue.
+        Err(_) => unreachable!(),
     }
 }
 

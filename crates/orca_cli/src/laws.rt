@@ -1,5 +1,5 @@
 //! What follows from how commands are read, and how runs end.
-ghost use Rattle.orca_cli.specs.Laws.{OneOutcome};
+ghost use Rattle.orca_cli.specs.Laws.{OneGenerated, OneOutcome};
 
 use goal_list::goal_lists_are_known;
 use job_outcome::entries_fit_or_not;
@@ -10,9 +10,11 @@ use xform_rules::members_are_known;
 
 /// The status and the text of a run are determined by what the two files hold, as long as no read
 /// fails and memory lasts: no other run over the same bytes ends in another way, by however many
-/// workers, but for their numbers in the lines by worker.
+/// workers, but for their numbers in the lines by worker. Those of `gen` are determined by what it is
+/// given.
 pub fn one_outcome()
-    ensures { OneOutcome }
+    ensures outcome { OneOutcome }
+    ensures generated { OneGenerated }
 {
     least_is_one();
     entries_fit_or_not();

@@ -1,7 +1,7 @@
 use Rattle.query_core.specs.Keys.{root_of}
 use Rattle.request_props.specs.Numbered.{root_request}
 use Rattle.orca_cli.proofs.Causes.{one_answer_of}
-use Rattle.orca_cli.proofs.Outcomes.{one_outcome_of}
+use Rattle.orca_cli.proofs.Outcomes.{one_outcome_of, one_generated_of}
 use Rattle.orca_cli.proofs.SectionTexts.{OneSections}
 use Rattle.orca_cli.proofs.laws.one_outcome.Goals as goal
 
@@ -15,4 +15,7 @@ returns c =
       memo = c.memos_are_known.ensures.text;
       trace = λ q members goals text other within. c.traces_are_known.ensures.text q within.few_lists within.few_orders members goals text other;
     } in
-    one_outcome_of answer sections (λ q s t within one other. c.least_is_one.ensures q within.few_lists within.few_orders (root_of q) (root_request q) t s other one)
+    record {
+      outcome = one_outcome_of answer sections (λ q s t within one other. c.least_is_one.ensures q within.few_lists within.few_orders (root_of q) (root_request q) t s other one);
+      generated = one_generated_of answer sections (λ q s t within one other. c.least_is_one.ensures q within.few_lists within.few_orders (root_of q) (root_request q) t s other one);
+    }
