@@ -29,7 +29,7 @@ use Rattle.plan_space.specs.declared.lines.Line.{Line}
 use Rattle.plan_space.specs.declared.lines.Line.TheVariants.{Alone, Above, Beside}
 use Rattle.plan_tree.specs.Alternatives.{HasAlternative}
 use Rattle.job_turns.specs.Requests.{MayServe}
-use Rattle.job_turns.specs.ServingModes.{has_both}
+use Rattle.job_turns.specs.ServingModes.{has_spread_modes}
 use Rattle.job_turns.proofs.LineModes.{IsDistIn, IsOrderOfLeft, IsLineIn, line_in}
 
 -- ---- modes
@@ -41,7 +41,8 @@ IsModeFor Spread mode = 64 ≤ mode
 IsModeFor Copies mode = ⊥
 IsModeFor (Hashed list) mode = 64 ≤ mode
 
-dist_mode : (q : Query) (dist : LeftDist) (mode : ℕ) (wanted : Dist) → IsDistIn dist mode → DistServes q dist wanted → IsModeFor wanted mode
+dist_mode : (q : Query) (dist : LeftDist) (mode : ℕ) (wanted : Dist) → IsDistIn dist mode → DistServes q dist wanted
+    → IsModeFor wanted mode
 dist_mode q (left_dists.Fixed given.One asked) mode One is serves = is.1
 dist_mode q (left_dists.Fixed given.One asked) mode Spread is serves = absurd serves
 dist_mode q (left_dists.Fixed given.One asked) mode Copies is serves = absurd serves
@@ -62,29 +63,35 @@ dist_mode q left_dists.SameSpread mode Spread is serves = is
 dist_mode q left_dists.SameSpread mode Copies is serves = absurd serves
 dist_mode q left_dists.SameSpread mode (Hashed list) is serves = is
 
-pub mode_for : (q : Query) (line : Line) (children : Children) (mode : ℕ) (wanted : Request) → IsLineIn line mode → LineServes q line children wanted → IsModeFor wanted.dist mode
+pub mode_for : (q : Query) (line : Line) (children : Children) (mode : ℕ) (wanted : Request) → IsLineIn line mode
+    → LineServes q line children wanted → IsModeFor wanted.dist mode
 mode_for q (Alone dist order) children mode wanted is serves = absurd is
 mode_for q (Above dist order) arities.Zero mode wanted is serves = absurd serves
-mode_for q (Above dist order) (arities.One child) mode wanted is serves = dist_mode q dist mode wanted.dist is.0 serves.dist_served
+mode_for q (Above dist order) (arities.One child) mode wanted is serves =
+    dist_mode q dist mode wanted.dist is.0 serves.dist_served
 mode_for q (Above dist order) (arities.Two left right) mode wanted is serves = absurd serves
 mode_for q (Beside dist order asked) arities.Zero mode wanted is serves = absurd serves
 mode_for q (Beside dist order asked) (arities.One child) mode wanted is serves = absurd serves
-mode_for q (Beside dist order asked) (arities.Two left right) mode wanted is serves = dist_mode q dist mode wanted.dist is.0 serves.serves.dist_served
+mode_for q (Beside dist order asked) (arities.Two left right) mode wanted is serves =
+    dist_mode q dist mode wanted.dist is.0 serves.serves.dist_served
 
 -- ---- what fits the left child
 
-hashed_fits : (q : Query) (left : KeyParts) (dist : LeftDist) (mode list : ℕ) → IsDistIn dist mode → DistServes q dist (Hashed list)
+hashed_fits : (q : Query) (left : KeyParts) (dist : LeftDist) (mode list : ℕ) → IsDistIn dist mode
+    → DistServes q dist (Hashed list)
     → DistFits q left (dist_asked dist (Hashed list)) → DistFits q left (Hashed list)
 hashed_fits q left (left_dists.Fixed given.One asked) mode list is serves fits = absurd serves
 hashed_fits q left (left_dists.Fixed (given.Hashed other) asked) mode list is serves fits =
     subst (λ (l : ℕ). DistFits q left (Hashed l)) serves (subst (DistFits q left) is.0 fits)
 hashed_fits q left (left_dists.Fixed given.Random asked) mode list is serves fits = absurd is
 hashed_fits q left (left_dists.Fixed given.Copies asked) mode list is serves fits = absurd is
-hashed_fits q left (left_dists.Grouped other) mode list is serves fits = subst (λ (l : ℕ). DistFits q left (Hashed l)) serves.1 fits
+hashed_fits q left (left_dists.Grouped other) mode list is serves fits =
+    subst (λ (l : ℕ). DistFits q left (Hashed l)) serves.1 fits
 hashed_fits q left left_dists.Same mode list is serves fits = fits
 hashed_fits q left left_dists.SameSpread mode list is serves fits = fits
 
-dist_fits : (q : Query) (left : KeyParts) (dist : LeftDist) (mode : ℕ) (wanted : Dist) → IsDistIn dist mode → DistServes q dist wanted
+dist_fits : (q : Query) (left : KeyParts) (dist : LeftDist) (mode : ℕ) (wanted : Dist) → IsDistIn dist mode
+    → DistServes q dist wanted
     → DistFits q left (dist_asked dist wanted) → DistFits q left wanted
 dist_fits q left dist mode One is serves fits = tt
 dist_fits q left dist mode Spread is serves fits = tt
@@ -98,14 +105,16 @@ begin_all P [] (y ∷ ys) begins all = absurd begins
 begin_all P (x ∷ xs) (y ∷ ys) begins all =
     All-cons P y ys (subst P begins.0 (All-head P x xs all)) (begin_all P xs ys begins.1 (All-tail P x xs all))
 
-order_fits : (q : Query) (left : KeyParts) (order : LeftOrder) (wanted : ℕ) → IsOrderOfLeft order → OrderServes q order wanted
+order_fits : (q : Query) (left : KeyParts) (order : LeftOrder) (wanted : ℕ) → IsOrderOfLeft order
+    → OrderServes q order wanted
     → OrderLiesIn q left (order_of q (order_asked order wanted)) → OrderLiesIn q left (order_of q wanted)
 order_fits q left (left_orders.Fixed order asked) wanted is serves lies =
     let begins = subst (λ (o : GivenOrder). BeginsWith (given_order q o) (order_of q wanted)) is serves in
     begin_all (λ element. IsTrue (has_item q left (element / 2))) (order_of q asked) (order_of q wanted) begins lies
 order_fits q left left_orders.Same wanted is serves lies = lies
 
-line_fits : (q : Query) (line : Line) (left right : KeyParts) (mode : ℕ) (wanted : Request) → IsNumbered q wanted.order → IsLineIn line mode
+line_fits : (q : Query) (line : Line) (left right : KeyParts) (mode : ℕ) (wanted : Request)
+    → IsNumbered q wanted.order → IsLineIn line mode
     → LineServes q line (arities.Two left right) wanted → Fits q left wanted
 line_fits q (Alone dist order) left right mode wanted numbered is serves = absurd is
 line_fits q (Above dist order) left right mode wanted numbered is serves = absurd serves
@@ -116,26 +125,32 @@ line_fits q (Beside dist order asked) left right mode wanted numbered is serves 
 }
 
 -- an operator over two children is a join
-join_has_both : (operator : Physical) (left right : KeyParts) → physical_children operator ≡ arities.Two left right → has_both operator ≡ true
-join_has_both physical.Scan left right is = cc
-join_has_both (physical.IndexScan index) left right is = cc
-join_has_both (physical.Filter child) left right is = cc
-join_has_both (physical.IndexSeek index) left right is = cc
-join_has_both (physical.HashJoin first second) left right is = refl
-join_has_both (physical.MergeJoin first second) left right is = refl
-join_has_both (physical.LoopJoin first second) left right is = refl
-join_has_both (physical.HashAgg child) left right is = refl
-join_has_both (physical.StreamAgg child) left right is = refl
-join_has_both (physical.PartialAgg child) left right is = cc
+join_has_spread : (operator : Physical) (left right : KeyParts) → physical_children operator ≡ arities.Two left right
+    → has_spread_modes operator ≡ true
+join_has_spread physical.Scan left right is = cc
+join_has_spread (physical.IndexScan index) left right is = cc
+join_has_spread (physical.Filter child) left right is = cc
+join_has_spread (physical.IndexSeek index) left right is = cc
+join_has_spread (physical.HashJoin first second) left right is = refl
+join_has_spread (physical.MergeJoin first second) left right is = refl
+join_has_spread (physical.LoopJoin first second) left right is = refl
+join_has_spread (physical.HashAgg child) left right is = refl
+join_has_spread (physical.StreamAgg child) left right is = refl
+join_has_spread (physical.PartialAgg child) left right is = cc
 
 -- a join serves only requests that fit its left child
-pub left_fits : (q : Query) (e : PhysicalExpr) (left right : KeyParts) (wanted : Request) → physical_children e.operator ≡ arities.Two left right → IsNumbered q wanted.order
+pub left_fits : (q : Query) (e : PhysicalExpr) (left right : KeyParts) (wanted : Request)
+    → physical_children e.operator ≡ arities.Two left right → IsNumbered q wanted.order
     → MayServe q e wanted → Fits q left wanted
 left_fits q e left right wanted over numbered (mode, (line, is)) =
-    line_fits q line left right mode wanted numbered (line_in q line e.group e.operator mode (join_has_both e.operator left right over) is.is_line)
+    line_fits q line left right mode wanted numbered
+    (line_in q line e.group e.operator mode (join_has_spread e.operator left right over) is.is_line)
     (subst (λ (children : Children). LineServes q line children wanted) over is.serves)
 
 -- an expression whose operator has both kinds of modes serves in those for the distribution
-pub alternative_mode : (q : Query) (e : PhysicalExpr) (wanted : Request) (dist : Dist) (mode : ℕ) → has_both e.operator ≡ true → wanted.dist ≡ dist → HasAlternative q e wanted mode → IsModeFor dist mode
+pub alternative_mode : (q : Query) (e : PhysicalExpr) (wanted : Request) (dist : Dist) (mode : ℕ)
+    → has_spread_modes e.operator ≡ true → wanted.dist ≡ dist → HasAlternative q e wanted mode → IsModeFor dist mode
 alternative_mode q e wanted dist mode both asked (line, is) =
-    subst (λ (d : Dist). IsModeFor d mode) asked (mode_for q line (physical_children e.operator) mode wanted (line_in q line e.group e.operator mode both is.is_line) is.serves)
+    subst (λ (d : Dist). IsModeFor d mode) asked
+    (mode_for q line (physical_children e.operator) mode wanted
+    (line_in q line e.group e.operator mode both is.is_line) is.serves)

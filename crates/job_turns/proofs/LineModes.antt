@@ -19,9 +19,9 @@ use Rattle.plan_space.specs.declared.lines.LeftOrder.{LeftOrder}
 use Rattle.plan_space.specs.declared.lines.LeftOrder.TheVariants as left_orders
 use Rattle.plan_space.specs.declared.lines.Line.{Line}
 use Rattle.plan_space.specs.declared.lines.Line.TheVariants.{Alone, Above, Beside}
-use Rattle.job_turns.specs.ServingModes.{has_both}
+use Rattle.job_turns.specs.ServingModes.{has_spread_modes}
 
--- the distribution is that of the left child, of which it is asked; all rows are on one segment in a mode below 64, and in no other
+-- the distribution is asked of the left child too; all rows are on one segment in modes below 64, and in no others
 abbrev pub IsDistIn : LeftDist → ℕ → Type 0
 IsDistIn (left_dists.Fixed given.One asked) mode = (asked ≡ One) × (mode < 64)
 IsDistIn (left_dists.Fixed (given.Hashed list) asked) mode = (asked ≡ Hashed list) × (64 ≤ mode)
@@ -31,12 +31,12 @@ IsDistIn (left_dists.Grouped list) mode = 64 ≤ mode
 IsDistIn left_dists.Same mode = ⊥
 IsDistIn left_dists.SameSpread mode = 64 ≤ mode
 
--- the order is that of the left child, of which it is asked
+-- the order is asked of the left child too
 abbrev pub IsOrderOfLeft : LeftOrder → Type 0
 IsOrderOfLeft (left_orders.Fixed order asked) = order ≡ Listed asked
 IsOrderOfLeft left_orders.Same = ⊤
 
--- so is what the line gives
+-- so is what the line gives, which has a child
 abbrev pub IsLineIn : Line → ℕ → Type 0
 IsLineIn (Alone dist order) mode = ⊥
 IsLineIn (Above dist order) mode = IsDistIn dist mode × IsOrderOfLeft order
@@ -51,15 +51,18 @@ module _ (q : Query) (line : Line) where
   no_line mode never = cc
 
   -- a line that is chosen by a test
-  chosen_line : (mode : ℕ) (test : Bool) (first second : Option Line) → (test ≡ true → IsKept first mode) → (test ≡ false → IsKept second mode)
+  chosen_line : (mode : ℕ) (test : Bool) (first second : Option Line) → (test ≡ true → IsKept first mode)
+      → (test ≡ false → IsKept second mode)
       → IsKept (if test then first else second) mode
-  chosen_line mode test first second by_first by_second = cond_both test first second (λ found. IsKept found mode) by_first by_second
+  chosen_line mode test first second by_first by_second =
+      cond_both test first second (λ found. IsKept found mode) by_first by_second
 
   own_line : (own : Line) (mode : ℕ) → IsLineIn own mode → IsKept (Some own) mode
   own_line own mode kept is = let same : own ≡ line = cc in subst (λ (l : Line). IsLineIn l mode) same kept
 
   -- the line of a crossing equality, if it crosses
-  crossing_line : (line_with : (ℕ × ℕ) → Line) (mode : ℕ) (sides : Option (ℕ × ℕ)) → ((found : ℕ × ℕ) → IsLineIn (line_with found) mode)
+  crossing_line : (line_with : (ℕ × ℕ) → Line) (mode : ℕ) (sides : Option (ℕ × ℕ))
+      → ((found : ℕ × ℕ) → IsLineIn (line_with found) mode)
       → IsKept (option_map line_with sides) mode
   crossing_line line_with mode None kept is = let never : None ≡ Some line = is in cc
   crossing_line line_with mode (Some found) kept is = own_line (line_with found) mode (kept found) is
@@ -68,30 +71,38 @@ module _ (q : Query) (line : Line) where
   agg_kept order mode =
       chosen_line mode (mode == 0) _ _ (λ is. own_line _ mode ((refl, omega (arith, eqb-true mode 0 is)), refl))
       (λ not_one. chosen_line mode (nat_lt mode 128) _ _ (λ below. no_line mode)
-      (λ far. chosen_line mode (nat_lt (mode - 128) (length (lists_of q))) _ _ (λ numbered. own_line _ mode (omega (arith, ltb-false mode 128 far), refl))
+      (λ far. chosen_line mode (nat_lt (mode - 128) (length (lists_of q))) _ _
+      (λ numbered. own_line _ mode (omega (arith, ltb-false mode 128 far), refl))
       (λ none. no_line mode)))
 
   hash_kept : (left right : KeyParts) (mode : ℕ) → IsKept (hash_line q left right mode) mode
   hash_kept left right mode =
       chosen_line mode (mode == 0) _ _ (λ is. own_line _ mode ((refl, omega (arith, eqb-true mode 0 is)), refl))
-      (λ not_one. chosen_line mode (mode == 64) _ _ (λ is. own_line _ mode (omega (arith, eqb-true mode 64 is), refl))
+      (λ not_one. chosen_line mode (mode == 64) _ _
+      (λ is. own_line _ mode (omega (arith, eqb-true mode 64 is), refl))
       (λ not_copied. chosen_line mode (nat_lt mode 128) _ _ (λ below. no_line mode)
-      (λ far. crossing_line (hash_colocated q) mode (crossing_of q left right (mode - 128)) (λ found. ((refl, omega (arith, ltb-false mode 128 far)), refl)))))
+      (λ far. crossing_line (hash_colocated q) mode (crossing_of q left right (mode - 128))
+      (λ found. ((refl, omega (arith, ltb-false mode 128 far)), refl)))))
 
   merge_kept : (left right : KeyParts) (mode : ℕ) → IsKept (merge_line q left right mode) mode
   merge_kept left right mode =
       chosen_line mode (nat_lt mode 64) _ _
-      (λ below. crossing_line (merge_with q on_one One) mode (crossing_of q left right mode) (λ found. ((refl, ltb-true mode 64 below), refl)))
+      (λ below. crossing_line (merge_with q on_one One) mode (crossing_of q left right mode)
+      (λ found. ((refl, ltb-true mode 64 below), refl)))
       (λ far. chosen_line mode (nat_lt mode 128) _ _
-      (λ below. crossing_line (merge_with q left_dists.SameSpread Copies) mode (crossing_of q left right (mode - 64)) (λ found. (ltb-false mode 64 far, refl)))
-      (λ further. crossing_line (merge_colocated q) mode (crossing_of q left right (mode - 128)) (λ found. ((refl, ltb-false mode 64 far), refl))))
+      (λ below. crossing_line (merge_with q left_dists.SameSpread Copies) mode
+      (crossing_of q left right (mode - 64)) (λ found. (ltb-false mode 64 far, refl)))
+      (λ further. crossing_line (merge_colocated q) mode (crossing_of q left right (mode - 128))
+      (λ found. ((refl, ltb-false mode 64 far), refl))))
 
   loop_kept : (mode : ℕ) → IsKept (loop_line mode) mode
   loop_kept mode =
       chosen_line mode (mode == 0) _ _ (λ is. own_line _ mode ((refl, omega (arith, eqb-true mode 0 is)), tt))
-      (λ not_one. chosen_line mode (mode == 64) _ _ (λ is. own_line _ mode (omega (arith, eqb-true mode 64 is), tt)) (λ none. no_line mode))
+      (λ not_one. chosen_line mode (mode == 64) _ _ (λ is. own_line _ mode (omega (arith, eqb-true mode 64 is), tt))
+      (λ none. no_line mode))
 
-  pub line_in : (group : KeyParts) (operator : Physical) (mode : ℕ) → has_both operator ≡ true → IsKept (operator_line q group operator mode) mode
+  pub line_in : (group : KeyParts) (operator : Physical) (mode : ℕ) → has_spread_modes operator ≡ true
+      → IsKept (operator_line q group operator mode) mode
   line_in group physical.Scan mode both = cc
   line_in group (physical.IndexScan index) mode both = cc
   line_in group (physical.Filter child) mode both = cc

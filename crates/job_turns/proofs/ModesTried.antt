@@ -17,11 +17,13 @@ module _ (q : Query) (e : PhysicalExpr) (wanted : Request) where
   abbrev pub NoneServes : ℕ → ℕ → Type 0
   NoneServes first from = (mode : ℕ) → first ≤ mode → mode < from → HasAlternative q e wanted mode → ⊥
 
-  pub some_serves : (mode : ℕ) (found : Option Alt) → IsAltIn q e wanted mode found → is_some found ≡ true → HasAlternative q e wanted mode
+  pub some_serves : (mode : ℕ) (found : Option Alt) → IsAltIn q e wanted mode found → is_some found ≡ true
+      → HasAlternative q e wanted mode
   some_serves mode None is some = let wrong : ⊥ = cc in absurd wrong
   some_serves mode (Some alt) is some = (is.0, is.1.is_alternative)
 
-  pub never_serves : (mode : ℕ) (found : Option Alt) → IsAltIn q e wanted mode found → is_some found ≡ false → HasAlternative q e wanted mode → ⊥
+  pub never_serves : (mode : ℕ) (found : Option Alt) → IsAltIn q e wanted mode found → is_some found ≡ false
+      → HasAlternative q e wanted mode → ⊥
   never_serves mode None is none has = is has.0 has.1
   never_serves mode (Some alt) is none has = let wrong : ⊥ = cc in wrong
 
@@ -30,17 +32,21 @@ module _ (q : Query) (e : PhysicalExpr) (wanted : Request) where
   no_line mode none has = let never : None ≡ Some has.0 = sym none ∙ has.1.is_line in let wrong : ⊥ = cc in wrong
 
   -- those before the next line, and it
-  pub none_past : (first from next : ℕ) → NoneServes first from → AreNone q e from next → (HasAlternative q e wanted next → ⊥) → NoneServes first (next + 1)
+  pub none_past : (first from next : ℕ) → NoneServes first from → AreNone q e from next
+      → (HasAlternative q e wanted next → ⊥) → NoneServes first (next + 1)
   none_past first from next before between here mode above below = elim (cases_lt mode from) [
     | inl earlier ↦ before mode above earlier
     | inr later ↦ elim (cases_lt mode next) [
       | inl short ↦ no_line mode (between mode later short)
-      | inr long ↦ let same : next ≡ mode = omega arith in subst (λ (m : ℕ). HasAlternative q e wanted m → ⊥) same here
+      | inr long ↦
+          let same : next ≡ mode = omega arith in
+          subst (λ (m : ℕ). HasAlternative q e wanted m → ⊥) same here
     ]
   ]
 
   -- where no line is left, none of the modes is there
-  pub none_among : (modes : Modes) (from : ℕ) → NoneServes modes.from from → ((mode : ℕ) → from ≤ mode → mode < modes.to → line_of q e mode ≡ None)
+  pub none_among : (modes : Modes) (from : ℕ) → NoneServes modes.from from
+      → ((mode : ℕ) → from ≤ mode → mode < modes.to → line_of q e mode ≡ None)
       → MayServeAmong q e wanted modes → ⊥
   none_among modes from before none (mode, among, has) = elim (cases_lt mode from) [
     | inl earlier ↦ before mode among.above earlier has
@@ -49,7 +55,8 @@ module _ (q : Query) (e : PhysicalExpr) (wanted : Request) where
 
   -- so they are all below the number, where the modes that may serve are among these
   pub all_below : (modes : Modes) (from : ℕ) → ((mode : ℕ) → HasAlternative q e wanted mode → IsAmong modes mode)
-      → ((mode : ℕ) → from ≤ mode → mode < modes.to → line_of q e mode ≡ None) → (mode : ℕ) → HasAlternative q e wanted mode → mode < from
+      → ((mode : ℕ) → from ≤ mode → mode < modes.to → line_of q e mode ≡ None) → (mode : ℕ)
+      → HasAlternative q e wanted mode → mode < from
   all_below modes from among none mode has = elim (cases_lt mode from) [
     | inl less ↦ less
     | inr most ↦ absurd (no_line mode (none mode most (among mode has).below) has)

@@ -40,8 +40,10 @@ module _ (q : Query) (line : Line) where
   no_line never = cc
 
   -- a line that is chosen by a test
-  chosen_line : (test : Bool) (first second : Option Line) → GivesNone first → GivesNone second → GivesNone (if test then first else second)
-  chosen_line test first second by_first by_second = cond_both test first second GivesNone (λ holds. by_first) (λ fails. by_second)
+  chosen_line : (test : Bool) (first second : Option Line) → GivesNone first → GivesNone second
+      → GivesNone (if test then first else second)
+  chosen_line test first second by_first by_second =
+      cond_both test first second GivesNone (λ holds. by_first) (λ fails. by_second)
 
   own_line : (own : Line) → IsUnordered own → GivesNone (Some own)
   own_line own unordered is = let same : own ≡ line = cc in subst IsUnordered same unordered
@@ -52,7 +54,8 @@ module _ (q : Query) (line : Line) where
   agg_none : (mode : ℕ) → GivesNone (agg_line q 0 mode)
   agg_none mode =
       chosen_line (mode == 0) _ _ (own_line _ refl)
-      (chosen_line (nat_lt mode 128) _ _ no_line (chosen_line (nat_lt (mode - 128) (length (lists_of q))) _ _ (own_line _ refl) no_line))
+      (chosen_line (nat_lt mode 128) _ _ no_line
+      (chosen_line (nat_lt (mode - 128) (length (lists_of q))) _ _ (own_line _ refl) no_line))
 
   colocated_none : (sides : Option (ℕ × ℕ)) → GivesNone (option_map (hash_colocated q) sides)
   colocated_none None is = let never : None ≡ Some line = is in cc
@@ -64,7 +67,8 @@ module _ (q : Query) (line : Line) where
       (chosen_line (mode == 64) _ _ (own_line _ refl)
       (chosen_line (nat_lt mode 128) _ _ no_line (colocated_none (crossing_of q left right (mode - 128)))))
 
-  line_none : (group : KeyParts) (operator : Physical) (mode : ℕ) → gives_order operator ≡ false → GivesNone (operator_line q group operator mode)
+  line_none : (group : KeyParts) (operator : Physical) (mode : ℕ) → gives_order operator ≡ false
+      → GivesNone (operator_line q group operator mode)
   line_none group physical.Scan mode none = only_line_none _ mode refl
   line_none group (physical.IndexScan index) mode none = cc
   line_none group (physical.Filter child) mode none = cc
@@ -76,20 +80,28 @@ module _ (q : Query) (line : Line) where
   line_none group (physical.StreamAgg child) mode none = cc
   line_none group (physical.PartialAgg child) mode none = only_line_none _ mode refl
 
-in_none : (q : Query) (order : LeftOrder) (wanted : ℕ) → order ≡ in_order 0 → OrderServes q order wanted → BeginsWith [] (order_of q wanted)
+in_none : (q : Query) (order : LeftOrder) (wanted : ℕ) → order ≡ in_order 0 → OrderServes q order wanted
+    → BeginsWith [] (order_of q wanted)
 in_none q order wanted is serves = subst (λ (o : LeftOrder). OrderServes q o wanted) is serves
 
-none_serves : (q : Query) (line : Line) (children : Children) (wanted : Request) → IsUnordered line → LineServes q line children wanted → BeginsWith [] (order_of q wanted.order)
-none_serves q (Alone dist order) arities.Zero wanted is serves = subst (λ (o : GivenOrder). BeginsWith (given_order q o) (order_of q wanted.order)) is serves.order
+none_serves : (q : Query) (line : Line) (children : Children) (wanted : Request) → IsUnordered line
+    → LineServes q line children wanted → BeginsWith [] (order_of q wanted.order)
+none_serves q (Alone dist order) arities.Zero wanted is serves =
+    subst (λ (o : GivenOrder). BeginsWith (given_order q o) (order_of q wanted.order)) is serves.order
 none_serves q (Alone dist order) (arities.One child) wanted is serves = absurd serves
 none_serves q (Alone dist order) (arities.Two left right) wanted is serves = absurd serves
 none_serves q (Above dist order) arities.Zero wanted is serves = absurd serves
-none_serves q (Above dist order) (arities.One child) wanted is serves = in_none q order wanted.order is serves.order_served
+none_serves q (Above dist order) (arities.One child) wanted is serves =
+    in_none q order wanted.order is serves.order_served
 none_serves q (Above dist order) (arities.Two left right) wanted is serves = absurd serves
 none_serves q (Beside dist order asked) arities.Zero wanted is serves = absurd serves
 none_serves q (Beside dist order asked) (arities.One child) wanted is serves = absurd serves
-none_serves q (Beside dist order asked) (arities.Two left right) wanted is serves = in_none q order wanted.order is serves.serves.order_served
+none_serves q (Beside dist order asked) (arities.Two left right) wanted is serves =
+    in_none q order wanted.order is serves.serves.order_served
 
 -- so the empty order begins with the one that is asked for
-pub order_none : (q : Query) (e : PhysicalExpr) (wanted : Request) → gives_order e.operator ≡ false → MayServe q e wanted → BeginsWith [] (order_of q wanted.order)
-order_none q e wanted none (mode, (line, is)) = none_serves q line (physical_children e.operator) wanted (line_none q line e.group e.operator mode none is.is_line) is.serves
+pub order_none : (q : Query) (e : PhysicalExpr) (wanted : Request) → gives_order e.operator ≡ false
+    → MayServe q e wanted → BeginsWith [] (order_of q wanted.order)
+order_none q e wanted none (mode, (line, is)) =
+    none_serves q line (physical_children e.operator) wanted
+    (line_none q line e.group e.operator mode none is.is_line) is.serves

@@ -24,18 +24,18 @@ gives_order (physical.HashAgg child) = false
 gives_order (physical.StreamAgg child) = true
 gives_order (physical.PartialAgg child) = false
 
--- the operator has all rows on one segment in its modes below 64, and spread ones in those from 64 on
-abbrev pub has_both : Physical → Bool
-has_both physical.Scan = false
-has_both (physical.IndexScan index) = false
-has_both (physical.Filter child) = false
-has_both (physical.IndexSeek index) = false
-has_both (physical.HashJoin left right) = true
-has_both (physical.MergeJoin left right) = true
-has_both (physical.LoopJoin left right) = true
-has_both (physical.HashAgg child) = true
-has_both (physical.StreamAgg child) = true
-has_both (physical.PartialAgg child) = false
+-- the operator has modes for spread rows, from 64 on; in those below 64 all rows are on one segment
+abbrev pub has_spread_modes : Physical → Bool
+has_spread_modes physical.Scan = false
+has_spread_modes (physical.IndexScan index) = false
+has_spread_modes (physical.Filter child) = false
+has_spread_modes (physical.IndexSeek index) = false
+has_spread_modes (physical.HashJoin left right) = true
+has_spread_modes (physical.MergeJoin left right) = true
+has_spread_modes (physical.LoopJoin left right) = true
+has_spread_modes (physical.HashAgg child) = true
+has_spread_modes (physical.StreamAgg child) = true
+has_spread_modes (physical.PartialAgg child) = false
 
 -- the mode is one of these
 pub record IsAmong (modes : Modes) (mode : ℕ) : Type 0 where

@@ -7,7 +7,7 @@ ghost use Rattle.query_core.specs.Expressions.{expr_of, IsCandidate};
 ghost use Rattle.request_props.specs.Numbered.{IsProps, IsNumbered};
 ghost use Rattle.plan_tree.specs.Alternatives.{HasAlternative};
 ghost use Rattle.job_turns.specs.Requests.{MayServe};
-ghost use Rattle.job_turns.specs.ServingModes.{gives_order as order_given, has_both as both_had};
+ghost use Rattle.job_turns.specs.ServingModes.{gives_order as order_given, has_spread_modes as spread_modes};
 ghost use Rattle.job_turns.specs.ServingModes.{IsAmong, MayServeAmong, IsNextAmong};
 
 use plan_space::{Line, modes_are_few};
@@ -97,7 +97,7 @@ pub(crate) fn modes_for(query: &Query, props: &Props, expr: PhysicalExpr, wanted
 {
     // For the proof: no mode has a line from 192 on.
     modes_are_few();
-    if !has_both(expr.operator) {
+    if !has_spread_modes(expr.operator) {
         return Modes { from: 0, to: 192 };
     }
     match wanted.dist {
@@ -108,8 +108,8 @@ pub(crate) fn modes_for(query: &Query, props: &Props, expr: PhysicalExpr, wanted
     }
 }
 
-fn has_both(operator: Physical) -> bool
-    ensures { result ≡ both_had operator }
+fn has_spread_modes(operator: Physical) -> bool
+    ensures { result ≡ spread_modes operator }
 {
     match operator {
         Physical::Scan => false,

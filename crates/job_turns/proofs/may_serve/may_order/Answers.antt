@@ -4,4 +4,7 @@ use Rattle.job_turns.proofs.Unordered.{order_none}
 use Rattle.job_turns.proofs.may_serve.may_order.Goals as goal
 
 pub returns : goal.returns
-returns c serves = c.satisfies.ensures.1 (record { dist = tt; order = order_none c.args.query.now c.args.expr c.args.wanted (sym c.gives_order.ensures ∙ c.if-gives_order.false) serves })
+returns c serves =
+    let none = sym c.gives_order.ensures ∙ c.if-gives_order.false in
+    let begins = order_none c.args.query.now c.args.expr c.args.wanted none serves in
+    c.satisfies.ensures.1 (record { dist = tt; order = begins })
