@@ -59,9 +59,9 @@ line() {
   printf '%-8s %6d %9s %12s %12s %s\n' "$shape" "$tables" "$who" "$(milliseconds "$time")" "$(memory "$@")" "$answer"
 }
 
-# room for the members and goals of a query: a clique of eight tables has more than there is usually room for
+# room for the members and goals of a query: a clique of seven tables or more has more than there is usually room for
 room() {
-  if [ "$1" = clique ] && [ "$2" -ge 8 ]; then echo 524288; else echo 131072; fi
+  if [ "$1" = clique ] && [ "$2" -ge 7 ]; then echo 1048576; else echo 131072; fi
 }
 
 # the lines of a query
