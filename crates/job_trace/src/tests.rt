@@ -1,20 +1,14 @@
 //! The memo of three queries: the running example, one grouped table, and a join of three.
 
-ghost use Rattle.std.specs.Prelude.{◌≡◌, All, IfOk, IsTrue};
+ghost use Rattle.std.specs.Prelude.{All, IsTrue};
 ghost use Rattle.std.specs.List.Sorted.{IsStrictlyIncreasing};
 ghost use Rattle.query_core.specs.Expressions.{IsCandidateWord};
 
 use crate::memo_text;
-use orca_base::{List, Text};
-use query_core::*;
+use query_core::{Expr, Query};
 use std::alloc::{AllocError, Global};
 use std::test::Fail;
-
-fn text(alloc: Global, part: &str) -> Result<Text, AllocError>
-    ensures { IfOk result (λ made. made ≡ part.now) }
-{
-    Ok(Text::of(String::from_str(alloc, part)?))
-}
+use worked_queries::{cycle, filtered_count, two_tables};
 
 fn are_candidates(query: &Query, words: &[u64]) -> bool
     ensures { IsTrue result → All (IsCandidateWord query.now) words.now }
@@ -44,70 +38,6 @@ fn text_of_memo(alloc: Global, query: &Query, words: &[u64]) -> Result<Vec<u8>, 
         return memo_text(alloc, query, words);
     }
     Ok(Vec::new(alloc))
-}
-
-// `SELECT T1.a FROM T1, T2 WHERE T1.a = T2.b ORDER BY T1.a`
-fn two_tables(alloc: Global) -> Result<Query, AllocError> {
-    let tables = vec![in alloc;
-        QueryTable {
-            alias: text(alloc, "T1")?,
-            rows: 1000,
-            hashed: None,
-            indexes: List::new(alloc)
-        },
-        QueryTable {
-            alias: text(alloc, "T2")?,
-            rows: 1000,
-            hashed: None,
-            indexes: List::new(alloc)
-        },
-    ]?;
-    let items = vec![in alloc;
-        Item {
-            table: 0,
-            name: text(alloc, "a")?,
-            ndv: 1000
-        },
-        Item {
-            table: 1,
-            name: text(alloc, "b")?,
-            ndv: 500
-        },
-    ]?;
-    let preds = vec![in alloc;
-        Pred {
-            left: 0,
-            op: CmpOp::Eq,
-            right: Operand::Item(1)
-        },
-    ]?;
-    let links = links_of(alloc, &tables, &items, &preds)?;
-    Ok(Query {
-        segments: 4,
-        tables: List::of(tables),
-        items: List::of(items),
-        preds: List::of(preds),
-        links,
-        grouped: false,
-        group_by: List::new(alloc),
-        aggs: List::new(alloc),
-        output: List::of(vec![in alloc;
-            OutItem {
-                item: 0,
-                name: None
-            },
-        ]?),
-        order: List::of(vec![in alloc;
-            OrderKey {
-                item: 0,
-                desc: false
-            },
-        ]?),
-        options: Options {
-            root: RootDist::One,
-            off: 0,
-        },
-    })
 }
 
 // A word has the key from bit 36 on, the operator from bit 31, the index from bit 26, the children.
@@ -154,69 +84,6 @@ group Join(T1, T2) rows=1000
     Ok(())
 }
 
-// `SELECT COUNT(*) FROM t WHERE a = 5 GROUP BY b`, with an index on a and one on b and a
-fn one_table(alloc: Global) -> Result<Query, AllocError> {
-    let indexes = vec![in alloc;
-        List::of(vec![in alloc; 0]?),
-        List::of(vec![in alloc; 1, 0]?),
-    ]?;
-    let tables = vec![in alloc;
-        QueryTable {
-            alias: text(alloc, "t")?,
-            rows: 100_000,
-            hashed: None,
-            indexes: List::of(indexes)
-        },
-    ]?;
-    let items = vec![in alloc;
-        Item {
-            table: 0,
-            name: text(alloc, "a")?,
-            ndv: 100
-        },
-        Item {
-            table: 0,
-            name: text(alloc, "b")?,
-            ndv: 10
-        },
-    ]?;
-    let preds = vec![in alloc;
-        Pred {
-            left: 0,
-            op: CmpOp::Eq,
-            right: Operand::Int(5)
-        },
-    ]?;
-    let links = links_of(alloc, &tables, &items, &preds)?;
-    Ok(Query {
-        segments: 4,
-        tables: List::of(tables),
-        items: List::of(items),
-        preds: List::of(preds),
-        links,
-        grouped: true,
-        group_by: List::of(vec![in alloc; 1]?),
-        aggs: List::of(vec![in alloc;
-            Agg {
-                func: AggFunc::CountAll,
-                arg: None,
-                name: None
-            },
-        ]?),
-        output: List::of(vec![in alloc;
-            OutItem {
-                item: 2,
-                name: None
-            },
-        ]?),
-        order: List::new(alloc),
-        options: Options {
-            root: RootDist::One,
-            off: 0,
-        },
-    })
-}
-
 #[test]
 fn indexes_and_aggregations_are_shown(rt: HostRuntime) -> Result<(), Fail> {
     let words = [
@@ -237,7 +104,7 @@ fn indexes_and_aggregations_are_shown(rt: HostRuntime) -> Result<(), Fail> {
         0x801700022000,
         0x801701002000,
     ];
-    let query = one_table(rt.alloc())?;
+    let query = filtered_count(rt.alloc())?;
     assert_eq!(rt;
         text_of_memo(rt.alloc(), &query, &words)?.as_slice(),
         "memo groups=4 members=16
@@ -267,86 +134,6 @@ group Agg rows=10
     Ok(())
 }
 
-// `SELECT A.x FROM A, B, C WHERE A.x = B.x AND B.x = C.x AND A.x = C.x`, 100 rows each
-fn three_tables(alloc: Global) -> Result<Query, AllocError> {
-    let tables = vec![in alloc;
-        QueryTable {
-            alias: text(alloc, "A")?,
-            rows: 100,
-            hashed: None,
-            indexes: List::new(alloc)
-        },
-        QueryTable {
-            alias: text(alloc, "B")?,
-            rows: 100,
-            hashed: None,
-            indexes: List::new(alloc)
-        },
-        QueryTable {
-            alias: text(alloc, "C")?,
-            rows: 100,
-            hashed: None,
-            indexes: List::new(alloc)
-        },
-    ]?;
-    let items = vec![in alloc;
-        Item {
-            table: 0,
-            name: text(alloc, "x")?,
-            ndv: 10
-        },
-        Item {
-            table: 1,
-            name: text(alloc, "x")?,
-            ndv: 10
-        },
-        Item {
-            table: 2,
-            name: text(alloc, "x")?,
-            ndv: 10
-        },
-    ]?;
-    let preds = vec![in alloc;
-        Pred {
-            left: 0,
-            op: CmpOp::Eq,
-            right: Operand::Item(1)
-        },
-        Pred {
-            left: 1,
-            op: CmpOp::Eq,
-            right: Operand::Item(2)
-        },
-        Pred {
-            left: 0,
-            op: CmpOp::Eq,
-            right: Operand::Item(2)
-        },
-    ]?;
-    let links = links_of(alloc, &tables, &items, &preds)?;
-    Ok(Query {
-        segments: 4,
-        tables: List::of(tables),
-        items: List::of(items),
-        preds: List::of(preds),
-        links,
-        grouped: false,
-        group_by: List::new(alloc),
-        aggs: List::new(alloc),
-        output: List::of(vec![in alloc;
-            OutItem {
-                item: 0,
-                name: None
-            },
-        ]?),
-        order: List::new(alloc),
-        options: Options {
-            root: RootDist::One,
-            off: 0,
-        },
-    })
-}
-
 #[test]
 fn sides_of_several_tables_are_shown_in_order(rt: HostRuntime) -> Result<(), Fail> {
     let words = [
@@ -355,7 +142,7 @@ fn sides_of_several_tables_are_shown_in_order(rt: HostRuntime) -> Result<(), Fai
         0x407400808003,
         0x407500004406,
     ];
-    let query = three_tables(rt.alloc())?;
+    let query = cycle(rt.alloc())?;
     assert_eq!(rt;
         text_of_memo(rt.alloc(), &query, &words)?.as_slice(),
         "memo groups=1 members=4
