@@ -1,156 +1,23 @@
 //! Plans of two tables that are joined by an equality, worked by hand.
 
-ghost use Rattle.std.specs.Prelude.{◌≡◌, ◌<◌, IfOk};
+ghost use Rattle.std.specs.Prelude.{◌<◌};
 ghost use Rattle.query_core.specs.Keys.{IsInRange};
 ghost use Rattle.request_props.specs.Numbered.{IsProps};
 ghost use Rattle.plan_tree.specs.Nodes.{NativeInRange};
 
 use crate::*;
-use orca_base::{List, Text};
 use plan_space::NodeKind;
 use plan_tree::{Node, Plan};
-use query_core::*;
+use query_core::{KeyParts, Physical, PhysicalExpr, Query};
 use request_props::{Dist, Props, Request};
 use std::alloc::{AllocError, Global};
 use std::test::Fail;
-
-fn text(alloc: Global, part: &str) -> Result<Text, AllocError>
-    ensures { IfOk result (λ made. made ≡ part.now) }
-{
-    Ok(Text::of(String::from_str(alloc, part)?))
-}
-
-// `SELECT T1.a FROM T1, T2 WHERE T1.a = T2.b ORDER BY T1.a`, each table of 1,000 rows and hashed on
-// its column a, on 4 segments. The hashed lists are T1.a, T2.a and T2.b, from 0, and the orders T1.a
-// and T2.b, from 1.
-fn two_tables(alloc: Global) -> Result<Query, AllocError> {
-    let tables = vec![in alloc;
-        QueryTable {
-            alias: text(alloc, "T1")?,
-            rows: 1000,
-            hashed: Some(List::of(vec![in alloc; 0]?)),
-            indexes: List::new(alloc)
-        },
-        QueryTable {
-            alias: text(alloc, "T2")?,
-            rows: 1000,
-            hashed: Some(List::of(vec![in alloc; 1]?)),
-            indexes: List::new(alloc)
-        },
-    ]?;
-    let items = vec![in alloc;
-        Item {
-            table: 0,
-            name: text(alloc, "a")?,
-            ndv: 1000
-        },
-        Item {
-            table: 1,
-            name: text(alloc, "a")?,
-            ndv: 1000
-        },
-        Item {
-            table: 1,
-            name: text(alloc, "b")?,
-            ndv: 500
-        },
-    ]?;
-    let preds = vec![in alloc;
-        Pred {
-            left: 0,
-            op: CmpOp::Eq,
-            right: Operand::Item(2)
-        },
-    ]?;
-    let links = links_of(alloc, &tables, &items, &preds)?;
-    Ok(Query {
-        segments: 4,
-        tables: List::of(tables),
-        items: List::of(items),
-        preds: List::of(preds),
-        links,
-        grouped: false,
-        group_by: List::new(alloc),
-        aggs: List::new(alloc),
-        output: List::of(vec![in alloc;
-            OutItem {
-                item: 0,
-                name: None
-            },
-        ]?),
-        order: List::of(vec![in alloc;
-            OrderKey {
-                item: 0,
-                desc: false
-            },
-        ]?),
-        options: Options {
-            root: RootDist::One,
-            off: 0,
-        },
-    })
-}
-
-// `SELECT b.x FROM b, s WHERE b.x = s.y`, of 100,000 and 10 rows, placed at random on 4 segments
-fn large_and_small(alloc: Global) -> Result<Query, AllocError> {
-    let tables = vec![in alloc;
-        QueryTable {
-            alias: text(alloc, "b")?,
-            rows: 100000,
-            hashed: None,
-            indexes: List::new(alloc)
-        },
-        QueryTable {
-            alias: text(alloc, "s")?,
-            rows: 10,
-            hashed: None,
-            indexes: List::new(alloc)
-        },
-    ]?;
-    let items = vec![in alloc;
-        Item {
-            table: 0,
-            name: text(alloc, "x")?,
-            ndv: 1000
-        },
-        Item {
-            table: 1,
-            name: text(alloc, "y")?,
-            ndv: 10
-        },
-    ]?;
-    let preds = vec![in alloc;
-        Pred {
-            left: 0,
-            op: CmpOp::Eq,
-            right: Operand::Item(1)
-        },
-    ]?;
-    let links = links_of(alloc, &tables, &items, &preds)?;
-    Ok(Query {
-        segments: 4,
-        tables: List::of(tables),
-        items: List::of(items),
-        preds: List::of(preds),
-        links,
-        grouped: false,
-        group_by: List::new(alloc),
-        aggs: List::new(alloc),
-        output: List::of(vec![in alloc;
-            OutItem {
-                item: 0,
-                name: None
-            },
-        ]?),
-        order: List::new(alloc),
-        options: Options {
-            root: RootDist::One,
-            off: 0,
-        },
-    })
-}
+use worked_queries::{filtered_table, hashed_count, large_and_small, two_tables};
 
 // ---- nodes by their numbers
+
+// The hashed lists of the two tables are T1.a, T2.a and T2.b, from 0, and the orders T1.a and T2.b,
+// from 1.
 
 const GATHER: u64 = 1;
 
@@ -436,108 +303,7 @@ fn the_whole_plan_is_looked_through_for_one_fault_first(rt: HostRuntime) -> Resu
 
 // ---- one table
 
-// `SELECT COUNT(*) FROM t GROUP BY b`, where t has 1,000 rows on 4 segments, hashed on its column a of
-// 100 values, and b has 10. The hashed lists are t.a and t.b, from 0, and the one order is t.b.
-fn grouped(alloc: Global) -> Result<Query, AllocError> {
-    let tables = vec![in alloc;
-        QueryTable {
-            alias: text(alloc, "t")?,
-            rows: 1000,
-            hashed: Some(List::of(vec![in alloc; 0]?)),
-            indexes: List::of(vec![in alloc; List::of(vec![in alloc; 0]?)]?)
-        },
-    ]?;
-    let items = vec![in alloc;
-        Item {
-            table: 0,
-            name: text(alloc, "a")?,
-            ndv: 100
-        },
-        Item {
-            table: 0,
-            name: text(alloc, "b")?,
-            ndv: 10
-        },
-    ]?;
-    let preds = Vec::new(alloc);
-    let links = links_of(alloc, &tables, &items, &preds)?;
-    let aggs = vec![in alloc;
-        Agg {
-            func: AggFunc::CountAll,
-            arg: None,
-            name: None
-        },
-    ]?;
-    Ok(Query {
-        segments: 4,
-        tables: List::of(tables),
-        items: List::of(items),
-        preds: List::of(preds),
-        links,
-        grouped: true,
-        group_by: List::of(vec![in alloc; 1]?),
-        aggs: List::of(aggs),
-        output: List::of(vec![in alloc;
-            OutItem {
-                item: 2,
-                name: None
-            },
-        ]?),
-        order: List::new(alloc),
-        options: Options {
-            root: RootDist::One,
-            off: 0,
-        },
-    })
-}
-
-// `SELECT a FROM t WHERE a = 5` over the same table, with an index on a.
-fn filtered(alloc: Global) -> Result<Query, AllocError> {
-    let tables = vec![in alloc;
-        QueryTable {
-            alias: text(alloc, "t")?,
-            rows: 1000,
-            hashed: Some(List::of(vec![in alloc; 0]?)),
-            indexes: List::of(vec![in alloc; List::of(vec![in alloc; 0]?)]?)
-        },
-    ]?;
-    let items = vec![in alloc;
-        Item {
-            table: 0,
-            name: text(alloc, "a")?,
-            ndv: 100
-        },
-    ]?;
-    let preds = vec![in alloc;
-        Pred {
-            left: 0,
-            op: CmpOp::Eq,
-            right: Operand::Int(5)
-        },
-    ]?;
-    let links = links_of(alloc, &tables, &items, &preds)?;
-    Ok(Query {
-        segments: 4,
-        tables: List::of(tables),
-        items: List::of(items),
-        preds: List::of(preds),
-        links,
-        grouped: false,
-        group_by: List::new(alloc),
-        aggs: List::new(alloc),
-        output: List::of(vec![in alloc;
-            OutItem {
-                item: 0,
-                name: None
-            },
-        ]?),
-        order: List::new(alloc),
-        options: Options {
-            root: RootDist::One,
-            off: 0,
-        },
-    })
-}
+// The hashed lists of the grouped query are t.a and t.b, from 0, and the one order is t.b.
 
 // The number of a physical expression in a mode.
 fn native(group: KeyParts, operator: Physical, mode: u32) -> u64
@@ -562,7 +328,7 @@ fn stream_agg(mode: u32) -> u64
 #[test]
 fn aggregations_cost_what_the_table_says(rt: HostRuntime) -> Result<(), Fail> {
     let alloc = rt.alloc();
-    let query = grouped(alloc)?;
+    let query = hashed_count(alloc)?;
     let props = Props::collect(alloc, &query)?;
     // 1,000 rows on one segment: a gather at 2,001, and 2 * 1,000 + 10 + 1
     let all = over(alloc, GATHER, leaf(SCAN_1))?;
@@ -594,7 +360,7 @@ fn an_aggregation_by_a_list_outside_group_by_lacks_what_it_needs(
     rt: HostRuntime,
 ) -> Result<(), Fail> {
     let alloc = rt.alloc();
-    let query = grouped(alloc)?;
+    let query = hashed_count(alloc)?;
     let props = Props::collect(alloc, &query)?;
     let plan = over(alloc, hash_agg(KeyParts::Get(0), 128), leaf(SCAN_1))?;
     assert_eq!(rt;
@@ -613,7 +379,7 @@ fn an_aggregation_by_a_list_outside_group_by_lacks_what_it_needs(
 #[test]
 fn a_filter_and_an_index_cost_what_the_table_says(rt: HostRuntime) -> Result<(), Fail> {
     let alloc = rt.alloc();
-    let query = filtered(alloc)?;
+    let query = filtered_table(alloc)?;
     let props = Props::collect(alloc, &query)?;
     let filter = native(KeyParts::Filter(0), Physical::Filter(KeyParts::Get(0)), 0);
     let tested = over(alloc, filter, leaf(SCAN_1))?;
