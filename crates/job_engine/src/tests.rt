@@ -1,70 +1,18 @@
 //! The search of `SELECT t.a FROM t`, where t has no rows and lies at random: two members and eight goals.
 
-ghost use Rattle.std.specs.Prelude.{◌≡◌, IfOk};
-
 use crate::{Engine, Outcome, RunNote, run_alone, run_crew};
-use orca_base::{List, Text};
 use orca_io::NoGate;
-use query_core::*;
 use request_props::Props;
-use std::alloc::{AllocError, Global};
 use std::test::Fail;
+use worked_queries::one_table;
 
 // The word of the goal Opt Get(t) [One]: kind 5, key 0, request 0.
 const ROOT: u64 = 13 << 60;
 
-fn text(alloc: Global, part: &str) -> Result<Text, AllocError>
-    ensures { IfOk result (λ made. made ≡ part.now) }
-{
-    Ok(Text::of(String::from_str(alloc, part)?))
-}
-
-// The query.
-fn one_table(alloc: Global) -> Result<Query, AllocError> {
-    let tables = vec![in alloc;
-        QueryTable {
-            alias: text(alloc, "t")?,
-            rows: 0,
-            hashed: None,
-            indexes: List::new(alloc)
-        },
-    ]?;
-    let items = vec![in alloc;
-        Item {
-            table: 0,
-            name: text(alloc, "a")?,
-            ndv: 1000
-        },
-    ]?;
-    let preds = Vec::new(alloc);
-    let links = links_of(alloc, &tables, &items, &preds)?;
-    Ok(Query {
-        segments: 4,
-        tables: List::of(tables),
-        items: List::of(items),
-        preds: List::of(preds),
-        links,
-        grouped: false,
-        group_by: List::new(alloc),
-        aggs: List::new(alloc),
-        output: List::of(vec![in alloc;
-            OutItem {
-                item: 0,
-                name: None
-            },
-        ]?),
-        order: List::new(alloc),
-        options: Options {
-            root: RootDist::One,
-            off: 0,
-        },
-    })
-}
-
 #[test]
 fn a_search_without_a_step_is_unfinished(rt: HostRuntime) -> Result<(), Fail> {
     let alloc = rt.alloc();
-    let query = one_table(alloc)?;
+    let query = one_table(alloc, 0)?;
     let Ok(props) = Props::collect(alloc, &query) else {
         panic!(rt; "too many lists");
     };
@@ -81,7 +29,7 @@ fn a_search_without_a_step_is_unfinished(rt: HostRuntime) -> Result<(), Fail> {
 #[test]
 fn one_worker_and_two_find_the_same(rt: HostRuntime) -> Result<(), Fail> {
     let alloc = rt.alloc();
-    let query = one_table(alloc)?;
+    let query = one_table(alloc, 0)?;
     let Ok(props) = Props::collect(alloc, &query) else {
         panic!(rt; "too many lists");
     };
@@ -124,7 +72,7 @@ fn one_worker_and_two_find_the_same(rt: HostRuntime) -> Result<(), Fail> {
 #[test]
 fn too_few_cells_are_full(rt: HostRuntime) -> Result<(), Fail> {
     let alloc = rt.alloc();
-    let query = one_table(alloc)?;
+    let query = one_table(alloc, 0)?;
     let Ok(props) = Props::collect(alloc, &query) else {
         panic!(rt; "too many lists");
     };
