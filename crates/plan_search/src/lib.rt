@@ -24,5 +24,3 @@ pub use word_set::WordSet;
 mod least_tests;
 #[cfg(test)]
 mod tests;
-#[cfg(test)]
-mod worked;
