@@ -1,23 +1,16 @@
 //! The traces of two queries: a table that is read, and a join in the order of a column.
 
-ghost use Rattle.std.specs.Prelude.{◌≡◌, IfOk};
 ghost use Rattle.request_props.specs.Numbered.{IsProps};
 
 use crate::{goal_lists_are_known, plain_goals};
 use job_trace::{crew_text, trace_text};
-use orca_base::{List, Text};
 use plan_search::plain_closure;
-use query_core::*;
+use query_core::Query;
 use request_props::Props;
 use std::alloc::{AllocError, Global};
 use std::test::Fail;
+use worked_queries::{one_table, two_tables};
 use xform_rules::members_are_known;
-
-fn text(alloc: Global, part: &str) -> Result<Text, AllocError>
-    ensures { IfOk result (λ made. made ≡ part.now) }
-{
-    Ok(Text::of(String::from_str(alloc, part)?))
-}
 
 // The trace over all members and goals of the query.
 fn trace_of(alloc: Global, query: &Query, props: &Props) -> Result<Vec<u8>, AllocError>
@@ -43,121 +36,10 @@ fn crew_of_one(alloc: Global, query: &Query, props: &Props) -> Result<Vec<u8>, A
     crew_text(alloc, query, props, goals.as_slice(), &who)
 }
 
-// `SELECT t.a FROM t`, where t has no rows and lies at random
-fn one_table(alloc: Global) -> Result<Query, AllocError> {
-    let tables = vec![in alloc;
-        QueryTable {
-            alias: text(alloc, "t")?,
-            rows: 0,
-            hashed: None,
-            indexes: List::new(alloc)
-        },
-    ]?;
-    let items = vec![in alloc;
-        Item {
-            table: 0,
-            name: text(alloc, "a")?,
-            ndv: 1000
-        },
-    ]?;
-    let preds = Vec::new(alloc);
-    let links = links_of(alloc, &tables, &items, &preds)?;
-    Ok(Query {
-        segments: 4,
-        tables: List::of(tables),
-        items: List::of(items),
-        preds: List::of(preds),
-        links,
-        grouped: false,
-        group_by: List::new(alloc),
-        aggs: List::new(alloc),
-        output: List::of(vec![in alloc;
-            OutItem {
-                item: 0,
-                name: None
-            },
-        ]?),
-        order: List::new(alloc),
-        options: Options {
-            root: RootDist::One,
-            off: 0,
-        },
-    })
-}
-
-// `SELECT T1.a FROM T1, T2 WHERE T1.a = T2.b ORDER BY T1.a`, each table hashed on its column a
-fn two_tables(alloc: Global) -> Result<Query, AllocError> {
-    let tables = vec![in alloc;
-        QueryTable {
-            alias: text(alloc, "T1")?,
-            rows: 1000,
-            hashed: Some(List::of(vec![in alloc; 0]?)),
-            indexes: List::new(alloc)
-        },
-        QueryTable {
-            alias: text(alloc, "T2")?,
-            rows: 1000,
-            hashed: Some(List::of(vec![in alloc; 1]?)),
-            indexes: List::new(alloc)
-        },
-    ]?;
-    let items = vec![in alloc;
-        Item {
-            table: 0,
-            name: text(alloc, "a")?,
-            ndv: 1000
-        },
-        Item {
-            table: 1,
-            name: text(alloc, "a")?,
-            ndv: 1000
-        },
-        Item {
-            table: 1,
-            name: text(alloc, "b")?,
-            ndv: 500
-        },
-    ]?;
-    let preds = vec![in alloc;
-        Pred {
-            left: 0,
-            op: CmpOp::Eq,
-            right: Operand::Item(2)
-        },
-    ]?;
-    let links = links_of(alloc, &tables, &items, &preds)?;
-    Ok(Query {
-        segments: 4,
-        tables: List::of(tables),
-        items: List::of(items),
-        preds: List::of(preds),
-        links,
-        grouped: false,
-        group_by: List::new(alloc),
-        aggs: List::new(alloc),
-        output: List::of(vec![in alloc;
-            OutItem {
-                item: 0,
-                name: None
-            },
-        ]?),
-        order: List::of(vec![in alloc;
-            OrderKey {
-                item: 0,
-                desc: false
-            },
-        ]?),
-        options: Options {
-            root: RootDist::One,
-            off: 0,
-        },
-    })
-}
-
 #[test]
 fn a_table_that_is_read_has_eight_goals(rt: HostRuntime) -> Result<(), Fail> {
     let alloc = rt.alloc();
-    let query = one_table(alloc)?;
+    let query = one_table(alloc, 0)?;
     match Props::collect(alloc, &query) {
         Ok(props) => {
             assert_eq!(rt;

@@ -8,89 +8,15 @@ ghost use Rattle.goal_board.specs.Seats.{IsSeatOf, hands};
 use goal_board::{Board, GoalRules, Inserted, Seat};
 use goal_list::plain_goals;
 use goal_rules::Rules;
-use orca_base::{List, Text};
+use orca_base::List;
 use plan_search::plain_closure;
-use query_core::*;
+use query_core::Query;
 use request_props::Props;
 use std::alloc::{AllocError, Global};
 use std::test::Fail;
 use std::thread;
 use std::thread::Threads;
-
-fn text(alloc: Global, part: &str) -> Result<Text, AllocError>
-    ensures { IfOk result (λ made. made ≡ part.now) }
-{
-    Ok(Text::of(String::from_str(alloc, part)?))
-}
-
-// `SELECT T1.a FROM T1, T2 WHERE T1.a = T2.b ORDER BY T1.a`, each table hashed on its column a
-fn two_tables(alloc: Global) -> Result<Query, AllocError> {
-    let tables = vec![in alloc;
-        QueryTable {
-            alias: text(alloc, "T1")?,
-            rows: 1000,
-            hashed: Some(List::of(vec![in alloc; 0]?)),
-            indexes: List::new(alloc)
-        },
-        QueryTable {
-            alias: text(alloc, "T2")?,
-            rows: 1000,
-            hashed: Some(List::of(vec![in alloc; 1]?)),
-            indexes: List::new(alloc)
-        },
-    ]?;
-    let items = vec![in alloc;
-        Item {
-            table: 0,
-            name: text(alloc, "a")?,
-            ndv: 1000
-        },
-        Item {
-            table: 1,
-            name: text(alloc, "a")?,
-            ndv: 1000
-        },
-        Item {
-            table: 1,
-            name: text(alloc, "b")?,
-            ndv: 500
-        },
-    ]?;
-    let preds = vec![in alloc;
-        Pred {
-            left: 0,
-            op: CmpOp::Eq,
-            right: Operand::Item(2)
-        },
-    ]?;
-    let links = links_of(alloc, &tables, &items, &preds)?;
-    Ok(Query {
-        segments: 4,
-        tables: List::of(tables),
-        items: List::of(items),
-        preds: List::of(preds),
-        links,
-        grouped: false,
-        group_by: List::new(alloc),
-        aggs: List::new(alloc),
-        output: List::of(vec![in alloc;
-            OutItem {
-                item: 0,
-                name: None
-            },
-        ]?),
-        order: List::of(vec![in alloc;
-            OrderKey {
-                item: 0,
-                desc: false
-            },
-        ]?),
-        options: Options {
-            root: RootDist::One,
-            off: 0,
-        },
-    })
-}
+use worked_queries::two_tables;
 
 // The words of all members, and those of all goals.
 fn entries_of(
