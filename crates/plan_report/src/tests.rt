@@ -1,179 +1,16 @@
 //! Texts of plans that were made by hand.
 
-ghost use Rattle.std.specs.Prelude.{◌≡◌, ◌<◌, IfOk};
+ghost use Rattle.std.specs.Prelude.{◌<◌};
 ghost use Rattle.plan_tree.specs.Nodes.{EnforcerInRange, NativeInRange};
 
 use crate::plan_text;
-use orca_base::{List, Text};
 use plan_space::{Enforcer, NodeKind};
 use plan_tree::{Found, Node, Plan};
-use query_core::*;
+use query_core::{KeyParts, Physical, PhysicalExpr, Query};
 use request_props::Props;
 use std::alloc::{AllocError, Global};
 use std::test::Fail;
-
-fn text(alloc: Global, part: &str) -> Result<Text, AllocError>
-    ensures { IfOk result (λ made. made ≡ part.now) }
-{
-    Ok(Text::of(String::from_str(alloc, part)?))
-}
-
-// `SELECT T1.a, T2.b AS c FROM T1, T2 WHERE T1.a = T2.b ORDER BY T1.a DESC`, each table of 1,000
-// rows and hashed on its column a, all columns with 1,000 distinct values, on 4 segments
-fn two_tables(alloc: Global) -> Result<Query, AllocError> {
-    let tables = vec![in alloc;
-        QueryTable {
-            alias: text(alloc, "T1")?,
-            rows: 1000,
-            hashed: Some(List::of(vec![in alloc; 0]?)),
-            indexes: List::new(alloc)
-        },
-        QueryTable {
-            alias: text(alloc, "T2")?,
-            rows: 1000,
-            hashed: Some(List::of(vec![in alloc; 1]?)),
-            indexes: List::of(vec![in alloc; List::of(vec![in alloc; 2]?)]?)
-        },
-    ]?;
-    let items = vec![in alloc;
-        Item {
-            table: 0,
-            name: text(alloc, "a")?,
-            ndv: 1000
-        },
-        Item {
-            table: 1,
-            name: text(alloc, "a")?,
-            ndv: 1000
-        },
-        Item {
-            table: 1,
-            name: text(alloc, "b")?,
-            ndv: 1000
-        },
-    ]?;
-    let preds = vec![in alloc;
-        Pred {
-            left: 0,
-            op: CmpOp::Eq,
-            right: Operand::Item(2)
-        },
-    ]?;
-    let links = links_of(alloc, &tables, &items, &preds)?;
-    Ok(Query {
-        segments: 4,
-        tables: List::of(tables),
-        items: List::of(items),
-        preds: List::of(preds),
-        links,
-        grouped: false,
-        group_by: List::new(alloc),
-        aggs: List::new(alloc),
-        output: List::of(vec![in alloc;
-            OutItem {
-                item: 0,
-                name: None
-            },
-            OutItem {
-                item: 2,
-                name: Some(text(alloc, "c")?)
-            },
-        ]?),
-        order: List::of(vec![in alloc;
-            OrderKey {
-                item: 0,
-                desc: true
-            },
-        ]?),
-        options: Options {
-            root: RootDist::One,
-            off: 0,
-        },
-    })
-}
-
-// `SELECT COUNT(*), SUM(t.a) AS total, t.b FROM t WHERE t.a = 5 GROUP BY t.b ORDER BY total DESC, t.b`,
-// where t has 1,000 rows, hashed on a, and an index on a
-fn grouped(alloc: Global) -> Result<Query, AllocError> {
-    let tables = vec![in alloc;
-        QueryTable {
-            alias: text(alloc, "t")?,
-            rows: 1000,
-            hashed: Some(List::of(vec![in alloc; 0]?)),
-            indexes: List::of(vec![in alloc; List::of(vec![in alloc; 0]?)]?)
-        },
-    ]?;
-    let items = vec![in alloc;
-        Item {
-            table: 0,
-            name: text(alloc, "a")?,
-            ndv: 10
-        },
-        Item {
-            table: 0,
-            name: text(alloc, "b")?,
-            ndv: 10
-        },
-    ]?;
-    let preds = vec![in alloc;
-        Pred {
-            left: 0,
-            op: CmpOp::Eq,
-            right: Operand::Int(5)
-        },
-    ]?;
-    let links = links_of(alloc, &tables, &items, &preds)?;
-    let aggs = vec![in alloc;
-        Agg {
-            func: AggFunc::CountAll,
-            arg: None,
-            name: None
-        },
-        Agg {
-            func: AggFunc::Sum,
-            arg: Some(0),
-            name: Some(text(alloc, "total")?)
-        },
-    ]?;
-    Ok(Query {
-        segments: 4,
-        tables: List::of(tables),
-        items: List::of(items),
-        preds: List::of(preds),
-        links,
-        grouped: true,
-        group_by: List::of(vec![in alloc; 1]?),
-        aggs: List::of(aggs),
-        output: List::of(vec![in alloc;
-            OutItem {
-                item: 2,
-                name: None
-            },
-            OutItem {
-                item: 3,
-                name: Some(text(alloc, "total")?)
-            },
-            OutItem {
-                item: 1,
-                name: None
-            },
-        ]?),
-        order: List::of(vec![in alloc;
-            OrderKey {
-                item: 3,
-                desc: true
-            },
-            OrderKey {
-                item: 1,
-                desc: false
-            },
-        ]?),
-        options: Options {
-            root: RootDist::One,
-            off: 0,
-        },
-    })
-}
+use worked_queries::{totals, two_tables_descending};
 
 fn native(group: KeyParts, operator: Physical, mode: u32) -> Node
     requires { NativeInRange (record { group = group; operator = operator }) mode }
@@ -269,7 +106,7 @@ fn is_line_of(
 #[test]
 fn a_plan_is_printed_a_node_a_line(rt: HostRuntime) -> Result<(), Fail> {
     let alloc = rt.alloc();
-    let query = two_tables(alloc)?;
+    let query = two_tables_descending(alloc)?;
     let found = Found::Least {
         plan: two_table_plan(alloc)?,
         cost: 7506,
@@ -292,7 +129,7 @@ fn a_plan_is_printed_a_node_a_line(rt: HostRuntime) -> Result<(), Fail> {
 #[test]
 fn a_node_is_printed_with_its_mode(rt: HostRuntime) -> Result<(), Fail> {
     let alloc = rt.alloc();
-    let query = two_tables(alloc)?;
+    let query = two_tables_descending(alloc)?;
     let index_scan = native(KeyParts::Get(1), Physical::IndexScan(0), 0);
     let cases = [
         (hash_join(0), "HashJoin(one) rows=1000 "),
@@ -312,7 +149,7 @@ fn a_node_is_printed_with_its_mode(rt: HostRuntime) -> Result<(), Fail> {
 #[test]
 fn no_plan_is_one_line(rt: HostRuntime) -> Result<(), Fail> {
     let alloc = rt.alloc();
-    let query = two_tables(alloc)?;
+    let query = two_tables_descending(alloc)?;
     match Props::collect(alloc, &query) {
         Ok(props) => {
             let text = plan_text(alloc, &query, &props, &Found::NoPlan)?;
@@ -326,7 +163,7 @@ fn no_plan_is_one_line(rt: HostRuntime) -> Result<(), Fail> {
 #[test]
 fn an_order_names_an_aggregate_by_its_output_name(rt: HostRuntime) -> Result<(), Fail> {
     let alloc = rt.alloc();
-    let query = grouped(alloc)?;
+    let query = totals(alloc)?;
     let found = Found::Least {
         plan: Plan::Over(
             enforcer(Enforcer::Sort(2)),
@@ -343,7 +180,7 @@ fn an_order_names_an_aggregate_by_its_output_name(rt: HostRuntime) -> Result<(),
 #[test]
 fn an_aggregation_is_printed_with_where_it_groups(rt: HostRuntime) -> Result<(), Fail> {
     let alloc = rt.alloc();
-    let query = grouped(alloc)?;
+    let query = totals(alloc)?;
     let index_seek = native(KeyParts::Filter(0), Physical::IndexSeek(0), 0);
     let partial_agg = native(
         KeyParts::Partial,
