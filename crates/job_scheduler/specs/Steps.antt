@@ -4,10 +4,13 @@ use Rattle.board_rule.specs.Meaning.{Meaning}
 use Rattle.board_rule.specs.Looks.{ShowsFull, ShowsClosed}
 use Rattle.board_rule.specs.Seats.{fresh_right}
 use Rattle.board_rule.specs.declared.hands.Hands.{Hands}
+use Rattle.goal_board.specs.declared.board.Board.{Board}
+use Rattle.goal_board.specs.Seats.{hands}
 use Rattle.goal_board.specs.Calls.{ShowsBusy, LeavesOut}
-use Rattle.board_moves.specs.Counts.{ready_count, empty_count, open_count}
+use Rattle.board_moves.specs.Counts.{ready_count, empty_count, open_count, AdvancesAlone}
 use Rattle.job_scheduler.specs.Workers.{Later, OnlyLooked}
 use Rattle.job_scheduler.specs.Claims.{ShowsOpen}
+use Rattle.job_scheduler.specs.declared.worker.Worker.{Worker}
 use Rattle.job_scheduler.specs.declared.stepped.Stepped.{Stepped}
 use Rattle.job_scheduler.specs.declared.stepped.Stepped.TheVariants as stepped
 
@@ -97,3 +100,19 @@ module _ {R : Type 0} (meaning : Meaning) (room : ℕ) (v : Hands R) where
   StepsAlone stepped.Idle w = (kept : List ℕ) → v.alone ≡ Some kept → ⊥
   StepsAlone stepped.Done w = Unit {0}
   StepsAlone stepped.Full w = Unit {0}
+
+-- the same of a worker of a board, before and after
+module _ {R : Type 0} (meaning_of : R → Meaning) (b : Board R) (worker : Worker R) where
+  -- what the answer of its step means
+  abbrev pub WorkerSteps : (root : ℕ) → Stepped → Worker R → Type 0
+  WorkerSteps root found after =
+      Steps (meaning_of b.key.rules) b.key.room root worker.number (hands worker.seat) found (hands after.seat)
+
+  -- where it is alone it never finds nothing to do, and each turn leaves less to do
+  abbrev pub WorkerStepsAlone : Stepped → Worker R → Type 0
+  WorkerStepsAlone found after =
+      StepsAlone (meaning_of b.key.rules) b.key.room (hands worker.seat) found (hands after.seat)
+
+  -- the turn of a goal leaves it less to do, where it is alone
+  abbrev pub WorkerAdvancesAlone : Worker R → Type 0
+  WorkerAdvancesAlone after = AdvancesAlone (meaning_of b.key.rules) b.key.room (hands worker.seat) (hands after.seat)

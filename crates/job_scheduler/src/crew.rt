@@ -15,8 +15,8 @@ use std::thread;
 use std::thread::Threads;
 
 impl<R: GoalRules, J: Jobs<R>> Scheduler<R, J> {
-    /// Lets n workers, in threads of their own, step until the root goal is finished or the board is full, and takes all of
-    /// them in. Where memory is refused no worker comes back. It may wait.
+    /// Lets n workers, in threads of their own, step until the root goal is finished or the board is full, and takes
+    /// all of them in. Where memory is refused no worker comes back. It may wait.
     pub fn work_crew<W: Threads + Wait + Sync, G: Gate>(
         &self,
         rt: &W,
@@ -28,7 +28,7 @@ impl<R: GoalRules, J: Jobs<R>> Scheduler<R, J> {
         requires worker { IsOfCrew R.meaning self.now.board self.now.root self.now.goal n worker }
         requires parts { (hands worker.seat).parts ≡ 64 }
         requires few { n ≤ 64 }
-        ensures { IfOk result (λ last. Worked R.meaning self.now.board self.now.root self.now.goal n worker last) }
+        ensures { IfOk result (Worked R.meaning self.now.board self.now.root self.now.goal n worker) }
     {
         let crew = self.hire(alloc, worker, n)?;
         let task = |worker: Worker<R>| -> Worker<R>
@@ -44,7 +44,8 @@ impl<R: GoalRules, J: Jobs<R>> Scheduler<R, J> {
         requires worker { IsOfCrew R.meaning self.now.board self.now.root self.now.goal n first }
         requires parts { (hands first.seat).parts ≡ 64 }
         requires few { n ≤ 64 }
-        ensures each { IfOk result (λ crew. All (IsOfCrew R.meaning self.now.board self.now.root self.now.goal n) crew.items) }
+        ensures each { IfOk result (λ crew.
+            All (IsOfCrew R.meaning self.now.board self.now.root self.now.goal n) crew.items) }
         ensures parts { IfOk result (λ crew. parts_of crew.items ≡ 64) }
     {
         let mut first = first;

@@ -40,8 +40,10 @@ impl<R: GoalRules, J: Jobs<R>> Scheduler<R, J> {
         requires capacity { (1 ≤ cap) × (cap ≤ 2 ^ 20) }
         requires rules { rules ≡ J.rules_of jobs }
         requires goal { (R.meaning rules).entry goal × IsTrue ((R.meaning rules).goal goal) }
-        ensures board { IfOk result (λ made. (made.0.board.key.rules ≡ rules) × (made.0.board.key.room ≡ cap) × (made.0.goal ≡ goal)) }
-        ensures worker { IfOk result (λ made. IsFreeWorkerOf R.meaning made.0.board made.0.root made.0.goal made.1 × (made.1.number ≡ 0)) }
+        ensures board { IfOk result (λ made. (made.0.board.key.rules ≡ rules) ×
+            (made.0.board.key.room ≡ cap) × (made.0.goal ≡ goal)) }
+        ensures worker { IfOk result (λ made.
+            IsFreeWorkerOf R.meaning made.0.board made.0.root made.0.goal made.1 × (made.1.number ≡ 0)) }
         ensures opening { IfOk result (λ made. IsOpening cap made.0.root goal (hands made.1.seat)) }
     {
         let mut hints = PlaceHints::new(alloc, cap)?;
@@ -79,7 +81,7 @@ impl<R: GoalRules, J: Jobs<R>> Scheduler<R, J> {
         requires parts { 2 ≤ (hands worker.old.seat).parts }
         requires number { number < 64 }
         ensures this { IsFreeWorkerOf R.meaning self.now.board self.now.root self.now.goal worker.new }
-        ensures other { IfOk result (λ other. IsFreeWorkerOf R.meaning self.now.board self.now.root self.now.goal other) }
+        ensures other { IfOk result (IsFreeWorkerOf R.meaning self.now.board self.now.root self.now.goal) }
         ensures number { IfOk result (λ other. other.number ≡ number) }
         ensures left { IfOk result (λ other. hands worker.new.seat ≡ parted (hands worker.old.seat)) }
         ensures right { IfOk result (λ other. hands other.seat ≡ part (hands worker.old.seat)) }
@@ -120,7 +122,8 @@ impl<R: GoalRules, J: Jobs<R>> Scheduler<R, J> {
         J: Drop,
         requires worker { IsFreeWorkerOf R.meaning self.board self.root self.goal worker }
         requires parts { (hands worker.seat).parts ≡ 64 }
-        ensures { IfOk result (λ closed. ClosesWith R.meaning self.board.key.rules self.board.key.room (hands worker.seat) closed) }
+        ensures { IfOk result
+            (ClosesWith R.meaning self.board.key.rules self.board.key.room (hands worker.seat)) }
     {
         let Scheduler {
             board,
