@@ -12,7 +12,6 @@ ghost use Rattle.job_turns.specs.Groups.{implemented, as_expr};
 
 use board_moves::{Group, Members, Words};
 use goal_rules::candidates_are_in_order;
-use group_candidates::next_candidate;
 use query_core::{
     Expr, Goal, GoalParts, KeyParts, Query, candidates_are_known, expressions_are_one,
 };
@@ -95,7 +94,7 @@ fn next_logical(query: &Query, props: &Props, group: KeyParts, before: Option<u6
     candidates_are_in_order();
     candidates_are_known();
     let after = expr_before(before);
-    match next_candidate(query, props, group, after) {
+    match props.next_candidate(query, group, after) {
         Some(next) => { if next.logical() { Some(next.0) } else { None } }
         None => None,
     }

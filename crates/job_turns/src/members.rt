@@ -24,7 +24,6 @@ use board_moves::Job;
 use goal_board::{Board, Hints, Seat};
 use goal_rules::{Rules, entries_are_known};
 use goal_space::{GoalKind, goals_are_known};
-use group_candidates::next_candidate;
 use query_core::{
     Expr, KeyParts, Physical, PhysicalExpr, Query, candidates_are_known, expressions_are_one,
     groups_are_known,
@@ -144,7 +143,7 @@ fn next_word(query: &Query, props: &Props, group: KeyParts, before: Option<u64>)
     requires known { IsGroup query.now group }
     ensures { IsNextOf (IsCandidateOf query.now group) before result }
 {
-    match next_candidate(query, props, group, as_expr(before)) {
+    match props.next_candidate(query, group, as_expr(before)) {
         Some(next) => Some(next.0),
         None => None,
     }

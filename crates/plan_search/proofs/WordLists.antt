@@ -10,6 +10,7 @@ use Rattle.std.specs.declared.cmp.Ordering.{Ordering}
 use Rattle.std.proofs.lemmas.List.{get_or-take, get_or_default, take_more}
 use Rattle.std.proofs.lemmas.List.Elements.{All-contains, Contains-get_or, Contains-push, Contains-push_cases}
 use Rattle.std.proofs.lemmas.List.Kept.{AllPairs-from_increasing}
+use Rattle.query_core.proofs.Rising.{rises_push}
 use Rattle.plan_search.specs.Steps.{Covers}
 use Rattle.std.proofs.Math.Nat.{eq-zero-or-pos}
 use Rattle.std.proofs.lemmas.Map.Lookups.{exact_unsigned}
@@ -130,17 +131,6 @@ pub found_there : (some : List ℕ) (w : ℕ) (found : Result ℕ ℕ) → is_er
     → IfOk found (HoldsAt (λ y. nat_cmp y w ≡ Equal) some) → Contains some w
 found_there some w (Ok k) fine within holds = (k, within, exact_unsigned (get_or some k w) w (holds w))
 found_there some w (Err k) fails within holds = absurd (cc)
-
--- a greater word behind ascending ones
-pub rises_push : (xs : List ℕ) (x : ℕ) → IsStrictlyIncreasing xs → ((w : ℕ) → Contains xs w → w < x) → IsStrictlyIncreasing (xs ++ x ∷ [])
-rises_push [] x rises below k within = absurd (omega (arith, within))
-rises_push (y ∷ []) x rises below zero within = below y (zero, omega arith, refl)
-rises_push (y ∷ []) x rises below (suc k) within = absurd (omega (arith, within))
-rises_push (y ∷ (z ∷ zs)) x rises below zero within = rises zero (omega arith)
-rises_push (y ∷ (z ∷ zs)) x rises below (suc k) within =
-    let next : suc k + 1 ≡ suc (k + 1) = omega arith in
-    let tail : IsStrictlyIncreasing (z ∷ zs) = λ j inside. (let step : suc j + 1 ≡ suc (j + 1) = omega arith in rw step at (rises (suc j) (omega (arith, inside)))) in
-    rw next (rises_push (z ∷ zs) x tail (λ w there. below w (contains_later y (z ∷ zs) w there)) k (omega (arith, within)))
 
 module _ (words : List ℕ) (i : ℕ) (within : i < length words) where
   -- the words up to one more place

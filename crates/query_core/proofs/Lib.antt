@@ -13,3 +13,4 @@ pub mod GroupKinds
 pub mod Unions
 pub mod Apart
 pub mod GoalLemmas
+pub mod Rising

@@ -43,7 +43,8 @@ impl IndexKind {
 }
 
 impl JoinKind {
-    pub(crate) fn of(self, left: KeyParts, right: KeyParts) -> Operator
+    /// The operator that joins the groups.
+    pub fn of(self, left: KeyParts, right: KeyParts) -> Operator
         ensures { result ≡ join_by self left right }
     {
         match self {

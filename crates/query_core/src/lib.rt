@@ -2,6 +2,7 @@
 #![tactic(auto)]
 
 mod aggregate;
+mod ascending;
 mod candidates;
 mod catalog;
 pub mod connected;
@@ -25,13 +26,16 @@ mod table;
 mod words;
 
 pub use aggregate::{Agg, AggFunc};
+pub use ascending::count_below;
 pub use candidates::{candidates_are_known, groups_are_known};
 pub use catalog::{Catalog, ColumnInfo, Placing, TableInfo};
 pub use expression_words::expressions_are_one;
 pub use expressions::{Children, ExprParts, Logical, Operator, Physical, PhysicalExpr};
 pub use goal_words::goals_are_one;
 pub use keys::KEYS;
+pub use kinds::JoinKind;
 pub use links::{links_are_one, links_of};
+pub use next_candidate::{bound_after, first_left, word_from};
 pub use options::{Options, RootDist};
 pub use output::{OrderKey, OutItem};
 pub use predicate::{CmpOp, Link, Operand, Pred};

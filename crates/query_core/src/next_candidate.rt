@@ -149,8 +149,9 @@ impl Query {
     }
 }
 
-// Joins whose left child has a lesser number have words below the bound.
-fn first_left(set: u32, kind: JoinKind, bound: u64) -> u64
+/// The number of the first left child with which a join of the set may have a word from the bound on. A left child's
+/// number is that of its key, and 1.
+pub fn first_left(set: u32, kind: JoinKind, bound: u64) -> u64
     requires { set < 1024 }
     ensures { (left right : KeyParts) → key_number left + 1 < result → IsInRange right →
         word_of (expr (KeyParts.Join set) (join_by kind left right)) < bound }
@@ -161,8 +162,8 @@ fn first_left(set: u32, kind: JoinKind, bound: u64) -> u64
     bound.saturating_sub(least) >> 13
 }
 
-// The expression, if its word isn't below the bound.
-fn word_from(bound: u64, group: KeyParts, operator: Operator) -> Option<Expr>
+/// The expression, if its word isn't below the bound.
+pub fn word_from(bound: u64, group: KeyParts, operator: Operator) -> Option<Expr>
     requires { IsPacked (expr group operator) }
     ensures { FindsFrom (λ e. e ≡ expr group operator) bound result }
 {
@@ -181,8 +182,8 @@ fn sooner(a: Option<Expr>, b: Option<Expr>) -> Option<Expr>
     }
 }
 
-// The least word after this one, if a word of 64 bits comes after it.
-fn bound_after(before: Option<Expr>) -> Option<u64>
+/// The least word after this one, if a word of 64 bits comes after it.
+pub fn bound_after(before: Option<Expr>) -> Option<u64>
     ensures { MatchOption result
         ((w : ℕ) → w < 2 ^ 64 → IsAfter before w → ⊥)
         (λ bound. (w : ℕ) → (bound ≤ w) ↔ IsAfter before w) }

@@ -6,3 +6,7 @@ pub mod Known
 pub mod Ordered
 pub mod Orders
 pub mod Ranges
+pub mod SideLemmas
+pub mod LeftRanges
+pub mod KindOrder
+pub mod CandidateLists

@@ -2,6 +2,8 @@ pub mod Listing
 pub mod Requests
 pub mod Found
 pub mod Groups
+pub mod Candidates
+pub mod Joins
 pub mod Lying
 pub mod Numbered
 pub mod Fitting

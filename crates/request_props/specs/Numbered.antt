@@ -11,6 +11,7 @@ use Rattle.query_core.specs.declared.options.RootDist.TheVariants.{One, Spread}
 use Rattle.request_props.specs.Listing.{listing_of}
 use Rattle.request_props.specs.Found.{ascending, elements_of, wanted_order, found_lists, found_orders}
 use Rattle.request_props.specs.Groups.{AreKeys, AreGroupRows}
+use Rattle.request_props.specs.Candidates.{AreCandidates}
 use Rattle.request_props.specs.Lying.{items_of, AreTablesOf}
 use Rattle.request_props.specs.declared.given.GivenDist.{GivenDist}
 use Rattle.request_props.specs.declared.given.GivenDist.TheVariants as given
@@ -131,6 +132,7 @@ pub record IsProps (q : Query) (props : Props) : Type 0 where
   pub root_request : IsRoot q props.root
   pub known_keys : AreKeys q props.keys
   pub known_rows : AreGroupRows q props.rows
+  pub known_candidates : AreCandidates q props.candidates
   pub known_equalities : props.equalities ≡ map (equality_of q) q.preds
   pub known_placings : props.placings ≡ map (λ table. dist_by q table.hashed) q.tables
   pub known_grouped : props.grouped ≡ map (are_grouped q) (lists_of q)

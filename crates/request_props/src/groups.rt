@@ -1,14 +1,14 @@
 //! The groups of a query by the numbers of their keys.
 #![tactic(auto)]
 
-ghost use Rattle.std.specs.Prelude.{◌≡◌, ◌<◌, ◌≤◌, IfOk};
-ghost use Rattle.query_core.specs.Keys.{Names};
+ghost use Rattle.std.specs.Prelude.{◌≡◌, ◌<◌, ◌≤◌, ◌↔◌, IfOk, IsTrue};
+ghost use Rattle.query_core.specs.Keys.{IsKey, Names};
 ghost use Rattle.query_core.specs.declared.words.KeyParts.{KeyParts};
 ghost use Rattle.cardinality.specs.Rows.{rows_of};
 ghost use Rattle.request_props.specs.Groups.{AreKeys, AreGroupRows, key_of};
 
 use cardinality::rows;
-use query_core::{KEYS, Key, Query};
+use query_core::{KEYS, Key, Query, groups_are_known};
 use std::alloc::{AllocError, Global};
 
 /// Whether each number is that of a key of the query.
@@ -20,6 +20,16 @@ pub fn query_keys(alloc: Global, query: &Query) -> Result<Vec<bool>, AllocError>
         keys.push(query.is_key(Key(number)))?;
     }
     Ok(keys)
+}
+
+/// Whether the key is one of the query's, by the list of these.
+pub fn is_key(query: &Query, keys: &[bool], key: Key) -> bool
+    requires { AreKeys query.now keys.now }
+    ensures { IsTrue result ↔ IsKey query.now key }
+{
+    // For the proof: no key of a query has a number from the limit on.
+    groups_are_known();
+    key.0 < KEYS && keys[key.0 as usize]
 }
 
 /// The estimated rows of each group, by the key's number.

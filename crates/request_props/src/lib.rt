@@ -2,6 +2,7 @@
 //! is met.
 #![tactic(auto)]
 
+mod candidates;
 mod classes;
 mod fault;
 mod found;

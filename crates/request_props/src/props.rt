@@ -12,6 +12,7 @@ ghost use Rattle.request_props.specs.Numbered.{root_dist as dist_of_root};
 mod fitting;
 mod lookups;
 
+use crate::candidates::group_candidates;
 use crate::fault::PropsFault;
 use crate::found::{found_lists, found_orders, wanted_order};
 use crate::given::GivenDist;
@@ -40,6 +41,8 @@ pub struct Props {
     keys: List<bool>,
     /// The estimated rows of each group, by the number of its key.
     rows: List<u64>,
+    /// The words of the expressions that each group can hold, ascending, by the number of its key.
+    candidates: List<List<u64>>,
     /// For each predicate both its sides, where it is an equality of two items.
     equalities: List<Option<Equality>>,
     /// Where the rows of each table lie.
@@ -65,6 +68,7 @@ impl Props {
         let root = root_request(alloc, query, orders.as_slice())?;
         let keys = query_keys(alloc, query)?;
         let rows = group_rows(alloc, query, keys.as_slice())?;
+        let candidates = group_candidates(alloc, query, keys.as_slice())?;
         let equalities = equalities(alloc, query, hashed.as_slice(), orders.as_slice())?;
         let placings = placings(alloc, query, hashed.as_slice())?;
         let grouped = grouped(alloc, query, hashed.as_slice())?;
@@ -78,6 +82,7 @@ impl Props {
             root,
             keys: List::of(keys),
             rows: List::of(rows),
+            candidates: List::of(candidates),
             equalities: List::of(equalities),
             placings: List::of(placings),
             grouped: List::of(grouped),

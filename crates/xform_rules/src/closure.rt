@@ -1,7 +1,7 @@
 //! The words of the members of a query's groups.
 #![tactic(auto)]
 
-ghost use Rattle.std.specs.Prelude.{ℕ, List, ◌≡◌, ◌<◌, ◌≤◌, ◌^◌, length, slice_index};
+ghost use Rattle.std.specs.Prelude.{ℕ, List, ◌≡◌, ◌<◌, ◌^◌};
 ghost use Rattle.std.specs.List.{All, Contains};
 ghost use Rattle.std.specs.List.Sorted.{IsStrictlyIncreasing};
 ghost use Rattle.query_core.specs.declared.query.Query.{Query};
@@ -11,7 +11,7 @@ ghost use Rattle.query_core.specs.Expressions.{word_of, origin_of, IsPacked, IsC
 ghost use Rattle.xform_rules.specs.Closure.{IsMember, IsClosureOf, AreMembersOf};
 
 use crate::laws::members_are_candidates;
-use query_core::{Key, KeyParts, Query, candidates_are_known, expressions_are_one};
+use query_core::{Key, KeyParts, Query, candidates_are_known, count_below, expressions_are_one};
 
 /// The words of the members of one group, among those of all members.
 pub fn members_of<'a>(query: &Query, words: &'a [u64], group: KeyParts) -> &'a [u64]
@@ -38,19 +38,8 @@ pub fn words_of(words: &[u64], group: KeyParts) -> &[u64]
     // For the proof: the words of a group stand together.
     expressions_are_one();
     let key = Key::make(group);
-    let from = &words[below(words, key.first_word())..];
-    &from[..below(from, Key(key.0 + 1).first_word())]
-}
-
-/// How many of the words are below the bound.
-fn below(words: &[u64], bound: u64) -> usize
-    requires { IsStrictlyIncreasing words.now }
-    ensures few { result ≤ length words.now }
-    ensures before { (k : ℕ) → k < result → slice_index words.now k < bound }
-    ensures after { (k : ℕ) → result ≤ k → k < length words.now →
-        bound ≤ slice_index words.now k }
-{
-    words.partition_point(|word| *word < bound)
+    let from = &words[count_below(words, key.first_word())..];
+    &from[..count_below(from, Key(key.0 + 1).first_word())]
 }
 
 /// What is known of members and of their words.

@@ -1,20 +1,23 @@
 //! What a query implies, looked up. No call here takes memory.
 #![tactic(auto)]
 
-ghost use Rattle.std.specs.Prelude.{◌≡◌, ◌≤◌, ◌↔◌, IsTrue, None, slice_get};
+ghost use Rattle.std.specs.Prelude.{◌≡◌, ◌≤◌, ◌↔◌, IsTrue, MatchOption, None, slice_get};
 ghost use Rattle.std.specs.Option.{option_map, option_map_or};
+ghost use Rattle.query_core.specs.Candidates.{IsNext, IsLast};
 ghost use Rattle.query_core.specs.Crossing.{crossing_of, sides_of};
 ghost use Rattle.query_core.specs.Keys.{IsGroup, IsKey, Names};
 ghost use Rattle.query_core.specs.declared.words.KeyParts.{KeyParts as Group};
 ghost use Rattle.cardinality.specs.Rows.{rows_of};
+ghost use Rattle.request_props.specs.Candidates.{AreCandidatesOf};
 ghost use Rattle.request_props.specs.Numbered.{IsProps, side_of, both_sides, equality_of};
 ghost use Rattle.request_props.specs.Numbered.{table_dist as dist_of_table, group_order as order_of_groups};
 ghost use Rattle.request_props.specs.Numbered.{is_grouped_list as is_list_grouped};
 
 use crate::given::GivenDist;
+use crate::groups::is_key;
 use crate::props::Props;
 use crate::sides::{Equality, Side};
-use query_core::{KEYS, Key, KeyParts, Query, groups_are_known};
+use query_core::{Expr, KEYS, Key, KeyParts, Query, bound_after, count_below, groups_are_known};
 
 impl Props {
     /// Whether the key names a group that this query can have.
@@ -22,8 +25,28 @@ impl Props {
         requires { IsProps query.now self.now }
         ensures { IsTrue result ↔ IsKey query.now key }
     {
+        is_key(query, self.keys.as_slice(), key)
+    }
+
+    /// The same as `Query::next_candidate`, by a look into the words that the group can hold.
+    pub fn next_candidate(&self, query: &Query, group: KeyParts, after: Option<Expr>) -> Option<Expr>
+        requires props { IsProps query.now self.now }
+        requires group { IsGroup query.now group }
+        ensures { MatchOption result (IsLast query.now group after) (λ next. IsNext query.now group after next.0) }
+    {
+        // For the proof: the words of an expression have 64 bits.
         groups_are_known();
-        key.0 < KEYS && self.keys.as_slice()[key.0 as usize]
+        next_among(query, self.candidates_of(query, group), group, after)
+    }
+
+    /// The words of the expressions that the group can hold, ascending.
+    pub fn candidates_of(&self, query: &Query, group: KeyParts) -> &[u64]
+        requires props { IsProps query.now self.now }
+        requires group { IsGroup query.now group }
+        ensures { AreCandidatesOf query.now group result.now }
+    {
+        groups_are_known();
+        self.candidates.as_slice()[Key::make(group).0 as usize].as_slice()
     }
 
     /// The estimated rows of the group that the key names; 0 where the query has no such group.
@@ -109,6 +132,18 @@ impl Props {
         ensures { result ≡ order_of_groups query.now }
     {
         self.by_groups
+    }
+}
+
+// The first of the group's words after this one.
+fn next_among(query: &Query, words: &[u64], group: KeyParts, after: Option<Expr>) -> Option<Expr>
+    requires { AreCandidatesOf query.now group words.now }
+    ensures { MatchOption result (IsLast query.now group after) (λ next. IsNext query.now group after next.0) }
+{
+    let bound = bound_after(after)?;
+    match words.get(count_below(words, bound)) {
+        Some(word) => Some(Expr(*word)),
+        None => None,
     }
 }
 

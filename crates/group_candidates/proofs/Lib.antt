@@ -1,3 +1,0 @@
-mod SideLemmas
-mod LeftRanges
-mod KindOrder

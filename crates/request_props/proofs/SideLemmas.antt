@@ -1,0 +1,68 @@
+-- Laws of the sides of a join: a left child has one set of tables, and with it one right child.
+use Rattle.std.proofs.Common.{◌≡◌, ℕ, ◌+◌, ◌-◌, ◌<◌, ◌≤◌, ◌^◌, Some, None, length, refl, ap, sym, subst, ◌∙◌, arith}
+use Rattle.std.specs.Prelude.{◌==◌, bit_or}
+use Rattle.std.specs.Int.{trailing_zeros, w32}
+use Rattle.std.proofs.Math.Nat.{pow-le-pow_right}
+use Rattle.std.proofs.lemmas.Bool.{cond_both, eqb-true}
+use Rattle.std.proofs.lemmas.Nat.{le_or_l, le_or_r}
+use Rattle.query_core.specs.Sets.{bit, only_of}
+use Rattle.query_core.specs.Keys.{key_number, IsInRange, tables_of, top_of}
+use Rattle.query_core.specs.Expressions.{FallsInto}
+use Rattle.query_core.specs.declared.query.Query.{Query}
+use Rattle.query_core.specs.declared.words.KeyParts.{KeyParts}
+use Rattle.query_core.proofs.Splitting.{tables_top, number_top, right_one, rest_disjoint, left_within}
+use Rattle.request_props.specs.Joins.{IsSide, HasSides, AreSides}
+
+-- a set of the query's tables is one of the first ten tables
+pub of_tables_small : (q : Query) (tables : ℕ) → tables < 2 ^ length q.tables → tables < 1024
+of_tables_small q tables of_tables =
+    let few : 2 ^ length q.tables ≤ 2 ^ 10 = pow-le-pow_right (omega arith) q.tables_valid.few in
+    omega (arith, of_tables, few)
+
+some_one : (t u : ℕ) → Some t ≡ Some u → t ≡ u
+some_one t u same = cc
+
+some_none : (t : ℕ) → Some t ≡ None → ⊥
+some_none t same = cc
+
+-- a set with one table alone is that table's
+pub only_table : (tables t : ℕ) → Some t ≡ only_of tables → tables ≡ 2 ^ t
+only_table tables t is =
+    let least = trailing_zeros w32 tables in
+    cond_both (tables == 2 ^ least) (Some least) None (λ o. Some t ≡ o → tables ≡ 2 ^ t)
+    (λ same found. eqb-true tables (2 ^ least) same ∙ ap (λ x. 2 ^ x) (sym (some_one t least found)))
+    (λ differs found. absurd (some_none t found))
+    is
+
+module _ (q : Query) (set left : ℕ) (group : KeyParts) (tables others : ℕ) (small : set < 1024) (in_range : IsInRange group) (number : key_number group + 1 ≡ left) (joined : tables ≡ tables_of group) (rest : (t : ℕ) → bit others t ≡ bit set t - bit tables t) where
+  -- sides with a left child of this number are these tables and the others, and the group joins these
+  pub own_sides : HasSides q set left → FallsInto q set tables others × (group ≡ top_of q tables)
+  own_sides (a, b, falls, is) =
+      let named : group ≡ top_of q a = number_top q a (key_number group) group in_range refl (omega (arith, left_within q set a b falls, small)) (omega (arith, is, number)) in
+      let own : a ≡ tables = sym (joined ∙ (ap tables_of named ∙ tables_top q a)) in
+      let first : FallsInto q set tables b = subst (λ x. FallsInto q set x b) own falls in
+      let second : b ≡ others = right_one q set tables b others first rest in
+      (subst (FallsInto q set tables) second first, named ∙ ap (top_of q) own)
+
+  -- where both are sides and make the set, it falls into them
+  pub sides_found : (first second : KeyParts) → bit_or tables others ≡ set → IsSide q tables → IsSide q others → first ≡ top_of q tables → first ≡ group
+      → second ≡ top_of q others → AreSides q set left first second
+  sides_found first second whole one other is same second_is = (
+    tables,
+    others,
+    record {
+      whole = whole;
+      disjoint = rest_disjoint set tables others rest;
+      left = one.1;
+      right = other.1;
+      some_left = one.0;
+      some_right = other.0;
+    },
+    is,
+    second_is,
+    ap (λ g. key_number g + 1) (sym is ∙ same) ∙ number,
+  )
+
+-- each of two sets has its tables in their union
+pub union_of_tables : (set tables others count : ℕ) → bit_or tables others ≡ set → set < count → (tables < count) × (others < count)
+union_of_tables set tables others count whole of_tables = (omega (arith, le_or_l tables others, whole, of_tables), omega (arith, le_or_r tables others, whole, of_tables))
