@@ -29,7 +29,12 @@ impl Props {
     }
 
     /// The same as `Query::next_candidate`, by a look into the words that the group can hold.
-    pub fn next_candidate(&self, query: &Query, group: KeyParts, after: Option<Expr>) -> Option<Expr>
+    pub fn next_candidate(
+        &self,
+        query: &Query,
+        group: KeyParts,
+        after: Option<Expr>,
+    ) -> Option<Expr>
         requires props { IsProps query.now self.now }
         requires group { IsGroup query.now group }
         ensures { MatchOption result (IsLast query.now group after) (λ next. IsNext query.now group after next.0) }
@@ -47,6 +52,15 @@ impl Props {
     {
         groups_are_known();
         self.candidates.as_slice()[Key::make(group).0 as usize].as_slice()
+    }
+
+    /// How many expressions the groups can hold together.
+    pub fn candidate_count(&self) -> usize {
+        let mut count = 0usize;
+        for words in self.candidates.as_slice() {
+            count = count.saturating_add(words.len());
+        }
+        count
     }
 
     /// The estimated rows of the group that the key names; 0 where the query has no such group.
