@@ -5,6 +5,7 @@ mod engine;
 mod jobs;
 mod note;
 mod runs;
+mod searches;
 #[cfg(test)]
 mod tests;
 
@@ -14,3 +15,4 @@ pub use job_scheduler::{Stepped, Worker};
 pub use jobs::QueryJobs;
 pub use note::RunNote;
 pub use runs::{run_alone, run_crew};
+pub use searches::{search_alone, search_by_crew};

@@ -5,7 +5,7 @@ ghost use Rattle.job_engine.specs.Runs.{RunEnds, IsNoted};
 ghost use Rattle.command_line.specs.Options.{AreChoices};
 
 use command_line::Choices;
-use job_engine::{Engine, Outcome, RunNote, run_alone, run_crew};
+use job_engine::{Outcome, RunNote};
 use orca_io::Gate;
 use query_core::Query;
 use request_props::Props;
@@ -38,8 +38,7 @@ pub fn search_alone(
     ensures noted { IfOk result
         (λ outcome. IsNoted choices.capacity choices.workers outcome note.new) }
 {
-    let (engine, worker) = Engine::start(alloc, query, props, choices.capacity)?;
-    run_alone(alloc, engine, worker, note)
+    job_engine::search_alone(alloc, query, props, choices.capacity, note)
 }
 
 /// Searches by the workers that the command chooses.
@@ -58,6 +57,14 @@ pub fn search_by_crew<R: Threads + Wait + Sync, G: Gate>(
     ensures noted { IfOk result
         (λ outcome. IsNoted choices.capacity choices.workers outcome note.new) }
 {
-    let (engine, worker) = Engine::start(alloc, query, props, choices.capacity)?;
-    run_crew(rt, alloc, engine, worker, choices.workers, gate, note)
+    job_engine::search_by_crew(
+        rt,
+        alloc,
+        query,
+        props,
+        choices.capacity,
+        choices.workers,
+        gate,
+        note,
+    )
 }

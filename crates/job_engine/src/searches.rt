@@ -1,0 +1,175 @@
+//! Searches of a query from beginning to end. What a board costs is mostly the touching of its memory, so a search
+//! begins on one with as many cells as a query like this usually needs, and is made again on one of the whole capacity
+//! where that was too small.
+#![tactic(auto)]
+
+ghost use Rattle.std.specs.Prelude.{◌≡◌, ◌≤◌, ◌×◌, ◌^◌, IfOk, IfSome, OnErr, None};
+ghost use Rattle.request_props.specs.Numbered.{IsProps};
+ghost use Rattle.job_engine.specs.Runs.{RunEnds, IsNoted};
+
+use crate::engine::Engine;
+use crate::note::RunNote;
+use crate::runs::{run_alone, run_crew};
+use job_outcome::Outcome;
+use orca_io::Gate;
+use query_core::Query;
+use request_props::Props;
+use std::alloc::{AllocError, Global};
+use std::sync::Wait;
+use std::thread::Threads;
+
+// Searches of few tables have some 6 entries for each expression that their groups can hold, and one more for each 10
+// of their lists and orders.
+const ENTRIES_FOR_EACH: usize = 8;
+const NUMBERED_FOR_ONE_MORE: usize = 8;
+
+// A board has at least so many cells more.
+const LEAST_ROOM: usize = 64;
+
+/// Searches by one worker on a board of at most `cap` cells. It returns.
+pub fn search_alone(
+    alloc: Global,
+    query: &Query,
+    props: &Props,
+    cap: u32,
+    note: &mut RunNote,
+) -> Result<Outcome, AllocError>
+    requires props { IsProps query.now props.now }
+    requires capacity { (1 ≤ cap) × (cap ≤ 2 ^ 20) }
+    ensures ends { IfOk result (RunEnds query.now cap 1) }
+    ensures noted { IfOk result (λ outcome. IsNoted cap 1 outcome note.new) }
+    ensures err { OnErr result (note.new ≡ note.old) }
+{
+    let room = usual_room(props, cap);
+    if room < cap {
+        if let Some(done) = try_alone(alloc, query, props, room, cap, note)? {
+            return Ok(done);
+        }
+    }
+    let (engine, worker) = Engine::start(alloc, query, props, cap)?;
+    run_alone(alloc, engine, worker, note)
+}
+
+/// Searches by n workers on a board of at most `cap` cells, each worker in a thread of its own, which passes the gate
+/// before each of its steps. It may wait.
+pub fn search_by_crew<W: Threads + Wait + Sync, G: Gate>(
+    rt: &W,
+    alloc: Global,
+    query: &Query,
+    props: &Props,
+    cap: u32,
+    n: u32,
+    gate: &G,
+    note: &mut RunNote,
+) -> Result<Outcome, AllocError>
+    requires props { IsProps query.now props.now }
+    requires capacity { (1 ≤ cap) × (cap ≤ 2 ^ 20) }
+    requires workers { (1 ≤ n) × (n ≤ 64) }
+    ensures ends { IfOk result (RunEnds query.now cap n) }
+    ensures noted { IfOk result (λ outcome. IsNoted cap n outcome note.new) }
+    ensures err { OnErr result (note.new ≡ note.old) }
+{
+    let room = usual_room(props, cap);
+    if room < cap {
+        if let Some(done) = try_crew(rt, alloc, query, props, room, cap, n, gate, note)? {
+            return Ok(done);
+        }
+    }
+    let (engine, worker) = Engine::start(alloc, query, props, cap)?;
+    run_crew(rt, alloc, engine, worker, n, gate, note)
+}
+
+// How many cells a search of such a query usually needs at the most.
+fn usual_room(props: &Props, cap: u32) -> u32
+    requires { 1 ≤ cap }
+    ensures { (1 ≤ result) × (result ≤ cap) }
+{
+    let numbered = props.hashed.len().saturating_add(props.orders.len());
+    let entries = ENTRIES_FOR_EACH + numbered / NUMBERED_FOR_ONE_MORE;
+    let usual = props
+        .candidate_count()
+        .saturating_mul(entries)
+        .saturating_add(LEAST_ROOM);
+    if usual < cap as usize { usual as u32 } else { cap }
+}
+
+// Searches by one worker on a board with fewer cells than the capacity. None where these were too few.
+fn try_alone(
+    alloc: Global,
+    query: &Query,
+    props: &Props,
+    room: u32,
+    cap: u32,
+    note: &mut RunNote,
+) -> Result<Option<Outcome>, AllocError>
+    requires props { IsProps query.now props.now }
+    requires capacity { (1 ≤ room) × (room ≤ cap) × (cap ≤ 2 ^ 20) }
+    ensures ends { IfOk result (λ tried. IfSome tried (RunEnds query.now cap 1)) }
+    ensures noted { IfOk result (λ tried. IfSome tried (λ outcome. IsNoted cap 1 outcome note.new)) }
+    ensures none { IfOk result (λ tried. tried ≡ None → note.new ≡ note.old) }
+    ensures err { OnErr result (note.new ≡ note.old) }
+{
+    let (engine, worker) = Engine::start(alloc, query, props, room)?;
+    let outcome = run_alone(alloc, engine, worker, &mut RunNote::new())?;
+    Ok(done_within(query, outcome, room, cap, 1, note))
+}
+
+// The same by n workers.
+fn try_crew<W: Threads + Wait + Sync, G: Gate>(
+    rt: &W,
+    alloc: Global,
+    query: &Query,
+    props: &Props,
+    room: u32,
+    cap: u32,
+    n: u32,
+    gate: &G,
+    note: &mut RunNote,
+) -> Result<Option<Outcome>, AllocError>
+    requires props { IsProps query.now props.now }
+    requires capacity { (1 ≤ room) × (room ≤ cap) × (cap ≤ 2 ^ 20) }
+    requires workers { (1 ≤ n) × (n ≤ 64) }
+    ensures ends { IfOk result (λ tried. IfSome tried (RunEnds query.now cap n)) }
+    ensures noted { IfOk result (λ tried. IfSome tried (λ outcome. IsNoted cap n outcome note.new)) }
+    ensures none { IfOk result (λ tried. tried ≡ None → note.new ≡ note.old) }
+    ensures err { OnErr result (note.new ≡ note.old) }
+{
+    let (engine, worker) = Engine::start(alloc, query, props, room)?;
+    let outcome = run_crew(rt, alloc, engine, worker, n, gate, &mut RunNote::new())?;
+    Ok(done_within(query, outcome, room, cap, n, note))
+}
+
+// What a run on a board of so many cells gave, if all goals are finished: that is what one of the capacity gives.
+fn done_within(
+    _query: &Query,
+    outcome: Outcome,
+    _room: u32,
+    cap: u32,
+    n: u32,
+    note: &mut RunNote,
+) -> Option<Outcome>
+    requires ended { RunEnds _query.now _room n outcome }
+    requires capacity { (_room ≤ cap) × (cap ≤ 2 ^ 20) }
+    ensures ends { IfSome result (RunEnds _query.now cap n) }
+    ensures noted { IfSome result (λ outcome. IsNoted cap n outcome note.new) }
+    ensures none { result ≡ None → note.new ≡ note.old }
+{
+    match outcome {
+        Outcome::Done {
+            members,
+            goals,
+            answers,
+            who,
+        } => {
+            note.filled = Some((cap, n, goals.len() as u32));
+            Some(Outcome::Done {
+                members,
+                goals,
+                answers,
+                who,
+            })
+        }
+        Outcome::Full { cap: _ } => None,
+        Outcome::Unfinished { ready: _ } => None,
+    }
+}
