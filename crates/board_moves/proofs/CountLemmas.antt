@@ -1,5 +1,6 @@
 -- Numbers of places: where what holds changes at one place alone, or at none.
 use Rattle.std.proofs.Common.{◌≡◌, ◌≢◌, ℕ, zero, suc, ◌+◌, ◌*◌, ◌<◌, ◌≤◌, ◌==◌, Bool, true, false, not, ◌&&◌, cond, List, length, slice_set, eq-eqb, ne_eqb, ap, sym, refl, ◌∙◌, arith, get_or-set_other, get_or-set_same, nat_le, ◌^◌}
+use Rattle.std.proofs.lemmas.Bool.{and_right}
 use mathlib.Core.Logic.{dite}
 use native.Mathlib.Decide.{ℕ_discrete}
 use Rattle.board_rule.specs.Meaning.{Meaning}
@@ -73,7 +74,7 @@ claim_counts meaning room at kept near long some_goal is_goal is_ready =
     ap (λ b. (not b && meaning.goal (m.cell at)) && (m.run at == 0)) (ne_eqb (m.cell at) 0 some_goal)
     ∙ (ap (λ b. b && (m.run at == 0)) is_goal ∙ eq-eqb (m.run at) 0 is_ready) in
     let busy : (after.run at == 0) ≡ false = ne_eqb (after.run at) 0 (λ e. let here = run_here kept at 256 room near long in omega arith) in
-    let now : has_ready meaning after at ≡ false = and_false (not (after.cell at == 0) && meaning.goal (after.cell at)) (after.run at == 0) busy in
+    let now : has_ready meaning after at ≡ false = and_right (not (after.cell at == 0) && meaning.goal (after.cell at)) (after.run at == 0) busy in
     let others : (k : ℕ) → k < room → k ≢ at → has_ready meaning after k ≡ has_ready meaning m k =
     λ k below apart. ap (λ (t : ℕ × ℕ). (not (t.0 == 0) && meaning.goal t.0) && (t.1 == 0)) (λ i. (cell_kept kept at 256 k i, run_kept kept at 256 k apart i)) in
     let one = one_changed (has_ready meaning m) (has_ready meaning after) room at near others in
@@ -84,7 +85,3 @@ claim_counts meaning room at kept near long some_goal is_goal is_ready =
       same_empty = number_same (has_empty m) (has_empty after) room (λ k below. ap (λ c. c == 0) (cell_kept kept at 256 k));
       same_open = number_same (has_open m) (has_open after) room (λ k below. ap (λ h. not (nat_le (2 ^ 63) h)) (head_kept kept at 256 k));
     }
-  where
-    and_false : (a b : Bool) → b ≡ false → (a && b) ≡ false
-    and_false true b e = e
-    and_false false b e = refl

@@ -1,6 +1,6 @@
 -- What the turn of a goal leaves to do for a seat that is alone.
 use Rattle.std.proofs.Common.{◌≡◌, ◌≢◌, ℕ, ◌+◌, ◌*◌, ◌<◌, ◌≤◌, ◌==◌, ◌^◌, nat_le, Bool, true, false, not, ◌&&◌, List, length, length-set, set, get_or-set_other, get_or-set_same, Some, ne_eqb, refl, sym, ap, subst, ◌∙◌, ⊎_elim, inl, arith}
-use Rattle.std.proofs.lemmas.Bool.{lt-leb}
+use Rattle.std.proofs.lemmas.Bool.{and_right, lt-leb}
 use Rattle.board_rule.specs.Meaning.{Meaning}
 use Rattle.board_rule.specs.Words.{mem, cell_word, run_word, head_word, cost_word, node_word, who_word}
 use Rattle.board_rule.specs.Waiters.{cleared}
@@ -17,10 +17,6 @@ use Rattle.board_moves.specs.declared.progress.Turned.{Turned}
 use Rattle.board_moves.specs.declared.progress.Turned.TheVariants as turned
 use Rattle.board_moves.proofs.CountLemmas.{one_if, number_same, one_changed}
 use Rattle.board_moves.proofs.Going.{empties_same}
-
-and_false : (a b : Bool) → b ≡ false → (a && b) ≡ false
-and_false true b e = e
-and_false false b e = refl
 
 -- heads that were neither closed nor opened are as open as before
 opens_same : (room : ℕ) (before after : List ℕ) → ((p : ℕ) → nat_le (2 ^ 63) ((mem after).head p) ≡ nat_le (2 ^ 63) ((mem before).head p)) → open_count room after ≡ open_count room before
@@ -65,7 +61,7 @@ module _ (meaning : Meaning) (room place more_waits : ℕ) (before middle : List
       let shorter = g.same_length in
       let here : (mem after).run place ≡ x = get_or-set_same middle (run_word place) x 0 (omega (arith, near, long, shorter)) in
       let busy : has_ready meaning (mem after) place ≡ false =
-      and_false (not ((mem after).cell place == 0) && meaning.goal ((mem after).cell place)) ((mem after).run place == 0) (ne_eqb ((mem after).run place) 0 (λ e. some (sym here ∙ e))) in
+      and_right (not ((mem after).cell place == 0) && meaning.goal ((mem after).cell place)) ((mem after).run place == 0) (ne_eqb ((mem after).run place) 0 (λ e. some (sym here ∙ e))) in
       let q_here : one_if (has_ready meaning (mem after) place) ≡ 0 = ap one_if busy in
       waits (omega (arith, opens, opens_first)) (omega (arith, empties, as_many)) (omega (arith, one, q_here)))
       (λ (fewer : empty_count room middle < empty_count room before). fills (omega (arith, opens, opens_first)) (omega (arith, empties, fewer)))

@@ -2,7 +2,7 @@
 use Rattle.std.proofs.Common.{◌≡◌, All, ℕ, ◌≤◌, true, List, [], ◌∷◌, ◌++◌, length, map, codes, Option, Ok, refl, subst}
 use Rattle.std.specs.Str.{bytes_eq}
 use Rattle.std.specs.Cmp.Lexicographic.{nat_list_eq_equiv}
-use Rattle.std.proofs.lemmas.Bool.{leb-true}
+use Rattle.std.proofs.lemmas.Bool.{leb-true, and_parts}
 use Rattle.std.proofs.lemmas.List.{map_push}
 use Rattle.std.proofs.lemmas.List.Elements.{All-nil, All-push}
 use Rattle.query_core.specs.declared.catalog.ColumnInfo.{ColumnInfo}
@@ -14,13 +14,12 @@ use Rattle.query_core.specs.Differ.{all_differ}
 use Rattle.query_core.specs.Catalog.{IsColumn}
 use Rattle.catalog_json.specs.Walk.{◌>>=◌, column_at, columns_at, each, list_at, new_name_at, number_at, object_at}
 use Rattle.query_core.proofs.Apart.{differ_push}
-use Rattle.orca_base.proofs.Truths.{both_true}
 use Rattle.orca_base.proofs.Checked.{bind_ok, done, each_counts, ok_is}
 use Rattle.catalog_json.proofs.Steps.{all_keep, list_kept, new_name_kept, number_kept}
 
 -- a number up to its limit
 pub below : (most n : ℕ) → within 0 most n ≡ true → n ≤ most
-below most n e = leb-true n most (both_true _ _ e).1
+below most n e = leb-true n most (and_parts _ _ e).1
 
 -- columns as those of a table, as far as they are read
 pub record AreColumns (columns : List ColumnInfo) : Type 0 where

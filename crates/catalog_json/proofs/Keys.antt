@@ -3,10 +3,10 @@ use Rattle.std.proofs.Common.{◌≡◌, ℕ, suc, ◌+◌, ◌++◌, not, true,
 use Rattle.std.specs.List.{list_any, prefix_len}
 use Rattle.std.specs.Map.{keys_of, lookup}
 use Rattle.std.specs.Str.{bytes_eq}
+use Rattle.std.proofs.lemmas.Bool.{or_parts}
 use Rattle.query_core.specs.declared.catalog.ColumnInfo.{ColumnInfo}
 use Rattle.indexmap.specs.IndexMap.{insert_entry}
 use Rattle.catalog_json.specs.Columns.{column_of, names_of}
-use Rattle.catalog_json.proofs.Truths.{neither}
 
 pub any_shown : (name : List ℕ) (keys : List (String Global)) → list_any (λ k. bytes_eq name (string_bytes k)) keys ≡ list_any (bytes_eq name) (map string_bytes keys)
 any_shown name [] = refl
@@ -28,7 +28,7 @@ any_or false n rest later e = e
 pub goes_last : (es : Entries) (name : String Global) (ndv : ℕ) → list_any (bytes_eq (string_bytes name)) (names es) ≡ false → map column_of (insert_entry string_eq es name ndv) ≡ map column_of es ++ column_of (name, ndv) ∷ []
 goes_last [] name ndv fresh = refl
 goes_last (e ∷ es) name ndv fresh =
-    let other = neither (bytes_eq (string_bytes name) (string_bytes e.0)) (list_any (bytes_eq (string_bytes name)) (names es)) fresh in
+    let other = or_parts (bytes_eq (string_bytes name) (string_bytes e.0)) (list_any (bytes_eq (string_bytes name)) (names es)) fresh in
     rw other.0 (ap (λ (cs : List ColumnInfo). column_of e ∷ cs) (goes_last es name ndv other.1))
 
 -- a name has a value where it is among the names

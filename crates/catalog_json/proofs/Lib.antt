@@ -8,4 +8,3 @@ pub mod Members
 pub mod Steps
 pub mod TablesKept
 pub mod Told
-pub mod Truths

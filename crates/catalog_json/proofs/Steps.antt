@@ -1,10 +1,12 @@
 -- What a reading without a fault says of its parts.
 use Rattle.std.proofs.Common.{◌≡◌, ◌==◌, ℕ, ◌≤◌, IfOk, map, Bool, true, false, cond, List, [], ◌∷◌, ◌++◌, length, position, nat_lt, Option, Some, None, option_map, option_and_then, Ok, Err, refl, arith}
-use Rattle.std.specs.List.{list_all, list_any, position_or_len}
-use Rattle.orca_base.proofs.Checked.{bind_ok, each_counts, each_keeps, met, not_met}
+use Rattle.std.specs.List.{list_any}
+use Rattle.orca_base.proofs.Checked.{all_pass, bind_ok, each_counts, each_keeps, met, not_met}
+use Rattle.std.proofs.lemmas.Bool.{lt-ltb}
 use Rattle.std.specs.Str.{bytes_eq}
 use Rattle.serde_json.specs.Data.{Data}
 use Rattle.std.proofs.lemmas.List.{length-map}
+use Rattle.std.proofs.lemmas.List.Quantifiers.{position-Some}
 use Rattle.serde_json.specs.Find.{as_str, as_array}
 use Rattle.serde_json.specs.View.{view}
 use Rattle.serde_json.specs.declared.value.Value.{Value}
@@ -45,12 +47,8 @@ list_kept least most at found ds e = length_kept least most at (option_map eleme
 
 -- ---- places of columns
 
-some_below : (b : Bool) (n i : ℕ) → cond b (Some n) None ≡ Some i → (b ≡ true) × (n ≡ i)
-some_below true n i e = (refl, cc)
-some_below false n i e = absurd cc
-
 place_known : (test : List ℕ → Bool) (names : List (List ℕ)) (i : ℕ) → position test names ≡ Some i → nat_lt i (length names) ≡ true
-place_known test names i e = let found = some_below (nat_lt (position_or_len test names) (length names)) (position_or_len test names) i e in rw (← found.1) found.0
+place_known test names i e = lt-ltb i (length names) (position-Some test names i [] e).0
 
 new_place_kept : (at : Place) (before : List ℕ) (found : Option ℕ) (i : ℕ) → new_place at before found ≡ Ok i → (found ≡ Some i) × (list_any (λ p. p == i) before ≡ false)
 new_place_kept at before None i e = absurd cc
@@ -60,10 +58,6 @@ pub listed_kept : (at : Place) (before : List ℕ) (test : List ℕ → Bool) (n
 listed_kept at before test names i e = let new = new_place_kept at before (position test names) i e in (place_known test names i new.0, new.1)
 
 -- ---- elements
-
-all_pass : {X : Type 0} (xs : List X) → list_all (λ x. true) xs ≡ true
-all_pass [] = refl
-all_pass (x ∷ xs) = all_pass xs
 
 module _ {A : Type 0} (read : List A → Data → Reading A) where
   -- no more are read than there are

@@ -1,6 +1,6 @@
 -- The text of a catalogue says the catalogue.
 use Rattle.std.proofs.Common.{◌≡◌, ℕ, suc, ◌^◌, ◌<◌, ◌≤◌, List, [], ◌∷◌, map, length, Some, None, Ok, Err, option_and_then, nat_le, nat_lt, IsUtf8, cond, false, refl, sym, ap, ◌∙◌, arith, append-nil}
-use Rattle.std.proofs.lemmas.Bool.{leb-true, le-ltb}
+use Rattle.std.proofs.lemmas.Bool.{leb-true, le-ltb, and_parts}
 use Rattle.std.specs.List.{All}
 use Rattle.std.specs.Str.{is_utf8}
 use Rattle.std.proofs.lemmas.Str.{is_utf8-from_IsUtf8}
@@ -12,7 +12,6 @@ use Rattle.json.specs.Tree.{json_tokens, depth, items_depth, members_depth}
 use Rattle.json.proofs.Printed.Trees.{value-json_tokens}
 use Rattle.serde_json.specs.Data.{Data}
 use Rattle.serde_json.specs.Read.{of_json, read, max_depth}
-use Rattle.orca_base.proofs.Truths.{both_true}
 use Rattle.query_core.specs.declared.catalog.ColumnInfo.{ColumnInfo}
 use Rattle.query_core.specs.declared.catalog.Placing.{Placing}
 use Rattle.query_core.specs.declared.catalog.Placing.TheVariants.{Hashed, Random}
@@ -59,6 +58,6 @@ value_read text j e within =
 pub read_back : (text : List ℕ) (c : Catalog) → IsCatalog c → tokens text ≡ json_tokens (catalog_json c) → IsUtf8 text → length text ≤ most_bytes → reading_of text ≡ Ok c
 unfolding reading_of
 read_back text c h e utf8 short =
-    let few : c.segments < 2 ^ 64 = let most : c.segments ≤ 1000 = leb-true c.segments 1000 (both_true (nat_le 1 c.segments) (nat_le c.segments 1000) h.segment_count).1 in omega arith in
+    let few : c.segments < 2 ^ 64 = let most : c.segments ≤ 1000 = leb-true c.segments 1000 (and_parts (nat_le 1 c.segments) (nat_le c.segments 1000) h.segment_count).1 in omega arith in
     let value = value_read text (catalog_json c) e (catalog_within c) ∙ catalog_value c h few in
     rw (le-ltb most_bytes (length text) short, is_utf8-from_IsUtf8 text utf8, value, catalog_read c h) refl

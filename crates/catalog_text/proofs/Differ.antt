@@ -1,32 +1,19 @@
 -- Elements that differ, and the places of names that do.
 use Rattle.std.proofs.Common.{◌≡◌, ℕ, zero, suc, ◌+◌, ◌<◌, ◌==◌, Bool, true, false, not, cond, ◌||◌, List, [], ◌∷◌, ◌++◌, length, get_or, nat_lt, Option, Some, None, position, refl, sym, ap, ◌∙◌, arith}
-use Rattle.std.proofs.lemmas.Bool.{lt-ltb}
+use Rattle.std.proofs.lemmas.Bool.{and_parts, lt-ltb, not-true, or_parts}
 use Rattle.std.specs.Bool.{Decides}
 use Rattle.std.specs.List.{list_any, prefix_len}
 use Rattle.std.specs.Str.{bytes_eq}
 use Rattle.std.proofs.lemmas.Bool.Decides.{Decides-eqb, same_from_decides}
 use Rattle.std.proofs.lemmas.Slice.Eq.{bytes_eq-Decides}
-use Rattle.orca_base.proofs.Truths.{both_true}
 use Rattle.query_core.specs.Differ.{all_differ}
-
-neither : (a b : Bool) → (a || b) ≡ false → (a ≡ false) × (b ≡ false)
-neither true b e = absurd cc
-neither false b e = (refl, e)
-
-was_false : (a : Bool) → not a ≡ true → a ≡ false
-was_false true e = absurd cc
-was_false false e = refl
-
--- where none passes, the one in the middle doesn't
-middle : {A : Type 0} (test : A → Bool) (before : List A) (a : A) (after : List A) → list_any test (before ++ a ∷ after) ≡ false → test a ≡ false
-middle test [] a after e = (neither (test a) _ e).0
-middle test (b ∷ before) a after e = middle test before a after (neither (test b) _ e).1
+use Rattle.query_core.proofs.Apart.{new_after}
 
 -- where none passes, the one at a place doesn't
 at_place : {A : Type 0} (test : A → Bool) (xs : List A) (i : ℕ) (d : A) → list_any test xs ≡ false → i < length xs → test (get_or xs i d) ≡ false
 at_place test [] i d e within = absurd (omega arith)
-at_place test (x ∷ xs) zero d e within = (neither (test x) _ e).0
-at_place test (x ∷ xs) (suc i) d e within = at_place test xs i d (neither (test x) _ e).1 (omega arith)
+at_place test (x ∷ xs) zero d e within = (or_parts (test x) _ e).0
+at_place test (x ∷ xs) (suc i) d e within = at_place test xs i d (or_parts (test x) _ e).1 (omega arith)
 
 module _ {A : Type 0} (same : A → A → Bool) (decides : (x y : A) → Decides (same x y) (x ≡ y)) where
   turned : (x y : A) → same x y ≡ same y x
@@ -34,10 +21,7 @@ module _ {A : Type 0} (same : A → A → Bool) (decides : (x y : A) → Decides
 
   -- where no two are the same, the one in the middle is none of those before it
   none_before : (before : List A) (a : A) (after : List A) → all_differ same (before ++ a ∷ after) ≡ true → list_any (same a) before ≡ false
-  none_before [] a after e = refl
-  none_before (b ∷ before) a after e =
-      let parts = both_true (not (list_any (same b) (before ++ a ∷ after))) _ e in
-      rw (turned a b, middle (same b) before a after (was_false _ parts.0), none_before before a after parts.1) refl
+  none_before = new_after same turned
 
 -- a text among texts that differ is none of those before it
 pub new_text : (before : List (List ℕ)) (text : List ℕ) (after : List (List ℕ)) → all_differ bytes_eq (before ++ text ∷ after) ≡ true → list_any (bytes_eq text) before ≡ false
@@ -53,8 +37,8 @@ others_before : (names : List (List ℕ)) (i : ℕ) → all_differ bytes_eq name
 others_before [] i differ within = absurd (omega arith)
 others_before (name ∷ names) zero differ within = rw ((bytes_eq-Decides name name).1 refl) refl
 others_before (name ∷ names) (suc i) differ within =
-    let parts = both_true (not (list_any (bytes_eq name) names)) _ differ in
-    let other = at_place (bytes_eq name) names i [] (was_false _ parts.0) (omega arith) in
+    let parts = and_parts (not (list_any (bytes_eq name) names)) _ differ in
+    let other = at_place (bytes_eq name) names i [] (not-true _ parts.0) (omega arith) in
     let rest = others_before names i parts.1 (omega arith) in
     rw (turned bytes_eq bytes_eq-Decides (get_or names i []) name, other) (omega (arith, rest))
 

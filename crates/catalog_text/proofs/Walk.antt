@@ -1,13 +1,12 @@
 -- The walk over the value of a catalogue gives the catalogue.
 use Rattle.std.proofs.Common.{◌≡◌, ℕ, suc, ◌==◌, ◌<◌, ◌≤◌, Bool, true, false, List, [], ◌∷◌, ◌++◌, map, length, get_or, codes, Some, Ok, nat_lt, nat_le, refl, sym, ap, subst, ◌∙◌, arith, None}
-use Rattle.std.proofs.lemmas.Bool.{le-leb, ltb-true}
+use Rattle.std.proofs.lemmas.Bool.{le-leb, ltb-true, and_from}
 use Rattle.std.specs.List.{All, list_any, list_all}
 use Rattle.std.specs.Str.{bytes_eq}
 use Rattle.std.proofs.lemmas.List.{get_or-map, length-map, map-append}
 use Rattle.std.proofs.lemmas.List.Sums.{AllPass-from_list_all}
 use Rattle.serde_json.specs.Data.{Data, string, number, unsigned}
 use Rattle.serde_json.specs.View.{items_of}
-use Rattle.orca_base.proofs.Truths.{both}
 use Rattle.query_core.specs.declared.catalog.ColumnInfo.{ColumnInfo}
 use Rattle.query_core.specs.declared.catalog.Placing.{Placing}
 use Rattle.query_core.specs.declared.catalog.Placing.TheVariants.{Hashed, Random}
@@ -29,7 +28,7 @@ use Rattle.catalog_text.proofs.Values.{list_data, column_data, places_data, plac
 -- ---- numbers, names and lists
 
 at_most : (n most : ℕ) → n ≤ most → within 0 most n ≡ true
-at_most n most h = both (nat_le 0 n) (nat_le n most) (le-leb 0 n (omega arith)) (le-leb n most h)
+at_most n most h = and_from (nat_le 0 n) (nat_le n most) (le-leb 0 n (omega arith)) (le-leb n most h)
 
 number_read : (least most n : ℕ) (at : Place) → within least most n ≡ true → number_at least most at (Some (number (unsigned n))) ≡ Ok n
 number_read least most n at h = rw h refl

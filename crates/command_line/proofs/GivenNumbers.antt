@@ -1,8 +1,8 @@
 -- Numbers that are given once, and the set of their bits.
 use Rattle.std.proofs.Common.{◌≡◌, ℕ, ◌&&◌, ◌||◌, ◌↔◌, Bool, true, false, not, List, [], ◌∷◌, ◌++◌, map, nat_eq, refl, sym, ap, ◌∙◌, arith, inl, inr}
 use Rattle.std.specs.List.{list_any}
-use Rattle.std.proofs.Math.Bool.{and-false}
-use Rattle.std.proofs.lemmas.Bool.{cases_eq, false≢true}
+use Rattle.std.proofs.Math.Bool.{and-false, or-false, or-true}
+use Rattle.std.proofs.lemmas.Bool.{and_parts, cases_eq, false_from_ne_true, false≢true}
 use Rattle.std.proofs.lemmas.Bool.Decides.{nat_tests}
 use Rattle.std.proofs.lemmas.List.{map-append}
 use Rattle.std.proofs.lemmas.List.Folds.{list_any-append}
@@ -10,22 +10,6 @@ use Rattle.std.proofs.lemmas.Nat.Bits.{bit_at-zero}
 use Rattle.query_core.specs.Differ.{numbers_differ}
 use Rattle.query_core.specs.Sets.{bit, Has, Adds}
 use Rattle.command_line.specs.Drafts.{AreBits}
-
--- what a test gives beside another
-or_true : (b : Bool) → (b || true) ≡ true
-or_true true = refl
-or_true false = refl
-
-or_left : (b : Bool) → b ≡ true → (b || false) ≡ true
-or_left b is = rw is refl
-
-left_of : (b : Bool) → (b || false) ≡ true → b ≡ true
-left_of true is = refl
-left_of false is = is
-
-not_there : (b : Bool) → (b ≡ true → ⊥) → b ≡ false
-not_there true never = absurd (never refl)
-not_there false never = refl
 
 -- a number that comes again makes a list in which something comes twice
 twice : (n : ℕ) (front back : List ℕ) → list_any (nat_eq n) front ≡ true → numbers_differ (front ++ n ∷ back) ≡ false
@@ -40,7 +24,7 @@ twice n (x ∷ front) back here =
     ]
   where
     again : (x n : ℕ) (back front : List ℕ) → n ≡ x → (list_any (nat_eq x) front || list_any (nat_eq x) (n ∷ back)) ≡ true
-    again x n back front same = let yes : nat_eq x n ≡ true = grind (arith, nat_tests) in rw yes (or_true (list_any (nat_eq x) front))
+    again x n back front same = let yes : nat_eq x n ≡ true = grind (arith, nat_tests) in rw yes (or-true (list_any (nat_eq x) front))
 
 -- a number that is new may be put behind numbers that differ
 one_behind : (n : ℕ) (front : List ℕ) → list_any (nat_eq n) front ≡ false → numbers_differ front ≡ true → numbers_differ (front ++ n ∷ []) ≡ true
@@ -52,16 +36,11 @@ one_behind n (x ∷ front) new apart =
           let no : nat_eq n x ≡ false = grind (arith, nat_tests) in
           let no_again : nat_eq x n ≡ false = grind (arith, nat_tests) in
           let rest : list_any (nat_eq n) front ≡ false = rw no at new in
-          let parts = both (not (list_any (nat_eq x) front)) (numbers_differ front) apart in
+          let parts = and_parts (not (list_any (nat_eq x) front)) (numbers_differ front) apart in
           let whole : list_any (nat_eq x) (front ++ n ∷ []) ≡ (list_any (nat_eq x) front || false) = list_any-append (nat_eq x) front (n ∷ []) ∙ ap (λ b. list_any (nat_eq x) front || b) (rw no_again refl) in
           rw whole (joined (list_any (nat_eq x) front) (numbers_differ (front ++ n ∷ [])) parts.0 (one_behind n front rest parts.1))
     ]
   where
-    both : (a b : Bool) → (a && b) ≡ true → (a ≡ true) × (b ≡ true)
-    both true true is = (refl, refl)
-    both true false is = absurd (false≢true is)
-    both false b is = absurd (false≢true is)
-
     joined : (a b : Bool) → not a ≡ true → b ≡ true → (not (a || false) && b) ≡ true
     joined true b absent there = absurd (false≢true absent)
     joined false b absent there = there
@@ -85,18 +64,18 @@ module _ {T : Type 0} (number : T → ℕ) (before : List T) (one : T) (set : �
   has_more : (new : ℕ) → Adds set (number one) new → (m : ℕ) → Has new m ↔ (list_any (nat_eq m) (map number (before ++ one ∷ [])) ≡ true)
   has_more new adds m =
       rw (numbers [], list_any-append) (elim (cases_eq m (number one)) [
-        | inl same ↦ let yes : nat_eq m (number one) ≡ true = grind (arith, nat_tests) in (λ has. rw yes (or_true (list_any (nat_eq m) (map number before))), λ here. rw same adds.this)
+        | inl same ↦ let yes : nat_eq m (number one) ≡ true = grind (arith, nat_tests) in (λ has. rw yes (or-true (list_any (nat_eq m) (map number before))), λ here. rw same adds.this)
         | inr other ↦
             let no : nat_eq m (number one) ≡ false = grind (arith, nat_tests) in
             let old : bit new m ≡ bit set m = adds.others m other in
-            (λ has. rw no (or_left _ ((are.has m).0 (sym old ∙ has))), λ here. old ∙ (are.has m).1 (left_of _ (rw no at here)))
+            (λ has. rw no (or-false _ ∙ (are.has m).0 (sym old ∙ has)), λ here. old ∙ (are.has m).1 (sym (or-false _) ∙ rw no at here))
       ])
 
   -- a new number behind the others
   pub more_bits : (new : ℕ) → (Has set (number one) → ⊥) → Adds set (number one) new → AreBits (map number (before ++ one ∷ [])) new
   more_bits new fresh adds = record {
     has = has_more new adds;
-    once = rw (numbers []) (one_behind (number one) (map number before) (not_there (list_any (nat_eq (number one)) (map number before)) (λ there. fresh ((are.has (number one)).1 there))) are.once);
+    once = rw (numbers []) (one_behind (number one) (map number before) (false_from_ne_true (list_any (nat_eq (number one)) (map number before)) (λ there. fresh ((are.has (number one)).1 there))) are.once);
   }
 
   -- a number that is there already comes twice

@@ -3,7 +3,7 @@ use Rattle.std.proofs.Common.{◌≡◌, ◌++◌, ◌∷◌, [], ◌+◌, Bool,
 use Rattle.std.proofs.Common.{subst, arith, length-append}
 use Rattle.std.specs.Prelude.{◌≢◌}
 use Rattle.std.specs.List.{list_all}
-use Rattle.orca_base.proofs.Truths.{both_true}
+use Rattle.std.proofs.lemmas.Bool.{and_parts}
 use Rattle.orca_base.specs.Checked.{◌>>=◌, seen, each}
 
 abbrev pub done : {E A : Type 0} → A → Result A E
@@ -34,6 +34,11 @@ module _ {E A B : Type 0} where
   seen_ok f (Ok x) y e = (x, refl, cc)
   seen_ok f (Err fault) y e = absurd cc
 
+-- each element passes a test that all do
+pub all_pass : {X : Type 0} (xs : List X) → list_all (λ x. true) xs ≡ true
+all_pass [] = refl
+all_pass (x ∷ xs) = all_pass xs
+
 module _ {E A X : Type 0} (part : List A → X → Result A E) where
   -- there are as many as elements were gone through
   more_counts : (before : List A) (xs : List X) (ys : List A) → each part before xs ≡ Ok ys
@@ -57,7 +62,7 @@ module _ {E A X : Type 0} (part : List A → X → Result A E) where
   each_keeps good P step before [] ys all p e = subst P (ok_is before ys e) p
   each_keeps good P step before (x ∷ xs) ys all p e =
       let made = bind_ok (part before x) (λ a. each part (before ++ a ∷ []) xs) ys e in
-      let parts = both_true (good x) (list_all good xs) all in
+      let parts = and_parts (good x) (list_all good xs) all in
       each_keeps good P step (before ++ made.0 ∷ []) xs ys parts.1 (step before x made.0 p parts.0 made.1) made.2
 
 -- ---- a part is told: it has a value, or a fault other than want of memory

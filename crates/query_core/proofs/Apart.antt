@@ -2,7 +2,7 @@
 use Rattle.std.proofs.Common.{◌≡◌, ◌∙◌, ℕ, Bool, true, false, not, ◌||◌, List, [], ◌∷◌, ◌++◌, map, bytes_eq, refl, sym, ap}
 use Rattle.std.specs.List.{list_any}
 use Rattle.std.proofs.lemmas.List.Folds.{list_any-append}
-use Rattle.orca_base.proofs.Truths.{both_true}
+use Rattle.std.proofs.lemmas.Bool.{and_parts, not-true, or_parts}
 use Rattle.query_core.specs.Differ.{all_differ, texts_differ}
 
 -- a test of what f makes of the elements
@@ -23,29 +23,21 @@ module _ {X : Type 0} (name : X → List ℕ) (x : X) (others all : List X) wher
 
 -- ---- one more at the end
 
-neither : (a b : Bool) → (a || b) ≡ false → (a ≡ false) × (b ≡ false)
-neither true b e = absurd cc
-neither false b e = (refl, e)
-
-was_false : (a : Bool) → not a ≡ true → a ≡ false
-was_false true e = absurd cc
-was_false false e = refl
-
 module _ {A : Type 0} (same : A → A → Bool) (turned : (x y : A) → same x y ≡ same y x) where
   -- x is none of the list, and so goes after it
   pub differ_push : (xs : List A) (x : A) → all_differ same xs ≡ true → list_any (same x) xs ≡ false → all_differ same (xs ++ x ∷ []) ≡ true
   differ_push [] x differ fresh = refl
   differ_push (y ∷ ys) x differ fresh =
-      let apart = both_true (not (list_any (same y) ys)) (all_differ same ys) differ in
-      let other = neither (same x y) (list_any (same x) ys) fresh in
-      let front : list_any (same y) (ys ++ x ∷ []) ≡ false = list_any-append (same y) ys (x ∷ []) ∙ rw (was_false (list_any (same y) ys) apart.0, turned y x, other.0) refl in
+      let apart = and_parts (not (list_any (same y) ys)) (all_differ same ys) differ in
+      let other = or_parts (same x y) (list_any (same x) ys) fresh in
+      let front : list_any (same y) (ys ++ x ∷ []) ≡ false = list_any-append (same y) ys (x ∷ []) ∙ rw (not-true (list_any (same y) ys) apart.0, turned y x, other.0) refl in
       rw front (differ_push ys x apart.1 other.1)
 
   -- an element is none of those before it
   pub new_after : (xs : List A) (x : A) (ys : List A) → all_differ same (xs ++ x ∷ ys) ≡ true → list_any (same x) xs ≡ false
   new_after [] x ys differ = refl
   new_after (z ∷ xs) x ys differ =
-      let parts = both_true (not (list_any (same z) (xs ++ x ∷ ys))) (all_differ same (xs ++ x ∷ ys)) differ in
-      let later = neither (list_any (same z) xs) (list_any (same z) (x ∷ ys)) (sym (list_any-append (same z) xs (x ∷ ys)) ∙ was_false (list_any (same z) (xs ++ x ∷ ys)) parts.0) in
-      let first = neither (same z x) (list_any (same z) ys) later.1 in
+      let parts = and_parts (not (list_any (same z) (xs ++ x ∷ ys))) (all_differ same (xs ++ x ∷ ys)) differ in
+      let later = or_parts (list_any (same z) xs) (list_any (same z) (x ∷ ys)) (sym (list_any-append (same z) xs (x ∷ ys)) ∙ not-true (list_any (same z) (xs ++ x ∷ ys)) parts.0) in
+      let first = or_parts (same z x) (list_any (same z) ys) later.1 in
       rw (turned x z, first.0) (new_after xs x ys parts.1)

@@ -7,7 +7,9 @@ use Rattle.std.proofs.lemmas.List.Sums.{sum_by-cons}
 use Rattle.std.proofs.lemmas.List.{append-nil}
 use Rattle.std.proofs.lemmas.List.Elements.{filter_map-append}
 use Rattle.std.proofs.lemmas.Grind.{flat_map-append}
-use Rattle.std.proofs.lemmas.Bool.{eq-eqb}
+use Rattle.std.proofs.lemmas.Bool.{eq-eqb, and_from, and_parts}
+use Rattle.std.proofs.Math.Bool.{and-true}
+use Rattle.sql_bind.proofs.Truths.{all_both, all_push}
 use Rattle.query_core.specs.Differ.{texts_differ}
 use Rattle.query_core.proofs.Apart.{differ_push}
 use Rattle.query_core.specs.Grouping.{takes_column}
@@ -27,7 +29,6 @@ use Rattle.sql_bind.specs.Columns.{column_of}
 use Rattle.sql_bind.specs.SelectList.{aggregates, any_called, call, call_in, chosen_in, chosen_of, function_of, is_aggregate, named_as, output_names, what_in}
 use Rattle.sql_bind.specs.Used.{in_what, named_by_chosen}
 use Rattle.sql_reader.specs.Readable.{has_its_argument, is_expr, is_item, is_named}
-use Rattle.sql_bind.proofs.Truths.{all_both, all_push, both, both_true}
 use Rattle.orca_base.proofs.Checked.{bind_ok, done, each_keeps, not_met, ok_is, seen_ok}
 use Rattle.sql_bind.proofs.Resolving.{column_there, has_column}
 
@@ -88,12 +89,12 @@ module _ (scope : List FromTable) (n : ℕ) where
       subst (IsWhat scope n) (what_is (call n (function_of func) None) what e) (record { there = refl; number = eq-eqb n n refl; argument = none_taken func takes })
   call_kept func (Some reference) what takes e =
       let bound = seen_ok (λ c. call n (function_of func) (Some c)) (column_of scope reference) what e in
-      subst (IsWhat scope n) bound.2 (record { there = both (has_column 0 scope bound.0) true (column_there scope reference bound.0 bound.1) refl; number = eq-eqb n n refl; argument = some_taken func reference takes })
+      subst (IsWhat scope n) bound.2 (record { there = and_from (has_column 0 scope bound.0) true (column_there scope reference bound.0 bound.1) refl; number = eq-eqb n n refl; argument = some_taken func reference takes })
 
   what_kept : (expr : SelExpr) (what : What) → is_expr expr ≡ true → what_in scope n expr ≡ Ok what → IsWhat scope n what
   what_kept (exprs.Column reference) what takes e =
       let bound = seen_ok (λ c. whats.Column reference.at c) (column_of scope reference) what e in
-      subst (IsWhat scope n) bound.2 (record { there = both (has_column 0 scope bound.0) true (column_there scope reference bound.0 bound.1) refl; number = refl; argument = refl })
+      subst (IsWhat scope n) bound.2 (record { there = and_from (has_column 0 scope bound.0) true (column_there scope reference bound.0 bound.1) refl; number = refl; argument = refl })
   what_kept (exprs.Agg func arg) what takes e = call_kept func arg what takes e
 
 -- ---- one element more
@@ -110,10 +111,6 @@ and_assoc : (a b c : Bool) → (a && (b && c)) ≡ ((a && b) && c)
 and_assoc true b c = refl
 and_assoc false b c = refl
 
-and_true : (a : Bool) → (a && true) ≡ a
-and_true true = refl
-and_true false = refl
-
 pub counted : (n : ℕ) (what : What) (m : ℕ) → next_number n what + m ≡ n + (cond (is_aggregate what) 1 0 + m)
 counted n (whats.Column at c) m = omega arith
 counted n (whats.Aggregate number func arg) m = omega arith
@@ -129,7 +126,7 @@ no_more : (n : ℕ) → n + 0 ≡ n
 no_more n = omega arith
 
 numbered_push : (n : ℕ) (cs : List Chosen) (x : Chosen) → numbered_from n (cs ++ x ∷ []) ≡ (numbered_from n cs && number_is (n + aggregates cs) x.what)
-numbered_push n [] x = and_true (number_is n x.what) ∙ ap (λ m. number_is m x.what) (sym (no_more n))
+numbered_push n [] x = and-true (number_is n x.what) ∙ ap (λ m. number_is m x.what) (sym (no_more n))
 numbered_push n (c ∷ cs) x =
     ap (λ b. number_is n c.what && b) (numbered_push (next_number n c.what) cs x)
     ∙ (ap (λ m. number_is n c.what && (numbered_from (next_number n c.what) cs && number_is m x.what)) (counted_on n c cs)
@@ -164,7 +161,7 @@ module _ (scope : List FromTable) (before : List Chosen) (so_far : AreChosen sco
 chosen_step : (scope : List FromTable) (before : List Chosen) (item : SelItem) (c : Chosen) → AreChosen scope before → is_item item ≡ true → chosen_in scope before item ≡ Ok c → AreChosen scope (before ++ c ∷ [])
 unfolding chosen_in
 chosen_step scope before item c so_far good e =
-    let parts = both_true (is_expr item.expr) (is_named item.name) good in
+    let parts = and_parts (is_expr item.expr) (is_named item.name) good in
     let bound = bind_ok (what_in scope (aggregates before) item.expr) (λ what. named_as before item.name_at item.name what) c e in
     named_kept scope before so_far item.name_at item.name bound.0 c parts.1 (what_kept scope (aggregates before) item.expr bound.0 parts.0 bound.1) bound.2
 

@@ -1,11 +1,10 @@
 -- What is kept of a list when only the first under each number is.
 use Rattle.std.proofs.Common.{◌≡◌, ◌∙◌, ℕ, suc, ◌≤◌, ◌||◌, ◌==◌, inl, inr, Bool, true, false, not, cond, List, [], ◌∷◌, length, map, filter, nat_eq, nat_le, refl, sym, ap, arith}
 use Rattle.std.specs.List.{list_all, list_any}
-use Rattle.std.proofs.lemmas.Bool.{eqb-true}
+use Rattle.std.proofs.lemmas.Bool.{eqb-true, and_from, and_parts, not-true, or_cases, or_left, or_parts, or_right}
 use Rattle.std.proofs.lemmas.Bool.Decides.{nat_tests}
 use Rattle.query_core.specs.Differ.{all_differ, numbers_differ}
 use Rattle.sql_bind.specs.Query.{distinct_by, itself}
-use Rattle.sql_bind.proofs.Truths.{both, both_true, either, left, neither, right, was_false}
 
 module _ {A : Type 0} (keep : A → Bool) where
   shorter_case : (x : A) (ys : List A) (n : ℕ) (b : Bool) → length ys ≤ n → length (cond b (x ∷ ys) ys) ≤ suc n
@@ -17,13 +16,13 @@ module _ {A : Type 0} (keep : A → Bool) where
   shorter (x ∷ xs) = shorter_case x (filter keep xs) (length xs) (keep x) (shorter xs)
 
   passes_case : (test : A → Bool) (x : A) (ys : List A) (b : Bool) → test x ≡ true → list_all test ys ≡ true → list_all test (cond b (x ∷ ys) ys) ≡ true
-  passes_case test x ys true one all = both (test x) (list_all test ys) one all
+  passes_case test x ys true one all = and_from (test x) (list_all test ys) one all
   passes_case test x ys false one all = all
 
   passes : (test : A → Bool) (xs : List A) → list_all test xs ≡ true → list_all test (filter keep xs) ≡ true
   passes test [] all = refl
   passes test (x ∷ xs) all =
-      let parts = both_true (test x) (list_all test xs) all in
+      let parts = and_parts (test x) (list_all test xs) all in
       passes_case test x (filter keep xs) (keep x) parts.0 (passes test xs parts.1)
 
   fresh_case : (test : A → Bool) (x : A) (ys : List A) (b : Bool) → test x ≡ false → list_any test ys ≡ false → list_any test (cond b (x ∷ ys) ys) ≡ false
@@ -42,8 +41,8 @@ module _ {A : Type 0} (number : A → ℕ) where
   unfolding distinct_by
   all_kept test [] all = refl
   all_kept test (x ∷ xs) all =
-      let parts = both_true (test x) (list_all test xs) all in
-      both (test x) (list_all test (filter (λ y. not (number y == number x)) (distinct_by number xs))) parts.0 (passes (λ y. not (number y == number x)) test (distinct_by number xs) (all_kept test xs parts.1))
+      let parts = and_parts (test x) (list_all test xs) all in
+      and_from (test x) (list_all test (filter (λ y. not (number y == number x)) (distinct_by number xs))) parts.0 (passes (λ y. not (number y == number x)) test (distinct_by number xs) (all_kept test xs parts.1))
 
   other_case : (x y : A) (ys : List A) (b : Bool) → (number y == number x) ≡ b → list_any (nat_eq (number x)) (map number ys) ≡ false → list_any (nat_eq (number x)) (map number (cond (not b) (y ∷ ys) ys)) ≡ false
   other_case x y ys true is none = none
@@ -60,7 +59,7 @@ module _ {A : Type 0} (number : A → ℕ) where
   still_none : (keep : A → Bool) (n : ℕ) (ys : List A) → list_any (nat_eq n) (map number ys) ≡ false → list_any (nat_eq n) (map number (filter keep ys)) ≡ false
   still_none keep n [] none = refl
   still_none keep n (y ∷ ys) none =
-      let parts = neither (nat_eq n (number y)) (list_any (nat_eq n) (map number ys)) none in
+      let parts = or_parts (nat_eq n (number y)) (list_any (nat_eq n) (map number ys)) none in
       still_case keep n y (filter keep ys) (keep y) parts.0 (still_none keep n ys parts.1)
 
   differ_case : (y : A) (ys : List A) (b : Bool) → list_any (nat_eq (number y)) (map number ys) ≡ false → numbers_differ (map number ys) ≡ true → numbers_differ (map number (cond b (y ∷ ys) ys)) ≡ true
@@ -70,8 +69,8 @@ module _ {A : Type 0} (number : A → ℕ) where
   still_differ : (keep : A → Bool) (ys : List A) → numbers_differ (map number ys) ≡ true → numbers_differ (map number (filter keep ys)) ≡ true
   still_differ keep [] differ = refl
   still_differ keep (y ∷ ys) differ =
-      let parts = both_true (not (list_any (nat_eq (number y)) (map number ys))) (all_differ nat_eq (map number ys)) differ in
-      differ_case y (filter keep ys) (keep y) (still_none keep (number y) ys (was_false _ parts.0)) (still_differ keep ys parts.1)
+      let parts = and_parts (not (list_any (nat_eq (number y)) (map number ys))) (all_differ nat_eq (map number ys)) differ in
+      differ_case y (filter keep ys) (keep y) (still_none keep (number y) ys (not-true _ parts.0)) (still_differ keep ys parts.1)
 
   -- no number comes twice
   pub no_twice : (xs : List A) → numbers_differ (map number (distinct_by number xs)) ≡ true
@@ -84,9 +83,9 @@ module _ {A : Type 0} (number : A → ℕ) where
       → list_any (λ z. number z == n) (cond (not b) (y ∷ filter (λ z. not (number z == number x)) ys) (filter (λ z. not (number z == number x)) ys)) ≡ true
   found_case n x y ys true is other found rest = let gone : (number y == n) ≡ false = rw (eqb-true (number y) (number x) is) other in rest (rw gone at found)
   found_case n x y ys false is other found rest =
-      elim (either (number y == n) (list_any (λ z. number z == n) ys) found) [
-        | inl first ↦ left (number y == n) _ first
-        | inr later ↦ right (number y == n) _ (rest later)
+      elim (or_cases (number y == n) (list_any (λ z. number z == n) ys) found) [
+        | inl first ↦ or_left (number y == n) _ first
+        | inr later ↦ or_right (number y == n) _ (rest later)
       ]
 
   still_found : (n : ℕ) (x : A) (ys : List A) → (number x == n) ≡ false → list_any (λ z. number z == n) ys ≡ true → list_any (λ z. number z == n) (filter (λ z. not (number z == number x)) ys) ≡ true

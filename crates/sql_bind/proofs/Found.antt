@@ -2,7 +2,7 @@
 use Rattle.std.proofs.Common.{◌≡◌, ◌≢◌, ◌∙◌, inl, inr, ℕ, suc, ◌+◌, ◌≤◌, ◌<◌, ◌==◌, Bool, true, false, not, cond, List, [], ◌∷◌, ◌++◌, length, nat_lt, slice_get, Option, Some, None, option_map, refl, sym, ap, subst, arith}
 use Rattle.std.specs.List.{list_all}
 use Rattle.std.specs.Option.{option_map_or}
-use Rattle.std.proofs.lemmas.Bool.{eqb-true, eq-eqb}
+use Rattle.std.proofs.lemmas.Bool.{eqb-true, eq-eqb, and_from, and_parts, not-true, or_cases}
 use Rattle.std.proofs.lemmas.Bool.Decides.{nat_tests, eqb_tells}
 use Rattle.std.proofs.lemmas.Option.{slice_get-map, slice_get_within}
 use Rattle.std.proofs.lemmas.List.{length-map}
@@ -14,7 +14,6 @@ use Rattle.sql_bind.specs.Columns.{column, is_among, is_same}
 use Rattle.sql_bind.specs.Used.{UsedColumn, used_from, used_in}
 use Rattle.sql_bind.specs.Numbers.{number_of}
 use Rattle.sql_bind.specs.Query.{item_of, items_of}
-use Rattle.sql_bind.proofs.Truths.{both, both_true, either, was_false}
 use Rattle.sql_bind.proofs.Resolving.{has_column}
 
 abbrev pub column_at : List UsedColumn → ℕ → Option Column
@@ -45,25 +44,25 @@ before_more us vs c at = record { here = at_left us vs c at.here }
 pub behind_all : (us vs : List UsedColumn) (c : Column) → list_all (λ u. not (is_same u.which c)) us ≡ true → IsAt vs c → IsAt (us ++ vs) c
 behind_all [] vs c others at = at
 behind_all (u ∷ us) vs c others at =
-    let parts = both_true (not (is_same u.which c)) (list_all (λ u. not (is_same u.which c)) us) others in
-    behind u (us ++ vs) c (was_false (is_same u.which c) parts.0) (behind_all us vs c parts.1 at)
+    let parts = and_parts (not (is_same u.which c)) (list_all (λ u. not (is_same u.which c)) us) others in
+    behind u (us ++ vs) c (not-true (is_same u.which c) parts.0) (behind_all us vs c parts.1 at)
 
 pub same_is : (c d : Column) → is_same c d ≡ true → c ≡ d
 same_is c d e =
-    let parts = both_true (c.table == d.table) (c.place == d.place) e in
+    let parts = and_parts (c.table == d.table) (c.place == d.place) e in
     let tables : c.table ≡ d.table = eqb-true c.table d.table parts.0 in
     let places : c.place ≡ d.place = eqb-true c.place d.place parts.1 in
     ap (λ t. column t c.place) tables ∙ ap (λ p. column d.table p) places
 
 pub is_itself : (c : Column) → is_same c c ≡ true
-is_itself c = both (c.table == c.table) (c.place == c.place) (eq-eqb c.table c.table refl) (eq-eqb c.place c.place refl)
+is_itself c = and_from (c.table == c.table) (c.place == c.place) (eq-eqb c.table c.table refl) (eq-eqb c.place c.place refl)
 
 -- what all pass, one of them passes
 pub there_is : (test : Column → Bool) (cs : List Column) (c : Column) → list_all test cs ≡ true → is_among cs c ≡ true → test c ≡ true
 there_is test [] c all among = absurd cc
 there_is test (d ∷ ds) c all among =
-    let parts = both_true (test d) (list_all test ds) all in
-    elim (either (is_same c d) (is_among ds c) among) [
+    let parts = and_parts (test d) (list_all test ds) all in
+    elim (or_cases (is_same c d) (is_among ds c) among) [
       | inl same ↦ rw (same_is c d same) parts.0
       | inr later ↦ there_is test ds c parts.1 later
     ]

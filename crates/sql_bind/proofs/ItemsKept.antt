@@ -7,6 +7,8 @@ use Rattle.std.proofs.lemmas.List.Folds.{list_any-append}
 use Rattle.std.proofs.lemmas.Bool.Decides.{nat_tests}
 use Rattle.orca_base.specs.Name.{has_name_form}
 use Rattle.std.proofs.lemmas.List.Elements.{recursion_from_All}
+use Rattle.std.proofs.lemmas.Bool.{and_from, and_parts, not-true, or_parts}
+use Rattle.sql_bind.proofs.Truths.{all_both}
 use Rattle.query_core.specs.Differ.{all_differ}
 use Rattle.query_core.specs.Items.{same_column}
 use Rattle.query_core.specs.declared.catalog.ColumnInfo.{ColumnInfo}
@@ -17,7 +19,6 @@ use Rattle.sql_bind.specs.Scope.{FromTable}
 use Rattle.sql_bind.specs.Columns.{column, is_among}
 use Rattle.sql_bind.specs.Used.{UsedColumn, used_from, used_in}
 use Rattle.sql_bind.specs.Query.{item_of, items_of}
-use Rattle.sql_bind.proofs.Truths.{all_both, both, both_true, neither, was_false}
 use Rattle.sql_bind.proofs.ScopeKept.{at_most}
 
 -- ---- what each used column has
@@ -28,15 +29,15 @@ all_map f test (x ∷ xs) = rw (all_map f test xs) refl
 
 module _ (wanted : List Column) (test : UsedColumn → Bool) where
   in_case : (u : UsedColumn) (rest : List UsedColumn) (b : Bool) → test u ≡ true → list_all test rest ≡ true → list_all test (cond b (u ∷ rest) rest) ≡ true
-  in_case u rest true one all = both (test u) (list_all test rest) one all
+  in_case u rest true one all = and_from (test u) (list_all test rest) one all
   in_case u rest false one all = all
 
   pub each_in : (table place : ℕ) (infos : List ColumnInfo) → ((p : ℕ) → list_all (λ info. test (record { which = column table p; info = info })) infos ≡ true) → list_all test (used_in wanted table place infos) ≡ true
   each_in table place [] all = refl
   each_in table place (info ∷ infos) all =
       in_case (record { which = column table place; info = info }) (used_in wanted table (place + 1) infos) (is_among wanted (column table place))
-      (both_true (test (record { which = column table place; info = info })) (list_all (λ i. test (record { which = column table place; info = i })) infos) (all place)).0
-      (each_in table (place + 1) infos (λ p. (both_true (test (record { which = column table p; info = info })) (list_all (λ i. test (record { which = column table p; info = i })) infos) (all p)).1))
+      (and_parts (test (record { which = column table place; info = info })) (list_all (λ i. test (record { which = column table place; info = i })) infos) (all place)).0
+      (each_in table (place + 1) infos (λ p. (and_parts (test (record { which = column table p; info = info })) (list_all (λ i. test (record { which = column table p; info = i })) infos) (all p)).1))
 
   -- what each column of the tables has, the used ones have
   pub each_used : (base : ℕ) (scope : List FromTable) (P : FromTable → Type 0) → ((table p : ℕ) (t : FromTable) → base ≤ table → table < base + length scope → P t → list_all (λ info. test (record { which = column table p; info = info })) t.info.columns ≡ true)
@@ -52,16 +53,16 @@ IsFromCatalogue t = IsTable t.info
 
 names_of_columns : (infos : List ColumnInfo) → AllByRecursion IsColumn infos → list_all (λ info. has_name_form info.name) infos ≡ true
 names_of_columns [] all = refl
-names_of_columns (info ∷ infos) all = both (has_name_form info.name) (list_all (λ i. has_name_form i.name) infos) (both_true (has_name_form info.name) (nat_le (length info.name) 64) all.0.named).0 (names_of_columns infos all.1)
+names_of_columns (info ∷ infos) all = and_from (has_name_form info.name) (list_all (λ i. has_name_form i.name) infos) (and_parts (has_name_form info.name) (nat_le (length info.name) 64) all.0.named).0 (names_of_columns infos all.1)
 
 values_of_columns : (infos : List ColumnInfo) → AllByRecursion IsColumn infos → list_all (λ info. nat_le info.ndv 1000000000000) infos ≡ true
 values_of_columns [] all = refl
-values_of_columns (info ∷ infos) all = both (nat_le info.ndv 1000000000000) (list_all (λ i. nat_le i.ndv 1000000000000) infos) (at_most info.ndv 1000000000000 all.0.values) (values_of_columns infos all.1)
+values_of_columns (info ∷ infos) all = and_from (nat_le info.ndv 1000000000000) (list_all (λ i. nat_le i.ndv 1000000000000) infos) (at_most info.ndv 1000000000000 all.0.values) (values_of_columns infos all.1)
 
 -- a test that doesn't look at the column
 pub constantly : (b : Bool) (infos : List ColumnInfo) → b ≡ true → list_all (λ info. b) infos ≡ true
 constantly b [] e = refl
-constantly b (info ∷ infos) e = both b (list_all (λ i. b) infos) e (constantly b infos e)
+constantly b (info ∷ infos) e = and_from b (list_all (λ i. b) infos) e (constantly b infos e)
 
 under : (a b : ℕ) → a < b → nat_lt a b ≡ true
 under a b lt = grind (arith, nat_tests)
@@ -92,7 +93,7 @@ all_above wanted base scope = each_used wanted (λ u. nat_le base u.which.table)
 apart_tables : (item : Item) (b : ℕ) (us : List UsedColumn) → item.table < b → list_all (λ u. nat_le b u.which.table) us ≡ true → list_any (same_column item) (items_of us) ≡ false
 apart_tables item b [] low all = refl
 apart_tables item b (u ∷ us) low all =
-    let parts = both_true (nat_le b u.which.table) (list_all (λ x. nat_le b x.which.table) us) all in
+    let parts = and_parts (nat_le b u.which.table) (list_all (λ x. nat_le b x.which.table) us) all in
     let other : (item.table == u.which.table) ≡ false = grind (arith, nat_tests) in
     rw other (apart_tables item b us low parts.1)
 
@@ -109,7 +110,7 @@ module _ (wanted : List Column) (table : ℕ) where
   fresh_in : (item : Item) (place : ℕ) (infos : List ColumnInfo) → list_any (bytes_eq item.name) (map (λ info. info.name) infos) ≡ false → list_any (same_column item) (items_of (used_in wanted table place infos)) ≡ false
   fresh_in item place [] fresh = refl
   fresh_in item place (info ∷ infos) fresh =
-      let parts = neither (bytes_eq item.name info.name) (list_any (bytes_eq item.name) (map (λ i. i.name) infos)) fresh in
+      let parts = or_parts (bytes_eq item.name info.name) (list_any (bytes_eq item.name) (map (λ i. i.name) infos)) fresh in
       fresh_case item (record { which = column table place; info = info }) (used_in wanted table (place + 1) infos) (is_among wanted (column table place)) parts.0 (fresh_in item (place + 1) infos parts.1)
 
   apart_case : (u : UsedColumn) (rest : List UsedColumn) (b : Bool) → list_any (same_column (item_of u)) (items_of rest) ≡ false → all_differ same_column (items_of rest) ≡ true
@@ -120,23 +121,23 @@ module _ (wanted : List Column) (table : ℕ) where
   apart_in : (place : ℕ) (infos : List ColumnInfo) → all_differ bytes_eq (map (λ info. info.name) infos) ≡ true → all_differ same_column (items_of (used_in wanted table place infos)) ≡ true
   apart_in place [] differ = refl
   apart_in place (info ∷ infos) differ =
-      let parts = both_true (not (list_any (bytes_eq info.name) (map (λ i. i.name) infos))) (all_differ bytes_eq (map (λ i. i.name) infos)) differ in
+      let parts = and_parts (not (list_any (bytes_eq info.name) (map (λ i. i.name) infos))) (all_differ bytes_eq (map (λ i. i.name) infos)) differ in
       let u : UsedColumn = record { which = column table place; info = info } in
-      apart_case u (used_in wanted table (place + 1) infos) (is_among wanted (column table place)) (fresh_in (item_of u) (place + 1) infos (was_false _ parts.0)) (apart_in (place + 1) infos parts.1)
+      apart_case u (used_in wanted table (place + 1) infos) (is_among wanted (column table place)) (fresh_in (item_of u) (place + 1) infos (not-true _ parts.0)) (apart_in (place + 1) infos parts.1)
 
 differ_both : {A : Type 0} (same : A → A → Bool) (xs ys : List A) → all_differ same xs ≡ true → all_differ same ys ≡ true → list_all (λ x. not (list_any (same x) ys)) xs ≡ true → all_differ same (xs ++ ys) ≡ true
 differ_both same [] ys these those cross = those
 differ_both same (x ∷ xs) ys these those cross =
-    let parts = both_true (not (list_any (same x) xs)) (all_differ same xs) these in
-    let others = both_true (not (list_any (same x) ys)) (list_all (λ z. not (list_any (same z) ys)) xs) cross in
-    let fresh : list_any (same x) (xs ++ ys) ≡ false = list_any-append (same x) xs ys ∙ rw (was_false _ parts.0, was_false _ others.0) refl in
+    let parts = and_parts (not (list_any (same x) xs)) (all_differ same xs) these in
+    let others = and_parts (not (list_any (same x) ys)) (list_all (λ z. not (list_any (same z) ys)) xs) cross in
+    let fresh : list_any (same x) (xs ++ ys) ≡ false = list_any-append (same x) xs ys ∙ rw (not-true _ parts.0, not-true _ others.0) refl in
     rw fresh (differ_both same xs ys parts.1 those others.1)
 
 cross_tables : (b : ℕ) (us vs : List UsedColumn) → list_all (λ u. nat_lt u.which.table b) us ≡ true → list_all (λ u. nat_le b u.which.table) vs ≡ true
     → list_all (λ item. not (list_any (same_column item) (items_of vs))) (items_of us) ≡ true
 cross_tables b [] vs low high = refl
 cross_tables b (u ∷ us) vs low high =
-    let parts = both_true (nat_lt u.which.table b) (list_all (λ x. nat_lt x.which.table b) us) low in
+    let parts = and_parts (nat_lt u.which.table b) (list_all (λ x. nat_lt x.which.table b) us) low in
     let less : u.which.table < b = grind (arith, nat_tests) in
     let fresh : list_any (same_column (item_of u)) (items_of vs) ≡ false = apart_tables (item_of u) b vs less high in
     rw fresh (cross_tables b us vs parts.1 high)

@@ -2,8 +2,9 @@
 use Rattle.std.proofs.Common.{◌≡◌, ◌∙◌, ℕ, suc, ◌≤◌, ◌+◌, ◌-◌, ◌||◌, ◌&&◌, ◌==◌, inl, inr, Bool, true, false, cond, List, [], ◌∷◌, ◌++◌, find, is_some, slice_get, option_map, option_to_list, Option, Some, None, Ok, refl, sym, subst, arith}
 use Rattle.std.specs.List.{list_all, list_any}
 use Rattle.std.specs.Option.{option_map_or}
-use Rattle.std.proofs.lemmas.Bool.{eqb-true, eq-eqb}
+use Rattle.std.proofs.lemmas.Bool.{eqb-true, eq-eqb, and_from, and_parts, or_cases, or_left, or_right}
 use Rattle.std.proofs.lemmas.List.Folds.{list_all-append}
+use Rattle.sql_bind.proofs.Truths.{all_push}
 use Rattle.query_core.specs.declared.aggregate.Agg.{Agg}
 use Rattle.sql_reader.specs.declared.syntax.ColRef.{ColRef}
 use Rattle.sql_reader.specs.declared.syntax.SelKey.{SelKey}
@@ -20,8 +21,7 @@ use Rattle.sql_bind.specs.SortKeys.{first_called, key_in, keys_of, meant_output,
 use Rattle.sql_bind.specs.Used.{UsedColumn, in_what, named_by_chosen}
 use Rattle.sql_bind.specs.Numbers.{number_of}
 use Rattle.sql_bind.specs.Query.{agg_as, aggs_of}
-use Rattle.sql_bind.proofs.Truths.{all_pass, all_push, both, both_true, either, left, right}
-use Rattle.orca_base.proofs.Checked.{each_keeps, ok_is, seen_ok}
+use Rattle.orca_base.proofs.Checked.{all_pass, each_keeps, ok_is, seen_ok}
 use Rattle.sql_bind.proofs.Resolving.{column_there, has_column}
 use Rattle.sql_bind.proofs.ChosenKept.{next_number, number_is, numbered_from}
 use Rattle.sql_bind.proofs.PredsKept.{aggs_cons}
@@ -48,7 +48,7 @@ module _ (scope : List FromTable) (name : List ℕ) where
   found_there : (chosen : List Chosen) (d : Chosen) → find (is_called name) chosen ≡ Some d → list_all (has_column 0 scope) (named_by_chosen chosen) ≡ true → list_all (has_column 0 scope) (in_what d.what) ≡ true
   found_there [] d e all = absurd cc
   found_there (c ∷ cs) d e all =
-      let parts = both_true (list_all (has_column 0 scope) (in_what c.what)) (list_all (has_column 0 scope) (named_by_chosen cs)) (sym (list_all-append (has_column 0 scope) (in_what c.what) (named_by_chosen cs)) ∙ all) in
+      let parts = and_parts (list_all (has_column 0 scope) (in_what c.what)) (list_all (has_column 0 scope) (named_by_chosen cs)) (sym (list_all-append (has_column 0 scope) (in_what c.what) (named_by_chosen cs)) ∙ all) in
       found_case c d (is_called name c) (find (is_called name) cs) (λ (x : Chosen). list_all (has_column 0 scope) (in_what x.what) ≡ true) e (λ called. parts.0) (λ later. found_there cs d later parts.1)
 
   called_some : (found : Option (List ℕ)) → has_name name found ≡ true → is_some found ≡ true
@@ -59,11 +59,11 @@ module _ (scope : List FromTable) (name : List ℕ) where
   found_named [] d n e is = absurd cc
   found_named (c ∷ cs) d n e is =
       found_case c d (is_called name c) (find (is_called name) cs) (λ (x : Chosen). is_number n x.what ≡ true → is_named_number (c ∷ cs) n ≡ true) e
-      (λ called numbered. left (is_some c.name && is_number n c.what) (is_named_number cs n) (both (is_some c.name) (is_number n c.what) (called_some c.name called) numbered))
-      (λ later numbered. right (is_some c.name && is_number n c.what) (is_named_number cs n) (found_named cs d n later numbered)) is
+      (λ called numbered. or_left (is_some c.name && is_number n c.what) (is_named_number cs n) (and_from (is_some c.name) (is_number n c.what) (called_some c.name called) numbered))
+      (λ later numbered. or_right (is_some c.name && is_number n c.what) (is_named_number cs n) (found_named cs d n later numbered)) is
 
   target_case : (chosen : List Chosen) (what : What) → list_all (has_column 0 scope) (in_what what) ≡ true → ((n : ℕ) → is_number n what ≡ true → is_named_number chosen n ≡ true) → is_target scope chosen (target_of what) ≡ true
-  target_case chosen (whats.Column at c) there named = (both_true (has_column 0 scope c) true there).0
+  target_case chosen (whats.Column at c) there named = (and_parts (has_column 0 scope c) true there).0
   target_case chosen (whats.Aggregate number func arg) there named = named number (eq-eqb number number refl)
 
   found_target : (chosen : List Chosen) (found : Option Chosen) (target : Target) → find (is_called name) chosen ≡ found → named_target found ≡ Some target → list_all (has_column 0 scope) (named_by_chosen chosen) ≡ true → is_target scope chosen target ≡ true
@@ -114,8 +114,8 @@ head_case base n number agg aggs true rest is other found later =
     let first : number ≡ base = eqb-true number base is in
     let same : number ≡ n = eqb-true number n other in
     let here : n - base ≡ 0 = omega (arith, first, same) in
-    elim (either (is_some agg.name && true) rest found) [
-      | inl named ↦ record { low = omega (arith, first, same); named = rw here (both_true (is_some agg.name) true named).0 }
+    elim (or_cases (is_some agg.name && true) rest found) [
+      | inl named ↦ record { low = omega (arith, first, same); named = rw here (and_parts (is_some agg.name) true named).0 }
       | inr tail ↦ absurd (omega (arith, (later tail).low, first, same))
     ]
 
@@ -128,7 +128,7 @@ module _ (used : List UsedColumn) where
   named_at : (base : ℕ) (chosen : List Chosen) (n : ℕ) → numbered_from base chosen ≡ true → is_named_number chosen n ≡ true → IsNamedAt (aggs_of used chosen) base n
   named_at base [] n numbered found = absurd cc
   named_at base (c ∷ cs) n numbered found =
-      let parts = both_true (number_is base c.what) (numbered_from (next_number base c.what) cs) numbered in
+      let parts = and_parts (number_is base c.what) (numbered_from (next_number base c.what) cs) numbered in
       rw (aggs_cons used c cs c.what refl) (named_case base n c (aggs_of used cs) (is_named_number cs n) c.what parts.0 found (λ later. named_at (next_number base c.what) cs n parts.1 later))
 
   -- the aggregate has a name

@@ -1,14 +1,15 @@
 -- The candidates of a reference are the columns that it can name, table by table.
 use Rattle.std.proofs.Common.{◌≡◌, ℕ, suc, ◌+◌, ◌-◌, ◌≤◌, ◌<◌, ◌==◌, ◌||◌, inl, inr, Bool, true, false, List, [], ◌∷◌, ◌++◌, nat_le, slice_get, Option, Some, None, option_map, option_to_list, refl, sym, ap, subst, arith}
 use Rattle.std.specs.List.{list_all}
-use Rattle.std.proofs.lemmas.Bool.{eqb-true}
+use Rattle.std.proofs.lemmas.Bool.{eqb-true, and_from, and_parts, or_cases}
 use Rattle.std.proofs.lemmas.Bool.Decides.{nat_tests}
+use Rattle.std.proofs.Math.Bool.{or-false}
+use Rattle.sql_bind.proofs.Truths.{all_both, all_weaker}
 use Rattle.sql_reader.specs.declared.syntax.ColRef.{ColRef}
 use Rattle.sql_bind.specs.declared.columns.Column.{Column}
 use Rattle.sql_bind.specs.Scope.{FromTable}
 use Rattle.sql_bind.specs.Columns.{candidates, column, column_of, is_among, is_same, only_one, place_in}
 use Rattle.sql_bind.specs.Meaning.{IsMeaning, Names}
-use Rattle.sql_bind.proofs.Truths.{all_both, all_weaker, both, both_true, either}
 use Rattle.sql_bind.proofs.Found.{same_is}
 use Rattle.sql_bind.proofs.ListsKept.{among_first, among_later, among_right}
 
@@ -50,7 +51,7 @@ module _ (reference : ColRef) where
       → (is_among (candidates reference (base + 1) ts) c ≡ true → NamesFrom reference (base + 1) ts c) → NamesFrom reference base (t ∷ ts) c
   sound_case base t ts None c is among rest = later_named base t ts c (rest among)
   sound_case base t ts (Some place) c is among rest =
-      elim (either (is_same c (column base place)) (is_among (candidates reference (base + 1) ts) c) among) [
+      elim (or_cases (is_same c (column base place)) (is_among (candidates reference (base + 1) ts) c) among) [
         | inl same ↦ subst (λ (d : Column). NamesFrom reference base (t ∷ ts) d) (sym (same_is c (column base place) same)) (first_named base t ts place is)
         | inr later ↦ later_named base t ts c (rest later)
       ]
@@ -84,7 +85,7 @@ module _ (reference : ColRef) where
   -- later candidates have later tables
   first_rises : (base : ℕ) (found : Option ℕ) → list_all (λ d. nat_le base d.table) (option_to_list (option_map (column base) found)) ≡ true
   first_rises base None = refl
-  first_rises base (Some place) = both (nat_le base base) true (itself base) refl
+  first_rises base (Some place) = and_from (nat_le base base) true (itself base) refl
 
   rises_from : (base : ℕ) (ts : List FromTable) → list_all (λ d. nat_le base d.table) (candidates reference base ts) ≡ true
   rises_from base [] = refl
@@ -97,16 +98,12 @@ module _ (reference : ColRef) where
   two_case base t ts None c d ds e high rest = rest e
   two_case base t ts (Some place) c d ds e high rest =
       let parts = heads (column base place) c (candidates reference (base + 1) ts) (d ∷ ds) e in
-      let second = both_true (nat_le (base + 1) d.table) (list_all (λ x. nat_le (base + 1) x.table) ds) (rw parts.1 at high) in
+      let second = and_parts (nat_le (base + 1) d.table) (list_all (λ x. nat_le (base + 1) x.table) ds) (rw parts.1 at high) in
       rw (← parts.0) (above base d.table second.0)
 
   two_apart : (base : ℕ) (ts : List FromTable) (c d : Column) (ds : List Column) → candidates reference base ts ≡ c ∷ d ∷ ds → c.table < d.table
   two_apart base [] c d ds e = absurd cc
   two_apart base (t ∷ ts) c d ds e = two_case base t ts (place_in reference t) c d ds e (rises_from (base + 1) ts) (λ later. two_apart (base + 1) ts c d ds later)
-
-only_first : (a : Bool) → (a || false) ≡ true → a ≡ true
-only_first true e = refl
-only_first false e = absurd cc
 
 module _ (scope : List FromTable) (reference : ColRef) where
   as_named : (c : Column) → is_among (candidates reference 0 scope) c ≡ true → Names scope reference c
@@ -121,7 +118,7 @@ module _ (scope : List FromTable) (reference : ColRef) where
       complete reference 0 scope c.table c.place names.table (omega arith) (rw same names.here) names.named
 
   alone_is : (c d : Column) → is_among (c ∷ []) d ≡ true → d ≡ c
-  alone_is c d among = same_is d c (only_first (is_same d c) among)
+  alone_is c d among = same_is d c (sym (or-false (is_same d c)) ∙ among)
 
   meaning_case : (cs : List Column) → candidates reference 0 scope ≡ cs → IsMeaning scope reference (only_one reference.at cs)
   meaning_case [] is = (refl, λ c names. absurd (let gone : is_among [] c ≡ true = rw is at (as_candidate c names) in cc))

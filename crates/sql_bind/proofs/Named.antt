@@ -2,6 +2,8 @@
 use Rattle.std.proofs.Common.{◌≡◌, ◌∙◌, ℕ, ◌≤◌, Bool, true, false, cond, List, [], ◌∷◌, ◌++◌, nat_lt, Ok, refl, sym, subst, arith}
 use Rattle.std.specs.List.{list_all}
 use Rattle.std.proofs.lemmas.Bool.Decides.{nat_tests}
+use Rattle.std.proofs.lemmas.Bool.{and_from, and_parts}
+use Rattle.sql_bind.proofs.Truths.{all_both, all_push}
 use Rattle.query_core.specs.declared.catalog.Catalog.{Catalog}
 use Rattle.sql_reader.specs.declared.syntax.Select.{Select}
 use Rattle.sql_reader.specs.declared.syntax.ColRef.{ColRef}
@@ -27,7 +29,6 @@ use Rattle.sql_bind.specs.SortKeys.{keys_of}
 use Rattle.sql_bind.specs.Parts.{parts_of}
 use Rattle.sql_bind.specs.Used.{in_compared, in_side, in_target, named_by_compared, named_by_keys}
 use Rattle.sql_bind.specs.Grouping.{first_of, is_grouped, item_count, judged, loose_places, none_loose, sized}
-use Rattle.sql_bind.proofs.Truths.{all_both, all_push, both, both_true}
 use Rattle.orca_base.proofs.Checked.{bind_ok, done, not_met, ok_is, seen_ok}
 use Rattle.sql_bind.proofs.Resolving.{has_column, column_there}
 use Rattle.sql_bind.proofs.KeysKept.{is_target}
@@ -90,13 +91,13 @@ judged_ok p q e = judged_case p q (is_grouped p) refl e
 pub compared_there : (scope : List FromTable) (compared : List Compared) → list_all (λ c. list_all (has_column 0 scope) (in_compared c)) compared ≡ true → list_all (has_column 0 scope) (named_by_compared compared) ≡ true
 compared_there scope [] all = refl
 compared_there scope (c ∷ cs) all =
-    let parts = both_true (list_all (has_column 0 scope) (in_compared c)) (list_all (λ x. list_all (has_column 0 scope) (in_compared x)) cs) all in
+    let parts = and_parts (list_all (has_column 0 scope) (in_compared c)) (list_all (λ x. list_all (has_column 0 scope) (in_compared x)) cs) all in
     all_both (has_column 0 scope) (in_compared c) (named_by_compared cs) parts.0 (compared_there scope cs parts.1)
 
 side_there : (scope : List FromTable) (operand : SelOperand) (side : Side) → side_in scope operand ≡ Ok side → list_all (has_column 0 scope) (in_side side) ≡ true
 side_there scope (operands.Column reference) side e =
     let bound = seen_ok (λ c. sides.Column c) (column_of scope reference) side e in
-    subst (λ (x : Side). list_all (has_column 0 scope) (in_side x) ≡ true) bound.2 (both (has_column 0 scope bound.0) true (column_there scope reference bound.0 bound.1) refl)
+    subst (λ (x : Side). list_all (has_column 0 scope) (in_side x) ≡ true) bound.2 (and_from (has_column 0 scope bound.0) true (column_there scope reference bound.0 bound.1) refl)
 side_there scope (operands.Int value) side e = subst (λ (x : Side). list_all (has_column 0 scope) (in_side x) ≡ true) (ok_is (sides.Int value) side e) refl
 side_there scope (operands.Str text) side e = subst (λ (x : Side). list_all (has_column 0 scope) (in_side x) ≡ true) (ok_is (sides.Str text) side e) refl
 
@@ -109,17 +110,17 @@ compared_step scope before pred c so_far good e =
     let whole : Compared = record { left = lefts.0; op = op_of pred.op; right = rights.0 } in
     all_push (λ (x : Compared). list_all (has_column 0 scope) (in_compared x)) before c so_far
     (subst (λ (x : Compared). list_all (has_column 0 scope) (in_compared x) ≡ true) (ok_is whole c rights.2)
-    (both (has_column 0 scope lefts.0) (list_all (has_column 0 scope) (in_side rights.0)) (column_there scope pred.left lefts.0 lefts.1) (side_there scope pred.right rights.0 rights.1)))
+    (and_from (has_column 0 scope lefts.0) (list_all (has_column 0 scope) (in_side rights.0)) (column_there scope pred.left lefts.0 lefts.1) (side_there scope pred.right rights.0 rights.1)))
 
 pub group_step : (scope : List FromTable) (before : List Column) (reference : ColRef) (c : Column) → list_all (has_column 0 scope) before ≡ true → true ≡ true → column_of scope reference ≡ Ok c → list_all (has_column 0 scope) (before ++ c ∷ []) ≡ true
 group_step scope before reference c so_far good e = all_push (has_column 0 scope) before c so_far (column_there scope reference c e)
 
 target_there : (scope : List FromTable) (chosen : List Chosen) (target : Target) → is_target scope chosen target ≡ true → list_all (has_column 0 scope) (in_target target) ≡ true
-target_there scope chosen (targets.Column c) is = both (has_column 0 scope c) true is refl
+target_there scope chosen (targets.Column c) is = and_from (has_column 0 scope c) true is refl
 target_there scope chosen (targets.Aggregate n) is = refl
 
 pub keys_there : (scope : List FromTable) (chosen : List Chosen) (keys : List SortKey) → list_all (λ k. is_target scope chosen k.target) keys ≡ true → list_all (has_column 0 scope) (named_by_keys keys) ≡ true
 keys_there scope chosen [] are = refl
 keys_there scope chosen (k ∷ ks) are =
-    let parts = both_true (is_target scope chosen k.target) (list_all (λ x. is_target scope chosen x.target) ks) are in
+    let parts = and_parts (is_target scope chosen k.target) (list_all (λ x. is_target scope chosen x.target) ks) are in
     all_both (has_column 0 scope) (in_target k.target) (named_by_keys ks) (target_there scope chosen k.target parts.0) (keys_there scope chosen ks parts.1)

@@ -5,6 +5,7 @@ use Rattle.std.proofs.lemmas.Bool.Decides.{nat_tests}
 use Rattle.std.proofs.lemmas.List.Folds.{list_any-append}
 use Rattle.std.proofs.lemmas.List.Sums.{prefix_len-le-length}
 use Rattle.std.proofs.lemmas.List.Recursion.{is_position_or_len}
+use Rattle.std.proofs.Math.Bool.{or-false}
 use Rattle.sql_bind.specs.declared.columns.Column.{Column}
 use Rattle.sql_bind.specs.Columns.{is_among, is_same}
 use Rattle.sql_bind.specs.Used.{UsedColumn}
@@ -17,17 +18,13 @@ same_turned c d = grind (arith, nat_tests)
 
 -- ---- one column more in a set
 
-or_false : (a : Bool) → (a || false) ≡ a
-or_false true = refl
-or_false false = refl
-
 there_case : (keys : List Column) (c q : Column) (b : Bool) → is_same q c ≡ b → is_among keys c ≡ true → is_among keys q ≡ (is_among keys q || b)
 there_case keys c q true is there = let same : q ≡ c = same_is q c is in rw (same, there) refl
-there_case keys c q false is there = sym (or_false (is_among keys q))
+there_case keys c q false is there = sym (or-false (is_among keys q))
 
 insert_case : (keys : List Column) (c q : Column) (b : Bool) → is_among keys c ≡ b → is_among (cond b keys (keys ++ c ∷ [])) q ≡ (is_among keys q || is_same q c)
 insert_case keys c q true is = there_case keys c q (is_same q c) refl is
-insert_case keys c q false is = list_any-append (is_same q) keys (c ∷ []) ∙ ap (λ b. is_among keys q || b) (or_false (is_same q c))
+insert_case keys c q false is = list_any-append (is_same q) keys (c ∷ []) ∙ ap (λ b. is_among keys q || b) (or-false (is_same q c))
 
 -- a set with one column more, which may have been there
 pub among_insert : (keys : List Column) (c q : Column) → is_among (cond (is_among keys c) keys (keys ++ c ∷ [])) q ≡ (is_among keys q || is_same q c)
@@ -35,7 +32,7 @@ among_insert keys c q = insert_case keys c q (is_among keys c) refl
 
 -- a list with one column more
 pub among_push : (cs : List Column) (c q : Column) → is_among (cs ++ c ∷ []) q ≡ (is_among cs q || is_same q c)
-among_push cs c q = list_any-append (is_same q) cs (c ∷ []) ∙ ap (λ b. is_among cs q || b) (or_false (is_same q c))
+among_push cs c q = list_any-append (is_same q) cs (c ∷ []) ∙ ap (λ b. is_among cs q || b) (or-false (is_same q c))
 
 -- ---- the number of a column
 

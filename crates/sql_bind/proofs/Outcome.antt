@@ -2,6 +2,7 @@
 use Rattle.std.proofs.Common.{◌≡◌, ◌≢◌, ℕ, suc, ◌≤◌, ◌+◌, ◌&&◌, Bool, true, false, cond, List, [], ◌∷◌, length, nat_le, ◌*◌, length-append, Ok, Err, refl, arith}
 use Rattle.std.specs.List.{AllByRecursion}
 use Rattle.std.proofs.lemmas.Bool.Decides.{nat_tests}
+use Rattle.std.proofs.lemmas.Bool.{and_parts}
 use Rattle.query_core.specs.declared.catalog.Catalog.{Catalog}
 use Rattle.query_core.specs.Catalog.{IsCatalog}
 use Rattle.sql_reader.specs.declared.syntax.Select.{Select}
@@ -17,7 +18,6 @@ use Rattle.sql_bind.specs.Used.{UsedColumn, used_by, used_from, wanted_by}
 use Rattle.sql_bind.specs.Grouping.{judged}
 use Rattle.sql_reader.specs.Readable.{IsReadable}
 use Rattle.sql_bind.specs.Binding.{binding}
-use Rattle.sql_bind.proofs.Truths.{both_true}
 use Rattle.orca_base.proofs.Checked.{each_counts}
 use Rattle.sql_bind.proofs.ScopeKept.{scope_counts, scope_kept}
 use Rattle.query_core.specs.declared.catalog.ColumnInfo.{ColumnInfo}
@@ -28,7 +28,7 @@ use Rattle.sql_bind.proofs.Named.{parts_bound}
 use Rattle.sql_bind.proofs.Valid.{all_used, used_is}
 
 within_1000 : (n : ℕ) → (nat_le 1 n && nat_le n 1000) ≡ true → n ≤ 1000
-within_1000 n e = let high = both_true (nat_le 1 n) (nat_le n 1000) e in grind (arith, nat_tests)
+within_1000 n e = let high = and_parts (nat_le 1 n) (nat_le n 1000) e in grind (arith, nat_tests)
 
 shorter_case : (u : UsedColumn) (us : List UsedColumn) (n : ℕ) (b : Bool) → length us ≤ n → length (cond b (u ∷ us) us) ≤ suc n
 shorter_case u us n true le = omega arith
@@ -54,7 +54,7 @@ bounded select catalog p readable kept e =
 -- ---- the outcome
 
 pub at_least_1 : (n : ℕ) → (nat_le 1 n && nat_le n 1000) ≡ true → 1 ≤ n
-at_least_1 n e = let low = both_true (nat_le 1 n) (nat_le n 1000) e in grind (arith, nat_tests)
+at_least_1 n e = let low = and_parts (nat_le 1 n) (nat_le n 1000) e in grind (arith, nat_tests)
 
 pub at_most_1000 : (n : ℕ) → (nat_le 1 n && nat_le n 1000) ≡ true → n ≤ 1000
 at_most_1000 n e = within_1000 n e

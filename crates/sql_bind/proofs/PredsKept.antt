@@ -1,8 +1,9 @@
 -- Predicates and aggregates go over items of the query.
 use Rattle.std.proofs.Common.{◌≡◌, ◌∙◌, ℕ, ◌<◌, ◌+◌, ◌&&◌, Bool, true, false, not, cond, List, [], ◌∷◌, ◌++◌, length, nat_lt, bytes_eq, option_map, option_to_list, Option, Some, None, refl, sym, subst, arith}
 use Rattle.std.specs.List.{list_all, list_any}
-use Rattle.std.proofs.lemmas.Bool.{eqb-true}
+use Rattle.std.proofs.lemmas.Bool.{eqb-true, and_from, and_parts, not-true, or_parts}
 use Rattle.std.proofs.lemmas.Bool.Decides.{nat_tests}
+use Rattle.sql_bind.proofs.Truths.{all_both}
 use Rattle.orca_base.specs.Name.{has_name_form}
 use Rattle.query_core.specs.Differ.{texts_differ}
 use Rattle.query_core.specs.Conditions.{is_operand}
@@ -22,7 +23,6 @@ use Rattle.sql_bind.specs.Used.{UsedColumn, in_compared, in_side, in_what, named
 use Rattle.sql_bind.specs.Numbers.{number_of}
 use Rattle.sql_bind.specs.Query.{agg_as, aggs_of, items_of, operand_of, preds_of}
 use Rattle.sql_reader.specs.Readable.{is_named}
-use Rattle.sql_bind.proofs.Truths.{all_both, both, both_true, neither, was_false}
 use Rattle.sql_bind.proofs.Found.{IsAt, within}
 use Rattle.sql_bind.proofs.ListsKept.{among_first, among_later, among_left, among_right}
 use Rattle.sql_bind.proofs.ChosenKept.{next_number, number_is, numbered_from, takes_its, counted_on, one_counted}
@@ -42,8 +42,8 @@ module _ (used : List UsedColumn) where
   pub preds_in : (compared : List Compared) → AreUsed (named_by_compared compared) → list_all (λ pred. nat_lt pred.left (length (items_of used)) && is_operand (items_of used) pred.right) (preds_of used compared) ≡ true
   preds_in [] at = refl
   preds_in (p ∷ ps) at =
-      both (nat_lt (number_of used p.left) (length (items_of used)) && is_operand (items_of used) (operand_of used p.right)) (list_all (λ pred. nat_lt pred.left (length (items_of used)) && is_operand (items_of used) pred.right) (preds_of used ps))
-      (both (nat_lt (number_of used p.left) (length (items_of used))) (is_operand (items_of used) (operand_of used p.right))
+      and_from (nat_lt (number_of used p.left) (length (items_of used)) && is_operand (items_of used) (operand_of used p.right)) (list_all (λ pred. nat_lt pred.left (length (items_of used)) && is_operand (items_of used) pred.right) (preds_of used ps))
+      (and_from (nat_lt (number_of used p.left) (length (items_of used))) (is_operand (items_of used) (operand_of used p.right))
       (within used p.left (at p.left (among_left (in_compared p) (named_by_compared ps) p.left (among_first p.left (in_side p.right)))))
       (operand_in p.right (λ c among. at c (among_left (in_compared p) (named_by_compared ps) c (among_later c p.left (in_side p.right) among)))))
       (preds_in ps (λ c among. at c (among_right (in_compared p) (named_by_compared ps) c among)))
@@ -78,13 +78,13 @@ module _ (used : List UsedColumn) where
 
   one_argument : (name : Option (List ℕ)) (what : What) → takes_its what ≡ true → AreUsed (in_what what) → list_all (has_argument (items_of used)) (option_to_list (agg_as used name what)) ≡ true
   one_argument name (whats.Column at x) takes used_there = refl
-  one_argument name (whats.Aggregate number func arg) takes used_there = both (has_argument (items_of used) (record { func = func; arg = option_map (number_of used) arg; name = name })) true (argument_in name number func arg takes used_there) refl
+  one_argument name (whats.Aggregate number func arg) takes used_there = and_from (has_argument (items_of used) (record { func = func; arg = option_map (number_of used) arg; name = name })) true (argument_in name number func arg takes used_there) refl
 
   -- each has the argument that it takes
   pub arguments_in : (chosen : List Chosen) → list_all (λ c. takes_its c.what) chosen ≡ true → AreUsed (named_by_chosen chosen) → list_all (has_argument (items_of used)) (aggs_of used chosen) ≡ true
   arguments_in [] takes at = refl
   arguments_in (c ∷ cs) takes at =
-      let parts = both_true (takes_its c.what) (list_all (λ x. takes_its x.what) cs) takes in
+      let parts = and_parts (takes_its c.what) (list_all (λ x. takes_its x.what) cs) takes in
       rw (aggs_cons c cs c.what refl) (all_both (has_argument (items_of used)) (option_to_list (agg_as used c.name c.what)) (aggs_of used cs)
       (one_argument c.name c.what parts.0 (λ d among. at d (among_left (in_what c.what) (named_by_chosen cs) d among)))
       (arguments_in cs parts.1 (λ d among. at d (among_right (in_what c.what) (named_by_chosen cs) d among))))
@@ -115,16 +115,16 @@ module _ (used : List UsedColumn) where
   pub names_formed : (chosen : List Chosen) → list_all (λ c. is_named c.name) chosen ≡ true → list_all has_name_form (names chosen) ≡ true
   names_formed [] form = refl
   names_formed (c ∷ cs) form =
-      let parts = both_true (is_named c.name) (list_all (λ x. is_named x.name) cs) form in
+      let parts = and_parts (is_named c.name) (list_all (λ x. is_named x.name) cs) form in
       rw (names_after c cs c.name c.what refl refl) (all_both has_name_form (names_here c.name c.what) (names cs) (form_here c.name c.what parts.0) (names_formed cs parts.1))
 
   none_here : (n : List ℕ) (name : Option (List ℕ)) (what : What) (outputs rest : List (List ℕ)) → list_any (bytes_eq n) (option_to_list name ++ outputs) ≡ false
       → (list_any (bytes_eq n) outputs ≡ false → list_any (bytes_eq n) rest ≡ false) → list_any (bytes_eq n) (names_here name what ++ rest) ≡ false
   none_here n None (whats.Column at x) outputs rest fresh later = later fresh
-  none_here n (Some name) (whats.Column at x) outputs rest fresh later = later (neither (bytes_eq n name) (list_any (bytes_eq n) outputs) fresh).1
+  none_here n (Some name) (whats.Column at x) outputs rest fresh later = later (or_parts (bytes_eq n name) (list_any (bytes_eq n) outputs) fresh).1
   none_here n None (whats.Aggregate number func arg) outputs rest fresh later = later fresh
   none_here n (Some name) (whats.Aggregate number func arg) outputs rest fresh later =
-      let parts = neither (bytes_eq n name) (list_any (bytes_eq n) outputs) fresh in rw (parts.0, later parts.1) refl
+      let parts = or_parts (bytes_eq n name) (list_any (bytes_eq n) outputs) fresh in rw (parts.0, later parts.1) refl
 
   none_there : (n : List ℕ) (chosen : List Chosen) → list_any (bytes_eq n) (output_names chosen) ≡ false → list_any (bytes_eq n) (names chosen) ≡ false
   none_there n [] fresh = refl
@@ -134,11 +134,11 @@ module _ (used : List UsedColumn) where
   apart_here : (name : Option (List ℕ)) (what : What) (cs : List Chosen) → texts_differ (option_to_list name ++ output_names cs) ≡ true → (texts_differ (output_names cs) ≡ true → texts_differ (names cs) ≡ true)
       → texts_differ (names_here name what ++ names cs) ≡ true
   apart_here None (whats.Column at x) cs differ rest = rest differ
-  apart_here (Some name) (whats.Column at x) cs differ rest = rest (both_true (not (list_any (bytes_eq name) (output_names cs))) (texts_differ (output_names cs)) differ).1
+  apart_here (Some name) (whats.Column at x) cs differ rest = rest (and_parts (not (list_any (bytes_eq name) (output_names cs))) (texts_differ (output_names cs)) differ).1
   apart_here None (whats.Aggregate number func arg) cs differ rest = rest differ
   apart_here (Some name) (whats.Aggregate number func arg) cs differ rest =
-      let parts = both_true (not (list_any (bytes_eq name) (output_names cs))) (texts_differ (output_names cs)) differ in
-      rw (none_there name cs (was_false _ parts.0)) (rest parts.1)
+      let parts = and_parts (not (list_any (bytes_eq name) (output_names cs))) (texts_differ (output_names cs)) differ in
+      rw (none_there name cs (not-true _ parts.0)) (rest parts.1)
 
   -- they differ
   pub names_apart : (chosen : List Chosen) → texts_differ (output_names chosen) ≡ true → texts_differ (names chosen) ≡ true
@@ -163,6 +163,6 @@ low_case n m (whats.Aggregate number func arg) is = let same : number ≡ n = eq
 pub numbers_low : (n : ℕ) (chosen : List Chosen) → numbered_from n chosen ≡ true → list_all (λ c. number_below (n + aggregates chosen) c.what) chosen ≡ true
 numbers_low n [] numbered = refl
 numbers_low n (c ∷ cs) numbered =
-    let parts = both_true (number_is n c.what) (numbered_from (next_number n c.what) cs) numbered in
-    both (number_below (n + aggregates (c ∷ cs)) c.what) (list_all (λ x. number_below (n + aggregates (c ∷ cs)) x.what) cs) (subst (λ (m : ℕ). number_below (n + m) c.what ≡ true) (sym (one_counted c cs)) (low_case n (aggregates cs) c.what parts.0))
+    let parts = and_parts (number_is n c.what) (numbered_from (next_number n c.what) cs) numbered in
+    and_from (number_below (n + aggregates (c ∷ cs)) c.what) (list_all (λ x. number_below (n + aggregates (c ∷ cs)) x.what) cs) (subst (λ (m : ℕ). number_below (n + m) c.what ≡ true) (sym (one_counted c cs)) (low_case n (aggregates cs) c.what parts.0))
     (subst (λ (m : ℕ). list_all (λ x. number_below m x.what) cs ≡ true) (counted_on n c cs) (numbers_low (next_number n c.what) cs parts.1))

@@ -1,15 +1,16 @@
 -- A column that a reference means is there.
 use Rattle.std.proofs.Common.{◌≡◌, ℕ, ◌+◌, ◌≤◌, ◌==◌, Bool, true, false, cond, List, [], ◌∷◌, length, map, position, nat_lt, Option, Some, None, option_map, option_to_list, Ok, refl, arith}
-use Rattle.std.specs.List.{list_all, position_or_len}
+use Rattle.std.specs.List.{list_all}
 use Rattle.std.proofs.lemmas.List.{length-map}
-use Rattle.std.proofs.lemmas.Bool.{eqb-true, eq-eqb}
+use Rattle.std.proofs.lemmas.List.Quantifiers.{position-Some}
+use Rattle.std.proofs.lemmas.Bool.{eqb-true, eq-eqb, lt-ltb, and_from, and_parts}
 use Rattle.std.proofs.lemmas.Bool.Decides.{nat_tests}
 use Rattle.std.specs.Str.{bytes_eq}
+use Rattle.sql_bind.proofs.Truths.{all_both, all_weaker}
 use Rattle.sql_reader.specs.declared.syntax.ColRef.{ColRef}
 use Rattle.sql_bind.specs.declared.columns.Column.{Column}
 use Rattle.sql_bind.specs.Scope.{FromTable}
 use Rattle.sql_bind.specs.Columns.{column, candidates, column_of, only_one, place_in, belongs_to}
-use Rattle.sql_bind.proofs.Truths.{all_both, all_weaker, both, both_true}
 
 -- the column is one of the tables', which begin at this place of FROM
 abbrev pub has_column : ℕ → List FromTable → Column → Bool
@@ -39,13 +40,8 @@ some_if : {A : Type 0} (b : Bool) (found : Option A) (x : A) → cond b found No
 some_if true found x e = (refl, e)
 some_if false found x e = absurd cc
 
-some_is : {A : Type 0} (x y : A) → Some x ≡ Some y → x ≡ y
-some_is x y e = cc
-
 place_known : (test : List ℕ → Bool) (names : List (List ℕ)) (i : ℕ) → position test names ≡ Some i → nat_lt i (length names) ≡ true
-place_known test names i e =
-    let found = some_if (nat_lt (position_or_len test names) (length names)) (Some (position_or_len test names)) i e in
-    rw (← some_is (position_or_len test names) i found.1) found.0
+place_known test names i e = lt-ltb i (length names) (position-Some test names i [] e).0
 
 in_known : (reference : ColRef) (t : FromTable) (place : ℕ) → place_in reference t ≡ Some place → nat_lt place (length t.info.columns) ≡ true
 in_known reference t place e =
@@ -56,7 +52,7 @@ in_known reference t place e =
 first_known : (reference : ColRef) (base : ℕ) (t : FromTable) (ts : List FromTable) (found : Option ℕ) → place_in reference t ≡ found
     → list_all (has_column base (t ∷ ts)) (option_to_list (option_map (column base) found)) ≡ true
 first_known reference base t ts None e = refl
-first_known reference base t ts (Some place) e = both (has_column base (t ∷ ts) (column base place)) true (here base t ts place (in_known reference t place e)) refl
+first_known reference base t ts (Some place) e = and_from (has_column base (t ∷ ts) (column base place)) true (here base t ts place (in_known reference t place e)) refl
 
 all_known : (reference : ColRef) (base : ℕ) (ts : List FromTable) → list_all (has_column base ts) (candidates reference base ts) ≡ true
 all_known reference base [] = refl
@@ -67,7 +63,7 @@ all_known reference base (t ∷ ts) =
 
 one_passes : (test : Column → Bool) (at : ℕ) (cs : List Column) (c : Column) → only_one at cs ≡ Ok c → list_all test cs ≡ true → test c ≡ true
 one_passes test at [] c e all = absurd cc
-one_passes test at (d ∷ []) c e all = let same : d ≡ c = cc in rw (← same) (both_true (test d) true all).0
+one_passes test at (d ∷ []) c e all = let same : d ≡ c = cc in rw (← same) (and_parts (test d) true all).0
 one_passes test at (d ∷ other ∷ ds) c e all = absurd cc
 
 pub column_there : (scope : List FromTable) (reference : ColRef) (c : Column) → column_of scope reference ≡ Ok c → has_column 0 scope c ≡ true

@@ -3,7 +3,7 @@ use Rattle.std.proofs.Common.{◌≡◌, ℕ, ◌<◌, ◌+◌, ◌-◌, ◌&&�
 use Rattle.std.specs.List.{list_all, list_any}
 use Rattle.std.specs.Option.{option_map_or}
 use Rattle.std.proofs.lemmas.List.{length-map}
-use Rattle.std.proofs.lemmas.Bool.{eqb-true, eq-eqb}
+use Rattle.std.proofs.lemmas.Bool.{eqb-true, eq-eqb, and_from, and_parts, or_cases, or_left, or_right}
 use Rattle.std.proofs.lemmas.Bool.Decides.{nat_tests}
 use Rattle.query_core.specs.Results.{is_named, is_root_item}
 use Rattle.query_core.specs.declared.aggregate.Agg.{Agg}
@@ -22,7 +22,6 @@ use Rattle.sql_bind.specs.Used.{UsedColumn, in_target, in_what, named_by_chosen,
 use Rattle.sql_bind.specs.Grouping.{loose_chosen, loose_keys, loose_target, loose_what}
 use Rattle.sql_bind.specs.Numbers.{number_of, target_number}
 use Rattle.sql_bind.specs.Query.{group_numbers, items_of, item_of, itself, key_of, outputs_of}
-use Rattle.sql_bind.proofs.Truths.{both, both_true, either, left, right}
 use Rattle.sql_bind.proofs.Found.{IsAt, same_is, within}
 use Rattle.sql_bind.proofs.ListsKept.{among_first, among_left, among_right}
 use Rattle.sql_bind.proofs.ChosenKept.{one_counted}
@@ -44,9 +43,9 @@ module _ (used : List UsedColumn) (group : List Column) where
   number_among : (c : Column) (ds : List Column) → is_among ds c ≡ true → list_any (λ n. n == number_of used c) (map (number_of used) ds) ≡ true
   number_among c [] among = absurd cc
   number_among c (d ∷ ds) among =
-      elim (either (is_same c d) (is_among ds c) among) [
-        | inl same ↦ left (number_of used d == number_of used c) (list_any (λ n. n == number_of used c) (map (number_of used) ds)) (eq-eqb (number_of used d) (number_of used c) (ap (number_of used) (sym (same_is c d same))))
-        | inr later ↦ right (number_of used d == number_of used c) (list_any (λ n. n == number_of used c) (map (number_of used) ds)) (number_among c ds later)
+      elim (or_cases (is_same c d) (is_among ds c) among) [
+        | inl same ↦ or_left (number_of used d == number_of used c) (list_any (λ n. n == number_of used c) (map (number_of used) ds)) (eq-eqb (number_of used d) (number_of used c) (ap (number_of used) (sym (same_is c d same))))
+        | inr later ↦ or_right (number_of used d == number_of used c) (list_any (λ n. n == number_of used c) (map (number_of used) ds)) (number_among c ds later)
       ]
 
   in_group : (c : Column) → is_among group c ≡ true → list_any (λ n. n == number_of used c) (group_numbers used group) ≡ true
@@ -57,7 +56,7 @@ module _ (used : List UsedColumn) (group : List Column) where
     is_root n = is_root_item (items_of used) grouped (group_numbers used group) aggs n
 
     column_case : (b : Bool) (c : Column) → (b ≡ true → is_among group c ≡ true) → IsAt used c → is_root_item (items_of used) b (group_numbers used group) aggs (number_of used c) ≡ true
-    column_case true c among at = left (list_any (λ n. n == number_of used c) (group_numbers used group)) (nat_le (length (items_of used)) (number_of used c) && nat_lt (number_of used c) (length (items_of used) + length aggs)) (in_group c (among refl))
+    column_case true c among at = or_left (list_any (λ n. n == number_of used c) (group_numbers used group)) (nat_le (length (items_of used)) (number_of used c) && nat_lt (number_of used c) (length (items_of used) + length aggs)) (in_group c (among refl))
     column_case false c among at = within used c at
 
     upper : (items n count : ℕ) → nat_lt n count ≡ true → (nat_le items (items + n) && nat_lt (items + n) (items + count)) ≡ true
@@ -65,7 +64,7 @@ module _ (used : List UsedColumn) (group : List Column) where
 
     aggregate_case : (n : ℕ) → grouped ≡ true → nat_lt n (length aggs) ≡ true → is_root (length used + n) ≡ true
     aggregate_case n is low =
-        rw (is, length-map used item_of) (right (list_any (λ column. column == length used + n) (group_numbers used group)) (nat_le (length used) (length used + n) && nat_lt (length used + n) (length used + length aggs)) (upper (length used) n (length aggs) low))
+        rw (is, length-map used item_of) (or_right (list_any (λ column. column == length used + n) (group_numbers used group)) (nat_le (length used) (length used + n) && nat_lt (length used + n) (length used + length aggs)) (upper (length used) n (length aggs) low))
 
     -- ---- the select list
 
@@ -81,8 +80,8 @@ module _ (used : List UsedColumn) (group : List Column) where
         → list_all (λ out. is_root out.item) (outputs_of used chosen) ≡ true
     chosen_root [] none there low groups = refl
     chosen_root (c ∷ cs) none there low groups =
-        let parts = both_true (number_below (length aggs) c.what) (list_all (λ x. number_below (length aggs) x.what) cs) low in
-        both (is_root (target_number used (target_of c.what))) (list_all (λ out. is_root out.item) (outputs_of used cs))
+        let parts = and_parts (number_below (length aggs) c.what) (list_all (λ x. number_below (length aggs) x.what) cs) low in
+        and_from (is_root (target_number used (target_of c.what))) (list_all (λ out. is_root out.item) (outputs_of used cs))
         (what_root c.what (λ is. (nothing (loose_what group c.what) (loose_chosen group cs) (none is)).0) (λ d among. there d (among_left (in_what c.what) (named_by_chosen cs) d among)) parts.0
         (λ is. groups (rw (one_counted c cs) (some_here c.what (aggregates cs) is))))
         (chosen_root cs (λ is. (nothing (loose_what group c.what) (loose_chosen group cs) (none is)).1) (λ d among. there d (among_right (in_what c.what) (named_by_chosen cs) d among)) parts.1
@@ -99,22 +98,22 @@ module _ (used : List UsedColumn) (group : List Column) where
       pub keys_root : (keys : List SortKey) → list_all (λ k. is_target scope chosen k.target) keys ≡ true → (grouped ≡ true → loose_keys group keys ≡ []) → AreUsed used (named_by_keys keys) → list_all (λ k. is_root k.item) (map (key_of used) keys) ≡ true
       keys_root [] are none there = refl
       keys_root (k ∷ ks) are none there =
-          let parts = both_true (is_target scope chosen k.target) (list_all (λ x. is_target scope chosen x.target) ks) are in
-          both (is_root (target_number used k.target)) (list_all (λ x. is_root x.item) (map (key_of used) ks))
+          let parts = and_parts (is_target scope chosen k.target) (list_all (λ x. is_target scope chosen x.target) ks) are in
+          and_from (is_root (target_number used k.target)) (list_all (λ x. is_root x.item) (map (key_of used) ks))
           (target_root k.at k.target parts.0 (λ is. (nothing (loose_target group k.at k.target) (loose_keys group ks) (none is)).0) (λ d among. there d (among_left (in_target k.target) (named_by_keys ks) d among)))
           (keys_root ks parts.1 (λ is. (nothing (loose_target group k.at k.target) (loose_keys group ks) (none is)).1) (λ d among. there d (among_right (in_target k.target) (named_by_keys ks) d among)))
 
       target_named : (target : Target) → is_target scope chosen target ≡ true → AreUsed used (in_target target) → is_named (items_of used) aggs (target_number used target) ≡ true
-      target_named (targets.Column c) is there = left (nat_lt (number_of used c) (length (items_of used))) (option_map_or (λ agg. is_some agg.name) (slice_get aggs (number_of used c - length (items_of used))) false) (within used c (there c (among_first c [])))
+      target_named (targets.Column c) is there = or_left (nat_lt (number_of used c) (length (items_of used))) (option_map_or (λ agg. is_some agg.name) (slice_get aggs (number_of used c - length (items_of used))) false) (within used c (there c (among_first c [])))
       target_named (targets.Aggregate n) is there =
           let place : (length used + n) - length (items_of used) ≡ n = omega (arith, length-map used item_of) in
-          right (nat_lt (length used + n) (length (items_of used))) (option_map_or (λ agg. is_some agg.name) (slice_get aggs ((length used + n) - length (items_of used))) false) (rw place (names n is))
+          or_right (nat_lt (length used + n) (length (items_of used))) (option_map_or (λ agg. is_some agg.name) (slice_get aggs ((length used + n) - length (items_of used))) false) (rw place (names n is))
 
       pub keys_named : (keys : List SortKey) → list_all (λ k. is_target scope chosen k.target) keys ≡ true → AreUsed used (named_by_keys keys) → list_all (λ k. is_named (items_of used) aggs k.item) (map (key_of used) keys) ≡ true
       keys_named [] are there = refl
       keys_named (k ∷ ks) are there =
-          let parts = both_true (is_target scope chosen k.target) (list_all (λ x. is_target scope chosen x.target) ks) are in
-          both (is_named (items_of used) aggs (target_number used k.target)) (list_all (λ x. is_named (items_of used) aggs x.item) (map (key_of used) ks))
+          let parts = and_parts (is_target scope chosen k.target) (list_all (λ x. is_target scope chosen x.target) ks) are in
+          and_from (is_named (items_of used) aggs (target_number used k.target)) (list_all (λ x. is_named (items_of used) aggs x.item) (map (key_of used) ks))
           (target_named k.target parts.0 (λ d among. there d (among_left (in_target k.target) (named_by_keys ks) d among)))
           (keys_named ks parts.1 (λ d among. there d (among_right (in_target k.target) (named_by_keys ks) d among)))
 
@@ -126,8 +125,8 @@ low_case n m (whats.Aggregate number func arg) is low = rw (← eqb-true number 
 pub named_low : (chosen : List Chosen) (n m : ℕ) → list_all (λ c. number_below m c.what) chosen ≡ true → is_named_number chosen n ≡ true → nat_lt n m ≡ true
 named_low [] n m low found = absurd cc
 named_low (c ∷ cs) n m low found =
-    let parts = both_true (number_below m c.what) (list_all (λ x. number_below m x.what) cs) low in
-    elim (either (is_some c.name && is_number n c.what) (is_named_number cs n) found) [
-      | inl here ↦ low_case n m c.what (both_true (is_some c.name) (is_number n c.what) here).1 parts.0
+    let parts = and_parts (number_below m c.what) (list_all (λ x. number_below m x.what) cs) low in
+    elim (or_cases (is_some c.name && is_number n c.what) (is_named_number cs n) found) [
+      | inl here ↦ low_case n m c.what (and_parts (is_some c.name) (is_number n c.what) here).1 parts.0
       | inr later ↦ named_low cs n m parts.1 later
     ]

@@ -7,6 +7,8 @@ use Rattle.std.proofs.lemmas.List.{map_push}
 use Rattle.std.proofs.lemmas.Bool.Decides.{nat_tests}
 use Rattle.orca_base.specs.Name.{has_name_form}
 use Rattle.std.proofs.lemmas.List.Elements.{recursion_from_All}
+use Rattle.std.proofs.lemmas.Bool.{and_from, and_parts}
+use Rattle.sql_bind.proofs.Truths.{all_push}
 use Rattle.query_core.specs.Differ.{all_differ}
 use Rattle.query_core.proofs.Apart.{differ_push}
 use Rattle.query_core.specs.Tables.{AreTables}
@@ -19,7 +21,6 @@ use Rattle.sql_bind.specs.Scope.{FromTable, alias_at, alias_of, aliased, aliases
 use Rattle.sql_bind.specs.Used.{UsedColumn}
 use Rattle.sql_bind.specs.Query.{tables_from}
 use Rattle.sql_reader.specs.Readable.{is_named, is_table}
-use Rattle.sql_bind.proofs.Truths.{all_push, both, both_true}
 use Rattle.orca_base.proofs.Checked.{each_counts, each_keeps, not_met}
 
 -- P holds of one more element
@@ -47,7 +48,7 @@ info_is catalog kept name info found = found_is (λ t. bytes_eq t.name name) cat
 
 alias_named : (alias : Option (List ℕ)) (name : List ℕ) → has_name_form name ≡ true → list_all has_name_form (option_to_list alias) ≡ true → has_name_form (unwrap_or alias name) ≡ true
 alias_named None name named all = named
-alias_named (Some alias) name named all = (both_true (has_name_form alias) true all).0
+alias_named (Some alias) name named all = (and_parts (has_name_form alias) true all).0
 
 one_more : (before : List FromTable) (item : FromItem) (found : Option TableInfo) (t : FromTable) → AreFrom before → is_table item ≡ true
     → ((info : TableInfo) → found ≡ Some info → IsTable info) → aliased before item found ≡ Ok t → AreFrom (before ++ t ∷ [])
@@ -56,7 +57,7 @@ one_more before item None t so_far good is e = absurd cc
 one_more before item (Some info) t so_far good is e =
     let made : FromTable = record { alias = alias_of item; info = info } in
     let fresh = not_met (has_alias before (alias_of item)) (TwiceAlias (alias_at item)) made t e in
-    let names = both_true (has_name_form item.table) (is_named item.alias) good in
+    let names = and_parts (has_name_form item.table) (is_named item.alias) good in
     subst (λ (x : FromTable). AreFrom (before ++ x ∷ [])) fresh.1 (record {
       named = all_push (λ (x : FromTable). has_name_form x.alias) before made so_far.named (alias_named item.alias item.table names.0 names.1);
       infos = recursion_push (λ (x : FromTable). IsTable x.info) before made so_far.infos (is info refl);
@@ -91,13 +92,13 @@ module _ (used : List UsedColumn) where
   all_named : (base : ℕ) (scope : List FromTable) → list_all (λ t. has_name_form t.alias) scope ≡ true → list_all (λ table. has_name_form table.alias) (tables_from used base scope) ≡ true
   all_named base [] all = refl
   all_named base (t ∷ ts) all =
-      let parts = both_true (has_name_form t.alias) (list_all (λ x. has_name_form x.alias) ts) all in
-      both (has_name_form t.alias) (list_all (λ table. has_name_form table.alias) (tables_from used (base + 1) ts)) parts.0 (all_named (base + 1) ts parts.1)
+      let parts = and_parts (has_name_form t.alias) (list_all (λ x. has_name_form x.alias) ts) all in
+      and_from (has_name_form t.alias) (list_all (λ table. has_name_form table.alias) (tables_from used (base + 1) ts)) parts.0 (all_named (base + 1) ts parts.1)
 
   few_rows : (base : ℕ) (scope : List FromTable) → AllByRecursion (λ t. IsTable t.info) scope → list_all (λ table. nat_le table.rows 1000000000000) (tables_from used base scope) ≡ true
   few_rows base [] all = refl
   few_rows base (t ∷ ts) all =
-      both (nat_le t.info.rows 1000000000000) (list_all (λ table. nat_le table.rows 1000000000000) (tables_from used (base + 1) ts)) (at_most t.info.rows 1000000000000 all.0.counted) (few_rows (base + 1) ts all.1)
+      and_from (nat_le t.info.rows 1000000000000) (list_all (λ table. nat_le table.rows 1000000000000) (tables_from used (base + 1) ts)) (at_most t.info.rows 1000000000000 all.0.counted) (few_rows (base + 1) ts all.1)
 
   -- they are tables of a query
   pub are_tables : (scope : List FromTable) → AreFrom scope → 1 ≤ length scope → length scope ≤ 10 → AreTables (tables_from used 0 scope)

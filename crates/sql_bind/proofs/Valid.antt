@@ -29,8 +29,7 @@ use Rattle.sql_bind.specs.Query.{aggs_of, distinct_by, group_numbers, items_of, 
 use Rattle.sql_bind.specs.Grouping.{is_grouped, judged, loose_chosen, loose_keys, loose_places}
 use Rattle.sql_reader.specs.Readable.{IsReadable}
 use Rattle.sql_bind.specs.Binding.{binding}
-use Rattle.sql_bind.proofs.Truths.{all_both, all_pass, both, both_true, right}
-use Rattle.orca_base.proofs.Checked.{bind_ok, each_counts, each_keeps}
+use Rattle.orca_base.proofs.Checked.{all_pass, bind_ok, each_counts, each_keeps}
 use Rattle.sql_bind.proofs.Resolving.{has_column}
 use Rattle.sql_bind.proofs.Found.{IsAt, found_from, there_is, within}
 use Rattle.sql_bind.proofs.ScopeKept.{AreFrom, are_tables, scope_counts, scope_kept}
@@ -44,6 +43,8 @@ use Rattle.sql_bind.proofs.DistinctKept.{all_kept, map_itself, no_longer, no_twi
 use Rattle.sql_bind.proofs.KeysKept.{is_named_number, is_target, keys_kept, named_aggregate}
 use Rattle.sql_bind.proofs.RootKept.{chosen_root, keys_named, keys_root, named_low, nothing}
 use Rattle.std.proofs.Math.Nat.{zero-add}
+use Rattle.std.proofs.lemmas.Bool.{and_from, and_parts, or_right}
+use Rattle.sql_bind.proofs.Truths.{all_both}
 use Rattle.sql_bind.proofs.Named.{AreBound, AreJudged, compared_step, compared_there, group_step, judged_ok, keys_there, parts_bound}
 
 abbrev pub all_used : Parts → List UsedColumn
@@ -67,18 +68,18 @@ least_one : (n : ℕ) → 1 ≤ n → nat_le 1 n ≡ true
 least_one n le = grind (arith, nat_tests)
 
 grouped_by : (groups : Bool) (n : ℕ) → 0 < n → (groups || nat_le 1 n) ≡ true
-grouped_by groups n some = right groups (nat_le 1 n) (least_one n (omega arith))
+grouped_by groups n some = or_right groups (nat_le 1 n) (least_one n (omega arith))
 
 numbers_in : (used : List UsedColumn) (group : List Column) → ((c : Column) → is_among group c ≡ true → IsAt used c) → list_all (λ n. nat_lt n (length (items_of used))) (map (number_of used) group) ≡ true
 numbers_in used [] at = refl
 numbers_in used (c ∷ cs) at =
-    both (nat_lt (number_of used c) (length (items_of used))) (list_all (λ n. nat_lt n (length (items_of used))) (map (number_of used) cs)) (within used c (at c (among_first c cs))) (numbers_in used cs (λ d among. at d (among_later d c cs among)))
+    and_from (nat_lt (number_of used c) (length (items_of used))) (list_all (λ n. nat_lt n (length (items_of used))) (map (number_of used) cs)) (within used c (at c (among_first c cs))) (numbers_in used cs (λ d among. at d (among_later d c cs among)))
 
 outputs_named : (used : List UsedColumn) (chosen : List Chosen) → list_all (λ c. list_all has_name_form (option_to_list c.name)) chosen ≡ true → list_all (λ out. list_all has_name_form (option_to_list out.name)) (outputs_of used chosen) ≡ true
 outputs_named used [] named = refl
 outputs_named used (c ∷ cs) named =
-    let parts = both_true (list_all has_name_form (option_to_list c.name)) (list_all (λ x. list_all has_name_form (option_to_list x.name)) cs) named in
-    both (list_all has_name_form (option_to_list c.name)) (list_all (λ out. list_all has_name_form (option_to_list out.name)) (outputs_of used cs)) parts.0 (outputs_named used cs parts.1)
+    let parts = and_parts (list_all has_name_form (option_to_list c.name)) (list_all (λ x. list_all has_name_form (option_to_list x.name)) cs) named in
+    and_from (list_all has_name_form (option_to_list c.name)) (list_all (λ out. list_all has_name_form (option_to_list out.name)) (outputs_of used cs)) parts.0 (outputs_named used cs parts.1)
 
 module _ (select : Select) (catalog : Catalog) (p : Parts) (readable : IsReadable select) (kept : IsCatalog catalog) (bound : AreBound select catalog p) where
   from : AreFrom p.scope

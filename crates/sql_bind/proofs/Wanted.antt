@@ -1,13 +1,14 @@
 -- The used columns are those that are wanted.
 use Rattle.std.proofs.Common.{◌≡◌, ◌⊎◌, ℕ, ◌+◌, Bool, true, false, cond, List, [], ◌∷◌, ◌++◌, refl}
 use Rattle.std.specs.List.{list_all}
+use Rattle.std.proofs.lemmas.Bool.{and_from}
+use Rattle.sql_bind.proofs.Truths.{all_both}
 use Rattle.query_core.specs.declared.catalog.ColumnInfo.{ColumnInfo}
 use Rattle.sql_bind.specs.declared.columns.Column.{Column}
 use Rattle.sql_bind.specs.Scope.{FromTable}
 use Rattle.sql_bind.specs.Columns.{column, is_among}
 use Rattle.sql_bind.specs.Used.{UsedColumn, used_from, used_in}
 use Rattle.sql_bind.specs.UsedColumns.{HasNumber}
-use Rattle.sql_bind.proofs.Truths.{all_both, both}
 use Rattle.sql_bind.proofs.Ascending.{at_number}
 use Rattle.sql_bind.proofs.ListsKept.{either_list}
 
@@ -15,7 +16,7 @@ use Rattle.sql_bind.proofs.ListsKept.{either_list}
 
 module _ (wanted : List Column) where
   wanted_case : (u : UsedColumn) (rest : List UsedColumn) (b : Bool) → is_among wanted u.which ≡ b → list_all (λ x. is_among wanted x.which) rest ≡ true → list_all (λ x. is_among wanted x.which) (cond b (u ∷ rest) rest) ≡ true
-  wanted_case u rest true is all = both (is_among wanted u.which) (list_all (λ x. is_among wanted x.which) rest) is all
+  wanted_case u rest true is all = and_from (is_among wanted u.which) (list_all (λ x. is_among wanted x.which) rest) is all
   wanted_case u rest false is all = all
 
   wanted_in : (table place : ℕ) (infos : List ColumnInfo) → list_all (λ u. is_among wanted u.which) (used_in wanted table place infos) ≡ true

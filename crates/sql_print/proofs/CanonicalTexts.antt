@@ -5,6 +5,7 @@ use Rattle.std.specs.Prelude.{codes}
 use Rattle.std.specs.List.{list_all, flat_map}
 use Rattle.std.specs.Fmt.{decimal, signed_decimal}
 use Rattle.std.proofs.lemmas.Int.{ints}
+use Rattle.std.proofs.lemmas.Bool.{and_parts}
 use Rattle.orca_base.specs.Name.{continues_name}
 use Rattle.sql_reader.specs.declared.tokens.Mark.{Mark}
 use Rattle.sql_reader.specs.declared.tokens.Mark.TheVariants as marks
@@ -22,7 +23,6 @@ use Rattle.sql_reader.specs.Lexing.{signed}
 use Rattle.sql_print.specs.Canonical.{column_text, item_text}
 use Rattle.sql_print.specs.Canonical.{table_text, op_text, operand_text, pred_text, direction_text, key_text, listed}
 use Rattle.sql_print.specs.Canonical.{clause, canonical_text}
-use Rattle.orca_base.proofs.Truths.{both_true}
 use Rattle.sql_reader.proofs.Printable.{shown_plain}
 use Rattle.sql_reader.specs.Spellable.{is_plain, IsSpellableNumber, IsSpellableColumn}
 use Rattle.sql_reader.specs.Spellable.{IsSpellableItem, IsSpellableTable}
@@ -59,7 +59,7 @@ number_printed (negsuc n) g =
 doubled_plain : (text : List ℕ) → list_all is_plain text ≡ true → list_all is_plain (doubled text ++ 39 ∷ []) ≡ true
 doubled_plain [] h = refl
 doubled_plain (b ∷ text) h =
-    let p = both_true (is_plain b) (list_all is_plain text) h in
+    let p = and_parts (is_plain b) (list_all is_plain text) h in
     by (is_quote b) p.0 (doubled_plain text p.1)
   where
     by : (c : Bool) → is_plain b ≡ true → list_all is_plain (doubled text ++ 39 ∷ []) ≡ true

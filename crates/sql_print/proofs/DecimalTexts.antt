@@ -7,9 +7,9 @@ use Rattle.std.proofs.lemmas.Fmt.{decimal_by_steps}
 use Rattle.std.proofs.lemmas.List.{length-append}
 use Rattle.std.proofs.lemmas.List.Folds.{list_all-append}
 use Rattle.std.proofs.lemmas.Bool.Decides.{nat_tests}
+use Rattle.std.proofs.lemmas.Bool.{and_parts}
 use Rattle.sql_reader.specs.Bytes.{is_digit}
 use Rattle.sql_reader.specs.Pieces.{number_from}
-use Rattle.orca_base.proofs.Truths.{both_true}
 use Rattle.sql_reader.specs.Spellable.{is_plain}
 
 pub record Spells (n : ℕ) (digits : List ℕ) : Type 0 where
@@ -46,5 +46,5 @@ digit_plain b h = grind (arith, nat_tests)
 
 pub digits_plain : (digits : List ℕ) → list_all is_digit digits ≡ true → list_all is_plain digits ≡ true
 digits_plain [] h = refl
-digits_plain (b ∷ digits) h = let p = both_true (is_digit b) (list_all is_digit digits) h in
+digits_plain (b ∷ digits) h = let p = and_parts (is_digit b) (list_all is_digit digits) h in
     rw (digit_plain b p.0, digits_plain digits p.1) refl

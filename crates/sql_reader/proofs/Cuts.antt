@@ -3,14 +3,13 @@ use Rattle.std.proofs.Common.{◌≡◌, ℕ, suc, ◌^◌, ◌<◌, Bool, true,
 use Rattle.std.proofs.Common.{length, take, drop, Some, None, refl, sym, ap, subst, arith}
 use Rattle.std.specs.Prelude.{◌==◌}
 use Rattle.std.specs.List.{prefix_len, list_all}
-use Rattle.std.proofs.lemmas.Bool.{ltb-true, lt-ltb}
+use Rattle.std.proofs.lemmas.Bool.{ltb-true, lt-ltb, and_parts}
 use Rattle.std.proofs.lemmas.Bool.Decides.{nat_tests}
 use Rattle.std.proofs.lemmas.List.{take-append-drop}
 use Rattle.orca_base.specs.Name.{begins_name, continues_name, has_name_form}
 use Rattle.sql_reader.specs.Bytes.{is_digit}
 use Rattle.sql_reader.specs.Pieces.{comment, name, integer, in_comment, spelling, number_from, Ends, BeginsWith}
 use Rattle.sql_reader.specs.Cutting.{Cut, name_cut, begins_with, integer_cut, digits_cut, comment_cut, minus_cut}
-use Rattle.orca_base.proofs.Truths.{both_true}
 use Rattle.sql_reader.proofs.Scans.{front_passes, front_ends, taken_again, left_again}
 
 -- a found piece stands at the front
@@ -42,7 +41,7 @@ name_sound b bytes h =
 
 form_continues : (text : List ℕ) → has_name_form text ≡ true → list_all continues_name text ≡ true
 form_continues [] h = refl
-form_continues (b ∷ text) h = let p = both_true (begins_name b) (list_all continues_name text) h in
+form_continues (b ∷ text) h = let p = and_parts (begins_name b) (list_all continues_name text) h in
     rw (continues b p.0, p.1) refl
 
 pub name_again : (text rest : List ℕ) → has_name_form text ≡ true → Ends continues_name rest
@@ -154,5 +153,5 @@ pub negative_again : (digits rest : List ℕ) → 0 < length digits → list_all
     → minus_cut (digits ++ rest) ≡ Some (integer true digits, rest)
 negative_again [] rest l d h e = absurd (omega arith)
 negative_again (b ∷ digits) rest l d h e =
-    let p = both_true (is_digit b) (list_all is_digit digits) d in
+    let p = and_parts (is_digit b) (list_all is_digit digits) d in
     second_case (b == 45) (is_digit b) _ _ _ (digit_no_minus b p.0) p.0 (digits_again true (b ∷ digits) rest d h e)

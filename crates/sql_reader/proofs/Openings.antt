@@ -1,6 +1,7 @@
 -- Which tokens begin an element of each list.
 use Rattle.std.proofs.Common.{◌≡◌, Bool, true, false, List, [], ◌∷◌, Some, None, inl, inr, refl, ap, ◌∙◌, pos}
 use Rattle.std.specs.Prelude.{is_some, ◌||◌}
+use Rattle.std.proofs.Math.Bool.{or-true}
 use Rattle.sql_reader.specs.declared.tokens.Mark.TheVariants as marks
 use Rattle.sql_reader.specs.declared.tokens.Function.{Function}
 use Rattle.sql_reader.specs.declared.tokens.Function.TheVariants as functions
@@ -26,13 +27,9 @@ use Rattle.sql_reader.proofs.Columns.{Begins}
 pub opens_name : (t : Token) → AName t → starts_name t ≡ true
 opens_name t h = ap is_some h.1
 
-or_right : (a : Bool) → (a || true) ≡ true
-or_right true = refl
-or_right false = refl
-
 pub opens_item : (t : Token) → Begins t → starts_item t ≡ true
 opens_item t (inl h) = ap (λ o. is_some o || is_some (name_of t)) h.1
-opens_item t (inr h) = ap (λ o. is_some (called_of t) || is_some o) h.1 ∙ or_right (is_some (called_of t))
+opens_item t (inr h) = ap (λ o. is_some (called_of t) || is_some o) h.1 ∙ or-true (is_some (called_of t))
 
 pub begins_column : (t : Token) → starts_name t ≡ true → (more : List Token) × (x : ColRef) × IsColumn (t ∷ more) x
 begins_column t h = let n = some_of (name_of t) h in ([], plain_column n.0, (n.0, n.1, inr refl))

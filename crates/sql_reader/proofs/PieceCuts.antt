@@ -3,6 +3,7 @@ use Rattle.std.proofs.Common.{◌≡◌, ℕ, ◌<◌, true, false, List, [], �
 use Rattle.std.proofs.Common.{◌∙◌, arith}
 use Rattle.std.specs.List.{list_all}
 use Rattle.std.proofs.lemmas.List.{length-append}
+use Rattle.std.proofs.lemmas.Bool.{and_parts}
 use Rattle.orca_base.specs.Name.{begins_name, continues_name}
 use Rattle.sql_reader.specs.declared.classes.Class.{Class}
 use Rattle.sql_reader.specs.declared.classes.Class.TheVariants as classes
@@ -10,7 +11,6 @@ use Rattle.sql_reader.specs.Bytes.{is_digit, class_of}
 use Rattle.sql_reader.specs.Pieces.{Piece, blank, comment, name, integer, quoted, sign, doubled, spelling, Fits, Stands}
 use Rattle.sql_reader.specs.Pieces.{BeginsWith, Are, IsCut}
 use Rattle.sql_reader.specs.Cutting.{Cut, cut_by, piece_cut}
-use Rattle.orca_base.proofs.Truths.{both_true}
 use Rattle.sql_reader.proofs.ByteClasses.{IsOf, class_says, blank_class, letter_class, digit_class, sign_class}
 use Rattle.sql_reader.proofs.Cuts.{Sound, name_sound, name_again, digits_sound, digits_again, minus_sound}
 use Rattle.sql_reader.proofs.Cuts.{comment_again, negative_again}
@@ -44,13 +44,13 @@ spelled_again (comment body) rest f s =
 spelled_again (name []) rest f s = absurd cc
 spelled_again (name (b ∷ text)) rest f s =
     by_class b (text ++ rest) classes.Letter _
-    (letter_class b (both_true (begins_name b) (list_all continues_name text) f).0) (name_again (b ∷ text) rest f s)
+    (letter_class b (and_parts (begins_name b) (list_all continues_name text) f).0) (name_again (b ∷ text) rest f s)
 spelled_again (integer true digits) rest f s =
     by_class 45 (digits ++ rest) classes.Minus _ refl (negative_again digits rest f.0 f.1 f.2 s)
 spelled_again (integer false []) rest f s = absurd (omega (arith, f.0))
 spelled_again (integer false (b ∷ digits)) rest f s =
     by_class b (digits ++ rest) classes.Digit _
-    (digit_class b (both_true (is_digit b) (list_all is_digit digits) f.1).0)
+    (digit_class b (and_parts (is_digit b) (list_all is_digit digits) f.1).0)
     (digits_again false (b ∷ digits) rest f.1 f.2 s)
 spelled_again (quoted text) rest f s =
     by_class 39 ((doubled text ++ 39 ∷ []) ++ rest) classes.Quote _ refl (quoted_again text rest s)

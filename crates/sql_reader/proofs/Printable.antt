@@ -2,7 +2,7 @@
 use Rattle.std.proofs.Common.{◌≡◌, ℕ, suc, ◌+◌, ◌^◌, ◌<◌, Bool, true, false, cond, List, [], ◌∷◌, ◌++◌, map, length}
 use Rattle.std.proofs.Common.{Option, Some, None, negsuc, inl, refl, sym, subst, ◌∙◌, append_assoc, arith, zero}
 use Rattle.std.proofs.Common.{eqb-true}
-use Rattle.std.proofs.lemmas.Bool.{ltb-false}
+use Rattle.std.proofs.lemmas.Bool.{ltb-false, and_parts}
 use Rattle.std.proofs.lemmas.Int.{ints}
 use Rattle.std.specs.Prelude.{◌&&◌, not, nat_lt}
 use Rattle.std.specs.List.{list_all}
@@ -23,7 +23,6 @@ use Rattle.sql_reader.specs.Lexing.{shown, named_kind, signed, kind_of, function
 use Rattle.sql_reader.specs.Lexing.{tokens_of}
 use Rattle.sql_reader.specs.Faults.{HasFault, IsReading}
 use Rattle.sql_reader.specs.Spellable.{is_plain, IsSpellableName, IsSpellableNumber}
-use Rattle.orca_base.proofs.Truths.{both_true}
 
 abbrev pub IsGoodKind : Kind → Type 0
 IsGoodKind (kinds.Mark mark) = Unit {0}
@@ -49,16 +48,16 @@ good_back (t ∷ a) b h = good_back a b h.1
 pub shown_plain : (text : List ℕ) → list_all is_plain text ≡ true → map shown text ≡ text
 shown_plain [] h = refl
 shown_plain (b ∷ text) h =
-    let p = both_true (is_plain b) (list_all is_plain text) h in
-    let q = both_true (nat_lt b 128) (not (is_control b)) p.0 in
+    let p = and_parts (is_plain b) (list_all is_plain text) h in
+    let q = and_parts (nat_lt b 128) (not (is_control b)) p.0 in
     rw (q.0, shown_plain text p.1) refl
 
 plain_by : (b : ℕ) (c : Bool) (text front : List ℕ) → is_quote b ≡ c
     → list_all is_plain (cond c (39 ∷ 39 ∷ text) (b ∷ text)) ≡ true
     → (list_all is_plain front ≡ list_all is_plain text) → (is_plain b ≡ true) × (list_all is_plain text ≡ true)
-plain_by b true text front e h k = let p = both_true (is_plain 39) (list_all is_plain (39 ∷ text)) h in let q =
-    both_true (is_plain 39) (list_all is_plain text) p.1 in (let s : b ≡ 39 = eqb-true b 39 e in rw s refl, q.1)
-plain_by b false text front e h k = both_true (is_plain b) (list_all is_plain text) h
+plain_by b true text front e h k = let p = and_parts (is_plain 39) (list_all is_plain (39 ∷ text)) h in let q =
+    and_parts (is_plain 39) (list_all is_plain text) p.1 in (let s : b ≡ 39 = eqb-true b 39 e in rw s refl, q.1)
+plain_by b false text front e h k = and_parts (is_plain b) (list_all is_plain text) h
 
 pub doubled_plain : (text : List ℕ) → list_all is_plain (doubled text) ≡ true → list_all is_plain text ≡ true
 doubled_plain [] h = refl
@@ -95,8 +94,8 @@ piece_good (comment body) f p = tt
 piece_good (name text) f p = named_good text (word_of text) refl f p
 piece_good (integer negative digits) f p = signed_good negative (number_from 0 digits) f.2
 piece_good (quoted text) f p =
-    let inside = both_true (is_plain 39) (list_all is_plain (doubled text ++ 39 ∷ [])) p in
-    let parts = both_true (list_all is_plain (doubled text)) (list_all is_plain (39 ∷ []))
+    let inside = and_parts (is_plain 39) (list_all is_plain (doubled text ++ 39 ∷ [])) p in
+    let parts = and_parts (list_all is_plain (doubled text)) (list_all is_plain (39 ∷ []))
     (sym (list_all-append is_plain (doubled text) (39 ∷ [])) ∙ inside.1) in
     let plain = doubled_plain text parts.0 in
     rw (shown_plain text plain) plain
@@ -130,7 +129,7 @@ pieces_good : (at : ℕ) (pieces : List Piece) (text rest : List ℕ) → Are pi
 pieces_good at [] text rest a p = tt
 pieces_good at (piece ∷ pieces) text rest a p =
     let whole : list_all is_plain (spelling piece ++ a.0) ≡ true = rw a.1.whole at p in
-    let parts = both_true (list_all is_plain (spelling piece)) (list_all is_plain a.0)
+    let parts = and_parts (list_all is_plain (spelling piece)) (list_all is_plain a.0)
     (sym (list_all-append is_plain (spelling piece) a.0) ∙ whole) in
     with_good at (kind_of piece) (tokens_of (at + length (spelling piece)) pieces) (piece_good piece a.1.fits parts.0)
     (pieces_good (at + length (spelling piece)) pieces a.0 rest a.2 parts.1)

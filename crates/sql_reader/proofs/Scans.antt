@@ -3,7 +3,7 @@ use Rattle.std.proofs.Common.{◌≡◌, ℕ, suc, ◌+◌, Bool, true, false, c
 use Rattle.std.proofs.Common.{sym, arith}
 use Rattle.std.specs.List.{prefix_len, list_all}
 use Rattle.std.proofs.lemmas.List.{take_at, drop_at}
-use Rattle.orca_base.proofs.Truths.{both_true}
+use Rattle.std.proofs.lemmas.Bool.{and_parts}
 use Rattle.sql_reader.specs.Pieces.{Ends}
 
 one_more : (n : ℕ) → 1 + n ≡ suc n
@@ -35,7 +35,7 @@ pub longest : (test : ℕ → Bool) (front rest : List ℕ) → list_all test fr
 longest test [] [] h e = refl
 longest test [] (b ∷ rest) h e = rw e refl
 longest test (b ∷ front) rest h e =
-    let p = both_true (test b) (list_all test front) h in
+    let p = and_parts (test b) (list_all test front) h in
     let k = longest test front rest p.1 e in
     rw p.0 (omega (arith, k))
 

@@ -4,8 +4,7 @@ use Rattle.std.proofs.Common.{Option, Some, None, Ok, Err, refl, sym, ap, subst,
 use Rattle.std.specs.Prelude.{not, nat_lt}
 use Rattle.std.specs.List.{list_all}
 use Rattle.std.specs.Option.{option_or}
-use Rattle.std.proofs.lemmas.Bool.{ltb-true, leb-true}
-use Rattle.orca_base.proofs.Truths.{both_true}
+use Rattle.std.proofs.lemmas.Bool.{ltb-true, leb-true, and_parts}
 use Rattle.sql_reader.specs.declared.faults.SqlFault.{SqlFault}
 use Rattle.sql_reader.specs.declared.faults.SqlFault.TheVariants as faults
 use Rattle.sql_reader.specs.declared.syntax.Select.{Select}
@@ -30,7 +29,7 @@ use Rattle.sql_reader.proofs.Printable.{all_plain}
 
 plain_not_bad : (at b : ℕ) → is_plain b ≡ true → bad_byte at b ≡ None
 plain_not_bad at b h =
-    let p = both_true (nat_lt b 128) (not (is_control b)) h in
+    let p = and_parts (nat_lt b 128) (not (is_control b)) h in
     by (leb 128 b) (is_control b) refl refl p.0 p.1
   where
     by : (a c : Bool) → leb 128 b ≡ a → is_control b ≡ c → nat_lt b 128 ≡ true → not (is_control b) ≡ true
@@ -42,7 +41,7 @@ plain_not_bad at b h =
 none_bad : (at : ℕ) (bytes : List ℕ) → list_all is_plain bytes ≡ true → first_bad at bytes ≡ None
 none_bad at [] h = refl
 none_bad at (b ∷ bytes) h =
-    let p = both_true (is_plain b) (list_all is_plain bytes) h in
+    let p = and_parts (is_plain b) (list_all is_plain bytes) h in
     ap (λ (o : Option SqlFault). option_or o (first_bad (at + 1) bytes)) (plain_not_bad at b p.0)
     ∙ none_bad (at + 1) bytes p.1
 
