@@ -1,5 +1,5 @@
 -- What the turn of a goal leaves to do for a seat that is alone.
-use Rattle.std.proofs.Common.{◌≡◌, ◌≢◌, ℕ, ◌+◌, ◌*◌, ◌<◌, ◌≤◌, ◌==◌, ◌^◌, nat_le, Bool, true, false, not, ◌&&◌, List, length, length-set, set, get_or-set_other, get_or-set_same, Some, ne_eqb, refl, sym, ap, subst, ◌∙◌, ⊎_elim, inl, arith}
+use Rattle.std.proofs.Common.{◌≡◌, ◌≢◌, ℕ, ◌+◌, ◌*◌, ◌<◌, ◌≤◌, ◌==◌, ◌^◌, nat_le, false, not, ◌&&◌, List, length, length-set, set, get_or-set_other, get_or-set_same, Some, ne_eqb, refl, sym, ap, subst, ◌∙◌, ⊎_elim, inl, arith}
 use Rattle.std.proofs.lemmas.Bool.{and_right, lt-leb}
 use Rattle.board_rule.specs.Meaning.{Meaning}
 use Rattle.board_rule.specs.Words.{mem, cell_word, run_word, head_word, cost_word, node_word, who_word}

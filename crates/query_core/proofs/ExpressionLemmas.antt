@@ -1,7 +1,7 @@
 -- Laws of group expressions and their words.
 use Rattle.std.proofs.Common.{◌≡◌, ℕ, ◌*◌, ◌/◌, ◌%◌, ◌≤◌, ◌<◌, ◌^◌, refl, ap, sym, ◌∙◌, ◌↔◌, arith}
 use Rattle.query_core.specs.Keys.{key_number, IsInRange}
-use Rattle.query_core.specs.Expressions.{fields, logical_fields, physical_fields, fields_of, left_number, right_number, packed, word_of, AreInRange, IsPacked}
+use Rattle.query_core.specs.Expressions.{expr_of, fields, logical_fields, physical_fields, fields_of, left_number, right_number, packed, word_of, AreInRange, IsPacked}
 use Rattle.query_core.specs.declared.words.KeyParts.{KeyParts}
 use Rattle.query_core.specs.declared.expressions.Logical.{Logical}
 use Rattle.query_core.specs.declared.expressions.Logical.TheVariants as logical
@@ -13,6 +13,7 @@ use Rattle.query_core.specs.declared.expressions.Children.{Children}
 use Rattle.query_core.specs.declared.expressions.Children.TheVariants.{Zero, One, Two}
 use Rattle.query_core.specs.declared.expressions.Fields.{Fields}
 use Rattle.query_core.specs.declared.expressions.ExprParts.{ExprParts}
+use Rattle.query_core.specs.declared.expressions.PhysicalExpr.{PhysicalExpr}
 use Rattle.query_core.proofs.GroupLemmas.{key_one}
 
 -- operators have numbers below 32
@@ -116,6 +117,14 @@ operator_one (operators.Logical o) (operators.Logical p) same = ap operators.Log
 operator_one (operators.Logical o) (operators.Physical p) same = absurd (apart o p (ap (λ f. f.number) same))
 operator_one (operators.Physical o) (operators.Logical p) same = absurd (apart p o (ap (λ f. f.number) (sym same)))
 operator_one (operators.Physical o) (operators.Physical p) same = ap operators.Physical (physical_one o p same)
+
+-- a physical expression is known by its parts
+pub expr_of_one : (e f : PhysicalExpr) → expr_of e ≡ expr_of f → e ≡ f
+expr_of_one e f same =
+    let group : e.group ≡ f.group = ap (λ (x : ExprParts). x.group) same in
+    let both : operators.Physical e.operator ≡ operators.Physical f.operator = ap (λ (x : ExprParts). x.operator) same in
+    let operator : e.operator ≡ f.operator = cc in
+    ap (λ (g : KeyParts). record { group = g; operator = e.operator }) group ∙ ap (λ (o : Physical). record { group = f.group; operator = o }) operator
 
 -- the word of an expression whose parts fit is that of no other such expression
 pub word_one : (e f : ExprParts) → IsPacked e → IsPacked f → word_of e ≡ word_of f → e ≡ f

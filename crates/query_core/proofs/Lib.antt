@@ -14,3 +14,4 @@ pub mod Unions
 pub mod Apart
 pub mod GoalLemmas
 pub mod Rising
+pub mod Contained

@@ -17,7 +17,7 @@ use Rattle.query_core.proofs.GroupLemmas.{group_in_range}
 use Rattle.query_core.proofs.Whole.{bit_cases}
 
 -- what is reached in a set is reached in a larger one
-reaches_in_more : (links : List Link) (set more : ℕ) → ((t : ℕ) → Has set t → Has more t) → {s t : ℕ} → Reaches links set s t → Reaches links more s t
+pub reaches_in_more : (links : List Link) (set more : ℕ) → ((t : ℕ) → Has set t → Has more t) → {s t : ℕ} → Reaches links set s t → Reaches links more s t
 reaches_in_more links set more within (here has) = here (within _ has)
 reaches_in_more links set more within (along before joined there) = along (reaches_in_more links set more within before) joined (within _ there)
 
@@ -163,7 +163,7 @@ module _ (set t : ℕ) (has : Has set t) where
       }
 
 -- a set of several tables isn't that of one
-several_more : (set t : ℕ) → t < 32 → IsTrue (is_several set) → set ≢ 2 ^ t
+pub several_more : (set t : ℕ) → t < 32 → IsTrue (is_several set) → set ≢ 2 ^ t
 several_more set t within several same =
     let least = trailing_zeros w32 set in
     let small : set < 2 ^ 32 = subst (λ x. x < 2 ^ 32) (sym same) (power_below t 32 within) in

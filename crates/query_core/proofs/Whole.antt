@@ -39,7 +39,7 @@ module _ (set found : ℕ) where
   ]
 
   -- a link leads to a new table, or none does
-  lead_or_closed : (links : List Link) → ((t : ℕ) × (bit found t ≡ 0) × IsLead links found set t) ⊎ IsClosed links set found
+  pub lead_or_closed : (links : List Link) → ((t : ℕ) × (bit found t ≡ 0) × IsLead links found set t) ⊎ IsClosed links set found
   lead_or_closed [] = inr (λ s t has joined there. absurd (false≢true joined))
   lead_or_closed (link ∷ links) = elim (lead_or_closed links) [
     | inl (t, none, (there, (s, has, joined))) ↦ inl (t, none, (there, (s, has, or_right (joins s t link) _ joined)))
@@ -84,12 +84,16 @@ module _ (links : List Link) (set count from : ℕ) (small : set < 2 ^ count) (h
   ]
 
   -- the tables that a table of the set reaches in it are a set
-  component : from < count → (m : ℕ) × (m < 2 ^ count) × IsReached links set from m
-  component there =
+  pub component : (m : ℕ) × (m < 2 ^ count) × IsReached links set from m
+  component =
       let adds : Adds 0 from (2 ^ from) = record {
         this = bit-one from;
         others = λ u other. bit-one_other from u other ∙ sym (bit-none u);
       } in
+      let there : from < count = elim (cases_lt from count) [
+        | inl below ↦ below
+        | inr beyond ↦ absurd (omega (arith, bit-beyond set count from small beyond, has))
+      ] in
       grown (2 ^ count) (2 ^ from) (bit-one from) (reached_first links set from (2 ^ from) has adds) (power_below from count there) (omega arith)
 
 -- what links reach others reach that join at least the same tables
@@ -112,7 +116,7 @@ reached_by_first q (suc bound) t below there =
     elim (cases_eq t 0) [
       | inl same ↦ subst (Reaches q.links all 0) (sym same) (here start)
       | inr other ↦
-          let (m, m_small, reached) = component made all count t small has there in
+          let (m, m_small, reached) = component made all count t small has in
           let own : Has m t = reached.complete t (here has) in
           let within : count ≤ 32 = omega (arith, q.tables_valid.few) in
           let few : 2 ^ count ≤ 2 ^ 32 = pow-le-pow_right (omega arith) within in

@@ -1,5 +1,5 @@
 -- Which tokens begin an element of each list.
-use Rattle.std.proofs.Common.{◌≡◌, Bool, true, false, List, [], ◌∷◌, Some, None, inl, inr, refl, ap, ◌∙◌, pos}
+use Rattle.std.proofs.Common.{◌≡◌, true, false, List, [], ◌∷◌, Some, None, inl, inr, refl, ap, ◌∙◌, pos}
 use Rattle.std.specs.Prelude.{is_some, ◌||◌}
 use Rattle.std.proofs.Math.Bool.{or-true}
 use Rattle.sql_reader.specs.declared.tokens.Mark.TheVariants as marks

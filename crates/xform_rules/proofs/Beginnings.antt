@@ -1,13 +1,13 @@
 -- Laws of what a set begins with, where its tables go one after the other.
-use Rattle.std.proofs.Common.{◌≡◌, ℕ, ◌-◌, ◌^◌, ◌<◌, ◌≤◌, true, None, Some, refl, ap, sym, subst, ◌∙◌, arith, IsTrue, inl, inr}
-use Rattle.std.specs.Prelude.{bit_or, bit_and, is_none, ◌≢◌, ◌==◌, if◌then◌else◌}
-use Rattle.std.specs.Int.{trailing_zeros, w32}
+use Rattle.std.proofs.Common.{◌≡◌, ℕ, ◌-◌, ◌^◌, ◌<◌, ◌≤◌, refl, ap, sym, subst, ◌∙◌, arith, inl, inr}
+use Rattle.std.specs.Prelude.{bit_or, bit_and, ◌≢◌}
 use Rattle.std.proofs.lemmas.Nat.{pow_pos, or_disjoint}
-use Rattle.std.proofs.lemmas.Bool.{cases_eq, eq-eqb, and_parts, false≢true}
-use Rattle.query_core.specs.Sets.{bit, Has, is_several}
+use Rattle.std.proofs.lemmas.Bool.{cases_eq}
+use Rattle.query_core.specs.Sets.{bit, Has}
 use Rattle.query_core.specs.Connected.{AreLinked}
 use Rattle.query_core.specs.declared.query.Query.{Query}
-use Rattle.query_core.proofs.Bits.{bit-below, bit-none, bit-or, bit-and, bit-one_other, bit-difference, same_tables, has_below, power_below, least-found}
+use Rattle.query_core.proofs.Bits.{bit-below, bit-none, bit-or, bit-and, bit-one_other, bit-difference, same_tables, has_below}
+use Rattle.query_core.proofs.Unions.{several_more}
 use Rattle.query_core.proofs.Whole.{bit_cases}
 use Rattle.xform_rules.specs.OneOrder.{IsCutTo, BeginsWith, begun, less, SplitsAfter, cut, associated}
 use Rattle.xform_rules.proofs.Components.{less_of, linked_in_more}
@@ -39,20 +39,6 @@ one_less set t has u in_rest =
       | inr other ↦ absurd (omega (arith, bit-one_other t v other, in_one))
     ] in
     omega (arith, rest_bit set (2 ^ t) power u, in_rest, bit-below set u)
-
--- a set of several tables isn't that of one
-pub several_more : (set t : ℕ) → t < 32 → IsTrue (is_several set) → set ≢ 2 ^ t
-several_more set t within several same =
-    let least = trailing_zeros w32 set in
-    let small : set < 2 ^ 32 = subst (λ x. x < 2 ^ 32) (sym same) (power_below t 32 within) in
-    let some : 0 < set = subst (λ x. 0 < x) (sym same) (pow_pos t) in
-    let has : Has (2 ^ t) least = subst (λ x. Has x least) same (least-found set some small).here in
-    let equal : least ≡ t = elim (cases_eq least t) [
-      | inl is ↦ is
-      | inr other ↦ absurd (omega (arith, bit-one_other t least other, has))
-    ] in
-    let power : (set == 2 ^ least) ≡ true = eq-eqb set (2 ^ least) (same ∙ ap (λ x. 2 ^ x) (sym equal)) in
-    false≢true (subst (λ b. IsTrue (is_none (if b then Some least else None))) power (and_parts _ _ several).1)
 
 module _ (q : Query) where
   -- a last cut leaves a part

@@ -1,24 +1,17 @@
 -- Components of what a part leaves of a connected set: each may be taken away, and each is linked to the part.
-use Rattle.std.proofs.Common.{◌≡◌, ℕ, zero, suc, ◌+◌, ◌-◌, ◌<◌, ◌≤◌, ◌^◌, List, [], ◌∷◌, sym, subst, ◌∙◌, arith, IsTrue, ◌⊎◌, inl, inr}
-use Rattle.std.specs.Prelude.{bit_or, bit_and, bit_xor}
-use Rattle.std.proofs.lemmas.Nat.{or_lt, pow_pos}
-use Rattle.std.proofs.lemmas.Bool.{cases_lt, false≢true, or_left, or_right, or_cases}
-use Rattle.query_core.specs.Sets.{bit, Has, Adds}
-use Rattle.query_core.specs.Connected.{joins, are_joined, Reaches, here, along, IsConnected, AreLinked, IsLead, IsReached, IsClosed}
+use Rattle.std.proofs.Common.{◌≡◌, ℕ, ◌-◌, List, subst, arith, IsTrue, ◌⊎◌, inl, inr}
+use Rattle.std.specs.Prelude.{bit_and, bit_xor}
+use Rattle.query_core.specs.Sets.{bit, Has}
+use Rattle.query_core.specs.Connected.{are_joined, Reaches, here, along, IsConnected, AreLinked, IsReached}
 use Rattle.query_core.specs.declared.predicate.Link.{Link}
-use Rattle.query_core.proofs.Bits.{bit-below, bit-none, bit-or, bit-one, bit-one_other, bit-beyond, bit-difference, one-grows, power_below}
-use Rattle.query_core.proofs.Reach.{reached_in, Reaches-then, Reaches-turned, joined_turned, reached_first, reached_next, reached_is}
-use Rattle.query_core.proofs.TrueLinks.{joins_own, joins_back, joined_ends}
+use Rattle.query_core.proofs.Bits.{bit-below, bit-difference}
+use Rattle.query_core.proofs.Reach.{reached_in, Reaches-then, Reaches-turned, joined_turned}
+use Rattle.query_core.proofs.Unions.{reaches_in_more}
 use Rattle.query_core.proofs.Whole.{bit_cases}
 
 -- the tables of the one set that are not in the other
 abbrev pub less_of : ℕ → ℕ → ℕ
 less_of set part = bit_xor set (bit_and set part)
-
--- what is reached in a set is reached in a larger one
-pub reaches_in_more : (links : List Link) (set more : ℕ) → ((t : ℕ) → Has set t → Has more t) → {s t : ℕ} → Reaches links set s t → Reaches links more s t
-reaches_in_more links set more within (here has) = here (within _ has)
-reaches_in_more links set more within (along before joined there) = along (reaches_in_more links set more within before) joined (within _ there)
 
 -- two sets that a link joins are linked the other way round too
 pub linked_turned : (links : List Link) (a b : ℕ) → AreLinked links a b → AreLinked links b a
@@ -27,78 +20,6 @@ linked_turned links a b (t, (in_b, (s, in_a, joined))) = (s, (in_a, (t, in_b, su
 -- larger sets are linked where smaller ones are
 pub linked_in_more : (links : List Link) (a b c d : ℕ) → ((t : ℕ) → Has a t → Has c t) → ((t : ℕ) → Has b t → Has d t) → AreLinked links a b → AreLinked links c d
 linked_in_more links a b c d left right (t, (in_b, (s, in_a, joined))) = (t, (right t in_b, (s, left s in_a, joined)))
-
-module _ (set found : ℕ) where
-  -- an end of a link is new, or it isn't
-  new_end : (a b : ℕ) → (Has found a × Has set b × (bit found b ≡ 0)) ⊎ (Has found a → Has set b → Has found b)
-  new_end a b = elim (bit_cases found b) [
-    | inl has ↦ inr (λ in_found in_set. has)
-    | inr none ↦ elim (bit_cases found a) [
-      | inr not_found ↦ inr (λ in_found in_set. absurd (omega (arith, not_found, in_found)))
-      | inl in_found ↦ elim (bit_cases set b) [
-        | inr not_in_set ↦ inr (λ has in_set. absurd (omega (arith, not_in_set, in_set)))
-        | inl in_set ↦ inl (in_found, in_set, none)
-      ]
-    ]
-  ]
-
-  -- a link leads to a new table, or none does
-  pub lead_or_closed : (links : List Link) → ((t : ℕ) × (bit found t ≡ 0) × IsLead links found set t) ⊎ IsClosed links set found
-  lead_or_closed [] = inr (λ s t has joined there. absurd (false≢true joined))
-  lead_or_closed (link ∷ links) = elim (lead_or_closed links) [
-    | inl (t, none, (there, (s, has, joined))) ↦ inl (t, none, (there, (s, has, or_right (joins s t link) _ joined)))
-    | inr closed ↦ elim (new_end link.a link.b) [
-      | inl (has, there, none) ↦ inl (link.b, none, (there, (link.a, has, or_left _ _ (joins_own link))))
-      | inr ahead ↦ elim (new_end link.b link.a) [
-        | inl (has, there, none) ↦ inl (link.a, none, (there, (link.b, has, or_left _ _ (joins_back link))))
-        | inr back ↦ inr (λ s t has joined there. elim (or_cases (joins s t link) (are_joined links s t) joined) [
-          | inr rest ↦ closed s t has rest there
-          | inl this ↦ elim (joined_ends link s t this) [
-            | inl (same_s, same_t) ↦ subst (Has found) same_t (ahead (subst (Has found) (sym same_s) has) (subst (Has set) (sym same_t) there))
-            | inr (same_t, same_s) ↦ subst (Has found) same_t (back (subst (Has found) (sym same_s) has) (subst (Has set) (sym same_t) there))
-          ]
-        ])
-      ]
-    ]
-  ]
-
-module _ (links : List Link) (set count from : ℕ) (small : set < 2 ^ count) (has : Has set from) where
-  -- what is found grows until no link leads out of it
-  grown : (fuel found : ℕ) → Has found from → ((t : ℕ) → Has found t → Reaches links set from t) → found < 2 ^ count → 2 ^ count - found ≤ fuel
-      → (m : ℕ) × (m < 2 ^ count) × IsReached links set from m
-  grown zero found first sound few left = absurd (omega (arith, few, left))
-  grown (suc fuel) found first sound few left = elim (lead_or_closed set found links) [
-    | inr closed ↦ (found, few, reached_is links set from found first closed sound)
-    | inl (t, none, lead) ↦
-        let new = bit_or found (2 ^ t) in
-        let adds : Adds found t new = record {
-          this = omega (arith, bit-or found (2 ^ t) t, bit-one t, bit-below found t);
-          others = λ u other. omega (arith, bit-or found (2 ^ t) u, bit-one_other t u other, bit-below found u);
-        } in
-        let more : new ≡ found + 2 ^ t = one-grows found t none in
-        let there : t < count = elim (cases_lt t count) [
-          | inl below ↦ below
-          | inr beyond ↦ absurd (omega (arith, bit-beyond set count t small beyond, lead.0))
-        ] in
-        grown fuel new
-        (omega (arith, bit-or found (2 ^ t) from, first, bit-below (2 ^ t) from))
-        (reached_next links set from found new t sound lead adds)
-        (or_lt count found (2 ^ t) few (power_below t count there))
-        (omega (arith, more, left, pow_pos t))
-  ]
-
-  -- the tables that a table of the set reaches in it are a set
-  pub component : (m : ℕ) × (m < 2 ^ count) × IsReached links set from m
-  component =
-      let adds : Adds 0 from (2 ^ from) = record {
-        this = bit-one from;
-        others = λ u other. bit-one_other from u other ∙ sym (bit-none u);
-      } in
-      let there : from < count = elim (cases_lt from count) [
-        | inl below ↦ below
-        | inr beyond ↦ absurd (omega (arith, bit-beyond set count from small beyond, has))
-      ] in
-      grown (2 ^ count) (2 ^ from) (bit-one from) (reached_first links set from (2 ^ from) has adds) (power_below from count there) (omega arith)
 
 -- the part is in the set, and the component is one of what the part leaves
 pub record IsCarved (links : List Link) (set part rest from found : ℕ) : Type 0 where

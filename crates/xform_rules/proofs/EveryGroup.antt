@@ -9,11 +9,11 @@ use Rattle.query_core.specs.declared.query.Query.{Query}
 use Rattle.query_core.specs.declared.words.KeyParts.TheVariants as groups
 use Rattle.query_core.proofs.Bits.{bit-none, bit-difference, bit-beyond, bit-first, same_tables}
 use Rattle.query_core.proofs.Unions.{sides_turned, join_cut}
-use Rattle.query_core.proofs.Whole.{bit_cases}
+use Rattle.query_core.proofs.Whole.{bit_cases, component}
 use Rattle.std.proofs.lemmas.Bool.{cases_lt}
 use Rattle.xform_rules.specs.Held.{group, sides, all_of, IsHeld, all, left, turned}
 use Rattle.xform_rules.specs.Splits.{AreJoinRulesOn}
-use Rattle.xform_rules.proofs.Components.{less_of, IsCarved, carved_apart, component}
+use Rattle.xform_rules.proofs.Components.{less_of, IsCarved, carved_apart}
 use Rattle.xform_rules.proofs.LastCuts.{some_in, last_cut}
 use Rattle.xform_rules.proofs.EverySplit.{sides_add, less_le, in_either, carved_falls, with_last}
 use Rattle.xform_rules.proofs.Validity.{set_small, falls_several, falls_group, held_valid}

@@ -9,11 +9,11 @@ use Rattle.query_core.specs.Expressions.{FallsInto}
 use Rattle.query_core.specs.declared.query.Query.{Query}
 use Rattle.query_core.proofs.Bits.{bit-below, bit-none, bit-or, bit-and, bit-one, bit-one_other, bit-difference, same_tables}
 use Rattle.query_core.proofs.Unions.{one_connected, sides_turned, sides_moved, sides_whole, sides_apart}
-use Rattle.query_core.proofs.Whole.{bit_cases}
+use Rattle.query_core.proofs.Whole.{bit_cases, component}
 use Rattle.xform_rules.specs.ExpandNAry.{IsLastCut}
 use Rattle.xform_rules.specs.Held.{group, sides, IsHeld, left, expanded, moved}
 use Rattle.xform_rules.specs.Splits.{AreJoinRulesOn}
-use Rattle.xform_rules.proofs.Components.{less_of, IsCarved, carved_set, carved_apart, carved_from, carved_connected, carved_linked, others_connected, component, linked_in_more}
+use Rattle.xform_rules.proofs.Components.{less_of, IsCarved, carved_set, carved_apart, carved_from, carved_connected, carved_linked, others_connected, linked_in_more}
 use Rattle.xform_rules.proofs.LastCuts.{within_le, some_in}
 
 -- a set is as large as its two sides together

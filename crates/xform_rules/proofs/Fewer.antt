@@ -9,8 +9,8 @@ use Rattle.query_core.specs.Keys.{IsGroup}
 use Rattle.query_core.specs.Expressions.{FallsInto}
 use Rattle.query_core.specs.declared.query.Query.{Query}
 use Rattle.query_core.specs.declared.words.KeyParts.TheVariants as groups
+use Rattle.query_core.proofs.Bits.{bit-and, bit-beyond, bit-none, bit-or, same_tables}
 use Rattle.xform_rules.specs.Counts.{table_count}
-use Rattle.xform_rules.proofs.Sets.{bit-or, bit-and, bit-none, bit-above, same_tables}
 
 -- a set of none of the ten tables has none of them
 no_table : (set t : ℕ) → table_count set ≤ 0 → t < 10 → bit set t ≡ 0
@@ -33,7 +33,7 @@ some_table set small some = elim (cases_lt 0 (table_count set)) [
   | inr none ↦
       let empty : set ≡ 0 = same_tables set 0 (λ t. elim (cases_lt t 10) [
         | inl below ↦ no_table set t none below ∙ sym (bit-none t)
-        | inr above ↦ bit-above set 10 t small above ∙ sym (bit-none t)
+        | inr above ↦ bit-beyond set 10 t small above ∙ sym (bit-none t)
       ]) in
       absurd (omega (arith, empty, some))
 ]

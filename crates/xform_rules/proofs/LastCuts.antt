@@ -10,10 +10,9 @@ use Rattle.query_core.specs.declared.predicate.Link.{Link}
 use Rattle.query_core.specs.declared.query.Query.{Query}
 use Rattle.query_core.proofs.Bits.{bit-below, bit-none, bit-or, bit-one, bit-one_other, one-grows, same_tables, least-found, has_below}
 use Rattle.query_core.proofs.Reach.{Reaches-then, Reaches-turned, reached_all, connected_from, whole_from}
-use Rattle.query_core.proofs.Unions.{one_connected}
-use Rattle.query_core.proofs.Whole.{bit_cases}
+use Rattle.query_core.proofs.Unions.{one_connected, reaches_in_more}
+use Rattle.query_core.proofs.Whole.{bit_cases, component, lead_or_closed}
 use Rattle.xform_rules.specs.ExpandNAry.{IsCut, IsLastCut}
-use Rattle.xform_rules.proofs.Components.{reaches_in_more, lead_or_closed, component}
 
 -- a set with some of another's tables is at most that
 pub within_le : (a b : ℕ) → ((t : ℕ) → Has a t → Has b t) → a ≤ b

@@ -5,6 +5,7 @@ use Rattle.std.specs.List.{Contains}
 use native.Mathlib.Numerals.{unary_clauses}
 use Rattle.std.specs.List.Sorted.{IsStrictlyIncreasing}
 use Rattle.query_core.specs.declared.query.Query.{Query}
+use Rattle.query_core.proofs.Contained.{contains_here, contains_later}
 use Rattle.xform_rules.specs.Closure.{IsClosureOf}
 
 -- the words behind the first ascend
@@ -40,20 +41,16 @@ behind : (x y w : ℕ) (ys : List ℕ) → x ≡ y → x < w → Contains (y ∷
 behind x y w ys same less (zero, within, is) = absurd (omega (arith, same, less, is))
 behind x y w ys same less (suc k, within, is) = (k, omega (arith, within), is)
 
--- what is behind the first is in the whole
-later : (x : ℕ) (xs : List ℕ) (w : ℕ) → Contains xs w → Contains (x ∷ xs) w
-later x xs w (k, within, is) = (suc k, omega (arith, within), is)
-
 -- two ascending lists of the same words are one
 pub increasing_one : (xs ys : List ℕ) → IsStrictlyIncreasing xs → IsStrictlyIncreasing ys → ((w : ℕ) → Contains xs w → Contains ys w) → ((w : ℕ) → Contains ys w → Contains xs w) → xs ≡ ys
 increasing_one [] [] first second to from = refl
-increasing_one [] (y ∷ ys) first second to from = let (k, within, is) = from y (zero, omega arith, refl) in absurd (omega (arith, within))
-increasing_one (x ∷ xs) [] first second to from = let (k, within, is) = to x (zero, omega arith, refl) in absurd (omega (arith, within))
+increasing_one [] (y ∷ ys) first second to from = let (k, within, is) = from y (contains_here y ys) in absurd (omega (arith, within))
+increasing_one (x ∷ xs) [] first second to from = let (k, within, is) = to x (contains_here x xs) in absurd (omega (arith, within))
 increasing_one (x ∷ xs) (y ∷ ys) first second to from =
-    let same : x ≡ y = one_first x y xs ys first second (to x (zero, omega arith, refl)) (from y (zero, omega arith, refl)) in
+    let same : x ≡ y = one_first x y xs ys first second (to x (contains_here x xs)) (from y (contains_here y ys)) in
     let rest : xs ≡ ys = increasing_one xs ys (tail_increasing x xs first) (tail_increasing y ys second)
-    (λ w there. behind x y w ys same (above x xs w first there) (to w (later x xs w there)))
-    (λ w there. behind y x w xs (sym same) (above y ys w second there) (from w (later y ys w there))) in
+    (λ w there. behind x y w ys same (above x xs w first there) (to w (contains_later x xs w there)))
+    (λ w there. behind y x w xs (sym same) (above y ys w second there) (from w (contains_later y ys w there))) in
     ap (λ z. z ∷ xs) same ∙ ap (λ zs. y ∷ zs) rest
 
 -- the words of one closure are among those of the other

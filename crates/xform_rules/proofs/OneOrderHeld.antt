@@ -5,7 +5,7 @@ use Rattle.query_core.specs.Sets.{Has, is_several}
 use Rattle.query_core.specs.Connected.{AreLinked}
 use Rattle.query_core.specs.Expressions.{FallsInto}
 use Rattle.query_core.specs.declared.query.Query.{Query}
-use Rattle.query_core.proofs.Unions.{sides_turned}
+use Rattle.query_core.proofs.Unions.{several_more, sides_turned}
 use Rattle.query_core.proofs.Bits.{bit-one_other, has_below}
 use Rattle.std.proofs.lemmas.Bool.{cases_eq}
 use Rattle.xform_rules.proofs.LastCuts.{within_le}
@@ -15,7 +15,7 @@ use Rattle.xform_rules.specs.Held.{Place, group, sides, all_of, IsHeld, all, lef
 use Rattle.xform_rules.specs.OneOrder.{IsCutTo, BeginsWith, begun, less, SplitsAfter, cut, associated, LeadsTo, there, by_left, by_right}
 use Rattle.xform_rules.proofs.EverySplit.{sides_add}
 use Rattle.xform_rules.proofs.Validity.{set_small, held_valid}
-use Rattle.xform_rules.proofs.Beginnings.{several_more, begins_then}
+use Rattle.xform_rules.proofs.Beginnings.{begins_then}
 use Rattle.xform_rules.proofs.Leading.{leads_then}
 
 -- where a set falls into two, the one is what the other leaves

@@ -47,7 +47,7 @@ fn is_cut(query: &Query, set: u32, table: u32) -> bool
 }
 
 /// The other tables of the set.
-#[tactic(auto, using(crate::proofs::Sets::without_one, crate::proofs::Sets::has_below))]
+#[tactic(auto, using(crate::proofs::Sets::without_one, query_core::proofs::Bits::has_below))]
 pub fn without(set: u32, table: u32) -> u32
     requires { Has set table }
     ensures { result ≡ set - 2 ^ table }

@@ -1,5 +1,5 @@
 use Rattle.std.proofs.Common.{rules}
-use Rattle.xform_rules.proofs.Sets.{has_below}
+use Rattle.query_core.proofs.Bits.{has_below}
 use Rattle.xform_rules.proofs.expand_n_ary.expanded.Goals as goal
 
 -- the table is one of the set

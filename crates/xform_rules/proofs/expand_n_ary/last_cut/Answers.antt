@@ -1,5 +1,5 @@
 use Rattle.std.proofs.Common.{rules, arith}
-use Rattle.xform_rules.proofs.Sets.{has_below}
+use Rattle.query_core.proofs.Bits.{has_below}
 use Rattle.xform_rules.proofs.expand_n_ary.last_cut.Goals as goal
 
 -- the set has no table from 32 on
