@@ -13,10 +13,6 @@ pub mod Told
 pub mod Tried
 pub mod Enforced
 pub mod Serving
-pub mod ModesTried
-pub mod LineModes
-pub mod LeftFits
-pub mod Unordered
 pub mod Held
 pub mod LeastWords
 pub mod GoalsHeld

@@ -5,6 +5,5 @@ pub mod Groups
 pub mod Results
 pub mod Choices
 pub mod Requests
-pub mod ServingModes
 pub mod Turns
 pub mod Seats

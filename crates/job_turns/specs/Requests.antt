@@ -32,10 +32,6 @@ pub record IsImplemented (q : Query) (room : ℕ) (looks : List (ℕ × ℕ)) (g
 
 -- ---- members
 
--- the expression may serve the request in some mode
-abbrev pub MayServe : Query → PhysicalExpr → Request → Type 0
-MayServe q e wanted = (mode : ℕ) × HasAlternative q e wanted mode
-
 -- the word is that of this member of the group, which may serve the request
 pub record IsServing (q : Query) (group : KeyParts) (wanted : Request) (word : ℕ) (e : PhysicalExpr) : Type 0 where
   pub can : CanServe (IsMember q) q group wanted e

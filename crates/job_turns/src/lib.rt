@@ -7,7 +7,6 @@ mod expressions;
 mod group_members;
 mod groups;
 mod laws;
-mod may_serve;
 mod members;
 mod modes;
 mod one_turn;

@@ -1,7 +1,6 @@
 -- The lines of a candidate ask what fits its children, and give what lies in its group.
 use Rattle.std.proofs.Common.{◌≡◌, ℕ, refl, sym, subst, inl, inr}
-use Rattle.std.specs.Prelude.{Some, None, ◌==◌}
-use Rattle.std.proofs.lemmas.Bool.{cond_both}
+use Rattle.std.specs.Prelude.{Some}
 use Rattle.query_core.specs.Expressions.{expr_of, physical_children, HasPhysical, IsFiltered, IsJoin, IsAggregated, IsPartial, IsCandidate}
 use Rattle.query_core.specs.Keys.{input_of, top_of}
 use Rattle.query_core.specs.declared.query.Query.{Query}
@@ -15,27 +14,33 @@ use Rattle.request_props.specs.declared.given.GivenOrder.{GivenOrder}
 use Rattle.request_props.specs.declared.given.GivenOrder.TheVariants.{Listed, Index}
 use Rattle.plan_space.specs.Gives.{gives_so}
 use Rattle.request_props.specs.Numbered.{table_dist, group_order}
-use Rattle.plan_space.specs.Lines.{in_order, only_line, table_in, table_line, operator_line, line_of}
+use Rattle.plan_space.specs.Lines.{in_order, single_line, table_in, table_line, operator_line, line_of}
 use Rattle.plan_space.specs.declared.lines.LeftDist.TheVariants as left_dists
 use Rattle.plan_space.specs.declared.lines.LeftOrder.TheVariants as left_orders
 use Rattle.plan_space.specs.declared.lines.Line.{Line}
 use Rattle.plan_space.specs.declared.lines.Line.TheVariants as lines
+use Rattle.plan_space.specs.declared.modes.Mode.{Mode}
+use Rattle.plan_space.specs.declared.modes.Mode.TheVariants as modes
 use Rattle.plan_space.specs.Laws.{GivenFits}
+use Rattle.plan_space.specs.Modes.{mode_at}
 use Rattle.plan_space.proofs.Numbers.{ListingIsOne}
 use Rattle.plan_space.proofs.Items.{JoinsGroups, sets_join}
 use Rattle.plan_space.proofs.Fitting.{DistsFit, top_dists_fit, IsFitting, no_order_fits, dist_passes, dist_asked_kept}
 use Rattle.plan_space.proofs.Grouped.{HasGrouped, input_has_grouped, group_order_fits, agg_line_fits, partial_fits}
 use Rattle.plan_space.proofs.Joins.{hash_line_fits, merge_line_fits, loop_line_fits}
 use Rattle.plan_space.proofs.Leaves.{scan_fits, index_scan_fits}
+use Rattle.plan_space.proofs.FewModes.{only_found}
 
 -- an operator with one line has no other
-only_one : (line found : Line) (mode : ℕ) → only_line line mode ≡ Some found → line ≡ found
-only_one line found mode = cond_both (mode == 0) (Some line) None (λ o. o ≡ Some found → line ≡ found) (λ first is. cc) (λ other never. cc)
+only_one : (line found : Line) (mode : Mode) → single_line line mode ≡ Some found → line ≡ found
+only_one line found (modes.One number) = only_found line found number
+only_one line found (modes.Copied number) = λ never. cc
+only_one line found (modes.Hashed number) = λ never. cc
 
 module _ (one : ListingIsOne) (q : Query) where
   -- the one line of an operator over a table
-  table_line_fits : (group own : KeyParts) (order : KeyParts → GivenOrder) (mode : ℕ) (line : Line) → group ≡ own
-      → only_line (table_line q group (order group)) mode ≡ Some line → GivenFits q own (gives_so (table_dist q (table_in own)) (order own))
+  table_line_fits : (group own : KeyParts) (order : KeyParts → GivenOrder) (mode : Mode) (line : Line) → group ≡ own
+      → single_line (table_line q group (order group)) mode ≡ Some line → GivenFits q own (gives_so (table_dist q (table_in own)) (order own))
       → IsFitting q group Zero line
   table_line_fits group own order mode line of_table is fits =
       let same : table_line q group (order group) ≡ line = only_one (table_line q group (order group)) line mode is in
@@ -68,14 +73,14 @@ module _ (one : ListingIsOne) (q : Query) where
     gives = record { dist_within = dist_passes q (groups.Filter t) (groups.Get t) (λ i item. item) (λ dist lies. lies); order_within = λ order lies. lies };
   }
 
-  filter_over : (group child : KeyParts) (mode : ℕ) (line : Line) → IsFiltered group child
-      → only_line (lines.Above left_dists.Same left_orders.Same) mode ≡ Some line → IsFitting q group (One child) line
+  filter_over : (group child : KeyParts) (mode : Mode) (line : Line) → IsFiltered group child
+      → single_line (lines.Above left_dists.Same left_orders.Same) mode ≡ Some line → IsFitting q group (One child) line
   filter_over group child mode line (t, of_table, over) is =
       let same = only_one (lines.Above left_dists.Same left_orders.Same) line mode is in
       along group (groups.Filter t) child (groups.Get t) (lines.Above left_dists.Same left_orders.Same) line of_table over same (filter_fits t)
 
-  partial_over : (group child : KeyParts) (mode : ℕ) (line : Line) → IsPartial q group child
-      → only_line (lines.Above left_dists.SameSpread (in_order 0)) mode ≡ Some line → IsFitting q group (One child) line
+  partial_over : (group child : KeyParts) (mode : Mode) (line : Line) → IsPartial q group child
+      → single_line (lines.Above left_dists.SameSpread (in_order 0)) mode ≡ Some line → IsFitting q group (One child) line
   partial_over group child mode line (of_partial, over) is =
       let same = only_one (lines.Above left_dists.SameSpread (in_order 0)) line mode is in
       along group groups.Partial child (input_of q) (lines.Above left_dists.SameSpread (in_order 0)) line of_partial over same (partial_fits q)
@@ -92,7 +97,7 @@ module _ (one : ListingIsOne) (q : Query) where
   join_lists group left right (set, a, b, of_set, falls, is_left, is_right) = subst (DistsFit q) (sym is_left) (top_dists_fit q a)
 
   -- the lines of an operator that a group of the query can have
-  line_fits : (group : KeyParts) (operator : Physical) (mode : ℕ) (line : Line) → HasPhysical q group operator
+  line_fits : (group : KeyParts) (operator : Physical) (mode : Mode) (line : Line) → HasPhysical q group operator
       → operator_line q group operator mode ≡ Some line → IsFitting q group (physical_children operator) line
   line_fits group physical.Scan mode line (t, of_table) is =
       table_line_fits group (groups.Get t) (λ g. Listed 0) mode line of_table is (scan_fits one q t (groups.Get t) (λ i column. column))
@@ -103,11 +108,11 @@ module _ (one : ListingIsOne) (q : Query) where
       table_line_fits group (groups.Filter t) (λ g. Index (table_in g) index) mode line of_table is
       (index_scan_fits one q t (groups.Filter t) (λ i column. column) index)
   line_fits group (physical.HashJoin left right) mode line shape is =
-      hash_line_fits one q group left right (join_lists group left right shape) (join_shape group left right shape) mode line is
+      hash_line_fits one q group left right (join_lists group left right shape) (join_shape group left right shape) line mode is
   line_fits group (physical.MergeJoin left right) mode line shape is =
-      merge_line_fits one q group left right (join_lists group left right shape) (join_shape group left right shape) mode line is
+      merge_line_fits one q group left right (join_lists group left right shape) (join_shape group left right shape) line mode is
   line_fits group (physical.LoopJoin left right) mode line shape is =
-      loop_line_fits one q group left right (join_lists group left right shape) (join_shape group left right shape) mode line is
+      loop_line_fits one q group left right (join_lists group left right shape) (join_shape group left right shape) line mode is
   line_fits group (physical.HashAgg child) mode line shape is =
       agg_over group child line shape (λ from has. agg_line_fits q from has 0 (λ other has_too. no_order_fits q other) mode line is)
   line_fits group (physical.StreamAgg child) mode line shape is =
@@ -117,4 +122,4 @@ module _ (one : ListingIsOne) (q : Query) where
   -- the lines of an expression that a group of the query can hold
   pub candidate_line_fits : (e : PhysicalExpr) (mode : ℕ) (line : Line) → IsCandidate q (expr_of e) → line_of q e mode ≡ Some line
       → IsFitting q e.group (physical_children e.operator) line
-  candidate_line_fits e mode line candidate is = line_fits e.group e.operator mode line candidate.shape is
+  candidate_line_fits e mode line candidate is = line_fits e.group e.operator (mode_at mode) line candidate.shape is

@@ -21,6 +21,8 @@ use Rattle.plan_space.specs.declared.lines.LeftDist.{LeftDist}
 use Rattle.plan_space.specs.declared.lines.LeftDist.TheVariants as left_dists
 use Rattle.plan_space.specs.declared.lines.Line.{Line}
 use Rattle.plan_space.specs.declared.lines.Line.TheVariants as lines
+use Rattle.plan_space.specs.declared.modes.Mode.{Mode}
+use Rattle.plan_space.specs.declared.modes.Mode.TheVariants as modes
 use Rattle.plan_space.proofs.Numbers.{ListingIsOne, contains_here, order_numbered}
 use Rattle.plan_space.proofs.Fitting.{DistWithin, IsFitting, half, no_order_fits, dist_asked_kept}
 use Rattle.plan_space.proofs.Root.{input_item}
@@ -121,22 +123,25 @@ module _ (q : Query) (from : KeyParts) (has : HasGrouped q from) (order : ℕ)
       agg_fits (left_dists.Grouped list) (λ wanted serves. grouped_list_fits q from has list serves.0)
       (λ grouped. grouped_list_fits q groups.Agg (agg_has_grouped q) list grouped)
 
+  no_line : (line : Line) → None ≡ Some line → IsFitting q groups.Agg (One from) line
+  no_line line never = cc
+
   -- so each line of an aggregation fits
-  pub agg_line_fits : (mode : ℕ) (line : Line) → agg_line q order mode ≡ Some line → IsFitting q groups.Agg (One from) line
-  agg_line_fits mode line =
-      cond_both (mode == 0) (Some (lines.Above on_one (in_order order))) _ (λ found. found ≡ Some line → IsFitting q groups.Agg (One from) line)
+  pub agg_line_fits : (mode : Mode) (line : Line) → agg_line q order mode ≡ Some line → IsFitting q groups.Agg (One from) line
+  agg_line_fits (modes.One number) line =
+      cond_both (number == 0) (Some (lines.Above on_one (in_order order))) None (λ found. found ≡ Some line → IsFitting q groups.Agg (One from) line)
       (λ first is.
       let same : lines.Above on_one (in_order order) ≡ line = cc in
       subst (IsFitting q groups.Agg (One from)) same (agg_fits on_one (λ wanted serves. tt) tt))
-      (λ later.
-      cond_both (nat_lt mode 128) None _ (λ found. found ≡ Some line → IsFitting q groups.Agg (One from) line) (λ below is. let never : None ≡ Some line = is in cc)
-      (λ beyond.
-      cond_both (nat_lt (mode - 128) (length (lists_of q))) (Some (lines.Above (left_dists.Grouped (mode - 128)) (in_order order))) None
+      (λ other. no_line line)
+  agg_line_fits (modes.Copied number) line = no_line line
+  agg_line_fits (modes.Hashed list) line =
+      cond_both (nat_lt list (length (lists_of q))) (Some (lines.Above (left_dists.Grouped list) (in_order order))) None
       (λ found. found ≡ Some line → IsFitting q groups.Agg (One from) line)
       (λ numbered is.
-      let same : lines.Above (left_dists.Grouped (mode - 128)) (in_order order) ≡ line = cc in
-      subst (IsFitting q groups.Agg (One from)) same (hashed_fits (mode - 128)))
-      (λ other is. let never : None ≡ Some line = is in cc)))
+      let same : lines.Above (left_dists.Grouped list) (in_order order) ≡ line = cc in
+      subst (IsFitting q groups.Agg (One from)) same (hashed_fits list))
+      (λ other. no_line line)
 
 -- an aggregation of partial groups leaves the rows of the input where they lie
 pub partial_fits : (q : Query) → IsFitting q groups.Partial (One (input_of q)) (lines.Above left_dists.SameSpread (in_order 0))

@@ -1,6 +1,6 @@
 -- The lines of joins ask what fits their children, and give what lies in their group.
-use Rattle.std.proofs.Common.{◌≡◌, ℕ, ◌-◌, Bool, refl, subst, nat_lt}
-use Rattle.std.specs.Prelude.{Option, Some, None, ◌==◌, if◌then◌else◌}
+use Rattle.std.proofs.Common.{◌≡◌, ℕ, refl, subst}
+use Rattle.std.specs.Prelude.{Option, Some, None, ◌==◌}
 use Rattle.std.specs.Option.{option_map}
 use Rattle.std.proofs.lemmas.Bool.{cond_both}
 use Rattle.query_core.specs.Crossing.{crossing_of}
@@ -11,7 +11,7 @@ use Rattle.request_props.specs.declared.request.Request.{Request}
 use Rattle.request_props.specs.declared.request.Dist.{Dist}
 use Rattle.request_props.specs.declared.request.Dist.TheVariants as dists
 use Rattle.request_props.specs.Fitting.{DistFits, Fits}
-use Rattle.plan_space.specs.Lines.{request, in_order, on_one, on_hashed, hash_colocated, hash_line, merge_with, merge_colocated, merge_line, loop_line}
+use Rattle.plan_space.specs.Lines.{request, in_order, on_one, on_hashed, only_line, hash_colocated, hash_line, merge_with, merge_colocated, merge_line, loop_line}
 use Rattle.request_props.specs.Numbered.{column_order, column_list}
 use Rattle.plan_space.specs.declared.lines.LeftDist.{LeftDist}
 use Rattle.plan_space.specs.declared.lines.LeftDist.TheVariants as left_dists
@@ -19,6 +19,8 @@ use Rattle.plan_space.specs.declared.lines.LeftOrder.{LeftOrder}
 use Rattle.plan_space.specs.declared.lines.LeftOrder.TheVariants as left_orders
 use Rattle.plan_space.specs.declared.lines.Line.{Line}
 use Rattle.plan_space.specs.declared.lines.Line.TheVariants as lines
+use Rattle.plan_space.specs.declared.modes.Mode.{Mode}
+use Rattle.plan_space.specs.declared.modes.Mode.TheVariants as modes
 use Rattle.plan_space.proofs.Numbers.{ListingIsOne}
 use Rattle.plan_space.proofs.Items.{AreSides, JoinsGroups}
 use Rattle.plan_space.proofs.Fitting.{FixedDistFits, FixedOrderFits, LeftFits, DistsFit, IsFitting, column_hash_fits, column_order_fits, no_order_fits, in_order_fits, on_hashed_fits, plain_fits, items_within}
@@ -59,7 +61,7 @@ module _ (one : ListingIsOne) (q : Query) (group left right : KeyParts) (lists_f
       (on_hashed_fits q left (column_list q sides.0) (column_hash_fits one q left sides.0 are.in_left are.left_joined))
       (column_hash_fits one q right sides.1 are.in_right are.right_joined) sides are
 
-  module _ (mode : ℕ) (line : Line) where
+  module _ (line : Line) where
     no_line : None ≡ Some line → JoinFits line
     no_line never = cc
 
@@ -83,25 +85,23 @@ module _ (one : ListingIsOne) (q : Query) (group left right : KeyParts) (lists_f
         → option_map line_with (crossing_of q left right number) ≡ Some line → JoinFits line
     crossing_line line_with fits number = line_of_sides line_with fits (crossing_of q left right number) (joins.sides number)
 
-    -- a line that is chosen by a test fits where both do
-    chosen_line : (test : Bool) (first second : Option Line) → (first ≡ Some line → JoinFits line) → (second ≡ Some line → JoinFits line)
-        → (if test then first else second) ≡ Some line → JoinFits line
-    chosen_line test first second by_first by_second = cond_both test first second (λ found. found ≡ Some line → JoinFits line) (λ passes. by_first) (λ fails. by_second)
+    -- a line where the number is 0
+    only_fits : (own : Line) (number : ℕ) → (Some own ≡ Some line → JoinFits line) → only_line own number ≡ Some line → JoinFits line
+    only_fits own number fits = cond_both (number == 0) (Some own) None (λ found. found ≡ Some line → JoinFits line) (λ first. fits) (λ other. no_line)
 
-    pub hash_line_fits : hash_line q left right mode ≡ Some line → JoinFits line
-    hash_line_fits =
-        chosen_line (mode == 0) _ _ (plain_line on_one (in_order 0) dists.One (tt, tt) (in_order_fits q left 0 (no_order_fits q left)) tt)
-        (chosen_line (mode == 64) _ _ (plain_line left_dists.SameSpread (in_order 0) dists.Copies lists_fit (in_order_fits q left 0 (no_order_fits q left)) tt)
-        (chosen_line (nat_lt mode 128) _ _ no_line
-        (crossing_line (hash_colocated q) hash_colocated_fits (mode - 128))))
+    pub hash_line_fits : (mode : Mode) → hash_line q left right mode ≡ Some line → JoinFits line
+    hash_line_fits (modes.One number) = only_fits _ number (plain_line on_one (in_order 0) dists.One (tt, tt) (in_order_fits q left 0 (no_order_fits q left)) tt)
+    hash_line_fits (modes.Copied number) =
+        only_fits _ number (plain_line left_dists.SameSpread (in_order 0) dists.Copies lists_fit (in_order_fits q left 0 (no_order_fits q left)) tt)
+    hash_line_fits (modes.Hashed number) = crossing_line (hash_colocated q) hash_colocated_fits number
 
-    pub merge_line_fits : merge_line q left right mode ≡ Some line → JoinFits line
-    merge_line_fits =
-        chosen_line (nat_lt mode 64) _ _ (crossing_line (merge_with q on_one dists.One) (merge_fits on_one dists.One (tt, tt) tt) mode)
-        (chosen_line (nat_lt mode 128) _ _ (crossing_line (merge_with q left_dists.SameSpread dists.Copies) (merge_fits left_dists.SameSpread dists.Copies lists_fit tt) (mode - 64))
-        (crossing_line (merge_colocated q) merge_colocated_fits (mode - 128)))
+    pub merge_line_fits : (mode : Mode) → merge_line q left right mode ≡ Some line → JoinFits line
+    merge_line_fits (modes.One number) = crossing_line (merge_with q on_one dists.One) (merge_fits on_one dists.One (tt, tt) tt) number
+    merge_line_fits (modes.Copied number) =
+        crossing_line (merge_with q left_dists.SameSpread dists.Copies) (merge_fits left_dists.SameSpread dists.Copies lists_fit tt) number
+    merge_line_fits (modes.Hashed number) = crossing_line (merge_colocated q) merge_colocated_fits number
 
-    pub loop_line_fits : loop_line mode ≡ Some line → JoinFits line
-    loop_line_fits =
-        chosen_line (mode == 0) _ _ (plain_line on_one left_orders.Same dists.One (tt, tt) tt tt)
-        (chosen_line (mode == 64) _ _ (plain_line left_dists.SameSpread left_orders.Same dists.Copies lists_fit tt tt) no_line)
+    pub loop_line_fits : (mode : Mode) → loop_line mode ≡ Some line → JoinFits line
+    loop_line_fits (modes.One number) = only_fits _ number (plain_line on_one left_orders.Same dists.One (tt, tt) tt tt)
+    loop_line_fits (modes.Copied number) = only_fits _ number (plain_line left_dists.SameSpread left_orders.Same dists.Copies lists_fit tt tt)
+    loop_line_fits (modes.Hashed number) = no_line

@@ -10,7 +10,8 @@ pub mod Splits
 pub mod Codes
 pub mod Plans
 pub mod Exchange
-pub mod Modes
+pub mod ModeNumbers
+pub mod FewModes
 pub mod Few
 pub mod Numbering
 pub mod NodeNumbers

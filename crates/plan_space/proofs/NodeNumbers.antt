@@ -25,7 +25,7 @@ use Rattle.plan_space.specs.declared.lines.Line.{Line}
 use Rattle.plan_space.specs.declared.lines.Line.TheVariants as lines
 use Rattle.plan_space.specs.Gives.{Kid}
 use Rattle.plan_space.specs.Valid.{OverOne, OverTwo, OneFits, TwoFit, FitsBy, EnforcerFits, NodeFits}
-use Rattle.plan_space.proofs.Modes.{byte_modes}
+use Rattle.plan_space.proofs.FewModes.{byte_modes}
 
 -- an enforcer's order or list has no greater number than this
 abbrev pub IsEnforcerInRange : ℕ → Enforcer → Type 0

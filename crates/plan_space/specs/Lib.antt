@@ -1,4 +1,5 @@
 pub mod Nodes
+pub mod Modes
 pub mod Lines
 pub mod Gives
 pub mod Valid

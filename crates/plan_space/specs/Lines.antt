@@ -1,5 +1,5 @@
 -- How physical expressions work: for each mode of an expression, what it needs of its children and what it gives.
-use Rattle.std.specs.Prelude.{ℕ, ◌-◌, ◌==◌, length, Option, None, Some, nat_lt, if◌then◌else◌}
+use Rattle.std.specs.Prelude.{ℕ, ◌==◌, length, Option, None, Some, nat_lt, if◌then◌else◌}
 use Rattle.std.specs.Option.{option_map}
 use Rattle.query_core.specs.Crossing.{crossing_of}
 use Rattle.query_core.specs.declared.query.Query.{Query}
@@ -21,6 +21,9 @@ use Rattle.plan_space.specs.declared.lines.LeftOrder.{LeftOrder}
 use Rattle.plan_space.specs.declared.lines.LeftOrder.TheVariants as left_orders
 use Rattle.plan_space.specs.declared.lines.Line.{Line}
 use Rattle.plan_space.specs.declared.lines.Line.TheVariants.{Alone, Above, Beside}
+use Rattle.plan_space.specs.Modes.{mode_at}
+use Rattle.plan_space.specs.declared.modes.Mode.{Mode}
+use Rattle.plan_space.specs.declared.modes.Mode.TheVariants.{One, Copied, Hashed}
 
 abbrev pub request : Dist → ℕ → Request
 request dist order = record { dist = dist; order = order }
@@ -39,9 +42,15 @@ on_hashed list = left_dists.Fixed (given.Hashed list) (dists.Hashed list)
 
 -- ---- the lines of each operator
 
--- one line, in mode 0
+-- a line where the number is 0
 abbrev pub only_line : Line → ℕ → Option Line
-only_line line mode = if mode == 0 then Some line else None
+only_line line number = if number == 0 then Some line else None
+
+-- one line, in one mode
+abbrev pub single_line : Line → Mode → Option Line
+single_line line (One number) = only_line line number
+single_line line (Copied number) = None
+single_line line (Hashed number) = None
 
 -- the table whose rows a group has
 abbrev pub table_in : KeyParts → ℕ
@@ -60,12 +69,10 @@ abbrev pub hash_colocated : Query → (ℕ × ℕ) → Line
 hash_colocated q sides = Beside (on_hashed (column_list q sides.0)) (in_order 0) (request (dists.Hashed (column_list q sides.1)) 0)
 
 -- a hash join: on one segment, with copies of the right side, or for each crossing equality of rows hashed alike
-abbrev pub hash_line : Query → KeyParts → KeyParts → ℕ → Option Line
-hash_line q left right mode =
-    if mode == 0 then Some (Beside on_one (in_order 0) (request dists.One 0))
-    else if mode == 64 then Some (Beside left_dists.SameSpread (in_order 0) (request dists.Copies 0))
-    else if nat_lt mode 128 then None
-    else option_map (hash_colocated q) (crossing_of q left right (mode - 128))
+abbrev pub hash_line : Query → KeyParts → KeyParts → Mode → Option Line
+hash_line q left right (One number) = only_line (Beside on_one (in_order 0) (request dists.One 0)) number
+hash_line q left right (Copied number) = only_line (Beside left_dists.SameSpread (in_order 0) (request dists.Copies 0)) number
+hash_line q left right (Hashed number) = option_map (hash_colocated q) (crossing_of q left right number)
 
 -- a merge join of rows in the order of the two sides of an equality
 abbrev pub merge_with : Query → LeftDist → Dist → (ℕ × ℕ) → Line
@@ -76,42 +83,39 @@ abbrev pub merge_colocated : Query → (ℕ × ℕ) → Line
 merge_colocated q sides = merge_with q (on_hashed (column_list q sides.0)) (dists.Hashed (column_list q sides.1)) sides
 
 -- a merge join for each crossing equality: on one segment, with copies of the right side, or of rows hashed alike
-abbrev pub merge_line : Query → KeyParts → KeyParts → ℕ → Option Line
-merge_line q left right mode =
-    if nat_lt mode 64 then option_map (merge_with q on_one dists.One) (crossing_of q left right mode)
-    else if nat_lt mode 128 then option_map (merge_with q left_dists.SameSpread dists.Copies) (crossing_of q left right (mode - 64))
-    else option_map (merge_colocated q) (crossing_of q left right (mode - 128))
+abbrev pub merge_line : Query → KeyParts → KeyParts → Mode → Option Line
+merge_line q left right (One number) = option_map (merge_with q on_one dists.One) (crossing_of q left right number)
+merge_line q left right (Copied number) = option_map (merge_with q left_dists.SameSpread dists.Copies) (crossing_of q left right number)
+merge_line q left right (Hashed number) = option_map (merge_colocated q) (crossing_of q left right number)
 
 -- a loop join: on one segment, or with copies of the right side; it keeps the left child's order
-abbrev pub loop_line : ℕ → Option Line
-loop_line mode =
-    if mode == 0 then Some (Beside on_one left_orders.Same (request dists.One 0))
-    else if mode == 64 then Some (Beside left_dists.SameSpread left_orders.Same (request dists.Copies 0))
-    else None
+abbrev pub loop_line : Mode → Option Line
+loop_line (One number) = only_line (Beside on_one left_orders.Same (request dists.One 0)) number
+loop_line (Copied number) = only_line (Beside left_dists.SameSpread left_orders.Same (request dists.Copies 0)) number
+loop_line (Hashed number) = None
 
 -- an aggregation that gives this order, over a child in the same order: on one segment, or for each list over rows that are hashed by it
-abbrev pub agg_line : Query → ℕ → ℕ → Option Line
-agg_line q order mode =
-    if mode == 0 then Some (Above on_one (in_order order))
-    else if nat_lt mode 128 then None
-    else if nat_lt (mode - 128) (length (lists_of q)) then Some (Above (left_dists.Grouped (mode - 128)) (in_order order))
-    else None
+abbrev pub agg_line : Query → ℕ → Mode → Option Line
+agg_line q order (One number) = only_line (Above on_one (in_order order)) number
+agg_line q order (Copied number) = None
+agg_line q order (Hashed number) =
+    if nat_lt number (length (lists_of q)) then Some (Above (left_dists.Grouped number) (in_order order)) else None
 
 -- ---- the table
 
 -- the line of a group's operator in a mode, if it has the mode
-abbrev pub operator_line : Query → KeyParts → Physical → ℕ → Option Line
-operator_line q group physical.Scan mode = only_line (table_line q group (Listed 0)) mode
-operator_line q group (physical.IndexScan index) mode = only_line (table_line q group (Index (table_in group) index)) mode
-operator_line q group (physical.Filter child) mode = only_line (Above left_dists.Same left_orders.Same) mode
-operator_line q group (physical.IndexSeek index) mode = only_line (table_line q group (Index (table_in group) index)) mode
+abbrev pub operator_line : Query → KeyParts → Physical → Mode → Option Line
+operator_line q group physical.Scan mode = single_line (table_line q group (Listed 0)) mode
+operator_line q group (physical.IndexScan index) mode = single_line (table_line q group (Index (table_in group) index)) mode
+operator_line q group (physical.Filter child) mode = single_line (Above left_dists.Same left_orders.Same) mode
+operator_line q group (physical.IndexSeek index) mode = single_line (table_line q group (Index (table_in group) index)) mode
 operator_line q group (physical.HashJoin left right) mode = hash_line q left right mode
 operator_line q group (physical.MergeJoin left right) mode = merge_line q left right mode
 operator_line q group (physical.LoopJoin left right) mode = loop_line mode
 operator_line q group (physical.HashAgg child) mode = agg_line q 0 mode
 operator_line q group (physical.StreamAgg child) mode = agg_line q (group_order q) mode
-operator_line q group (physical.PartialAgg child) mode = only_line (Above left_dists.SameSpread (in_order 0)) mode
+operator_line q group (physical.PartialAgg child) mode = single_line (Above left_dists.SameSpread (in_order 0)) mode
 
--- the line of an expression in a mode, if it has the mode
+-- the line of an expression in the mode of a number, if it has the mode
 abbrev pub line_of : Query → PhysicalExpr → ℕ → Option Line
-line_of q e mode = operator_line q e.group e.operator mode
+line_of q e mode = operator_line q e.group e.operator (mode_at mode)

@@ -3,6 +3,7 @@
 
 mod laws;
 mod lines;
+mod modes;
 mod nodes;
 
 pub use laws::{
@@ -11,4 +12,5 @@ pub use laws::{
     what_is_asked_fits, what_is_given_fits,
 };
 pub use lines::{LeftDist, LeftOrder, Line};
+pub use modes::{END as MODES_END, Mode, ModeCounts, ModeRange};
 pub use nodes::{Enforcer, NodeKind};

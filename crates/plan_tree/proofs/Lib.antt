@@ -5,4 +5,9 @@ pub mod NodeNumbers
 pub mod Decided
 pub mod Lined
 pub mod Modes
+pub mod Counted
 pub mod Walked
+pub mod ModesTried
+pub mod LineModes
+pub mod LeftFits
+pub mod Unordered

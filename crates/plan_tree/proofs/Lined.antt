@@ -1,9 +1,6 @@
 -- The lines of joins, by what is looked up of their equalities.
-use Rattle.std.proofs.Common.{◌≡◌, ◌≢◌, ℕ, ◌-◌, ◌<◌, ◌≤◌, Option, Some, None, false, true, inl, inr, refl, sym, ap, ◌∙◌, lt-ltb}
-use Rattle.std.specs.Prelude.{◌==◌, nat_lt}
+use Rattle.std.proofs.Common.{◌≡◌, ℕ, Option, Some, None, refl, ap}
 use Rattle.std.specs.Option.{option_map}
-use Rattle.std.proofs.lemmas.Bool.{le-ltb}
-use Rattle.std.proofs.lemmas.Bool.Decides.{eqb_tells}
 use Rattle.query_core.specs.Crossing.{crossing_of}
 use Rattle.query_core.specs.declared.query.Query.{Query}
 use Rattle.query_core.specs.declared.words.KeyParts.{KeyParts}
@@ -12,6 +9,7 @@ use Rattle.request_props.specs.declared.request.Dist.TheVariants as dists
 use Rattle.request_props.specs.declared.sides.Side.{Side}
 use Rattle.plan_space.specs.Lines.{on_one, hash_colocated, hash_line, merge_with, merge_colocated, merge_line}
 use Rattle.plan_space.specs.declared.lines.Line.{Line}
+use Rattle.plan_space.specs.declared.modes.Mode.TheVariants.{One, Copied, Hashed}
 use Rattle.plan_space.specs.declared.lines.LeftDist.TheVariants as left_dists
 
 -- the two sides are those of these columns
@@ -35,21 +33,19 @@ sides_found q (Some columns) sides is =
       is_right = ap (λ (both : Side × Side). both.1) same;
     }
 
-differ : (a b : ℕ) → a ≢ b → (a == b) ≡ false
-differ a b apart = elim (eqb_tells a b) [ inl same ↦ absurd (apart same.1) | inr apart' ↦ apart'.0 ]
-
-module _ (q : Query) (left right : KeyParts) (mode first second : ℕ) (line : Line) where
+module _ (q : Query) (left right : KeyParts) (number first second : ℕ) (line : Line) (crossing : crossing_of q left right number ≡ Some (first, second)) where
   -- a hash join hashed alike
-  pub hash_found : mode ≢ 0 → mode ≢ 64 → 128 ≤ mode → crossing_of q left right (mode - 128) ≡ Some (first, second) → line ≡ hash_colocated q (first, second)
-      → Some line ≡ hash_line q left right mode
-  hash_found not_one not_copied far crossing is = rw (differ mode 0 not_one, differ mode 64 not_copied, le-ltb mode 128 far, crossing) (ap Some is)
+  pub hash_found : line ≡ hash_colocated q (first, second) → Some line ≡ hash_line q left right (Hashed number)
+  hash_found is = rw crossing (ap Some is)
+
+  -- a merge join on one segment
+  pub merge_one : line ≡ merge_with q on_one dists.One (first, second) → Some line ≡ merge_line q left right (One number)
+  merge_one is = rw crossing (ap Some is)
 
   -- a merge join with copies
-  pub merge_copied : 64 ≤ mode → mode < 128 → crossing_of q left right (mode - 64) ≡ Some (first, second)
-      → line ≡ merge_with q left_dists.SameSpread dists.Copies (first, second) → Some line ≡ merge_line q left right mode
-  merge_copied far near crossing is = rw (le-ltb mode 64 far, lt-ltb mode 128 near, crossing) (ap Some is)
+  pub merge_copied : line ≡ merge_with q left_dists.SameSpread dists.Copies (first, second) → Some line ≡ merge_line q left right (Copied number)
+  merge_copied is = rw crossing (ap Some is)
 
   -- a merge join hashed alike
-  pub merge_far : 64 ≤ mode → 128 ≤ mode → crossing_of q left right (mode - 128) ≡ Some (first, second)
-      → line ≡ merge_colocated q (first, second) → Some line ≡ merge_line q left right mode
-  merge_far far further crossing is = rw (le-ltb mode 64 far, le-ltb mode 128 further, crossing) (ap Some is)
+  pub merge_hashed : line ≡ merge_colocated q (first, second) → Some line ≡ merge_line q left right (Hashed number)
+  merge_hashed is = rw crossing (ap Some is)

@@ -1,23 +1,25 @@
 -- Numbers that no mode with a line has.
-use Rattle.std.proofs.Common.{◌≡◌, ℕ, ◌+◌, ◌<◌, ◌≤◌, refl, inl, inr, subst, arith}
+use Rattle.std.proofs.Common.{◌≡◌, ℕ, ◌+◌, ◌<◌, ◌≤◌, refl, inl, inr, sym, subst, arith}
 use Rattle.std.specs.Prelude.{Option, Some, None}
 use Rattle.std.proofs.lemmas.Bool.{cases_lt}
 use Rattle.query_core.specs.declared.expressions.PhysicalExpr.{PhysicalExpr}
 use Rattle.query_core.specs.declared.query.Query.{Query}
-use Rattle.request_props.specs.declared.request.Dist.TheVariants as dists
 use Rattle.plan_space.specs.Lines.{line_of}
 use Rattle.plan_space.specs.declared.lines.Line.{Line}
-use Rattle.plan_space.specs.declared.lines.LeftDist.TheVariants as left_dists
-use Rattle.plan_tree.specs.Walks.{AreNone, IsInBands}
-use Rattle.plan_tree.specs.declared.walks.Bands.{Bands}
+use Rattle.plan_space.specs.Modes.{mode_at, IsCounted}
+use Rattle.plan_space.specs.declared.modes.ModeCounts.{ModeCounts}
+use Rattle.plan_tree.specs.Walks.{AreNone, counts_of}
+use Rattle.plan_tree.proofs.Counted.{line_counted}
 
--- those that no band has
-pub none_beside : (q : Query) (e : PhysicalExpr) (b : Bands) (from below : ℕ) → ((mode : ℕ) (line : Line) → line_of q e mode ≡ Some line → IsInBands b mode)
-    → ((mode : ℕ) → from ≤ mode → mode < below → IsInBands b mode → ⊥) → AreNone q e from below
-none_beside q e b from below inside beside mode at within =
+-- those that aren't counted
+pub none_beside : (q : Query) (e : PhysicalExpr) (counts : ModeCounts) (from below : ℕ) → counts ≡ counts_of q e.operator
+    → ((mode : ℕ) → from ≤ mode → mode < below → IsCounted counts (mode_at mode) → ⊥) → AreNone q e from below
+none_beside q e counts from below are beside mode at within =
     elim (line_of q e mode) as (λ (found : Option Line). line_of q e mode ≡ found → found ≡ None) [
       | None ↦ λ is. refl
-      | Some line ↦ λ is. absurd (beside mode at within (inside mode line is))
+      | Some line ↦ λ is.
+          let counted : IsCounted counts (mode_at mode) = subst (λ (c : ModeCounts). IsCounted c (mode_at mode)) (sym are) (line_counted q e mode line is) in
+          absurd (beside mode at within counted)
     ] refl
 
 -- one more, and those behind it

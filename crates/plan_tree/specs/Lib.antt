@@ -6,3 +6,4 @@ pub mod Spells
 pub mod Found
 pub mod Seen
 pub mod Walks
+pub mod ServingModes

@@ -1,10 +1,13 @@
 -- The modes of an expression, one after the other.
-use Rattle.std.specs.Prelude.{ℕ, ◌≡◌, ◌≤◌, ◌<◌, ◌+◌, ◌⊎◌, Option, None, Some}
+use Rattle.std.specs.Prelude.{ℕ, ◌≡◌, ◌≤◌, ◌<◌, Option, None, Some, length}
+use Rattle.query_core.specs.declared.expressions.Physical.{Physical}
+use Rattle.query_core.specs.declared.expressions.Physical.TheVariants as physical
 use Rattle.query_core.specs.declared.expressions.PhysicalExpr.{PhysicalExpr}
 use Rattle.query_core.specs.declared.query.Query.{Query}
+use Rattle.request_props.specs.Numbered.{lists_of}
 use Rattle.plan_space.specs.Lines.{line_of}
 use Rattle.plan_space.specs.declared.lines.Line.{Line}
-use Rattle.plan_tree.specs.declared.walks.Bands.{Bands}
+use Rattle.plan_space.specs.declared.modes.ModeCounts.{ModeCounts}
 
 -- no mode from the number on and below the other has a line
 abbrev pub AreNone : Query → PhysicalExpr → ℕ → ℕ → Type 0
@@ -15,6 +18,19 @@ abbrev pub IsNextLine : Query → PhysicalExpr → ℕ → Option (ℕ × Line) 
 IsNextLine q e from None = (mode : ℕ) → from ≤ mode → line_of q e mode ≡ None
 IsNextLine q e from (Some found) = (from ≤ found.0) × (found.0 < 192) × AreNone q e from found.0 × (line_of q e found.0 ≡ Some found.1)
 
--- the mode is one of those on one segment, of those with copies, or of those of rows that are hashed
-abbrev pub IsInBands : Bands → ℕ → Type 0
-IsInBands bands mode = (mode < bands.alone) ⊎ ((64 ≤ mode) × (mode < 64 + bands.copied)) ⊎ ((128 ≤ mode) × (mode < 128 + bands.hashed))
+-- so many modes of each kind
+abbrev pub counts : ℕ → ℕ → ℕ → ModeCounts
+counts one copied hashed = record { one = one; copied = copied; hashed = hashed }
+
+-- how many modes of each kind the operator can have
+abbrev pub counts_of : Query → Physical → ModeCounts
+counts_of q physical.Scan = counts 1 0 0
+counts_of q (physical.IndexScan index) = counts 1 0 0
+counts_of q (physical.Filter child) = counts 1 0 0
+counts_of q (physical.IndexSeek index) = counts 1 0 0
+counts_of q (physical.HashJoin left right) = counts 1 1 (length q.preds)
+counts_of q (physical.MergeJoin left right) = counts (length q.preds) (length q.preds) (length q.preds)
+counts_of q (physical.LoopJoin left right) = counts 1 1 0
+counts_of q (physical.HashAgg child) = counts 1 0 (length (lists_of q))
+counts_of q (physical.StreamAgg child) = counts 1 0 (length (lists_of q))
+counts_of q (physical.PartialAgg child) = counts 1 0 0

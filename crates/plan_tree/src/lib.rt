@@ -11,6 +11,7 @@ mod plan;
 mod seen;
 mod seen_cost;
 mod serving;
+mod serving_modes;
 mod walks;
 
 pub use alternatives::{Alt, alternative, alternative_by, alternative_in, modes_are_one};
@@ -26,6 +27,7 @@ pub use plan::{Found, Plan};
 pub use seen::{Below, Seen, meets, plan_seen, seen_above, seen_below};
 pub use seen_cost::{cost_above, cost_above_any, rows_above};
 pub use serving::may_give;
+pub use serving_modes::{may_serve, modes_for, next_among};
 pub use walks::next_line;
 
 #[cfg(test)]

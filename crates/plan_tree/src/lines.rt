@@ -7,30 +7,32 @@ ghost use Rattle.plan_space.specs.Lines.{line_of as line_by_table, table_line as
 ghost use Rattle.plan_space.specs.Lines.{hash_line as hash_line_by_table, merge_line as merge_line_by_table};
 ghost use Rattle.plan_space.specs.Lines.{loop_line as loop_line_by_table, agg_line as agg_line_by_table};
 ghost use Rattle.plan_space.specs.Lines.{hash_colocated as hash_line_with, merge_with as merge_line_with};
-ghost use Rattle.plan_space.specs.Lines.{only_line as only_by_table, merge_colocated as merge_line_hashed};
+ghost use Rattle.plan_space.specs.Lines.{only_line as only_by_table, single_line as single_by_table};
+ghost use Rattle.plan_space.specs.Lines.{merge_colocated as merge_line_hashed};
 ghost use Rattle.plan_space.specs.Lines.{table_in as table_of_group, on_one, on_hashed, in_order};
 
-use plan_space::{LeftDist, LeftOrder, Line};
+use plan_space::{LeftDist, LeftOrder, Line, Mode};
 use query_core::{KeyParts, Physical, PhysicalExpr, Query};
 use request_props::{Dist, GivenDist, GivenOrder, Props, Request, Side};
 
-/// The line of an expression in a mode, if it has the mode.
+/// The line of an expression in the mode of a number, if it has the mode.
 pub fn line_of(query: &Query, props: &Props, expr: PhysicalExpr, mode: u32) -> Option<Line>
     requires { IsProps query.now props.now }
     ensures { result ≡ line_by_table query.now expr mode }
 {
+    let mode = Mode::at(mode);
     let group = expr.group;
     let table = table_in(group);
     match expr.operator {
-        Physical::Scan => only_line(table_line(query, props, group, GivenOrder::Listed(0)), mode),
+        Physical::Scan => single_line(table_line(query, props, group, GivenOrder::Listed(0)), mode),
         Physical::IndexScan(index) => {
             let order = GivenOrder::Index(table, index);
-            only_line(table_line(query, props, group, order), mode)
+            single_line(table_line(query, props, group, order), mode)
         }
-        Physical::Filter(_) => only_line(Line::Above(LeftDist::Same, LeftOrder::Same), mode),
+        Physical::Filter(_) => single_line(Line::Above(LeftDist::Same, LeftOrder::Same), mode),
         Physical::IndexSeek(index) => {
             let order = GivenOrder::Index(table, index);
-            only_line(table_line(query, props, group, order), mode)
+            single_line(table_line(query, props, group, order), mode)
         }
         Physical::HashJoin(left, right) => hash_line(query, props, left, right, mode),
         Physical::MergeJoin(left, right) => merge_line(query, props, left, right, mode),
@@ -38,7 +40,7 @@ pub fn line_of(query: &Query, props: &Props, expr: PhysicalExpr, mode: u32) -> O
         Physical::HashAgg(_) => agg_line(query, props, 0, mode),
         Physical::StreamAgg(_) => agg_line(query, props, props.group_order(query), mode),
         Physical::PartialAgg(_) => {
-            only_line(Line::Above(LeftDist::SameSpread, left_in_order(0)), mode)
+            single_line(Line::Above(LeftDist::SameSpread, left_in_order(0)), mode)
         }
     }
 }
@@ -56,11 +58,22 @@ pub fn table_in(group: KeyParts) -> u32
     }
 }
 
-// One line, in mode 0.
-fn only_line(line: Line, mode: u32) -> Option<Line>
-    ensures { result ≡ only_by_table line mode }
+// A line where the number is 0.
+fn only_line(line: Line, number: u32) -> Option<Line>
+    ensures { result ≡ only_by_table line number }
 {
-    if mode == 0 { Some(line) } else { None }
+    if number == 0 { Some(line) } else { None }
+}
+
+// One line, in one mode.
+fn single_line(line: Line, mode: Mode) -> Option<Line>
+    ensures { result ≡ single_by_table line mode }
+{
+    match mode {
+        Mode::One(number) => only_line(line, number),
+        Mode::Copied(_) => None,
+        Mode::Hashed(_) => None,
+    }
 }
 
 // The rows of a group's table where they lie, in this order.
@@ -73,18 +86,20 @@ fn table_line(query: &Query, props: &Props, group: KeyParts, order: GivenOrder) 
 
 // An aggregation that gives this order, over a child in the same order: on one segment, or for
 // each list over rows that are hashed by it.
-fn agg_line(query: &Query, props: &Props, order: u32, mode: u32) -> Option<Line>
+fn agg_line(query: &Query, props: &Props, order: u32, mode: Mode) -> Option<Line>
     requires { IsProps query.now props.now }
     ensures { result ≡ agg_line_by_table query.now order mode }
 {
-    if mode == 0 {
-        Some(Line::Above(left_on_one(), left_in_order(order)))
-    } else if mode < 128 {
-        None
-    } else if ((mode - 128) as usize) < props.hashed.len() {
-        Some(Line::Above(LeftDist::Grouped(mode - 128), left_in_order(order)))
-    } else {
-        None
+    match mode {
+        Mode::One(number) => only_line(Line::Above(left_on_one(), left_in_order(order)), number),
+        Mode::Copied(_) => None,
+        Mode::Hashed(list) => {
+            if (list as usize) < props.hashed.len() {
+                Some(Line::Above(LeftDist::Grouped(list), left_in_order(order)))
+            } else {
+                None
+            }
+        }
     }
 }
 
@@ -95,24 +110,27 @@ fn hash_line(
     props: &Props,
     left: KeyParts,
     right: KeyParts,
-    mode: u32,
+    mode: Mode,
 ) -> Option<Line>
     requires { IsProps query.now props.now }
     ensures { result ≡ hash_line_by_table query.now left right mode }
 {
-    if mode == 0 {
-        Some(Line::Beside(left_on_one(), left_in_order(0), unordered(Dist::One)))
-    } else if mode == 64 {
-        Some(Line::Beside(
-            LeftDist::SameSpread,
-            left_in_order(0),
-            unordered(Dist::Copies),
-        ))
-    } else if mode < 128 {
-        None
-    } else {
-        let sides = props.crossing(query, left, right, mode - 128)?;
-        Some(hash_colocated(query, sides.0, sides.1))
+    match mode {
+        Mode::One(number) => {
+            let line = Line::Beside(left_on_one(), left_in_order(0), unordered(Dist::One));
+            only_line(line, number)
+        }
+        Mode::Copied(number) => {
+            let asked = unordered(Dist::Copies);
+            only_line(
+                Line::Beside(LeftDist::SameSpread, left_in_order(0), asked),
+                number,
+            )
+        }
+        Mode::Hashed(number) => {
+            let sides = props.crossing(query, left, right, number)?;
+            Some(hash_colocated(query, sides.0, sides.1))
+        }
     }
 }
 
@@ -135,20 +153,24 @@ fn merge_line(
     props: &Props,
     left: KeyParts,
     right: KeyParts,
-    mode: u32,
+    mode: Mode,
 ) -> Option<Line>
     requires { IsProps query.now props.now }
     ensures { result ≡ merge_line_by_table query.now left right mode }
 {
-    if mode < 64 {
-        let sides = props.crossing(query, left, right, mode)?;
-        Some(merge_with(query, left_on_one(), Dist::One, sides.0, sides.1))
-    } else if mode < 128 {
-        let sides = props.crossing(query, left, right, mode - 64)?;
-        Some(merge_with(query, LeftDist::SameSpread, Dist::Copies, sides.0, sides.1))
-    } else {
-        let sides = props.crossing(query, left, right, mode - 128)?;
-        Some(merge_colocated(query, sides.0, sides.1))
+    match mode {
+        Mode::One(number) => {
+            let sides = props.crossing(query, left, right, number)?;
+            Some(merge_with(query, left_on_one(), Dist::One, sides.0, sides.1))
+        }
+        Mode::Copied(number) => {
+            let sides = props.crossing(query, left, right, number)?;
+            Some(merge_with(query, LeftDist::SameSpread, Dist::Copies, sides.0, sides.1))
+        }
+        Mode::Hashed(number) => {
+            let sides = props.crossing(query, left, right, number)?;
+            Some(merge_colocated(query, sides.0, sides.1))
+        }
     }
 }
 
@@ -179,19 +201,22 @@ fn merge_colocated(query: &Query, left: Side, right: Side) -> Line
 }
 
 // A loop join: on one segment, or with copies of the right side; it keeps the left child's order.
-fn loop_line(mode: u32) -> Option<Line>
+fn loop_line(mode: Mode) -> Option<Line>
     ensures { result ≡ loop_line_by_table mode }
 {
-    if mode == 0 {
-        Some(Line::Beside(left_on_one(), LeftOrder::Same, unordered(Dist::One)))
-    } else if mode == 64 {
-        Some(Line::Beside(
-            LeftDist::SameSpread,
-            LeftOrder::Same,
-            unordered(Dist::Copies),
-        ))
-    } else {
-        None
+    match mode {
+        Mode::One(number) => {
+            let line = Line::Beside(left_on_one(), LeftOrder::Same, unordered(Dist::One));
+            only_line(line, number)
+        }
+        Mode::Copied(number) => {
+            let asked = unordered(Dist::Copies);
+            only_line(
+                Line::Beside(LeftDist::SameSpread, LeftOrder::Same, asked),
+                number,
+            )
+        }
+        Mode::Hashed(_) => None,
     }
 }
 

@@ -5,19 +5,19 @@ use Rattle.plan_tree.proofs.walks.next_line.Goals as goal
 -- the numbers before the first one in the bands are in none
 pub loop-mode-init : goal.loop-mode-init
 loop-mode-init c = record {
-  after = c.next_in-mode.ensures.from;
-  none = none_beside c.args.query.now c.args.expr c.bands_of-bands.result c.args.from c.next_in-mode.result c.bands_of-bands.ensures c.next_in-mode.ensures.none;
+  after = c.next-mode.ensures.from;
+  none = none_beside c.args.query.now c.args.expr c.counts_of-counts.result c.args.from c.next-mode.result c.counts_of-counts.ensures c.next-mode.ensures.none;
 }
 
 -- nor are those before the next one
 pub loop-mode-preserved : goal.loop-mode-preserved
 loop-mode-preserved c =
     let q = c.args.query.now in
-    let next = c.next_in-mode-in-loop-mode in
+    let next = c.next-mode-in-loop-mode in
     record {
-      after = omega (arith, c.loop-mode.invariant.after, c.next_in-mode-in-loop-mode.ensures.from);
+      after = omega (arith, c.loop-mode.invariant.after, c.next-mode-in-loop-mode.ensures.from);
       none = none_more q c.args.expr c.args.from c.loop-mode.mode next.result c.loop-mode.invariant.none (sym c.in-None.ensures)
-          (none_beside q c.args.expr c.bands_of-bands.result (c.loop-mode.mode + 1) next.result c.bands_of-bands.ensures next.ensures.none);
+          (none_beside q c.args.expr c.counts_of-counts.result (c.loop-mode.mode + 1) next.result c.counts_of-counts.ensures next.ensures.none);
     }
 
 -- from 192 on there are none

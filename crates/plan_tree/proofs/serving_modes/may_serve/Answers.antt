@@ -1,5 +1,5 @@
 -- The modes in which it may serve are among those that are tried.
-use Rattle.job_turns.proofs.may_serve.may_serve.Goals as goal
+use Rattle.plan_tree.proofs.serving_modes.may_serve.Goals as goal
 
 pub returns-then-fits_left : goal.returns-then-fits_left
 returns-then-fits_left c = (

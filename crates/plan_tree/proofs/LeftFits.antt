@@ -1,5 +1,5 @@
 -- What such a line serves: requests for the distributions of its mode, which fit the left child of a join.
-use Rattle.std.proofs.Common.{◌≡◌, ℕ, ◌/◌, ◌<◌, ◌≤◌, List, [], ◌∷◌, true, refl, subst}
+use Rattle.std.proofs.Common.{◌≡◌, ℕ, ◌/◌, List, [], ◌∷◌, true, refl, subst}
 use Rattle.std.specs.Prelude.{All, IsTrue}
 use Rattle.std.proofs.lemmas.List.Elements.{All-nil, All-cons, All-head, All-tail}
 use Rattle.query_core.specs.Expressions.{physical_children}
@@ -27,21 +27,22 @@ use Rattle.plan_space.specs.declared.lines.LeftOrder.{LeftOrder}
 use Rattle.plan_space.specs.declared.lines.LeftOrder.TheVariants as left_orders
 use Rattle.plan_space.specs.declared.lines.Line.{Line}
 use Rattle.plan_space.specs.declared.lines.Line.TheVariants.{Alone, Above, Beside}
+use Rattle.plan_space.specs.Modes.{mode_at, IsOnOne, IsSpread}
+use Rattle.plan_space.specs.declared.modes.Mode.{Mode}
 use Rattle.plan_tree.specs.Alternatives.{HasAlternative}
-use Rattle.job_turns.specs.Requests.{MayServe}
-use Rattle.job_turns.specs.ServingModes.{has_spread_modes}
-use Rattle.job_turns.proofs.LineModes.{IsDistIn, IsOrderOfLeft, IsLineIn, line_in}
+use Rattle.plan_tree.specs.ServingModes.{MayServe, has_spread_modes}
+use Rattle.plan_tree.proofs.LineModes.{IsDistIn, IsOrderOfLeft, IsLineIn, line_in}
 
 -- ---- modes
 
--- the modes that serve the distribution: below 64 one segment, from 64 on spread rows
-abbrev pub IsModeFor : Dist → ℕ → Type 0
-IsModeFor One mode = mode < 64
-IsModeFor Spread mode = 64 ≤ mode
+-- the modes that serve the distribution
+abbrev pub IsModeFor : Dist → Mode → Type 0
+IsModeFor One mode = IsOnOne mode
+IsModeFor Spread mode = IsSpread mode
 IsModeFor Copies mode = ⊥
-IsModeFor (Hashed list) mode = 64 ≤ mode
+IsModeFor (Hashed list) mode = IsSpread mode
 
-dist_mode : (q : Query) (dist : LeftDist) (mode : ℕ) (wanted : Dist) → IsDistIn dist mode → DistServes q dist wanted
+dist_mode : (q : Query) (dist : LeftDist) (mode : Mode) (wanted : Dist) → IsDistIn dist mode → DistServes q dist wanted
     → IsModeFor wanted mode
 dist_mode q (left_dists.Fixed given.One asked) mode One is serves = is.1
 dist_mode q (left_dists.Fixed given.One asked) mode Spread is serves = absurd serves
@@ -63,7 +64,7 @@ dist_mode q left_dists.SameSpread mode Spread is serves = is
 dist_mode q left_dists.SameSpread mode Copies is serves = absurd serves
 dist_mode q left_dists.SameSpread mode (Hashed list) is serves = is
 
-pub mode_for : (q : Query) (line : Line) (children : Children) (mode : ℕ) (wanted : Request) → IsLineIn line mode
+pub mode_for : (q : Query) (line : Line) (children : Children) (mode : Mode) (wanted : Request) → IsLineIn line mode
     → LineServes q line children wanted → IsModeFor wanted.dist mode
 mode_for q (Alone dist order) children mode wanted is serves = absurd is
 mode_for q (Above dist order) arities.Zero mode wanted is serves = absurd serves
@@ -77,7 +78,7 @@ mode_for q (Beside dist order asked) (arities.Two left right) mode wanted is ser
 
 -- ---- what fits the left child
 
-hashed_fits : (q : Query) (left : KeyParts) (dist : LeftDist) (mode list : ℕ) → IsDistIn dist mode
+hashed_fits : (q : Query) (left : KeyParts) (dist : LeftDist) (mode : Mode) (list : ℕ) → IsDistIn dist mode
     → DistServes q dist (Hashed list)
     → DistFits q left (dist_asked dist (Hashed list)) → DistFits q left (Hashed list)
 hashed_fits q left (left_dists.Fixed given.One asked) mode list is serves fits = absurd serves
@@ -90,7 +91,7 @@ hashed_fits q left (left_dists.Grouped other) mode list is serves fits =
 hashed_fits q left left_dists.Same mode list is serves fits = fits
 hashed_fits q left left_dists.SameSpread mode list is serves fits = fits
 
-dist_fits : (q : Query) (left : KeyParts) (dist : LeftDist) (mode : ℕ) (wanted : Dist) → IsDistIn dist mode
+dist_fits : (q : Query) (left : KeyParts) (dist : LeftDist) (mode : Mode) (wanted : Dist) → IsDistIn dist mode
     → DistServes q dist wanted
     → DistFits q left (dist_asked dist wanted) → DistFits q left wanted
 dist_fits q left dist mode One is serves fits = tt
@@ -113,7 +114,7 @@ order_fits q left (left_orders.Fixed order asked) wanted is serves lies =
     begin_all (λ element. IsTrue (has_item q left (element / 2))) (order_of q asked) (order_of q wanted) begins lies
 order_fits q left left_orders.Same wanted is serves lies = lies
 
-line_fits : (q : Query) (line : Line) (left right : KeyParts) (mode : ℕ) (wanted : Request)
+line_fits : (q : Query) (line : Line) (left right : KeyParts) (mode : Mode) (wanted : Request)
     → IsNumbered q wanted.order → IsLineIn line mode
     → LineServes q line (arities.Two left right) wanted → Fits q left wanted
 line_fits q (Alone dist order) left right mode wanted numbered is serves = absurd is
@@ -143,14 +144,14 @@ pub left_fits : (q : Query) (e : PhysicalExpr) (left right : KeyParts) (wanted :
     → physical_children e.operator ≡ arities.Two left right → IsNumbered q wanted.order
     → MayServe q e wanted → Fits q left wanted
 left_fits q e left right wanted over numbered (mode, (line, is)) =
-    line_fits q line left right mode wanted numbered
-    (line_in q line e.group e.operator mode (join_has_spread e.operator left right over) is.is_line)
+    line_fits q line left right (mode_at mode) wanted numbered
+    (line_in q line e.group e.operator (mode_at mode) (join_has_spread e.operator left right over) is.is_line)
     (subst (λ (children : Children). LineServes q line children wanted) over is.serves)
 
 -- an expression whose operator has both kinds of modes serves in those for the distribution
 pub alternative_mode : (q : Query) (e : PhysicalExpr) (wanted : Request) (dist : Dist) (mode : ℕ)
-    → has_spread_modes e.operator ≡ true → wanted.dist ≡ dist → HasAlternative q e wanted mode → IsModeFor dist mode
+    → has_spread_modes e.operator ≡ true → wanted.dist ≡ dist → HasAlternative q e wanted mode → IsModeFor dist (mode_at mode)
 alternative_mode q e wanted dist mode both asked (line, is) =
-    subst (λ (d : Dist). IsModeFor d mode) asked
-    (mode_for q line (physical_children e.operator) mode wanted
-    (line_in q line e.group e.operator mode both is.is_line) is.serves)
+    subst (λ (d : Dist). IsModeFor d (mode_at mode)) asked
+    (mode_for q line (physical_children e.operator) (mode_at mode) wanted
+    (line_in q line e.group e.operator (mode_at mode) both is.is_line) is.serves)

@@ -1,9 +1,9 @@
 -- One mode after the other.
 use Rattle.std.proofs.Common.{◌∙◌, sym, refl, arith}
 use Rattle.std.proofs.lemmas.Bool.{false≢true}
-use Rattle.job_turns.specs.ServingModes.{IsAmong}
-use Rattle.job_turns.proofs.ModesTried.{some_serves, never_serves, none_past, none_among}
-use Rattle.job_turns.proofs.may_serve.serves_among.Goals as goal
+use Rattle.plan_space.specs.Modes.{IsAmong}
+use Rattle.plan_tree.proofs.ModesTried.{some_serves, never_serves, none_past, none_among}
+use Rattle.plan_tree.proofs.serving_modes.serves_among.Goals as goal
 
 pub returns-then-is_some : goal.returns-then-is_some
 returns-then-is_some c =

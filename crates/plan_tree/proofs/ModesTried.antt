@@ -1,4 +1,4 @@
--- Modes in which an expression may not serve a request, one after the other.
+-- ModeRange in which an expression may not serve a request, one after the other.
 use Rattle.std.proofs.Common.{◌≡◌, ℕ, ◌+◌, ◌<◌, ◌≤◌, Option, None, Some, true, false, sym, subst, ◌∙◌, inl, inr, arith}
 use Rattle.std.specs.Option.{is_some}
 use Rattle.std.proofs.lemmas.Bool.{cases_lt}
@@ -9,8 +9,9 @@ use Rattle.plan_space.specs.Lines.{line_of}
 use Rattle.plan_tree.specs.Alternatives.{HasAlternative, IsAltIn}
 use Rattle.plan_tree.specs.Walks.{AreNone}
 use Rattle.plan_tree.specs.declared.alternatives.Alt.{Alt}
-use Rattle.job_turns.specs.ServingModes.{IsAmong, MayServeAmong}
-use Rattle.job_turns.specs.declared.may_serve.Modes.{Modes}
+use Rattle.plan_space.specs.Modes.{IsAmong}
+use Rattle.plan_tree.specs.ServingModes.{MayServeAmong}
+use Rattle.plan_space.specs.declared.modes.ModeRange.{ModeRange}
 
 module _ (q : Query) (e : PhysicalExpr) (wanted : Request) where
   -- no mode from the number on and below the other is there for the request
@@ -45,7 +46,7 @@ module _ (q : Query) (e : PhysicalExpr) (wanted : Request) where
   ]
 
   -- where no line is left, none of the modes is there
-  pub none_among : (modes : Modes) (from : ℕ) → NoneServes modes.from from
+  pub none_among : (modes : ModeRange) (from : ℕ) → NoneServes modes.from from
       → ((mode : ℕ) → from ≤ mode → mode < modes.to → line_of q e mode ≡ None)
       → MayServeAmong q e wanted modes → ⊥
   none_among modes from before none (mode, among, has) = elim (cases_lt mode from) [
@@ -54,7 +55,7 @@ module _ (q : Query) (e : PhysicalExpr) (wanted : Request) where
   ]
 
   -- so they are all below the number, where the modes that may serve are among these
-  pub all_below : (modes : Modes) (from : ℕ) → ((mode : ℕ) → HasAlternative q e wanted mode → IsAmong modes mode)
+  pub all_below : (modes : ModeRange) (from : ℕ) → ((mode : ℕ) → HasAlternative q e wanted mode → IsAmong modes mode)
       → ((mode : ℕ) → from ≤ mode → mode < modes.to → line_of q e mode ≡ None) → (mode : ℕ)
       → HasAlternative q e wanted mode → mode < from
   all_below modes from among none mode has = elim (cases_lt mode from) [

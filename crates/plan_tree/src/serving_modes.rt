@@ -5,25 +5,19 @@
 ghost use Rattle.std.specs.Prelude.{ℕ, ◌≡◌, ◌↔◌, IsTrue};
 ghost use Rattle.query_core.specs.Expressions.{expr_of, IsCandidate};
 ghost use Rattle.request_props.specs.Numbered.{IsProps, IsNumbered};
+ghost use Rattle.plan_space.specs.Modes.{IsAmong};
 ghost use Rattle.plan_tree.specs.Alternatives.{HasAlternative};
-ghost use Rattle.job_turns.specs.Requests.{MayServe};
-ghost use Rattle.job_turns.specs.ServingModes.{gives_order as order_given, has_spread_modes as spread_modes};
-ghost use Rattle.job_turns.specs.ServingModes.{IsAmong, MayServeAmong, IsNextAmong};
+ghost use Rattle.plan_tree.specs.ServingModes.{gives_order as order_given, has_spread_modes as spread_modes};
+ghost use Rattle.plan_tree.specs.ServingModes.{MayServe, MayServeAmong, IsNextAmong};
 
-use plan_space::{Line, modes_are_few};
-use plan_tree::{alternative_by, next_line};
+use crate::alternatives::alternative_by;
+use crate::walks::next_line;
+use plan_space::{Line, ModeRange, modes_are_few};
 use query_core::{Children, Physical, PhysicalExpr, Query};
 use request_props::{Dist, Given, GivenDist, GivenOrder, Props, Request, satisfies};
 
-/// The modes from a number on, below another.
-#[derive(Clone, Copy)]
-pub(crate) struct Modes {
-    pub(crate) from: u32,
-    pub(crate) to: u32,
-}
-
 /// Whether the expression may serve the request in some mode.
-pub(crate) fn may_serve(query: &Query, props: &Props, expr: PhysicalExpr, wanted: Request) -> bool
+pub fn may_serve(query: &Query, props: &Props, expr: PhysicalExpr, wanted: Request) -> bool
     requires props { IsProps query.now props.now }
     requires candidate { IsCandidate query.now (expr_of expr) }
     requires numbered { IsNumbered query.now wanted.order }
@@ -91,20 +85,20 @@ fn fits_left(query: &Query, props: &Props, expr: PhysicalExpr, wanted: Request) 
 }
 
 /// The modes among which all those are in which the expression may serve the request.
-pub(crate) fn modes_for(query: &Query, props: &Props, expr: PhysicalExpr, wanted: Request) -> Modes
+pub fn modes_for(query: &Query, props: &Props, expr: PhysicalExpr, wanted: Request) -> ModeRange
     requires props { IsProps query.now props.now }
     ensures { (mode : ℕ) → HasAlternative query.now expr wanted mode → IsAmong result mode }
 {
-    // For the proof: no mode has a line from 192 on.
+    // For the proof: an expression has few modes.
     modes_are_few();
     if !has_spread_modes(expr.operator) {
-        return Modes { from: 0, to: 192 };
+        return ModeRange::all();
     }
     match wanted.dist {
-        Dist::One => Modes { from: 0, to: 64 },
-        Dist::Spread => Modes { from: 64, to: 192 },
-        Dist::Copies => Modes { from: 192, to: 192 },
-        Dist::Hashed(_) => Modes { from: 64, to: 192 },
+        Dist::One => ModeRange::on_one(),
+        Dist::Spread => ModeRange::spread(),
+        Dist::Copies => ModeRange::none(),
+        Dist::Hashed(_) => ModeRange::spread(),
     }
 }
 
@@ -131,7 +125,7 @@ fn serves_among(
     props: &Props,
     expr: PhysicalExpr,
     wanted: Request,
-    modes: Modes,
+    modes: ModeRange,
 ) -> bool
     requires props { IsProps query.now props.now }
     requires candidate { IsCandidate query.now (expr_of expr) }
@@ -149,11 +143,11 @@ fn serves_among(
 }
 
 /// The first of the modes from this number on in which the expression works, with its line.
-pub(crate) fn next_among(
+pub fn next_among(
     query: &Query,
     props: &Props,
     expr: PhysicalExpr,
-    modes: Modes,
+    modes: ModeRange,
     from: u32,
 ) -> Option<(u32, Line)>
     requires { IsProps query.now props.now }

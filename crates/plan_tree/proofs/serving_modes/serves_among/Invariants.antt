@@ -1,7 +1,7 @@
 -- No mode so far serves the request.
 use Rattle.std.proofs.Common.{◌≤◌, ◌-◌}
-use Rattle.job_turns.proofs.ModesTried.{NoneServes}
-use Rattle.job_turns.proofs.may_serve.serves_among.Given as goal
+use Rattle.plan_tree.proofs.ModesTried.{NoneServes}
+use Rattle.plan_tree.proofs.serving_modes.serves_among.Given as goal
 
 abbrev pub invariant-modes : goal.invariant-modes
 invariant-modes l = record {

@@ -1,7 +1,7 @@
 -- A join serves only what fits its left child.
 use Rattle.std.proofs.Common.{sym}
-use Rattle.job_turns.proofs.LeftFits.{left_fits}
-use Rattle.job_turns.proofs.may_serve.fits_left.Goals as goal
+use Rattle.plan_tree.proofs.LeftFits.{left_fits}
+use Rattle.plan_tree.proofs.serving_modes.fits_left.Goals as goal
 
 pub returns-in-Two : goal.returns-in-Two
 returns-in-Two c serves =

@@ -6,10 +6,11 @@ use Rattle.query_core.specs.declared.expressions.PhysicalExpr.{PhysicalExpr}
 use Rattle.query_core.specs.declared.query.Query.{Query}
 use Rattle.request_props.specs.declared.request.Request.{Request}
 use Rattle.plan_space.specs.Lines.{line_of}
+use Rattle.plan_space.specs.Modes.{IsAmong}
 use Rattle.plan_space.specs.declared.lines.Line.{Line}
 use Rattle.plan_tree.specs.Alternatives.{HasAlternative}
 use Rattle.plan_tree.specs.Walks.{IsNextLine}
-use Rattle.job_turns.specs.declared.may_serve.Modes.{Modes}
+use Rattle.plan_space.specs.declared.modes.ModeRange.{ModeRange}
 
 -- the operator gives an order in some mode; each other one gives none in any
 abbrev pub gives_order : Physical → Bool
@@ -24,7 +25,7 @@ gives_order (physical.HashAgg child) = false
 gives_order (physical.StreamAgg child) = true
 gives_order (physical.PartialAgg child) = false
 
--- the operator has modes for spread rows, from 64 on; in those below 64 all rows are on one segment
+-- the operator has modes for spread rows, and others for rows on one segment
 abbrev pub has_spread_modes : Physical → Bool
 has_spread_modes physical.Scan = false
 has_spread_modes (physical.IndexScan index) = false
@@ -37,16 +38,15 @@ has_spread_modes (physical.HashAgg child) = true
 has_spread_modes (physical.StreamAgg child) = true
 has_spread_modes (physical.PartialAgg child) = false
 
--- the mode is one of these
-pub record IsAmong (modes : Modes) (mode : ℕ) : Type 0 where
-  pub above : modes.from ≤ mode
-  pub below : mode < modes.to
+-- the expression may serve the request in some mode
+abbrev pub MayServe : Query → PhysicalExpr → Request → Type 0
+MayServe q e wanted = (mode : ℕ) × HasAlternative q e wanted mode
 
 -- the expression may serve the request in one of the modes
-abbrev pub MayServeAmong : Query → PhysicalExpr → Request → Modes → Type 0
+abbrev pub MayServeAmong : Query → PhysicalExpr → Request → ModeRange → Type 0
 MayServeAmong q e wanted modes = (mode : ℕ) × IsAmong modes mode × HasAlternative q e wanted mode
 
 -- the first of the modes from the number on that has a line, with its line; or none has one
-abbrev pub IsNextAmong : Query → PhysicalExpr → Modes → ℕ → Option (ℕ × Line) → Type 0
+abbrev pub IsNextAmong : Query → PhysicalExpr → ModeRange → ℕ → Option (ℕ × Line) → Type 0
 IsNextAmong q e modes from None = (mode : ℕ) → from ≤ mode → mode < modes.to → line_of q e mode ≡ None
 IsNextAmong q e modes from (Some found) = (found.0 < modes.to) × IsNextLine q e from (Some found)

@@ -1,7 +1,7 @@
 -- An operator that gives no order serves only requests for none.
 use Rattle.std.proofs.Common.{◌∙◌, sym}
-use Rattle.job_turns.proofs.Unordered.{order_none}
-use Rattle.job_turns.proofs.may_serve.may_order.Goals as goal
+use Rattle.plan_tree.proofs.Unordered.{order_none}
+use Rattle.plan_tree.proofs.serving_modes.may_order.Goals as goal
 
 pub returns : goal.returns
 returns c serves =

@@ -1,0 +1,107 @@
+-- In which modes an operator with modes on one segment and with spread ones has which lines.
+use Rattle.std.proofs.Common.{◌≡◌, ℕ, true, refl, subst}
+use Rattle.std.specs.Prelude.{Option, Some, None, ◌==◌, nat_lt, length, ⊤}
+use Rattle.std.specs.Option.{option_map}
+use Rattle.std.proofs.lemmas.Bool.{cond_both}
+use Rattle.query_core.specs.Crossing.{crossing_of}
+use Rattle.query_core.specs.declared.expressions.Physical.{Physical}
+use Rattle.query_core.specs.declared.expressions.Physical.TheVariants as physical
+use Rattle.query_core.specs.declared.query.Query.{Query}
+use Rattle.query_core.specs.declared.words.KeyParts.{KeyParts}
+use Rattle.request_props.specs.Numbered.{lists_of, group_order}
+use Rattle.request_props.specs.declared.given.GivenDist.TheVariants as given
+use Rattle.request_props.specs.declared.given.GivenOrder.TheVariants.{Listed}
+use Rattle.request_props.specs.declared.request.Dist.TheVariants.{One, Copies, Hashed}
+use Rattle.plan_space.specs.Lines.{on_one, only_line, hash_colocated, hash_line, merge_with, merge_colocated, merge_line, loop_line, agg_line, operator_line}
+use Rattle.plan_space.specs.declared.lines.LeftDist.{LeftDist}
+use Rattle.plan_space.specs.declared.lines.LeftDist.TheVariants as left_dists
+use Rattle.plan_space.specs.declared.lines.LeftOrder.{LeftOrder}
+use Rattle.plan_space.specs.declared.lines.LeftOrder.TheVariants as left_orders
+use Rattle.plan_space.specs.declared.lines.Line.{Line}
+use Rattle.plan_space.specs.declared.lines.Line.TheVariants.{Alone, Above, Beside}
+use Rattle.plan_space.specs.Modes.{IsOnOne, IsSpread}
+use Rattle.plan_space.specs.declared.modes.Mode.{Mode}
+use Rattle.plan_space.specs.declared.modes.Mode.TheVariants as modes
+use Rattle.plan_tree.specs.ServingModes.{has_spread_modes}
+
+-- the distribution is asked of the left child too; all rows are on one segment in the modes for that, and in no others
+abbrev pub IsDistIn : LeftDist → Mode → Type 0
+IsDistIn (left_dists.Fixed given.One asked) mode = (asked ≡ One) × IsOnOne mode
+IsDistIn (left_dists.Fixed (given.Hashed list) asked) mode = (asked ≡ Hashed list) × IsSpread mode
+IsDistIn (left_dists.Fixed given.Random asked) mode = ⊥
+IsDistIn (left_dists.Fixed given.Copies asked) mode = ⊥
+IsDistIn (left_dists.Grouped list) mode = IsSpread mode
+IsDistIn left_dists.Same mode = ⊥
+IsDistIn left_dists.SameSpread mode = IsSpread mode
+
+-- the order is asked of the left child too
+abbrev pub IsOrderOfLeft : LeftOrder → Type 0
+IsOrderOfLeft (left_orders.Fixed order asked) = order ≡ Listed asked
+IsOrderOfLeft left_orders.Same = ⊤
+
+-- so is what the line gives, which has a child
+abbrev pub IsLineIn : Line → Mode → Type 0
+IsLineIn (Alone dist order) mode = ⊥
+IsLineIn (Above dist order) mode = IsDistIn dist mode × IsOrderOfLeft order
+IsLineIn (Beside dist order right) mode = IsDistIn dist mode × IsOrderOfLeft order
+
+module _ (q : Query) (line : Line) where
+  -- where the operator has the line in a mode, it is such a line
+  abbrev IsKept : Option Line → Mode → Type 0
+  IsKept found mode = found ≡ Some line → IsLineIn line mode
+
+  no_line : (mode : Mode) → IsKept None mode
+  no_line mode never = cc
+
+  own_line : (own : Line) (mode : Mode) → IsLineIn own mode → IsKept (Some own) mode
+  own_line own mode kept is = let same : own ≡ line = cc in subst (λ (l : Line). IsLineIn l mode) same kept
+
+  -- a line where the number is 0
+  only_kept : (own : Line) (number : ℕ) (mode : Mode) → IsLineIn own mode → IsKept (only_line own number) mode
+  only_kept own number mode kept =
+      cond_both (number == 0) (Some own) None (λ found. IsKept found mode) (λ first. own_line own mode kept) (λ other. no_line mode)
+
+  -- the line of a crossing equality, if it crosses
+  crossing_line : (line_with : (ℕ × ℕ) → Line) (mode : Mode) (sides : Option (ℕ × ℕ)) → ((found : ℕ × ℕ) → IsLineIn (line_with found) mode)
+      → IsKept (option_map line_with sides) mode
+  crossing_line line_with mode None kept is = let never : None ≡ Some line = is in cc
+  crossing_line line_with mode (Some found) kept is = own_line (line_with found) mode (kept found) is
+
+  agg_kept : (order : ℕ) (mode : Mode) → IsKept (agg_line q order mode) mode
+  agg_kept order (modes.One number) = only_kept _ number (modes.One number) ((refl, tt), refl)
+  agg_kept order (modes.Copied number) = no_line (modes.Copied number)
+  agg_kept order (modes.Hashed list) =
+      cond_both (nat_lt list (length (lists_of q))) _ None (λ found. IsKept found (modes.Hashed list))
+      (λ numbered. own_line _ (modes.Hashed list) (tt, refl)) (λ other. no_line (modes.Hashed list))
+
+  hash_kept : (left right : KeyParts) (mode : Mode) → IsKept (hash_line q left right mode) mode
+  hash_kept left right (modes.One number) = only_kept _ number (modes.One number) ((refl, tt), refl)
+  hash_kept left right (modes.Copied number) = only_kept _ number (modes.Copied number) (tt, refl)
+  hash_kept left right (modes.Hashed number) =
+      crossing_line (hash_colocated q) (modes.Hashed number) (crossing_of q left right number) (λ found. ((refl, tt), refl))
+
+  merge_kept : (left right : KeyParts) (mode : Mode) → IsKept (merge_line q left right mode) mode
+  merge_kept left right (modes.One number) =
+      crossing_line (merge_with q on_one One) (modes.One number) (crossing_of q left right number) (λ found. ((refl, tt), refl))
+  merge_kept left right (modes.Copied number) =
+      crossing_line (merge_with q left_dists.SameSpread Copies) (modes.Copied number) (crossing_of q left right number) (λ found. (tt, refl))
+  merge_kept left right (modes.Hashed number) =
+      crossing_line (merge_colocated q) (modes.Hashed number) (crossing_of q left right number) (λ found. ((refl, tt), refl))
+
+  loop_kept : (mode : Mode) → IsKept (loop_line mode) mode
+  loop_kept (modes.One number) = only_kept _ number (modes.One number) ((refl, tt), tt)
+  loop_kept (modes.Copied number) = only_kept _ number (modes.Copied number) (tt, tt)
+  loop_kept (modes.Hashed number) = no_line (modes.Hashed number)
+
+  pub line_in : (group : KeyParts) (operator : Physical) (mode : Mode) → has_spread_modes operator ≡ true
+      → IsKept (operator_line q group operator mode) mode
+  line_in group physical.Scan mode both = cc
+  line_in group (physical.IndexScan index) mode both = cc
+  line_in group (physical.Filter child) mode both = cc
+  line_in group (physical.IndexSeek index) mode both = cc
+  line_in group (physical.HashJoin left right) mode both = hash_kept left right mode
+  line_in group (physical.MergeJoin left right) mode both = merge_kept left right mode
+  line_in group (physical.LoopJoin left right) mode both = loop_kept mode
+  line_in group (physical.HashAgg child) mode both = agg_kept 0 mode
+  line_in group (physical.StreamAgg child) mode both = agg_kept (group_order q) mode
+  line_in group (physical.PartialAgg child) mode both = cc
