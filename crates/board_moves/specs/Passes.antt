@@ -1,5 +1,5 @@
 -- What one pass over the words that a group may have as members finds, and what is seen of one word.
-use Rattle.std.specs.Prelude.{◌≡◌, ◌⊎◌, ℕ, List, length, Option, None, Some, Result, Ok, Err, Bool, true, false}
+use Rattle.std.specs.Prelude.{◌≡◌, ◌⊎◌, ℕ, List, length, Option, None, Some, Result, Ok, Err}
 use Rattle.board_rule.specs.Meaning.{Meaning}
 use Rattle.board_rule.specs.Looks.{ShowsFinished, ShowsEntry}
 use Rattle.board_rule.specs.Seats.{Among}
@@ -81,12 +81,3 @@ module _ {R : Type 0} (meaning : Meaning) (room : ℕ) (v : Hands R) where
     abbrev pub AwaitsFound : (before : Right) → Option ℕ → Hands R → Right → Type 0
     AwaitsFound before (Some number) w after = AwaitsAll before number w after
     AwaitsFound before None w after = RunsOut (meaning.child before.goal) v before room w after
-
--- the children were all awaited: they are finished, unless the right has a wait; or one found no cell
-pub record AwaitsEach {R : Type 0} (meaning : Meaning) (room : ℕ) (v : Hands R) (Has : ℕ → Type 0) (before : Right) (w : Hands R) (after : Right) : Type 0 where
-  pub proceeds : Proceeds (meaning.child before.goal) v before w after
-  pub finished : after.waits ≡ 0 → (word : ℕ) → Has word → ShowsFinished meaning room w.looks word
-
-abbrev pub AwaitsChildren : {R : Type 0} → Meaning → ℕ → Hands R → (ℕ → Type 0) → Right → Bool → Hands R → Right → Type 0
-AwaitsChildren meaning room v Has before true w after = AwaitsEach meaning room v Has before w after
-AwaitsChildren meaning room v Has before false w after = RunsOut (meaning.child before.goal) v before room w after

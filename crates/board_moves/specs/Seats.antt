@@ -1,5 +1,5 @@
 -- What a turn's calls do over a board and a seat of it, before and after.
-use Rattle.std.specs.Prelude.{ℕ, Bool, Option, Result}
+use Rattle.std.specs.Prelude.{ℕ, Option, Result}
 use Rattle.board_rule.specs.Meaning.{Meaning}
 use Rattle.goal_board.specs.declared.board.Board.{Board}
 use Rattle.goal_board.specs.declared.board.Seat.{Seat}
@@ -12,18 +12,13 @@ use Rattle.board_moves.specs.declared.settled.Settled.{Settled}
 use Rattle.board_moves.specs.Moves.{Awaits}
 use Rattle.board_moves.specs.Turns.{IsReady, Ends}
 use Rattle.board_moves.specs.Collects.{Settles}
-use Rattle.board_moves.specs.Passes.{SeesGoal, Sees, CountsAgain, Collects, AwaitsChildren, AwaitsFound}
+use Rattle.board_moves.specs.Passes.{SeesGoal, Sees, CountsAgain, Collects, AwaitsFound}
 
 module _ {R : Type 0} (meaning_of : R → Meaning) (b : Board R) (s : Seat R) where
   -- what came of one child
   abbrev pub SeatAwaitsChild : (before : Right) → (child : ℕ) → Progress → Seat R → Right → Type 0
   SeatAwaitsChild before child progress t after =
       Awaits (meaning_of b.key.rules) b.key.room (hands s) before child progress (hands t) after
-
-  -- what came of all these children
-  abbrev pub SeatAwaitsChildren : (Has : ℕ → Type 0) → (before : Right) → Bool → Seat R → Right → Type 0
-  SeatAwaitsChildren Has before room_left t after =
-      AwaitsChildren (meaning_of b.key.rules) b.key.room (hands s) Has before room_left (hands t) after
 
   -- what came of the goals of those of these members that are in cells
   abbrev pub SeatAwaitsFound : (Has : ℕ → Type 0) → (ℕ → ℕ) → (before : Right) → Option ℕ → Seat R → Right → Type 0

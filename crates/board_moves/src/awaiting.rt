@@ -2,42 +2,12 @@ ghost use Rattle.std.specs.Prelude.{◌≡◌, ◌≢◌, ℕ, ◌<◌};
 ghost use Rattle.goal_board.specs.Seats.{IsSeatOf};
 ghost use Rattle.goal_board.specs.SeatCalls.{HasRightTo};
 ghost use Rattle.board_moves.specs.Moves.{IsEntryOf};
-ghost use Rattle.board_moves.specs.Seats.{SeatAwaitsChildren, SeatAwaitsFound};
+ghost use Rattle.board_moves.specs.Seats.{SeatAwaitsFound};
 
 use crate::job::Job;
 use crate::progress::Progress;
-use crate::words::{Members, Words};
+use crate::words::Members;
 use goal_board::{Board, GoalRules, Hints, Seat};
-
-/// Awaits children of the goal one after the other. False where one of them found every cell taken.
-pub fn await_all<R: GoalRules, W: Words, H: Hints>(
-    board: &Board<R>,
-    seat: &mut Seat<R>,
-    job: &mut Job,
-    children: &W,
-    hints: &mut H,
-) -> bool
-    requires seat { IsSeatOf R.meaning board.now seat.old }
-    requires right { HasRightTo R.meaning board.now seat.old job.old.right }
-    requires words { W.can_next children.now }
-    requires children { (word : ℕ) → W.has children.now word →
-        (R.meaning board.now.key.rules).child job.old.right.goal word }
-    requires hints { H.capacity hints.old ≡ board.now.key.room }
-    ensures seat { IsSeatOf R.meaning board.now seat.new }
-    ensures right { HasRightTo R.meaning board.now seat.new job.new.right }
-    ensures awaits { SeatAwaitsChildren R.meaning board.now seat.old (W.has children.now)
-        job.old.right result seat.new job.new.right }
-    ensures hints { H.capacity hints.new ≡ H.capacity hints.old }
-{
-    let mut before = None;
-    while let Some(child) = children.next(before) {
-        if let Progress::Full = job.await_child(board, seat, child, hints) {
-            return false;
-        }
-        before = Some(child);
-    }
-    true
-}
 
 /// Awaits the goals of all members that are in cells, and tells how many these are. None where one of the goals found
 /// every cell taken.

@@ -10,7 +10,7 @@ mod progress;
 mod settled;
 mod words;
 
-pub use awaiting::{await_all, await_found};
+pub use awaiting::await_found;
 pub use collection::settle;
 pub use entries::{next_entry, put, put_goal};
 pub use exploring::explore;

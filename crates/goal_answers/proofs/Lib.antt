@@ -1,5 +1,4 @@
 pub mod ByRank
-pub mod Bits
 pub mod Trying
 pub mod Enforcing
 pub mod Asking

@@ -10,10 +10,10 @@ ghost use Rattle.goal_list.specs.Listed.{AreGoalsOf};
 ghost use Rattle.goal_answers.specs.Told.{AreOf, AreToldBelow, FindsRank, IsToldBelow};
 
 use crate::choices::answer;
-use crate::ranks::{rank, sooner};
+use crate::ranks::sooner;
 use crate::told::{Source, telling};
 use goal_children::known_goal;
-use goal_space::{goal_kinds_are_one, goals_are_known};
+use goal_space::{goal_kinds_are_one, goals_are_known, rank};
 use orca_base::List;
 use plan_tree::{Answered, Answers, Node};
 use query_core::{Goal, Query};

@@ -16,7 +16,7 @@ ghost use Rattle.goal_children.specs.MemberJobs.{word_at, HasNumberedJob, HaveNo
 
 use crate::jobs::{MemberJob, Phase};
 use goal_space::GoalKind;
-use plan_tree::alternative;
+use plan_tree::may_serve;
 use query_core::{
     Expr, ExprParts, Goal, GoalParts, KeyParts, PhysicalExpr, Query, candidates_are_known,
     expressions_are_one, groups_are_known,
@@ -158,8 +158,9 @@ fn serve_by(query: &Query, props: &Props, e: PhysicalExpr, wanted: Request) -> O
         (λ goal. (goal ≡ GoalKind.OptE e wanted)
         × ((mode : ℕ) × HasAlternative query.now e wanted mode)) }
 {
-    match alternative(query, props, e, wanted, 0) {
-        Some(_) => Some(GoalKind::OptE(e, wanted)),
-        None => None,
+    if may_serve(query, props, e, wanted) {
+        Some(GoalKind::OptE(e, wanted))
+    } else {
+        None
     }
 }

@@ -1,4 +1,3 @@
-pub mod Bits
 pub mod Growing
 pub mod WordFields
 pub mod Ranked

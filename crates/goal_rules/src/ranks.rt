@@ -2,12 +2,10 @@
 #![tactic(auto)]
 
 ghost use Rattle.std.specs.Prelude.{◌≡◌, ◌<◌, ◌≤◌, ◌+◌, ◌/◌, ◌%◌, ◌^◌};
-ghost use Rattle.query_core.specs.Sets.{bit};
-ghost use Rattle.xform_rules.specs.Counts.{table_count as count_of};
 ghost use Rattle.goal_space.specs.Ranks.{order_rank as rank_of_order};
 ghost use Rattle.goal_rules.specs.WordRanks.{dist_rank_by, expr_level_by, level_by, rank_of_word as rank_number};
 
-use query_core::sets;
+use goal_space::table_count;
 
 /// The rank of the goal of this word.
 pub fn rank_of_word(word: u64) -> u64
@@ -56,28 +54,4 @@ fn request_rank(code: u64) -> u64
     let dist = if code / 64 == 1 { 0 } else { 1 };
     let order = if code % 64 == 0 { 0 } else { 1 };
     dist + order
-}
-
-// How many of the first ten tables the set has.
-fn table_count(set: u32) -> u64
-    ensures value { result ≡ count_of set }
-    ensures few { result ≤ 10 }
-{
-    bit(set, 0)
-        + bit(set, 1)
-        + bit(set, 2)
-        + bit(set, 3)
-        + bit(set, 4)
-        + bit(set, 5)
-        + bit(set, 6)
-        + bit(set, 7)
-        + bit(set, 8)
-        + bit(set, 9)
-}
-
-fn bit(set: u32, table: u32) -> u64
-    ensures value { result ≡ bit set table }
-    ensures few { result ≤ 1 }
-{
-    if sets::has(set, table) { 1 } else { 0 }
 }

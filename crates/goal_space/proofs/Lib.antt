@@ -6,3 +6,4 @@ pub mod GoalNumbers
 pub mod OneWord
 pub mod InRange
 pub mod Decoded
+pub mod Bits

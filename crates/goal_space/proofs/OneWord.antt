@@ -10,9 +10,7 @@ use Rattle.query_core.specs.declared.words.KeyParts.{KeyParts}
 use Rattle.query_core.specs.declared.words.GoalParts.{GoalParts}
 use Rattle.query_core.specs.declared.words.GoalParts.TheVariants as parts
 use Rattle.query_core.specs.declared.expressions.ExprParts.{ExprParts}
-use Rattle.query_core.specs.declared.expressions.Operator.TheVariants as operators
-use Rattle.query_core.specs.declared.expressions.Physical.{Physical}
-use Rattle.query_core.specs.declared.expressions.PhysicalExpr.{PhysicalExpr}
+use Rattle.query_core.proofs.ExpressionLemmas.{expr_of_one}
 use Rattle.xform_rules.specs.Rules.{rule_number}
 use Rattle.request_props.specs.Requests.{code_of}
 use Rattle.goal_space.specs.Words.{key_of, expr_word, parts_of, goal_word, IsInRange}
@@ -29,19 +27,6 @@ parts_small (parts.Imp key) fits = omega (arith, fits)
 parts_small (parts.ImpE expr) fits = omega (arith, fits)
 parts_small (parts.Opt key request) fits = omega (arith, fits.0, fits.1)
 parts_small (parts.OptE expr request) fits = omega (arith, fits.0, fits.1)
-
-abbrev made : KeyParts → Physical → PhysicalExpr
-made group operator = record { group = group; operator = operator }
-
-made_same : (g h : KeyParts) (o p : Physical) → g ≡ h → o ≡ p → made g o ≡ made h p
-made_same g h o p groups operators_same = cc
-
-physical_same : (e f : PhysicalExpr) → expr_of e ≡ expr_of f → e ≡ f
-physical_same e f same =
-    let groups_same : e.group ≡ f.group = ap (λ (x : ExprParts). x.group) same in
-    let tagged : operators.Physical e.operator ≡ operators.Physical f.operator = ap (λ (x : ExprParts). x.operator) same in
-    let operators_same : e.operator ≡ f.operator = cc in
-    made_same e.group f.group e.operator f.operator groups_same operators_same
 
 module _ (
     one_expr : (e f : ExprParts) → IsPacked e → IsPacked f → word_of e ≡ word_of f → e ≡ f
@@ -97,7 +82,7 @@ module _ (
   parts_one (OptE e wanted) (OptE f wish) known other same =
       let words_same : expr_word (expr_of e) ≡ expr_word (expr_of f) = cc in
       let codes_same : code_of wanted ≡ code_of wish = cc in
-      let e_is = physical_same e f (expr_same (expr_of e) (expr_of f) known.0 other.0 words_same) in
+      let e_is = expr_of_one e f (expr_same (expr_of e) (expr_of f) known.0 other.0 words_same) in
       let wanted_is = request_one wanted wish known.1 other.1 codes_same in
       cc
   parts_one k l known other same = cc

@@ -74,7 +74,8 @@ impl<'q> Engine<'q> {
         ensures worker { IsWorker self.now worker.new }
         ensures number { worker.new.number ≡ worker.old.number }
         ensures keeps { Keeps (hands worker.old.seat) (hands worker.new.seat) }
-        ensures steps { StepsIn self.now worker.old.number (hands worker.old.seat) result (hands worker.new.seat) }
+        ensures steps { StepsIn self.now worker.old.number (hands worker.old.seat)
+            result (hands worker.new.seat) }
         ensures alone { StepsAloneIn self.now (hands worker.old.seat) result (hands worker.new.seat) }
         ensures closed { ShowsRoot self.now (hands worker.old.seat) → result ≡ stepped.Done }
         ensures full { ShowsFull (hands worker.old.seat).looks → result ≡ stepped.Full }

@@ -26,7 +26,8 @@ pub fn run_alone<'q>(
     requires { IsFresh engine worker }
     ensures ends { IfOk result (RunEnds (query_of engine.entry) engine.entry.cap 1) }
     ensures noted { IfOk result (λ outcome. IsNoted engine.entry.cap 1 outcome note.new) }
-    ensures run { IfOk result (λ outcome. IsRun (query_of engine.entry) engine.entry.cap 1 outcome note.new) }
+    ensures run { IfOk result (λ outcome.
+        IsRun (query_of engine.entry) engine.entry.cap 1 outcome note.new) }
     ensures err { OnErr result (note.new ≡ note.old) }
 {
     let mut worker = worker;
@@ -49,7 +50,8 @@ pub fn run_crew<'q, W: Threads + Wait + Sync, G: Gate>(
     requires workers { (1 ≤ n) × (n ≤ 64) }
     ensures ends { IfOk result (RunEnds (query_of engine.entry) engine.entry.cap n) }
     ensures noted { IfOk result (λ outcome. IsNoted engine.entry.cap n outcome note.new) }
-    ensures run { IfOk result (λ outcome. IsRun (query_of engine.entry) engine.entry.cap n outcome note.new) }
+    ensures run { IfOk result (λ outcome.
+        IsRun (query_of engine.entry) engine.entry.cap n outcome note.new) }
     ensures err { OnErr result (note.new ≡ note.old) }
 {
     let worker = engine.scheduler.work_crew(rt, alloc, worker, n, gate)?;
@@ -67,7 +69,8 @@ fn end<'q>(
     requires { IsLast engine n worker }
     ensures ends { IfOk result (RunEnds (query_of engine.entry) engine.entry.cap n) }
     ensures noted { IfOk result (λ outcome. IsNoted engine.entry.cap n outcome note.new) }
-    ensures run { IfOk result (λ outcome. IsRun (query_of engine.entry) engine.entry.cap n outcome note.new) }
+    ensures run { IfOk result (λ outcome.
+        IsRun (query_of engine.entry) engine.entry.cap n outcome note.new) }
     ensures err { OnErr result (note.new ≡ note.old) }
 {
     // For the proof: each finished goal has one worker, which the last one's seat has in its list.

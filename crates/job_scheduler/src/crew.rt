@@ -33,7 +33,8 @@ impl<R: GoalRules, J: Jobs<R>> Scheduler<R, J> {
         let crew = self.hire(alloc, worker, n)?;
         let task = |worker: Worker<R>| -> Worker<R>
             requires { IsOfCrew R.meaning self.now.board self.now.root self.now.goal n worker }
-            ensures { Worked R.meaning self.entry.now.board self.entry.now.root self.entry.now.goal n worker result }
+            ensures { Worked R.meaning self.entry.now.board self.entry.now.root self.entry.now.goal
+                n worker result }
         { self.work(rt, worker, n, gate) };
         let crew = thread::map_vec(rt, crew, &task)?;
         Ok(self.gather(crew, n))

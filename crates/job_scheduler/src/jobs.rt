@@ -33,7 +33,9 @@ pub trait Jobs<R: GoalRules>: Send + Sync {
         requires worker { worker < 64 }
         requires hints { hints.old ≡ board.now.key.room }
         ensures seat { IsSeatOf R.meaning board.now seat.new }
-        ensures turns { Turns board.now.key.room (adds self.now right.goal) (hands seat.old) right worker result (hands seat.new) }
-        ensures alone { result ≢ turned.Full → AdvancesAlone (R.meaning board.now.key.rules) board.now.key.room (hands seat.old) (hands seat.new) }
+        ensures turns { Turns board.now.key.room (adds self.now right.goal) (hands seat.old)
+            right worker result (hands seat.new) }
+        ensures alone { result ≢ turned.Full → AdvancesAlone (R.meaning board.now.key.rules)
+            board.now.key.room (hands seat.old) (hands seat.new) }
         ensures hints { hints.new ≡ hints.old };
 }

@@ -51,7 +51,8 @@ impl<R: GoalRules, J: Jobs<R>> Scheduler<R, J> {
         ensures worker { IsFreeWorkerOf R.meaning self.now.board self.now.root self.now.goal worker.new }
         ensures number { worker.new.number ≡ worker.old.number }
         ensures keeps { TurnKeeps (hands worker.old.seat) (hands worker.new.seat) right.place }
-        ensures runs { Runs worker.old.number right.place (hands worker.old.seat) result (hands worker.new.seat) }
+        ensures runs { Runs worker.old.number right.place (hands worker.old.seat)
+            result (hands worker.new.seat) }
         ensures alone { result ≡ stepped.Ran →
             WorkerAdvancesAlone R.meaning self.now.board worker.old worker.new }
     {

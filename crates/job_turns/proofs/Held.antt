@@ -19,7 +19,8 @@ use Rattle.goal_space.specs.Words.{goal_word}
 use Rattle.goal_space.specs.declared.goals.GoalKind.TheVariants.{Imp}
 use Rattle.goal_rules.specs.Known.{EntriesAreMembers}
 use Rattle.goal_rules.specs.Meaning.{meaning_of}
-use Rattle.job_turns.specs.Requests.{IsImplemented, MayServe, IsServing, IsServingWord}
+use Rattle.plan_tree.specs.ServingModes.{MayServe}
+use Rattle.job_turns.specs.Requests.{IsImplemented, IsServing, IsServingWord}
 
 -- ---- candidates by their words
 

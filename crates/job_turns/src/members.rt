@@ -15,15 +15,16 @@ ghost use Rattle.goal_space.specs.Entries.{NamesGoal};
 ghost use Rattle.goal_space.specs.declared.goals.GoalKind.TheVariants.{Opt};
 ghost use Rattle.job_turns.specs.Searches.{IsBoardOf, IsSeat, HasRight};
 ghost use Rattle.job_turns.specs.Choices.{Chooses};
-ghost use Rattle.job_turns.specs.Requests.{IsImplemented, IsMemberGoal, IsBestOfMembers, IsNextServing, MayServe, least_in};
+ghost use Rattle.plan_tree.specs.ServingModes.{MayServe};
+ghost use Rattle.job_turns.specs.Requests.{IsImplemented, IsMemberGoal, IsBestOfMembers, IsNextServing, least_in};
 
 use crate::choice::{Choice, await_choice};
-use crate::may_serve::may_serve;
 use best_answers::answers_are_best;
 use board_moves::Job;
 use goal_board::{Board, Hints, Seat};
 use goal_rules::{Rules, entries_are_known};
 use goal_space::{GoalKind, goals_are_known};
+use plan_tree::may_serve;
 use query_core::{
     Expr, KeyParts, Physical, PhysicalExpr, Query, candidates_are_known, expressions_are_one,
     groups_are_known,

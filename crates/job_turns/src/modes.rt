@@ -18,14 +18,13 @@ ghost use Rattle.job_turns.specs.Choices.{Chooses, IsNative, IsAskedByChild, IsG
 
 use crate::choice::{Choice, await_choice, progress_of};
 use crate::laws::words_are_known;
-use crate::may_serve::{modes_for, next_among};
 use best_answers::{answers_are_best, best_in_mode};
 use board_moves::{Job, Progress};
 use goal_board::{Board, Hints, Seat};
 use goal_rules::Rules;
 use goal_space::{GoalKind, goals_are_known};
 use plan_space::Line;
-use plan_tree::{Alt, ExprRows, alternative_by, expr_rows};
+use plan_tree::{Alt, ExprRows, alternative_by, expr_rows, modes_for, next_among};
 use query_core::{Key, PhysicalExpr, Query};
 use request_props::{Props, Request};
 use xform_rules::members_are_candidates;

@@ -188,12 +188,21 @@ fn options_of_another_form_get_the_usage_line(rt: HostRuntime) -> Result<(), Fai
     Ok(())
 }
 
-// The cost that the first line tells; without a plan it is as if there were no limit.
+// The cost that the first line tells, or 0 where it tells none.
 fn cost_of(text: &[u8]) -> Result<u64, Fail> {
     let line = str::from_utf8(text)?.lines().next().unwrap_or("");
     match line.strip_prefix("cost ") {
         Some(number) => Ok(number.parse::<u64>()?),
-        None => Ok(u64::MAX),
+        None => Ok(0),
+    }
+}
+
+// Whether the run told a plan of at least this cost, or that there is none.
+fn costs_no_less(status: Status, text: &[u8], least: u64) -> Result<bool, Fail> {
+    match status {
+        Status::Planned => Ok(cost_of(text)? >= least),
+        Status::NoPlan => Ok(text == b"no plan\n"),
+        _ => Ok(false),
     }
 }
 
@@ -227,8 +236,10 @@ fn no_plan_costs_less_with_rules_off(rt: HostRuntime) -> Result<(), Fail> {
         "SELECT a FROM t, u WHERE a = c ORDER BY a",
         "SELECT a FROM t, u WHERE a = d AND b < 3",
     ] {
-        let (_, sink) = planned(&rt, catalog, query.as_bytes())?;
+        let (status, sink) = planned(&rt, catalog, query.as_bytes())?;
         let least = cost_of(sink.taken())?;
+        assert_eq!(rt; status, Status::Planned, "{query}");
+        assert!(rt; least > 0, "{query}");
         for (place, first) in RULES.iter().enumerate() {
             for second in &RULES[place..] {
                 let off = if first == second {
@@ -245,8 +256,8 @@ fn no_plan_costs_less_with_rules_off(rt: HostRuntime) -> Result<(), Fail> {
                     "--off",
                     off.as_str(),
                 ];
-                let (_, sink) = answered(&rt, &words, catalog, query.as_bytes())?;
-                assert!(rt; cost_of(sink.taken())? >= least, "{query}");
+                let (status, sink) = answered(&rt, &words, catalog, query.as_bytes())?;
+                assert!(rt; costs_no_less(status, sink.taken(), least)?, "{query} {off}");
             }
         }
     }

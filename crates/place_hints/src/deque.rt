@@ -77,7 +77,8 @@ impl Deque {
 
 // Passes for others that steal from a deque.
 fn passes_of(alloc: Global, owner: &mut Owner) -> Result<Vec<Pass<u32, u64>>, AllocError>
-    ensures passes { IfOk result (λ passes. All (Fits (worker_deque owner.old) (worker_view owner.old)) passes.items) }
+    ensures passes { IfOk result (λ passes.
+        All (Fits (worker_deque owner.old) (worker_view owner.old)) passes.items) }
     ensures same { SameWorker owner.old owner.new × (worker_view owner.new ≡ worker_view owner.old) }
 {
     let mut passes = Vec::new(alloc);

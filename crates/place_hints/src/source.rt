@@ -21,7 +21,9 @@ impl Model for Source {
 
     ghost view = { λ s. capacity_known s.pass };
 
-    ghost invariant = { λ s. (0 < capacity_known s.pass) × Fits (stealer_deque s.stealer) (capacity_known s.pass) s.pass × All (Fits (stealer_deque s.stealer) (capacity_known s.pass)) s.spare.items };
+    ghost invariant = { λ s. (0 < capacity_known s.pass)
+        × Fits (stealer_deque s.stealer) (capacity_known s.pass) s.pass
+        × All (Fits (stealer_deque s.stealer) (capacity_known s.pass)) s.spare.items };
 }
 
 impl Source {

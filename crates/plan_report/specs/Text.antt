@@ -1,5 +1,5 @@
 -- The lines in which a plan is printed.
-use Rattle.std.specs.Prelude.{ℕ, zero, suc, ◌-◌, List, [], ◌∷◌, ◌++◌, flat_map, Option, None, Some, codes, decimal, if◌then◌else◌, nat_lt}
+use Rattle.std.specs.Prelude.{ℕ, zero, suc, List, [], ◌∷◌, ◌++◌, flat_map, Option, None, Some, codes, decimal}
 use Rattle.query_core.specs.declared.query.Query.{Query}
 use Rattle.query_core.specs.declared.output.OutItem.{OutItem}
 use Rattle.query_core.specs.declared.expressions.Physical.{Physical}
@@ -15,6 +15,9 @@ use Rattle.plan_space.specs.declared.nodes.Enforcer.TheVariants as enforcers
 use Rattle.plan_space.specs.declared.nodes.NodeKind.{NodeKind}
 use Rattle.plan_space.specs.declared.nodes.NodeKind.TheVariants as nodes
 use Rattle.plan_space.specs.Nodes.{Tree, leaf, over, two}
+use Rattle.plan_space.specs.Modes.{mode_at}
+use Rattle.plan_space.specs.declared.modes.Mode.{Mode}
+use Rattle.plan_space.specs.declared.modes.Mode.TheVariants as modes
 use Rattle.plan_space.specs.Lines.{table_in}
 use Rattle.plan_space.specs.Gives.{Kid, node_group, kid_of}
 use Rattle.plan_space.specs.Cost.{shape_of, cost_of}
@@ -22,35 +25,35 @@ use Rattle.plan_space.specs.Cost.{shape_of, cost_of}
 -- ---- nodes
 
 -- how a hash join works: on one segment, with copies of the right side, or on rows hashed alike by the equality of this number
-abbrev pub hash_mode_text : ℕ → List ℕ
-hash_mode_text mode =
-    if nat_lt mode 64 then codes "one"
-    else if nat_lt mode 128 then codes "copied"
-    else codes "colocated p" ++ decimal (mode - 128)
+abbrev pub hash_mode_text : Mode → List ℕ
+hash_mode_text (modes.One number) = codes "one"
+hash_mode_text (modes.Copied number) = codes "copied"
+hash_mode_text (modes.Hashed number) = codes "colocated p" ++ decimal number
 
 -- how a merge join works, each time by the equality of this number
-abbrev pub merge_mode_text : ℕ → List ℕ
-merge_mode_text mode =
-    if nat_lt mode 64 then codes "one p" ++ decimal mode
-    else if nat_lt mode 128 then codes "copied p" ++ decimal (mode - 64)
-    else codes "colocated p" ++ decimal (mode - 128)
+abbrev pub merge_mode_text : Mode → List ℕ
+merge_mode_text (modes.One number) = codes "one p" ++ decimal number
+merge_mode_text (modes.Copied number) = codes "copied p" ++ decimal number
+merge_mode_text (modes.Hashed number) = codes "colocated p" ++ decimal number
 
--- how a loop join works
-abbrev pub loop_mode_text : ℕ → List ℕ
-loop_mode_text mode = if nat_lt mode 64 then codes "one" else codes "copied"
+-- how a loop join works; it has no line in a hashed mode
+abbrev pub loop_mode_text : Mode → List ℕ
+loop_mode_text (modes.One number) = codes "one"
+loop_mode_text (modes.Copied number) = codes "copied"
+loop_mode_text (modes.Hashed number) = codes "copied"
 
--- how an aggregation works: on one segment, or on rows hashed by the list of this number
-abbrev pub agg_mode_text : Query → ℕ → List ℕ
-agg_mode_text q mode =
-    if nat_lt mode 128 then codes "one"
-    else codes "hashed " ++ list_text q (list_of q (mode - 128))
+-- how an aggregation works: on one segment, or on rows hashed by the list of this number; it has no line with copies
+abbrev pub agg_mode_text : Query → Mode → List ℕ
+agg_mode_text q (modes.One number) = codes "one"
+agg_mode_text q (modes.Copied number) = codes "one"
+agg_mode_text q (modes.Hashed list) = codes "hashed " ++ list_text q (list_of q list)
 
 -- a table, and the number of its index
 abbrev pub index_text : Query → ℕ → ℕ → List ℕ
 index_text q table index = table_text q table ++ codes ", i" ++ decimal index
 
 -- an operator in a mode, with the table whose rows it makes, if it makes a table's
-abbrev pub operator_text : Query → Physical → ℕ → ℕ → List ℕ
+abbrev pub operator_text : Query → Physical → ℕ → Mode → List ℕ
 operator_text q physical.Scan table mode = codes "Scan(" ++ table_text q table ++ codes ")"
 operator_text q (physical.IndexScan index) table mode = codes "IndexScan(" ++ index_text q table index ++ codes ")"
 operator_text q (physical.Filter child) table mode = codes "Filter(" ++ table_text q table ++ codes ")"
@@ -62,9 +65,9 @@ operator_text q (physical.HashAgg child) table mode = codes "HashAgg(" ++ agg_mo
 operator_text q (physical.StreamAgg child) table mode = codes "StreamAgg(" ++ agg_mode_text q mode ++ codes ")"
 operator_text q (physical.PartialAgg child) table mode = codes "PartialAgg"
 
--- a physical expression in a mode
+-- a physical expression in the mode of a number
 abbrev pub native_text : Query → PhysicalExpr → ℕ → List ℕ
-native_text q e mode = operator_text q e.operator (table_in e.group) mode
+native_text q e mode = operator_text q e.operator (table_in e.group) (mode_at mode)
 
 -- an enforcer, with its order or its hashed list
 abbrev pub enforcer_text : Query → Enforcer → List ℕ

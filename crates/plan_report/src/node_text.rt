@@ -5,7 +5,7 @@ ghost use Rattle.std.specs.Prelude.{◌≡◌, ◌++◌, IfOk, codes, string_byt
 ghost use Rattle.request_props.specs.Numbered.{IsProps};
 ghost use Rattle.plan_report.specs.Text as texts;
 
-use plan_space::{Enforcer, NodeKind};
+use plan_space::{Enforcer, Mode, NodeKind};
 use plan_tree::table_in;
 use query_core::{Physical, PhysicalExpr, Query};
 use query_text::{list_text, order_text, table_text};
@@ -67,6 +67,7 @@ fn native_text(
     ensures { IfOk result (λ s. string_bytes s ≡ texts.native_text query.now expr mode) }
 {
     let table = table_in(expr.group);
+    let mode = Mode::at(mode);
     match expr.operator {
         Physical::Scan => {
             let alias = table_text(query, table);
@@ -107,43 +108,36 @@ fn index_text(alloc: Global, query: &Query, table: u32, index: u32) -> Result<St
     Ok(format!(in alloc; "{alias}, i{index}")?)
 }
 
-fn hash_text(alloc: Global, mode: u32) -> Result<String, AllocError>
+fn hash_text(alloc: Global, mode: Mode) -> Result<String, AllocError>
     ensures { IfOk result (λ s.
         string_bytes s ≡ codes "HashJoin(" ++ texts.hash_mode_text mode ++ codes ")") }
 {
-    if mode < 64 {
-        Ok(String::from_str(alloc, "HashJoin(one)")?)
-    } else if mode < 128 {
-        Ok(String::from_str(alloc, "HashJoin(copied)")?)
-    } else {
-        let equality = mode - 128;
-        Ok(format!(in alloc; "HashJoin(colocated p{equality})")?)
+    match mode {
+        Mode::One(_) => Ok(String::from_str(alloc, "HashJoin(one)")?),
+        Mode::Copied(_) => Ok(String::from_str(alloc, "HashJoin(copied)")?),
+        Mode::Hashed(equality) => Ok(format!(in alloc; "HashJoin(colocated p{equality})")?),
     }
 }
 
-fn merge_text(alloc: Global, mode: u32) -> Result<String, AllocError>
+fn merge_text(alloc: Global, mode: Mode) -> Result<String, AllocError>
     ensures { IfOk result (λ s.
         string_bytes s ≡ codes "MergeJoin(" ++ texts.merge_mode_text mode ++ codes ")") }
 {
-    if mode < 64 {
-        Ok(format!(in alloc; "MergeJoin(one p{mode})")?)
-    } else if mode < 128 {
-        let equality = mode - 64;
-        Ok(format!(in alloc; "MergeJoin(copied p{equality})")?)
-    } else {
-        let equality = mode - 128;
-        Ok(format!(in alloc; "MergeJoin(colocated p{equality})")?)
+    match mode {
+        Mode::One(equality) => Ok(format!(in alloc; "MergeJoin(one p{equality})")?),
+        Mode::Copied(equality) => Ok(format!(in alloc; "MergeJoin(copied p{equality})")?),
+        Mode::Hashed(equality) => Ok(format!(in alloc; "MergeJoin(colocated p{equality})")?),
     }
 }
 
-fn loop_text(alloc: Global, mode: u32) -> Result<String, AllocError>
+fn loop_text(alloc: Global, mode: Mode) -> Result<String, AllocError>
     ensures { IfOk result (λ s.
         string_bytes s ≡ codes "LoopJoin(" ++ texts.loop_mode_text mode ++ codes ")") }
 {
-    if mode < 64 {
-        Ok(String::from_str(alloc, "LoopJoin(one)")?)
-    } else {
-        Ok(String::from_str(alloc, "LoopJoin(copied)")?)
+    match mode {
+        Mode::One(_) => Ok(String::from_str(alloc, "LoopJoin(one)")?),
+        Mode::Copied(_) => Ok(String::from_str(alloc, "LoopJoin(copied)")?),
+        Mode::Hashed(_) => Ok(String::from_str(alloc, "LoopJoin(copied)")?),
     }
 }
 
@@ -152,15 +146,17 @@ fn agg_mode_text(
     alloc: Global,
     query: &Query,
     props: &Props,
-    mode: u32,
+    mode: Mode,
 ) -> Result<String, AllocError>
     requires { IsProps query.now props.now }
     ensures { IfOk result (λ s. string_bytes s ≡ texts.agg_mode_text query.now mode) }
 {
-    if mode < 128 {
-        Ok(String::from_str(alloc, "one")?)
-    } else {
-        let columns = list_text(alloc, query, props, mode - 128)?;
-        Ok(format!(in alloc; "hashed {columns}")?)
+    match mode {
+        Mode::One(_) => Ok(String::from_str(alloc, "one")?),
+        Mode::Copied(_) => Ok(String::from_str(alloc, "one")?),
+        Mode::Hashed(list) => {
+            let columns = list_text(alloc, query, props, list)?;
+            Ok(format!(in alloc; "hashed {columns}")?)
+        }
     }
 }

@@ -10,7 +10,6 @@ use Rattle.query_core.specs.declared.query.Query.{Query}
 use Rattle.query_core.specs.declared.words.KeyParts.{KeyParts}
 use Rattle.query_core.specs.declared.expressions.PhysicalExpr.{PhysicalExpr}
 use Rattle.query_core.specs.declared.expressions.ExprParts.{ExprParts}
-use Rattle.query_core.specs.declared.expressions.Operator.TheVariants as operators
 use Rattle.query_core.specs.Expressions.{expr_of, word_of}
 use Rattle.xform_rules.specs.Closure.{IsMember}
 use Rattle.plan_space.specs.declared.nodes.NodeKind.TheVariants as nodes
@@ -56,14 +55,6 @@ in_behind p (first ∷ rest) others is = inr (in_behind p rest others is)
 in_end : (list : List Native) (p : Native) → IsIn p (list ++ p ∷ [])
 in_end [] p = inl refl
 in_end (first ∷ others) p = inr (in_end others p)
-
--- a physical expression is known by its parts
-pub physical_one : (f e : PhysicalExpr) → expr_of f ≡ expr_of e → f ≡ e
-physical_one f e same =
-    let group : f.group ≡ e.group = ap (λ (x : ExprParts). x.group) same in
-    let wrapped : operators.Physical f.operator ≡ operators.Physical e.operator = ap (λ (x : ExprParts). x.operator) same in
-    let operator : f.operator ≡ e.operator = cc in
-    ap (λ g. record { group = g; operator = f.operator }) group ∙ ap (λ o. record { group = e.group; operator = o }) operator
 
 module _ (q : Query) (e : PhysicalExpr) where
   are_more : (bound more : ℕ) (list : List Native) → bound ≤ more → AreInModes q e bound list → AreInModes q e more list

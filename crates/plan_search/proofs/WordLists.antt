@@ -11,23 +11,11 @@ use Rattle.std.proofs.lemmas.List.{get_or-take, get_or_default, take_more}
 use Rattle.std.proofs.lemmas.List.Elements.{All-contains, Contains-get_or, Contains-push, Contains-push_cases}
 use Rattle.std.proofs.lemmas.List.Kept.{AllPairs-from_increasing}
 use Rattle.query_core.proofs.Rising.{rises_push}
+use Rattle.query_core.proofs.Contained.{contains_here, contains_later, contains_cases}
 use Rattle.plan_search.specs.Steps.{Covers}
 use Rattle.std.proofs.Math.Nat.{eq-zero-or-pos}
 use Rattle.std.proofs.lemmas.Map.Lookups.{exact_unsigned}
 use Rattle.std.specs.declared.cmp.Ordering.TheVariants.{Less, Equal, Greater}
-
--- the first word of a list is in it
-pub contains_here : (x : ℕ) (xs : List ℕ) → Contains (x ∷ xs) x
-contains_here x xs = (zero, omega arith, refl)
-
--- so are the others
-pub contains_later : (x : ℕ) (xs : List ℕ) (w : ℕ) → Contains xs w → Contains (x ∷ xs) w
-contains_later x xs w (k, within, is) = (suc k, omega (arith, within), is)
-
--- and nothing else is
-pub contains_cases : (x : ℕ) (xs : List ℕ) (w : ℕ) → Contains (x ∷ xs) w → (x ≡ w) ⊎ Contains xs w
-contains_cases x xs w (zero, within, is) = inl is
-contains_cases x xs w (suc k, within, is) = inr (k, omega (arith, within), is)
 
 -- what stands in a list stays there when one word comes behind
 pub contains_before : (xs : List ℕ) (x w : ℕ) → Contains xs w → Contains (xs ++ x ∷ []) w

@@ -8,7 +8,8 @@ use request_props::Props;
 use std::alloc::Global;
 use std::test::Fail;
 use worked_queries::{
-    cross_product, hashed_alike, huge_tables, large_and_small, sorted_table, two_tables,
+    cross_product, grouped, hashed_alike, huge_tables, large_and_small, sorted_table, two_tables,
+    without_a_plan,
 };
 
 // What the node at the root of a plan does.
@@ -38,6 +39,15 @@ fn nodes_of(plan: &Plan) -> u64 {
         Plan::Two(_, left, right) => nodes_of(left)
             .saturating_add(nodes_of(right))
             .saturating_add(1),
+    }
+}
+
+// The first node over two plans, from the root on.
+fn join_of(plan: &Plan) -> Option<NodeKind> {
+    match plan {
+        Plan::Leaf(_) => None,
+        Plan::Over(_, kid) => join_of(kid),
+        Plan::Two(node, _, _) => node.kind(),
     }
 }
 
@@ -113,5 +123,44 @@ fn one_table_is_sorted_on_its_segments_and_merged(rt: HostRuntime) -> Result<(),
         least_of(alloc, &query)?,
         Some((5253, Some(NodeKind::Enforcer(Enforcer::GatherMerge(1))), 3))
     );
+    Ok(())
+}
+
+// Each segment groups its own rows, and these groups go where the hash of b says.
+#[test]
+fn groups_are_made_in_two_steps_on_the_segments(rt: HostRuntime) -> Result<(), Fail> {
+    let alloc = rt.alloc();
+    let query = grouped(alloc)?;
+    assert_eq!(rt;
+        least_of(alloc, &query)?,
+        Some((855, Some(NodeKind::Enforcer(Enforcer::GatherMerge(1))), 6))
+    );
+    Ok(())
+}
+
+#[test]
+fn there_is_no_plan_where_no_rule_makes_a_join(rt: HostRuntime) -> Result<(), Fail> {
+    let alloc = rt.alloc();
+    let query = without_a_plan(alloc)?;
+    assert_eq!(rt; least_of(alloc, &query)?, None);
+    Ok(())
+}
+
+// With the second table on the left the join costs as much. Its code comes later, since the key of that table is the
+// greater one.
+#[test]
+fn of_plans_of_one_cost_the_first_by_code_is_least(rt: HostRuntime) -> Result<(), Fail> {
+    let alloc = rt.alloc();
+    let query = two_tables(alloc)?;
+    let props = Props::collect(alloc, &query)?;
+    let found = plain_least(alloc, &query, &props)?;
+    let hashed_alike = NodeKind::Native(
+        PhysicalExpr::new(
+            KeyParts::Join(3),
+            Physical::HashJoin(KeyParts::Get(0), KeyParts::Get(1)),
+        ),
+        128,
+    );
+    assert!(rt; matches!(&found, Found::Least { plan, cost: 7506 } if join_of(plan) == Some(hashed_alike)));
     Ok(())
 }

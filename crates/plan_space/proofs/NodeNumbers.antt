@@ -6,11 +6,11 @@ use Rattle.query_core.specs.Expressions.{expr_of, physical_children, word_of, Is
 use Rattle.query_core.specs.declared.query.Query.{Query}
 use Rattle.query_core.specs.declared.words.KeyParts.{KeyParts}
 use Rattle.query_core.specs.declared.expressions.Physical.{Physical}
-use Rattle.query_core.specs.declared.expressions.Operator.TheVariants as operators
 use Rattle.query_core.specs.declared.expressions.Children.{Children}
 use Rattle.query_core.specs.declared.expressions.Children.TheVariants as arities
 use Rattle.query_core.specs.declared.expressions.ExprParts.{ExprParts}
 use Rattle.query_core.specs.declared.expressions.PhysicalExpr.{PhysicalExpr}
+use Rattle.query_core.proofs.ExpressionLemmas.{expr_of_one}
 use Rattle.request_props.specs.Numbered.{lists_of, orders_of}
 use Rattle.request_props.specs.declared.request.Request.{Request}
 use Rattle.plan_space.specs.Nodes.{enforcer_number, number_of}
@@ -125,14 +125,6 @@ enforcer_one (enforcers.Redistribute k) (enforcers.Redistribute l) x y same = ap
 enforcer_one a b x y same = absurd (omega (arith, x, y, same))
 
 module _ (expressions : (e f : ExprParts) → IsPacked e → IsPacked f → word_of e ≡ word_of f → e ≡ f) (most : ℕ) (few : most < 2 ^ 32) where
-  -- physical expressions that are one as expressions of either kind are one
-  physical_one : (e f : PhysicalExpr) → expr_of e ≡ expr_of f → e ≡ f
-  physical_one e f same =
-      let group : e.group ≡ f.group = ap (λ x. x.group) same in
-      let both : operators.Physical e.operator ≡ operators.Physical f.operator = ap (λ x. x.operator) same in
-      let operator : e.operator ≡ f.operator = cc in
-      ap (λ g. native_expr g e.operator) group ∙ ap (native_expr f.group) operator
-
   native_same : (e f : PhysicalExpr) (mode other : ℕ) → IsInRange most (nodes.Native e mode) → IsInRange most (nodes.Native f other)
       → number_of (nodes.Native e mode) ≡ number_of (nodes.Native f other) → nodes.Native e mode ≡ nodes.Native f other
   native_same e f mode other x y same =
@@ -140,7 +132,7 @@ module _ (expressions : (e f : ExprParts) → IsPacked e → IsPacked f → word
       let below' = y.1 in
       let word : word_of (expr_of e) ≡ word_of (expr_of f) = omega arith in
       let mode_is : mode ≡ other = omega arith in
-      let e_is = physical_one e f (expressions (expr_of e) (expr_of f) x.0 y.0 word) in
+      let e_is = expr_of_one e f (expressions (expr_of e) (expr_of f) x.0 y.0 word) in
       cc
 
   -- no number is that of an expression and of an enforcer

@@ -1,12 +1,13 @@
 -- The modes in which an expression may serve a request, ascending.
-use Rattle.std.proofs.Common.{◌≡◌, ◌≤◌, ◌<◌, ◌⊎◌, ◌+◌, ◌-◌, ℕ, zero, suc, Bool, true, false, List, [], ◌∷◌, Some, None, inl, inr, length, slice_get, slice_index, slice_index_or, refl, ap, sym, ◌∙◌, subst, add-one, arith, if◌then◌else◌}
+use Rattle.std.proofs.Common.{◌≡◌, ◌≤◌, ◌<◌, ◌+◌, ◌-◌, ℕ, zero, suc, Bool, true, false, List, [], ◌∷◌, Some, None, inl, inr, length, slice_get, slice_index, refl, ap, sym, ◌∙◌, subst, add-one, arith, if◌then◌else◌}
 use Rattle.std.specs.List.{Contains}
 use Rattle.std.specs.List.Sorted.{IsStrictlyIncreasing}
-use Rattle.std.proofs.lemmas.Bool.{cases_lt}
+use Rattle.std.proofs.lemmas.Bool.{cases_Bool, cases_lt}
 use Rattle.std.proofs.lemmas.List.Elements.{Contains-get_or}
-use Rattle.std.proofs.lemmas.List.Kept.{AllPairs-from_increasing}
 use Rattle.query_core.specs.declared.query.Query.{Query}
 use Rattle.query_core.specs.declared.expressions.PhysicalExpr.{PhysicalExpr}
+use Rattle.query_core.proofs.Contained.{contains_cases, contains_here, contains_later}
+use Rattle.xform_rules.proofs.OneClosure.{increasing_one}
 use Rattle.request_props.specs.declared.request.Request.{Request}
 use Rattle.request_props.specs.Numbered.{lists_of}
 use Rattle.plan_space.specs.Laws.{ModesAreFew}
@@ -31,27 +32,10 @@ pub passing-pass : (p : ℕ → Bool) (from left : ℕ) → p from ≡ false →
 unfolding passing
 passing-pass p from left not_it = rw not_it
 
-either : (b : Bool) → (b ≡ true) ⊎ (b ≡ false)
-either true = inl refl
-either false = inr refl
-
-at_cons : (x : ℕ) (xs : List ℕ) (m k : ℕ) → k < length (x ∷ xs) → slice_index_or (x ∷ xs) k m ≡ m → (x ≡ m) ⊎ Contains xs m
-at_cons x xs m zero within is = inl is
-at_cons x xs m (suc k) within is = inr (k, omega arith, is)
-
-contains_cons : (x : ℕ) (xs : List ℕ) (m : ℕ) → Contains (x ∷ xs) m → (x ≡ m) ⊎ Contains xs m
-contains_cons x xs m there = at_cons x xs m there.0 there.1 there.2
-
-contains_here : (x : ℕ) (xs : List ℕ) (m : ℕ) → x ≡ m → Contains (x ∷ xs) m
-contains_here x xs m is = (zero, omega arith, is)
-
-contains_later : (x : ℕ) (xs : List ℕ) (m : ℕ) → Contains xs m → Contains (x ∷ xs) m
-contains_later x xs m there = (suc there.0, let within = there.1 in omega arith, there.2)
-
 in_passing : (p : ℕ → Bool) (from left m : ℕ) → Contains (passing p from left) m → (from ≤ m) × (m < from + left) × (p m ≡ true)
 in_passing p from zero m there = let within : there.0 < length (passing p from zero) = there.1 in absurd (let none = passing-end p from in let no_length = ap length none in omega arith)
-in_passing p from (suc left) m there = elim (either (p from)) [
-  | inl holds ↦ elim (contains_cons from (passing p (from + 1) left) m (subst (λ (xs : List ℕ). Contains xs m) (passing-yes p from left holds) there)) [
+in_passing p from (suc left) m there = elim (cases_Bool (p from)) [
+  | inl holds ↦ elim (contains_cases from (passing p (from + 1) left) m (subst (λ (xs : List ℕ). Contains xs m) (passing-yes p from left holds) there)) [
     | inl is ↦ (omega arith, omega arith, subst (λ (k : ℕ). p k ≡ true) is holds)
     | inr later ↦ let below = in_passing p (from + 1) left m later in (omega arith, omega arith, below.2)
   ]
@@ -65,14 +49,14 @@ passing_has p from zero m at within holds = absurd (omega arith)
 passing_has p from (suc left) m at within holds = elim (cases_lt from m) [
   | inl later ↦
       let below = passing_has p (from + 1) left m (omega arith) (omega arith) holds in
-      elim (either (p from)) [
+      elim (cases_Bool (p from)) [
         | inl first ↦ subst (λ (xs : List ℕ). Contains xs m) (sym (passing-yes p from left first)) (contains_later from (passing p (from + 1) left) m below)
         | inr not_it ↦ subst (λ (xs : List ℕ). Contains xs m) (sym (passing-pass p from left not_it)) below
       ]
   | inr first ↦
       let same : from ≡ m = omega arith in
       let here : p from ≡ true = subst (λ (k : ℕ). p k ≡ true) (sym same) holds in
-      subst (λ (xs : List ℕ). Contains xs m) (sym (passing-yes p from left here)) (contains_here from (passing p (from + 1) left) m same)
+      subst (λ (xs : List ℕ). Contains xs m) (sym (passing-yes p from left here)) (subst (Contains (from ∷ passing p (from + 1) left)) same (contains_here from (passing p (from + 1) left)))
 ]
 
 rises_at : (x : ℕ) (xs : List ℕ) → ((m : ℕ) → Contains xs m → x < m) → IsStrictlyIncreasing xs
@@ -85,7 +69,7 @@ rises_cons x xs above rises = λ k within. rises_at x xs above rises k within
 
 passing_rises : (p : ℕ → Bool) (from left : ℕ) → IsStrictlyIncreasing (passing p from left)
 passing_rises p from zero = subst IsStrictlyIncreasing (sym (passing-end p from)) (λ k within. absurd (omega arith))
-passing_rises p from (suc left) = elim (either (p from)) [
+passing_rises p from (suc left) = elim (cases_Bool (p from)) [
   | inl holds ↦
       subst IsStrictlyIncreasing (sym (passing-yes p from left holds))
       (rises_cons from (passing p (from + 1) left) (λ m there. let below = in_passing p (from + 1) left m there in omega arith) (passing_rises p (from + 1) left))
@@ -148,40 +132,6 @@ at_end p from more place none =
 
 -- ---- there is one list of them
 
-head_least : (x : ℕ) (xs : List ℕ) → IsStrictlyIncreasing (x ∷ xs) → (m : ℕ) → Contains xs m → x < m
-head_least x xs rises m there =
-    let apart = AllPairs-from_increasing (x ∷ xs) rises 0 (suc there.0) m (omega arith) (let within = there.1 in omega arith) in
-    rw there.2 at apart
-
-tail_rises : (x : ℕ) (xs : List ℕ) → IsStrictlyIncreasing (x ∷ xs) → IsStrictlyIncreasing xs
-tail_rises x xs rises = λ k within. let step = rises (suc k) (omega arith) in rw add-one (rw add-one at step)
-
-tail_there : (x y : ℕ) (xs ys : List ℕ) → x ≡ y → IsStrictlyIncreasing (x ∷ xs) → ((m : ℕ) → Contains (x ∷ xs) m → Contains (y ∷ ys) m)
-    → (m : ℕ) → Contains xs m → Contains ys m
-tail_there x y xs ys same rises to m there = elim (contains_cons y ys m (to m (contains_later x xs m there))) [
-  | inl first ↦ let more = head_least x xs rises m there in absurd (omega arith)
-  | inr later ↦ later
-]
-
-heads_same : (x y : ℕ) (xs ys : List ℕ) → IsStrictlyIncreasing (x ∷ xs) → IsStrictlyIncreasing (y ∷ ys) → Contains (y ∷ ys) x → Contains (x ∷ xs) y → x ≡ y
-heads_same x y xs ys rises also x_there y_there = elim (contains_cons y ys x x_there) [
-  | inl same ↦ sym same
-  | inr later ↦ elim (contains_cons x xs y y_there) [
-    | inl same ↦ same
-    | inr also_later ↦ let more = head_least y ys also x later in let less = head_least x xs rises y also_later in absurd (omega arith)
-  ]
-]
-
-one_list : (xs ys : List ℕ) → IsStrictlyIncreasing xs → IsStrictlyIncreasing ys
-    → ((m : ℕ) → Contains xs m → Contains ys m) → ((m : ℕ) → Contains ys m → Contains xs m) → xs ≡ ys
-one_list [] [] rises also to from = refl
-one_list [] (y ∷ ys) rises also to from = let there = from y (contains_here y ys y refl) in let within = there.1 in absurd (omega arith)
-one_list (x ∷ xs) [] rises also to from = let there = to x (contains_here x xs x refl) in let within = there.1 in absurd (omega arith)
-one_list (x ∷ xs) (y ∷ ys) rises also to from =
-    let same = heads_same x y xs ys rises also (to x (contains_here x xs x refl)) (from y (contains_here y ys y refl)) in
-    let others = one_list xs ys (tail_rises x xs rises) (tail_rises y ys also) (tail_there x y xs ys same rises to) (tail_there y x ys xs (sym same) also from) in
-    cc
-
 pub modes_same : (q : Query) (e : PhysicalExpr) (wanted : Request) (modes others : List ℕ) → AreModes q e wanted modes → AreModes q e wanted others → modes ≡ others
 modes_same q e wanted modes others are also =
-    one_list modes others are.rises also.rises (λ m there. (also.exact m).1 ((are.exact m).0 there)) (λ m there. (are.exact m).1 ((also.exact m).0 there))
+    increasing_one modes others are.rises also.rises (λ m there. (also.exact m).1 ((are.exact m).0 there)) (λ m there. (are.exact m).1 ((also.exact m).0 there))

@@ -1,11 +1,9 @@
 -- No two nodes in range have one number.
-use Rattle.std.proofs.Common.{◌≡◌, ◌≤◌, ◌<◌, ◌+◌, ◌-◌, ◌*◌, ◌/◌, ◌≢◌, ℕ, refl, ap, ◌∙◌, arith}
+use Rattle.std.proofs.Common.{◌≡◌, ◌≤◌, ◌<◌, ◌+◌, ◌-◌, ◌*◌, ◌/◌, ◌≢◌, ℕ, refl, ap, arith}
 use Rattle.query_core.specs.Expressions.{word_of, IsPacked, expr_of}
 use Rattle.query_core.specs.declared.expressions.ExprParts.{ExprParts}
-use Rattle.query_core.specs.declared.expressions.Operator.TheVariants as operators
-use Rattle.query_core.specs.declared.expressions.Physical.{Physical}
 use Rattle.query_core.specs.declared.expressions.PhysicalExpr.{PhysicalExpr}
-use Rattle.query_core.specs.declared.words.KeyParts.{KeyParts}
+use Rattle.query_core.proofs.ExpressionLemmas.{expr_of_one}
 use Rattle.plan_space.specs.Nodes.{enforcer_number, number_of}
 use Rattle.plan_space.specs.declared.nodes.Enforcer.{Enforcer}
 use Rattle.plan_space.specs.declared.nodes.Enforcer.TheVariants.{Gather, Broadcast, Sort, GatherMerge, Redistribute}
@@ -16,25 +14,12 @@ use Rattle.plan_tree.specs.Nodes.{EnforcerInRange, IsInRange, NativeInRange}
 same_fields : (w v m o : ℕ) → m < 256 → o < 256 → 72057594037927936 + w * 256 + m ≡ 72057594037927936 + v * 256 + o → (w ≡ v) × (m ≡ o)
 same_fields w v m o few fewer same = (omega arith, omega arith)
 
-abbrev made : KeyParts → Physical → PhysicalExpr
-made group operator = record { group = group; operator = operator }
-
-made_same : (g h : KeyParts) (o p : Physical) → g ≡ h → o ≡ p → made g o ≡ made h p
-made_same g h o p groups operators_same = ap (λ (x : KeyParts). made x o) groups ∙ ap (λ (x : Physical). made h x) operators_same
-
-physical_same : (e f : PhysicalExpr) → expr_of e ≡ expr_of f → e ≡ f
-physical_same e f same =
-    let groups : e.group ≡ f.group = ap (λ (x : ExprParts). x.group) same in
-    let tagged : operators.Physical e.operator ≡ operators.Physical f.operator = ap (λ (x : ExprParts). x.operator) same in
-    let operators_same : e.operator ≡ f.operator = cc in
-    made_same e.group f.group e.operator f.operator groups operators_same
-
 native_one : ((e f : ExprParts) → IsPacked e → IsPacked f → word_of e ≡ word_of f → e ≡ f) → (e f : PhysicalExpr) (mode other : ℕ)
     → NativeInRange e mode → NativeInRange f other → number_of (nodes.Native e mode) ≡ number_of (nodes.Native f other)
     → nodes.Native e mode ≡ nodes.Native f other
 native_one one e f mode other x y same =
     let fields = same_fields (word_of (expr_of e)) (word_of (expr_of f)) mode other x.few y.few same in
-    let e_is = physical_same e f (one (expr_of e) (expr_of f) x.packed y.packed fields.0) in
+    let e_is = expr_of_one e f (one (expr_of e) (expr_of f) x.packed y.packed fields.0) in
     let mode_is = fields.1 in
     cc
 

@@ -1,11 +1,11 @@
-use Rattle.std.proofs.Common.{refl}
-use Rattle.goal_children.proofs.Serving.{has_alternative, has_none}
+use Rattle.std.proofs.Common.{◌∙◌, refl, sym}
+use Rattle.std.proofs.lemmas.Bool.{false≢true}
 use Rattle.goal_children.proofs.members.serve_by.Goals as goal
 
--- the mode of the first alternative serves
-pub returns-in-Some : goal.returns-in-Some
-returns-in-Some c = (refl, has_alternative c.args.query.now c.args.e c.args.wanted _ c.in-Some.ensures)
+-- some mode serves
+pub returns-then-may_serve : goal.returns-then-may_serve
+returns-then-may_serve c = (refl, c.may_serve.ensures.0 c.if-may_serve.true)
 
--- without a first one no mode does
-pub returns-in-None : goal.returns-in-None
-returns-in-None c = has_none c.args.query.now c.args.e c.args.wanted c.in-None.ensures
+-- or none does
+pub returns-else-may_serve : goal.returns-else-may_serve
+returns-else-may_serve c = λ mode serves. false≢true (sym c.if-may_serve.false ∙ c.may_serve.ensures.1 (mode, serves))

@@ -3,7 +3,7 @@ use Rattle.std.proofs.Common.{◌≡◌, sym, ap, subst, ◌∙◌}
 use Rattle.std.proofs.lemmas.Bool.{false≢true}
 use Rattle.query_core.specs.Expressions.{expr_of, word_of, HasWord, IsCandidate}
 use Rattle.query_core.specs.declared.expressions.PhysicalExpr.{PhysicalExpr}
-use Rattle.job_turns.specs.Requests.{MayServe}
+use Rattle.plan_tree.specs.ServingModes.{MayServe}
 use Rattle.job_turns.proofs.Held.{same_physical}
 use Rattle.job_turns.proofs.members.serving_expr.Goals as goal
 

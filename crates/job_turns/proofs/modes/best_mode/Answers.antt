@@ -9,7 +9,7 @@ use Rattle.xform_rules.specs.Closure.{IsMember}
 use Rattle.job_turns.specs.Choices.{IsGoalIn, IsBestIn, FindsChoice}
 use Rattle.job_turns.specs.declared.choice.Choice.{Choice}
 use Rattle.plan_tree.specs.Alternatives.{HasAlternative}
-use Rattle.job_turns.proofs.ModesTried.{all_below}
+use Rattle.plan_tree.proofs.ModesTried.{all_below}
 use Rattle.job_turns.proofs.Finding.{finds_none, finds_both, finds_others, chooses_none}
 use Rattle.job_turns.proofs.Tried.{IsGoalBelow, IsBestBelow, goal_below_none, best_below_none, goal_below_more, best_below_more, goal_below_all, best_below_all}
 use Rattle.job_turns.proofs.modes.best_mode.Goals as goal

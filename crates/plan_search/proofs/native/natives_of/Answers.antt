@@ -4,7 +4,8 @@ use Rattle.query_core.specs.declared.expressions.ExprParts.{ExprParts}
 use Rattle.xform_rules.specs.Closure.{IsMember}
 use Rattle.query_core.specs.Expressions.{expr_of, word_of, IsCandidate, IsPacked}
 use Rattle.plan_search.specs.Search.{AddsModes}
-use Rattle.plan_search.proofs.Listed.{AreMade, physical_one, made_more, made_past, made_all}
+use Rattle.query_core.proofs.ExpressionLemmas.{expr_of_one}
+use Rattle.plan_search.proofs.Listed.{AreMade, made_more, made_past, made_all}
 use Rattle.plan_search.proofs.native.natives_of.Goals as goal
 use Rattle.plan_search.proofs.native.natives_of.Goals.{in-Some+in_ok-push_modes, in_default}
 
@@ -45,7 +46,7 @@ loop-word-preserved c =
           made_more q group words c.requires.members.ascending (c.modes_are_few.ensures.few q c.requires.props.few_lists) i e c.loop-word.list.items _ c.loop-word-test.true here
           (subst (λ (x : ExprParts). x.group ≡ group) is of_group) (c.expressions_are_one.ensures.small (expr_of e) (packed (expr_of e) here))
           (subst (λ x. word_of x ≡ slice_index words i) is c.known_parts.ensures.has.number)
-          (λ f is_member of_word. physical_one f e (c.expressions_are_one.ensures.expressions (expr_of f) (expr_of e) (packed (expr_of f) is_member) (packed (expr_of e) here) of_word))
+          (λ f is_member of_word. expr_of_one f e (c.expressions_are_one.ensures.expressions (expr_of f) (expr_of e) (packed (expr_of f) is_member) (packed (expr_of e) here) of_word))
           c.loop-word.invariant (subst (AddsModes q e c.loop-word.list.items) (sym (ap (λ l. l.items) w.list-is)) w.in_ok-push_modes.ensures)
       | in_default w ↦
           subst (AreMade q group words (i + 1)) (sym (ap (λ l. l.items) w.list-is))

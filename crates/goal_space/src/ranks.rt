@@ -1,0 +1,110 @@
+//! The ranks of goals.
+#![tactic(auto)]
+
+ghost use Rattle.std.specs.Prelude.{◌≡◌, ◌≤◌, ◌<◌};
+ghost use Rattle.query_core.specs.Sets.{bit as bit_of};
+ghost use Rattle.xform_rules.specs.Counts.{table_count as count_of};
+ghost use Rattle.goal_space.specs.Ranks.{asked_rank as asked_rank_of, dist_rank as dist_rank_of};
+ghost use Rattle.goal_space.specs.Ranks.{kind_rank as kind_rank_of, level_of, order_rank as order_rank_of};
+ghost use Rattle.goal_space.specs.Ranks.{rank_of};
+
+use crate::goals::GoalKind;
+use query_core::{KeyParts, sets};
+use request_props::Dist;
+
+/// The rank of the goal.
+pub fn rank(goal: GoalKind) -> u64
+    ensures value { result ≡ rank_of goal }
+    ensures few { result < 2000 }
+{
+    100 * level(goal.group()) + 10 * kind_rank(goal) + asked_rank(goal)
+}
+
+// The level of the group.
+fn level(group: KeyParts) -> u64
+    ensures value { result ≡ level_of group }
+    ensures few { result ≤ 13 }
+{
+    match group {
+        KeyParts::Get(_) => 1,
+        KeyParts::Filter(_) => 2,
+        KeyParts::Join(set) => 1 + table_count(set),
+        KeyParts::Partial => 12,
+        KeyParts::Agg => 13,
+    }
+}
+
+/// How many of the first ten tables the set has.
+pub fn table_count(set: u32) -> u64
+    ensures value { result ≡ count_of set }
+    ensures few { result ≤ 10 }
+{
+    bit(set, 0)
+        + bit(set, 1)
+        + bit(set, 2)
+        + bit(set, 3)
+        + bit(set, 4)
+        + bit(set, 5)
+        + bit(set, 6)
+        + bit(set, 7)
+        + bit(set, 8)
+        + bit(set, 9)
+}
+
+fn bit(set: u32, table: u32) -> u64
+    ensures value { result ≡ bit_of set table }
+    ensures few { result ≤ 1 }
+{
+    if sets::has(set, table) { 1 } else { 0 }
+}
+
+// The rank of the goal among those of its group.
+fn kind_rank(goal: GoalKind) -> u64
+    ensures value { result ≡ kind_rank_of goal }
+    ensures few { result ≤ 6 }
+{
+    match goal {
+        GoalKind::Xf(_, _) => 0,
+        GoalKind::ExpE(_) => 1,
+        GoalKind::Exp(_) => 2,
+        GoalKind::ImpE(_) => 3,
+        GoalKind::Imp(_) => 4,
+        GoalKind::OptE(_, _) => 5,
+        GoalKind::Opt(_, _) => 6,
+    }
+}
+
+// The rank of what is asked of the group.
+fn asked_rank(goal: GoalKind) -> u64
+    ensures value { result ≡ asked_rank_of goal }
+    ensures few { result ≤ 2 }
+{
+    match goal {
+        GoalKind::Opt(_, wanted) => dist_rank(wanted.dist) + order_rank(wanted.order),
+        GoalKind::Exp(_) => 0,
+        GoalKind::ExpE(_) => 0,
+        GoalKind::Xf(_, _) => 0,
+        GoalKind::Imp(_) => 0,
+        GoalKind::ImpE(_) => 0,
+        GoalKind::OptE(_, _) => 0,
+    }
+}
+
+fn dist_rank(dist: Dist) -> u64
+    ensures value { result ≡ dist_rank_of dist }
+    ensures few { result ≤ 1 }
+{
+    match dist {
+        Dist::Spread => 0,
+        Dist::One => 1,
+        Dist::Copies => 1,
+        Dist::Hashed(_) => 1,
+    }
+}
+
+fn order_rank(order: u32) -> u64
+    ensures value { result ≡ order_rank_of order }
+    ensures few { result ≤ 1 }
+{
+    if order == 0 { 0 } else { 1 }
+}
