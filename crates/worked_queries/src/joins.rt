@@ -97,6 +97,27 @@ pub fn huge_tables(alloc: Global) -> Result<Query, AllocError> {
     first_item_of(alloc, tables, items, preds, Vec::new(alloc))
 }
 
+/// `SELECT T1.a FROM T1, T2 WHERE T1.a .. T2.b`, by this comparison, where each table has 1,000 rows,
+/// a 1,000 values and b 500, without the rules that are off.
+pub fn compared_tables(alloc: Global, op: CmpOp, off: u32) -> Result<Query, AllocError>
+    requires { AreOptions (record { root = RootDist.One; off = off }) }
+{
+    let tables = vec![in alloc;
+        table(alloc, text(alloc, "T1")?, 1000),
+        table(alloc, text(alloc, "T2")?, 1000),
+    ]?;
+    let items = vec![in alloc;
+        column(0, text(alloc, "a")?, 1000),
+        column(1, text(alloc, "b")?, 500),
+    ]?;
+    let preds = vec![in alloc; compared(0, op, 1)]?;
+    let selected = Selected {
+        output: vec![in alloc; shown(0)]?,
+        order: Vec::new(alloc),
+    };
+    rows_of(alloc, tables, items, preds, selected, off)
+}
+
 /// `SELECT t.a FROM t, u`, where t has 100 rows and u 10.
 pub fn cross_product(alloc: Global) -> Result<Query, AllocError> {
     cross_product_without(alloc, 0)

@@ -95,14 +95,20 @@ pub fn equality(left: u32, right: u32) -> Pred
     compared(left, CmpOp::Eq, right)
 }
 
-pub fn equal_to(left: u32, value: i64) -> Pred
-    ensures { result ≡ record { left = left; op = CmpOp.Eq; right = Operand.Int value } }
+pub fn beside(left: u32, op: CmpOp, value: i64) -> Pred
+    ensures { result ≡ record { left = left; op = op; right = Operand.Int value } }
 {
     Pred {
         left,
-        op: CmpOp::Eq,
+        op,
         right: Operand::Int(value),
     }
+}
+
+pub fn equal_to(left: u32, value: i64) -> Pred
+    ensures { result ≡ record { left = left; op = CmpOp.Eq; right = Operand.Int value } }
+{
+    beside(left, CmpOp::Eq, value)
 }
 
 pub fn count() -> Agg

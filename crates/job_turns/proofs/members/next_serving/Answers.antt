@@ -6,7 +6,7 @@ use Rattle.query_core.specs.declared.query.Query.{Query}
 use Rattle.board_rule.specs.Looks.{ShowsEntry}
 use Rattle.goal_board.specs.Seats.{hands}
 use Rattle.board_moves.proofs.Shown.{still_shown, looks_none, looks_then, later_looked}
-use Rattle.board_moves.proofs.Ascending.{passes_none, passes_next, passes_found, passes_all}
+use Rattle.board_moves.proofs.Ascending.{fewer_above, passes_none, passes_next, passes_found, passes_all}
 use Rattle.board_moves.proofs.Putting.{held_at, only_looks_held, found_enters}
 use Rattle.goal_space.specs.Entries.{IsEntry}
 use Rattle.goal_rules.specs.EntryLaws.{word_some}
@@ -88,3 +88,6 @@ pub returns-clause-next : goal.returns-clause-next
 returns-clause-next c =
     let q = c.args.query.now in
     passes_all (IsCandidateOf q c.args.group) (IsServingWord q c.args.group c.args.wanted) (serving_candidate q c.args.group c.args.wanted (c.members_are_candidates.ensures q)) c.args.before c.candidates.before c.candidates.invariant.passes c.in_default.ensures
+
+pub candidates-smaller-else-holds : goal.candidates-smaller-else-holds
+candidates-smaller-else-holds c = fewer_above c.candidates.before c.in-Some.word c.in-Some.ensures.above (search rules)
