@@ -1,5 +1,5 @@
 -- A candidate that is held is a member, and one that isn't is none: the looks would show it.
-use Rattle.std.proofs.Common.{◌≢◌, sym, subst, ◌∙◌, arith}
+use Rattle.std.proofs.Common.{◌≢◌, sym, subst, ◌∙◌, arith, rules}
 use Rattle.std.proofs.lemmas.Bool.{false≢true}
 use Rattle.query_core.specs.Expressions.{IsCandidateOf}
 use Rattle.query_core.specs.declared.query.Query.{Query}
