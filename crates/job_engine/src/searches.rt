@@ -3,7 +3,7 @@
 //! where that was too small.
 #![tactic(auto)]
 
-ghost use Rattle.std.specs.Prelude.{◌≡◌, ◌≤◌, ◌×◌, ◌^◌, IfOk, IfSome, OnErr, None};
+ghost use Rattle.std.specs.Prelude.{◌≡◌, ◌≤◌, ◌^◌, IfOk, IfSome, OnErr, None};
 ghost use Rattle.request_props.specs.Numbered.{IsProps};
 ghost use Rattle.job_engine.specs.Runs.{RunEnds, IsNoted};
 
@@ -21,6 +21,7 @@ use std::thread::Threads;
 // Searches of few tables have some 6 entries for each expression that their groups can hold, and one more for each 10
 // of their lists and orders.
 const ENTRIES_FOR_EACH: usize = 8;
+
 const NUMBERED_FOR_ONE_MORE: usize = 8;
 
 // A board has at least so many cells more.
@@ -90,7 +91,11 @@ fn usual_room(props: &Props, cap: u32) -> u32
         .candidate_count()
         .saturating_mul(entries)
         .saturating_add(LEAST_ROOM);
-    if usual < cap as usize { usual as u32 } else { cap }
+    if usual < cap as usize {
+        usual as u32
+    } else {
+        cap
+    }
 }
 
 // Searches by one worker on a board with fewer cells than the capacity. None where these were too few.
