@@ -16,3 +16,4 @@ pub mod Serving
 pub mod Held
 pub mod LeastWords
 pub mod GoalsHeld
+pub mod Passing

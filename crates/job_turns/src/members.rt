@@ -1,15 +1,15 @@
 //! The members of a group that may serve a request, and the best answer of them.
 #![tactic(auto)]
 
-ghost use Rattle.std.specs.Prelude.{◌≡◌, ◌<◌, MatchOption};
-ghost use Rattle.std.specs.Option.{option_map};
-ghost use Rattle.query_core.specs.Expressions.{word_of, expr_of, IsCandidate, IsCandidateOf, IsCandidateWord};
+ghost use Rattle.std.specs.Prelude.{◌≡◌, ℕ, ◌<◌, ◌≤◌, MatchOption, length, slice_index};
+ghost use Rattle.std.specs.List.Sorted.{IsStrictlyIncreasing};
+ghost use Rattle.query_core.specs.Expressions.{word_of, expr_of, IsCandidate, IsCandidateWord};
 ghost use Rattle.query_core.specs.Keys.{IsGroup, IsInRange};
 ghost use Rattle.query_core.specs.declared.query.Query.{Query as AnyQuery};
 ghost use Rattle.query_core.specs.declared.expressions.PhysicalExpr.{PhysicalExpr as Parts};
 ghost use Rattle.request_props.specs.Numbered.{IsProps, IsNumbered};
 ghost use Rattle.goal_board.specs.Seats.{hands};
-ghost use Rattle.board_moves.specs.Words.{IsNextOf};
+ghost use Rattle.board_moves.specs.Words.{IsAbove};
 ghost use Rattle.board_moves.specs.Moves.{OnlyLooks};
 ghost use Rattle.goal_space.specs.Entries.{NamesGoal};
 ghost use Rattle.goal_space.specs.declared.goals.GoalKind.TheVariants.{Opt};
@@ -26,8 +26,8 @@ use goal_rules::{Rules, entries_are_known};
 use goal_space::{GoalKind, goals_are_known};
 use plan_tree::may_serve;
 use query_core::{
-    Expr, KeyParts, Physical, PhysicalExpr, Query, candidates_are_known, expressions_are_one,
-    groups_are_known,
+    Expr, KeyParts, Physical, PhysicalExpr, Query, candidates_are_known, count_below,
+    expressions_are_one, groups_are_known,
 };
 use request_props::{Props, Request};
 use xform_rules::members_are_candidates;
@@ -101,16 +101,33 @@ fn next_serving<'q>(
     members_are_candidates();
     candidates_are_known();
     expressions_are_one();
-    let mut before = before;
-    'candidates: while let Some(word) = next_word(query, props, group, before) {
+    let words = props.candidates_of(query, group);
+    for place in count_up_to(words, before)..words.len() {
+        let word = words[place];
         if let Some(expr) = serving_expr(query, props, Expr(word), wanted) {
             if board.holds(seat, word) {
                 return Some((word, expr));
             }
         }
-        before = Some(word);
     }
     None
+}
+
+// How many of the words aren't above the one before.
+fn count_up_to(words: &[u64], before: Option<u64>) -> usize
+    requires { IsStrictlyIncreasing words.now }
+    ensures few { result ≤ length words.now }
+    ensures passed { (k : ℕ) → k < result → IsAbove before (slice_index words.now k) → ⊥ }
+    ensures ahead { (k : ℕ) → result ≤ k → k < length words.now →
+        IsAbove before (slice_index words.now k) }
+{
+    match before {
+        Some(word) => match word.checked_add(1) {
+            Some(bound) => count_below(words, bound),
+            None => words.len(),
+        },
+        None => 0,
+    }
 }
 
 // The number before the words of all physical expressions that the group can hold. Those of logical
@@ -135,28 +152,6 @@ fn least_operator(group: KeyParts) -> Physical
         KeyParts::Join(_) => Physical::HashJoin(least, least),
         KeyParts::Partial => Physical::PartialAgg(least),
         KeyParts::Agg => Physical::HashAgg(least),
-    }
-}
-
-// The next word of an expression that the group can hold.
-fn next_word(query: &Query, props: &Props, group: KeyParts, before: Option<u64>) -> Option<u64>
-    requires props { IsProps query.now props.now }
-    requires known { IsGroup query.now group }
-    ensures { IsNextOf (IsCandidateOf query.now group) before result }
-{
-    match props.next_candidate(query, group, as_expr(before)) {
-        Some(next) => Some(next.0),
-        None => None,
-    }
-}
-
-// The word as that of an expression.
-fn as_expr(word: Option<u64>) -> Option<Expr>
-    ensures { result ≡ option_map (λ number. record { 0 = number }) word }
-{
-    match word {
-        Some(number) => Some(Expr(number)),
-        None => None,
     }
 }
 

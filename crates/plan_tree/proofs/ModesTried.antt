@@ -1,14 +1,15 @@
--- ModeRange in which an expression may not serve a request, one after the other.
+-- Modes in which an expression may not serve a request, one after the other.
 use Rattle.std.proofs.Common.{◌≡◌, ℕ, ◌+◌, ◌<◌, ◌≤◌, Option, None, Some, true, false, sym, subst, ◌∙◌, inl, inr, arith}
-use Rattle.std.specs.Option.{is_some}
 use Rattle.std.proofs.lemmas.Bool.{cases_lt}
 use Rattle.query_core.specs.declared.query.Query.{Query}
 use Rattle.query_core.specs.declared.expressions.PhysicalExpr.{PhysicalExpr}
 use Rattle.request_props.specs.declared.request.Request.{Request}
+use Rattle.query_core.specs.Expressions.{physical_children}
+use Rattle.plan_space.specs.Alternatives.{LineServes}
 use Rattle.plan_space.specs.Lines.{line_of}
-use Rattle.plan_tree.specs.Alternatives.{HasAlternative, IsAltIn}
+use Rattle.plan_space.specs.declared.lines.Line.{Line}
+use Rattle.plan_tree.specs.Alternatives.{HasAlternative}
 use Rattle.plan_tree.specs.Walks.{AreNone}
-use Rattle.plan_tree.specs.declared.alternatives.Alt.{Alt}
 use Rattle.plan_space.specs.Modes.{IsAmong}
 use Rattle.plan_tree.specs.ServingModes.{MayServeAmong}
 use Rattle.plan_space.specs.declared.modes.ModeRange.{ModeRange}
@@ -18,15 +19,17 @@ module _ (q : Query) (e : PhysicalExpr) (wanted : Request) where
   abbrev pub NoneServes : ℕ → ℕ → Type 0
   NoneServes first from = (mode : ℕ) → first ≤ mode → mode < from → HasAlternative q e wanted mode → ⊥
 
-  pub some_serves : (mode : ℕ) (found : Option Alt) → IsAltIn q e wanted mode found → is_some found ≡ true
+  -- the line of a mode serves, or the mode isn't there
+  pub line_serves : (mode : ℕ) (line : Line) → line_of q e mode ≡ Some line → LineServes q line (physical_children e.operator) wanted
       → HasAlternative q e wanted mode
-  some_serves mode None is some = let wrong : ⊥ = cc in absurd wrong
-  some_serves mode (Some alt) is some = (is.0, is.1.is_alternative)
+  line_serves mode line is serves = (line, record { is_line = is; serves = serves })
 
-  pub never_serves : (mode : ℕ) (found : Option Alt) → IsAltIn q e wanted mode found → is_some found ≡ false
+  pub line_never : (mode : ℕ) (line : Line) → line_of q e mode ≡ Some line → (LineServes q line (physical_children e.operator) wanted → ⊥)
       → HasAlternative q e wanted mode → ⊥
-  never_serves mode None is none has = is has.0 has.1
-  never_serves mode (Some alt) is none has = let wrong : ⊥ = cc in wrong
+  line_never mode line is never has =
+      let both : Some has.0 ≡ Some line = sym has.1.is_line ∙ is in
+      let same : has.0 ≡ line = cc in
+      never (subst (λ (l : Line). LineServes q l (physical_children e.operator) wanted) same has.1.serves)
 
   -- a mode without a line isn't there
   no_line : (mode : ℕ) → line_of q e mode ≡ None → HasAlternative q e wanted mode → ⊥

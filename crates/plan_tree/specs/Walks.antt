@@ -1,12 +1,18 @@
 -- The modes of an expression, one after the other.
-use Rattle.std.specs.Prelude.{ℕ, ◌≡◌, ◌≤◌, ◌<◌, Option, None, Some, length}
+use Rattle.std.specs.Prelude.{ℕ, ◌≡◌, ◌≤◌, ◌<◌, Option, None, Some, length, ⊤}
 use Rattle.query_core.specs.declared.expressions.Physical.{Physical}
 use Rattle.query_core.specs.declared.expressions.Physical.TheVariants as physical
 use Rattle.query_core.specs.declared.expressions.PhysicalExpr.{PhysicalExpr}
 use Rattle.query_core.specs.declared.query.Query.{Query}
+use Rattle.query_core.specs.Crossing.{crossing_of}
+use Rattle.query_core.specs.declared.words.KeyParts.{KeyParts}
 use Rattle.request_props.specs.Numbered.{lists_of}
+use Rattle.request_props.specs.Ends.{Admits}
+use Rattle.request_props.specs.declared.ends.Crossings.{Crossings}
 use Rattle.plan_space.specs.Lines.{line_of}
 use Rattle.plan_space.specs.declared.lines.Line.{Line}
+use Rattle.plan_space.specs.declared.modes.Mode.{Mode}
+use Rattle.plan_space.specs.declared.modes.Mode.TheVariants as modes
 use Rattle.plan_space.specs.declared.modes.ModeCounts.{ModeCounts}
 
 -- no mode from the number on and below the other has a line
@@ -17,6 +23,24 @@ AreNone q e from below = (mode : ℕ) → from ≤ mode → mode < below → lin
 abbrev pub IsNextLine : Query → PhysicalExpr → ℕ → Option (ℕ × Line) → Type 0
 IsNextLine q e from None = (mode : ℕ) → from ≤ mode → line_of q e mode ≡ None
 IsNextLine q e from (Some found) = (from ≤ found.0) × (found.0 < 192) × AreNone q e from found.0 × (line_of q e found.0 ≡ Some found.1)
+
+-- the predicate by which the operator works in the mode, if by one
+abbrev pub equality_of_mode : Physical → Mode → Option ℕ
+equality_of_mode (physical.HashJoin left right) (modes.Hashed pred) = Some pred
+equality_of_mode (physical.MergeJoin left right) (modes.One pred) = Some pred
+equality_of_mode (physical.MergeJoin left right) (modes.Copied pred) = Some pred
+equality_of_mode (physical.MergeJoin left right) (modes.Hashed pred) = Some pred
+equality_of_mode operator mode = None
+
+-- each predicate that equates columns across the groups is among these
+abbrev pub AreCrossingsBetween : Query → KeyParts → KeyParts → Crossings → Type 0
+AreCrossingsBetween q left right crossings = (pred : ℕ) → (crossing_of q left right pred ≡ None → ⊥) → Admits crossings pred
+
+-- the same across the sides of a join that works by an equality
+abbrev pub AreCrossingsOf : Query → Physical → Crossings → Type 0
+AreCrossingsOf q (physical.HashJoin left right) crossings = AreCrossingsBetween q left right crossings
+AreCrossingsOf q (physical.MergeJoin left right) crossings = AreCrossingsBetween q left right crossings
+AreCrossingsOf q operator crossings = ⊤
 
 -- so many modes of each kind
 abbrev pub counts : ℕ → ℕ → ℕ → ModeCounts

@@ -10,7 +10,7 @@ ghost use Rattle.plan_tree.specs.Alternatives.{HasAlternative};
 ghost use Rattle.plan_tree.specs.ServingModes.{gives_order as order_given, has_spread_modes as spread_modes};
 ghost use Rattle.plan_tree.specs.ServingModes.{MayServe, MayServeAmong, IsNextAmong};
 
-use crate::alternatives::alternative_by;
+use crate::serving::serves;
 use crate::walks::next_line;
 use plan_space::{Line, ModeRange, modes_are_few};
 use query_core::{Children, Physical, PhysicalExpr, Query};
@@ -134,7 +134,7 @@ fn serves_among(
 {
     let mut from = modes.from;
     'modes: while let Some((mode, line)) = next_among(query, props, expr, modes, from) {
-        if alternative_by(query, props, expr, wanted, mode, line).is_some() {
+        if serves(query, props, line, expr.children(), wanted) {
             return true;
         }
         from = mode + 1;

@@ -10,3 +10,4 @@ pub mod SideLemmas
 pub mod LeftRanges
 pub mod KindOrder
 pub mod CandidateLists
+pub mod Masks

@@ -5,6 +5,7 @@ use Rattle.std.specs.Option.{option_map_or}
 use Rattle.query_core.specs.Crossing.{equal_item}
 use Rattle.query_core.specs.Keys.{is_grouped_by}
 use Rattle.query_core.specs.declared.query.Query.{Query}
+use Rattle.query_core.specs.declared.words.KeyParts.TheVariants.{Get, Join}
 use Rattle.query_core.specs.declared.predicate.Pred.{Pred}
 use Rattle.query_core.specs.declared.options.RootDist.{RootDist}
 use Rattle.query_core.specs.declared.options.RootDist.TheVariants.{One, Spread}
@@ -12,6 +13,7 @@ use Rattle.request_props.specs.Listing.{listing_of}
 use Rattle.request_props.specs.Found.{ascending, elements_of, wanted_order, found_lists, found_orders}
 use Rattle.request_props.specs.Groups.{AreKeys, AreGroupRows}
 use Rattle.request_props.specs.Candidates.{AreCandidates}
+use Rattle.request_props.specs.Ends.{AreEnds}
 use Rattle.request_props.specs.Lying.{items_of, AreTablesOf}
 use Rattle.request_props.specs.declared.given.GivenDist.{GivenDist}
 use Rattle.request_props.specs.declared.given.GivenDist.TheVariants as given
@@ -134,6 +136,8 @@ pub record IsProps (q : Query) (props : Props) : Type 0 where
   pub known_rows : AreGroupRows q props.rows
   pub known_candidates : AreCandidates q props.candidates
   pub known_equalities : props.equalities ≡ map (equality_of q) q.preds
+  pub known_table_ends : AreEnds q Get props.table_ends
+  pub known_set_ends : AreEnds q Join props.set_ends
   pub known_placings : props.placings ≡ map (λ table. dist_by q table.hashed) q.tables
   pub known_grouped : props.grouped ≡ map (are_grouped q) (lists_of q)
   pub known_lists : AreTablesOf q (lists_of q) props.list_tables

@@ -4,6 +4,7 @@
 
 mod candidates;
 mod classes;
+mod ends;
 mod fault;
 mod found;
 mod given;
@@ -17,6 +18,7 @@ mod satisfaction;
 mod sides;
 
 pub use classes::{class_asked, class_of, classes_agree};
+pub use ends::Crossings;
 pub use fault::PropsFault;
 pub use given::{Given, GivenDist, GivenOrder};
 pub use numbering::listing_is_one;

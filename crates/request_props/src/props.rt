@@ -13,6 +13,7 @@ mod fitting;
 mod lookups;
 
 use crate::candidates::group_candidates;
+use crate::ends::{Ends, set_ends, table_ends};
 use crate::fault::PropsFault;
 use crate::found::{found_lists, found_orders, wanted_order};
 use crate::given::GivenDist;
@@ -45,6 +46,10 @@ pub struct Props {
     candidates: List<List<u64>>,
     /// For each predicate both its sides, where it is an equality of two items.
     equalities: List<Option<Equality>>,
+    /// Of each table the equalities of which it has a column.
+    table_ends: List<Ends>,
+    /// The same of each set of tables, but for that of all tables.
+    set_ends: List<Ends>,
     /// Where the rows of each table lie.
     placings: List<GivenDist>,
     /// Of each hashed list whether all of it is in GROUP BY.
@@ -70,6 +75,8 @@ impl Props {
         let rows = group_rows(alloc, query, keys.as_slice())?;
         let candidates = group_candidates(alloc, query, keys.as_slice())?;
         let equalities = equalities(alloc, query, hashed.as_slice(), orders.as_slice())?;
+        let table_ends = table_ends(alloc, query, equalities.as_slice())?;
+        let set_ends = set_ends(alloc, query, equalities.as_slice())?;
         let placings = placings(alloc, query, hashed.as_slice())?;
         let grouped = grouped(alloc, query, hashed.as_slice())?;
         let by_groups = group_order(alloc, query, orders.as_slice())?;
@@ -84,6 +91,8 @@ impl Props {
             rows: List::of(rows),
             candidates: List::of(candidates),
             equalities: List::of(equalities),
+            table_ends: List::of(table_ends),
+            set_ends: List::of(set_ends),
             placings: List::of(placings),
             grouped: List::of(grouped),
             list_tables: List::of(list_tables),

@@ -1,7 +1,7 @@
 //! What a query implies, looked up. No call here takes memory.
 #![tactic(auto)]
 
-ghost use Rattle.std.specs.Prelude.{◌≡◌, ◌≤◌, ◌↔◌, IsTrue, MatchOption, None, slice_get};
+ghost use Rattle.std.specs.Prelude.{◌≡◌, ◌≤◌, ◌<◌, ◌↔◌, ℕ, IfSome, IsTrue, MatchOption, None, length, slice_get, slice_index_or};
 ghost use Rattle.std.specs.Option.{option_map, option_map_or};
 ghost use Rattle.query_core.specs.Candidates.{IsNext, IsLast};
 ghost use Rattle.query_core.specs.Crossing.{crossing_of, sides_of};
@@ -9,10 +9,13 @@ ghost use Rattle.query_core.specs.Keys.{IsGroup, IsKey, Names};
 ghost use Rattle.query_core.specs.declared.words.KeyParts.{KeyParts as Group};
 ghost use Rattle.cardinality.specs.Rows.{rows_of};
 ghost use Rattle.request_props.specs.Candidates.{AreCandidatesOf};
+ghost use Rattle.request_props.specs.Ends.{Admits, AreEndsOf};
+ghost use Rattle.request_props.specs.declared.ends.Ends.{Ends as AnyEnds};
 ghost use Rattle.request_props.specs.Numbered.{IsProps, side_of, both_sides, equality_of};
 ghost use Rattle.request_props.specs.Numbered.{table_dist as dist_of_table, group_order as order_of_groups};
 ghost use Rattle.request_props.specs.Numbered.{is_grouped_list as is_list_grouped};
 
+use crate::ends::{Crossings, Ends};
 use crate::given::GivenDist;
 use crate::groups::is_key;
 use crate::props::Props;
@@ -106,6 +109,31 @@ impl Props {
         }
     }
 
+    /// Predicates among which all are that equate columns across the groups.
+    pub fn crossings(&self, query: &Query, left: KeyParts, right: KeyParts) -> Crossings
+        requires { IsProps query.now self.now }
+        ensures { (pred : ℕ) → (crossing_of query.now left right pred ≡ None → ⊥) → Admits result pred }
+    {
+        match (self.ends(query, left), self.ends(query, right)) {
+            (Some(left), Some(right)) => Crossings::between(left, right),
+            _ => Crossings::any(),
+        }
+    }
+
+    // The equalities of which the group has a column, where they are known.
+    fn ends(&self, query: &Query, group: KeyParts) -> Option<Ends>
+        requires { IsProps query.now self.now }
+        ensures { IfSome result (AreEndsOf query.now group) }
+    {
+        match group {
+            KeyParts::Get(table) => ends_at(self.table_ends.as_slice(), table),
+            KeyParts::Filter(table) => ends_at(self.table_ends.as_slice(), table),
+            KeyParts::Join(set) => ends_at(self.set_ends.as_slice(), set),
+            KeyParts::Partial => None,
+            KeyParts::Agg => None,
+        }
+    }
+
     // Both sides of the predicate, where it is an equality of two items.
     fn equality(&self, query: &Query, pred: u32) -> Option<Equality>
         requires { IsProps query.now self.now }
@@ -146,6 +174,17 @@ impl Props {
         ensures { result ≡ order_of_groups query.now }
     {
         self.by_groups
+    }
+}
+
+// What stands at this place of the list, if it has so many.
+fn ends_at(list: &[Ends], place: u32) -> Option<Ends>
+    ensures { IfSome result (λ ends. (d : AnyEnds) → (place < length list.now) ×
+        (slice_index_or list.now place d ≡ ends)) }
+{
+    match list.get(place as usize) {
+        Some(ends) => Some(*ends),
+        None => None,
     }
 }
 

@@ -1,0 +1,155 @@
+-- Laws of masks of predicates, of which each is a bit of a number of 64 bits.
+use Rattle.std.proofs.Common.{◌≡◌, ◌⊎◌, inl, inr, ℕ, ◌+◌, ◌*◌, ◌%◌, ◌^◌, ◌<◌, ◌≤◌, List, [], ◌∷◌, ◌++◌, Option, None, Some, length, length-append, map, get_or, max, min, arith, ap, refl, sym, subst, ◌∙◌, IsTrue, Bool, true, false, ◌&&◌, if◌then◌else◌}
+use Rattle.std.specs.Prelude.{bit_and, bit_or, ◌≢◌, slice_get, IfSome}
+use Rattle.std.specs.Int.{w64}
+use Rattle.std.specs.Option.{option_map}
+use Rattle.std.proofs.lemmas.Bool.{and_parts, cases_lt, cases_eq}
+use Rattle.std.proofs.lemmas.Option.{slice_get-map, slice_get_within, get_or_from_slice_get}
+use Rattle.std.proofs.lemmas.List.{get_or_append_left}
+use Rattle.std.proofs.Math.Seq.{get_or-append_seam}
+use Rattle.std.proofs.lemmas.Nat.Bits.{bit_at_set_same, bit_at_set_other}
+use Rattle.query_core.specs.Sets.{bit, Has}
+use Rattle.query_core.specs.Keys.{has_item}
+use Rattle.query_core.specs.declared.query.Query.{Query}
+use Rattle.query_core.specs.declared.words.KeyParts.{KeyParts}
+use Rattle.query_core.specs.declared.words.KeyParts.TheVariants.{Get, Filter}
+use Rattle.query_core.proofs.Bits.{bit-or, bit-and, bit-below, bit-read, bit-beyond}
+use Rattle.query_core.specs.Crossing.{crossing_of, crossing_at, sides_with, equal_item}
+use Rattle.query_core.specs.declared.predicate.Pred.{Pred}
+use Rattle.request_props.specs.Ends.{IsEqualityAt, AreEnds, AreEndsBelow, AreEndsOf, HasEndsAt}
+use Rattle.request_props.specs.Numbered.{side_of, equality_with, equality_of}
+use Rattle.request_props.specs.declared.ends.Ends.{Ends}
+use Rattle.request_props.specs.declared.sides.Equality.{Equality}
+
+pub mask-with : (mask k : ℕ) → k < 64 → bit (bit_or mask (1 * 2 ^ k % 2 ^ 64)) k ≡ 1
+unfolding bit
+mask-with mask k within = bit_at_set_same w64 mask k within
+
+pub mask-with_other : (mask k : ℕ) → k < 64 → (t : ℕ) → t ≢ k → bit (bit_or mask (1 * 2 ^ k % 2 ^ 64)) t ≡ bit mask t
+unfolding bit
+mask-with_other mask k within t other = bit_at_set_other w64 mask k within t other
+
+pub ruleset masks = (arith, mask-with, mask-with_other, bit-or, bit-and, bit-below, bit-read, bit-beyond)
+
+-- what is in both masks is in their meet, and what is in one is in the join
+pub in_both : (a b k : ℕ) → Has a k → Has b k → Has (bit_and a b) k
+in_both a b k first second = omega (arith, bit-and a b k, first, second)
+
+pub in_first : (a b k : ℕ) → Has a k → Has (bit_or a b) k
+in_first a b k first = omega (arith, bit-or a b k, first, bit-below b k)
+
+pub in_second : (a b k : ℕ) → Has b k → Has (bit_or a b) k
+in_second a b k second = omega (arith, bit-or a b k, second, bit-below a k)
+
+-- in the join of the meets of two and two others
+pub in_either : (a b c d k : ℕ) → (Has a k × Has b k) ⊎ (Has c k × Has d k) → Has (bit_or (bit_and a b) (bit_and c d)) k
+in_either a b c d k either = elim either [
+  | inl both ↦ in_first (bit_and a b) (bit_and c d) k (in_both a b k both.0 both.1)
+  | inr both ↦ in_second (bit_and a b) (bit_and c d) k (in_both c d k both.0 both.1)
+]
+
+-- a mask of 64 bits has none from 64 on
+pub mask_below : (mask k : ℕ) → mask < 2 ^ 64 → Has mask k → k < 64
+mask_below mask k fits has = elim (cases_lt k 64) [ inl less ↦ less | inr more ↦ absurd (omega (arith, bit-beyond mask 64 k fits more, has)) ]
+
+module _ (q : Query) (group : KeyParts) where
+  -- masks of no predicates
+  pub none_below : (ends : Ends) → AreEndsBelow q group 0 ends
+  none_below ends = record { first = λ n a b below is has. absurd (omega (arith, below)); second = λ n a b below is has. absurd (omega (arith, below)) }
+
+  -- what the list of equalities has at the number of one
+  there : (equalities : List (Option Equality)) → equalities ≡ map (equality_of q) q.preds → (n a b : ℕ) → IsEqualityAt q n a b → (d : Option Equality)
+      → get_or equalities n d ≡ Some (record { left = side_of q a; right = side_of q b })
+  there equalities are n a b is d =
+      let found : slice_get equalities n ≡ Some (equality_of q is.pred) = ap (λ xs. slice_get xs n) are ∙ (slice_get-map (equality_of q) q.preds n ∙ ap (option_map (equality_of q)) is.there) in
+      let this : equality_of q is.pred ≡ Some (record { left = side_of q a; right = side_of q b }) = ap (equality_with q is.pred.left) is.second ∙ ap (λ x. equality_with q x (Some b)) is.first in
+      get_or_from_slice_get equalities n (equality_of q is.pred) d found ∙ this
+
+  -- masks of one more predicate
+  pub ends_more : (equalities : List (Option Equality)) → equalities ≡ map (equality_of q) q.preds → (n : ℕ) (ends new : Ends) (d : Option Equality) → AreEndsBelow q group n ends
+      → HasEndsAt q group (get_or equalities n d) n new → ((k : ℕ) → k ≢ n → bit new.first k ≡ bit ends.first k) → ((k : ℕ) → k ≢ n → bit new.second k ≡ bit ends.second k)
+      → AreEndsBelow q group (n + 1) new
+  ends_more equalities are n ends new d before this first second =
+      let at : (a b : ℕ) → IsEqualityAt q n a b → HasEndsAt q group (Some (record { left = side_of q a; right = side_of q b })) n new =
+      λ a b is. subst (λ e. HasEndsAt q group e n new) (there equalities are n a b is d) this in
+      record {
+        first = λ k a b below is has. elim (cases_eq k n) [
+          | inl same ↦ subst (Has new.first) (sym same) ((at a b (subst (λ x. IsEqualityAt q x a b) same is)).0 has)
+          | inr differs ↦ first k differs ∙ before.first k a b (omega (arith, below, differs)) is has
+        ];
+        second = λ k a b below is has. elim (cases_eq k n) [
+          | inl same ↦ subst (Has new.second) (sym same) ((at a b (subst (λ x. IsEqualityAt q x a b) same is)).1 has)
+          | inr differs ↦ second k differs ∙ before.second k a b (omega (arith, below, differs)) is has
+        ];
+      }
+
+-- one of two tests passed
+one_passed : (x y : Bool) (s t : ℕ × ℕ) → ((if x then Some s else if y then Some t else None) ≡ None → ⊥) → IsTrue x ⊎ IsTrue y
+one_passed true y s t some = inl refl
+one_passed false true s t some = inr refl
+one_passed false false s t some = absurd (some refl)
+
+module _ (q : Query) (left right : KeyParts) (n : ℕ) where
+  -- it is an equality of which each group has one column
+  abbrev pub Crosses : Type 0
+  Crosses = (a b : ℕ) × IsEqualityAt q n a b × ((IsTrue (has_item q left a) × IsTrue (has_item q right b)) ⊎ (IsTrue (has_item q left b) × IsTrue (has_item q right a)))
+
+  crosses_with : (pred : Pred) → slice_get q.preds n ≡ Some pred → (b : Option ℕ) → equal_item pred.op pred.right ≡ b → (sides_with q left right pred.left b ≡ None → ⊥) → Crosses
+  crosses_with pred there None second some = absurd (some refl)
+  crosses_with pred there (Some b) second some =
+      let a = pred.left in (
+        a,
+        b,
+        record { pred = pred; there = there; first = refl; second = second },
+        elim (one_passed (has_item q left a && has_item q right b) (has_item q left b && has_item q right a) (a, b) (b, a) some) [
+          | inl both ↦ inl (and_parts _ _ both)
+          | inr both ↦ inr (and_parts _ _ both)
+        ],
+      )
+
+  crosses_by : (found : Option Pred) → slice_get q.preds n ≡ found → (crossing_at q left right found ≡ None → ⊥) → Crosses
+  crosses_by None there some = absurd (some refl)
+  crosses_by (Some pred) there some = crosses_with pred there (equal_item pred.op pred.right) refl some
+
+  -- a predicate that crosses is in the masks of both groups
+  pub crossing_in : (first second : Ends) → AreEndsOf q left first → AreEndsOf q right second → (crossing_of q left right n ≡ None → ⊥)
+      → (Has first.first n × Has second.second n) ⊎ (Has first.second n × Has second.first n)
+  crossing_in first second of_left of_right some =
+      let (a, b, is, has) = crosses_by (slice_get q.preds n) refl some in
+      let below : n < length q.preds = slice_get_within q.preds n is.pred is.there in
+      elim has [
+        | inl both ↦ inl (of_left.first n a b below is both.0, of_right.second n a b below is both.1)
+        | inr both ↦ inr (of_left.second n a b below is both.0, of_right.first n a b below is both.1)
+      ]
+
+module _ (q : Query) (group_of : ℕ → KeyParts) where
+  -- the masks of no groups
+  pub no_ends : AreEnds q group_of []
+  no_ends k d within = absurd (omega (arith, within))
+
+  -- and of one more
+  pub ends_push : (list new : List Ends) (n : ℕ) (ends : Ends) → new ≡ list ++ ends ∷ [] → length list ≡ n → AreEnds q group_of list → AreEndsOf q (group_of n) ends
+      → AreEnds q group_of new
+  ends_push list new n ends grown count each is k d within =
+      let longer : length new ≡ length list + 1 = ap length grown ∙ length-append list (ends ∷ []) in
+      elim (cases_lt k n) [
+        | inl below ↦
+            let same : get_or new k d ≡ get_or list k d = rw grown (get_or_append_left list (ends ∷ []) d k (omega (arith, below, count))) in
+            subst (AreEndsOf q (group_of k)) (sym same) (each k d (omega (arith, below, count)))
+        | inr above ↦
+            let last : length list ≡ k = omega (arith, above, within, longer, count) in
+            let at_end : get_or new (length list) d ≡ ends = rw grown (get_or-append_seam list ends [] d) in
+            let own : get_or new k d ≡ ends = subst (λ (m : ℕ). get_or new m d ≡ ends) last at_end in
+            subst (AreEndsOf q (group_of k)) (sym own) (subst (λ (m : ℕ). AreEndsOf q (group_of m) ends) (sym count ∙ last) is)
+      ]
+
+  -- what stands at a place of the list is of the group there
+  pub ends_found : (list : List Ends) → AreEnds q group_of list → (place : ℕ) (found : Option Ends)
+      → IfSome found (λ ends. (d : Ends) → (place < length list) × (get_or list place d ≡ ends)) → IfSome found (AreEndsOf q (group_of place))
+  ends_found list each place None at = tt
+  ends_found list each place (Some ends) at = let (within, same) = at ends in subst (AreEndsOf q (group_of place)) same (each place ends within)
+
+-- a filtered table has the columns of the table
+pub ends_filtered : (q : Query) (table : ℕ) (found : Option Ends) → IfSome found (AreEndsOf q (Get table)) → IfSome found (AreEndsOf q (Filter table))
+ends_filtered q table None are = tt
+ends_filtered q table (Some ends) are = record { first = are.first; second = are.second }

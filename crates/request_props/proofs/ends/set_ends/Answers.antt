@@ -1,0 +1,13 @@
+use Rattle.std.proofs.Common.{arith, subst, sym, List}
+use Rattle.query_core.specs.declared.words.KeyParts.TheVariants.{Join}
+use Rattle.request_props.specs.Ends.{AreEnds}
+use Rattle.request_props.proofs.Masks.{no_ends, ends_push}
+use Rattle.request_props.proofs.ends.set_ends.Goals as goal
+
+-- one more group's masks are found
+pub loop-set-preserved : goal.loop-set-preserved
+loop-set-preserved c = record {
+  count = omega (arith, c.in_ok-push.ensures.len, c.loop-set.invariant.count);
+  each = ends_push c.args.query.now Join c.loop-set.found.items c.push.new.self.items c.loop-set.set c.ends_of.result c.in_ok-push.ensures.items c.loop-set.invariant.count
+      c.loop-set.invariant.each c.ends_of.ensures;
+}

@@ -1,0 +1,144 @@
+//! Which equalities a group has a column of, as masks of predicates: each predicate is the bit of its number. Nothing
+//! else shifts or masks these.
+#![tactic(auto)]
+
+ghost use Rattle.std.specs.Prelude.{ℕ, ◌≡◌, ◌≢◌, ◌<◌, ◌⊎◌, ◌↔◌, IfOk, IsTrue, map};
+ghost use Rattle.query_core.specs.Sets.{bit, Has};
+ghost use Rattle.query_core.specs.declared.words.KeyParts.TheVariants.{Get, Join};
+ghost use Rattle.request_props.specs.Numbered.{equality_of};
+ghost use Rattle.request_props.specs.Ends.{Admits, AreEnds, AreEndsOf, HasEndsAt};
+
+use crate::sides::Equality;
+use query_core::{KeyParts, Query, sets};
+use std::alloc::{AllocError, Global};
+
+/// The equalities of which a group has the first column, and those of which it has the second.
+#[derive(Clone, Copy, Debug, PartialEq, Eq)]
+pub struct Ends {
+    pub first: u64,
+    pub second: u64,
+}
+
+/// Predicates among which all are that equate columns across two groups.
+#[derive(Clone, Copy, Debug, PartialEq, Eq)]
+pub struct Crossings {
+    /// None where they aren't known, so that it may be any.
+    pub known: Option<u64>,
+}
+
+impl Crossings {
+    /// Any predicates.
+    pub fn any() -> Crossings
+        ensures { (pred : ℕ) → Admits result pred }
+    {
+        Crossings { known: None }
+    }
+
+    /// Those of the equalities of which each group has one column.
+    pub fn between(left: Ends, right: Ends) -> Crossings
+        ensures { (pred : ℕ) →
+            (Has left.first pred × Has right.second pred) ⊎ (Has left.second pred × Has right.first pred) →
+            Admits result pred }
+    {
+        Crossings {
+            known: Some((left.first & right.second) | (left.second & right.first)),
+        }
+    }
+
+    /// Whether the predicate is among them.
+    pub fn admits(self, pred: u32) -> bool
+        ensures { IsTrue result ↔ Admits self pred }
+    {
+        match self.known {
+            Some(mask) => has_pred(mask, pred),
+            None => true,
+        }
+    }
+}
+
+/// The equalities of which each table has a column.
+pub fn table_ends(
+    alloc: Global,
+    query: &Query,
+    equalities: &[Option<Equality>],
+) -> Result<Vec<Ends>, AllocError>
+    requires { equalities.now ≡ map (equality_of query.now) query.now.preds }
+    ensures { IfOk result (λ found. AreEnds query.now Get found.items) }
+{
+    let mut found = Vec::new(alloc);
+    for table in 0..query.tables.len() {
+        found.push(ends_of(query, equalities, KeyParts::Get(table as u32)))?;
+    }
+    Ok(found)
+}
+
+/// The equalities of which each set of tables has a column, but for that of all tables.
+pub fn set_ends(
+    alloc: Global,
+    query: &Query,
+    equalities: &[Option<Equality>],
+) -> Result<Vec<Ends>, AllocError>
+    requires { equalities.now ≡ map (equality_of query.now) query.now.preds }
+    ensures { IfOk result (λ found. AreEnds query.now Join found.items) }
+{
+    let mut found = Vec::new(alloc);
+    for set in 0..sets::first(query.tables.len() as u32) {
+        found.push(ends_of(query, equalities, KeyParts::Join(set)))?;
+    }
+    Ok(found)
+}
+
+// Whether the mask has the predicate.
+#[tactic(auto, using(crate::proofs::Masks::masks))]
+fn has_pred(mask: u64, pred: u32) -> bool
+    ensures { IsTrue result ↔ Has mask pred }
+{
+    pred < 64 && (mask >> pred) & 1 == 1
+}
+
+// The equalities of which a group has a column.
+fn ends_of(query: &Query, equalities: &[Option<Equality>], group: KeyParts) -> Ends
+    requires { equalities.now ≡ map (equality_of query.now) query.now.preds }
+    ensures { AreEndsOf query.now group result }
+{
+    let mut ends = Ends {
+        first: 0,
+        second: 0,
+    };
+    for pred in 0..equalities.len() {
+        ends = with_ends(query, group, equalities[pred], pred as u32, ends);
+    }
+    ends
+}
+
+// These, and those of the predicate of this number.
+fn with_ends(
+    query: &Query,
+    group: KeyParts,
+    equality: Option<Equality>,
+    pred: u32,
+    ends: Ends,
+) -> Ends
+    requires { pred < 64 }
+    ensures this { HasEndsAt query.now group equality pred result }
+    ensures first { (n : ℕ) → n ≢ pred → bit result.first n ≡ bit ends.first n }
+    ensures second { (n : ℕ) → n ≢ pred → bit result.second n ≡ bit ends.second n }
+{
+    match equality {
+        Some(Equality { left, right }) => Ends {
+            first: with_pred(ends.first, pred, query.group_has_item(group, left.column)),
+            second: with_pred(ends.second, pred, query.group_has_item(group, right.column)),
+        },
+        None => ends,
+    }
+}
+
+// The mask, with the predicate where it is one of them.
+#[tactic(auto, using(crate::proofs::Masks::masks))]
+fn with_pred(mask: u64, pred: u32, is_one: bool) -> u64
+    requires { pred < 64 }
+    ensures this { IsTrue is_one → Has result pred }
+    ensures others { (n : ℕ) → n ≢ pred → bit result n ≡ bit mask n }
+{
+    if is_one { mask | (1 << pred) } else { mask }
+}
