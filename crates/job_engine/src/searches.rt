@@ -18,11 +18,9 @@ use std::alloc::{AllocError, Global};
 use std::sync::Wait;
 use std::thread::Threads;
 
-// Searches of few tables have some 6 entries for each expression that their groups can hold, and one more for each 10
-// of their lists and orders.
-const ENTRIES_FOR_EACH: usize = 8;
-
-const NUMBERED_FOR_ONE_MORE: usize = 8;
+// For each expression that the groups can hold there are some 6 entries, and less than one more for each predicate.
+// A board that is all but full is slow, so it gets half as many cells again.
+const CELLS_FOR_EACH: usize = 8;
 
 // A board has at least so many cells more.
 const LEAST_ROOM: usize = 64;
@@ -41,7 +39,7 @@ pub fn search_alone(
     ensures noted { IfOk result (λ outcome. IsNoted cap 1 outcome note.new) }
     ensures err { OnErr result (note.new ≡ note.old) }
 {
-    let room = usual_room(props, cap);
+    let room = usual_room(query, props, cap);
     if room < cap {
         if let Some(done) = try_alone(alloc, query, props, room, cap, note)? {
             return Ok(done);
@@ -70,7 +68,7 @@ pub fn search_by_crew<W: Threads + Wait + Sync, G: Gate>(
     ensures noted { IfOk result (λ outcome. IsNoted cap n outcome note.new) }
     ensures err { OnErr result (note.new ≡ note.old) }
 {
-    let room = usual_room(props, cap);
+    let room = usual_room(query, props, cap);
     if room < cap {
         if let Some(done) = try_crew(rt, alloc, query, props, room, cap, n, gate, note)? {
             return Ok(done);
@@ -80,16 +78,15 @@ pub fn search_by_crew<W: Threads + Wait + Sync, G: Gate>(
     run_crew(rt, alloc, engine, worker, n, gate, note)
 }
 
-// How many cells a search of such a query usually needs at the most.
-fn usual_room(props: &Props, cap: u32) -> u32
+// How many cells a search of such a query usually wants.
+fn usual_room(query: &Query, props: &Props, cap: u32) -> u32
     requires { 1 ≤ cap }
     ensures { (1 ≤ result) × (result ≤ cap) }
 {
-    let numbered = props.hashed.len().saturating_add(props.orders.len());
-    let entries = ENTRIES_FOR_EACH + numbered / NUMBERED_FOR_ONE_MORE;
+    let cells = CELLS_FOR_EACH + query.preds.len();
     let usual = props
         .candidate_count()
-        .saturating_mul(entries)
+        .saturating_mul(cells)
         .saturating_add(LEAST_ROOM);
     if usual < cap as usize {
         usual as u32

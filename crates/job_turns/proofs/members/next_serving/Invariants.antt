@@ -10,5 +10,5 @@ abbrev pub invariant-loop-place : goal.invariant-loop-place
 invariant-loop-place l = record {
   seat : IsSeat l.board l.seat;
   looks : OnlyLooks (hands l.fn.seat) (hands l.seat);
-  none : ?;
+  none : NonePassed l.words (IsServingWord l.query l.fn.group l.wanted) l.fn.before l.place;
 }
