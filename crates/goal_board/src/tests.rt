@@ -352,14 +352,23 @@ fn a_goal_waits_for_its_child(rt: HostRuntime) -> Result<(), Fail> {
 }
 
 #[test]
-fn a_full_board_says_so(rt: HostRuntime) -> Result<(), Fail> {
+fn a_board_of_one_cell_is_full_at_the_second_word(rt: HostRuntime) -> Result<(), Fail> {
     let (board, mut seat) = Board::start(rt.alloc(), Numbers { limit: 4 }, 1)?;
     assert!(rt; !board.full_seen(&mut seat));
-    assert!(rt; matches!(put_in(&board, &mut seat, 4), Inserted::Fresh { .. }));
-    assert!(rt; matches!(put_in(&board, &mut seat, 2), Inserted::Full));
+    let Inserted::Fresh { at } = put_in(&board, &mut seat, 3) else {
+        panic!(rt; "3 was there");
+    };
+    assert!(rt; matches!(put_in(&board, &mut seat, 4), Inserted::Full));
+    assert!(rt; matches!(put_in(&board, &mut seat, 3), Inserted::Known { .. }));
+    assert!(rt; !board.holds(&mut seat, 4));
     assert!(rt; board.full_seen(&mut seat));
-    assert!(rt; !board.holds(&mut seat, 2));
-    assert!(rt; board.close(rt.alloc(), seat)?.full);
+    let right = claim_goal(&rt, &board, &mut seat, at, 3);
+    let woken = finish_one(&board, &mut seat, right, 0, Answer { cost: 30, node: 3 });
+    assert_eq!(rt; woken.count, 0);
+    let closed = board.close(rt.alloc(), seat)?;
+    assert_eq!(rt; closed.cells.as_slice(), [3].as_slice());
+    assert_eq!(rt; closed.answers.len(), 1);
+    assert!(rt; closed.full && closed.ready.is_none());
     Ok(())
 }
 
