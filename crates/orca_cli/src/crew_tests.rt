@@ -1,12 +1,10 @@
 //! What the program prints by one worker and by several.
 use crate::status::Status;
-use crate::tests::{TWO_TABLES, answered, noted};
+use crate::tests::{JOIN, TWO_TABLES, answered, noted};
 use std::test::Fail;
 
 const EMPTY: &str =
     r#"{"version":1,"segments":4,"tables":[{"name":"t","rows":0,"distribution":"random","columns":[{"name":"a","ndv":1000},{"name":"b","ndv":10}]}]}"#;
-
-const JOIN: &str = "SELECT T1.a FROM T1, T2 WHERE T1.a = T2.b ORDER BY T1.a";
 
 #[test]
 fn one_worker_prints_all_sections(rt: HostRuntime) -> Result<(), Fail> {

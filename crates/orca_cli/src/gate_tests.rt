@@ -1,6 +1,6 @@
 //! How many workers search: each passes a gate before each of its steps.
 use crate::status::Status;
-use crate::tests::{TWO_TABLES, shelf_of, words_of};
+use crate::tests::{JOIN, TWO_TABLES, shelf_of, words_of};
 use crate::*;
 use orca_io::{Gate, MemSink};
 use std::alloc::AllocGlobal;
@@ -8,8 +8,6 @@ use std::sync::Wait;
 use std::sync::atomic::{AtomicU64, Ordering};
 use std::test::Fail;
 use std::thread::Threads;
-
-const JOIN: &str = "SELECT T1.a FROM T1, T2 WHERE T1.a = T2.b ORDER BY T1.a";
 
 // Has a bit for each worker that passed.
 #[derive(Drop)]

@@ -1,6 +1,6 @@
 //! What the program prints for queries over several tables.
 use crate::status::Status;
-use crate::tests::{TWO_TABLES, answered, cause, planned};
+use crate::tests::{JOIN, TWO_TABLES, answered, cause, planned};
 use std::alloc::{AllocError, Global};
 use std::test::Fail;
 
@@ -13,17 +13,14 @@ const UNLINKED: &str =
 const VAST: &str =
     r#"{"version":1,"segments":4,"tables":[{"name":"T1","rows":1000000000000,"distribution":"random","columns":[{"name":"a","ndv":1}]},{"name":"T2","rows":1000000000000,"distribution":"random","columns":[{"name":"b","ndv":1}]}]}"#;
 
-const JOINED: &str =
+/// The plan of the running example.
+pub const JOINED: &str =
     "cost 7506\noutput T1.a\nGatherMerge(T1.a) rows=1000 cost=3001\n  Sort(T1.a) rows=1000 cost=2001\n    HashJoin(colocated p0) rows=1000 cost=1001\n      Scan(T1) rows=1000 cost=251\n      Redistribute(T2.b) rows=1000 cost=1001\n        Scan(T2) rows=1000 cost=251\n";
 
 #[test]
 fn prints_the_least_plan_of_each_join(rt: HostRuntime) -> Result<(), Fail> {
     for (catalog, query, text) in [
-        (
-            TWO_TABLES,
-            "SELECT T1.a FROM T1, T2 WHERE T1.a = T2.b ORDER BY T1.a",
-            JOINED,
-        ),
+        (TWO_TABLES, JOIN, JOINED),
         (
             TWO_TABLES,
             "SELECT T1.a FROM T1, T2 WHERE T1.a = T2.a",
@@ -54,14 +51,13 @@ fn prints_the_least_plan_of_each_join(rt: HostRuntime) -> Result<(), Fail> {
 
 #[test]
 fn a_further_key_of_a_catalog_changes_nothing(rt: HostRuntime) -> Result<(), Fail> {
-    let query = "SELECT T1.a FROM T1, T2 WHERE T1.a = T2.b ORDER BY T1.a";
     let commented = TWO_TABLES.replacen(
         rt.alloc(),
         "\"segments\"",
         "\"comment\":\"x\",\"segments\"",
         1,
     )?;
-    let (status, sink) = planned(&rt, commented.as_bytes(), query.as_bytes())?;
+    let (status, sink) = planned(&rt, commented.as_bytes(), JOIN.as_bytes())?;
     assert_eq!(rt; sink.taken(), JOINED.as_bytes());
     assert_eq!(rt; status, Status::Planned);
     Ok(())
@@ -71,9 +67,8 @@ fn a_further_key_of_a_catalog_changes_nothing(rt: HostRuntime) -> Result<(), Fai
 fn prints_the_plan_and_the_memo_of_a_join(rt: HostRuntime) -> Result<(), Fail> {
     let memo =
         "memo groups=3 members=13\ngroup Get(T1) rows=1000\n  Get(T1)\n  Scan(T1)\ngroup Get(T2) rows=1000\n  Get(T2)\n  Scan(T2)\ngroup Join(T1, T2) rows=1000\n  NJoin(T1, T2)\n  Join(T1 | T2)\n  Join(T2 | T1)\n  HashJoin(T1 | T2)\n  HashJoin(T2 | T1)\n  MergeJoin(T1 | T2)\n  MergeJoin(T2 | T1)\n  LoopJoin(T1 | T2)\n  LoopJoin(T2 | T1)\n";
-    let query = "SELECT T1.a FROM T1, T2 WHERE T1.a = T2.b ORDER BY T1.a";
     let words = ["plan", "c.json", "q.sql", "--memo"];
-    let (status, sink) = answered(&rt, &words, TWO_TABLES.as_bytes(), query.as_bytes())?;
+    let (status, sink) = answered(&rt, &words, TWO_TABLES.as_bytes(), JOIN.as_bytes())?;
     let mut text = String::from_str(rt.alloc(), JOINED)?;
     text.push_str(memo)?;
     assert_eq!(rt; sink.taken(), text.as_bytes());

@@ -26,6 +26,8 @@ pub use top::{orca_alone, orca_run, put_usage};
 #[cfg(test)]
 mod crew_tests;
 #[cfg(test)]
+mod failing_tests;
+#[cfg(test)]
 mod gate_tests;
 #[cfg(test)]
 mod gen_tests;

@@ -1,6 +1,6 @@
 //! The memos of queries, as the program prints them.
 
-use crate::tests::answered;
+use crate::tests::{JOIN, TWO_TABLES, answered};
 use std::alloc::{AllocError, AllocGlobal, Global};
 use std::sync::Wait;
 use std::test::Fail;
@@ -33,10 +33,7 @@ fn first_line(lines: &[String]) -> &str {
 
 #[test]
 fn a_join_of_two_tables(rt: HostRuntime) -> Result<(), Fail> {
-    let catalog =
-        r#"{"version":1,"segments":4,"tables":[{"name":"T1","rows":1000,"distribution":["a"],"columns":[{"name":"a","ndv":1000}]},{"name":"T2","rows":1000,"distribution":["a"],"columns":[{"name":"a","ndv":1000},{"name":"b","ndv":500}]}]}"#;
-    let query = "SELECT T1.a FROM T1, T2 WHERE T1.a = T2.b ORDER BY T1.a";
-    let lines = memo_of(&rt, catalog, query)?;
+    let lines = memo_of(&rt, TWO_TABLES, JOIN)?;
     let wanted = [
         "memo groups=3 members=13\n",
         "group Get(T1) rows=1000\n",

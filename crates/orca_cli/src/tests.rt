@@ -15,6 +15,9 @@ const CATALOG: &str =
 pub const TWO_TABLES: &str =
     r#"{"version":1,"segments":4,"tables":[{"name":"T1","rows":1000,"distribution":["a"],"columns":[{"name":"a","ndv":1000}]},{"name":"T2","rows":1000,"distribution":["a"],"columns":[{"name":"a","ndv":1000},{"name":"b","ndv":500}]}]}"#;
 
+/// The running example, over these two tables.
+pub const JOIN: &str = "SELECT T1.a FROM T1, T2 WHERE T1.a = T2.b ORDER BY T1.a";
+
 const QUERY: &str = "SELECT a FROM t ORDER BY a";
 
 const PLAN: [&str; 5] = [
@@ -56,20 +59,23 @@ pub fn answered<R: Threads + Wait + Sync + AllocGlobal>(
     catalog: &[u8],
     query: &[u8],
 ) -> Result<(Status, MemSink), AllocError> {
-    let words = words_of(rt.alloc(), texts)?;
     let mut shelf = shelf_of(rt.alloc(), catalog, query)?;
     let mut sink = MemSink::with_room(rt.alloc(), 1 << 20)?;
-    let mut note = RunNote::new();
-    let status = orca_run(
-        rt,
-        rt.alloc(),
-        &words,
-        &mut shelf,
-        &mut sink,
-        &NoGate,
-        &mut note,
-    );
+    let (status, _) = run_over(rt, texts, &mut shelf, &mut sink)?;
     Ok((status, sink))
+}
+
+// The status and the note of these words over a shelf and a sink.
+pub fn run_over<R: Threads + Wait + Sync + AllocGlobal>(
+    rt: &R,
+    texts: &[&str],
+    shelf: &mut MemShelf,
+    sink: &mut MemSink,
+) -> Result<(Status, Option<(u32, u32, u32)>), AllocError> {
+    let words = words_of(rt.alloc(), texts)?;
+    let mut note = RunNote::new();
+    let status = orca_run(rt, rt.alloc(), &words, shelf, sink, &NoGate, &mut note);
+    Ok((status, note.last()))
 }
 
 #[test]
@@ -126,6 +132,11 @@ fn prints_the_least_plan_of_each_query(rt: HostRuntime) -> Result<(), Fail> {
             "select u.b as c, a from t as u order by c desc, a, c;",
             "cost 5253\noutput u.b AS c, u.a\nGatherMerge(u.b DESC, u.a) rows=1000 cost=3001\n  Sort(u.b DESC, u.a) rows=1000 cost=2001\n    Scan(u) rows=1000 cost=251\n",
         ),
+        (
+            CATALOG,
+            "SELECT a FROM t WHERE a = 'it''s'",
+            "cost 505\noutput t.a\nGather rows=1 cost=3\n  Filter(t) rows=1 cost=251\n    Scan(t) rows=1000 cost=251\n",
+        ),
     ] {
         let (status, sink) = planned(&rt, catalog.as_bytes(), query.as_bytes())?;
         assert_eq!(rt; status, Status::Planned, "{query}");
@@ -169,62 +180,63 @@ fn prints_the_trace_behind_the_memo(rt: HostRuntime) -> Result<(), Fail> {
 #[test]
 fn a_refused_query_is_told_with_its_cause(rt: HostRuntime) -> Result<(), Fail> {
     let none = r#"{"version":1,"segments":4,"tables":[]}"#;
-    for (catalog, query, told) in [
-        (TWO_TABLES, "SELECT T1.z FROM T1", "unknown column at 7"),
-        (TWO_TABLES, "SELECT a FROM T1, T2", "ambiguous column at 7"),
+    let cases: [(&str, &[u8], &str); 23] = [
+        (TWO_TABLES, b"SELECT T1.z FROM T1", "unknown column at 7"),
+        (TWO_TABLES, b"SELECT a FROM T1, T2", "ambiguous column at 7"),
         (
             TWO_TABLES,
-            "SELECT T2.b FROM T2 GROUP BY T2.a",
+            b"SELECT T2.b FROM T2 GROUP BY T2.a",
             "not grouped at 7",
         ),
         (
             TWO_TABLES,
-            "SELECT T1.a FROM T1, T2 AS T1",
+            b"SELECT T1.a FROM T1, T2 AS T1",
             "name twice at 27",
         ),
-        (TWO_TABLES, "SELECT x FROM T9", "unknown table at 14"),
-        (TWO_TABLES, "SELECT a FROM T1 WHERE a = 'x", "token at 27"),
+        (TWO_TABLES, b"SELECT x FROM T9", "unknown table at 14"),
+        (TWO_TABLES, b"SELECT a FROM T1 WHERE a = 'x", "token at 27"),
         (
             TWO_TABLES,
-            "SELECT a FROM t,t,t,t,t,t,t,t,t,t,t",
+            b"SELECT a FROM t,t,t,t,t,t,t,t,t,t,t",
             "too many tables at 34",
         ),
-        (TWO_TABLES, "", "grammar at 0"),
-        (TWO_TABLES, ";", "grammar at 0"),
-        (CATALOG, "SELECT a FROM t, t u", "ambiguous column at 7"),
+        (TWO_TABLES, b"", "grammar at 0"),
+        (TWO_TABLES, b";", "grammar at 0"),
+        (CATALOG, b"SELECT a FROM t, t u", "ambiguous column at 7"),
         (
             CATALOG,
-            "SELECT a FROM t WHERE a = 9223372036854775808",
+            b"SELECT a FROM t WHERE a = 9223372036854775808",
             "token at 26",
         ),
         (
             CATALOG,
-            "SELECT a FROM t WHERE a = -9223372036854775808",
+            b"SELECT a FROM t WHERE a = -9223372036854775808",
             "token at 26",
         ),
-        (CATALOG, "SELECT a FROM t WHERE a = 5x", "token at 26"),
-        (CATALOG, "SELECT \u{c3} FROM t", "not ASCII at 7"),
-        (CATALOG, "SELECT a\0 FROM t", "token at 8"),
-        (CATALOG, "SELECT a FROM t;;", "grammar at 16"),
-        (CATALOG, "SELECT a FROM t GROUP", "grammar at 21"),
-        (CATALOG, "SELECT COUNT(*) FROM t WHERE", "grammar at 28"),
-        (CATALOG, "SELECT a FROM t WHERE 5 = a", "grammar at 22"),
-        (CATALOG, "SELECT a b FROM t", "grammar at 9"),
+        (CATALOG, b"SELECT a FROM t WHERE a = 5x", "token at 26"),
+        (CATALOG, b"SELECT \xc3 FROM t", "not ASCII at 7"),
+        (CATALOG, b"SELECT a\0 FROM t", "token at 8"),
+        (CATALOG, b"SELECT a FROM t;;", "grammar at 16"),
+        (CATALOG, b"SELECT a FROM t GROUP", "grammar at 21"),
+        (CATALOG, b"SELECT COUNT(*) FROM t WHERE", "grammar at 28"),
+        (CATALOG, b"SELECT a FROM t WHERE 5 = a", "grammar at 22"),
+        (CATALOG, b"SELECT a b FROM t", "grammar at 9"),
         (
             CATALOG,
-            "SELECT a FROM t ORDER BY a, a, a, a, a, a, a, a, a",
+            b"SELECT a FROM t ORDER BY a, a, a, a, a, a, a, a, a",
             "too many order keys at 49",
         ),
         (
             CATALOG,
-            "SELECT a FROM t GROUP BY a, a, a, a, a, a, a, a, a",
+            b"SELECT a FROM t GROUP BY a, a, a, a, a, a, a, a, a",
             "too many group columns at 49",
         ),
-        (none, "SELECT a FROM t", "unknown table at 14"),
-    ] {
-        let (status, line) = cause(&rt, "query refused: ", catalog.as_bytes(), query.as_bytes())?;
-        assert_eq!(rt; status, Status::QueryRefused, "{query}");
-        assert_eq!(rt; line.as_str(), told, "{query}");
+        (none, b"SELECT a FROM t", "unknown table at 14"),
+    ];
+    for (catalog, query, told) in cases {
+        let (status, line) = cause(&rt, "query refused: ", catalog.as_bytes(), query)?;
+        assert_eq!(rt; status, Status::QueryRefused, "{told}");
+        assert_eq!(rt; line.as_str(), told);
     }
     Ok(())
 }
@@ -382,77 +394,12 @@ fn other_words_get_the_usage_line(rt: HostRuntime) -> Result<(), Fail> {
         &["plan", "c.json", "q.sql", "--workers", "0"],
     ];
     for texts in others {
-        let words = words_of(rt.alloc(), texts)?;
-        let mut shelf = shelf_of(rt.alloc(), CATALOG.as_bytes(), QUERY.as_bytes())?;
-        let mut sink = MemSink::with_room(rt.alloc(), 4096)?;
-        let mut note = RunNote::new();
-        let status = orca_run(
-            &rt,
-            rt.alloc(),
-            &words,
-            &mut shelf,
-            &mut sink,
-            &NoGate,
-            &mut note,
-        );
+        let (status, sink) = answered(&rt, texts, CATALOG.as_bytes(), QUERY.as_bytes())?;
         assert_eq!(rt; status, Status::Usage);
         assert!(rt;
             sink.taken()
                 .starts_with(b"usage: orca plan CATALOG QUERY [--workers N]")
         );
-    }
-    Ok(())
-}
-
-#[test]
-fn a_file_that_fails_is_named(rt: HostRuntime) -> Result<(), Fail> {
-    let lines = ["read fault: c.json\n", "read fault: q.sql\n"];
-    for (call, line) in lines.iter().enumerate() {
-        let words = words_of(rt.alloc(), &["plan", "c.json", "q.sql"])?;
-        let mut shelf = shelf_of(rt.alloc(), CATALOG.as_bytes(), QUERY.as_bytes())?;
-        shelf.fail_at(call as u64)?;
-        let mut sink = MemSink::with_room(rt.alloc(), 4096)?;
-        let mut note = RunNote::new();
-        let status = orca_run(
-            &rt,
-            rt.alloc(),
-            &words,
-            &mut shelf,
-            &mut sink,
-            &NoGate,
-            &mut note,
-        );
-        assert_eq!(rt; status, Status::ReadFault);
-        assert_eq!(rt; sink.taken(), line.as_bytes());
-    }
-    Ok(())
-}
-
-#[test]
-fn a_sink_that_fails_has_a_prefix(rt: HostRuntime) -> Result<(), Fail> {
-    for kept in [0u64, 3] {
-        let mut before = String::new(rt.alloc());
-        for (put, line) in PLAN.iter().enumerate() {
-            let words = words_of(rt.alloc(), &["plan", "c.json", "q.sql"])?;
-            let mut shelf = shelf_of(rt.alloc(), CATALOG.as_bytes(), QUERY.as_bytes())?;
-            let mut sink = MemSink::with_room(rt.alloc(), 4096)?;
-            sink.fail_at(put as u64, kept)?;
-            let mut note = RunNote::new();
-            let status = orca_run(
-                &rt,
-                rt.alloc(),
-                &words,
-                &mut shelf,
-                &mut sink,
-                &NoGate,
-                &mut note,
-            );
-            assert_eq!(rt; status, Status::WriteFault);
-            let taken = sink.taken();
-            assert!(rt; taken.starts_with(before.as_bytes()));
-            assert_eq!(rt; taken.len() as u64, before.len() as u64 + kept);
-            before.push_str(line)?;
-        }
     }
     Ok(())
 }
@@ -491,18 +438,7 @@ pub fn noted<R: Threads + Wait + Sync + AllocGlobal>(
     catalog: &[u8],
     query: &[u8],
 ) -> Result<(Status, Option<(u32, u32, u32)>), AllocError> {
-    let words = words_of(rt.alloc(), texts)?;
     let mut shelf = shelf_of(rt.alloc(), catalog, query)?;
     let mut sink = MemSink::with_room(rt.alloc(), 1 << 20)?;
-    let mut note = RunNote::new();
-    let status = orca_run(
-        rt,
-        rt.alloc(),
-        &words,
-        &mut shelf,
-        &mut sink,
-        &NoGate,
-        &mut note,
-    );
-    Ok((status, note.last()))
+    run_over(rt, texts, &mut shelf, &mut sink)
 }
