@@ -10,7 +10,7 @@ use Rattle.goal_board.specs.declared.answers.Closed.{Closed}
 use Rattle.goal_board.specs.declared.answers.Answer.{Answer}
 use Rattle.goal_rules.specs.declared.rules.Rules.{Rules}
 use Rattle.job_turns.specs.Searches.{rules_mean}
-use Rattle.job_outcome.specs.Outcomes.{ClosesSearch, IsOutcome, IsDoneCase, IsEnd}
+use Rattle.job_outcome.specs.Outcomes.{ClosesSearch, IsOutcome, IsDoneCase, IsFullCase, IsEnd}
 use Rattle.job_outcome.specs.declared.outcome.Outcome.{Outcome}
 use Rattle.job_outcome.specs.declared.outcome.Outcome.TheVariants.{Done, Full, Unfinished}
 use Rattle.job_engine.specs.Searching.{query_of}
@@ -34,6 +34,12 @@ pub done_ends : (outcome : Outcome) → IsDoneCase outcome → IsEnd outcome
 done_ends (Done members goals answers who) is = tt
 done_ends (Full room) is = absurd is
 done_ends (Unfinished goal) is = absurd is
+
+-- and so is that the board was full
+pub full_ends : (outcome : Outcome) → IsFullCase outcome → IsEnd outcome
+full_ends (Done members goals answers who) is = absurd is
+full_ends (Full room) is = tt
+full_ends (Unfinished goal) is = absurd is
 
 -- there are no more answers than places
 one_more : {A : Type 0} → (head : ℕ) (items : List A) (item : A) → length (with_closed head items item) ≤ length items + 1

@@ -11,13 +11,13 @@ use Rattle.goal_board.specs.declared.answers.Closed.{Closed}
 use Rattle.goal_rules.specs.declared.rules.Rules.{Rules}
 use Rattle.job_turns.specs.Searches.{rules_mean}
 use Rattle.job_scheduler.specs.declared.worker.Worker.{Worker}
-use Rattle.job_outcome.specs.Outcomes.{ClosesSearch, AreFinishers, IsOutcome, IsDoneCase, IsEnd}
+use Rattle.job_outcome.specs.Outcomes.{ClosesSearch, AreFinishers, IsOutcome, IsDoneCase, IsFullCase}
 use Rattle.job_outcome.specs.declared.outcome.Outcome.{Outcome}
 use Rattle.job_outcome.specs.declared.outcome.Outcome.TheVariants.{Done, Full, Unfinished}
 use Rattle.job_engine.specs.Searching.{query_of, IsLast}
 use Rattle.job_engine.specs.Runs.{RunEnds, IsNoted, IsRun, finished_count}
 use Rattle.job_engine.specs.declared.engine.Engine.{Engine}
-use Rattle.job_engine.proofs.Closing.{closes_search, done_ends, finished_few}
+use Rattle.job_engine.proofs.Closing.{closes_search, done_ends, full_ends, finished_few}
 
 -- each finished goal has one worker, which the seat has in its list
 pub record AreKnown : Type 0 where
@@ -58,14 +58,15 @@ module _ (e : Engine) (n : ℕ) (w : Worker Rules) (is_last : IsLast e n w) (clo
     few_finished = finished_few (query_of e) e.cap e.scheduler.root (hands w.seat) closed its outcome is
 
     -- it has seen the end, so this is what the run gave
-    pub last_run : (ShowsClosed (hands w.seat).looks e.scheduler.root → IsDoneCase outcome) → (ShowsFull (hands w.seat).looks → IsEnd outcome)
+    pub last_run : (ShowsClosed (hands w.seat).looks e.scheduler.root → IsDoneCase outcome) → (ShowsFull (hands w.seat).looks → IsFullCase outcome)
         → (finished : ℕ) → finished ≡ finished_count closed outcome
         → IsRun (query_of e) e.cap n outcome (Some (e.cap, n, finished))
     last_run if_done if_full finished counted = record {
       place = e.scheduler.root;
       view = hands w.seat;
       gives = record { closed = closed; its = its; is = is };
-      ended = ⊎_elim (λ (t : ShowsClosed (hands w.seat).looks e.scheduler.root). done_ends outcome (if_done t)) if_full is_last.ended;
+      ended = ⊎_elim (λ (t : ShowsClosed (hands w.seat).looks e.scheduler.root). done_ends outcome (if_done t))
+          (λ (t : ShowsFull (hands w.seat).looks). full_ends outcome (if_full t)) is_last.ended;
       done = is_last.its.done;
       noted = ap (λ (k : ℕ). Some (e.cap, n, k)) counted;
     }

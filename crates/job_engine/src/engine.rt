@@ -37,7 +37,7 @@ pub struct Engine<'q> {
 impl<'q> Engine<'q> {
     ghost use Rattle.job_scheduler.specs.Steps.{Keeps};
     ghost use Rattle.job_scheduler.specs.declared.stepped.Stepped.TheVariants as stepped;
-    ghost use Rattle.job_outcome.specs.Outcomes.{IsDoneCase, IsEnd};
+    ghost use Rattle.job_outcome.specs.Outcomes.{IsDoneCase, IsFullCase};
     ghost use Rattle.job_engine.specs.Searching.{query_of, IsWorker, IsFresh, ShowsRoot};
     ghost use Rattle.job_engine.specs.Searching.{StepsIn, StepsAloneIn, GivesFor};
 
@@ -125,8 +125,8 @@ impl<'q> Engine<'q> {
         ensures gives { IfOk result (GivesFor self.entry (hands worker.entry.seat)) }
         ensures finished { IfOk result (λ outcome.
             ShowsRoot self.entry (hands worker.entry.seat) → IsDoneCase outcome) }
-        ensures ended { IfOk result (λ outcome.
-            ShowsFull (hands worker.entry.seat).looks → IsEnd outcome) }
+        ensures full { IfOk result (λ outcome.
+            ShowsFull (hands worker.entry.seat).looks → IsFullCase outcome) }
     {
         let Engine {
             scheduler,

@@ -1,5 +1,6 @@
 -- The outcome by its three cases.
-use Rattle.std.proofs.Common.{◌≡◌, ℕ, ◌^◌, ◌<◌, nat_eq, true, false, List, ◌∷◌, Some, refl, sym, subst, arith, leb-true, ne_eqb, map, Contains}
+use Rattle.std.proofs.Common.{◌≡◌, ℕ, ◌^◌, ◌<◌, nat_eq, true, false, List, ◌∷◌, Some, refl, sym, subst, arith, leb-true, ne_eqb, map, Contains, ◌∙◌}
+use Rattle.std.proofs.lemmas.Bool.{false_from_ne_true}
 use Rattle.std.proofs.lemmas.List.Elements.{All-cons, recursion_from_All}
 use Rattle.std.proofs.lemmas.Map.Keys.{IsDistinct-cons}
 use Rattle.query_core.specs.Expressions.{word_of}
@@ -17,13 +18,13 @@ use Rattle.board_rule.specs.Words.{Mem}
 use Rattle.goal_board.specs.Closed.{cells_below, IsFirstReady}
 use Rattle.goal_board.specs.declared.answers.Answer.{Answer}
 use Rattle.goal_board.specs.declared.answers.Closed.{Closed}
-use Rattle.job_outcome.specs.Outcomes.{HasFinishedRoot, HasMoreEntries, IsFullFor, IsOutcome, IsUnfinished}
+use Rattle.job_outcome.specs.Outcomes.{HasFinishedRoot, HasMoreEntries, FitsIn, IsFinished, IsFullFor, IsOutcome, IsUnfinished, IsFullCase}
 use Rattle.job_outcome.specs.Finished.{Orders}
 use Rattle.job_outcome.specs.declared.outcome.Outcome.{Outcome}
 use Rattle.job_outcome.specs.declared.outcome.Outcome.TheVariants.{Done, Full, Unfinished}
 use Rattle.job_outcome.proofs.Places.{all_cells, cells_differ}
 use Rattle.job_outcome.proofs.Finishing.{goal_entry}
-use Rattle.job_outcome.proofs.Counting.{cells_all}
+use Rattle.job_outcome.proofs.Counting.{cells_all, fit_or_not}
 use Rattle.job_outcome.proofs.Reading.{ReadsSearch}
 use Rattle.job_outcome.proofs.Ending.{is_done}
 
@@ -59,13 +60,28 @@ module _ (q : Query) (cap place : ℕ) (m : Mem) (done : List Ended) (closed : C
         is_goal = subst (IsGoalWord q) at (goal_entry q (m.cell p) small (its.searched.cells.enter p near is_ready.some_goal) (leb-true (2 ^ 63) (m.cell p) is_ready.is_goal));
       }
 
+  -- entries that fit are not more than the cells
+  is_finished : HasFinishedRoot q closed → (members goals : List ℕ) → FitsIn q cap members goals → IsFinished q closed
+  is_finished has members goals fits = record {
+    root = has;
+    some_room = false_from_ne_true closed.full (λ full. fit_or_not q cap members goals fits (more_entries full));
+  }
+
   -- what was put in order is the outcome where the root's goal is finished
   pub done_outcome : HasFinishedRoot q closed → BestsFit q → GoalRequestsFit q → MembersAreAsked q → ((e : ExprParts) → IsMember q e → word_of e < 2 ^ 48)
       → (outcome : Outcome) → Orders closed outcome → IsOutcome q cap m.cell done closed outcome
   done_outcome has fit requests asked small (Done members goals answers who) ordered =
-      (has, is_done q cap place m done closed its has fit requests asked small members goals answers.list who ordered)
+      let is = is_done q cap place m done closed its has fit requests asked small members goals answers.list who ordered in
+      (is_finished has members goals is.fits, is)
   done_outcome has fit requests asked small (Full room) none = absurd none
   done_outcome has fit requests asked small (Unfinished goal) none = absurd none
+
+-- a board that was full has no other outcome
+pub full_case : (q : Query) (cap : ℕ) (cell : ℕ → ℕ) (done : List Ended) (closed : Closed) → closed.full ≡ true → (outcome : Outcome)
+    → IsOutcome q cap cell done closed outcome → IsFullCase outcome
+full_case q cap cell done closed full (Done members goals answers who) is = absurd (let no : false ≡ true = sym is.0.some_room ∙ full in cc)
+full_case q cap cell done closed full (Full room) is = tt
+full_case q cap cell done closed full (Unfinished goal) is = absurd (let no : false ≡ true = sym is.some_room ∙ full in cc)
 
 -- the root's goal was found among those that are finished
 pub has_root : (q : Query) (closed : Closed) (answers : List (ℕ × Answer)) (root : ℕ) → answers ≡ closed.answers → root ≡ goal_word (root_goal_of q)

@@ -77,6 +77,11 @@ pub record IsDone (q : Query) (cap : ℕ) (cell : ℕ → ℕ) (done : List Ende
   pub in_order : words_told answers ≡ goals
   pub finishers : AreFinishers cell done goals who
 
+-- the root's goal is finished, and the board wasn't full
+pub record IsFinished (q : Query) (closed : Closed) : Type 0 where
+  pub root : HasFinishedRoot q closed
+  pub some_room : closed.full ≡ false
+
 -- the root's goal isn't finished, and the board was full: the query has more entries than cells
 pub record IsFullFor (q : Query) (cap : ℕ) (closed : Closed) (room : ℕ) : Type 0 where
   pub open_root : HasFinishedRoot q closed → ⊥
@@ -91,10 +96,10 @@ pub record IsUnfinished (q : Query) (closed : Closed) (goal : ℕ) : Type 0 wher
   pub is_ready : closed.ready ≡ Some goal
   pub is_goal : IsGoalWord q goal
 
--- what the search gave
+-- what the search gave: the board was full exactly where this says so
 abbrev pub IsOutcome : Query → (cap : ℕ) → (cell : ℕ → ℕ) → (done : List Ended) → Closed → Outcome → Type 0
 IsOutcome q cap cell done closed (Done members goals answers who) =
-    HasFinishedRoot q closed × IsDone q cap cell done members goals answers.list who
+    IsFinished q closed × IsDone q cap cell done members goals answers.list who
 IsOutcome q cap cell done closed (Full room) = IsFullFor q cap closed room
 IsOutcome q cap cell done closed (Unfinished goal) = IsUnfinished q closed goal
 
@@ -103,6 +108,12 @@ abbrev pub IsDoneCase : Outcome → Type 0
 IsDoneCase (Done members goals answers who) = ⊤
 IsDoneCase (Full room) = ⊥
 IsDoneCase (Unfinished goal) = ⊥
+
+-- the board was full
+abbrev pub IsFullCase : Outcome → Type 0
+IsFullCase (Done members goals answers who) = ⊥
+IsFullCase (Full room) = ⊤
+IsFullCase (Unfinished goal) = ⊥
 
 -- nothing is left to do
 abbrev pub IsEnd : Outcome → Type 0

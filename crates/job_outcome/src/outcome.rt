@@ -10,7 +10,7 @@ ghost use Rattle.goal_board.specs.declared.answers.Answer.{Answer as AnyAnswer};
 ghost use Rattle.goal_rules.specs.declared.rules.Rules.{Rules};
 ghost use Rattle.goal_space.specs.Words.{goal_word};
 ghost use Rattle.goal_space.specs.Goals.{root_goal_of};
-ghost use Rattle.job_outcome.specs.Outcomes.{ClosesSearch, HasFinished, IsOutcome, IsDoneCase, IsEnd};
+ghost use Rattle.job_outcome.specs.Outcomes.{ClosesSearch, HasFinished, IsOutcome, IsDoneCase, IsFullCase};
 ghost use Rattle.job_outcome.specs.Finished.{Orders};
 
 use crate::finished::{answers_of, finished_of, goals_of, in_order, members_of, workers_of};
@@ -66,8 +66,8 @@ pub fn outcome_of(
     // What that seat saw.
     ensures finished { IfOk result (λ outcome. (place : ℕ) (v : Hands Rules) →
         ClosesSearch query.now cap place v closed → ShowsClosed v.looks place → IsDoneCase outcome) }
-    ensures ended { IfOk result (λ outcome. (place : ℕ) (v : Hands Rules) →
-        ClosesSearch query.now cap place v closed → ShowsFull v.looks → IsEnd outcome) }
+    ensures full { IfOk result (λ outcome. (place : ℕ) (v : Hands Rules) →
+        ClosesSearch query.now cap place v closed → ShowsFull v.looks → IsFullCase outcome) }
 {
     // For the proof: what finished goals promise, members and goals by their words, and what plans cost.
     goals_are_known();

@@ -28,5 +28,5 @@ returns c =
     let closed = c.in_ok-closed.closed in
     let its = last_closes e c.args._n c.args.worker c.requires closed c.in_ok-closed.ensures in
     last_run e c.args._n c.args.worker c.requires closed c.in_ok-outcome.outcome its (c.in_ok-outcome.ensures.outcome e.scheduler.root v its)
-    (c.in_ok-outcome.ensures.finished e.scheduler.root v its) (c.in_ok-outcome.ensures.ended e.scheduler.root v its)
+    (c.in_ok-outcome.ensures.finished e.scheduler.root v its) (c.in_ok-outcome.ensures.full e.scheduler.root v its)
     c.goals_finished-finished.result (c.goals_finished-finished.ensures closed c.len-answers.ensures)

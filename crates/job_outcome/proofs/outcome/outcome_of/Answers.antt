@@ -1,13 +1,14 @@
 use Rattle.std.proofs.Common.{ℕ}
 use Rattle.std.proofs.lemmas.Result.{IfOk-weaker}
 use Rattle.board_rule.specs.Words.{mem}
+use Rattle.board_rule.specs.Looks.{ShowsFull}
 use Rattle.board_rule.specs.declared.hands.Hands.{Hands}
 use Rattle.goal_rules.specs.declared.rules.Rules.{Rules}
-use Rattle.job_outcome.specs.Outcomes.{ClosesSearch, IsOutcome}
+use Rattle.job_outcome.specs.Outcomes.{ClosesSearch, IsOutcome, IsFullCase}
 use Rattle.job_outcome.specs.Finished.{Orders}
 use Rattle.job_outcome.specs.declared.outcome.Outcome.{Outcome}
 use Rattle.job_outcome.proofs.Reading.{as_many_workers, finished_root, none_left, reads_search, shown_closed}
-use Rattle.job_outcome.proofs.Outcomes.{done_outcome, has_no_root, has_root, is_full, is_unfinished}
+use Rattle.job_outcome.proofs.Outcomes.{done_outcome, full_case, has_no_root, has_root, is_full, is_unfinished}
 use Rattle.job_outcome.proofs.outcome.outcome_of.Goals as goal
 
 -- each finished goal has its answer and its worker
@@ -27,6 +28,18 @@ returns-then-is_finished-clause-outcome c =
     IfOk-weaker c.done.result (Orders closed) (λ (outcome : Outcome). (place : ℕ) (v : Hands Rules) (its : ClosesSearch q c.args.cap place v closed) → IsOutcome q c.args.cap (mem its.closes.words).cell v.done closed outcome)
     (λ outcome ordered place v its. done_outcome q c.args.cap place (mem its.closes.words) v.done closed (reads_search q c.args.cap place v closed its) has
     (c.answers_are_best.ensures.fits q) (c.goals_are_known.ensures.requests q) (c.goals_ask_for_members.ensures.all q) (c.members_are_known.ensures.small q) outcome ordered)
+    c.done.ensures
+
+-- so the board wasn't full
+pub returns-then-is_finished-clause-full : goal.returns-then-is_finished-clause-full
+returns-then-is_finished-clause-full c =
+    let q = c.args.query.now in
+    let closed = c.args.closed in
+    let has = has_root q closed c.as_slice.result.now c.args.root.0 c.as_slice.ensures c.requires.root (c.is_finished.ensures.found c.if-is_finished.true) in
+    IfOk-weaker c.done.result (Orders closed) (λ (outcome : Outcome). (place : ℕ) (v : Hands Rules) → ClosesSearch q c.args.cap place v closed → ShowsFull v.looks → IsFullCase outcome)
+    (λ outcome ordered place v its shown. full_case q c.args.cap (mem its.closes.words).cell v.done closed (its.closes.filled shown) outcome
+    (done_outcome q c.args.cap place (mem its.closes.words) v.done closed (reads_search q c.args.cap place v closed its) has
+    (c.answers_are_best.ensures.fits q) (c.goals_are_known.ensures.requests q) (c.goals_ask_for_members.ensures.all q) (c.members_are_known.ensures.small q) outcome ordered))
     c.done.ensures
 
 -- it was not found, and the full word was set

@@ -29,8 +29,8 @@ returns-clause-finished c =
     let v = hands c.args.worker.seat in
     IfOk-weaker c.outcome_of.result _ _ (λ outcome is. is root v (searched c)) c.outcome_of.ensures.finished
 
-pub returns-clause-ended : goal.returns-clause-ended
-returns-clause-ended c =
+pub returns-clause-full : goal.returns-clause-full
+returns-clause-full c =
     let root = c.args.self.scheduler.root in
     let v = hands c.args.worker.seat in
-    IfOk-weaker c.outcome_of.result _ _ (λ outcome is. is root v (searched c)) c.outcome_of.ensures.ended
+    IfOk-weaker c.outcome_of.result _ _ (λ outcome is. is root v (searched c)) c.outcome_of.ensures.full
