@@ -8,6 +8,8 @@ mod runs;
 mod searches;
 #[cfg(test)]
 mod tests;
+#[cfg(test)]
+mod turn_tests;
 
 pub use engine::Engine;
 pub use job_outcome::Outcome;

@@ -9,6 +9,31 @@ use worked_queries::one_table;
 // The word of the goal Opt Get(t) [One]: kind 5, key 0, request 0.
 const ROOT: u64 = 13 << 60;
 
+// Whether both searches found the same members, goals and answers.
+pub fn found_alike(one: &Outcome, other: &Outcome) -> bool {
+    match (one, other) {
+        (
+            Outcome::Done {
+                members,
+                goals,
+                answers,
+                who: _,
+            },
+            Outcome::Done {
+                members: same_members,
+                goals: same_goals,
+                answers: same_answers,
+                who: _,
+            },
+        ) => {
+            members.as_slice() == same_members.as_slice()
+                && goals.as_slice() == same_goals.as_slice()
+                && answers.list.as_slice() == same_answers.list.as_slice()
+        }
+        _ => false,
+    }
+}
+
 #[test]
 fn a_search_without_a_step_is_unfinished(rt: HostRuntime) -> Result<(), Fail> {
     let alloc = rt.alloc();
@@ -41,28 +66,18 @@ fn one_worker_and_two_find_the_same(rt: HostRuntime) -> Result<(), Fail> {
     let (engine, worker) = Engine::start(alloc, &query, &props, 64)?;
     let second = run_crew(&rt, alloc, engine, worker, 2, &NoGate, &mut note)?;
     assert_eq!(rt; note.last(), Some((64, 2, 8)));
-    match (&first, &second) {
-        (
-            Outcome::Done {
-                members,
-                goals,
-                answers,
-                who,
-            },
-            Outcome::Done {
-                members: same_members,
-                goals: same_goals,
-                answers: same_answers,
-                who: _,
-            },
-        ) => {
+    assert!(rt; found_alike(&first, &second));
+    match &first {
+        Outcome::Done {
+            members,
+            goals,
+            answers: _,
+            who,
+        } => {
             assert_eq!(rt; members.len(), 2);
             assert_eq!(rt; goals.len(), 8);
             assert!(rt; goals.as_slice().contains(&ROOT));
             assert_eq!(rt; who.as_slice(), [0; 8].as_slice());
-            assert_eq!(rt; members.as_slice(), same_members.as_slice());
-            assert_eq!(rt; goals.as_slice(), same_goals.as_slice());
-            assert_eq!(rt; answers.list.as_slice(), same_answers.list.as_slice());
         }
         _ => panic!(rt; "not done"),
     }
