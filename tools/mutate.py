@@ -2,9 +2,10 @@
 """Runs the program on catalogues, queries and words that were changed at random, and tells where it answers badly.
 
 Each case takes a catalogue and a query, of the examples or of compare.py's random ones, and the words of a command line,
-and changes one to three of them: bytes are flipped, cut out, doubled or put in from another text, and tokens exchanged.
-The program is run with one worker and with four. Both have to end in time with the same status and the same bytes, the
-status has to be one of the table's, and the text of its form. Nothing else is known of the answer.
+and changes one or two of them: bytes are flipped, cut out, doubled or put in from another text, and tokens or words
+exchanged. Some cases change the words of `orca gen`. The program is run with one worker and with four. Both have to end
+in time with the same status and the same bytes, up to the lines by worker, the status has to be one of the table's, and
+the text of its form. Nothing else is known of the answer. Most cases name a small capacity, which makes a run short.
 
 Usage: tools/mutate.py [--cases N] [--seed N] [--jobs N] [--program PROGRAM]
 """
@@ -24,22 +25,27 @@ from collections import Counter
 from compare import PARTS, random_query
 
 USAGE = re.compile(rb"usage: orca plan [^\n]*\n")
+NODE = rb" *[A-Za-z]+(\([^\n]*\))? rows=\d+ cost=\d+\n"
+SECTIONS = rb"((memo|trace|by-worker)[ \n][^\0]*)?"
+MADE = rb"gen number=\d+ tables=\d shape=(chain|star|clique)\n"
+FIRST_LINES = rb"memo groups=\d+ members=\d+\ntrace goals=\d+( [a-z]+=\d+)+\n"
 FORMS = {
-    0: re.compile(rb"cost \d+\noutput [^\n]+\n( *[A-Za-z]+(\([^\n]*\))? rows=\d+ cost=\d+\n)+((memo|trace) [^\0]*)?"),
-    1: re.compile(rb"no plan\n((memo|trace) [^\0]*)?"),
+    0: re.compile(rb"cost \d+\noutput [^\n]+\n(" + NODE + rb")+" + SECTIONS + rb"|" + MADE + rb"cost \d+\n" + FIRST_LINES),
+    1: re.compile(rb"no plan\n" + SECTIONS),
     2: USAGE,
     3: re.compile(rb"query refused: [A-Za-z ]+(: \d+| at \d+)?\n"),
     4: re.compile(rb"catalog refused: [^\n]*\n"),
     5: re.compile(rb"too many entries: capacity \d+\n"),
-    6: re.compile(rb"read fault: [^\n]*\n"),
+    6: re.compile(rb"read fault: [^\0]*\n"),
     8: re.compile(rb""),
 }
 TOKENS = re.compile(rb"\w+|\s+|[^\w\s]")
-OPTIONS = [[b"--memo"], [b"--trace"], [b"--root", b"spread"], [b"--root", b"one"], [b"--off", b"AggToHash"],
-           [b"--off", b"JoinCommute+JoinAssociate"], [b"--off", b"GetToScan"], [b"--capacity", b"64"],
-           [b"--capacity", b"200"], [b"--capacity", b"20000"]]
+OPTIONS = [[b"--memo"], [b"--trace"], [b"--by-worker"], [b"--root", b"spread"], [b"--root", b"one"],
+           [b"--off", b"AggToHash"], [b"--off", b"JoinCommute+JoinAssociate"], [b"--off", b"GetToScan"],
+           [b"--capacity", b"64"], [b"--capacity", b"200"], [b"--capacity", b"20000"]]
 OTHERS = [b"--memo", b"--root", b"--off", b"JoinCommute+", b"--capacity", b"063", b"1048577", b"--help", b"--", b"\xff", b"",
-          b"plan", b"gen"]
+          b"plan", b"gen", b"--workers", b"--by-worker", b"0"]
+SHAPES = [b"chain", b"star", b"clique"]
 SECONDS = 60
 
 
@@ -95,34 +101,71 @@ def changed(pick, text, others):
     return text
 
 
+# ---- changes of words
+
+
+def words_changed(pick, words):
+    """One word is changed, left out or put in, or two are exchanged, once or twice."""
+    for _ in range(pick.choice([1, 1, 2])):
+        at = pick.randrange(len(words) + 1)
+        if at == len(words) or pick.random() < 0.2:
+            words = words[:at] + [pick.choice(OTHERS)] + words[at:]
+        elif pick.random() < 0.2:
+            words = words[:at] + words[at + 1:]
+        elif pick.random() < 0.2:
+            other = pick.randrange(len(words))
+            words = [words[{at: other, other: at}.get(n, n)] for n in range(len(words))]
+        else:
+            words = words[:at] + [changed(pick, words[at], words + OTHERS)] + words[at + 1:]
+    return words
+
+
 # ---- cases
 
 
 def a_case(pick, catalogs, queries):
-    """The bytes of the catalogue and of the query, and the words between and behind their names."""
+    """The bytes of the catalogue and of the query, and the words but for the workers."""
+    if pick.random() < 0.05:
+        number = str(pick.choice([pick.randrange(100000), pick.randrange(2**64)])).encode()
+        words = [b"gen", number, str(pick.choice([1, 2, 3, 3, 4])).encode(), pick.choice(SHAPES)]
+        return b"", b"", with_capacity(pick, words_changed(pick, words) if pick.random() < 0.7 else words)
     if pick.random() < 0.5:
         query = random_query(pick, 3, PARTS)
-        catalog, text, words = query.catalog().encode(), query.sql().encode(), [w.encode() for w in query.words()]
+        catalog, text, options = query.catalog().encode(), query.sql().encode(), [w.encode() for w in query.words()]
     else:
-        catalog, text, words = pick.choice(catalogs), pick.choice(queries), []
+        catalog, text, options = pick.choice(catalogs), pick.choice(queries), []
+    words = [b"plan", b"catalog", b"query", *options]
     what = pick.sample(["catalog", "query", "words"], pick.choice([1, 1, 2]))
     if "catalog" in what:
         catalog = changed(pick, catalog, catalogs)
     if "query" in what:
         text = changed(pick, text, queries)
-    if "words" in what and pick.random() < 0.8:
-        words = words + [word for option in pick.sample(OPTIONS, 2) for word in option]
-    elif "words" in what:
-        words = words + [pick.choice(OTHERS) for _ in range(pick.randint(1, 3))]
-        pick.shuffle(words)
-    return catalog, text, words
+    if "words" in what:
+        words += [word for option in pick.sample(OPTIONS, 2) for word in option]
+        if pick.random() < 0.4:
+            words = words_changed(pick, words)
+    return catalog, text, with_capacity(pick, words)
 
 
-def run(program, catalog, text, words, workers):
-    words = [w for w in words if b"\0" not in w]
-    command = [program.encode(), b"plan", catalog, text, *words, b"--workers", workers]
-    done = subprocess.run(command, stdout=subprocess.PIPE, stderr=subprocess.PIPE, timeout=SECONDS)
+def with_capacity(pick, words):
+    """Most cases without a capacity get a small one; the usual one has 30 MiB written before the search."""
+    if b"--capacity" in words or pick.random() < 0.05:
+        return words
+    return words + [b"--capacity", pick.choice([b"1024", b"8192"])]
+
+
+def run(program, folder, words, workers):
+    words = [word.replace(b"\0", b"") for word in words]
+    command = [program.encode(), *words, b"--workers", workers]
+    done = subprocess.run(command, cwd=folder, stdout=subprocess.PIPE, stderr=subprocess.PIPE, timeout=SECONDS)
     return done.returncode, done.stdout, done.stderr
+
+
+def split_by_worker(text):
+    """What stands before the lines by worker, the numbers in these, and their goals."""
+    front, mark, lines = text.partition(b"\nby-worker\n")
+    pairs = [line.partition(b" ") for line in lines.splitlines()]
+    return front + mark, [int(number) for number, _, _ in pairs], [goal for _, _, goal in pairs]
 
 
 def fault_of(one, four):
@@ -134,7 +177,11 @@ def fault_of(one, four):
         return f"status {status} with another text"
     if said:
         return "something on standard error"
-    if one != four:
+    if status == four[0] and b"\nby-worker\n" in text:
+        (front, numbers, goals), (other_front, other_numbers, other_goals) = map(split_by_worker, (text, four[1]))
+        if (front, goals) != (other_front, other_goals) or any(numbers) or not all(n < 4 for n in other_numbers):
+            return "other bytes with four workers, or lines by others"
+    elif one != four:
         return f"status {four[0]} with four workers, or other bytes"
     return None
 
@@ -144,14 +191,14 @@ def try_cases(job):
     catalogs, queries = example_texts(top)
     seen, faults = Counter(), []
     with tempfile.TemporaryDirectory() as folder:
-        names = [os.path.join(folder, name).encode() for name in ("catalog", "query")]
+        names = [os.path.join(folder, name) for name in ("catalog", "query")]
         for number in range(first, first + count):
             catalog, text, words = a_case(random.Random(number), catalogs, queries)
             for name, content in zip(names, (catalog, text)):
                 with open(name, "wb") as file:
                     file.write(content)
             try:
-                one, four = (run(program, *names, words, workers) for workers in (b"1", b"4"))
+                one, four = (run(program, folder, words, workers) for workers in (b"1", b"4"))
                 fault = fault_of(one, four)
                 seen[one[0]] += 1
             except subprocess.TimeoutExpired:
@@ -171,7 +218,8 @@ def main():
     asked = options.parse_args()
     began = time.time()
     piece = 100
-    jobs = [(asked.program, first, min(piece, asked.seed + asked.cases - first), top)
+    program = os.path.abspath(asked.program)
+    jobs = [(program, first, min(piece, asked.seed + asked.cases - first), top)
             for first in range(asked.seed, asked.seed + asked.cases, piece)]
     seen, faults = Counter(), []
     with multiprocessing.Pool(asked.jobs) as pool:
