@@ -100,7 +100,7 @@ ssize_t pread64(int fd, void *into, size_t size, off64_t at) { return pread(fd, 
 ssize_t write(int fd, const void *bytes, size_t size) {
   long number = fd == 1 ? number_of("write") : 0;
   if (number && number == refused && kept) return syscall(SYS_write, fd, bytes, size < kept ? size : kept);
-  if (number && number >= refused) {
+  if (number && refused && number >= refused) {
     errno = EIO;
     return -1;
   }
