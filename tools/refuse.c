@@ -21,11 +21,12 @@ void *__libc_memalign(size_t, size_t);
 
 static _Atomic long *calls;
 static char kind[8];
-static long refused, kept;
+static long refused;
+static size_t kept;
 
 __attribute__((constructor)) static void begin(void) {
   const char *asked = getenv("REFUSE"), *file = getenv("REFUSE_CALLS");
-  if (!asked || !file || sscanf(asked, "%7s %ld %ld", kind, &refused, &kept) != 3) _exit(99);
+  if (!asked || !file || sscanf(asked, "%7s %ld %zu", kind, &refused, &kept) != 3) _exit(99);
   int fd = syscall(SYS_open, file, O_RDWR);
   void *shared = mmap(0, sizeof *calls, PROT_READ | PROT_WRITE, MAP_SHARED, fd, 0);
   if (fd < 0 || shared == MAP_FAILED) _exit(99);
