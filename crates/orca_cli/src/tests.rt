@@ -308,6 +308,10 @@ fn a_catalog_has_at_most_a_mebibyte(rt: HostRuntime) -> Result<(), Fail> {
     let (status, line) = cause(&rt, "catalog refused: ", &over, QUERY.as_bytes())?;
     assert_eq!(rt; status, Status::CatalogRefused);
     assert_eq!(rt; line.as_str(), "too long");
+    let mut most = vec![in rt.alloc(); b' '; 1_048_576 - CATALOG.len()]?;
+    most.extend_from_slice(CATALOG.as_bytes())?;
+    let (status, _) = planned(&rt, &most, QUERY.as_bytes())?;
+    assert_eq!(rt; status, Status::Planned);
     Ok(())
 }
 
