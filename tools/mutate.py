@@ -16,11 +16,13 @@ import multiprocessing
 import os
 import random
 import re
+import signal
 import subprocess
 import sys
 import tempfile
 import time
 from collections import Counter
+from contextlib import ExitStack
 
 from compare import PARTS, random_query
 
@@ -28,9 +30,9 @@ USAGE = re.compile(rb"usage: orca plan [^\n]*\n")
 NODE = rb" *[A-Za-z]+(\([^\n]*\))? rows=\d+ cost=\d+\n"
 SECTIONS = rb"((memo|trace|by-worker)[ \n][^\0]*)?"
 MADE = rb"gen number=\d+ tables=\d shape=(chain|star|clique)\n"
-FIRST_LINES = rb"memo groups=\d+ members=\d+\ntrace goals=\d+( [a-z]+=\d+)+\n"
+FIRST_LINES = rb"cost \d+\nmemo groups=\d+ members=\d+\ntrace goals=\d+( [a-z]+=\d+)+\n"
 FORMS = {
-    0: re.compile(rb"cost \d+\noutput [^\n]+\n(" + NODE + rb")+" + SECTIONS + rb"|" + MADE + rb"cost \d+\n" + FIRST_LINES),
+    0: re.compile(rb"cost \d+\noutput [^\n]+\n(" + NODE + rb")+" + SECTIONS + rb"|" + MADE + FIRST_LINES),
     1: re.compile(rb"no plan\n" + SECTIONS),
     2: USAGE,
     3: re.compile(rb"query refused: [A-Za-z ]+(: \d+| at \d+)?\n"),
@@ -43,8 +45,8 @@ TOKENS = re.compile(rb"\w+|\s+|[^\w\s]")
 OPTIONS = [[b"--memo"], [b"--trace"], [b"--by-worker"], [b"--root", b"spread"], [b"--root", b"one"],
            [b"--off", b"AggToHash"], [b"--off", b"JoinCommute+JoinAssociate"], [b"--off", b"GetToScan"],
            [b"--capacity", b"64"], [b"--capacity", b"200"], [b"--capacity", b"20000"]]
-OTHERS = [b"--memo", b"--root", b"--off", b"JoinCommute+", b"--capacity", b"063", b"1048577", b"--help", b"--", b"\xff", b"",
-          b"plan", b"gen", b"--workers", b"--by-worker", b"0"]
+OTHERS = [b"--memo", b"--root", b"--off", b"JoinCommute+", b"--capacity", b"063", b"1048577", b"--help", b"--",
+          b"\xff", b"", b"plan", b"gen", b"--workers", b"--by-worker", b"0"]
 SHAPES = [b"chain", b"star", b"clique"]
 SECONDS = 60
 
@@ -154,11 +156,28 @@ def with_capacity(pick, words):
     return words + [b"--capacity", pick.choice([b"1024", b"8192"])]
 
 
-def run(program, folder, words, workers):
+def run_both(program, folder, words):
+    """The status and the bytes with one worker and with four, which run side by side; what is said on standard error
+    counts as output."""
     words = [word.replace(b"\0", b"") for word in words]
-    command = [program.encode(), *words, b"--workers", workers]
-    done = subprocess.run(command, cwd=folder, stdout=subprocess.PIPE, stderr=subprocess.PIPE, timeout=SECONDS)
-    return done.returncode, done.stdout, done.stderr
+    with ExitStack() as files:
+        outs = [files.enter_context(open(os.path.join(folder, f"out{n}"), "w+b")) for n in range(2)]
+        started = [subprocess.Popen([program, *words, b"--workers", workers], cwd=folder, stdin=subprocess.DEVNULL,
+                                    stdout=out, stderr=subprocess.STDOUT) for workers, out in zip((b"1", b"4"), outs)]
+        signal.alarm(SECONDS)
+        try:
+            statuses = [process.wait() for process in started]
+        finally:
+            signal.alarm(0)
+            for process in started:
+                process.kill()
+        for out in outs:
+            out.seek(0)
+        return [(status, out.read()) for status, out in zip(statuses, outs)]
+
+
+def too_late(*_):
+    raise TimeoutError
 
 
 def split_by_worker(text):
@@ -170,13 +189,11 @@ def split_by_worker(text):
 
 def fault_of(one, four):
     """What is wrong with the two answers, if anything is."""
-    status, text, said = one
+    status, text = one
     if status not in FORMS:
         return f"status {status}"
     if not FORMS[status].fullmatch(text):
         return f"status {status} with another text"
-    if said:
-        return "something on standard error"
     if status == four[0] and b"\nby-worker\n" in text:
         (front, numbers, goals), (other_front, other_numbers, other_goals) = map(split_by_worker, (text, four[1]))
         if (front, goals) != (other_front, other_goals) or any(numbers) or not all(n < 4 for n in other_numbers):
@@ -190,6 +207,7 @@ def try_cases(job):
     program, first, count, top = job
     catalogs, queries = example_texts(top)
     seen, faults = Counter(), []
+    signal.signal(signal.SIGALRM, too_late)
     with tempfile.TemporaryDirectory() as folder:
         names = [os.path.join(folder, name) for name in ("catalog", "query")]
         for number in range(first, first + count):
@@ -198,10 +216,10 @@ def try_cases(job):
                 with open(name, "wb") as file:
                     file.write(content)
             try:
-                one, four = (run(program, folder, words, workers) for workers in (b"1", b"4"))
+                one, four = run_both(program, folder, words)
                 fault = fault_of(one, four)
                 seen[one[0]] += 1
-            except subprocess.TimeoutExpired:
+            except TimeoutError:
                 fault = f"no end in {SECONDS} seconds"
             if fault:
                 faults.append(f"case {number}: {fault}\n{catalog!r}\n{text!r}\n{words!r}")
