@@ -209,7 +209,7 @@ def refused_catalogs():
     yield "a version that is repeated, the last one bad", repeating(T[:-1], ',"version":3', "}"), "version 3"
     yield "a long name of a table", filling(T[:NAME], "t", T[NAME:]), "shape at /tables/0/name"
     yield "a long distribution", filling(BEFORE + "r", "r", BEHIND), "shape at /tables/0/distribution"
-    yield "columns to the end", repeating(T[:-3], ',{"name":"c","ndv":1}', "]}]}"), "range at /tables/0/columns"
+    yield "columns to the end", repeating(T[:-4], ',{"name":"c","ndv":1}', "]}]}"), "range at /tables/0/columns"
     yield "too many tables", many_tables(1001, 30), "range at /tables"
     yield "too many columns", many_tables(1, 1001), "range at /tables/0/columns"
     for name, change, told in [
