@@ -4,8 +4,8 @@ use Rattle.goal_board.specs.Seats.{hands}
 use Rattle.job_engine.specs.Searching.{IsWorker}
 use Rattle.job_engine.proofs.turn_tests.search_by_draws.Given as goal
 
-abbrev pub invariant-loop-_turn : goal.invariant-loop-_turn
-invariant-loop-_turn l = record {
+abbrev pub invariant-loop-turn : goal.invariant-loop-_turn
+invariant-loop-turn l = record {
   first : IsWorker l.engine l.first;
   second : IsWorker l.engine l.second;
   third : IsWorker l.engine l.third;

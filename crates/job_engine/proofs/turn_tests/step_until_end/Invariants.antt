@@ -4,8 +4,8 @@ use Rattle.goal_board.specs.Seats.{hands}
 use Rattle.job_engine.specs.Searching.{IsWorker}
 use Rattle.job_engine.proofs.turn_tests.step_until_end.Given as goal
 
-abbrev pub invariant-loop-_step : goal.invariant-loop-_step
-invariant-loop-_step l = record {
+abbrev pub invariant-loop-step : goal.invariant-loop-_step
+invariant-loop-step l = record {
   its : IsWorker l.engine l.worker;
   parts : (hands l.worker.seat).parts ≡ (hands l.initial.worker.seat).parts;
 }
