@@ -1,5 +1,5 @@
 -- The productions up to an element of a list are read exactly.
-use Rattle.std.proofs.Common.{◌≡◌, ℕ, true, false, ◌⊎◌, inl, inr, refl, arith}
+use Rattle.std.proofs.Common.{◌≡◌, ℕ, List, true, false, ◌⊎◌, inl, inr, refl, arith}
 use Rattle.sql_reader.specs.Marks.{number_of}
 use Rattle.sql_reader.specs.declared.tokens.Mark.TheVariants as marks
 use Rattle.sql_reader.specs.declared.tokens.Function.{Function}
@@ -11,7 +11,7 @@ use Rattle.sql_reader.specs.declared.syntax.SelExpr.TheVariants as exprs
 use Rattle.sql_reader.specs.declared.syntax.SelOperand.TheVariants as operands
 use Rattle.sql_reader.specs.declared.syntax.SelOp.TheVariants as ops
 use Rattle.sql_reader.specs.Grammar.{Done, Then}
-use Rattle.sql_reader.specs.Steps.{done_at, then_at}
+use Rattle.sql_reader.specs.Steps.{Step, done_at, then_at}
 use Rattle.sql_reader.specs.Query.{plain_column, column_in, count_all, aggregate, plain_item, named_item, plain_table}
 use Rattle.sql_reader.specs.Query.{aliased_table, predicate, key, IsColumn, IsArgument, IsCall, IsExpr, IsOutput}
 use Rattle.sql_reader.specs.Query.{IsItem, IsTable, IsOperand, IsPred, IsDirection, IsKey}
@@ -20,9 +20,21 @@ use Rattle.sql_reader.specs.Reading.{pred_at, direction_at, key_at}
 use Rattle.sql_reader.proofs.Exact.{Exact, Never, NoToken, as_exact}
 use Rattle.sql_reader.proofs.Choices.{done_exact}
 use Rattle.sql_reader.proofs.Branches.{after, choice}
-use Rattle.sql_reader.proofs.Sequences.{sequence}
+use Rattle.sql_reader.proofs.Sequences.{both_exact}
 use Rattle.sql_reader.proofs.Apart.{AMark, AName, ACall, AnInteger, AText, AnOp, mark_token, name_token, one_mark}
 use Rattle.sql_reader.proofs.Apart.{name_mark, name_call, integer_name, quoted_name, integer_quoted, op_mark}
+
+-- a production and another behind it, where no limit is spoken of
+sequence : {X Z : Type 0} {IsX : List Token → X → Type 0} {First1 More1 : Token → Type 0} {Empty1 : Type 0}
+    {read1 : List Token → Step X}
+    {IsZ : X → List Token → Z → Type 0} {First2 More2 : Token → Type 0} {Empty2 : Type 0}
+    {read2 : X → List Token → Step Z}
+    → Exact IsX First1 More1 Empty1 Never read1 → ((x : X) → Exact (IsZ x) First2 More2 Empty2 Never (read2 x))
+    → ((t : Token) → More1 t → First2 t → ⊥)
+    → Exact (Then IsX IsZ) (λ t. First1 t ⊎ (Empty1 × First2 t)) (λ t. More2 t ⊎ (Empty2 × More1 t)) (Empty1 × Empty2)
+    Never (then_at read1 read2)
+sequence e1 e2 clash = both_exact _ _ _ _ _ _ _ _ _ _ _ _ _ e1 e2 clash (λ w x tokens z k h. h) (λ w z h. h)
+    (λ w x tokens z k h. inr h)
 
 -- ---- sets of tokens, made smaller
 

@@ -1,20 +1,20 @@
 -- Elements with a mark between, up to a limit.
 use Rattle.std.proofs.Common.{◌≡◌, ℕ, zero, suc, Bool, true, false, cond, List, [], ◌∷◌, ◌++◌, Option, Some, None, Ok}
-use Rattle.std.proofs.Common.{Err, ◌⊎◌, inl, inr, refl, sym, ap, subst, ◌∙◌, arith}
+use Rattle.std.proofs.Common.{Err, ◌⊎◌, inl, inr, refl, sym, ap, ◌∙◌, arith}
 use Rattle.std.specs.Prelude.{is_some, if◌then◌else◌}
 use Rattle.std.proofs.lemmas.List.{append-nil}
 use Rattle.sql_reader.specs.declared.tokens.Token.{Token}
 use Rattle.sql_reader.specs.declared.tokens.Mark.{Mark}
 use Rattle.sql_reader.specs.declared.faults.Limit.{Limit}
 use Rattle.sql_reader.specs.Tokens.{place_of}
-use Rattle.sql_reader.specs.Grammar.{Done, After, Then, Either, Others, Elements}
+use Rattle.sql_reader.specs.Grammar.{Done, Then, Others, Elements}
 use Rattle.sql_reader.specs.Steps.{Step, unexpected, too_many, done_at, then_at, ahead, branch_at, refused, elements_at}
 use Rattle.sql_reader.proofs.Exact.{BeginAlike, Blocked, GoesOn, Breaks, Overflows, Refuses, Answers, Again, Exact}
 use Rattle.sql_reader.proofs.Exact.{Never, NoToken, as_exact}
 use Rattle.sql_reader.proofs.Choices.{Says, done_exact, done_within, same_exact}
 use Rattle.sql_reader.proofs.Branches.{says_nothing, looks_alike, choice}
 use Rattle.sql_reader.proofs.Sequences.{both_exact}
-use Rattle.sql_reader.proofs.ListParts.{Above, Parts, parts_of, elements_from}
+use Rattle.sql_reader.proofs.ListParts.{Above, out_of_others, into_others}
 
 module _ {X : Type 0} (mark : Mark) (IsX : List Token → X → Type 0) (First More : Token → Type 0)
     (read : List Token → Step X) (starts : Token → Bool) (what : Limit)
@@ -32,33 +32,6 @@ module _ {X : Type 0} (mark : Mark) (IsX : List Token → X → Type 0) (First M
     -- the elements behind the first
     abbrev tail_at : ℕ → List Token → Step (List X)
     tail_at room = branch_at (place_of mark) (λ _. elements_at mark starts read what room) (done_at [])
-
-    out_of_others : (ts : List Token) (xs : List X) → Others mark IsX ts xs
-        → Either (After (place_of mark) (λ _. Elements mark IsX)) (Done []) ts xs
-    out_of_others [] [] h = inr refl
-    out_of_others (t ∷ ts) [] h = absurd h
-    out_of_others [] (x ∷ xs) h = absurd h
-    out_of_others (t ∷ ts) (x ∷ xs) h =
-        inl (
-          h.0,
-          h.1,
-          subst (λ (us : List Token). Elements mark IsX us (x ∷ xs)) (sym h.4)
-              (elements_from mark IsX h.2 h.3 x xs h.5 h.6),
-        )
-
-    into_others_from : (t : Token) (ts : List Token) (at : ℕ) → place_of mark t ≡ Some at → (ys : List X)
-        → Parts mark IsX ts ys → Others mark IsX (t ∷ ts) ys
-    into_others_from t ts at s ys p =
-        let all : Others mark IsX (t ∷ ts) (p.element ∷ p.others) =
-        (at, s, p.front, p.back, p.whole, p.first, p.second) in
-        subst (λ (zs : List X). Others mark IsX (t ∷ ts) zs) (sym p.are) all
-
-    into_others : (ts : List Token) (xs : List X)
-        → Either (After (place_of mark) (λ _. Elements mark IsX)) (Done []) ts xs → Others mark IsX ts xs
-    into_others [] xs (inl h) = absurd h
-    into_others (t ∷ ts) xs (inl h) = into_others_from t ts h.0 h.1 xs (parts_of mark IsX ts xs h.2)
-    into_others [] xs (inr h) = subst (λ (zs : List X). Others mark IsX [] zs) (sym h) tt
-    into_others (t ∷ ts) xs (inr h) = absurd h
 
     -- ---- no room for another
 
@@ -252,7 +225,7 @@ module _ {X : Type 0} (mark : Mark) (IsX : List Token → X → Type 0) (First M
 
     others_exact : (room : ℕ) → Exact (Others mark IsX) Separates MoreOf (Unit {0}) (Above what room) (tail_at room)
     others_exact zero = no_more_exact
-    others_exact (suc room) = same_exact into_others out_of_others (as_exact
+    others_exact (suc room) = same_exact (into_others mark IsX) (out_of_others mark IsX) (as_exact
         (choice (λ (_ : ℕ). elements_from_others room (others_exact room))
         (done_within [] (Above what (suc room)) (λ w h. absurd (omega (arith, h.1)))) (λ t v s k. k))
         separated more_behind (λ u. u))

@@ -1,10 +1,11 @@
 -- A list of elements, taken apart and put together.
-use Rattle.std.proofs.Common.{◌≡◌, ℕ, ◌<◌, List, [], ◌∷◌, ◌++◌, length, refl, sym, subst, ◌∙◌}
+use Rattle.std.proofs.Common.{◌≡◌, ℕ, ◌<◌, List, [], ◌∷◌, ◌++◌, length, refl, sym, subst, ◌∙◌, Some, inl, inr}
 use Rattle.std.proofs.lemmas.List.{append-nil}
 use Rattle.sql_reader.specs.declared.tokens.Token.{Token}
 use Rattle.sql_reader.specs.declared.tokens.Mark.{Mark}
 use Rattle.sql_reader.specs.declared.faults.Limit.{Limit}
-use Rattle.sql_reader.specs.Grammar.{Done, Others, Elements}
+use Rattle.sql_reader.specs.Grammar.{After, Done, Either, Elements, Others}
+use Rattle.sql_reader.specs.Tokens.{place_of}
 
 -- more than so many
 abbrev pub Above : {X : Type 0} → Limit → ℕ → Limit → List X → Type 0
@@ -51,3 +52,35 @@ elements_from mark IsX front back x xs h k = record {
   first = h;
   second = record { front = back; back = []; value = xs; whole = sym (append-nil back); first = k; second = refl };
 }
+
+-- ---- what stands behind the first element
+
+module _ {X : Type 0} (mark : Mark) (IsX : List Token → X → Type 0) where
+  -- no element, or the mark and elements
+  pub out_of_others : (ts : List Token) (xs : List X) → Others mark IsX ts xs
+      → Either (After (place_of mark) (λ _. Elements mark IsX)) (Done []) ts xs
+  out_of_others [] [] h = inr refl
+  out_of_others (t ∷ ts) [] h = absurd h
+  out_of_others [] (x ∷ xs) h = absurd h
+  out_of_others (t ∷ ts) (x ∷ xs) h =
+      inl (
+        h.0,
+        h.1,
+        subst (λ (us : List Token). Elements mark IsX us (x ∷ xs)) (sym h.4)
+            (elements_from mark IsX h.2 h.3 x xs h.5 h.6),
+      )
+
+  into_others_from : (t : Token) (ts : List Token) (at : ℕ) → place_of mark t ≡ Some at → (ys : List X)
+      → Parts mark IsX ts ys → Others mark IsX (t ∷ ts) ys
+  into_others_from t ts at s ys p =
+      let all : Others mark IsX (t ∷ ts) (p.element ∷ p.others) =
+      (at, s, p.front, p.back, p.whole, p.first, p.second) in
+      subst (λ (zs : List X). Others mark IsX (t ∷ ts) zs) (sym p.are) all
+
+  -- and these make the others
+  pub into_others : (ts : List Token) (xs : List X)
+      → Either (After (place_of mark) (λ _. Elements mark IsX)) (Done []) ts xs → Others mark IsX ts xs
+  into_others [] xs (inl h) = absurd h
+  into_others (t ∷ ts) xs (inl h) = into_others_from t ts h.0 h.1 xs (parts_of mark IsX ts xs h.2)
+  into_others [] xs (inr h) = subst (λ (zs : List X). Others mark IsX [] zs) (sym h) tt
+  into_others (t ∷ ts) xs (inr h) = absurd h

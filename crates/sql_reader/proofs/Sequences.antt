@@ -6,7 +6,7 @@ use Rattle.sql_reader.specs.Grammar.{Then}
 use Rattle.orca_base.specs.Checked.{◌>>=◌}
 use Rattle.sql_reader.specs.Steps.{Step, unexpected, too_many, then_at}
 use Rattle.sql_reader.proofs.Exact.{BeginAlike, BeginAlike-append, Blocked, GoesOn, Found, Refuses, Answers, Again}
-use Rattle.sql_reader.proofs.Exact.{Exact, Never}
+use Rattle.sql_reader.proofs.Exact.{Exact}
 
 module _
     {X Z : Type 0} (IsX : List Token → X → Type 0) (First1 More1 : Token → Type 0) (Empty1 : Type 0)
@@ -243,15 +243,3 @@ module _
       answers = λ tokens. both_answers tokens (read1 tokens) (e1.answers tokens);
       start = goes_first [] e1.start;
     }
-
--- a production and another behind it, where no limit is spoken of
-pub sequence : {X Z : Type 0} {IsX : List Token → X → Type 0} {First1 More1 : Token → Type 0} {Empty1 : Type 0}
-    {read1 : List Token → Step X}
-    {IsZ : X → List Token → Z → Type 0} {First2 More2 : Token → Type 0} {Empty2 : Type 0}
-    {read2 : X → List Token → Step Z}
-    → Exact IsX First1 More1 Empty1 Never read1 → ((x : X) → Exact (IsZ x) First2 More2 Empty2 Never (read2 x))
-    → ((t : Token) → More1 t → First2 t → ⊥)
-    → Exact (Then IsX IsZ) (λ t. First1 t ⊎ (Empty1 × First2 t)) (λ t. More2 t ⊎ (Empty2 × More1 t)) (Empty1 × Empty2)
-    Never (then_at read1 read2)
-sequence e1 e2 clash = both_exact _ _ _ _ _ _ _ _ _ _ _ _ _ e1 e2 clash (λ w x tokens z k h. h) (λ w z h. h)
-    (λ w x tokens z k h. inr h)
