@@ -7,7 +7,7 @@ use Rattle.command_line.specs.Numbers.{number_within}
 use Rattle.command_line.specs.Rules.{rules_word}
 use Rattle.command_line.specs.Options.{option_word, name_of, root_word, IsValue, choices_of}
 use Rattle.command_line.specs.Command.{AnyCommand, command_name, command_word, Piece, name, setting, is_positional, IsSpelled, a_name, an_option, AreSpelled, no_more, one_more, name_in, setting_in, may_be_given, IsSpelledOut}
-use Rattle.command_line.specs.Reading.{root_of, off_of, option_named, alone, with_value, is_valued, named, piece_of, valued_piece, in_front, pieces_of, command_from, command_with, behind_name, command_named, command_of}
+use Rattle.command_line.specs.Reading.{root_of, off_of, option_named, own_setting, with_value, is_valued, named, piece_of, valued_piece, in_front, pieces_of, command_from, command_with, behind_name, command_named, command_of}
 use Rattle.command_line.specs.declared.choices.CommandName.{CommandName}
 use Rattle.command_line.specs.declared.choices.OptionName.{OptionName}
 use Rattle.command_line.specs.declared.choices.OptionName.TheVariants as names
@@ -84,7 +84,7 @@ front_parts (Some p) None pieces is = cc
 front_parts (Some p) (Some ps) pieces is = record { piece = p; more = ps; is_first = refl; are_others = refl; whole = let same : pieces ≡ p ∷ ps = cc in same }
 
 -- an option that is read without a value
-alone_read : (option : OptionName) (given : Setting) → alone option ≡ Some given → IsSpelled (setting given) (option_word option ∷ [])
+alone_read : (option : OptionName) (given : Setting) → own_setting option ≡ Some given → IsSpelled (setting given) (option_word option ∷ [])
 alone_read names.Workers given is = cc
 alone_read names.Capacity given is = cc
 alone_read names.Root given is = cc
@@ -129,10 +129,10 @@ alone_spelled word piece is = of_option (option_named word) refl is
     of_name true plain found = let here : name word ≡ piece = cc in subst (λ p. IsSpelled p (word ∷ [])) here (a_name word plain)
     of_name false plain found = cc
 
-    of_option : (o : Option OptionName) → option_named word ≡ o → option_map_or (λ option. option_map setting (alone option)) o (named word) ≡ Some piece → IsSpelled piece (word ∷ [])
+    of_option : (o : Option OptionName) → option_named word ≡ o → option_map_or (λ option. option_map setting (own_setting option)) o (named word) ≡ Some piece → IsSpelled piece (word ∷ [])
     of_option None found read = of_name (is_positional word) refl read
     of_option (Some option) found read =
-        let (given, asked, same) = piece_parts (alone option) piece read in
+        let (given, asked, same) = piece_parts (own_setting option) piece read in
         subst (λ p. IsSpelled p (word ∷ [])) same (subst (λ w. IsSpelled (setting given) (w ∷ [])) (word_of_found word option found) (alone_read option given asked))
 
 -- an option and a value that are read as a piece

@@ -65,14 +65,14 @@ takes_value names.Trace = false
 takes_value names.ByWorker = false
 
 -- the setting of an option alone
-abbrev pub alone : OptionName → Option Setting
-alone names.Workers = None
-alone names.Capacity = None
-alone names.Root = None
-alone names.Off = None
-alone names.Memo = Some settings.Memo
-alone names.Trace = Some settings.Trace
-alone names.ByWorker = Some settings.ByWorker
+abbrev pub own_setting : OptionName → Option Setting
+own_setting names.Workers = None
+own_setting names.Capacity = None
+own_setting names.Root = None
+own_setting names.Off = None
+own_setting names.Memo = Some settings.Memo
+own_setting names.Trace = Some settings.Trace
+own_setting names.ByWorker = Some settings.ByWorker
 
 -- the setting of an option and the word behind it
 abbrev pub with_value : OptionName → List ℕ → Option Setting
@@ -100,7 +100,7 @@ is_valued word = option_map_or takes_value (option_named word) false
 
 -- the piece of one word
 abbrev pub piece_of : List ℕ → Option Piece
-piece_of word = option_map_or (λ option. option_map setting (alone option)) (option_named word) (named word)
+piece_of word = option_map_or (λ option. option_map setting (own_setting option)) (option_named word) (named word)
 
 -- the piece of an option and its value
 abbrev pub valued_piece : List ℕ → List ℕ → Option Piece

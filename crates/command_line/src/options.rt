@@ -2,7 +2,7 @@
 ghost use Rattle.std.specs.Prelude.{◌≡◌, IfSome, Some};
 ghost use Rattle.command_line.specs.Options.{IsAllowed, option_word};
 ghost use Rattle.command_line.specs.declared.choices.OptionName.{OptionName};
-ghost use Rattle.command_line.specs.Reading.{alone, option_named, root_of, takes_value as takes, with_value};
+ghost use Rattle.command_line.specs.Reading.{own_setting, option_named, root_of, takes_value as takes, with_value};
 
 use crate::choices::{OptionName, Setting};
 use crate::numbers::number_within;
@@ -49,8 +49,8 @@ impl OptionName {
     }
 
     /// What it asks for, where no value stands behind it.
-    pub fn alone(self) -> Option<Setting>
-        ensures setting { result ≡ alone self }
+    pub fn own_setting(self) -> Option<Setting>
+        ensures setting { result ≡ own_setting self }
         ensures allowed { IfSome result IsAllowed }
     {
         match self {

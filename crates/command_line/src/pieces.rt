@@ -30,7 +30,7 @@ pub fn read_word(word: &String) -> Option<Word<'_>>
     ensures allowed { IfSome result MayStand }
 {
     match option_of(word.as_str()) {
-        Some(option) => Some(Word::Option(option.alone()?)),
+        Some(option) => Some(Word::Option(option.own_setting()?)),
         None if is_positional_word(word) => Some(Word::Name(word.as_str())),
         None => None,
     }

@@ -201,7 +201,7 @@ fn cost_of(text: &[u8]) -> Result<u64, Fail> {
 fn costs_no_less(status: Status, text: &[u8], least: u64) -> Result<bool, Fail> {
     match status {
         Status::Planned => Ok(cost_of(text)? >= least),
-        Status::NoPlan => Ok(text == b"no plan\n"),
+        Status::NoPlan => Ok(text == "no plan\n".as_bytes()),
         _ => Ok(false),
     }
 }

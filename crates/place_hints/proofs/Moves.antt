@@ -8,26 +8,26 @@ use Rattle.crossbeam_deque.specs.Tasks.{Pushes, Takes, Pops, Forks}
 use Rattle.crossbeam_deque.proofs.Lists.{at_set, at_snoc, set_again}
 use Rattle.place_hints.specs.Hinted.{capacity_of, AreHinted, MovesBelow}
 
-abbrev Below : ℕ → List ℕ → Type 0
-Below capacity places = All (λ place. place < capacity) places
+abbrev AreBelow : ℕ → List ℕ → Type 0
+AreBelow capacity places = All (λ place. place < capacity) places
 
 -- below nothing there is no place
-none_below : (places : List ℕ) → Below 0 places → (capacity : ℕ) → Below capacity places
+none_below : (places : List ℕ) → AreBelow 0 places → (capacity : ℕ) → AreBelow capacity places
 none_below [] h capacity k d near = absurd (omega arith)
 none_below (place ∷ places) h capacity k d near = let none : place < 0 = h 0 0 (omega arith) in absurd (omega arith)
 
 -- one place
-below_one : (capacity place : ℕ) → place < capacity → Below capacity (place ∷ [])
+below_one : (capacity place : ℕ) → place < capacity → AreBelow capacity (place ∷ [])
 below_one capacity place lt zero d near = lt
 below_one capacity place lt (suc k) d near = absurd (omega arith)
 
-below_left : (capacity : ℕ) (xs ys : List ℕ) → Below capacity (xs ++ ys) → Below capacity xs
-below_left capacity xs ys h = subst (Below capacity) (take-append_seam xs ys) (All-take (λ place. place < capacity) (length xs) (xs ++ ys) h)
+below_left : (capacity : ℕ) (xs ys : List ℕ) → AreBelow capacity (xs ++ ys) → AreBelow capacity xs
+below_left capacity xs ys h = subst (AreBelow capacity) (take-append_seam xs ys) (All-take (λ place. place < capacity) (length xs) (xs ++ ys) h)
 
-below_right : (capacity : ℕ) (xs ys : List ℕ) → Below capacity (xs ++ ys) → Below capacity ys
-below_right capacity xs ys h = subst (Below capacity) (drop-append_seam xs ys) (All-drop (λ place. place < capacity) (length xs) (xs ++ ys) h)
+below_right : (capacity : ℕ) (xs ys : List ℕ) → AreBelow capacity (xs ++ ys) → AreBelow capacity ys
+below_right capacity xs ys h = subst (AreBelow capacity) (drop-append_seam xs ys) (All-drop (λ place. place < capacity) (length xs) (xs ++ ys) h)
 
-below_both : (capacity : ℕ) (xs ys : List ℕ) → Below capacity xs → Below capacity ys → Below capacity (xs ++ ys)
+below_both : (capacity : ℕ) (xs ys : List ℕ) → AreBelow capacity xs → AreBelow capacity ys → AreBelow capacity (xs ++ ys)
 below_both capacity xs ys = All-append (λ place. place < capacity) xs ys
 
 -- who knows a capacity knows the owner's
@@ -50,7 +50,7 @@ opens_first place items (first ∷ views) h at =
     let last : place < place + 1 = omega arith in (
       place + 1,
       record {
-        below = below_both (place + 1) items (place ∷ []) (none_below items (subst (λ c. Below c items) unknown h.below) (place + 1)) (below_one (place + 1) place last);
+        below = below_both (place + 1) items (place ∷ []) (none_below items (subst (λ c. AreBelow c items) unknown h.below) (place + 1)) (below_one (place + 1) place last);
         known = λ port view there. ⊎_elim
             (λ (t : (port ≡ 0) × (place + 1 ≡ view)). inr (sym t.1))
             (λ (t : (port ≢ 0) × (get_elem? (first ∷ views) port ≡ some view)). inl (⊎_elim (λ (e : view ≡ 0). e) (λ (e : view ≡ first). e ∙ unknown) (h.known port view t.1)))
@@ -84,7 +84,7 @@ takes port view some_view xs items views _ _ h at =
     let is : view ≡ capacity_of views = known_capacity (xs ++ items) views port view some_view h at in (
       view,
       subst (AreHinted items) (sym same) (record { below = below_right (capacity_of views) xs items h.below; known = h.known }),
-      record { stays = refl; below = subst (λ c. Below c xs) (sym is) (below_left (capacity_of views) xs items h.below) },
+      record { stays = refl; below = subst (λ c. AreBelow c xs) (sym is) (below_left (capacity_of views) xs items h.below) },
     )
 
 -- and the newest
@@ -94,7 +94,7 @@ pops port view some_view x items views h at =
     let is : view ≡ capacity_of views = known_capacity (items ++ x ∷ []) views port view some_view h at in (
       view,
       subst (AreHinted items) (sym same) (record { below = below_left (capacity_of views) items (x ∷ []) h.below; known = h.known }),
-      record { stays = refl; below = subst (λ c. Below c (x ∷ [])) (sym is) (below_right (capacity_of views) items (x ∷ []) h.below) },
+      record { stays = refl; below = subst (λ c. AreBelow c (x ∷ [])) (sym is) (below_right (capacity_of views) items (x ∷ []) h.below) },
     )
 
 -- another pass knows what the first one does

@@ -21,12 +21,12 @@ use Rattle.xform_rules.specs.GetRules.{Scans, ScansIndex}
 use Rattle.xform_rules.specs.SelectRules.{Filters, SeeksIndex}
 use Rattle.xform_rules.specs.JoinRules.{Hashes, Merges, Loops}
 use Rattle.xform_rules.specs.AggRules.{GroupsByHash, GroupsInOrder, GroupsPartly}
-use Rattle.xform_rules.specs.Results.{Meets, Applies, Gives, GivesWith, HasResult}
+use Rattle.xform_rules.specs.Results.{IsFor, Applies, Gives, GivesWith, HasResult}
 use Rattle.xform_rules.proofs.Operators.{logical_from, physical_from, logical_as, logical_kind, physical_kind}
 
 module _ (q : Query) (group : KeyParts) (from : Logical) where
   -- an operator with a result of a rule is one that the rule is for
-  gives_meets : (rule : Rule) (n : ℕ) (to : Operator) → Gives q rule group from n to → Meets q rule group from
+  gives_meets : (rule : Rule) (n : ℕ) (to : Operator) → Gives q rule group from n to → IsFor q rule group from
   gives_meets rules.ExpandNAry n to (first, gives) = let (o, is_o, (set, table, joins, last, made)) = logical_from (Expands q group from) to gives in (set, joins)
   gives_meets rules.JoinCommute n to (first, gives) = let (o, is_o, (left, right, is, made)) = logical_from (Commutes from) to gives in (left, right, is)
   gives_meets rules.JoinAssociate n to never = absurd never
@@ -42,11 +42,11 @@ module _ (q : Query) (group : KeyParts) (from : Logical) where
   gives_meets rules.AggToStream n to (first, gives) = let (o, is_o, (child, is, columns, made)) = physical_from (GroupsInOrder q from) to gives in ((child, is), columns)
   gives_meets rules.PartialToHash n to (first, gives) = let (o, is_o, (child, is, made)) = physical_from (GroupsPartly from) to gives in (child, is)
 
-  with_meets : (rule : Rule) (bound : Option ExprParts) (n : ℕ) (to : Operator) → GivesWith q rule group bound n to from → Meets q rule group from
+  with_meets : (rule : Rule) (bound : Option ExprParts) (n : ℕ) (to : Operator) → GivesWith q rule group bound n to from → IsFor q rule group from
   with_meets rule None n to gives = gives_meets rule n to gives
   with_meets rule (Some bound) n to (is_rule, first, gives) =
       let (o, is_o, (set, right, a, b, is, joins, linked, made)) = logical_from (Associates q from bound) to gives in
-      subst (λ r. Meets q r group from) (sym is_rule) (set, right, is)
+      subst (λ r. IsFor q r group from) (sym is_rule) (set, right, is)
 
   -- rules that explore give logical operators, and the others physical ones
   gives_kind : (rule : Rule) (n : ℕ) (to : Operator) → Gives q rule group from n to → is_logical to ≡ explores rule
@@ -98,7 +98,7 @@ module _ (q : Query) (rule : Rule) (e : ExprParts) (bound : Option ExprParts) (n
   pub result_applies : Applies q rule e
   result_applies = record {
     on = has.on;
-    meets = logical_as (GivesWith q rule e.group bound n x.operator) (Meets q rule e.group)
+    is_for = logical_as (GivesWith q rule e.group bound n x.operator) (IsFor q rule e.group)
         (λ from gives. with_meets q e.group from rule bound n x.operator gives) e.operator has.gives;
   }
 

@@ -8,12 +8,12 @@ use Rattle.query_core.specs.declared.expressions.Physical.{Physical}
 use Rattle.query_core.specs.declared.expressions.Physical.TheVariants as physical
 
 -- the groups of GROUP BY
-abbrev pub IsGrouping : Logical → Type 0
-IsGrouping from = (child : KeyParts) × (from ≡ logical.Agg child)
+abbrev pub IsAggregation : Logical → Type 0
+IsAggregation from = (child : KeyParts) × (from ≡ logical.Agg child)
 
 -- and there is a column to group by
 abbrev pub IsGroupingByColumns : Query → Logical → Type 0
-IsGroupingByColumns q from = IsGrouping from × (0 < length q.group_by)
+IsGroupingByColumns q from = IsAggregation from × (0 < length q.group_by)
 
 -- groups that are not complete
 abbrev pub IsPartialGrouping : Logical → Type 0

@@ -18,29 +18,29 @@ use Rattle.xform_rules.specs.SplitAgg.{GroupsInput, SplitsGrouping}
 use Rattle.xform_rules.specs.GetRules.{IsGet, IsIndexedGet, Scans, ScansIndex}
 use Rattle.xform_rules.specs.SelectRules.{IsSelect, IsUsableSelect, Filters, SeeksIndex}
 use Rattle.xform_rules.specs.JoinRules.{IsEquated, Hashes, Merges, Loops}
-use Rattle.xform_rules.specs.AggRules.{IsGrouping, IsGroupingByColumns, IsPartialGrouping, GroupsByHash, GroupsInOrder, GroupsPartly}
+use Rattle.xform_rules.specs.AggRules.{IsAggregation, IsGroupingByColumns, IsPartialGrouping, GroupsByHash, GroupsInOrder, GroupsPartly}
 
 -- the logical operator of a group is one that the rule is for
-abbrev pub Meets : Query → Rule → KeyParts → Logical → Type 0
-Meets q rules.ExpandNAry group from = (set : ℕ) × JoinsSet group from set
-Meets q rules.JoinCommute group from = IsLogicalJoin from
-Meets q rules.JoinAssociate group from = IsOverJoin from
-Meets q rules.SplitAgg group from = GroupsInput q from
-Meets q rules.GetToScan group from = IsGet from
-Meets q rules.GetToIndexScan group from = (index : ℕ) × IsIndexedGet q group from index
-Meets q rules.SelectToFilter group from = IsSelect from
-Meets q rules.SelectToIndexSeek group from = (n index : ℕ) × IsUsableSelect q group from n index
-Meets q rules.JoinToHash group from = IsEquated q from
-Meets q rules.JoinToMerge group from = IsEquated q from
-Meets q rules.JoinToLoop group from = IsLogicalJoin from
-Meets q rules.AggToHash group from = IsGrouping from
-Meets q rules.AggToStream group from = IsGroupingByColumns q from
-Meets q rules.PartialToHash group from = IsPartialGrouping from
+abbrev pub IsFor : Query → Rule → KeyParts → Logical → Type 0
+IsFor q rules.ExpandNAry group from = (set : ℕ) × JoinsSet group from set
+IsFor q rules.JoinCommute group from = IsLogicalJoin from
+IsFor q rules.JoinAssociate group from = IsOverJoin from
+IsFor q rules.SplitAgg group from = GroupsInput q from
+IsFor q rules.GetToScan group from = IsGet from
+IsFor q rules.GetToIndexScan group from = (index : ℕ) × IsIndexedGet q group from index
+IsFor q rules.SelectToFilter group from = IsSelect from
+IsFor q rules.SelectToIndexSeek group from = (n index : ℕ) × IsUsableSelect q group from n index
+IsFor q rules.JoinToHash group from = IsEquated q from
+IsFor q rules.JoinToMerge group from = IsEquated q from
+IsFor q rules.JoinToLoop group from = IsLogicalJoin from
+IsFor q rules.AggToHash group from = IsAggregation from
+IsFor q rules.AggToStream group from = IsGroupingByColumns q from
+IsFor q rules.PartialToHash group from = IsPartialGrouping from
 
 -- the rule is on, and the expression is one that it is for
 pub record Applies (q : Query) (rule : Rule) (e : ExprParts) : Type 0 where
   pub on : IsOn q rule
-  pub meets : IsLogical (Meets q rule e.group) e.operator
+  pub is_for : IsLogical (IsFor q rule e.group) e.operator
 
 -- the other operator is the n-th result, from 0, of a rule that needs no other member
 abbrev pub Gives : Query → Rule → KeyParts → Logical → ℕ → Operator → Type 0

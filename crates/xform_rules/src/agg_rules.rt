@@ -3,14 +3,14 @@
 
 ghost use Rattle.std.specs.Prelude.{IsTrue, ◌↔◌};
 ghost use Rattle.xform_rules.specs.Forms.{Finds};
-ghost use Rattle.xform_rules.specs.AggRules.{IsGrouping, IsGroupingByColumns, IsPartialGrouping};
+ghost use Rattle.xform_rules.specs.AggRules.{IsAggregation, IsGroupingByColumns, IsPartialGrouping};
 ghost use Rattle.xform_rules.specs.AggRules.{GroupsByHash, GroupsInOrder, GroupsPartly};
 
 use query_core::{Logical, Physical, Query};
 
 /// Whether it is the groups of GROUP BY.
 pub fn is_grouping(from: Logical) -> bool
-    ensures { IsTrue result ↔ IsGrouping from }
+    ensures { IsTrue result ↔ IsAggregation from }
 {
     match from {
         Logical::Agg(_) => true,

@@ -7,7 +7,7 @@ ghost use Rattle.query_core.specs.declared.expressions.ExprParts.{ExprParts};
 ghost use Rattle.query_core.specs.declared.expressions.Operator.TheVariants as operators;
 ghost use Rattle.query_core.specs.Expressions.{AreInRange, IsPacked, logical_fields};
 ghost use Rattle.xform_rules.specs.Forms.{Finds};
-ghost use Rattle.xform_rules.specs.Results.{Meets, Applies, Gives, GivesBound, GivesWith, HasResult};
+ghost use Rattle.xform_rules.specs.Results.{IsFor, Applies, Gives, GivesBound, GivesWith, HasResult};
 
 use crate::agg_rules::{
     grouped_by_hash, grouped_in_order, grouped_partly, is_grouping, is_grouping_by_columns,
@@ -32,13 +32,13 @@ pub fn applies_at(query: &Query, rule: Rule, e: ExprParts) -> bool
         HasResult query.now rule e bound n other → IsTrue result }
 {
     match e.operator {
-        Operator::Logical(from) => is_on(query, rule) && meets(query, rule, e.group, from),
+        Operator::Logical(from) => is_on(query, rule) && is_for(query, rule, e.group, from),
         Operator::Physical(_) => false,
     }
 }
 
-fn meets(query: &Query, rule: Rule, group: KeyParts, from: Logical) -> bool
-    ensures { IsTrue result ↔ Meets query.now rule group from }
+fn is_for(query: &Query, rule: Rule, group: KeyParts, from: Logical) -> bool
+    ensures { IsTrue result ↔ IsFor query.now rule group from }
 {
     match rule {
         Rule::ExpandNAry => set_of(group, from).is_some(),
