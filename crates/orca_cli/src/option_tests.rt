@@ -257,7 +257,10 @@ fn no_plan_costs_less_with_rules_off(rt: HostRuntime) -> Result<(), Fail> {
                     off.as_str(),
                 ];
                 let (status, sink) = answered(&rt, &words, catalog, query.as_bytes())?;
-                assert!(rt; costs_no_less(status, sink.taken(), least)?, "{query} {off}");
+                assert!(rt;
+                    costs_no_less(status, sink.taken(), least)?,
+                    "{query} {off}"
+                );
             }
         }
     }
