@@ -1,9 +1,11 @@
 -- The rank of a goal by its word, as a function of any number.
-use Rattle.std.specs.Prelude.{ℕ, zero, suc, ◌+◌, ◌-◌, ◌*◌, ◌/◌, ◌%◌, ◌^◌, ◌<◌, nat_lt, if◌then◌else◌}
+use Rattle.std.specs.Prelude.{ℕ, zero, suc, ◌≡◌, ◌+◌, ◌-◌, ◌*◌, ◌/◌, ◌%◌, ◌^◌, ◌<◌, nat_lt, if◌then◌else◌}
 use Rattle.query_core.specs.declared.query.Query.{Query}
 use Rattle.xform_rules.specs.Counts.{table_count}
-use Rattle.goal_space.specs.Ranks.{order_rank}
+use Rattle.goal_space.specs.Words.{goal_word, IsInRange}
+use Rattle.goal_space.specs.Ranks.{order_rank, rank_of}
 use Rattle.goal_space.specs.Entries.{IsChildWord}
+use Rattle.goal_space.specs.declared.goals.GoalKind.{GoalKind}
 
 -- the level of the group whose key has this number
 abbrev pub level_by : ℕ → ℕ
@@ -39,3 +41,7 @@ rank_of_word word = rank_by (word / 2 ^ 60 % 8) (word / 2 ^ 12 % 2 ^ 48) (word %
 -- a child has a smaller rank
 abbrev pub WordRanksFall : Query → Type 0
 WordRanksFall q = (word child : ℕ) → IsChildWord q word child → rank_of_word child < rank_of_word word
+
+-- the rank by a goal's word is the goal's rank
+abbrev pub WordRanksAreRanks : Type 0
+WordRanksAreRanks = (goal : GoalKind) → IsInRange goal → rank_of_word (goal_word goal) ≡ rank_of goal

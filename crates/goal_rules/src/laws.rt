@@ -7,6 +7,7 @@ ghost use Rattle.query_core.specs.declared.expressions.ExprParts.{ExprParts};
 ghost use Rattle.query_core.specs.Expressions.{word_of};
 ghost use Rattle.goal_rules.specs.Grown.{MembersAreGrown, IndexesRise, LogicalComeFirst, index_of};
 ghost use Rattle.goal_rules.specs.Known.{EntriesAreMembers, GoalWordsAreKnown, ExplorationsAreKnown};
+ghost use Rattle.goal_rules.specs.WordRanks.{WordRanksAreRanks};
 
 use goal_space::{goal_kinds_are_one, goals_are_known};
 use query_core::{candidates_are_known, expressions_are_one, groups_are_known, sides_are_known};
@@ -55,4 +56,13 @@ pub fn explorations_are_known()
     members_are_explored();
     members_are_candidates();
     results_are_known();
+}
+
+/// What the rank by a goal's word is.
+pub fn ranks_are_known()
+    ensures { WordRanksAreRanks }
+{
+    expressions_are_one();
+    groups_are_known();
+    goal_kinds_are_one();
 }

@@ -7,11 +7,12 @@ ghost use Rattle.goal_rules.specs.Meaning.{meaning_of};
 ghost use Rattle.goal_rules.specs.WordRanks.{rank_of_word, WordRanksFall};
 ghost use Rattle.goal_rules.specs.Answers.{AnswersAreOne};
 
+use crate::laws::ranks_are_known;
 use crate::ranks::rank_of_word;
 use best_answers::answers_are_best;
 use board_rule::GoalRules;
 use goal_space::{goal_kinds_are_one, goals_are_known, ranks_fall};
-use query_core::{Query, expressions_are_one, groups_are_known};
+use query_core::Query;
 use request_props::Props;
 
 /// The members of a query's groups and the goals of its search, as the rules of a board.
@@ -32,8 +33,7 @@ impl<'q> Rules<'q> {
         ranks_fall();
         goals_are_known();
         goal_kinds_are_one();
-        expressions_are_one();
-        groups_are_known();
+        ranks_are_known();
         Rules { query }
     }
 }
