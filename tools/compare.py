@@ -6,13 +6,17 @@ It makes random small catalogues and queries, works out the text of the least pl
 against plans that were worked out by hand (known_plans.py), and with --trees against a listing of all plans. With
 --alone that is all: the program isn't run.
 
+With --folder it takes the queries of a folder, each *.sql over catalog.json, with either root, in place of random ones.
+
 The program is run with each number of workers that --workers names, and has to print the same with all of them.
 
 Usage: tools/compare.py [--cases N] [--seed N] [--tables N] [--parts PART,PART] [--workers N,N] [--memo] [--trees NODES]
        [--alone]
+       tools/compare.py --folder FOLDER [--workers N,N] [--memo] [--alone]
 """
 
 import argparse
+import glob
 import os
 import random
 import subprocess
@@ -21,6 +25,7 @@ import tempfile
 
 from known_plans import KNOWN, KNOWN_COUNTS
 from plain_plans import ONE, RULES, SPREAD, Query, least_by_listing, least_by_requests, memo_text, text_of
+from read_query import read_query
 
 COMPARISONS = ["=", "=", "=", "<", ">=", "<>"]
 FEW_ROWS, MANY_ROWS = [0, 1, 5, 10, 100, 1000], [1000, 1000, 20000, 500000, 10**12]
@@ -86,15 +91,36 @@ def random_query(pick, most_tables, parts):
     return Query(pick.choice([1, 4, 4, 7]), tables, preds, output, order, group_by, root, off)
 
 
+# ---- cases: each with a name, the query, and the files of its catalogue and its text
+
+
+def random_cases(asked, folder):
+    catalog, text = os.path.join(folder, "catalog.json"), os.path.join(folder, "query.sql")
+    for case in range(asked.seed, asked.seed + asked.cases):
+        query = random_query(random.Random(case), asked.tables, asked.parts.split(","))
+        with open(catalog, "w") as file:
+            file.write(query.catalog())
+        with open(text, "w") as file:
+            file.write(query.sql())
+        yield f"case {case}", query, catalog, text
+
+
+def cases_of_folder(folder):
+    """Each query of the folder with either root."""
+    catalog = os.path.join(folder, "catalog.json")
+    with open(catalog) as file:
+        tables = file.read()
+    for text in sorted(glob.glob(os.path.join(folder, "*.sql"))):
+        with open(text) as file:
+            select = file.read()
+        for root in (ONE, SPREAD):
+            yield text, read_query(tables, select, root), catalog, text
+
+
 # ---- the program
 
 
-def printed(program, folder, query, workers, memo):
-    catalog, text = os.path.join(folder, "catalog.json"), os.path.join(folder, "query.sql")
-    with open(catalog, "w") as file:
-        file.write(query.catalog())
-    with open(text, "w") as file:
-        file.write(query.sql())
+def printed(program, catalog, text, query, workers, memo):
     words = ["plan", catalog, text, *query.words(), "--workers", workers] + (["--memo"] if memo else [])
     return subprocess.run([program, *words], capture_output=True, text=True).stdout
 
@@ -135,31 +161,33 @@ def main():
     options.add_argument("--memo", action="store_true", help="compare the memos, too")
     options.add_argument("--trees", type=int, default=0, metavar="NODES", help="list all plans of at most so many nodes")
     options.add_argument("--alone", action="store_true", help="only check the plain program")
+    options.add_argument("--folder", help="take the queries of this folder, over its catalog.json")
     options.add_argument("--program", default=os.path.join(top, "crates", "orca", "out", "orca"))
     asked = options.parse_args()
     check_known()
-    differ = without = listings = listed = 0
+    count = differ = without = listings = listed = 0
     with tempfile.TemporaryDirectory() as folder:
-        for case in range(asked.seed, asked.seed + asked.cases):
-            query = random_query(random.Random(case), asked.tables, asked.parts.split(","))
+        cases = cases_of_folder(asked.folder) if asked.folder else random_cases(asked, folder)
+        for name, query, catalog, text in cases:
             least = least_by_requests(query)
+            count += 1
             without += least is None
             if asked.trees:
-                count = check_by_listing(query, least, asked.trees)
-                listings += count > 0
-                listed += count
+                plans = check_by_listing(query, least, asked.trees)
+                listings += plans > 0
+                listed += plans
             if asked.alone:
                 continue
             wanted = text_of(query, least) + (memo_text(query) if asked.memo else "")
             for workers in asked.workers.split(","):
-                got = printed(asked.program, folder, query, workers, asked.memo)
+                got = printed(asked.program, catalog, text, query, workers, asked.memo)
                 if wanted != got:
                     differ += 1
-                    print(f"case {case}, {workers} workers\n{told(query)}\nexpected\n{wanted}printed\n{got}")
-    print(f"{asked.cases} cases, {without} of them without a plan, {differ} differ")
+                    print(f"{name}, {workers} workers\n{told(query)}\nexpected\n{wanted}printed\n{got}")
+    print(f"{count} cases, {without} of them without a plan, {differ} differ")
     if asked.trees:
         print(f"{listings} of them by listing, with {listed} plans")
-    sys.exit(1 if differ else 0)
+    sys.exit(1 if differ or not count else 0)
 
 
 if __name__ == "__main__":

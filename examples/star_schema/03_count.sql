@@ -1,0 +1,2 @@
+-- How many sales there are.
+SELECT COUNT(*) AS sold FROM sales
