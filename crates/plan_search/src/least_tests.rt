@@ -161,6 +161,8 @@ fn of_plans_of_one_cost_the_first_by_code_is_least(rt: HostRuntime) -> Result<()
         ),
         128,
     );
-    assert!(rt; matches!(&found, Found::Least { plan, cost: 7506 } if join_of(plan) == Some(hashed_alike)));
+    assert!(rt;
+        matches!(&found, Found::Least { plan, cost: 7506 } if join_of(plan) == Some(hashed_alike))
+    );
     Ok(())
 }

@@ -14,8 +14,8 @@ returns-in_ok-sides-in-One c =
     let number = c.in-One.number in
     let is = sides_found q (crossing_of q c.args.left c.args.right number) c.in_ok-sides-in-One.sides c.in_ok-sides-in-One.ensures in
     let made : c.merge_with.result ≡ merge_with q on_one dists.One (is.first, is.second) =
-        subst (λ (dist : LeftDist). c.merge_with.result ≡ merge_with q dist dists.One (is.first, is.second)) c.left_on_one.ensures
-            (c.merge_with.ensures is.first is.second is.is_left is.is_right)
+    subst (λ (dist : LeftDist). c.merge_with.result ≡ merge_with q dist dists.One (is.first, is.second)) c.left_on_one.ensures
+    (c.merge_with.ensures is.first is.second is.is_left is.is_right)
     in
     subst (λ (mode : Mode). Some c.merge_with.result ≡ merge_line q c.args.left c.args.right mode) (sym c.in-One.is)
     (merge_one q c.args.left c.args.right number is.first is.second c.merge_with.result is.is_found made)
