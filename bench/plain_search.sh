@@ -18,5 +18,5 @@ echo "plain_search: $below serde_json indexmap" >>"$copy/crates.txt"
 cp "$from/HANDLES" "$copy"
 mkdir -p "$copy/crates/plain_search/src"
 cp "$from/bench/plain_search.txt" "$copy/crates/plain_search/src/main.rt"
-(cd "$copy/crates/plain_search" && rt run >/dev/null)
+(cd "$copy/crates/plain_search" && rt run -- plan "$from/examples/t.json" "$from/examples/q.sql" >/dev/null)
 cp "$copy/crates/plain_search/out/plain_search" "$program"
