@@ -4,7 +4,7 @@ use Rattle.goal_board.specs.Seats.{hands}
 use Rattle.job_engine.specs.Searching.{IsWorker}
 use Rattle.job_engine.proofs.turn_tests.search_by_draws.Given as goal
 
-abbrev pub invariant-loop-turn : goal.invariant-loop-_turn
+abbrev pub invariant-loop-turn : goal.invariant-loop-turn
 invariant-loop-turn l = record {
   first : IsWorker l.engine l.first;
   second : IsWorker l.engine l.second;

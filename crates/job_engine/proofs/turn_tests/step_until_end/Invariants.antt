@@ -4,7 +4,7 @@ use Rattle.goal_board.specs.Seats.{hands}
 use Rattle.job_engine.specs.Searching.{IsWorker}
 use Rattle.job_engine.proofs.turn_tests.step_until_end.Given as goal
 
-abbrev pub invariant-loop-step : goal.invariant-loop-_step
+abbrev pub invariant-loop-step : goal.invariant-loop-step
 invariant-loop-step l = record {
   its : IsWorker l.engine l.worker;
   parts : (hands l.worker.seat).parts ≡ (hands l.initial.worker.seat).parts;
