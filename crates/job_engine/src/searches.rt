@@ -18,9 +18,9 @@ use std::alloc::{AllocError, Global};
 use std::sync::Wait;
 use std::thread::Threads;
 
-// For each expression that the groups can hold there are some 6 entries, and less than one more for each predicate.
+// For each expression that the groups can hold there are some 5 entries, and about half a one more for each predicate.
 // A board that is all but full is slow, so it gets half as many cells again.
-const CELLS_FOR_EACH: usize = 8;
+const CELLS_FOR_EACH: usize = 6;
 
 // A board has at least so many cells more.
 const LEAST_ROOM: usize = 64;
