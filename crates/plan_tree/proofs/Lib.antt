@@ -11,3 +11,4 @@ pub mod ModesTried
 pub mod LineModes
 pub mod LeftFits
 pub mod Unordered
+pub mod TriedModes

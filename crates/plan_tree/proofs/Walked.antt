@@ -6,21 +6,7 @@ use Rattle.query_core.specs.declared.expressions.PhysicalExpr.{PhysicalExpr}
 use Rattle.query_core.specs.declared.query.Query.{Query}
 use Rattle.plan_space.specs.Lines.{line_of}
 use Rattle.plan_space.specs.declared.lines.Line.{Line}
-use Rattle.plan_space.specs.Modes.{mode_at, IsCounted}
-use Rattle.plan_space.specs.declared.modes.ModeCounts.{ModeCounts}
-use Rattle.plan_tree.specs.Walks.{AreNone, counts_of}
-use Rattle.plan_tree.proofs.Counted.{line_counted}
-
--- those that aren't counted
-pub none_beside : (q : Query) (e : PhysicalExpr) (counts : ModeCounts) (from below : ℕ) → counts ≡ counts_of q e.operator
-    → ((mode : ℕ) → from ≤ mode → mode < below → IsCounted counts (mode_at mode) → ⊥) → AreNone q e from below
-none_beside q e counts from below are beside mode at within =
-    elim (line_of q e mode) as (λ (found : Option Line). line_of q e mode ≡ found → found ≡ None) [
-      | None ↦ λ is. refl
-      | Some line ↦ λ is.
-          let counted : IsCounted counts (mode_at mode) = subst (λ (c : ModeCounts). IsCounted c (mode_at mode)) (sym are) (line_counted q e mode line is) in
-          absurd (beside mode at within counted)
-    ] refl
+use Rattle.plan_tree.specs.Walks.{AreNone}
 
 -- one more, and those behind it
 pub none_more : (q : Query) (e : PhysicalExpr) (from mode next : ℕ) → AreNone q e from mode → line_of q e mode ≡ None → AreNone q e (mode + 1) next

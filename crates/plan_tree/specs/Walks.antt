@@ -1,5 +1,5 @@
 -- The modes of an expression, one after the other.
-use Rattle.std.specs.Prelude.{ℕ, ◌≡◌, ◌≤◌, ◌<◌, Option, None, Some, length, ⊤}
+use Rattle.std.specs.Prelude.{ℕ, ◌≡◌, ◌≤◌, ◌<◌, Option, None, Some, length}
 use Rattle.query_core.specs.declared.expressions.Physical.{Physical}
 use Rattle.query_core.specs.declared.expressions.Physical.TheVariants as physical
 use Rattle.query_core.specs.declared.expressions.PhysicalExpr.{PhysicalExpr}
@@ -12,8 +12,9 @@ use Rattle.request_props.specs.declared.ends.Crossings.{Crossings}
 use Rattle.plan_space.specs.Lines.{line_of}
 use Rattle.plan_space.specs.declared.lines.Line.{Line}
 use Rattle.plan_space.specs.declared.modes.Mode.{Mode}
-use Rattle.plan_space.specs.declared.modes.Mode.TheVariants as modes
+use Rattle.plan_space.specs.declared.modes.Mode.TheVariants.{One, Copied, Hashed}
 use Rattle.plan_space.specs.declared.modes.ModeCounts.{ModeCounts}
+use Rattle.plan_tree.specs.declared.walks.TriedModes.{TriedModes}
 
 -- no mode from the number on and below the other has a line
 abbrev pub AreNone : Query → PhysicalExpr → ℕ → ℕ → Type 0
@@ -24,23 +25,26 @@ abbrev pub IsNextLine : Query → PhysicalExpr → ℕ → Option (ℕ × Line) 
 IsNextLine q e from None = (mode : ℕ) → from ≤ mode → line_of q e mode ≡ None
 IsNextLine q e from (Some found) = (from ≤ found.0) × (found.0 < 192) × AreNone q e from found.0 × (line_of q e found.0 ≡ Some found.1)
 
--- the predicate by which the operator works in the mode, if by one
-abbrev pub equality_of_mode : Physical → Mode → Option ℕ
-equality_of_mode (physical.HashJoin left right) (modes.Hashed pred) = Some pred
-equality_of_mode (physical.MergeJoin left right) (modes.One pred) = Some pred
-equality_of_mode (physical.MergeJoin left right) (modes.Copied pred) = Some pred
-equality_of_mode (physical.MergeJoin left right) (modes.Hashed pred) = Some pred
-equality_of_mode operator mode = None
+-- the mode is by a predicate that may cross, or by none
+abbrev pub AdmitsMode : TriedModes → Mode → Type 0
+AdmitsMode tried (One number) = Admits tried.one number
+AdmitsMode tried (Copied number) = Admits tried.copied number
+AdmitsMode tried (Hashed number) = Admits tried.hashed number
 
--- each predicate that equates columns across the groups is among these
+-- each predicate that equates columns across the groups may cross
 abbrev pub AreCrossingsBetween : Query → KeyParts → KeyParts → Crossings → Type 0
 AreCrossingsBetween q left right crossings = (pred : ℕ) → (crossing_of q left right pred ≡ None → ⊥) → Admits crossings pred
 
--- the same across the sides of a join that works by an equality
-abbrev pub AreCrossingsOf : Query → Physical → Crossings → Type 0
-AreCrossingsOf q (physical.HashJoin left right) crossings = AreCrossingsBetween q left right crossings
-AreCrossingsOf q (physical.MergeJoin left right) crossings = AreCrossingsBetween q left right crossings
-AreCrossingsOf q operator crossings = ⊤
+-- all predicates may
+abbrev pub AreAny : Crossings → Type 0
+AreAny crossings = (pred : ℕ) → Admits crossings pred
+
+-- the predicates by which the operator can work in its modes of each kind may cross
+abbrev pub AreTriedOf : Query → Physical → TriedModes → Type 0
+AreTriedOf q (physical.HashJoin left right) tried = AreAny tried.one × AreAny tried.copied × AreCrossingsBetween q left right tried.hashed
+AreTriedOf q (physical.MergeJoin left right) tried =
+    AreCrossingsBetween q left right tried.one × AreCrossingsBetween q left right tried.copied × AreCrossingsBetween q left right tried.hashed
+AreTriedOf q operator tried = AreAny tried.one × AreAny tried.copied × AreAny tried.hashed
 
 -- so many modes of each kind
 abbrev pub counts : ℕ → ℕ → ℕ → ModeCounts

@@ -1,11 +1,10 @@
 //! The modes of an expression, one after the other. No call here takes memory.
 #![tactic(auto)]
 
-ghost use Rattle.std.specs.Prelude.{◌≡◌};
+ghost use Rattle.std.specs.Prelude.{ℕ, ◌≡◌, ◌≤◌, ◌<◌, ◌↔◌, IsTrue};
 ghost use Rattle.request_props.specs.Numbered.{IsProps};
-ghost use Rattle.plan_space.specs.Lines.{line_of as line_by_table};
-ghost use Rattle.plan_tree.specs.Walks.{IsNextLine, AreCrossingsOf, counts_of as counts_by_operator};
-ghost use Rattle.plan_tree.specs.Walks.{equality_of_mode as equality_by_table};
+ghost use Rattle.plan_space.specs.Modes.{mode_at, IsCounted};
+ghost use Rattle.plan_tree.specs.Walks.{AdmitsMode, AreTriedOf, IsNextLine, counts_of as counts_by_operator};
 
 use crate::lines::line_of;
 use plan_space::{Line, MODES_END, Mode, ModeCounts, modes_are_few};
@@ -18,60 +17,83 @@ pub fn next_line(query: &Query, props: &Props, expr: PhysicalExpr, from: u32) ->
     ensures { IsNextLine query.now expr from result }
 {
     modes_are_few();
-    let counts = counts_of(query, props, expr.operator);
-    let crossings = crossings_of(query, props, expr.operator);
-    let mut mode = counts.next(from);
+    let tried = tried_modes(query, props, expr.operator);
+    let mut mode = tried.next(from);
     while mode < MODES_END {
-        match line_at(query, props, expr, crossings, mode) {
+        match line_of(query, props, expr, mode) {
             Some(line) => return Some((mode, line)),
             None => {}
         }
-        mode = counts.next(mode + 1);
+        mode = tried.next(mode + 1);
     }
     None
 }
 
-// The line of the expression in the mode. Most modes by an equality want one that doesn't cross, so this is looked at
-// first.
-fn line_at(
-    query: &Query,
-    props: &Props,
-    expr: PhysicalExpr,
-    crossings: Crossings,
-    mode: u32,
-) -> Option<Line>
-    requires props { IsProps query.now props.now }
-    requires crossings { AreCrossingsOf query.now expr.operator crossings }
-    ensures { result ≡ line_by_table query.now expr mode }
-{
-    match equality_of_mode(expr.operator, Mode::at(mode)) {
-        Some(pred) if !crossings.admits(pred) => None,
-        _ => line_of(query, props, expr, mode),
+/// The modes that are tried: so many of each kind, and of these those by the predicates that may cross.
+#[derive(Clone, Copy)]
+pub struct TriedModes {
+    pub counts: ModeCounts,
+    pub one: Crossings,
+    pub copied: Crossings,
+    pub hashed: Crossings,
+}
+
+impl TriedModes {
+    /// The first number from this one on whose mode is tried, or one that no mode with a line has.
+    fn next(self, from: u32) -> u32
+        ensures from { from ≤ result }
+        ensures none { (number : ℕ) → from ≤ number → number < result →
+            IsCounted self.counts (mode_at number) → AdmitsMode self (mode_at number) → ⊥ }
+    {
+        let mut number = self.counts.next(from);
+        while number < MODES_END && !self.admits(Mode::at(number)) {
+            number = self.counts.next(number + 1);
+        }
+        number
+    }
+
+    // Whether the mode is by a predicate that may cross, or by none.
+    fn admits(self, mode: Mode) -> bool
+        ensures { IsTrue result ↔ AdmitsMode self mode }
+    {
+        match mode {
+            Mode::One(number) => self.one.admits(number),
+            Mode::Copied(number) => self.copied.admits(number),
+            Mode::Hashed(number) => self.hashed.admits(number),
+        }
     }
 }
 
-// The predicate by which the operator works in the mode, if by one.
-fn equality_of_mode(operator: Physical, mode: Mode) -> Option<u32>
-    ensures { result ≡ equality_by_table operator mode }
-{
-    match (operator, mode) {
-        (Physical::HashJoin(_, _), Mode::Hashed(pred)) => Some(pred),
-        (Physical::MergeJoin(_, _), Mode::One(pred)) => Some(pred),
-        (Physical::MergeJoin(_, _), Mode::Copied(pred)) => Some(pred),
-        (Physical::MergeJoin(_, _), Mode::Hashed(pred)) => Some(pred),
-        _ => None,
-    }
-}
-
-// The predicates among which all are that equate columns across the sides of a join.
-fn crossings_of(query: &Query, props: &Props, operator: Physical) -> Crossings
+// The modes that are tried of an operator: all are among them in which it works.
+fn tried_modes(query: &Query, props: &Props, operator: Physical) -> TriedModes
     requires { IsProps query.now props.now }
-    ensures { AreCrossingsOf query.now operator result }
+    ensures counts { result.counts ≡ counts_by_operator query.now operator }
+    ensures crossings { AreTriedOf query.now operator result }
 {
+    let counts = counts_of(query, props, operator);
+    let any = Crossings::any();
     match operator {
-        Physical::HashJoin(left, right) => props.crossings(query, left, right),
-        Physical::MergeJoin(left, right) => props.crossings(query, left, right),
-        _ => Crossings::any(),
+        Physical::HashJoin(left, right) => TriedModes {
+            counts,
+            one: any,
+            copied: any,
+            hashed: props.crossings(query, left, right),
+        },
+        Physical::MergeJoin(left, right) => {
+            let crossings = props.crossings(query, left, right);
+            TriedModes {
+                counts,
+                one: crossings,
+                copied: crossings,
+                hashed: crossings,
+            }
+        }
+        _ => TriedModes {
+            counts,
+            one: any,
+            copied: any,
+            hashed: any,
+        },
     }
 }
 

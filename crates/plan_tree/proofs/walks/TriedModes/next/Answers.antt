@@ -1,0 +1,23 @@
+use Rattle.std.proofs.Common.{subst, sym, arith}
+use Rattle.std.proofs.lemmas.Bool.{false≢true}
+use Rattle.plan_space.specs.declared.modes.Mode.{Mode}
+use Rattle.plan_tree.specs.Walks.{AdmitsMode}
+use Rattle.plan_tree.proofs.TriedModes.{none_counted, none_more_tried}
+use Rattle.plan_tree.proofs.walks.TriedModes.next.Goals as goal
+
+pub loop-number-init : goal.loop-number-init
+loop-number-init c = record {
+  after = c.next-number.ensures.from;
+  none = none_counted c.args.self c.args.from c.next-number.result c.next-number.ensures.none;
+}
+
+-- a mode that isn't admitted is passed
+pub loop-number-preserved : goal.loop-number-preserved
+loop-number-preserved c =
+    let next = c.next-number-in-loop-number in
+    record {
+      after = omega (arith, c.loop-number.invariant.after, next.ensures.from);
+      none = none_more_tried c.args.self c.args.from c.loop-number.number next.result c.loop-number.invariant.none
+          (λ admits. false≢true (c.if-not-admits.ensures.1 (subst (λ (m : Mode). AdmitsMode c.args.self m) (sym c.at.ensures) admits)))
+          next.ensures.none;
+    }
