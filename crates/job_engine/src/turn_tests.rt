@@ -73,8 +73,35 @@ fn step_one<'q>(
     }
 }
 
-// Three workers step in an order that is drawn, until one is told that the search has ended. Says whether then each
-// of them is told the same end, and what the board held.
+// Three workers step in an order that is drawn, until one of them is told that the search has ended.
+fn step_by_draws<'q>(
+    engine: &Engine<'q>,
+    first: &mut Worker<Rules<'q>>,
+    second: &mut Worker<Rules<'q>>,
+    third: &mut Worker<Rules<'q>>,
+    number: u64,
+)
+    requires first { IsWorker engine.now first.old }
+    requires second { IsWorker engine.now second.old }
+    requires third { IsWorker engine.now third.old }
+    ensures first { IsWorker engine.now first.new }
+    ensures second { IsWorker engine.now second.new }
+    ensures third { IsWorker engine.now third.new }
+    ensures first_parts { (hands first.new.seat).parts ≡ (hands first.old.seat).parts }
+    ensures second_parts { (hands second.new.seat).parts ≡ (hands second.old.seat).parts }
+    ensures third_parts { (hands third.new.seat).parts ≡ (hands third.old.seat).parts }
+{
+    let mut draws = Draws { last: number };
+    for _turn in 0..100_000 {
+        let turn = draws.next();
+        let told = step_one(engine, first, second, third, turn);
+        if is_end(told) {
+            return;
+        }
+    }
+}
+
+// Says whether, where one of three workers was told the end, each is told the same, and what the board held.
 fn search_by_draws(
     alloc: Global,
     query: &Query,
@@ -88,14 +115,7 @@ fn search_by_draws(
     let (engine, mut first) = Engine::start(alloc, query, props, cap)?;
     let mut second = engine.split(alloc, &mut first, 1)?;
     let mut third = engine.split(alloc, &mut first, 2)?;
-    let mut draws = Draws { last: number };
-    for _turn in 0..100_000 {
-        let turn = draws.next();
-        let stepped = step_one(&engine, &mut first, &mut second, &mut third, turn);
-        if is_end(stepped) {
-            break;
-        }
-    }
+    step_by_draws(&engine, &mut first, &mut second, &mut third, number);
     let told = engine.step(&mut first);
     let second_told = engine.step(&mut second);
     let third_told = engine.step(&mut third);

@@ -2,7 +2,7 @@
 use Rattle.std.proofs.Common.{◌≡◌}
 use Rattle.goal_board.specs.Seats.{hands}
 use Rattle.job_engine.specs.Searching.{IsWorker}
-use Rattle.job_engine.proofs.turn_tests.search_by_draws.Given as goal
+use Rattle.job_engine.proofs.turn_tests.step_by_draws.Given as goal
 
 abbrev pub invariant-loop-turn : goal.invariant-loop-turn
 invariant-loop-turn l = record {
