@@ -180,64 +180,76 @@ fn prints_the_trace_behind_the_memo(rt: HostRuntime) -> Result<(), Fail> {
 #[test]
 fn a_refused_query_is_told_with_its_cause(rt: HostRuntime) -> Result<(), Fail> {
     let none = r#"{"version":1,"segments":4,"tables":[]}"#;
-    let cases: [(&str, &[u8], &str); 23] = [
-        (TWO_TABLES, b"SELECT T1.z FROM T1", "unknown column at 7"),
-        (TWO_TABLES, b"SELECT a FROM T1, T2", "ambiguous column at 7"),
+    for (catalog, query, told) in [
+        (TWO_TABLES, "SELECT T1.z FROM T1", "unknown column at 7"),
+        (TWO_TABLES, "SELECT a FROM T1, T2", "ambiguous column at 7"),
         (
             TWO_TABLES,
-            b"SELECT T2.b FROM T2 GROUP BY T2.a",
+            "SELECT T2.b FROM T2 GROUP BY T2.a",
             "not grouped at 7",
         ),
         (
             TWO_TABLES,
-            b"SELECT T1.a FROM T1, T2 AS T1",
+            "SELECT T1.a FROM T1, T2 AS T1",
             "name twice at 27",
         ),
-        (TWO_TABLES, b"SELECT x FROM T9", "unknown table at 14"),
-        (TWO_TABLES, b"SELECT a FROM T1 WHERE a = 'x", "token at 27"),
+        (TWO_TABLES, "SELECT x FROM T9", "unknown table at 14"),
+        (TWO_TABLES, "SELECT a FROM T1 WHERE a = 'x", "token at 27"),
         (
             TWO_TABLES,
-            b"SELECT a FROM t,t,t,t,t,t,t,t,t,t,t",
+            "SELECT a FROM t,t,t,t,t,t,t,t,t,t,t",
             "too many tables at 34",
         ),
-        (TWO_TABLES, b"", "grammar at 0"),
-        (TWO_TABLES, b";", "grammar at 0"),
-        (CATALOG, b"SELECT a FROM t, t u", "ambiguous column at 7"),
+        (TWO_TABLES, "", "grammar at 0"),
+        (TWO_TABLES, ";", "grammar at 0"),
+        (CATALOG, "SELECT a FROM t, t u", "ambiguous column at 7"),
         (
             CATALOG,
-            b"SELECT a FROM t WHERE a = 9223372036854775808",
+            "SELECT a FROM t WHERE a = 9223372036854775808",
             "token at 26",
         ),
         (
             CATALOG,
-            b"SELECT a FROM t WHERE a = -9223372036854775808",
+            "SELECT a FROM t WHERE a = -9223372036854775808",
             "token at 26",
         ),
-        (CATALOG, b"SELECT a FROM t WHERE a = 5x", "token at 26"),
-        (CATALOG, b"SELECT \xc3 FROM t", "not ASCII at 7"),
-        (CATALOG, b"SELECT a\0 FROM t", "token at 8"),
-        (CATALOG, b"SELECT a FROM t;;", "grammar at 16"),
-        (CATALOG, b"SELECT a FROM t GROUP", "grammar at 21"),
-        (CATALOG, b"SELECT COUNT(*) FROM t WHERE", "grammar at 28"),
-        (CATALOG, b"SELECT a FROM t WHERE 5 = a", "grammar at 22"),
-        (CATALOG, b"SELECT a b FROM t", "grammar at 9"),
+        (CATALOG, "SELECT a FROM t WHERE a = 5x", "token at 26"),
+        (CATALOG, "SELECT \u{c3} FROM t", "not ASCII at 7"),
+        (CATALOG, "SELECT a\0 FROM t", "token at 8"),
+        (CATALOG, "SELECT a FROM t;;", "grammar at 16"),
+        (CATALOG, "SELECT a FROM t GROUP", "grammar at 21"),
+        (CATALOG, "SELECT COUNT(*) FROM t WHERE", "grammar at 28"),
+        (CATALOG, "SELECT a FROM t WHERE 5 = a", "grammar at 22"),
+        (CATALOG, "SELECT a b FROM t", "grammar at 9"),
         (
             CATALOG,
-            b"SELECT a FROM t ORDER BY a, a, a, a, a, a, a, a, a",
+            "SELECT a FROM t ORDER BY a, a, a, a, a, a, a, a, a",
             "too many order keys at 49",
         ),
         (
             CATALOG,
-            b"SELECT a FROM t GROUP BY a, a, a, a, a, a, a, a, a",
+            "SELECT a FROM t GROUP BY a, a, a, a, a, a, a, a, a",
             "too many group columns at 49",
         ),
-        (none, b"SELECT a FROM t", "unknown table at 14"),
-    ];
-    for (catalog, query, told) in cases {
-        let (status, line) = cause(&rt, "query refused: ", catalog.as_bytes(), query)?;
-        assert_eq!(rt; status, Status::QueryRefused, "{told}");
-        assert_eq!(rt; line.as_str(), told);
+        (none, "SELECT a FROM t", "unknown table at 14"),
+    ] {
+        let (status, line) = cause(&rt, "query refused: ", catalog.as_bytes(), query.as_bytes())?;
+        assert_eq!(rt; status, Status::QueryRefused, "{query}");
+        assert_eq!(rt; line.as_str(), told, "{query}");
     }
+    Ok(())
+}
+
+#[test]
+fn a_query_that_is_no_text_is_refused_at_its_byte(rt: HostRuntime) -> Result<(), Fail> {
+    let (status, line) = cause(
+        &rt,
+        "query refused: ",
+        CATALOG.as_bytes(),
+        b"SELECT \xc3 FROM t",
+    )?;
+    assert_eq!(rt; status, Status::QueryRefused);
+    assert_eq!(rt; line.as_str(), "not ASCII at 7");
     Ok(())
 }
 
