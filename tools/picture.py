@@ -201,7 +201,10 @@ def main():
     asked = options.parse_args()
     made = graphs[asked.what](section(sys.stdin.read(), asked.what))
     if asked.svg:
-        subprocess.run(["dot", "-Tsvg", "-o", asked.svg], input=made, text=True, check=True)
+        try:
+            subprocess.run(["dot", "-Tsvg", "-o", asked.svg], input=made, text=True, check=True)
+        except FileNotFoundError:
+            sys.exit("tools/picture.py: --svg needs dot, which Graphviz has")
     else:
         print(made, end="")
 
