@@ -1,16 +1,19 @@
 -- The lists that are read of a board's words, one place after the other.
-use Rattle.std.proofs.Common.{◌≡◌, ◌==◌, ℕ, zero, suc, ◌+◌, ◌-◌, ◌^◌, nat_le, List, [], ◌∷◌, ◌++◌, get_or, cond, sym, ap, ◌∙◌, arith}
+use Rattle.std.proofs.Common.{◌≡◌, ◌==◌, ℕ, zero, suc, ◌+◌, ◌-◌, ◌^◌, nat_le, List, [], ◌∷◌, ◌++◌, get_or, cond, sym, subst, ap, ◌∙◌, arith}
 use mathlib.Core.Option.{some, some-injective, some-ne-none}
 use lib.ListN.{get_elem?}
 use Rattle.board_rule.specs.Words.{Mem}
 use Rattle.goal_board.specs.declared.answers.Answer.{Answer}
 use Rattle.goal_board.specs.Closed.{cells_below, answers_below, who_below}
 
--- a word that was read is the board's
-pub word_read : (l : List ℕ) (i x : ℕ) → get_elem? l i ≡ some x → get_or l i 0 ≡ x
+word_read : (l : List ℕ) (i x : ℕ) → get_elem? l i ≡ some x → get_or l i 0 ≡ x
 word_read [] i x e = absurd (some-ne-none x (sym e))
 word_read (y ∷ ys) zero x e = some-injective y x e
 word_read (y ∷ ys) (suc i) x e = word_read ys i x e
+
+-- a word that was read is the board's
+pub word_at : (l : List ℕ) (i at x : ℕ) → i ≡ at → get_elem? l i ≡ some x → get_or l at 0 ≡ x
+word_at l i at x is read = subst (λ k. get_or l k 0 ≡ x) is (word_read l i x read)
 
 pub cells_next : (m : Mem) (n word : ℕ) (cells after : List ℕ) → cells ≡ cells_below m n → m.cell n ≡ word → after ≡ cond (word == 0) cells (cells ++ word ∷ []) → after ≡ cells_below m (n + 1)
 cells_next m n word cells after so_far is made =

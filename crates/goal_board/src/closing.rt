@@ -1,7 +1,7 @@
 ghost use Rattle.std.specs.Prelude.{◌≡◌, ◌≢◌, ◌==◌, ℕ, ◌+◌, ◌-◌, ◌*◌, ◌^◌, ◌<◌, ◌≤◌, [], ◌∷◌, ◌++◌, cond, IfOk, OnOk, length, not};
 ghost use Rattle.std.specs.Slots.{slots_items, slots_len, IsFull};
 ghost use Rattle.board_rule.specs.Words.{mem};
-ghost use Rattle.goal_board.specs.Closed.{HasWorkers, cells_below, answers_below, who_below, with_closed, ReadsReady, IsFirstReady, ReadsBoard};
+ghost use Rattle.goal_board.specs.Closed.{HasWorkers, with_closed, ReadsReady, IsFirstReady, ReadsBoard};
 
 use crate::answers::{Answer, Closed};
 use crate::steps::{CLOSED, cell_at, cost_at, head_at, node_at, run_at, who_at};
@@ -46,56 +46,6 @@ fn push_worker(workers: &mut List<u32>, head: u64, who: u64) -> Result<(), Alloc
     }
 }
 
-// The words of the taken cells, in the order of their places.
-fn cells_of(alloc: Global, words: &Words, room: u32) -> Result<List<u64>, AllocError>
-    requires { IsFull words.now.words × (slots_len words.now.words ≡ 14 * room + 1) }
-    ensures { IfOk result (λ cells. cells ≡ cells_below (mem (slots_items words.now.words)) room) }
-{
-    let mut cells = List::new(alloc);
-    for place in 0..room {
-        push_taken(&mut cells, words.word(cell_at(place)))?;
-    }
-    Ok(cells)
-}
-
-// The finished goals with their answers.
-fn answers_of(alloc: Global, words: &Words, room: u32) -> Result<List<(u64, Answer)>, AllocError>
-    requires { IsFull words.now.words × (slots_len words.now.words ≡ 14 * room + 1) }
-    ensures { IfOk result (λ answers. answers ≡ answers_below (mem (slots_items words.now.words)) room) }
-{
-    let mut answers = List::new(alloc);
-    for place in 0..room {
-        let answer = Answer {
-            cost: words.word(cost_at(place)),
-            node: words.word(node_at(place)),
-        };
-        push_closed(
-            &mut answers,
-            words.word(head_at(place)),
-            words.word(cell_at(place)),
-            answer,
-        )?;
-    }
-    Ok(answers)
-}
-
-// The workers that finished these goals.
-fn workers_of(alloc: Global, words: &Words, room: u32) -> Result<List<u32>, AllocError>
-    requires read { IsFull words.now.words × (slots_len words.now.words ≡ 14 * room + 1) }
-    requires workers { HasWorkers (mem (slots_items words.now.words)) room }
-    ensures { IfOk result (λ workers. workers ≡ who_below (mem (slots_items words.now.words)) room) }
-{
-    let mut workers = List::new(alloc);
-    for place in 0..room {
-        push_worker(
-            &mut workers,
-            words.word(head_at(place)),
-            words.word(who_at(place)),
-        )?;
-    }
-    Ok(workers)
-}
-
 // The goal at a place, if it is ready.
 fn ready_at<R: GoalRules>(words: &Words, key: &Key<R>, place: u32) -> Option<u64>
     requires read { IsFull words.now.words × (slots_len words.now.words ≡ 14 * key.now.room + 1) }
@@ -113,17 +63,49 @@ fn ready_at<R: GoalRules>(words: &Words, key: &Key<R>, place: u32) -> Option<u64
     if run == 0 { Some(word) } else { None }
 }
 
-// The goal in the least place that is ready.
-fn ready_of<R: GoalRules>(words: &Words, key: &Key<R>) -> Option<u64>
-    requires { IsFull words.now.words × (slots_len words.now.words ≡ 14 * key.now.room + 1) }
-    ensures { IsFirstReady (R.meaning key.now.rules) (mem (slots_items words.now.words)) key.now.room result }
+// The goal in the least place that is ready, up to this place.
+fn first_ready<R: GoalRules>(
+    before: Option<u64>,
+    words: &Words,
+    key: &Key<R>,
+    place: u32,
+) -> Option<u64>
+    requires read { IsFull words.now.words × (slots_len words.now.words ≡ 14 * key.now.room + 1) }
+    requires near { place < key.now.room }
+    requires before { IsFirstReady (R.meaning key.now.rules) (mem (slots_items words.now.words)) place before }
+    ensures { IsFirstReady (R.meaning key.now.rules) (mem (slots_items words.now.words)) (place + 1) result }
 {
-    for place in 0..key.room {
-        if let Some(goal) = ready_at(words, key, place) {
-            return Some(goal);
-        }
+    match before {
+        Some(goal) => Some(goal),
+        None => ready_at(words, key, place),
     }
-    None
+}
+
+// Adds what stands at a place to what was read of those before it.
+fn read_place<R: GoalRules>(
+    closed: &mut Closed,
+    words: &Words,
+    key: &Key<R>,
+    place: u32,
+) -> Result<(), AllocError>
+    requires read { IsFull words.now.words × (slots_len words.now.words ≡ 14 * key.now.room + 1) }
+    requires workers { HasWorkers (mem (slots_items words.now.words)) key.now.room }
+    requires near { place < key.now.room }
+    requires before { ReadsBoard (R.meaning key.now.rules) place (mem (slots_items words.now.words)) closed.old }
+    ensures { OnOk result
+        (ReadsBoard (R.meaning key.now.rules) (place + 1) (mem (slots_items words.now.words)) closed.new) }
+{
+    let word = words.word(cell_at(place));
+    let head = words.word(head_at(place));
+    let answer = Answer {
+        cost: words.word(cost_at(place)),
+        node: words.word(node_at(place)),
+    };
+    push_taken(&mut closed.cells, word)?;
+    push_closed(&mut closed.answers, head, word, answer)?;
+    push_worker(&mut closed.who, head, words.word(who_at(place)))?;
+    closed.ready = first_ready(closed.ready, words, key, place);
+    Ok(())
 }
 
 /// What a board's words say once no thread shares it any more.
@@ -137,11 +119,15 @@ pub fn read_all<R: GoalRules>(
     ensures { IfOk result (λ closed.
         ReadsBoard (R.meaning key.now.rules) key.now.room (mem (slots_items words.now.words)) closed) }
 {
-    Ok(Closed {
-        cells: cells_of(alloc, words, key.room)?,
-        answers: answers_of(alloc, words, key.room)?,
-        who: workers_of(alloc, words, key.room)?,
+    let mut closed = Closed {
+        cells: List::new(alloc),
+        answers: List::new(alloc),
+        who: List::new(alloc),
         full: words.word(0) != 0,
-        ready: ready_of(words, key),
-    })
+        ready: None,
+    };
+    for place in 0..key.room {
+        read_place(&mut closed, words, key, place)?;
+    }
+    Ok(closed)
 }

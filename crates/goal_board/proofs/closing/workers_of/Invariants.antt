@@ -1,9 +1,0 @@
--- The list has what stands below the place.
-use Rattle.std.proofs.Common.{◌≡◌}
-use Rattle.std.specs.Slots.{slots_items}
-use Rattle.board_rule.specs.Words.{mem}
-use Rattle.goal_board.specs.Closed.{who_below}
-use Rattle.goal_board.proofs.closing.workers_of.Given as goal
-
-abbrev pub invariant-loop-place : goal.invariant-loop-place
-invariant-loop-place l = l.workers ≡ who_below (mem (slots_items l.words.words)) l.place
