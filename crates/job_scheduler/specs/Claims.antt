@@ -1,5 +1,5 @@
 -- What comes of looking for a goal that is ready, and at the root goal.
-use Rattle.std.specs.Prelude.{◌≡◌, ℕ, ◌^◌, ◌≤◌, ◌<◌, [], List, Option, None, Some}
+use Rattle.std.specs.Prelude.{◌≡◌, ◌⊎◌, ℕ, ◌^◌, ◌≤◌, ◌<◌, [], List, Option, None, Some}
 use Rattle.board_rule.specs.Meaning.{Meaning}
 use Rattle.board_rule.specs.Words.{head_word}
 use Rattle.board_rule.specs.Looks.{Looked, ShowsFull, ShowsClosed}
@@ -18,6 +18,14 @@ use Rattle.job_scheduler.specs.declared.worker.Worker.{Worker}
 -- one of the looks found the head at the place open
 abbrev pub ShowsOpen : List (ℕ × ℕ) → ℕ → Type 0
 ShowsOpen looks place = (found : ℕ) × Looked looks (head_word place) found × (found < 2 ^ 63)
+
+-- where one of these looks showed the head at the place closed, it is found closed
+abbrev pub StaysClosed : List (ℕ × ℕ) → ℕ → Standing → Type 0
+StaysClosed looks root found = ShowsClosed looks root → found ≡ standing.Done
+
+-- where one of these looks showed the full word set, it is found set, or the root goal is found finished
+abbrev pub StaysFull : List (ℕ × ℕ) → Standing → Type 0
+StaysFull looks found = ShowsFull looks → (found ≡ standing.Full) ⊎ (found ≡ standing.Done)
 
 module _ {R : Type 0} (meaning : Meaning) (room : ℕ) (v : Hands R) where
   -- after further looks a goal was found ready, and claimed

@@ -1,10 +1,8 @@
 // How a worker finds a goal that is ready, and claims it.
-ghost use Rattle.std.specs.Prelude.{◌≡◌, ◌⊎◌, ◌<◌, ◌≤◌, IfSome};
-ghost use Rattle.board_rule.specs.Looks.{ShowsFull, ShowsClosed};
+ghost use Rattle.std.specs.Prelude.{◌≡◌, ◌<◌, ◌≤◌, IfSome};
 ghost use Rattle.goal_board.specs.Seats.{hands};
 ghost use Rattle.job_scheduler.specs.Workers.{IsWorkerOf};
-ghost use Rattle.job_scheduler.specs.Claims.{WorkerClaims, WorkerSweeps, WorkerFinds, WorkerSeeks, WorkerSeeksAll};
-ghost use Rattle.job_scheduler.specs.declared.sought.Standing.TheVariants as standing;
+ghost use Rattle.job_scheduler.specs.Claims.{StaysClosed, StaysFull, WorkerClaims, WorkerSweeps, WorkerFinds, WorkerSeeks, WorkerSeeksAll};
 
 use crate::jobs::Jobs;
 use crate::scheduler::Scheduler;
@@ -22,9 +20,8 @@ impl<R: GoalRules, J: Jobs<R>> Scheduler<R, J> {
         ensures worker { IsWorkerOf R.meaning self.now.board self.now.root self.now.goal worker.new }
         ensures number { worker.new.number ≡ worker.old.number }
         ensures finds { WorkerFinds R.meaning self.now.board worker.old self.now.root result worker.new }
-        ensures closed { ShowsClosed (hands worker.old.seat).looks self.now.root → result ≡ standing.Done }
-        ensures full { ShowsFull (hands worker.old.seat).looks →
-            (result ≡ standing.Full) ⊎ (result ≡ standing.Done) }
+        ensures closed { StaysClosed (hands worker.old.seat).looks self.now.root result }
+        ensures full { StaysFull (hands worker.old.seat).looks result }
     {
         match self.board.answer(&mut worker.seat, self.root) {
             Some(_) => Standing::Done,
