@@ -3,5 +3,6 @@ pub mod Seats
 pub mod Steps
 pub mod Calls
 pub mod Closed
+pub mod Closing
 pub mod Numbers
 pub mod SeatCalls

@@ -1,7 +1,8 @@
 ghost use Rattle.std.specs.Prelude.{◌≡◌, ◌≢◌, ◌==◌, ℕ, ◌+◌, ◌-◌, ◌*◌, ◌^◌, ◌<◌, ◌≤◌, [], ◌∷◌, ◌++◌, cond, IfOk, OnOk, length, not};
 ghost use Rattle.std.specs.Slots.{slots_items, slots_len, IsFull};
 ghost use Rattle.board_rule.specs.Words.{mem};
-ghost use Rattle.goal_board.specs.Closed.{HasWorkers, with_closed, ReadsReady, IsFirstReady, ReadsBoard};
+ghost use Rattle.goal_board.specs.Closed.{HasWorkers, with_closed, ReadsReady};
+ghost use Rattle.goal_board.specs.Closing.{ReadsPlaces, ReadsFirstReady};
 
 use crate::answers::{Answer, Closed};
 use crate::steps::{CLOSED, cell_at, cost_at, head_at, node_at, run_at, who_at};
@@ -72,8 +73,8 @@ fn first_ready<R: GoalRules>(
 ) -> Option<u64>
     requires read { IsFull words.now.words × (slots_len words.now.words ≡ 14 * key.now.room + 1) }
     requires near { place < key.now.room }
-    requires before { IsFirstReady (R.meaning key.now.rules) (mem (slots_items words.now.words)) place before }
-    ensures { IsFirstReady (R.meaning key.now.rules) (mem (slots_items words.now.words)) (place + 1) result }
+    requires before { ReadsFirstReady R.meaning key.now (slots_items words.now.words) place before }
+    ensures { ReadsFirstReady R.meaning key.now (slots_items words.now.words) (place + 1) result }
 {
     match before {
         Some(goal) => Some(goal),
@@ -91,9 +92,9 @@ fn read_place<R: GoalRules>(
     requires read { IsFull words.now.words × (slots_len words.now.words ≡ 14 * key.now.room + 1) }
     requires workers { HasWorkers (mem (slots_items words.now.words)) key.now.room }
     requires near { place < key.now.room }
-    requires before { ReadsBoard (R.meaning key.now.rules) place (mem (slots_items words.now.words)) closed.old }
+    requires before { ReadsPlaces R.meaning key.now (slots_items words.now.words) place closed.old }
     ensures { OnOk result
-        (ReadsBoard (R.meaning key.now.rules) (place + 1) (mem (slots_items words.now.words)) closed.new) }
+        (ReadsPlaces R.meaning key.now (slots_items words.now.words) (place + 1) closed.new) }
 {
     let word = words.word(cell_at(place));
     let head = words.word(head_at(place));
@@ -116,8 +117,8 @@ pub fn read_all<R: GoalRules>(
 ) -> Result<Closed, AllocError>
     requires read { IsFull words.now.words × (slots_len words.now.words ≡ 14 * key.now.room + 1) }
     requires workers { HasWorkers (mem (slots_items words.now.words)) key.now.room }
-    ensures { IfOk result (λ closed.
-        ReadsBoard (R.meaning key.now.rules) key.now.room (mem (slots_items words.now.words)) closed) }
+    ensures { IfOk result
+        (ReadsPlaces R.meaning key.now (slots_items words.now.words) key.now.room) }
 {
     let mut closed = Closed {
         cells: List::new(alloc),
