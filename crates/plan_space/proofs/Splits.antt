@@ -1,162 +1,30 @@
 -- A physical expression over kids meets a request exactly where its line is there for the request, and the kids give what is asked of them.
-use Rattle.std.proofs.Common.{◌≡◌, ℕ, ◌/◌, List, [], ◌∷◌, IsTrue, refl, sym, subst}
+use Rattle.std.proofs.Common.{◌≡◌, ℕ, List, [], ◌∷◌, refl, sym, subst}
 use Rattle.query_core.specs.Expressions.{physical_children}
-use Rattle.query_core.specs.Keys.{has_item}
-use Rattle.std.specs.Prelude.{Option, Some, None, All}
-use Rattle.std.proofs.lemmas.List.Elements.{All-nil, All-cons, All-head, All-tail}
+use Rattle.std.specs.Prelude.{Option, Some, None}
 use Rattle.query_core.specs.declared.query.Query.{Query}
 use Rattle.query_core.specs.declared.words.KeyParts.{KeyParts}
 use Rattle.query_core.specs.declared.expressions.Children.{Children}
 use Rattle.query_core.specs.declared.expressions.Children.TheVariants as arities
 use Rattle.query_core.specs.declared.expressions.PhysicalExpr.{PhysicalExpr}
-use Rattle.cost_units.specs.declared.shape.Class.TheVariants as classes
-use Rattle.request_props.specs.Numbered.{IsNumbered, order_of}
-use Rattle.request_props.specs.Satisfied.{Meets, BeginsWith, given_order, Satisfies}
-use Rattle.request_props.specs.declared.given.Given.{Given}
-use Rattle.request_props.specs.declared.given.GivenDist.{GivenDist}
-use Rattle.request_props.specs.declared.given.GivenDist.TheVariants as given
-use Rattle.request_props.specs.declared.given.GivenOrder.{GivenOrder}
-use Rattle.request_props.specs.declared.request.Dist.{Dist}
-use Rattle.request_props.specs.declared.request.Dist.TheVariants as dists
+use Rattle.request_props.specs.Numbered.{IsNumbered}
+use Rattle.request_props.specs.Satisfied.{Satisfies}
 use Rattle.request_props.specs.declared.request.Request.{Request}
-use Rattle.request_props.specs.Lying.{OrderLiesIn}
-use Rattle.request_props.specs.Fitting.{DistFits, Fits}
+use Rattle.request_props.specs.Fitting.{Fits}
 use Rattle.plan_space.specs.Lines.{line_of}
-use Rattle.plan_space.specs.declared.lines.LeftDist.{LeftDist}
-use Rattle.plan_space.specs.declared.lines.LeftDist.TheVariants as left_dists
-use Rattle.plan_space.specs.declared.lines.LeftOrder.{LeftOrder}
-use Rattle.plan_space.specs.declared.lines.LeftOrder.TheVariants as left_orders
 use Rattle.plan_space.specs.declared.lines.Line.{Line}
 use Rattle.plan_space.specs.declared.lines.Line.TheVariants as lines
-use Rattle.plan_space.specs.Gives.{Kid, left_dist, left_order, left_gives, line_gives, gives_by, native_gives}
-use Rattle.plan_space.specs.Valid.{IsSpread, DistNeeds, OrderNeeds, LeftNeeds, LineFits, FitsBy, NativeFits}
-use Rattle.plan_space.specs.Alternatives.{WantsSpread, dist_asked, order_asked, left_asked, DistServes, OrderServes, LeftServes, JoinServes, LineServes, asked_of, KidsServe, IsAlternative}
+use Rattle.plan_space.specs.Gives.{Kid, line_gives, gives_by, native_gives}
+use Rattle.plan_space.specs.Valid.{LineFits, FitsBy, NativeFits}
+use Rattle.plan_space.specs.Alternatives.{JoinServes, LineServes, asked_of, KidsServe, IsAlternative}
 use Rattle.plan_space.specs.Choices.{groups_of}
-use Rattle.plan_space.specs.Laws.{GivenDistFits, DistLiesIn, GivenFits, KidsFit, AreOf, RequestsFit}
-use Rattle.plan_space.proofs.Fitting.{FixedDistFits, FixedOrderFits, LeftFits, AsksFitting}
+use Rattle.plan_space.specs.Laws.{KidsFit, AreOf, RequestsFit}
+use Rattle.plan_space.proofs.Fitting.{LeftFits, AsksFitting}
+use Rattle.plan_space.proofs.LeftChild.{left_splits, left_asked_fits, left_joins}
 
--- rows that are spread meet only what asks for spread rows
-wants_spread : (gives : GivenDist) (wanted : Dist) → IsSpread gives → Meets gives wanted → WantsSpread wanted
-wants_spread given.One wanted spread meets = let never : classes.One ≡ classes.Spread = spread in cc
-wants_spread given.Copies wanted spread meets = let never : classes.Copies ≡ classes.Spread = spread in cc
-wants_spread (given.Hashed list) dists.One spread meets = absurd meets
-wants_spread (given.Hashed list) dists.Spread spread meets = tt
-wants_spread (given.Hashed list) dists.Copies spread meets = absurd meets
-wants_spread (given.Hashed list) (dists.Hashed other) spread meets = tt
-wants_spread given.Random dists.One spread meets = absurd meets
-wants_spread given.Random dists.Spread spread meets = tt
-wants_spread given.Random dists.Copies spread meets = absurd meets
-wants_spread given.Random (dists.Hashed other) spread meets = absurd meets
+-- ---- a line
 
--- rows that meet what asks for spread rows are spread
-meets_spread : (gives : GivenDist) (wanted : Dist) → WantsSpread wanted → Meets gives wanted → IsSpread gives
-meets_spread given.One dists.One wants meets = absurd wants
-meets_spread given.One dists.Spread wants meets = absurd meets
-meets_spread given.One dists.Copies wants meets = absurd wants
-meets_spread given.One (dists.Hashed other) wants meets = absurd meets
-meets_spread given.Copies dists.One wants meets = absurd wants
-meets_spread given.Copies dists.Spread wants meets = absurd meets
-meets_spread given.Copies dists.Copies wants meets = absurd wants
-meets_spread given.Copies (dists.Hashed other) wants meets = absurd meets
-meets_spread (given.Hashed list) wanted wants meets = refl
-meets_spread given.Random wanted wants meets = refl
-
--- a hashed distribution that is met is the one that is given
-met_fits : (q : Query) (group : KeyParts) (gives : GivenDist) (wanted : Dist) → GivenDistFits q group gives → Meets gives wanted → DistFits q group wanted
-met_fits q group gives dists.One fits meets = tt
-met_fits q group gives dists.Spread fits meets = tt
-met_fits q group gives dists.Copies fits meets = tt
-met_fits q group given.One (dists.Hashed list) fits meets = absurd meets
-met_fits q group (given.Hashed other) (dists.Hashed list) fits meets = subst (λ l. DistFits q group (dists.Hashed l)) meets fits
-met_fits q group given.Random (dists.Hashed list) fits meets = absurd meets
-met_fits q group given.Copies (dists.Hashed list) fits meets = absurd meets
-
--- what holds of each element of an order holds of each of one that it begins with
-begin_all : (P : ℕ → Type 0) (xs ys : List ℕ) → BeginsWith xs ys → All P xs → All P ys
-begin_all P xs [] begins all = All-nil P
-begin_all P [] (y ∷ ys) begins all = absurd begins
-begin_all P (x ∷ xs) (y ∷ ys) begins all =
-    All-cons P y ys (subst P begins.0 (All-head P x xs all)) (begin_all P xs ys begins.1 (All-tail P x xs all))
-
--- ---- the distribution and the order of a line that goes with its left child
-
--- the line can give the distribution that is met, and the left child meets what is asked of it
-dist_splits : (q : Query) (dist : LeftDist) (gives : GivenDist) (wanted : Dist) → DistNeeds q dist gives → Meets (left_dist dist gives) wanted
-    → DistServes q dist wanted × Meets gives (dist_asked dist wanted)
-dist_splits q (left_dists.Fixed fixed asked) gives wanted needs meets = (meets, needs)
-dist_splits q (left_dists.Grouped list) gives wanted needs meets = ((needs.0, meets), needs.1)
-dist_splits q left_dists.Same gives wanted needs meets = (tt, meets)
-dist_splits q left_dists.SameSpread gives wanted needs meets = (wants_spread gives wanted needs meets, meets)
-
--- likewise the order
-order_splits : (q : Query) (order : LeftOrder) (gives : GivenOrder) (wanted : ℕ) → OrderNeeds q order gives
-    → BeginsWith (given_order q (left_order order gives)) (order_of q wanted)
-    → OrderServes q order wanted × BeginsWith (given_order q gives) (order_of q (order_asked order wanted))
-order_splits q (left_orders.Fixed fixed asked) gives wanted needs begins = (begins, needs)
-order_splits q left_orders.Same gives wanted needs begins = (tt, begins)
-
--- where the line can give the distribution, and the left child meets what is asked of it, it is met
-dist_joins : (q : Query) (dist : LeftDist) (gives : GivenDist) (wanted : Dist) → DistServes q dist wanted → Meets gives (dist_asked dist wanted)
-    → DistNeeds q dist gives × Meets (left_dist dist gives) wanted
-dist_joins q (left_dists.Fixed fixed asked) gives wanted serves meets = (meets, serves)
-dist_joins q (left_dists.Grouped list) gives wanted serves meets = ((serves.0, meets), serves.1)
-dist_joins q left_dists.Same gives wanted serves meets = (tt, meets)
-dist_joins q left_dists.SameSpread gives wanted serves meets = (meets_spread gives wanted serves meets, meets)
-
--- likewise the order
-order_joins : (q : Query) (order : LeftOrder) (gives : GivenOrder) (wanted : ℕ) → OrderServes q order wanted
-    → BeginsWith (given_order q gives) (order_of q (order_asked order wanted))
-    → OrderNeeds q order gives × BeginsWith (given_order q (left_order order gives)) (order_of q wanted)
-order_joins q (left_orders.Fixed fixed asked) gives wanted serves begins = (begins, serves)
-order_joins q left_orders.Same gives wanted serves begins = (tt, begins)
-
--- what is asked of the left child fits it: the line's own does, and the request's where the child gives it
-dist_asked_fits : (q : Query) (left : KeyParts) (dist : LeftDist) (gives : GivenDist) (wanted : Dist) → FixedDistFits q left dist
-    → DistLiesIn q left gives → Meets (left_dist dist gives) wanted → DistFits q left (dist_asked dist wanted)
-dist_asked_fits q left (left_dists.Fixed fixed asked) gives wanted fixes lies meets = fixes.1
-dist_asked_fits q left (left_dists.Grouped list) gives wanted fixes lies meets = fixes
-dist_asked_fits q left left_dists.Same gives wanted fixes lies meets = met_fits q left gives wanted (fixes gives lies) meets
-dist_asked_fits q left left_dists.SameSpread gives wanted fixes lies meets = met_fits q left gives wanted (fixes gives lies) meets
-
--- likewise the order
-order_asked_fits : (q : Query) (left : KeyParts) (order : LeftOrder) (gives : GivenOrder) (wanted : ℕ) → FixedOrderFits q left order
-    → OrderLiesIn q left (given_order q gives) → IsNumbered q wanted → BeginsWith (given_order q (left_order order gives)) (order_of q wanted)
-    → IsNumbered q (order_asked order wanted) × OrderLiesIn q left (order_of q (order_asked order wanted))
-order_asked_fits q left (left_orders.Fixed fixed asked) gives wanted fixes lies numbered begins = (fixes.1, fixes.2)
-order_asked_fits q left left_orders.Same gives wanted fixes lies numbered begins =
-    (numbered, begin_all (λ element. IsTrue (has_item q left (element / 2))) (given_order q gives) (order_of q wanted) begins lies)
-
-module _ (q : Query) (dist : LeftDist) (order : LeftOrder) where
-  -- a request that is met over a left child is one that the line is there for, and the child gives what is asked of it
-  left_splits : (gives : Given) (wanted : Request) → LeftNeeds q dist order gives → Satisfies q (left_gives dist order gives) wanted
-      → LeftServes q dist order wanted × Satisfies q gives (left_asked dist order wanted)
-  left_splits gives wanted needs satisfies =
-      let of_dist = dist_splits q dist gives.dist wanted.dist needs.dist_met satisfies.dist in
-      let of_order = order_splits q order gives.order wanted.order needs.order_met satisfies.order in
-      (record { dist_served = of_dist.0; order_served = of_order.0 }, record { dist = of_dist.1; order = of_order.1 })
-
-  -- what is asked of the left child of a join fits it, where the child gives it
-  left_asked_fits : (left : Kid) (wanted : Request) → LeftFits q left.group dist order → GivenFits q left.group left.given → IsNumbered q wanted.order
-      → Satisfies q (left_gives dist order left.given) wanted → Fits q left.group (left_asked dist order wanted)
-  left_asked_fits left wanted fixes fits numbered satisfies =
-      let asked = order_asked_fits q left.group order left.given.order wanted.order fixes.order_fits fits.order numbered satisfies.order in
-      record {
-        dist = dist_asked_fits q left.group dist left.given.dist wanted.dist fixes.dist_fits fits.dist satisfies.dist;
-        numbered = asked.0;
-        order = asked.1;
-      }
-
-  -- where the line is there for a request and the left child gives what is asked of it, the request is met
-  left_joins : (gives : Given) (wanted : Request) → LeftServes q dist order wanted → Satisfies q gives (left_asked dist order wanted)
-      → LeftNeeds q dist order gives × Satisfies q (left_gives dist order gives) wanted
-  left_joins gives wanted serves satisfies =
-      let of_dist = dist_joins q dist gives.dist wanted.dist serves.dist_served satisfies.dist in
-      let of_order = order_joins q order gives.order wanted.order serves.order_served satisfies.order in
-      (record { dist_met = of_dist.0; order_met = of_order.0 }, record { dist = of_dist.1; order = of_order.1 })
-
--- ---- the lines
-
--- the same for a whole line over its kids
+-- where a request is met by a line over its kids, the line is there for it, and the kids give what is asked of them
 line_splits : (q : Query) (group : KeyParts) (line : Line) (children : Children) (kids : List Kid) (wanted : Request) → AsksFitting q group line children → KidsFit q kids
     → IsNumbered q wanted.order → LineFits q line children kids → Satisfies q (line_gives line kids) wanted
     → LineServes q line children wanted × KidsServe q kids (asked_of line wanted)
@@ -179,13 +47,15 @@ line_splits q group (lines.Beside dist order request) children (left ∷ right �
     (subst (λ c. LineServes q (lines.Beside dist order request) c wanted) (sym fits.of_children) serves, (split.1, (fits.right, tt)))
 line_splits q group (lines.Beside dist order request) children (left ∷ right ∷ other ∷ others) wanted asks fit numbered fits satisfies = absurd fits
 
+-- a child of the same key is the same one child
 one_child : (kid group : KeyParts) → kid ≡ group → arities.One group ≡ arities.One kid
 one_child kid group same = cc
 
+-- children of the same keys, in order, are the same two children
 two_children : (first second left right : KeyParts) → first ≡ left → second ≡ right → arities.Two left right ≡ arities.Two first second
 two_children first second left right same other = cc
 
--- the other way round
+-- where a line is there for a request, and the kids give what is asked of them, the request is met by the line over the kids
 line_joins : (q : Query) (line : Line) (children : Children) (kids : List Kid) (wanted : Request) → LineServes q line children wanted
     → AreOf (groups_of children) kids → KidsServe q kids (asked_of line wanted)
     → LineFits q line children kids × Satisfies q (line_gives line kids) wanted
@@ -213,7 +83,7 @@ line_joins q (lines.Beside dist order request) (arities.Two left right) (first �
 
 -- ---- expressions
 
--- the same for a mode, which has a line where the expression may stand in it
+-- where a request is met in a mode, the mode has a line, the line is there for the request, and the kids give what is asked of them
 native_splits : (q : Query) (e : PhysicalExpr) (mode : ℕ) (found : Option Line) (kids : List Kid) (wanted : Request)
     → ((line : Line) → found ≡ Some line → AsksFitting q e.group line (physical_children e.operator)) → KidsFit q kids → IsNumbered q wanted.order
     → line_of q e mode ≡ found → FitsBy q found (physical_children e.operator) kids → Satisfies q (gives_by found kids) wanted
@@ -256,7 +126,7 @@ line_asks q group (lines.Beside dist order request) arities.Zero wanted asks fit
 line_asks q group (lines.Beside dist order request) (arities.One child) wanted asks fits serves = absurd serves
 line_asks q group (lines.Beside dist order request) (arities.Two left right) wanted asks fits serves = (serves.fits, (asks.1, tt))
 
--- so does an expression
+-- for a request that fits its group, an expression asks what fits its children
 pub asks_what_fits : (q : Query) (e : PhysicalExpr) (mode : ℕ) (line : Line) (wanted : Request)
     → ((line : Line) → line_of q e mode ≡ Some line → AsksFitting q e.group line (physical_children e.operator)) → Fits q e.group wanted
     → IsAlternative q e wanted mode line → RequestsFit q (groups_of (physical_children e.operator)) (asked_of line wanted)
