@@ -30,7 +30,7 @@ use Rattle.plan_space.specs.declared.lines.Line.TheVariants.{Alone, Above, Besid
 use Rattle.plan_space.specs.Modes.{mode_at, IsOnOne, IsSpread}
 use Rattle.plan_space.specs.declared.modes.Mode.{Mode}
 use Rattle.plan_tree.specs.Alternatives.{HasAlternative}
-use Rattle.plan_tree.specs.ServingModes.{MayServe, has_spread_modes}
+use Rattle.plan_tree.specs.ServingModes.{MayServe, SuitsJoin, WantsCopies, has_spread_modes}
 use Rattle.plan_tree.proofs.LineModes.{IsDistIn, IsOrderOfLeft, IsLineIn, line_in}
 
 -- ---- modes
@@ -155,3 +155,20 @@ alternative_mode q e wanted dist mode both asked (line, is) =
     subst (λ (d : Dist). IsModeFor d (mode_at mode)) asked
     (mode_for q line (physical_children e.operator) (mode_at mode) wanted
     (line_in q line e.group e.operator (mode_at mode) both is.is_line) is.serves)
+
+copies_asked : (dist : Dist) → WantsCopies dist → dist ≡ Copies
+copies_asked One wants = absurd wants
+copies_asked Spread wants = absurd wants
+copies_asked Copies wants = refl
+copies_asked (Hashed list) wants = absurd wants
+
+-- a join serves only requests that suit it
+pub join_suits : (q : Query) (e : PhysicalExpr) (left right : KeyParts) (wanted : Request)
+    → physical_children e.operator ≡ arities.Two left right → IsNumbered q wanted.order
+    → MayServe q e wanted → SuitsJoin q left wanted
+join_suits q e left right wanted over numbered serves = record {
+  no_copies = λ copies.
+      alternative_mode q e wanted Copies serves.0 (join_has_spread e.operator left right over)
+      (copies_asked wanted.dist copies) serves.1;
+  fits = left_fits q e left right wanted over numbered serves;
+}

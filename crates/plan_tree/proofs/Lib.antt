@@ -12,3 +12,4 @@ pub mod LineModes
 pub mod LeftFits
 pub mod Unordered
 pub mod TriedModes
+pub mod JoinsServe

@@ -1,4 +1,4 @@
--- An operator that gives no order serves only requests for none.
+-- A hash join gives no order, and serves only requests for none.
 use Rattle.std.proofs.Common.{◌≡◌, ℕ, [], false, Option, Some, None, refl, subst}
 use Rattle.std.specs.Prelude.{◌==◌, nat_lt, length}
 use Rattle.std.specs.Option.{option_map}
@@ -25,7 +25,7 @@ use Rattle.plan_space.specs.declared.lines.Line.TheVariants.{Alone, Above, Besid
 use Rattle.plan_space.specs.Modes.{mode_at}
 use Rattle.plan_space.specs.declared.modes.Mode.{Mode}
 use Rattle.plan_space.specs.declared.modes.Mode.TheVariants as modes
-use Rattle.plan_tree.specs.ServingModes.{MayServe, gives_order}
+use Rattle.plan_tree.specs.ServingModes.{MayServe}
 
 -- the line gives the empty order
 abbrev IsUnordered : Line → Type 0
@@ -48,17 +48,6 @@ module _ (q : Query) (line : Line) where
   only_none : (own : Line) (number : ℕ) → IsUnordered own → GivesNone (only_line own number)
   only_none own number unordered = cond_both (number == 0) (Some own) None GivesNone (λ first. own_line own unordered) (λ other. no_line)
 
-  single_none : (own : Line) (mode : Mode) → IsUnordered own → GivesNone (single_line own mode)
-  single_none own (modes.One number) unordered = only_none own number unordered
-  single_none own (modes.Copied number) unordered = no_line
-  single_none own (modes.Hashed number) unordered = no_line
-
-  agg_none : (mode : Mode) → GivesNone (agg_line q 0 mode)
-  agg_none (modes.One number) = only_none _ number refl
-  agg_none (modes.Copied number) = no_line
-  agg_none (modes.Hashed list) =
-      cond_both (nat_lt list (length (lists_of q))) _ None GivesNone (λ numbered. own_line _ refl) (λ other. no_line)
-
   colocated_none : (sides : Option (ℕ × ℕ)) → GivesNone (option_map (hash_colocated q) sides)
   colocated_none None is = let never : None ≡ Some line = is in cc
   colocated_none (Some sides) is = own_line (hash_colocated q sides) refl is
@@ -67,19 +56,6 @@ module _ (q : Query) (line : Line) where
   hash_none left right (modes.One number) = only_none _ number refl
   hash_none left right (modes.Copied number) = only_none _ number refl
   hash_none left right (modes.Hashed number) = colocated_none (crossing_of q left right number)
-
-  line_none : (group : KeyParts) (operator : Physical) (mode : Mode) → gives_order operator ≡ false
-      → GivesNone (operator_line q group operator mode)
-  line_none group physical.Scan mode none = single_none _ mode refl
-  line_none group (physical.IndexScan index) mode none = cc
-  line_none group (physical.Filter child) mode none = cc
-  line_none group (physical.IndexSeek index) mode none = cc
-  line_none group (physical.HashJoin left right) mode none = hash_none left right mode
-  line_none group (physical.MergeJoin left right) mode none = cc
-  line_none group (physical.LoopJoin left right) mode none = cc
-  line_none group (physical.HashAgg child) mode none = agg_none mode
-  line_none group (physical.StreamAgg child) mode none = cc
-  line_none group (physical.PartialAgg child) mode none = single_none _ mode refl
 
 in_none : (q : Query) (order : LeftOrder) (wanted : ℕ) → order ≡ in_order 0 → OrderServes q order wanted
     → BeginsWith [] (order_of q wanted)
@@ -100,9 +76,9 @@ none_serves q (Beside dist order asked) (arities.One child) wanted is serves = a
 none_serves q (Beside dist order asked) (arities.Two left right) wanted is serves =
     in_none q order wanted.order is serves.serves.order_served
 
--- so the empty order begins with the one that is asked for
-pub order_none : (q : Query) (e : PhysicalExpr) (wanted : Request) → gives_order e.operator ≡ false
-    → MayServe q e wanted → BeginsWith [] (order_of q wanted.order)
-order_none q e wanted none (mode, (line, is)) =
-    none_serves q line (physical_children e.operator) wanted
-    (line_none q line e.group e.operator (mode_at mode) none is.is_line) is.serves
+-- so the empty order begins with the one that is asked of a hash join
+pub hash_join_none : (q : Query) (e : PhysicalExpr) (left right : KeyParts) (wanted : Request)
+    → e.operator ≡ physical.HashJoin left right → MayServe q e wanted → BeginsWith [] (order_of q wanted.order)
+hash_join_none q e left right wanted joins (mode, (line, is)) =
+    let found = subst (λ (o : Physical). operator_line q e.group o (mode_at mode) ≡ Some line) joins is.is_line in
+    none_serves q line (physical_children e.operator) wanted (hash_none q line left right (mode_at mode) found) is.serves

@@ -1,9 +1,13 @@
 -- In which modes an expression may serve a request, as its operator and the distribution that is asked for say.
-use Rattle.std.specs.Prelude.{ℕ, ◌≡◌, ◌≤◌, ◌<◌, Bool, true, false, Option, None, Some}
+use Rattle.std.specs.Prelude.{ℕ, ◌≡◌, ◌≤◌, ◌<◌, Bool, true, false, Option, None, Some, ⊤}
 use Rattle.query_core.specs.declared.expressions.Physical.{Physical}
 use Rattle.query_core.specs.declared.expressions.Physical.TheVariants as physical
 use Rattle.query_core.specs.declared.expressions.PhysicalExpr.{PhysicalExpr}
 use Rattle.query_core.specs.declared.query.Query.{Query}
+use Rattle.query_core.specs.declared.words.KeyParts.{KeyParts}
+use Rattle.request_props.specs.Fitting.{Fits}
+use Rattle.request_props.specs.declared.request.Dist.{Dist}
+use Rattle.request_props.specs.declared.request.Dist.TheVariants.{One, Spread, Copies, Hashed}
 use Rattle.request_props.specs.declared.request.Request.{Request}
 use Rattle.plan_space.specs.Lines.{line_of}
 use Rattle.plan_space.specs.Modes.{IsAmong}
@@ -11,19 +15,6 @@ use Rattle.plan_space.specs.declared.lines.Line.{Line}
 use Rattle.plan_tree.specs.Alternatives.{HasAlternative}
 use Rattle.plan_tree.specs.Walks.{IsNextLine}
 use Rattle.plan_space.specs.declared.modes.ModeRange.{ModeRange}
-
--- the operator gives an order in some mode; each other one gives none in any
-abbrev pub gives_order : Physical → Bool
-gives_order physical.Scan = false
-gives_order (physical.IndexScan index) = true
-gives_order (physical.Filter child) = true
-gives_order (physical.IndexSeek index) = true
-gives_order (physical.HashJoin left right) = false
-gives_order (physical.MergeJoin left right) = true
-gives_order (physical.LoopJoin left right) = true
-gives_order (physical.HashAgg child) = false
-gives_order (physical.StreamAgg child) = true
-gives_order (physical.PartialAgg child) = false
 
 -- the operator has modes for spread rows, and others for rows on one segment
 abbrev pub has_spread_modes : Physical → Bool
@@ -37,6 +28,18 @@ has_spread_modes (physical.LoopJoin left right) = true
 has_spread_modes (physical.HashAgg child) = true
 has_spread_modes (physical.StreamAgg child) = true
 has_spread_modes (physical.PartialAgg child) = false
+
+-- rows are asked for on each segment
+abbrev pub WantsCopies : Dist → Type 0
+WantsCopies One = ⊥
+WantsCopies Spread = ⊥
+WantsCopies Copies = ⊤
+WantsCopies (Hashed list) = ⊥
+
+-- the request suits a join over this left child: it isn't for copies, and lies in that
+pub record SuitsJoin (q : Query) (left : KeyParts) (wanted : Request) : Type 0 where
+  pub no_copies : WantsCopies wanted.dist → ⊥
+  pub fits : Fits q left wanted
 
 -- the expression may serve the request in some mode
 abbrev pub MayServe : Query → PhysicalExpr → Request → Type 0

@@ -62,3 +62,8 @@ counts_of q (physical.LoopJoin left right) = counts 1 1 0
 counts_of q (physical.HashAgg child) = counts 1 0 (length (lists_of q))
 counts_of q (physical.StreamAgg child) = counts 1 0 (length (lists_of q))
 counts_of q (physical.PartialAgg child) = counts 1 0 0
+
+-- all modes in which the operator can work are among these
+pub record AreTried (q : Query) (operator : Physical) (tried : TriedModes) : Type 0 where
+  pub counted : tried.counts ≡ counts_of q operator
+  pub crossings : AreTriedOf q operator tried

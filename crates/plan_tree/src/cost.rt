@@ -2,9 +2,8 @@
 #![tactic(auto)]
 
 ghost use Rattle.std.specs.Prelude.{ℕ, ◌≡◌, ◌≤◌, Option, Some, IfSome};
-ghost use Rattle.query_core.specs.declared.expressions.PhysicalExpr.{PhysicalExpr as Parts};
 ghost use Rattle.query_core.specs.declared.words.KeyParts.{KeyParts as Group};
-ghost use Rattle.query_core.specs.Keys.{IsGroup, IsKey, Names};
+ghost use Rattle.query_core.specs.Keys.{IsGroup};
 ghost use Rattle.query_core.specs.Expressions.{IsCandidate, expr_of, physical_children};
 ghost use Rattle.cardinality.specs.Rows.{rows_of};
 ghost use Rattle.cost_units.specs.Cost.{IsBounded, most_rows, most_cost, share as share_of_rows};
@@ -15,7 +14,7 @@ ghost use Rattle.plan_space.specs.Enforcers.{Among, EnforcedBy, enforcers_of};
 ghost use Rattle.plan_space.specs.Lines.{line_of as line_by_table};
 ghost use Rattle.plan_space.specs.Cost.{operator_shape as shape_by_operator, share_of};
 ghost use Rattle.plan_space.specs.declared.nodes.Enforcer.{Enforcer as AnyEnforcer};
-ghost use Rattle.plan_space.specs.declared.nodes.NodeKind.TheVariants.{Native, Enforcer as enforcing};
+ghost use Rattle.plan_space.specs.declared.nodes.NodeKind.TheVariants.{Enforcer as enforcing};
 ghost use Rattle.plan_tree.specs.Nodes.{IsNode};
 ghost use Rattle.plan_tree.specs.Costs.{IsNativeCost, IsEnforcerCost, IsCostAmong, below_of};
 ghost use Rattle.request_props.specs.Classes.{class_asked as class_by_dist};
@@ -27,7 +26,7 @@ use crate::node::Node;
 use crate::serving::{asked_left, asked_right, left_child, right_child};
 use cost_units::{CostShape, local, share};
 use plan_space::{Enforcer, Line, NodeKind};
-use query_core::{Key, KeyParts, Physical, PhysicalExpr, Query, candidates_are_known};
+use query_core::{KeyParts, Physical, PhysicalExpr, Query, candidates_are_known};
 use request_props::{Dist, Props, Request, class_asked, classes_agree};
 
 /// The rows of an expression's group, and of its children: 0 where there is none.
@@ -118,28 +117,6 @@ pub fn enforcer_cost_by(query: &Query, rows: u64, request: Request, node: Node) 
     match node.kind() {
         Some(NodeKind::Enforcer(enforcer)) => cost_among(query, enforcer, rows, request),
         Some(NodeKind::Native(_, _)) => 1,
-        None => 1,
-    }
-}
-
-/// The cost of a node that may serve the request: an expression in a mode, or an enforcer.
-pub fn node_cost(query: &Query, props: &Props, key: Key, request: Request, node: Node) -> u64
-    requires props { IsProps query.now props.now }
-    requires key { IsKey query.now key }
-    requires candidate { (e : Parts) (mode : ℕ) → IsNode node (Native e mode) →
-        IsCandidate query.now (expr_of e) }
-    ensures native { (e : Parts) (mode : ℕ) → IsNode node (Native e mode) →
-        IsNativeCost query.now e mode request result }
-    ensures enforcer { (g : Group) (e : AnyEnforcer) → Names query.now key g →
-        IsNode node (enforcing e) → IsCostAmong query.now e g request result }
-    ensures some { 1 ≤ result }
-    ensures most { result ≤ most_cost }
-{
-    match node.kind() {
-        Some(NodeKind::Native(expr, mode)) => native_cost(query, props, expr, mode, request),
-        Some(NodeKind::Enforcer(enforcer)) => {
-            cost_among(query, enforcer, props.rows(query, key), request)
-        }
         None => 1,
     }
 }

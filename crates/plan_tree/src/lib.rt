@@ -18,7 +18,6 @@ pub use alternatives::{Alt, alternative, alternative_by, alternative_in, modes_a
 pub use answers::{Answered, Answers};
 pub use cost::{
     ExprRows, asked_by, enforcer_cost, enforcer_cost_by, expr_rows, native_cost, native_cost_by,
-    node_cost,
 };
 pub use enforcers::{Enforced, enforcer};
 pub use lines::{line_of, table_in};

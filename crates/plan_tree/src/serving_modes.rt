@@ -1,19 +1,22 @@
-//! Whether an expression may serve a request. Most may not, and what is asked first tells that without a look
-//! at their modes.
+//! Whether an expression may serve a request. Of most operators the first mode or the request itself tells that, and
+//! only merge joins and aggregations are looked at mode by mode.
 #![tactic(auto)]
 
-ghost use Rattle.std.specs.Prelude.{ℕ, ◌≡◌, ◌↔◌, IsTrue};
+ghost use Rattle.std.specs.Prelude.{ℕ, ◌≡◌, ◌↔◌, IsTrue, []};
 ghost use Rattle.query_core.specs.Expressions.{expr_of, IsCandidate};
-ghost use Rattle.request_props.specs.Numbered.{IsProps, IsNumbered};
+ghost use Rattle.request_props.specs.Numbered.{IsProps, IsNumbered, order_of};
+ghost use Rattle.request_props.specs.Satisfied.{BeginsWith};
 ghost use Rattle.plan_space.specs.Modes.{IsAmong};
 ghost use Rattle.plan_tree.specs.Alternatives.{HasAlternative};
-ghost use Rattle.plan_tree.specs.ServingModes.{gives_order as order_given, has_spread_modes as spread_modes};
-ghost use Rattle.plan_tree.specs.ServingModes.{MayServe, MayServeAmong, IsNextAmong};
+ghost use Rattle.plan_tree.specs.ServingModes.{has_spread_modes as spread_modes};
+ghost use Rattle.plan_tree.specs.ServingModes.{MayServe, MayServeAmong, IsNextAmong, SuitsJoin, WantsCopies};
+ghost use Rattle.plan_tree.specs.Walks.{AreTried};
 
+use crate::lines::line_of;
 use crate::serving::serves;
-use crate::walks::next_line;
+use crate::walks::{TriedModes, next_tried, tried_modes};
 use plan_space::{Line, ModeRange, modes_are_few};
-use query_core::{Children, Physical, PhysicalExpr, Query};
+use query_core::{KeyParts, Physical, PhysicalExpr, Query};
 use request_props::{Dist, Given, GivenDist, GivenOrder, Props, Request, satisfies};
 
 /// Whether the expression may serve the request in some mode.
@@ -23,24 +26,33 @@ pub fn may_serve(query: &Query, props: &Props, expr: PhysicalExpr, wanted: Reque
     requires numbered { IsNumbered query.now wanted.order }
     ensures { IsTrue result ↔ MayServe query.now expr wanted }
 {
-    may_order(query, props, expr, wanted)
-        && fits_left(query, props, expr, wanted)
-        && serves_among(
-            query,
-            props,
-            expr,
-            wanted,
-            modes_for(query, props, expr, wanted),
-        )
+    match expr.operator {
+        Physical::Scan => serves_in_first(query, props, expr, wanted),
+        Physical::IndexScan(_) => serves_in_first(query, props, expr, wanted),
+        Physical::Filter(_) => serves_in_first(query, props, expr, wanted),
+        Physical::IndexSeek(_) => serves_in_first(query, props, expr, wanted),
+        Physical::HashJoin(left, _) => {
+            asks_no_order(query, props, wanted.order) && suits_join(query, props, left, wanted)
+        }
+        Physical::MergeJoin(left, _) => {
+            suits_join(query, props, left, wanted) && serves_in_some(query, props, expr, wanted)
+        }
+        Physical::LoopJoin(left, _) => suits_join(query, props, left, wanted),
+        Physical::HashAgg(_) => {
+            asks_no_order(query, props, wanted.order) && serves_in_some(query, props, expr, wanted)
+        }
+        Physical::StreamAgg(_) => serves_in_some(query, props, expr, wanted),
+        Physical::PartialAgg(_) => serves_in_first(query, props, expr, wanted),
+    }
 }
 
-// Whether the expression may give the order. One that gives none serves only requests for none.
-fn may_order(query: &Query, props: &Props, expr: PhysicalExpr, wanted: Request) -> bool
+// Whether the empty order begins with this one.
+fn asks_no_order(query: &Query, props: &Props, wanted: u32) -> bool
     requires props { IsProps query.now props.now }
-    requires numbered { IsNumbered query.now wanted.order }
-    ensures { MayServe query.now expr wanted → IsTrue result }
+    requires numbered { IsNumbered query.now wanted }
+    ensures { IsTrue result ↔ BeginsWith [] (order_of query.now wanted) }
 {
-    if wanted.order == 0 || gives_order(expr.operator) {
+    if wanted == 0 {
         return true;
     }
     let unordered = Given {
@@ -49,39 +61,56 @@ fn may_order(query: &Query, props: &Props, expr: PhysicalExpr, wanted: Request) 
     };
     let anywhere = Request {
         dist: Dist::One,
-        order: wanted.order,
+        order: wanted,
     };
     satisfies(query, props, unordered, anywhere)
 }
 
-fn gives_order(operator: Physical) -> bool
-    ensures { result ≡ order_given operator }
+// Whether the request suits a join over this left child. A join gives only what lies in that, and no copies.
+fn suits_join(query: &Query, props: &Props, left: KeyParts, wanted: Request) -> bool
+    requires props { IsProps query.now props.now }
+    ensures { IsTrue result ↔ SuitsJoin query.now left wanted }
 {
-    match operator {
-        Physical::Scan => false,
-        Physical::IndexScan(_) => true,
-        Physical::Filter(_) => true,
-        Physical::IndexSeek(_) => true,
-        Physical::HashJoin(_, _) => false,
-        Physical::MergeJoin(_, _) => true,
-        Physical::LoopJoin(_, _) => true,
-        Physical::HashAgg(_) => false,
-        Physical::StreamAgg(_) => true,
-        Physical::PartialAgg(_) => false,
+    !wants_copies(wanted.dist) && props.fits(query, left, wanted)
+}
+
+fn wants_copies(dist: Dist) -> bool
+    ensures { IsTrue result ↔ WantsCopies dist }
+{
+    match dist {
+        Dist::One => false,
+        Dist::Spread => false,
+        Dist::Copies => true,
+        Dist::Hashed(_) => false,
     }
 }
 
-// Whether the request fits the left child of a join. A join gives only what lies in that.
-fn fits_left(query: &Query, props: &Props, expr: PhysicalExpr, wanted: Request) -> bool
+// Whether the expression may serve the request in its first mode.
+fn serves_in_first(query: &Query, props: &Props, expr: PhysicalExpr, wanted: Request) -> bool
     requires props { IsProps query.now props.now }
     requires numbered { IsNumbered query.now wanted.order }
-    ensures { MayServe query.now expr wanted → IsTrue result }
+    ensures { IsTrue result ↔ HasAlternative query.now expr wanted 0 }
 {
-    match expr.children() {
-        Children::Zero => true,
-        Children::One(_) => true,
-        Children::Two(left, _) => props.fits(query, left, wanted),
+    match line_of(query, props, expr, 0) {
+        Some(line) => serves(query, props, line, expr.children(), wanted),
+        None => false,
     }
+}
+
+// Whether it may in some mode, by a look at those for the distribution.
+fn serves_in_some(query: &Query, props: &Props, expr: PhysicalExpr, wanted: Request) -> bool
+    requires props { IsProps query.now props.now }
+    requires candidate { IsCandidate query.now (expr_of expr) }
+    requires numbered { IsNumbered query.now wanted.order }
+    ensures { IsTrue result ↔ MayServe query.now expr wanted }
+{
+    serves_among(
+        query,
+        props,
+        expr,
+        wanted,
+        modes_for(query, props, expr, wanted),
+    )
 }
 
 /// The modes among which all those are in which the expression may serve the request.
@@ -132,8 +161,11 @@ fn serves_among(
     requires numbered { IsNumbered query.now wanted.order }
     ensures { IsTrue result ↔ MayServeAmong query.now expr wanted modes }
 {
+    let tried = tried_modes(query, props, expr.operator);
     let mut from = modes.from;
-    'modes: while let Some((mode, line)) = next_among(query, props, expr, modes, from) {
+    'modes: while let Some((mode, line)) = next_tried_among(
+        query, props, expr, tried, modes, from,
+    ) {
         if serves(query, props, line, expr.children(), wanted) {
             return true;
         }
@@ -153,7 +185,24 @@ pub fn next_among(
     requires { IsProps query.now props.now }
     ensures { IsNextAmong query.now expr modes from result }
 {
-    let (mode, line) = next_line(query, props, expr, from)?;
+    let tried = tried_modes(query, props, expr.operator);
+    next_tried_among(query, props, expr, tried, modes, from)
+}
+
+// The same by the modes that are tried of the operator.
+fn next_tried_among(
+    query: &Query,
+    props: &Props,
+    expr: PhysicalExpr,
+    tried: TriedModes,
+    modes: ModeRange,
+    from: u32,
+) -> Option<(u32, Line)>
+    requires props { IsProps query.now props.now }
+    requires tried { AreTried query.now expr.operator tried }
+    ensures { IsNextAmong query.now expr modes from result }
+{
+    let (mode, line) = next_tried(query, props, expr, tried, from)?;
     if mode < modes.to {
         Some((mode, line))
     } else {

@@ -4,7 +4,7 @@
 ghost use Rattle.std.specs.Prelude.{ℕ, ◌≡◌, ◌≤◌, ◌<◌, ◌↔◌, IsTrue};
 ghost use Rattle.request_props.specs.Numbered.{IsProps};
 ghost use Rattle.plan_space.specs.Modes.{mode_at, IsCounted};
-ghost use Rattle.plan_tree.specs.Walks.{AdmitsMode, AreTriedOf, IsNextLine, counts_of as counts_by_operator};
+ghost use Rattle.plan_tree.specs.Walks.{AdmitsMode, AreTried, IsNextLine, counts_of as counts_by_operator};
 
 use crate::lines::line_of;
 use plan_space::{Line, MODES_END, Mode, ModeCounts, modes_are_few};
@@ -16,8 +16,28 @@ pub fn next_line(query: &Query, props: &Props, expr: PhysicalExpr, from: u32) ->
     requires { IsProps query.now props.now }
     ensures { IsNextLine query.now expr from result }
 {
+    next_tried(
+        query,
+        props,
+        expr,
+        tried_modes(query, props, expr.operator),
+        from,
+    )
+}
+
+/// The same by the modes that are tried of the operator.
+pub fn next_tried(
+    query: &Query,
+    props: &Props,
+    expr: PhysicalExpr,
+    tried: TriedModes,
+    from: u32,
+) -> Option<(u32, Line)>
+    requires props { IsProps query.now props.now }
+    requires tried { AreTried query.now expr.operator tried }
+    ensures { IsNextLine query.now expr from result }
+{
     modes_are_few();
-    let tried = tried_modes(query, props, expr.operator);
     let mut mode = tried.next(from);
     while mode < MODES_END {
         match line_of(query, props, expr, mode) {
@@ -64,11 +84,10 @@ impl TriedModes {
     }
 }
 
-// The modes that are tried of an operator: all are among them in which it works.
-fn tried_modes(query: &Query, props: &Props, operator: Physical) -> TriedModes
+/// The modes that are tried of an operator: all are among them in which it works.
+pub fn tried_modes(query: &Query, props: &Props, operator: Physical) -> TriedModes
     requires { IsProps query.now props.now }
-    ensures counts { result.counts ≡ counts_by_operator query.now operator }
-    ensures crossings { AreTriedOf query.now operator result }
+    ensures { AreTried query.now operator result }
 {
     let counts = counts_of(query, props, operator);
     let any = Crossings::any();
