@@ -46,3 +46,9 @@ pub record IsMemoText (q : Query) (words text : List ℕ) : Type 0 where
   pub members : List ExprParts
   pub are : AreMembers q words members
   pub lines : text ≡ concat (memo_section q members)
+
+-- the line is the first one of that text
+pub record IsMemoLine (q : Query) (words line : List ℕ) : Type 0 where
+  pub members : List ExprParts
+  pub are : AreMembers q words members
+  pub is_line : line ≡ memo_line (length (groups_of members)) (length members)

@@ -64,6 +64,12 @@ pub record IsTraceText (q : Query) (members goals text : List ℕ) : Type 0 wher
   pub are : AreTraced q members goals traced
   pub lines : text ≡ concat (trace_section q traced)
 
+-- the line is the first one of the trace whose goals have these words
+pub record IsTraceLine (q : Query) (goals line : List ℕ) : Type 0 where
+  pub kinds : List GoalKind
+  pub are : AreGoals q goals kinds
+  pub is_line : line ≡ trace_line kinds
+
 -- ---- by worker
 
 -- a line for each goal: the worker's number, and the goal

@@ -11,8 +11,7 @@ ghost use Rattle.job_trace.specs.Trace as texts;
 ghost use Rattle.job_trace.specs.Trace.{IsCrewText};
 
 use crate::goals::push_goal_line;
-use crate::trace::typed_goals;
-use goal_children::children_are_over_the_query;
+use crate::trace::goals_of;
 use goal_space::GoalKind;
 use query_core::Query;
 use request_props::Props;
@@ -32,9 +31,7 @@ pub fn crew_text(
     requires each { length who.now ≡ length goals.now }
     ensures { IfOk result (λ text. IsCrewText query.now goals.now who.now text.items) }
 {
-    // For the proof: goals over the query have words.
-    children_are_over_the_query();
-    let goals = typed_goals(alloc, goals)?;
+    let goals = goals_of(alloc, query, props, goals)?;
     let mut text = String::new(alloc);
     text.push_str("by-worker\n")?;
     push_crew_lines(query, props, goals.as_slice(), who, &mut text)?;

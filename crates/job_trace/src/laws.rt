@@ -1,13 +1,15 @@
 //! What all traces have in common.
 ghost use Rattle.query_core.specs.declared.query.Query.{Query};
-ghost use Rattle.job_trace.specs.Laws.{TracesAreOne};
+ghost use Rattle.job_trace.specs.Laws.{TraceLinesAreOne, TracesAreOne, TracesBegin};
 
 use goal_children::{children_are_one, children_are_over_the_query};
 use goal_space::goal_kinds_are_one;
 
-/// Words of members and of goals have one trace.
+/// Words of members and of goals have one trace, and words of goals one first line of it.
 pub fn traces_are_known()
     ensures text { (q : Query) → TracesAreOne q }
+    ensures line { (q : Query) → TraceLinesAreOne q }
+    ensures begins { (q : Query) → TracesBegin q }
 {
     children_are_one();
     children_are_over_the_query();

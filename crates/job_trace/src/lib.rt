@@ -15,5 +15,5 @@ mod trace;
 
 pub use crew::crew_text;
 pub use laws::traces_are_known;
-pub use memo::{memo_text, memos_are_known};
-pub use trace::trace_text;
+pub use memo::{memo_line, memo_text, memos_are_known};
+pub use trace::{trace_line, trace_text};

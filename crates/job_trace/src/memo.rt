@@ -10,7 +10,7 @@ ghost use Rattle.query_core.specs.declared.query.Query.{Query};
 ghost use Rattle.query_core.specs.declared.expressions.ExprParts.{ExprParts};
 ghost use Rattle.query_text.specs.Added.{Adds};
 ghost use Rattle.job_trace.specs.Memo as texts;
-ghost use Rattle.job_trace.specs.Memo.{AreMembers, IsMemoText, groups_of, group_lines, memo_section};
+ghost use Rattle.job_trace.specs.Memo.{AreMembers, IsMemoLine, IsMemoText, groups_of, group_lines, memo_section};
 ghost use Rattle.job_trace.specs.Lines.{HaveWords, StandByGroup, begins as does_begin, heading};
 
 use crate::counts::push_count;
@@ -28,12 +28,18 @@ pub fn memo_text(alloc: Global, query: &Query, members: &[u64]) -> Result<Vec<u8
     requires ascending { IsStrictlyIncreasing members.now }
     ensures { IfOk result (λ text. IsMemoText query.now members.now text.items) }
 {
-    // For the proof: the words are those of one list of expressions.
-    memos_are_known();
-    candidates_are_known();
-    expressions_are_one();
-    let members = expressions(alloc, members)?;
+    let members = members_by_group(alloc, query, members)?;
     Ok(text_of(alloc, query, members.as_slice())?)
+}
+
+/// The bytes of the first line of that text: how many groups and how many members there are.
+pub fn memo_line(alloc: Global, query: &Query, members: &[u64]) -> Result<Vec<u8>, AllocError>
+    requires candidates { All (IsCandidateWord query.now) members.now }
+    requires ascending { IsStrictlyIncreasing members.now }
+    ensures { IfOk result (λ line. IsMemoLine query.now members.now line.items) }
+{
+    let members = members_by_group(alloc, query, members)?;
+    Ok(line_of(alloc, query, members.as_slice())?)
 }
 
 /// What all memos have in common.
@@ -48,6 +54,12 @@ pub fn memos_are_known()
     ensures text { (q : Query) (words text other : List ℕ) → IsMemoText q words text →
         IsMemoText q words other → text ≡ other }
 
+    // And one first line, with which the text begins.
+    ensures line { (q : Query) (words line other : List ℕ) → IsMemoLine q words line →
+        IsMemoLine q words other → line ≡ other }
+    ensures begins { (q : Query) (words text line : List ℕ) → IsMemoText q words text →
+        IsMemoLine q words line → (rest : List ℕ) × (text ≡ line ++ rest) }
+
     // No group comes twice, and there are as many lines as groups and members, and one more.
     ensures groups { (q : Query) (words : List ℕ) (es : List ExprParts) → AreMembers q words es →
         IsStrictlyIncreasing (map key_number (groups_of es)) }
@@ -56,6 +68,24 @@ pub fn memos_are_known()
 {
     candidates_are_known();
     expressions_are_one();
+}
+
+// The members of these words, which stand group by group.
+fn members_by_group(
+    alloc: Global,
+    _query: &Query,
+    words: &[u64],
+) -> Result<Vec<ExprParts>, AllocError>
+    requires candidates { All (IsCandidateWord _query.now) words.now }
+    requires ascending { IsStrictlyIncreasing words.now }
+    ensures members { IfOk result (λ made. AreMembers _query.now words.now made.items) }
+    ensures by_group { IfOk result (λ made. StandByGroup _query.now made.items) }
+{
+    // For the proof: the words are those of one list of expressions.
+    memos_are_known();
+    candidates_are_known();
+    expressions_are_one();
+    expressions(alloc, words)
 }
 
 // The expressions of the words.
@@ -80,6 +110,17 @@ fn text_of(alloc: Global, query: &Query, members: &[ExprParts]) -> Result<Vec<u8
     push_memo_line(group_count(members), members.len(), &mut text)?;
     push_groups(query, members, &mut text)?;
     Ok(text.into_bytes())
+}
+
+fn line_of(alloc: Global, _query: &Query, members: &[ExprParts]) -> Result<Vec<u8>, AllocError>
+    requires { StandByGroup _query.now members.now }
+    ensures { IfOk result (λ line.
+        line.items ≡ texts.memo_line (length (groups_of members.now)) (length members.now)) }
+{
+    groups_are_known();
+    let mut line = String::new(alloc);
+    push_memo_line(group_count(members), members.len(), &mut line)?;
+    Ok(line.into_bytes())
 }
 
 // Adds the first line.

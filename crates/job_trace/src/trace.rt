@@ -13,13 +13,13 @@ ghost use Rattle.goal_children.specs.Over.{IsGoalOver, IsGoalWordOver};
 ghost use Rattle.query_text.specs.Added.{Adds};
 ghost use Rattle.job_trace.specs.Counts.{counted};
 ghost use Rattle.job_trace.specs.Trace as texts;
-ghost use Rattle.job_trace.specs.Trace.{count_of, IsTraceText};
+ghost use Rattle.job_trace.specs.Trace.{AreGoals, count_of, IsTraceLine, IsTraceText};
 ghost use Rattle.job_trace.specs.GoalLines.{AddsTraced, HaveGoalWords};
 
 use crate::counts::push_count;
 use crate::goals::push_goal_line;
 use goal_children::{children_are_over_the_query, known_goal, list_children};
-use goal_space::{GoalKind, goal_kinds_are_one};
+use goal_space::GoalKind;
 use query_core::{Goal, Query};
 use request_props::Props;
 use std::alloc::{AllocError, Global};
@@ -39,17 +39,51 @@ pub fn trace_text(
     requires goals_ascend { IsStrictlyIncreasing goals.now }
     ensures { IfOk result (λ text. IsTraceText query.now members.now goals.now text.items) }
 {
-    // For the proof: goals over the query have words, and a word is that of one goal.
-    children_are_over_the_query();
-    let goals = typed_goals(alloc, goals)?;
+    let goals = goals_of(alloc, query, props, goals)?;
     let mut text = String::new(alloc);
     push_trace_line(goals.as_slice(), &mut text)?;
     push_all_traced(alloc, query, props, members, goals.as_slice(), &mut text)?;
     Ok(text.into_bytes())
 }
 
-/// The goals of the words.
-pub fn typed_goals(alloc: Global, words: &[u64]) -> Result<Vec<GoalKind>, AllocError>
+/// The bytes of the first line of the trace's text: how many goals there are, and how many of each kind. `goals` are
+/// words, ascending.
+pub fn trace_line(
+    alloc: Global,
+    query: &Query,
+    props: &Props,
+    goals: &[u64],
+) -> Result<Vec<u8>, AllocError>
+    requires props { IsProps query.now props.now }
+    requires goals { All (IsGoalWordOver query.now) goals.now }
+    requires goals_ascend { IsStrictlyIncreasing goals.now }
+    ensures { IfOk result (λ line. IsTraceLine query.now goals.now line.items) }
+{
+    let goals = goals_of(alloc, query, props, goals)?;
+    let mut line = String::new(alloc);
+    push_trace_line(goals.as_slice(), &mut line)?;
+    Ok(line.into_bytes())
+}
+
+/// The goals over the query that have these words.
+pub fn goals_of(
+    alloc: Global,
+    _query: &Query,
+    _props: &Props,
+    words: &[u64],
+) -> Result<Vec<GoalKind>, AllocError>
+    requires props { IsProps _query.now _props.now }
+    requires over { All (IsGoalWordOver _query.now) words.now }
+    requires ascending { IsStrictlyIncreasing words.now }
+    ensures { IfOk result (λ made. AreGoals _query.now words.now made.items) }
+{
+    // For the proof: goals over the query have words.
+    children_are_over_the_query();
+    typed_goals(alloc, words)
+}
+
+// The goals of the words.
+fn typed_goals(alloc: Global, words: &[u64]) -> Result<Vec<GoalKind>, AllocError>
     requires { (goals : List AnyGoal) × HaveGoalWords words.now goals }
     ensures { IfOk result (λ made. (goals : List AnyGoal) → HaveGoalWords words.now goals
         → made.items ≡ goals) }

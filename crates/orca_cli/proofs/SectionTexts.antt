@@ -5,12 +5,13 @@ use Rattle.query_core.specs.declared.query.Query.{Query}
 use Rattle.xform_rules.specs.Closure.{IsClosureOf}
 use Rattle.goal_list.specs.Listed.{AreGoalsOf}
 use Rattle.job_trace.specs.Memo as memos
+use Rattle.job_trace.specs.Trace as traces
 use Rattle.job_trace.specs.Trace.{IsTraceText}
 use Rattle.command_line.specs.declared.choices.Choices.{Choices}
 use Rattle.command_line.specs.declared.command.GenInput.{GenInput}
 use Rattle.orca_cli.specs.Asked.{IsWithinLimits}
 use Rattle.orca_cli.specs.Laws.{by, AreLines, SameTexts}
-use Rattle.orca_cli.specs.Sections.{IsMemoText, IsTrace, IsSectionText, IsWhere, GoesOn, first_line, gen_line, HasFirstLines}
+use Rattle.orca_cli.specs.Sections.{IsMemoText, IsTrace, IsMemoLine, IsTraceLine, IsSectionText, IsWhere, GoesOn, first_line, gen_line, HasFirstLines}
 use Rattle.orca_cli.specs.declared.sections.Section.{Section}
 use Rattle.orca_cli.specs.declared.sections.Section.TheVariants as sections
 
@@ -20,6 +21,8 @@ pub record OneSections : Type 0 where
   pub goals : (q : Query) (words others : List ℕ) → AreGoalsOf q words → AreGoalsOf q others → words ≡ others
   pub memo : (q : Query) (words text other : List ℕ) → memos.IsMemoText q words text → memos.IsMemoText q words other → text ≡ other
   pub trace : (q : Query) (members goals text other : List ℕ) → IsWithinLimits q → IsTraceText q members goals text → IsTraceText q members goals other → text ≡ other
+  pub memo_line : (q : Query) (words line other : List ℕ) → memos.IsMemoLine q words line → memos.IsMemoLine q words other → line ≡ other
+  pub trace_line : (q : Query) (goals line other : List ℕ) → IsWithinLimits q → traces.IsTraceLine q goals line → traces.IsTraceLine q goals other → line ≡ other
 
 -- a query has one memo's text
 pub memo_one : OneSections → (q : Query) (text other : List ℕ) → IsMemoText q text → IsMemoText q other → text ≡ other
@@ -83,11 +86,23 @@ same_texts choices workers more text other same = record {
   are_lines = no_lines choices.by_worker workers more;
 }
 
+-- a query has one first line of the memo
+memo_line_one : OneSections → (q : Query) (line other : List ℕ) → IsMemoLine q line → IsMemoLine q other → line ≡ other
+memo_line_one one q line other is again =
+    let words : is.words ≡ again.words = one.closure q is.words again.words is.closure again.closure in
+    one.memo_line q is.words line other is.is_line (subst (λ ws. memos.IsMemoLine q ws other) (sym words) again.is_line)
+
+-- and one of the trace
+trace_line_one : OneSections → (q : Query) (line other : List ℕ) → IsWithinLimits q → IsTraceLine q line → IsTraceLine q other → line ≡ other
+trace_line_one one q line other within is again =
+    let goals : is.goals ≡ again.goals = one.goals q is.goals again.goals is.all_goals again.all_goals in
+    one.trace_line q is.goals line other within is.is_line (subst (λ gs. traces.IsTraceLine q gs other) (sym goals) again.is_line)
+
 -- first lines of one query are one text
 pub first_lines_one : OneSections → (input : GenInput) (q : Query) (plan fore text other : List ℕ) → IsWithinLimits q → plan ≡ fore → HasFirstLines input q plan text → HasFirstLines input q fore other → text ≡ other
 first_lines_one one input q plan fore text other within same is again =
     is.lines
-    ∙ ap (λ p. gen_line input ++ first_line p ++ first_line is.memo ++ first_line is.trace) same
-    ∙ ap (λ m. gen_line input ++ first_line fore ++ first_line m ++ first_line is.trace) (memo_one one q is.memo again.memo is.is_memo again.is_memo)
-    ∙ ap (λ t. gen_line input ++ first_line fore ++ first_line again.memo ++ first_line t) (trace_one one q is.trace again.trace within is.is_trace again.is_trace)
+    ∙ ap (λ p. gen_line input ++ first_line p ++ is.memo ++ is.trace) same
+    ∙ ap (λ m. gen_line input ++ first_line fore ++ m ++ is.trace) (memo_line_one one q is.memo again.memo is.is_memo again.is_memo)
+    ∙ ap (λ t. gen_line input ++ first_line fore ++ again.memo ++ t) (trace_line_one one q is.trace again.trace within is.is_trace again.is_trace)
     ∙ sym again.lines

@@ -40,11 +40,6 @@ use Rattle.orca_cli.specs.declared.asked.Asked.TheVariants as askeds
 use Rattle.orca_cli.specs.declared.status.Status.{Status}
 use Rattle.orca_cli.specs.declared.status.Status.TheVariants.{QueryRefused, CatalogRefused}
 
--- what follows from a fact follows where that holds of an Ok
-pub IfOk-then : {T E : Type 0} (P Q : T → Type 0) (r : Result T E) → ((x : T) → P x → Q x) → IfOk r P → IfOk r Q
-IfOk-then P Q (Ok x) step fact = step x fact
-IfOk-then P Q (Err e) step fact = tt
-
 -- what follows from two facts follows where both hold of an Ok
 pub IfOk-both : {T E : Type 0} (P Q R : T → Type 0) (r : Result T E) → ((x : T) → P x → Q x → R x) → IfOk r P → IfOk r Q → IfOk r R
 IfOk-both P Q R (Ok x) step first second = step x first second

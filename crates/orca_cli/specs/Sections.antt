@@ -4,6 +4,7 @@ use Rattle.query_core.specs.declared.query.Query.{Query}
 use Rattle.xform_rules.specs.Closure.{IsClosureOf}
 use Rattle.goal_list.specs.Listed.{AreGoalsOf}
 use Rattle.job_trace.specs.Memo as memos
+use Rattle.job_trace.specs.Trace as traces
 use Rattle.job_trace.specs.Trace.{IsTraceText, IsCrewText}
 use Rattle.command_line.specs.Command.{shape_word}
 use Rattle.command_line.specs.declared.choices.Choices.{Choices}
@@ -33,6 +34,18 @@ pub record IsByWorker (query : Query) (workers : ℕ) (text : List ℕ) : Type 0
   pub one_each : length who ≡ length goals
   pub below : All (λ worker. worker < workers) who
   pub is_text : IsCrewText query goals who text
+
+-- the line is the first one of the memo's text
+pub record IsMemoLine (query : Query) (line : List ℕ) : Type 0 where
+  pub words : List ℕ
+  pub closure : IsClosureOf query words
+  pub is_line : memos.IsMemoLine query words line
+
+-- the line is the first one of the trace
+pub record IsTraceLine (query : Query) (line : List ℕ) : Type 0 where
+  pub goals : List ℕ
+  pub all_goals : AreGoalsOf query goals
+  pub is_line : traces.IsTraceLine query goals line
 
 -- ---- the sections behind the plan
 
@@ -90,10 +103,10 @@ gen_line input = gen_words input.number input.tables (shape_word input.shape)
 -- the text has the line of what was generated, and the first lines of the plan, of the memo and of the trace
 pub record HasFirstLines (input : GenInput) (query : Query) (plan text : List ℕ) : Type 0 where
   pub memo : List ℕ
-  pub is_memo : IsMemoText query memo
+  pub is_memo : IsMemoLine query memo
   pub trace : List ℕ
-  pub is_trace : IsTrace query trace
-  pub lines : text ≡ gen_line input ++ first_line plan ++ first_line memo ++ first_line trace
+  pub is_trace : IsTraceLine query trace
+  pub lines : text ≡ gen_line input ++ first_line plan ++ memo ++ trace
 
 -- ---- what is printed of a search
 

@@ -7,7 +7,7 @@ ghost use Rattle.orca_cli.specs.Views.{text_of};
 
 use crate::ending::Ending;
 use crate::search::Search;
-use crate::sections::{memo_section, trace_section};
+use crate::sections::{memo_first_line, trace_first_line};
 use command_line::{Choices, GenInput};
 use query_generator::GenShape;
 use std::alloc::{AllocError, Global};
@@ -25,8 +25,8 @@ pub fn with_first_lines(
     ensures text { IfOk result (λ made. HasFirstLines input search.entry.query.now
         (text_of ending) (text_of made)) }
 {
-    let memo = memo_section(alloc, choices, search)?;
-    let trace = trace_section(alloc, choices, search)?;
+    let memo = memo_first_line(alloc, choices, search)?;
+    let trace = trace_first_line(alloc, choices, search)?;
     let line = gen_line(alloc, input)?;
     let text = with_lines_of(line, &ending.text, &memo, &trace)?;
     Ok(Ending {
@@ -35,7 +35,7 @@ pub fn with_first_lines(
     })
 }
 
-// The text with the first lines of these behind it.
+// The text, and behind it the plan's first line and those of the memo and of the trace.
 fn with_lines_of(
     front: Vec<u8>,
     plan: &[u8],
@@ -43,12 +43,12 @@ fn with_lines_of(
     trace: &[u8],
 ) -> Result<Vec<u8>, AllocError>
     ensures { IfOk result (λ text. text.items
-        ≡ front.items ++ line_first plan.now ++ line_first memo.now ++ line_first trace.now) }
+        ≡ front.items ++ line_first plan.now ++ memo.now ++ trace.now) }
 {
     let mut text = front;
     text.extend_from_slice(first_line(plan))?;
-    text.extend_from_slice(first_line(memo))?;
-    text.extend_from_slice(first_line(trace))?;
+    text.extend_from_slice(memo)?;
+    text.extend_from_slice(trace)?;
     Ok(text)
 }
 

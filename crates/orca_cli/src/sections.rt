@@ -1,14 +1,14 @@
 //! The sections that may stand behind the plan.
 ghost use Rattle.std.specs.Prelude.{◌≡◌, ◌++◌, IfOk};
 ghost use Rattle.orca_cli.specs.Searches.{IsSearch};
-ghost use Rattle.orca_cli.specs.Sections.{GoesOn, IsBehind, IsByWorker, IsMemoText, IsSectionText, IsTrace, is_asked as is_asked_by};
+ghost use Rattle.orca_cli.specs.Sections.{GoesOn, IsBehind, IsByWorker, IsMemoLine, IsMemoText, IsSectionText, IsTrace, IsTraceLine, is_asked as is_asked_by};
 ghost use Rattle.orca_cli.specs.Views.{text_of};
 
 use crate::ending::Ending;
 use crate::search::Search;
 use command_line::Choices;
 use goal_list::goal_lists_are_known;
-use job_trace::{crew_text, memo_text, trace_text};
+use job_trace::{crew_text, memo_line, memo_text, trace_line, trace_text};
 use std::alloc::{AllocError, Global};
 use xform_rules::members_are_known;
 
@@ -92,12 +92,8 @@ impl Section {
     }
 }
 
-/// The bytes of the memo's text.
-pub fn memo_section(
-    alloc: Global,
-    choices: Choices,
-    search: Search<'_>,
-) -> Result<Vec<u8>, AllocError>
+// The bytes of the memo's text.
+fn memo_section(alloc: Global, choices: Choices, search: Search<'_>) -> Result<Vec<u8>, AllocError>
     requires { IsSearch search choices.workers }
     ensures { IfOk result (λ text. IsMemoText search.entry.query.now text.items) }
 {
@@ -106,12 +102,8 @@ pub fn memo_section(
     memo_text(alloc, search.query, search.members)
 }
 
-/// The bytes of the trace's text.
-pub fn trace_section(
-    alloc: Global,
-    choices: Choices,
-    search: Search<'_>,
-) -> Result<Vec<u8>, AllocError>
+// The bytes of the trace's text.
+fn trace_section(alloc: Global, choices: Choices, search: Search<'_>) -> Result<Vec<u8>, AllocError>
     requires { IsSearch search choices.workers }
     ensures { IfOk result (λ text. IsTrace search.entry.query.now text.items) }
 {
@@ -137,6 +129,34 @@ fn crew_section(alloc: Global, choices: Choices, search: Search<'_>) -> Result<V
     // The words of goals are those of goals over the query.
     goal_lists_are_known();
     crew_text(alloc, search.query, search.props, search.goals, search.who)
+}
+
+/// The bytes of the first line of the memo's text.
+pub fn memo_first_line(
+    alloc: Global,
+    choices: Choices,
+    search: Search<'_>,
+) -> Result<Vec<u8>, AllocError>
+    requires { IsSearch search choices.workers }
+    ensures { IfOk result (λ line. IsMemoLine search.entry.query.now line.items) }
+{
+    // The words of members are those of expressions that groups can hold.
+    members_are_known();
+    memo_line(alloc, search.query, search.members)
+}
+
+/// The bytes of the first line of the trace's text.
+pub fn trace_first_line(
+    alloc: Global,
+    choices: Choices,
+    search: Search<'_>,
+) -> Result<Vec<u8>, AllocError>
+    requires { IsSearch search choices.workers }
+    ensures { IfOk result (λ line. IsTraceLine search.entry.query.now line.items) }
+{
+    // The words of goals are those of goals over the query.
+    goal_lists_are_known();
+    trace_line(alloc, search.query, search.props, search.goals)
 }
 
 // The ending with more text behind its own.

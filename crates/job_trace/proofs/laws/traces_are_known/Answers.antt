@@ -1,4 +1,5 @@
 use Rattle.job_trace.proofs.OneTrace.{one_text}
+use Rattle.job_trace.proofs.OneLine.{one_line, begins}
 use Rattle.job_trace.proofs.laws.traces_are_known.Goals as goal
 
 -- goals over a query have words, a word is that of one goal, and its children are one list
@@ -10,4 +11,6 @@ returns c = record {
       c.goal_kinds_are_one.ensures.one
       (λ goal children others over are also. c.children_are_one.ensures q few_lists few_orders members goal children others over are also)
       goals text other is again;
+  line = λ q few_lists few_orders. one_line q (c.children_are_over_the_query.ensures.words q few_lists few_orders) c.goal_kinds_are_one.ensures.one;
+  begins = λ q few_lists few_orders. begins q (c.children_are_over_the_query.ensures.words q few_lists few_orders) c.goal_kinds_are_one.ensures.one;
 }

@@ -1,8 +1,8 @@
-use Rattle.std.proofs.Common.{◌≡◌, List, ℕ, ap, sym, ◌∙◌}
+use Rattle.std.proofs.Common.{◌≡◌, ◌++◌, List, ℕ, ap, flat_map, length, sym, ◌∙◌}
 use Rattle.std.specs.List.{concat}
 use Rattle.query_core.specs.declared.query.Query.{Query}
 use Rattle.query_core.specs.declared.expressions.ExprParts.{ExprParts}
-use Rattle.job_trace.specs.Memo.{AreMembers, memo_section}
+use Rattle.job_trace.specs.Memo.{AreMembers, groups_of, group_lines, memo_line, memo_section}
 use Rattle.job_trace.specs.Lines.{HaveWords}
 use Rattle.job_trace.proofs.ByGroup.{AreFrom, are_from}
 use Rattle.job_trace.proofs.Order.{keys_ascend, have_words}
@@ -28,6 +28,11 @@ returns c = record {
   one = one c;
   text = λ q words text other is again.
       is.lines ∙ ap (λ es. concat (memo_section q es)) (one c q words is.members again.members is.are again.are) ∙ sym again.lines;
+  line = λ q words line other is again.
+      is.is_line ∙ ap (λ es. memo_line (length (groups_of es)) (length es)) (one c q words is.members again.members is.are again.are) ∙ sym again.is_line;
+  begins = λ q words text line is first.
+      let rest : List ℕ = concat (flat_map (group_lines q is.members) (groups_of is.members)) in
+      (rest, is.lines ∙ ap (λ start. start ++ rest) (ap (λ es. memo_line (length (groups_of es)) (length es)) (one c q words is.members first.members is.are first.are) ∙ sym first.is_line));
   groups = λ q words es are. groups_rise es (from c q words es are);
   lines = λ q words es are. lines_each q es (from c q words es are);
 }

@@ -1,7 +1,8 @@
 use Rattle.std.proofs.Common.{◌∙◌}
 use Rattle.orca_cli.specs.Asked.{Asks}
 use Rattle.orca_cli.specs.Run.{IsAnswer}
-use Rattle.orca_cli.proofs.Stages.{IfOk-then, stopped, unnumbered_answer}
+use Rattle.std.proofs.lemmas.Result.{IfOk-weaker}
+use Rattle.orca_cli.proofs.Stages.{stopped, unnumbered_answer}
 use Rattle.orca_cli.proofs.binding.asked_as.Goals as goal
 
 -- the query is within the limits, since its lists and orders have numbers
@@ -12,6 +13,6 @@ returns-in-Ok c = λ catalog text bound. (record { bound = bound; within = recor
 pub returns-in_ok-props_fault_text-in-Err : goal.returns-in_ok-props_fault_text-in-Err
 returns-in_ok-props_fault_text-in-Err c = λ catalog text bound.
     let told = c.in_ok-props_fault_text-in-Err.ensures in
-    IfOk-then _ _ c.refused_query.result
+    IfOk-weaker c.refused_query.result _ _
     (λ a is. stopped (Asks catalog c.args.choices.options text) (IsAnswer catalog c.args.choices text) _ _ a tt (unnumbered_answer catalog c.args.choices text c.deref.result.now c.args.query c.in-Err.fault bound c.in-Err.ensures.fault told.not_memory (c.deref.ensures ∙ told.text)) is)
     c.refused_query.ensures

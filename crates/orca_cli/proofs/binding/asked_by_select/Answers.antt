@@ -1,7 +1,8 @@
 use Rattle.std.proofs.Common.{◌∙◌}
 use Rattle.orca_cli.specs.Asked.{Asks, IsBoundAs}
 use Rattle.orca_cli.specs.Run.{IsAnswer}
-use Rattle.orca_cli.proofs.Stages.{IfOk-then, stopped, unbound_answer}
+use Rattle.std.proofs.lemmas.Result.{IfOk-weaker}
+use Rattle.orca_cli.proofs.Stages.{stopped, unbound_answer}
 use Rattle.orca_cli.proofs.binding.asked_by_select.Goals as goal
 
 -- the select is bound, so the text is
@@ -14,6 +15,6 @@ returns-in-Ok c = λ text reading.
 pub returns-in_ok-bind_fault_text-in-Err : goal.returns-in_ok-bind_fault_text-in-Err
 returns-in_ok-bind_fault_text-in-Err c = λ text reading.
     let not_memory = c.in_ok-bind_fault_text-in-Err.ensures.not_memory in
-    IfOk-then _ _ c.refused_query.result
+    IfOk-weaker c.refused_query.result _ _
     (λ a is. stopped (Asks c.args.catalog.now c.args.choices.options text) (IsAnswer c.args.catalog.now c.args.choices text) _ _ a tt (unbound_answer c.args.catalog.now c.args.choices text c.deref.result.now c.args.select.now c.in-Err.fault reading (c.in-Err.ensures not_memory) not_memory (c.deref.ensures ∙ c.in_ok-bind_fault_text-in-Err.ensures.text)) is)
     c.refused_query.ensures

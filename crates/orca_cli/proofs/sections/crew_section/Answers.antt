@@ -1,4 +1,4 @@
-use Rattle.orca_cli.proofs.Stages.{IfOk-then}
+use Rattle.std.proofs.lemmas.Result.{IfOk-weaker}
 use Rattle.orca_cli.proofs.sections.crew_section.Goals as goal
 
 -- the words are those of all goals, and each has a worker
@@ -12,5 +12,5 @@ crew_text-requires c = record {
 
 -- the text is that of all goals
 pub returns : goal.returns
-returns c = IfOk-then _ _ c.crew_text.result
+returns c = IfOk-weaker c.crew_text.result _ _
     (λ text is. record { goals = c.args.search.goals.now; all_goals = c.requires.all_goals; who = c.args.search.who.now; one_each = c.requires.one_each; below = c.requires.below; is_text = is }) c.crew_text.ensures

@@ -1,4 +1,4 @@
-use Rattle.orca_cli.proofs.Stages.{IfOk-then}
+use Rattle.std.proofs.lemmas.Result.{IfOk-weaker}
 use Rattle.orca_cli.proofs.sections.memo_section.Goals as goal
 
 -- the words are those of the closure
@@ -7,4 +7,4 @@ memo_text-requires c = record { candidates = c.members_are_known.ensures.candida
 
 -- the text is that of the closure
 pub returns : goal.returns
-returns c = IfOk-then _ _ c.memo_text.result (λ text is. record { words = c.args.search.members.now; closure = c.requires.closure; is_text = is }) c.memo_text.ensures
+returns c = IfOk-weaker c.memo_text.result _ _ (λ text is. record { words = c.args.search.members.now; closure = c.requires.closure; is_text = is }) c.memo_text.ensures

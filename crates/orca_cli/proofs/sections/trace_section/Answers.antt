@@ -1,4 +1,4 @@
-use Rattle.orca_cli.proofs.Stages.{IfOk-then}
+use Rattle.std.proofs.lemmas.Result.{IfOk-weaker}
 use Rattle.orca_cli.proofs.sections.trace_section.Goals as goal
 
 -- the words are those of the closure, and of all goals
@@ -13,5 +13,5 @@ trace_text-requires c = record {
 
 -- the text is that of all goals over the closure
 pub returns : goal.returns
-returns c = IfOk-then _ _ c.trace_text.result
+returns c = IfOk-weaker c.trace_text.result _ _
     (λ text is. record { members = c.args.search.members.now; closure = c.requires.closure; goals = c.args.search.goals.now; all_goals = c.requires.all_goals; is_text = is }) c.trace_text.ensures
