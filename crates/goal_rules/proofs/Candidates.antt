@@ -17,7 +17,7 @@ use Rattle.query_core.specs.declared.expressions.Operator.{Operator}
 use Rattle.query_core.specs.declared.expressions.Operator.TheVariants as operators
 use Rattle.query_core.specs.declared.expressions.ExprParts.{ExprParts}
 use Rattle.goal_rules.specs.Grown.{IndexesRise, LogicalComeFirst}
-use Rattle.goal_rules.proofs.WordFields.{SmallKeys, middle_of, HasFields, has_fields, middle_field}
+use Rattle.goal_rules.proofs.WordFields.{middle_of, HasFields, has_fields, middle_field}
 
 -- ---- logical candidates come first
 
@@ -66,12 +66,12 @@ number_less q group (operators.Logical o) (operators.Physical p) shape other wan
 number_less q group (operators.Logical o) (operators.Logical p) shape other wanted made = absurd (made refl)
 number_less q group (operators.Physical o) p shape other wanted made = absurd (false≢true wanted)
 
-pub logical_first : SmallKeys → (q : Query) → ((e : ExprParts) → IsCandidate q e → IsPacked e) → LogicalComeFirst q
-logical_first small q packed e other known other_known same wanted made =
+pub logical_first : (q : Query) → ((e : ExprParts) → IsCandidate q e → IsPacked e) → LogicalComeFirst q
+logical_first q packed e other known other_known same wanted made =
     let shape : HasShape q e.group other.operator = subst (λ (g : KeyParts). HasShape q g other.operator) (sym same) other_known.shape in
     let less = number_less q e.group e.operator other.operator known.shape shape wanted made in
-    let e_has = has_fields small e (packed e known) in
-    let other_has = has_fields small other (packed other other_known) in
+    let e_has = has_fields e (packed e known) in
+    let other_has = has_fields other (packed other other_known) in
     let e_is = e_has.word_is in
     let other_is = other_has.word_is in
     let e_few = e_has.right_below in
@@ -154,14 +154,14 @@ middle_apart e other index other_index has other_has keys_same rights less above
     let right_same = rights numbers lefts in
     omega (arith, is, other_is, keys_same, same, right_same, less)
 
-pub indexes_rise : SmallKeys → (q : Query) → ((set : ℕ) → tables_of (top_of q set) ≡ set)
+pub indexes_rise : (q : Query) → ((set : ℕ) → tables_of (top_of q set) ≡ set)
     → ((p g : KeyParts) → keys.IsInRange p → keys.IsInRange g → key_number p ≡ key_number g → p ≡ g) → ((e : ExprParts) → IsCandidate q e → IsPacked e) → IndexesRise q
-indexes_rise small q tables one_group packed e other known other_known same less =
+indexes_rise q tables one_group packed e other known other_known same less =
     let shape : HasShape q e.group other.operator = subst (λ (g : KeyParts). HasShape q g other.operator) (sym same) other_known.shape in
     let e_packed = packed e known in
     let other_packed = packed other other_known in
-    let e_has = has_fields small e e_packed in
-    let other_has = has_fields small other other_packed in
+    let e_has = has_fields e e_packed in
+    let other_has = has_fields other other_packed in
     let keys_same : key_number e.group ≡ key_number other.group = ap key_number same in
     let rights = rights_one q tables one_group e.group e.operator other.operator (has_sides q e.group e.operator known.shape) (has_sides q e.group other.operator shape)
     e_packed.children other_packed.children in

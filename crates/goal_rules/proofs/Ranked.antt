@@ -8,6 +8,7 @@ use Rattle.query_core.specs.Goals.{FitsGoal}
 use Rattle.query_core.specs.declared.words.KeyParts.{KeyParts}
 use Rattle.query_core.specs.declared.words.KeyParts.TheVariants as groups
 use Rattle.query_core.specs.declared.expressions.ExprParts.{ExprParts}
+use Rattle.query_core.proofs.ExpressionLemmas.{key_small}
 use Rattle.request_props.specs.Requests as requests
 use Rattle.request_props.specs.Requests.{dist_code, code_of}
 use Rattle.request_props.specs.declared.request.Dist.{Dist}
@@ -19,34 +20,42 @@ use Rattle.goal_space.specs.Ranks.{level_of, dist_rank, order_rank, request_rank
 use Rattle.goal_space.specs.declared.goals.GoalKind.{GoalKind}
 use Rattle.goal_space.specs.declared.goals.GoalKind.TheVariants.{Exp, ExpE, Xf, Imp, ImpE, Opt, OptE}
 use Rattle.goal_rules.specs.WordRanks.{level_by, expr_level_by, dist_rank_by, rank_by, rank_of_word}
-use Rattle.goal_rules.proofs.WordFields.{SmallKeys, has_fields, key_field, AreGoalFields, goal_fields}
+use Rattle.goal_rules.proofs.WordFields.{has_fields, key_field, AreGoalFields, goal_fields}
 
 -- ---- groups
 
+-- the level by a key is that of its group
 level_ranked : (g : KeyParts) → keys.IsInRange g → level_by (key_number g) ≡ level_of g
-level_ranked (groups.Get t) known = rw (lt-ltb t 16 (omega (arith, known)))
-level_ranked (groups.Filter t) known = rw (le-ltb (16 + t) 16 (omega arith), lt-ltb (16 + t) 1024 (omega (arith, known)))
+level_ranked (groups.Get t) known = rw (lt-ltb t (key_number (groups.Filter 0)) (omega (arith, known)))
+level_ranked (groups.Filter t) known =
+    let key = key_number (groups.Filter t) in
+    rw (le-ltb key (key_number (groups.Filter 0)) (omega arith), lt-ltb key (key_number (groups.Join 0)) (omega (arith, known)))
 level_ranked (groups.Join set) known =
-    let same : 1024 + set - 1024 ≡ set = omega arith in
-    rw (le-ltb (1024 + set) 16 (omega arith), le-ltb (1024 + set) 1024 (omega arith), lt-ltb (1024 + set) 2048 (omega (arith, known)))
+    let key = key_number (groups.Join set) in
+    let same : key - key_number (groups.Join 0) ≡ set = omega arith in
+    rw (le-ltb key (key_number (groups.Filter 0)) (omega arith), le-ltb key (key_number (groups.Join 0)) (omega arith), lt-ltb key (key_number groups.Partial) (omega (arith, known)))
     (ap (λ (s : ℕ). 1 + table_count s) same)
 level_ranked groups.Partial known = refl
 level_ranked groups.Agg known = refl
 
-expr_ranked : SmallKeys → (e : ExprParts) → IsPacked e → expr_level_by (word_of e) ≡ level_of e.group
-expr_ranked small e packed = ap level_by (key_field e (has_fields small e packed)) ∙ level_ranked e.group packed.group
+-- and so for an expression
+expr_ranked : (e : ExprParts) → IsPacked e → expr_level_by (word_of e) ≡ level_of e.group
+expr_ranked e packed = ap level_by (key_field e (has_fields e packed)) ∙ level_ranked e.group packed.group
 
 -- ---- requests
 
+-- the third successor is three more
 three_more : (list : ℕ) → 3 + list ≡ suc (suc (suc list))
 three_more list = omega arith
 
+-- the rank by a distribution's code is that of the distribution
 dist_ranked : (dist : Dist) → dist_rank_by (dist_code dist) ≡ dist_rank dist
 dist_ranked dists.One = refl
 dist_ranked dists.Spread = refl
 dist_ranked dists.Copies = refl
 dist_ranked (dists.Hashed list) = rw three_more refl
 
+-- the rank by a request's code is that of the request
 request_ranked : (wanted : Request) → requests.IsInRange wanted → dist_rank_by (code_of wanted / 64) + order_rank (code_of wanted % 64) ≡ request_rank wanted
 request_ranked wanted in_range =
     let few = in_range.numbered in
@@ -65,10 +74,10 @@ by_fields word kind subject detail are =
     ∙ ap (λ (s : ℕ). rank_by kind s (word % 2 ^ 12)) are.subject_is
     ∙ ap (λ (d : ℕ). rank_by kind subject d) are.detail_is
 
-module _ (small_group : SmallKeys) (small_expr : (e : ExprParts) → IsPacked e → word_of e < 2 ^ 48) (fits : (k : GoalKind) → IsInRange k → FitsGoal (parts_of k)) where
+module _ (small_expr : (e : ExprParts) → IsPacked e → word_of e < 2 ^ 48) (fits : (k : GoalKind) → IsInRange k → FitsGoal (parts_of k)) where
   of_group : (kind : ℕ) → kind < 8 → (g : KeyParts) → keys.IsInRange g → (detail : ℕ) → detail < 2 ^ 12
       → rank_of_word (2 ^ 63 + kind * 2 ^ 60 + key_number g * 2 ^ 12 + detail) ≡ rank_by kind (key_number g) detail
-  of_group kind few g known detail less = by_fields _ kind (key_number g) detail (goal_fields kind (key_number g) detail few (omega (arith, small_group g known)) less)
+  of_group kind few g known detail less = by_fields _ kind (key_number g) detail (goal_fields kind (key_number g) detail few (omega (arith, key_small g known)) less)
 
   of_expr : (kind : ℕ) → kind < 8 → (e : ExprParts) → IsPacked e → (detail : ℕ) → detail < 2 ^ 12
       → rank_of_word (2 ^ 63 + kind * 2 ^ 60 + word_of e * 2 ^ 12 + detail) ≡ rank_by kind (word_of e) detail
@@ -76,12 +85,12 @@ module _ (small_group : SmallKeys) (small_expr : (e : ExprParts) → IsPacked e 
 
   pub word_ranked : (k : GoalKind) → IsInRange k → rank_of_word (goal_word k) ≡ rank_of k
   word_ranked (Exp group) known = of_group 0 (omega arith) group known 0 (omega arith) ∙ omega (arith, level_ranked group known)
-  word_ranked (ExpE e) known = of_expr 1 (omega arith) e known 0 (omega arith) ∙ omega (arith, expr_ranked small_group e known)
-  word_ranked (Xf e rule) known = of_expr 2 (omega arith) e known _ (omega (arith, (fits (Xf e rule) known).2)) ∙ omega (arith, expr_ranked small_group e known)
+  word_ranked (ExpE e) known = of_expr 1 (omega arith) e known 0 (omega arith) ∙ omega (arith, expr_ranked e known)
+  word_ranked (Xf e rule) known = of_expr 2 (omega arith) e known _ (omega (arith, (fits (Xf e rule) known).2)) ∙ omega (arith, expr_ranked e known)
   word_ranked (Imp group) known = of_group 3 (omega arith) group known 0 (omega arith) ∙ omega (arith, level_ranked group known)
-  word_ranked (ImpE e) known = of_expr 4 (omega arith) e known 0 (omega arith) ∙ omega (arith, expr_ranked small_group e known)
+  word_ranked (ImpE e) known = of_expr 4 (omega arith) e known 0 (omega arith) ∙ omega (arith, expr_ranked e known)
   word_ranked (Opt group wanted) known =
       of_group 5 (omega arith) group known.0 (code_of wanted) (fits (Opt group wanted) known).1
       ∙ omega (arith, level_ranked group known.0, request_ranked wanted known.1)
   word_ranked (OptE e wanted) known =
-      of_expr 6 (omega arith) (expr_of e) known.0 (code_of wanted) (fits (OptE e wanted) known).1 ∙ omega (arith, expr_ranked small_group (expr_of e) known.0)
+      of_expr 6 (omega arith) (expr_of e) known.0 (code_of wanted) (fits (OptE e wanted) known).1 ∙ omega (arith, expr_ranked (expr_of e) known.0)

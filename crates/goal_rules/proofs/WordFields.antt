@@ -1,48 +1,9 @@
 -- The fields of words: of an expression, and of a goal.
 use Rattle.std.proofs.Common.{◌≡◌, ℕ, ◌+◌, ◌*◌, ◌/◌, ◌%◌, ◌^◌, ◌<◌, arith}
-use Rattle.query_core.specs.Keys as keys
-use Rattle.query_core.specs.Keys.{key_number, IsGroup}
-use Rattle.query_core.specs.Expressions.{children_of, fields_of, left_number, right_number, word_of, AreInRange, IsPacked}
-use Rattle.query_core.specs.declared.words.KeyParts.{KeyParts}
-use Rattle.query_core.specs.declared.expressions.Children.{Children}
-use Rattle.query_core.specs.declared.expressions.Children.TheVariants.{Zero, One, Two}
-use Rattle.query_core.specs.declared.expressions.Logical.TheVariants as logical
-use Rattle.query_core.specs.declared.expressions.Physical.TheVariants as physical
-use Rattle.query_core.specs.declared.expressions.Operator.{Operator}
-use Rattle.query_core.specs.declared.expressions.Operator.TheVariants as operators
+use Rattle.query_core.specs.Keys.{key_number}
+use Rattle.query_core.specs.Expressions.{children_of, fields_of, left_number, right_number, word_of, IsPacked}
 use Rattle.query_core.specs.declared.expressions.ExprParts.{ExprParts}
-
-operator_few : (o : Operator) → (fields_of o).number < 32
-operator_few (operators.Logical logical.Get) = omega arith
-operator_few (operators.Logical (logical.Select child)) = omega arith
-operator_few (operators.Logical logical.NJoin) = omega arith
-operator_few (operators.Logical (logical.Join left right)) = omega arith
-operator_few (operators.Logical (logical.Agg child)) = omega arith
-operator_few (operators.Logical (logical.Partial child)) = omega arith
-operator_few (operators.Physical physical.Scan) = omega arith
-operator_few (operators.Physical (physical.IndexScan index)) = omega arith
-operator_few (operators.Physical (physical.Filter child)) = omega arith
-operator_few (operators.Physical (physical.IndexSeek index)) = omega arith
-operator_few (operators.Physical (physical.HashJoin left right)) = omega arith
-operator_few (operators.Physical (physical.MergeJoin left right)) = omega arith
-operator_few (operators.Physical (physical.LoopJoin left right)) = omega arith
-operator_few (operators.Physical (physical.HashAgg child)) = omega arith
-operator_few (operators.Physical (physical.StreamAgg child)) = omega arith
-operator_few (operators.Physical (physical.PartialAgg child)) = omega arith
-
--- keys are below 2050
-abbrev pub SmallKeys : Type 0
-SmallKeys = (g : KeyParts) → keys.IsInRange g → key_number g < 2050
-
-left_few : SmallKeys → (children : Children) → AreInRange children → left_number children < 2 ^ 13
-left_few small Zero known = omega arith
-left_few small (One child) known = omega (arith, small child known)
-left_few small (Two left right) known = omega (arith, small left known.0)
-
-right_few : SmallKeys → (children : Children) → AreInRange children → right_number children < 2 ^ 13
-right_few small Zero known = omega arith
-right_few small (One child) known = omega arith
-right_few small (Two left right) known = omega (arith, small right known.1)
+use Rattle.query_core.proofs.ExpressionLemmas.{operator_small, left_small, right_small}
 
 -- what a word has between its key and its right child
 abbrev pub middle_of : ExprParts → ℕ
@@ -55,12 +16,12 @@ pub record HasFields (e : ExprParts) : Type 0 where
   pub left_below : left_number (children_of e.operator) < 2 ^ 13
   pub right_below : right_number (children_of e.operator) < 2 ^ 13
 
-pub has_fields : SmallKeys → (e : ExprParts) → IsPacked e → HasFields e
-has_fields small e packed =
-    let number = operator_few e.operator in
+pub has_fields : (e : ExprParts) → IsPacked e → HasFields e
+has_fields e packed =
+    let number = operator_small e.operator in
     let index = packed.index in
-    let left = left_few small (children_of e.operator) packed.children in
-    let right = right_few small (children_of e.operator) packed.children in
+    let left = left_small (children_of e.operator) packed.children in
+    let right = right_small (children_of e.operator) packed.children in
     record { word_is = omega arith; middle_few = omega arith; left_below = left; right_below = right }
 
 -- the key stands above all else
@@ -77,6 +38,7 @@ pub record AreGoalFields (word kind subject detail : ℕ) : Type 0 where
   pub subject_is : word / 2 ^ 12 % 2 ^ 48 ≡ subject
   pub detail_is : word % 2 ^ 12 ≡ detail
 
+-- a number of this kind, subject and detail has these fields
 pub goal_fields : (kind subject detail : ℕ) → kind < 8 → subject < 2 ^ 48 → detail < 2 ^ 12
     → AreGoalFields (2 ^ 63 + kind * 2 ^ 60 + subject * 2 ^ 12 + detail) kind subject detail
 goal_fields kind subject detail few small fits = record { kind_is = omega arith; subject_is = omega arith; detail_is = omega arith }

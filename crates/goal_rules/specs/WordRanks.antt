@@ -1,21 +1,23 @@
 -- The rank of a goal by its word, as a function of any number.
 use Rattle.std.specs.Prelude.{ℕ, zero, suc, ◌≡◌, ◌+◌, ◌-◌, ◌*◌, ◌/◌, ◌%◌, ◌^◌, ◌<◌, nat_lt, if◌then◌else◌}
+use Rattle.query_core.specs.Keys.{key_number}
 use Rattle.query_core.specs.declared.query.Query.{Query}
+use Rattle.query_core.specs.declared.words.KeyParts.TheVariants.{Filter, Join, Partial}
 use Rattle.xform_rules.specs.Counts.{table_count}
 use Rattle.goal_space.specs.Words.{goal_word, IsInRange}
 use Rattle.goal_space.specs.Ranks.{order_rank, rank_of}
 use Rattle.goal_space.specs.Entries.{IsChildWord}
 use Rattle.goal_space.specs.declared.goals.GoalKind.{GoalKind}
 
--- the level of the group whose key has this number
+-- the level of the group whose key has this number: of a table, of one with own predicates, of a join of tables, and of the two of a grouped query
 abbrev pub level_by : ℕ → ℕ
 level_by key =
-    if nat_lt key 16 then 1
-    else if nat_lt key 1024 then 2
-    else if nat_lt key 2048 then 1 + table_count (key - 1024)
-    else key - 2036
+    if nat_lt key (key_number (Filter 0)) then 1
+    else if nat_lt key (key_number (Join 0)) then 2
+    else if nat_lt key (key_number Partial) then 1 + table_count (key - key_number (Join 0))
+    else 12 + (key - key_number Partial)
 
--- the level of the group of the expression with this word
+-- the level of the group of the expression with this word, which begins with the key
 abbrev pub expr_level_by : ℕ → ℕ
 expr_level_by word = level_by (word / 2 ^ 36)
 

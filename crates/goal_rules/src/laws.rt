@@ -10,7 +10,7 @@ ghost use Rattle.goal_rules.specs.Known.{EntriesAreMembers, GoalWordsAreKnown, E
 ghost use Rattle.goal_rules.specs.WordRanks.{WordRanksAreRanks};
 
 use goal_space::{goal_kinds_are_one, goals_are_known};
-use query_core::{candidates_are_known, expressions_are_one, groups_are_known, sides_are_known};
+use query_core::{candidates_are_known, expressions_are_one, sides_are_known};
 use xform_rules::{members_are_candidates, members_are_known, results_are_known};
 
 /// What the words of entries stand for.
@@ -41,7 +41,6 @@ pub fn candidates_are_in_order()
     ensures some { (e : ExprParts) → 0 < word_of e }
 {
     candidates_are_known();
-    groups_are_known();
     expressions_are_one();
     sides_are_known();
 }
@@ -63,6 +62,5 @@ pub fn ranks_are_known()
     ensures { WordRanksAreRanks }
 {
     expressions_are_one();
-    groups_are_known();
     goal_kinds_are_one();
 }

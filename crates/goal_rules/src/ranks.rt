@@ -2,10 +2,12 @@
 #![tactic(auto)]
 
 ghost use Rattle.std.specs.Prelude.{◌≡◌, ◌<◌, ◌≤◌, ◌+◌, ◌/◌, ◌%◌, ◌^◌};
+ghost use Rattle.query_core.specs.Keys.{key_number, IsInRange};
 ghost use Rattle.goal_space.specs.Ranks.{order_rank as rank_of_order};
 ghost use Rattle.goal_rules.specs.WordRanks.{dist_rank_by, expr_level_by, level_by, rank_of_word as rank_number};
 
 use goal_space::table_count;
+use query_core::{Key, KeyParts};
 
 /// The rank of the goal of this word.
 pub fn rank_of_word(word: u64) -> u64
@@ -29,12 +31,24 @@ fn level(key: u64) -> u64
     ensures value { result ≡ level_by key }
     ensures few { result < 2 ^ 48 }
 {
-    match key {
-        0..16 => 1,
-        16..1024 => 2,
-        1024..2048 => 1 + table_count((key - 1024) as u32),
-        _ => key - 2036,
+    if key < number_of(KeyParts::Filter(0)) {
+        return 1;
     }
+    if key < number_of(KeyParts::Join(0)) {
+        return 2;
+    }
+    if key < number_of(KeyParts::Partial) {
+        return 1 + table_count((key - number_of(KeyParts::Join(0))) as u32);
+    }
+    12 + (key - number_of(KeyParts::Partial))
+}
+
+// The number of the key of this group.
+fn number_of(group: KeyParts) -> u64
+    requires { IsInRange group }
+    ensures { result ≡ key_number group }
+{
+    Key::make(group).0 as u64
 }
 
 // The level of the group of the expression of this word.
