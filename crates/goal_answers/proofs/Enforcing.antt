@@ -1,5 +1,5 @@
 -- The enforcers for a request: at most two, each asking for what is a goal of a lesser rank.
-use Rattle.std.proofs.Common.{◌≡◌, ◌⊎◌, ℕ, zero, suc, ◌+◌, ◌≤◌, Option, None, Some, List, [], ◌∷◌, length, refl, sym, ap, subst, ◌∙◌, inl, inr, ⊎_elim, arith}
+use Rattle.std.proofs.Common.{◌≡◌, ◌⊎◌, ℕ, ◌+◌, Option, None, Some, List, refl, sym, ap, subst, ◌∙◌, inl, inr, ⊎_elim, arith}
 use Rattle.std.specs.Prelude.{slice_get}
 use Rattle.query_core.specs.Keys.{IsGroup}
 use Rattle.query_core.specs.declared.query.Query.{Query}
@@ -7,12 +7,11 @@ use Rattle.query_core.specs.declared.words.KeyParts.{KeyParts}
 use Rattle.request_props.specs.Fitting.{Fits}
 use Rattle.request_props.specs.Numbered.{IsProps}
 use Rattle.request_props.specs.declared.props.Props.{Props}
-use Rattle.request_props.specs.declared.request.Dist.{Dist}
-use Rattle.request_props.specs.declared.request.Dist.TheVariants.{One, Spread, Copies, Hashed}
 use Rattle.request_props.specs.declared.request.Request.{Request}
-use Rattle.plan_space.specs.Enforcers.{EnforcedBy, enforcers_by, enforcers_of, Among}
+use Rattle.plan_space.specs.Enforcers.{EnforcedBy, enforcers_of}
 use Rattle.plan_space.specs.declared.nodes.NodeKind.{NodeKind}
 use Rattle.plan_space.specs.declared.nodes.NodeKind.TheVariants as nodes
+use Rattle.plan_space.proofs.Enforcers.{among_at, first_or_second}
 use Rattle.plan_tree.specs.Enforcers.{IsEnforced}
 use Rattle.plan_tree.specs.declared.answers.Answered.{Answered}
 use Rattle.plan_tree.specs.declared.enforcers.Enforced.{Enforced}
@@ -30,37 +29,12 @@ use Rattle.goal_answers.specs.Among.{IsAnyNode, IsEnforcerAt, IsOfMember, IsBest
 use Rattle.goal_answers.proofs.ByRank.{told_below}
 use Rattle.goal_answers.proofs.Trying.{best_of_none, best_of_both}
 
--- an enforcer at a place is one of them
-at_place : (list : List EnforcedBy) (place : ℕ) (e : EnforcedBy) → slice_get list place ≡ Some e → Among e list
-at_place [] place e is = cc
-at_place (first ∷ others) zero e is = inl cc
-at_place (first ∷ others) (suc place) e is = inr (at_place others place e is)
-
--- there are at most two
-few_by : (dist : Dist) (order : ℕ) → length (enforcers_by dist order) ≤ 2
-few_by One zero = omega arith
-few_by Spread zero = omega arith
-few_by Copies zero = omega arith
-few_by (Hashed list) zero = omega arith
-few_by One (suc o) = omega arith
-few_by Spread (suc o) = omega arith
-few_by Copies (suc o) = omega arith
-few_by (Hashed list) (suc o) = omega arith
-
--- of at most two each is at one of the first two places
-at_either : (list : List EnforcedBy) → length list ≤ 2 → (e : EnforcedBy) → Among e list → (slice_get list 0 ≡ Some e) ⊎ (slice_get list 1 ≡ Some e)
-at_either [] few e none = absurd none
-at_either (first ∷ []) few e (inl is) = inl (ap (λ (x : EnforcedBy). Some x) (sym is))
-at_either (first ∷ []) few e (inr none) = absurd none
-at_either (first ∷ second ∷ []) few e (inl is) = inl (ap (λ (x : EnforcedBy). Some x) (sym is))
-at_either (first ∷ second ∷ []) few e (inr (inl is)) = inr (ap (λ (x : EnforcedBy). Some x) (sym is))
-at_either (first ∷ second ∷ []) few e (inr (inr none)) = absurd none
-at_either (first ∷ second ∷ third ∷ others) few e among = absurd (omega arith)
-
+-- what is found is an enforcer of the list
 some_enforced : (found : Enforced) (there : Option EnforcedBy) → IsEnforced (Some found) there → (e : EnforcedBy) × (there ≡ Some e) × IsEnforced (Some found) (Some e)
 some_enforced found None is = absurd is
 some_enforced found (Some e) is = (e, refl, is)
 
+-- what is not found is not in the list
 none_enforced : (there : Option EnforcedBy) → IsEnforced None there → there ≡ None
 none_enforced None is = refl
 none_enforced (Some e) is = absurd is
@@ -75,7 +49,7 @@ module _ (q : Query) (group : KeyParts) (wanted : Request) (place : ℕ) where
   pub found_at : (found : Enforced) → IsEnforced (Some found) (slice_get (enforcers_of wanted) place) → IsFoundAt wanted place found
   found_at found is =
       let there = some_enforced found (slice_get (enforcers_of wanted) place) is in
-      record { e = there.0; is_there = there.1; is = record { among = at_place (enforcers_of wanted) place there.0 there.1; is = there.2 } }
+      record { e = there.0; is_there = there.1; is = record { among = among_at (enforcers_of wanted) place there.0 there.1; is = there.2 } }
 
   -- what it asks for is a goal of a lesser rank
   pub enforcer_answered : RanksFall q → (answers : List Answered) → IsReady q answers (Opt group wanted) → IsGroup q group → Fits q group wanted → (found : Enforced) → IsFoundAt wanted place found
@@ -115,7 +89,7 @@ module _ (q : Query) (group : KeyParts) (wanted : Request) (lesser_best : Lesser
         within = λ node at. tt;
         enforcers = λ e among at. best.has (nodes.Enforcer e.node) (⊎_elim
             (λ (is : slice_get (enforcers_of wanted) 0 ≡ Some e). inl (inl (e, is, refl))) (λ (is : slice_get (enforcers_of wanted) 1 ≡ Some e). inl (inr (e, is, refl)))
-            (at_either (enforcers_of wanted) (few_by wanted.dist wanted.order) e among));
+            (first_or_second wanted e among));
         members = λ e mode line member of_group at alternative.
             best.has (nodes.Native e mode) (inr (e, mode, record { member = member; of_group = of_group; mode = mode; serves = (line, alternative) }, refl));
       }) best.is_best

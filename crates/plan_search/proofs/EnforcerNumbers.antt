@@ -1,5 +1,5 @@
 -- The numbers of the enforcers for a request, one after the other.
-use Rattle.std.proofs.Common.{◌≡◌, ℕ, zero, suc, ◌<◌, ◌≤◌, ◌+◌, refl, subst, sym, ap, inl, inr, arith}
+use Rattle.std.proofs.Common.{◌≡◌, ℕ, zero, suc, ◌<◌, ◌≤◌, ◌+◌, refl, subst, sym, ap, arith}
 use Rattle.std.specs.Option.{option_map_or}
 use Rattle.std.specs.Prelude.{◌^◌, List, [], ◌∷◌, slice_get, None, Some}
 use Rattle.request_props.specs.declared.request.Dist.{Dist}
@@ -9,14 +9,8 @@ use Rattle.plan_space.specs.declared.nodes.Enforcer.TheVariants as enforcing
 use Rattle.plan_space.specs.declared.nodes.NodeKind.TheVariants as nodes
 use Rattle.plan_space.specs.Nodes.{number_of}
 use Rattle.plan_space.specs.Lines.{request}
-use Rattle.plan_space.specs.Enforcers.{EnforcedBy, enforced, enforcers_by, enforcers_of, Among}
+use Rattle.plan_space.specs.Enforcers.{EnforcedBy, enforced, enforcers_by, enforcers_of}
 use Rattle.plan_search.specs.Search.{enforcer_number}
-
--- the n-th of a list is one of it
-pub among_at : (list : List EnforcedBy) (n : ℕ) (e : EnforcedBy) → slice_get list n ≡ Some e → Among e list
-among_at [] n e is = cc
-among_at (first ∷ others) zero e is = inl cc
-among_at (first ∷ others) (suc n) e is = inr (among_at others n e is)
 
 abbrev number_at : List EnforcedBy → ℕ → ℕ
 number_at list n = option_map_or (λ e. number_of (nodes.Enforcer e.node)) (slice_get list n) (2 ^ 56)

@@ -1,5 +1,5 @@
 -- What enforcers ask for, and the choices that they make.
-use Rattle.std.proofs.Common.{◌≡◌, ℕ, zero, suc, ◌<◌, ◌≤◌, ◌+◌, refl, subst, sym, ◌∙◌, ap, inl, inr, arith}
+use Rattle.std.proofs.Common.{◌≡◌, ℕ, zero, suc, ◌<◌, ◌≤◌, ◌+◌, refl, subst, sym, ◌∙◌, inl, inr, ⊎_elim, arith}
 use Rattle.std.specs.Prelude.{◌^◌, [], ◌∷◌, slice_get, Option, None, Some}
 use Rattle.query_core.specs.Keys.{IsGroup}
 use Rattle.query_core.specs.declared.query.Query.{Query}
@@ -20,6 +20,7 @@ use Rattle.plan_space.specs.Gives.{kid_of}
 use Rattle.plan_space.specs.Cost.{shape_of, most_of_all}
 use Rattle.plan_space.specs.Enforcers.{EnforcedBy, enforced, enforcers_by, enforcers_of, Among}
 use Rattle.plan_space.specs.Choices.{Beats, IsEnforcerSettled, enforced_choice}
+use Rattle.plan_space.proofs.Enforcers.{among_at, first_or_second}
 use Rattle.plan_space.specs.Laws.{ChoicesServe, EnforcersAskWhatFits, LeastCostsFit}
 use Rattle.plan_tree.specs.declared.node.Node.{Node}
 use Rattle.plan_tree.specs.Nodes as kinds
@@ -31,7 +32,7 @@ use Rattle.plan_search.specs.declared.choice.PlansBelow.{PlansBelow}
 use Rattle.plan_search.specs.declared.choice.Choice.{Choice}
 use Rattle.plan_search.specs.Places.{place_of}
 use Rattle.plan_search.specs.Search.{IsAnswered, AreAnswered, IsChosen, kept_at, cost_at, choice_over, IsPlanAt, cheaper_of, GoesOverPlace, GoesOverEnforcers, IsPlaceSettled, AreEnforcersSettled, enforcer_number}
-use Rattle.plan_search.proofs.EnforcerNumbers.{among_at, next_number_at, two_numbers}
+use Rattle.plan_search.proofs.EnforcerNumbers.{next_number_at, two_numbers}
 use Rattle.plan_search.proofs.Answered.{none_case, some_case, cost_small}
 use Rattle.plan_search.proofs.Scanning.{IsOrder, IsStable, goes_on, goes_as, goes_to, goes_from, goes_not, goes_by_one, enforcer_stable}
 
@@ -90,27 +91,9 @@ module _ (q : Query) (answers : KeptPlans) (group : KeyParts) (wanted : Request)
 
   -- the two places are all
   pub both_settled : (best : Option Tree) → IsPlaceSettled q group wanted 0 best × IsPlaceSettled q group wanted 1 best → AreEnforcersSettled q group (enforcers_of wanted) best
-  both_settled best settled = both_at wanted.dist wanted.order settled.0 settled.1
-    where
-      both_at : (dist : Dist) (order : ℕ) → ((e : EnforcedBy) → slice_get (enforcers_by dist order) 0 ≡ Some e → IsEnforcerSettled (IsMember q) q group e best)
-          → ((e : EnforcedBy) → slice_get (enforcers_by dist order) 1 ≡ Some e → IsEnforcerSettled (IsMember q) q group e best)
-          → AreEnforcersSettled q group (enforcers_by dist order) best
-      both_at One zero first second e (inl is) = first e (ap (λ x. Some x) (sym is))
-      both_at One zero first second e (inr none) = absurd none
-      both_at Spread zero first second e none = absurd none
-      both_at Copies zero first second e (inl is) = first e (ap (λ x. Some x) (sym is))
-      both_at Copies zero first second e (inr none) = absurd none
-      both_at (Hashed list) zero first second e (inl is) = first e (ap (λ x. Some x) (sym is))
-      both_at (Hashed list) zero first second e (inr none) = absurd none
-      both_at One (suc o) first second e (inl is) = first e (ap (λ x. Some x) (sym is))
-      both_at One (suc o) first second e (inr (inl is)) = second e (ap (λ x. Some x) (sym is))
-      both_at One (suc o) first second e (inr (inr none)) = absurd none
-      both_at Spread (suc o) first second e (inl is) = first e (ap (λ x. Some x) (sym is))
-      both_at Spread (suc o) first second e (inr none) = absurd none
-      both_at Copies (suc o) first second e (inl is) = first e (ap (λ x. Some x) (sym is))
-      both_at Copies (suc o) first second e (inr none) = absurd none
-      both_at (Hashed list) (suc o) first second e (inl is) = first e (ap (λ x. Some x) (sym is))
-      both_at (Hashed list) (suc o) first second e (inr none) = absurd none
+  both_settled best settled e among =
+      ⊎_elim (λ (first : slice_get (enforcers_of wanted) 0 ≡ Some e). settled.0 e first) (λ (second : slice_get (enforcers_of wanted) 1 ≡ Some e). settled.1 e second)
+      (first_or_second wanted e among)
 
   -- both places, one after the other
   pub both_go : (old new newer : Option Choice) → GoesOverPlace q answers group wanted 0 old new → GoesOverPlace q answers group wanted 1 new newer

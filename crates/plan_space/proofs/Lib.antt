@@ -6,6 +6,7 @@ pub mod Leaves
 pub mod Grouped
 pub mod Candidates
 pub mod Given
+pub mod Enforcers
 pub mod LeftChild
 pub mod Splits
 pub mod Codes
