@@ -7,3 +7,4 @@ pub mod OneWord
 pub mod InRange
 pub mod Decoded
 pub mod Bits
+pub mod Enforced

@@ -1,5 +1,5 @@
 -- The links of a node: least plans stand there, and the goals are the query's and have lesser ranks.
-use Rattle.std.proofs.Common.{◌≡◌, ℕ, zero, suc, refl, sym, ap, ◌∙◌, subst, inl, inr, arith}
+use Rattle.std.proofs.Common.{◌≡◌, ℕ, refl, sym, ap, ◌∙◌, subst, inl, inr, arith}
 use Rattle.std.specs.Prelude.{List, [], ◌∷◌}
 use Rattle.query_core.specs.Expressions.{expr_of, physical_children, IsCandidate}
 use Rattle.query_core.specs.Keys.{IsGroup}
@@ -7,24 +7,21 @@ use Rattle.query_core.specs.declared.query.Query.{Query}
 use Rattle.query_core.specs.declared.words.KeyParts.{KeyParts}
 use Rattle.query_core.specs.declared.expressions.PhysicalExpr.{PhysicalExpr}
 use Rattle.xform_rules.specs.Closure.{IsMember}
-use Rattle.request_props.specs.declared.request.Dist.{Dist}
-use Rattle.request_props.specs.declared.request.Dist.TheVariants.{One, Spread, Copies, Hashed}
 use Rattle.request_props.specs.declared.request.Request.{Request}
 use Rattle.request_props.specs.Fitting.{Fits}
 use Rattle.plan_space.specs.Nodes.{Tree, leaf, over, two}
 use Rattle.plan_space.specs.declared.nodes.NodeKind.{NodeKind}
 use Rattle.plan_space.specs.declared.lines.Line.{Line}
-use Rattle.plan_space.specs.Lines.{request}
 use Rattle.plan_space.specs.Alternatives.{IsAlternative, asked_of}
-use Rattle.plan_space.specs.Enforcers.{EnforcedBy, enforcers_by, enforcers_of, Among}
+use Rattle.plan_space.specs.Enforcers.{EnforcedBy, enforcers_of, Among}
 use Rattle.plan_space.specs.Choices.{groups_of, IsNodeOver, AreLeast}
-use Rattle.plan_tree.specs.Enforcers.{LiesIn}
 use Rattle.plan_tree.specs.Seen.{root_node}
 use Rattle.goal_space.specs.Children.{IsAsked}
 use Rattle.goal_space.specs.Goals.{IsGoal, child_goal}
 use Rattle.goal_space.specs.Laws.{RanksFall}
 use Rattle.goal_space.specs.Ranks.{rank_of}
 use Rattle.goal_space.specs.declared.goals.GoalKind.TheVariants.{Opt, OptE}
+use Rattle.goal_space.proofs.Enforced.{can_enforce}
 use Rattle.plan_report.specs.declared.links.Linked.{Linked}
 use Rattle.plan_report.specs.declared.links.Links.{Links}
 use Rattle.plan_report.specs.declared.links.Links.TheVariants as links
@@ -52,33 +49,14 @@ over_linked q groups wishes found node kids plan linked least is root =
 
 -- ---- goals
 
--- an enforcer for a request that fits the group lies in it
-lies_by : (q : Query) (group : KeyParts) (dist : Dist) (order : ℕ) (e : EnforcedBy) → Fits q group (request dist order) → Among e (enforcers_by dist order) → LiesIn q group e.node
-lies_by q group One zero e fits (inl is) = subst (λ (x : EnforcedBy). LiesIn q group x.node) (sym is) tt
-lies_by q group One zero e fits (inr none) = absurd none
-lies_by q group Spread zero e fits none = absurd none
-lies_by q group Copies zero e fits (inl is) = subst (λ (x : EnforcedBy). LiesIn q group x.node) (sym is) tt
-lies_by q group Copies zero e fits (inr none) = absurd none
-lies_by q group (Hashed list) zero e fits (inl is) = subst (λ (x : EnforcedBy). LiesIn q group x.node) (sym is) fits.dist
-lies_by q group (Hashed list) zero e fits (inr none) = absurd none
-lies_by q group One (suc o) e fits (inl is) = subst (λ (x : EnforcedBy). LiesIn q group x.node) (sym is) (record { numbered = fits.numbered; lies_in = fits.order })
-lies_by q group One (suc o) e fits (inr (inl is)) = subst (λ (x : EnforcedBy). LiesIn q group x.node) (sym is) (record { numbered = fits.numbered; lies_in = fits.order })
-lies_by q group One (suc o) e fits (inr (inr none)) = absurd none
-lies_by q group Spread (suc o) e fits (inl is) = subst (λ (x : EnforcedBy). LiesIn q group x.node) (sym is) (record { numbered = fits.numbered; lies_in = fits.order })
-lies_by q group Spread (suc o) e fits (inr none) = absurd none
-lies_by q group Copies (suc o) e fits (inl is) = subst (λ (x : EnforcedBy). LiesIn q group x.node) (sym is) (record { numbered = fits.numbered; lies_in = fits.order })
-lies_by q group Copies (suc o) e fits (inr none) = absurd none
-lies_by q group (Hashed list) (suc o) e fits (inl is) = subst (λ (x : EnforcedBy). LiesIn q group x.node) (sym is) (record { numbered = fits.numbered; lies_in = fits.order })
-lies_by q group (Hashed list) (suc o) e fits (inr none) = absurd none
-
 module _ (q : Query) (falls : RanksFall q) (at : Linked) (goal : IsGoal q (goal_of at)) (known : IsGroup q at.group) where
   -- what an enforcer for the request asks is a goal of a lesser rank
   pub enforcer_lower : (e : EnforcedBy) → Fits q at.group at.wanted → Among e (enforcers_of at.wanted) → IsLower q (rank_of (goal_of at)) (record { group = at.group; wanted = e.below })
   enforcer_lower e fits among =
-      let lies = lies_by q at.group at.wanted.dist at.wanted.order e fits among in
+      let can = can_enforce q at.group at.wanted e fits among in
       record {
-        is_goal = child_goal (goal_of at) (Opt at.group e.below) goal (inr (inr (e, record { among = among; lies_in = lies }, refl)));
-        lower = falls (goal_of at) (Opt at.group e.below) known (inr (inr (e, record { among = among; lies_in = lies }, refl)));
+        is_goal = child_goal (goal_of at) (Opt at.group e.below) goal (inr (inr (e, can, refl)));
+        lower = falls (goal_of at) (Opt at.group e.below) known (inr (inr (e, can, refl)));
       }
 
   module _ (e : PhysicalExpr) (mode : ℕ) (line : Line) (member : IsMember q (expr_of e)) (candidate : IsCandidate q (expr_of e)) (of_group : e.group ≡ at.group)
