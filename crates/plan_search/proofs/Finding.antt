@@ -9,7 +9,6 @@ use Rattle.std.proofs.lemmas.Bool.{cases_eq, cases_order}
 use Rattle.query_core.specs.Keys.{key_number, IsGroup, IsInRange}
 use Rattle.query_core.specs.declared.query.Query.{Query}
 use Rattle.query_core.specs.declared.words.KeyParts.{KeyParts}
-use Rattle.query_core.specs.declared.words.KeyParts.TheVariants as groups
 use Rattle.query_core.specs.declared.expressions.PhysicalExpr.{PhysicalExpr}
 use Rattle.xform_rules.specs.Closure.{IsMember}
 use Rattle.request_props.specs.Numbered.{IsProps}
@@ -26,7 +25,7 @@ use Rattle.plan_search.proofs.Answered.{some_case}
 use Rattle.plan_search.specs.declared.kept_plans.KeptPlans.{KeptPlans}
 use Rattle.plan_search.specs.declared.choice.Choice.{Choice}
 use Rattle.plan_search.specs.declared.native.Native.{Native}
-use Rattle.plan_search.specs.Places.{dist_place, request_place, place_of}
+use Rattle.plan_search.specs.Places.{dist_place, request_place, first_place, place_of}
 use Rattle.plan_search.specs.Search.{kept_at, IsKept, IsAnswerFor, answer_at, AreAnswered, IsBestChoice, IsBestSoFar, GoesOverEnforcers, GoesOverAll, AreEnforcersSettled, AreListedFor, AreSettledIn, HasMode}
 use Rattle.plan_search.proofs.RequestPlaces.{request_small}
 use Rattle.plan_search.proofs.Able.{serves_gives}
@@ -161,7 +160,7 @@ module _ (q : Query) (props : Props) (is_props : IsProps q props) (in_range : (g
 
   -- a request that doesn't fit has a place that no other has, so all before the next place are answered
   pub answered_past : (answers : KeptPlans) (group : KeyParts) (at : Request) → IsGroup q group → request_place at < 4096 → at.order < 64
-      → (Fits q group at → ⊥) → AreAnswered q answers (key_number group * 4096 + request_place at) → AreAnswered q answers (key_number group * 4096 + request_place at + 1)
+      → (Fits q group at → ⊥) → AreAnswered q answers (place_of group at) → AreAnswered q answers (place_of group at + 1)
   answered_past answers group at known few small fits_not answered g r known_too fits less =
       let small_too = request_small q g props r is_props fits in
       elim (cases_eq (place_of g r) (place_of group at)) [
@@ -175,7 +174,7 @@ module _ (q : Query) (props : Props) (is_props : IsProps q props) (in_range : (g
 
 -- where no group has the key, all below the next key are answered
 pub answered_key : (q : Query) (props : Props) → IsProps q props → (answers : KeptPlans) (key : ℕ) → ((g : KeyParts) → IsGroup q g → key_number g ≡ key → ⊥)
-    → AreAnswered q answers (key * 4096) → AreAnswered q answers ((key + 1) * 4096)
+    → AreAnswered q answers (first_place key) → AreAnswered q answers (first_place (key + 1))
 answered_key q props is_props answers key none answered g r known fits less =
     let small = request_small q g props r is_props fits in
     elim (cases_eq (key_number g) key) [
@@ -183,20 +182,12 @@ answered_key q props is_props answers key none answered g r known fits less =
       | inr other ↦ answered g r known fits (omega (arith, less, small, other))
     ]
 
--- ---- the root
+-- ---- all requests
 
-key_small : (g : KeyParts) → IsInRange g → key_number g < 2050
-key_small (groups.Get t) range = omega (arith, range)
-key_small (groups.Filter t) range = omega (arith, range)
-key_small (groups.Join set) range = omega (arith, range)
-key_small groups.Partial range = omega arith
-key_small groups.Agg range = omega arith
-
--- the plan that stands at the root's request is the query's least
-pub root_found : (q : Query) (props : Props) → IsProps q props → (answers : KeptPlans) (kept : Choice) (group : KeyParts) (wanted : Request)
-    → AreAnswered q answers (2050 * 4096) → IsGroup q group → IsInRange group → Fits q group wanted → kept_at answers (place_of group wanted) ≡ Some kept
+-- where all requests of groups with keys below a bound are answered, the plan that is kept at a request's place is the least for it
+pub kept_found : (q : Query) (props : Props) → IsProps q props → (answers : KeptPlans) (kept : Choice) (group : KeyParts) (wanted : Request) (bound : ℕ)
+    → key_number group < bound → AreAnswered q answers (first_place bound) → IsGroup q group → Fits q group wanted → kept_at answers (place_of group wanted) ≡ Some kept
     → (tree : Tree) × IsKept q answers group wanted kept tree
-root_found q props is_props answers kept group wanted answered known range fits at =
+kept_found q props is_props answers kept group wanted bound below answered known fits at =
     let small = request_small q group props wanted is_props fits in
-    let key = key_small group range in
-    some_case q answers group wanted kept (answered group wanted known fits (omega (arith, small, key))) at
+    some_case q answers group wanted kept (answered group wanted known fits (omega (arith, small, below))) at

@@ -18,9 +18,13 @@ dist_place (Hashed list) = 3 + list
 abbrev pub request_place : Request → ℕ
 request_place wanted = dist_place wanted.dist * 64 + wanted.order
 
+-- the place with which those of the group with this key begin
+abbrev pub first_place : ℕ → ℕ
+first_place key = key * 4096
+
 -- the place of a request of the group with this key
 abbrev pub place_at : ℕ → Request → ℕ
-place_at key wanted = key * 4096 + request_place wanted
+place_at key wanted = first_place key + request_place wanted
 
 -- the place of a request that a node asks for
 abbrev pub place_asked : Key × Request → ℕ

@@ -6,7 +6,7 @@ ghost use Rattle.query_core.specs.declared.words.KeyParts.{KeyParts as Group};
 ghost use Rattle.query_core.specs.Keys.{IsGroup, key_number};
 ghost use Rattle.request_props.specs.Numbered.{IsProps};
 ghost use Rattle.xform_rules.specs.Closure.{IsClosureOf};
-ghost use Rattle.plan_search.specs.Places.{dist_place as dist_place_of, request_place};
+ghost use Rattle.plan_search.specs.Places.{dist_place as dist_place_of, first_place, place_of, request_place};
 ghost use Rattle.plan_search.specs.Search.{AreAnswered, AreListedFor, HasRows};
 
 use crate::best::answer;
@@ -31,7 +31,7 @@ pub fn answer_all(
 ) -> Result<KeptPlans, AllocError>
     requires props { IsProps query.now props.now }
     requires closure { IsClosureOf query.now words.now }
-    ensures { IfOk result (λ answers. AreAnswered query.now answers (2050 * 4096)) }
+    ensures { IfOk result (λ answers. AreAnswered query.now answers (first_place KEYS)) }
 {
     let mut answers = KeptPlans::new(alloc);
     for key in 0..KEYS {
@@ -40,7 +40,7 @@ pub fn answer_all(
     Ok(answers)
 }
 
-/// KeptPlans all requests that fit the group with this key, if there is one.
+/// Answers all requests that fit the group with this key, if there is one.
 fn answer_key(
     alloc: Global,
     query: &Query,
@@ -51,8 +51,8 @@ fn answer_key(
 ) -> Result<(), AllocError>
     requires props { IsProps query.now props.now }
     requires closure { IsClosureOf query.now words.now }
-    requires answered { AreAnswered query.now answers.now (key * 4096) }
-    ensures { OnOk result (AreAnswered query.now answers.new ((key + 1) * 4096)) }
+    requires answered { AreAnswered query.now answers.now (first_place key) }
+    ensures { OnOk result (AreAnswered query.now answers.new (first_place (key + 1))) }
 {
     match group_with(query, props, key) {
         Some(group) => answer_group(alloc, query, props, words, group, answers),
@@ -72,7 +72,7 @@ fn group_with(query: &Query, props: &Props, key: u32) -> Option<KeyParts>
     None
 }
 
-/// KeptPlans all requests that fit the group.
+/// Answers all requests that fit the group.
 fn answer_group(
     alloc: Global,
     query: &Query,
@@ -84,8 +84,8 @@ fn answer_group(
     requires props { IsProps query.now props.now }
     requires closure { IsClosureOf query.now words.now }
     requires known { IsGroup query.now group }
-    requires answered { AreAnswered query.now answers.now (key_number group * 4096) }
-    ensures { OnOk result (AreAnswered query.now answers.new ((key_number group + 1) * 4096)) }
+    requires answered { AreAnswered query.now answers.now (first_place (key_number group)) }
+    ensures { OnOk result (AreAnswered query.now answers.new (first_place (key_number group + 1))) }
 {
     groups_are_known();
     let list = natives_of(alloc, query, props, group, members_of(query, words, group))?;
@@ -98,7 +98,7 @@ fn answer_group(
     Ok(())
 }
 
-/// KeptPlans all requests for the distribution that fit the group.
+/// Answers all requests for the distribution that fit the group.
 fn answer_dist(
     query: &Query,
     props: &Props,
@@ -112,11 +112,11 @@ fn answer_dist(
     requires known { IsGroup query.now group }
     requires rows { HasRows query.now group rows }
     requires listed { AreListedFor query.now group dist list.now }
-    requires dist { dist_place_of dist < 64 }
+    requires dist { dist_place_of dist < DISTS }
     requires answered { AreAnswered query.now answers.now
-        (key_number group * 4096 + dist_place_of dist * 64) }
+        (first_place (key_number group) + dist_place_of dist * ORDERS) }
     ensures { OnOk result (AreAnswered query.now answers.new
-        (key_number group * 4096 + (dist_place_of dist + 1) * 64)) }
+        (first_place (key_number group) + (dist_place_of dist + 1) * ORDERS)) }
 {
     for order in 0..ORDERS {
         let wanted = Request { dist, order };
@@ -125,7 +125,7 @@ fn answer_dist(
     Ok(())
 }
 
-/// KeptPlans the request, if it fits the group.
+/// Answers the request, if it fits the group.
 fn answer_wanted(
     query: &Query,
     props: &Props,
@@ -139,12 +139,10 @@ fn answer_wanted(
     requires known { IsGroup query.now group }
     requires rows { HasRows query.now group rows }
     requires listed { AreListedFor query.now group wanted.dist list.now }
-    requires place { request_place wanted < 4096 }
-    requires order { wanted.order < 64 }
-    requires answered { AreAnswered query.now answers.now
-        (key_number group * 4096 + request_place wanted) }
-    ensures { OnOk result (AreAnswered query.now answers.new
-        (key_number group * 4096 + request_place wanted + 1)) }
+    requires place { request_place wanted < DISTS * ORDERS }
+    requires order { wanted.order < ORDERS }
+    requires answered { AreAnswered query.now answers.now (place_of group wanted) }
+    ensures { OnOk result (AreAnswered query.now answers.new (place_of group wanted + 1)) }
 {
     // For the proof: each request of a group has a place of its own.
     groups_are_known();

@@ -1,7 +1,7 @@
 use Rattle.std.proofs.Common.{sym, ◌∙◌, ap, subst}
 use Rattle.plan_search.specs.Places.{place_at}
 use Rattle.plan_search.specs.Search.{kept_at, StandsAt}
-use Rattle.plan_search.proofs.Finding.{root_found}
+use Rattle.plan_search.proofs.Finding.{kept_found}
 use Rattle.plan_search.proofs.least.plain_least_of.Goals as goal
 
 -- the plan that stands at the request's place
@@ -13,8 +13,8 @@ plan_at-requires c =
     let wanted = c.args.wanted in
     let place = c.place_at-place.ensures ∙ ap (λ k. place_at k wanted) c.make.ensures.number in
     let at = ap (λ p. kept_at answers p) (sym place) ∙ sym c.kept.ensures ∙ c.in-Some.is in
-    let found = root_found q c.args.props.now c.requires.props answers c.in-Some.kept group wanted c.in_ok-answers.ensures c.requires.known
-    (c.groups_are_known.ensures.in_range q group c.requires.known) c.requires.fits at in
+    let below = c.groups_are_known.ensures.small group (c.groups_are_known.ensures.in_range q group c.requires.known) in
+    let found = kept_found q c.args.props.now c.requires.props answers c.in-Some.kept group wanted _ below c.in_ok-answers.ensures c.requires.known c.requires.fits at in
     (found.0, subst (λ p. StandsAt answers p found.0) (sym place) found.1.stands)
 
 pub returns-in-Some : goal.returns-in-Some
@@ -25,6 +25,6 @@ returns-in-Some c =
     let wanted = c.args.wanted in
     let place = c.place_at-place.ensures ∙ ap (λ k. place_at k wanted) c.make.ensures.number in
     let at = ap (λ p. kept_at answers p) (sym place) ∙ sym c.kept.ensures ∙ c.in-Some.is in
-    let found = root_found q c.args.props.now c.requires.props answers c.in-Some.kept group wanted c.in_ok-answers.ensures c.requires.known
-    (c.groups_are_known.ensures.in_range q group c.requires.known) c.requires.fits at in
+    let below = c.groups_are_known.ensures.small group (c.groups_are_known.ensures.in_range q group c.requires.known) in
+    let found = kept_found q c.args.props.now c.requires.props answers c.in-Some.kept group wanted _ below c.in_ok-answers.ensures c.requires.known c.requires.fits at in
     (found.0, c.in_ok-plan_at-in-Some.ensures found.0 (subst (λ p. StandsAt answers p found.0) (sym place) found.1.stands), found.1.least, found.1.cost)
