@@ -16,8 +16,8 @@ use Rattle.plan_space.specs.declared.nodes.NodeKind.{NodeKind}
 use Rattle.plan_space.specs.declared.nodes.NodeKind.TheVariants as nodes
 use Rattle.plan_tree.specs.Alternatives.{Asks, AreAsked, IsAltBy}
 use Rattle.plan_tree.specs.declared.alternatives.Alt.{Alt}
-use Rattle.best_answers.specs.Nodes.{one_node, modes_of, all_nodes, IsIn, IsModeOf}
-use Rattle.best_answers.specs.Best.{IsBest, IsBestAsked}
+use Rattle.best_answers.specs.Nodes.{one_node, modes_of, IsIn, IsModeOf}
+use Rattle.best_answers.specs.Best.{IsBest}
 use Rattle.best_answers.specs.Laws.{NoneIsBest, CoveredIsBest}
 use Rattle.best_answers.specs.declared.best.Best.{Best}
 use Rattle.goal_space.specs.Children.{IsAsked, IsChildGoal}
@@ -74,13 +74,10 @@ module _ (q : Query) (e : PhysicalExpr) (wanted : Request) (mode : ℕ) where
   pub best_in_none : NoneIsBest q → ((line : Line) → IsAlternative q e wanted mode line → ⊥) → IsBestInMode q e wanted mode None
   best_in_none none_best none = best_of_none q e.group wanted (IsModeOf e) none_best (IsInMode q e wanted mode) (λ node is. none is.0.0 is.0.1)
 
--- the group of a key is one, so the answer for it is that for what is asked
-module _ (q : Query) (key : Key) (wanted : Request) (group : KeyParts) (only : (other : KeyParts) → Names q key other → other ≡ group) where
-  pub best_of_key : (answer : Option Best) → IsBest q group wanted all_nodes answer → IsBestAsked q (Some (key, wanted)) answer
-  best_of_key answer best other names = subst (λ (g : KeyParts). IsBest q g wanted all_nodes answer) (sym (only other names)) best
-
-  pub child_of_key : (goal : GoalKind) → IsAskedByChild q goal (Some (key, wanted)) → IsChildGoal (IsMember q) q goal (Opt group wanted)
-  child_of_key goal asked = subst (λ (g : KeyParts). IsChildGoal (IsMember q) q goal (Opt g wanted)) (only asked.0 asked.1) asked.2
+-- a key is that of one group, so what is asked of the key is asked of the group
+pub child_of_key : (q : Query) (key : Key) (wanted : Request) (group : KeyParts) → ((other : KeyParts) → Names q key other → other ≡ group) → (goal : GoalKind)
+    → IsAskedByChild q goal (Some (key, wanted)) → IsChildGoal (IsMember q) q goal (Opt group wanted)
+child_of_key q key wanted group only goal asked = subst (λ (g : KeyParts). IsChildGoal (IsMember q) q goal (Opt g wanted)) (only asked.0 asked.1) asked.2
 
 -- ---- the modes so far
 
@@ -99,10 +96,10 @@ module _ (q : Query) (e : PhysicalExpr) (wanted : Request) where
     | inr other ↦ inl (mode, omega (arith, below, other), is)
   ]
 
-  -- the best answer of all modes is that of the expression
-  pub best_of_modes : CoveredIsBest q → ((mode : ℕ) (line : Line) → IsAlternative q e wanted mode line → mode < 192) → (bound : ℕ) → 192 ≤ bound → (answer : Option Best) → IsBestAmong q e.group wanted (IsInModeBelow bound) (IsModeOf e) answer
+  -- where the expression has modes below an end only, the best answer of all these is that of the expression
+  pub best_of_modes : CoveredIsBest q → (end : ℕ) → ((mode : ℕ) (line : Line) → IsAlternative q e wanted mode line → mode < end) → (bound : ℕ) → end ≤ bound → (answer : Option Best) → IsBestAmong q e.group wanted (IsInModeBelow bound) (IsModeOf e) answer
       → IsBest q e.group wanted (modes_of e) answer
-  best_of_modes covered few bound most answer best = covered e.group wanted best.set (modes_of e) answer (record {
+  best_of_modes covered end few bound most answer best = covered e.group wanted best.set (modes_of e) answer (record {
     within = best.within;
     enforcers = λ enforcer among at. absurd at;
     members = λ other mode line member of_group same alternative.

@@ -16,7 +16,7 @@ use crate::told::{Source, told_to};
 use best_answers::{Best, answers_are_best, best_in_mode, best_of_enforcer, lesser};
 use goal_children::{goals_are_over_the_query, list_children};
 use goal_space::{GoalKind, goals_are_known, ranks_fall};
-use plan_space::modes_are_few;
+use plan_space::{MODES_END, modes_are_few};
 use plan_tree::{ExprRows, Node, alternative_by, enforcer, expr_rows, line_of};
 use query_core::{Key, KeyParts, PhysicalExpr, groups_are_known};
 use request_props::Request;
@@ -163,14 +163,14 @@ fn best_mode(source: Source<'_>, expr: PhysicalExpr, wanted: Request) -> Option<
     requires ready { IsReady source.query.now source.known.now (OptE expr wanted) }
     ensures { IsAnswerTo source.entry.query.now (OptE expr wanted) result }
 {
-    // For the proof: the request fits, modes are below 192, and the best of two sets is that of both.
+    // For the proof: the request fits, an expression has few modes, and the best of two sets is that of both.
     goals_are_known();
     members_are_candidates();
     modes_are_few();
     answers_are_best();
     let rows = expr_rows(source.query, source.props, expr);
     let mut best = None;
-    for mode in 0..192 {
+    for mode in 0..MODES_END {
         best = lesser(best, best_in(source, expr, wanted, rows, mode));
     }
     best
@@ -187,7 +187,7 @@ fn best_in(
     requires source { AreOf source.query.now source.props.now source.members.now }
     requires ready { IsReady source.query.now source.known.now (OptE expr wanted) }
     requires rows { AreRowsOf source.query.now expr rows }
-    requires few { mode < 192 }
+    requires few { mode < MODES_END }
     ensures { IsBestInMode source.entry.query.now expr wanted mode result }
 {
     // For the proof: the expression is a member, the request fits, and the best of no nodes is none.

@@ -1,4 +1,4 @@
--- One mode after the other; there are lines in modes below 192 only.
+-- One mode after the other, up to the end of the modes in which there are lines.
 use Rattle.std.proofs.Common.{◌+◌, sym, subst}
 use Rattle.best_answers.specs.Nodes.{IsModeOf}
 use Rattle.goal_space.specs.declared.goals.GoalKind.TheVariants.{OptE}
@@ -22,5 +22,5 @@ pub returns : goal.returns
 returns c =
     let q = c.args.source.query.now in
     let e = c.args.expr in
-    best_of_modes q e c.args.wanted (c.answers_are_best.ensures.covered q) (λ mode line alternative. c.modes_are_few.ensures.few q c.requires.source.collected.few_lists e mode line alternative.is_line) c.loop-mode.mode
+    best_of_modes q e c.args.wanted (c.answers_are_best.ensures.covered q) _ (λ mode line alternative. c.modes_are_few.ensures.few q c.requires.source.collected.few_lists e mode line alternative.is_line) c.loop-mode.mode
     c.loop-mode-test.false c.loop-mode.best c.loop-mode.invariant
