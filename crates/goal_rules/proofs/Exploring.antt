@@ -18,7 +18,7 @@ use Rattle.goal_space.specs.OfMembers.{goals_of_members}
 use Rattle.goal_space.specs.declared.goals.GoalKind.TheVariants.{Exp, ExpE, Xf}
 use Rattle.goal_rules.specs.Grown.{LeadsTo, Grown, begins, grows, MembersAreGrown}
 use Rattle.goal_rules.specs.Known.{EntriesAreMembers, IsKnownWord}
-use Rattle.goal_rules.specs.Explored.{explored, IsLogicalOf, IsLogicalWord, IsFound, origin_found, asked_found, IsExplorationOf}
+use Rattle.goal_rules.specs.Explored.{explored, IsLogicalOf, IsLogicalWord, IsExploredWord, origin_found, asked_found, IsExplorationOf}
 
 module _ (q : Query) (group : KeyParts) (is_goal : IsGoal q (Exp group)) (
     given_kind : (rule : Rule) (e : ExprParts) (bound : Option ExprParts) (n : ℕ) (x : ExprParts) → HasResult q rule e bound n x → is_logical x.operator ≡ explores rule
@@ -71,7 +71,7 @@ module _ (q : Query) (group : KeyParts) (is_goal : IsGoal q (Exp group)) (
     number = refl;
   }
 
-  found_word : (e : ExprParts) → Grown q group e → IsFound q group (word_of e)
+  found_word : (e : ExprParts) → Grown q group e → IsExploredWord q group (word_of e)
   found_word _ begins = origin_found
   found_word _ (grows e other grown leads) =
       let is_in = grown_in e grown in
@@ -80,7 +80,7 @@ module _ (q : Query) (group : KeyParts) (is_goal : IsGoal q (Exp group)) (
       (other, held other other_in, refl)
 
   module _ (grown : MembersAreGrown q) (members : EntriesAreMembers q) (known : IsKnownWord q (Exp group)) where
-    found : (e : ExprParts) → IsIn e → IsFound q group (word_of e)
+    found : (e : ExprParts) → IsIn e → IsExploredWord q group (word_of e)
     found e is_in = found_word e (subst (λ (g : KeyParts). Grown q g e) is_in.of_group (grown e is_in.member is_in.logical))
 
     child_explores : (child : ℕ) → IsChildWord q (goal_word (Exp group)) child → (word : ℕ) × IsAskedWord q (goal_word (Exp group)) word × (child ≡ explored word)
@@ -104,7 +104,7 @@ module _ (q : Query) (group : KeyParts) (is_goal : IsGoal q (Exp group)) (
       origin_held = (origin_of q group, held (origin_of q group) (grown_in (origin_of q group) begins), refl);
       origin_asked = asked_word (origin_of q group) (grown_in (origin_of q group) begins);
       asked_held = λ word asked. let (e, is_in, is) = known.asked word asked in (e, held e is_in, is);
-      asked_is_found = λ word asked. let (e, is_in, is) = known.asked word asked in subst (IsFound q group) is (found e is_in);
+      asked_is_found = λ word asked. let (e, is_in, is) = known.asked word asked in subst (IsExploredWord q group) is (found e is_in);
       children = child_explores;
       explores = entry_explored;
     }

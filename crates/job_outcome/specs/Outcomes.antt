@@ -47,9 +47,13 @@ pub record ClosesSearch (q : Query) (cap place : ℕ) (v : Hands Rules) (closed 
   pub near : place < cap
   pub root : Looked v.looks (cell_word place) (goal_word (root_goal_of q))
 
+-- the goal is one of those with answers
+abbrev pub HasAnswer : List (ℕ × Answer) → ℕ → Type 0
+HasAnswer answers goal = Contains (map (λ (x : ℕ × Answer). x.0) answers) goal
+
 -- the goal is among those that are finished
 abbrev pub HasFinished : Closed → ℕ → Type 0
-HasFinished closed goal = Contains (map (λ (x : ℕ × Answer). x.0) closed.answers) goal
+HasFinished closed goal = HasAnswer closed.answers goal
 
 -- the root's goal is finished
 abbrev pub HasFinishedRoot : Query → Closed → Type 0

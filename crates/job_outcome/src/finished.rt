@@ -35,7 +35,7 @@ pub fn members_of(alloc: Global, cells: &[u64]) -> Result<List<u64>, AllocError>
             members.push(*word)?;
         }
     }
-    members.sort()?;
+    members.sort_unstable();
     Ok(List::of(members))
 }
 
@@ -61,46 +61,33 @@ pub fn finished_of(
 }
 
 /// The same goals in the order of their words.
-pub fn in_order(finished: Vec<Finished>) -> Result<Vec<Finished>, AllocError>
-    ensures same { IfOk result (λ sorted. IsPermutation finished.items sorted.items) }
-    ensures ascending { IfOk result (λ sorted. IsNonDecreasingBy (λ (f : AnyFinished). f.goal) sorted.items) }
+pub fn in_order(finished: Vec<Finished>) -> Vec<Finished>
+    ensures same { IsPermutation finished.items result.items }
+    ensures ascending { IsNonDecreasingBy (λ (f : AnyFinished). f.goal) result.items }
 {
     let mut sorted = finished;
-    sorted.sort_by_key(|one| one.goal)?;
-    Ok(sorted)
+    sorted.sort_unstable_by_key(|one| one.goal);
+    sorted
 }
 
-/// Their words.
-pub fn goals_of(alloc: Global, finished: &[Finished]) -> Result<List<u64>, AllocError>
-    ensures { IfOk result (λ goals. goals ≡ map (λ (f : AnyFinished). f.goal) finished.now) }
+/// Their words, their answers and the workers that finished them.
+pub fn lists_of(
+    alloc: Global,
+    finished: &[Finished],
+) -> Result<(List<u64>, Answers, List<u32>), AllocError>
+    ensures goals { IfOk result (λ lists. lists.0 ≡ map (λ (f : AnyFinished). f.goal) finished.now) }
+    ensures answers { IfOk result (λ lists. lists.1.list ≡ map told_of finished.now) }
+    ensures workers { IfOk result (λ lists. lists.2 ≡ map (λ (f : AnyFinished). f.who) finished.now) }
 {
     let mut goals = List::new(alloc);
-    for one in finished {
-        goals.push(one.goal)?;
-    }
-    Ok(goals)
-}
-
-/// Their answers.
-pub fn answers_of(alloc: Global, finished: &[Finished]) -> Result<Answers, AllocError>
-    ensures { IfOk result (λ answers. answers.list ≡ map told_of finished.now) }
-{
     let mut list = List::new(alloc);
-    for one in finished {
-        list.push(told(one))?;
-    }
-    Ok(Answers { list })
-}
-
-/// The workers that finished them.
-pub fn workers_of(alloc: Global, finished: &[Finished]) -> Result<List<u32>, AllocError>
-    ensures { IfOk result (λ who. who ≡ map (λ (f : AnyFinished). f.who) finished.now) }
-{
     let mut who = List::new(alloc);
     for one in finished {
+        goals.push(one.goal)?;
+        list.push(told(one))?;
         who.push(one.who)?;
     }
-    Ok(who)
+    Ok((goals, Answers { list }, who))
 }
 
 // The answer in its two words says that there is no plan where the cost is the greatest number.

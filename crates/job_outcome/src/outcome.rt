@@ -1,19 +1,17 @@
 //! What a search gave: the answers to all goals, or that the board was full, or that goals are left.
 #![tactic(auto)]
 
-ghost use Rattle.std.specs.Prelude.{◌≡◌, ℕ, IfOk, length, map, true, false};
-ghost use Rattle.std.specs.List.{Contains};
+ghost use Rattle.std.specs.Prelude.{◌≡◌, ℕ, IfOk, length, true, false};
 ghost use Rattle.board_rule.specs.Words.{mem};
 ghost use Rattle.board_rule.specs.Looks.{ShowsClosed, ShowsFull};
 ghost use Rattle.board_rule.specs.declared.hands.Hands.{Hands};
-ghost use Rattle.goal_board.specs.declared.answers.Answer.{Answer as AnyAnswer};
 ghost use Rattle.goal_rules.specs.declared.rules.Rules.{Rules};
 ghost use Rattle.goal_space.specs.Words.{goal_word};
 ghost use Rattle.goal_space.specs.Goals.{root_goal_of};
-ghost use Rattle.job_outcome.specs.Outcomes.{ClosesSearch, HasFinished, IsOutcome, IsDoneCase, IsFullCase};
+ghost use Rattle.job_outcome.specs.Outcomes.{ClosesSearch, HasAnswer, IsOutcome, IsDoneCase, IsFullCase};
 ghost use Rattle.job_outcome.specs.Finished.{Orders};
 
-use crate::finished::{answers_of, finished_of, goals_of, in_order, members_of, workers_of};
+use crate::finished::{finished_of, in_order, lists_of, members_of};
 use best_answers::answers_are_best;
 use goal_board::{Answer, Closed};
 use goal_space::{goals_are_known, goals_ask_for_members};
@@ -88,8 +86,8 @@ pub fn outcome_of(
 
 // Whether the goal is among those that are finished.
 fn is_finished(answers: &[(u64, Answer)], goal: u64) -> bool
-    ensures found { result ≡ true → Contains (map (λ (x : ℕ × AnyAnswer). x.0) answers.now) goal }
-    ensures absent { result ≡ false → Contains (map (λ (x : ℕ × AnyAnswer). x.0) answers.now) goal → ⊥ }
+    ensures found { result ≡ true → HasAnswer answers.now goal }
+    ensures absent { result ≡ false → HasAnswer answers.now goal → ⊥ }
 {
     for (finished, _) in answers {
         if *finished == goal {
@@ -106,11 +104,11 @@ fn done(alloc: Global, closed: &Closed) -> Result<Outcome, AllocError>
 {
     let members = members_of(alloc, closed.cells.as_slice())?;
     let finished = finished_of(alloc, closed.answers.as_slice(), closed.who.as_slice())?;
-    let finished = in_order(finished)?;
+    let (goals, answers, who) = lists_of(alloc, &in_order(finished))?;
     Ok(Outcome::Done {
         members,
-        goals: goals_of(alloc, &finished)?,
-        answers: answers_of(alloc, &finished)?,
-        who: workers_of(alloc, &finished)?,
+        goals,
+        answers,
+        who,
     })
 }

@@ -6,7 +6,7 @@ use Rattle.query_core.specs.declared.words.KeyParts.{KeyParts}
 use Rattle.goal_space.specs.Words.{goal_word}
 use Rattle.goal_space.specs.Entries.{NamesGoal, IsChildWord}
 use Rattle.goal_space.specs.declared.goals.GoalKind.TheVariants.{Exp}
-use Rattle.goal_rules.specs.Explored.{explored, origin_word, IsLogicalWord, IsFound, origin_found, asked_found, IsExplorationOf}
+use Rattle.goal_rules.specs.Explored.{explored, origin_word, IsLogicalWord, IsExploredWord, origin_found, asked_found, IsExplorationOf}
 use Rattle.goal_rules.specs.EntryLaws.{word_some}
 use Rattle.goal_rules.specs.Meaning.{meaning_of}
 use Rattle.board_moves.specs.Collects.{IsReached, from_origin, from_child, IsExploration, ExplorationAdds}
@@ -15,7 +15,7 @@ use Rattle.job_turns.specs.Works.{Adds}
 
 module _ (q : Query) (group : KeyParts) where
   -- what exploration finds is reached
-  reached : (word : ℕ) → IsFound q group word → IsReached (meaning_of q) (origin_word q group) (IsLogicalWord q group) explored word
+  reached : (word : ℕ) → IsExploredWord q group word → IsReached (meaning_of q) (origin_word q group) (IsLogicalWord q group) explored word
   reached _ origin_found = from_origin
   reached _ (asked_found word child other found is_child is_asked held) = from_child word child other (reached word found) is_child is_asked held
 

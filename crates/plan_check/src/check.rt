@@ -14,7 +14,7 @@ ghost use Rattle.plan_check.specs.Outcome.{IsSmall, IsGood, IsTooLarge, HasShape
 
 use crate::fault::PlanFault;
 use crate::passes::{cost, count, first_unfit, first_unknown, last_wrong};
-use plan_tree::{Plan, meets, nodes_are_one, plan_seen};
+use plan_tree::{Plan, given_satisfies, nodes_are_one, plan_seen};
 use query_core::Query;
 use request_props::{Props, Request};
 
@@ -102,7 +102,7 @@ fn valid_outcome(
     requires valid { (t : Tree) → Spells plan.now t → IsValid (IsCandidate query.now) query.now t }
     ensures { IsOutcome query.now plan.now request result }
 {
-    if meets(query, props, plan_seen(query, props, plan).given, request) {
+    if given_satisfies(query, props, plan_seen(query, props, plan).given, request) {
         Ok(cost(query, props, plan))
     } else {
         Err(PlanFault::Unsatisfied)

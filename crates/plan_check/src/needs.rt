@@ -11,7 +11,7 @@ ghost use Rattle.plan_tree.specs.Seen.{kid_seen, kids_seen};
 ghost use Rattle.plan_check.specs.Nodes.{IsKindOf};
 
 use plan_space::{Enforcer, LeftDist, LeftOrder, Line, NodeKind};
-use plan_tree::{Below, Seen, line_of, meets};
+use plan_tree::{Below, Seen, given_satisfies, line_of};
 use query_core::{Children, KeyParts, PhysicalExpr, Query};
 use request_props::{Dist, Given, GivenDist, GivenOrder, Props, Request};
 
@@ -104,7 +104,7 @@ fn line_fits(query: &Query, props: &Props, line: Line, children: Children, below
         (Line::Beside(dist, order, request), Below::Two(left, right)) => {
             are_two(children, left.group, right.group)
                 && left_needs(query, props, dist, order, left.given)
-                && meets(query, props, right.given, request)
+                && given_satisfies(query, props, right.given, request)
         }
         _ => false,
     }
@@ -175,7 +175,7 @@ fn has_dist(query: &Query, props: &Props, dist: GivenDist, asked: Dist) -> bool
         dist: asked,
         order: 0,
     };
-    meets(query, props, given, wanted)
+    given_satisfies(query, props, given, wanted)
 }
 
 // Whether rows in this order are in the order that is asked for.
@@ -192,5 +192,5 @@ fn has_order(query: &Query, props: &Props, order: GivenOrder, asked: u32) -> boo
         dist: Dist::One,
         order: asked,
     };
-    meets(query, props, given, wanted)
+    given_satisfies(query, props, given, wanted)
 }

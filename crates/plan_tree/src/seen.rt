@@ -87,7 +87,7 @@ pub fn seen_above(query: &Query, props: &Props, kind: NodeKind, below: Below) ->
 }
 
 /// Whether what is given is what is asked for. An order that isn't there counts as empty.
-pub fn meets(query: &Query, props: &Props, given: Given, wanted: Request) -> bool
+pub fn given_satisfies(query: &Query, props: &Props, given: Given, wanted: Request) -> bool
     requires { IsProps query.now props.now }
     ensures { IsTrue result ↔ Satisfies query.now given wanted }
 {

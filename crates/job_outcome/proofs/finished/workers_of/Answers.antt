@@ -1,7 +1,0 @@
-use Rattle.std.proofs.Common.{map, ap, ◌∙◌}
-use Rattle.std.proofs.lemmas.List.{take_all}
-use Rattle.job_outcome.specs.declared.finished.Finished.{Finished}
-use Rattle.job_outcome.proofs.finished.workers_of.Goals as goal
-
-pub returns : goal.returns
-returns c = c.loop-one.invariant ∙ ap (map (λ (f : Finished). f.who)) (take_all c.loop-one.one-index c.args.finished.now c.loop-one-test.false)
