@@ -16,7 +16,7 @@ use Rattle.query_core.specs.declared.words.Expr.{Expr}
 use Rattle.query_core.specs.declared.words.KeyParts.{KeyParts}
 use Rattle.query_core.proofs.Rising.{rises_push}
 use Rattle.request_props.specs.Groups.{key_of}
-use Rattle.request_props.specs.Candidates.{AreCandidatesOf, AreCandidatesBelow}
+use Rattle.request_props.specs.Candidates.{AreCandidatesOf}
 
 -- how many numbers of 64 bits are after the one before
 abbrev pub left_after : Option Expr → ℕ
@@ -108,16 +108,18 @@ module _ (q : Query) (group : KeyParts) where
         let (k, more, inside, value) = stands v candidate after in
         omega (arith, past, more, inside)
 
--- one more list of words, of the group with this key if there is one
-pub lists_more : (q : Query) (lists new : List (List ℕ)) (n : ℕ) (words : List ℕ) → new ≡ lists ++ words ∷ [] → length lists ≡ n → AreCandidatesBelow q n lists
-    → ((group : KeyParts) → Names q (key_of n) group → AreCandidatesOf q group words) → AreCandidatesBelow q (n + 1) new
-lists_more q lists new n words grown count each is group known within = elim (cases_lt (key_number group) n) [
+-- one more list, of the group with this key if there is one
+pub lists_more : {X : Type 0} (q : Query) (Is : KeyParts → List X → Type 0) (lists new : List (List X)) (n : ℕ) (list : List X) → new ≡ lists ++ list ∷ [] → length lists ≡ n
+    → ((group : KeyParts) → IsGroup q group → key_number group < n → Is group (get_or lists (key_number group) []))
+    → ((group : KeyParts) → Names q (key_of n) group → Is group list)
+    → (group : KeyParts) → IsGroup q group → key_number group < n + 1 → Is group (get_or new (key_number group) [])
+lists_more {X} q Is lists new n list grown count each is group known within = elim (cases_lt (key_number group) n) [
   | inl below ↦
-      let same : get_or new (key_number group) [] ≡ get_or lists (key_number group) [] = rw grown (get_or_append_left lists (words ∷ []) [] (key_number group) (omega (arith, below, count))) in
-      subst (AreCandidatesOf q group) (sym same) (each group known below)
+      let same : get_or new (key_number group) [] ≡ get_or lists (key_number group) [] = rw grown (get_or_append_left lists (list ∷ []) [] (key_number group) (omega (arith, below, count))) in
+      subst (Is group) (sym same) (each group known below)
   | inr above ↦
       let last : length lists ≡ key_number group = omega (arith, above, within, count) in
-      let at_end : get_or new (length lists) [] ≡ words = rw grown (get_or-append_seam lists words [] []) in
-      let own : get_or new (key_number group) [] ≡ words = subst (λ (m : ℕ). get_or new m [] ≡ words) last at_end in
-      subst (AreCandidatesOf q group) (sym own) (is group (record { number = omega (arith, last, count); known = known }))
+      let at_end : get_or new (length lists) [] ≡ list = rw grown (get_or-append_seam lists list [] []) in
+      let own : get_or new (key_number group) [] ≡ list = subst (λ (m : ℕ). get_or new m [] ≡ list) last at_end in
+      subst (Is group) (sym own) (is group (record { number = omega (arith, last, count); known = known }))
 ]

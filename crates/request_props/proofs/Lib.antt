@@ -11,3 +11,4 @@ pub mod LeftRanges
 pub mod KindOrder
 pub mod CandidateLists
 pub mod Masks
+pub mod PhysicalLists

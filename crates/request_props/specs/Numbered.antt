@@ -12,7 +12,7 @@ use Rattle.query_core.specs.declared.options.RootDist.TheVariants.{One, Spread}
 use Rattle.request_props.specs.Listing.{listing_of}
 use Rattle.request_props.specs.Found.{ascending, elements_of, wanted_order, found_lists, found_orders}
 use Rattle.request_props.specs.Groups.{AreKeys, AreGroupRows}
-use Rattle.request_props.specs.Candidates.{AreCandidates}
+use Rattle.request_props.specs.Candidates.{AreCandidates, ArePhysical}
 use Rattle.request_props.specs.Ends.{AreEnds}
 use Rattle.request_props.specs.Lying.{items_of, AreTablesOf}
 use Rattle.request_props.specs.declared.given.GivenDist.{GivenDist}
@@ -135,6 +135,7 @@ pub record IsProps (q : Query) (props : Props) : Type 0 where
   pub known_keys : AreKeys q props.keys
   pub known_rows : AreGroupRows q props.rows
   pub known_candidates : AreCandidates q props.candidates
+  pub known_physical : ArePhysical q props.physical
   pub known_equalities : props.equalities ≡ map (equality_of q) q.preds
   pub known_table_ends : AreEnds q Get props.table_ends
   pub known_set_ends : AreEnds q Join props.set_ends

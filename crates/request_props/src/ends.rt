@@ -23,7 +23,7 @@ pub struct Ends {
 #[derive(Clone, Copy, Debug, PartialEq, Eq)]
 pub struct Crossings {
     /// None where they aren't known, so that it may be any.
-    pub known: Option<u64>,
+    known: Option<u64>,
 }
 
 impl Crossings {
@@ -37,7 +37,8 @@ impl Crossings {
     /// Those of the equalities of which each group has one column.
     pub fn between(left: Ends, right: Ends) -> Crossings
         ensures { (pred : ℕ) →
-            (Has left.first pred × Has right.second pred) ⊎ (Has left.second pred × Has right.first pred) →
+            (Has left.first pred × Has right.second pred) ⊎
+            (Has left.second pred × Has right.first pred) →
             Admits result pred }
     {
         Crossings {

@@ -21,6 +21,7 @@ use crate::groups::{group_rows, query_keys};
 use crate::lying::{items_of_orders, tables_of_lists};
 use crate::numbering::numbered;
 use crate::numbers::{equalities, group_order, grouped, placings};
+use crate::physical::{PhysicalCandidate, group_physical};
 use crate::request::{Dist, Request};
 use crate::sides::Equality;
 use orca_base::List;
@@ -44,6 +45,8 @@ pub struct Props {
     rows: List<u64>,
     /// The words of the expressions that each group can hold, ascending, by the number of its key.
     candidates: List<List<u64>>,
+    /// The physical ones of them, with their words, in the same order.
+    physical: List<List<PhysicalCandidate>>,
     /// For each predicate both its sides, where it is an equality of two items.
     equalities: List<Option<Equality>>,
     /// Of each table the equalities of which it has a column.
@@ -74,6 +77,7 @@ impl Props {
         let keys = query_keys(alloc, query)?;
         let rows = group_rows(alloc, query, keys.as_slice())?;
         let candidates = group_candidates(alloc, query, keys.as_slice())?;
+        let physical = group_physical(alloc, query, keys.as_slice(), candidates.as_slice())?;
         let equalities = equalities(alloc, query, hashed.as_slice(), orders.as_slice())?;
         let table_ends = table_ends(alloc, query, equalities.as_slice())?;
         let set_ends = set_ends(alloc, query, equalities.as_slice())?;
@@ -90,6 +94,7 @@ impl Props {
             keys: List::of(keys),
             rows: List::of(rows),
             candidates: List::of(candidates),
+            physical: List::of(physical),
             equalities: List::of(equalities),
             table_ends: List::of(table_ends),
             set_ends: List::of(set_ends),

@@ -1,10 +1,9 @@
 //! The next expression that a group can hold, in the order of words. No call here takes memory.
 #![tactic(auto)]
 
-ghost use Rattle.std.specs.Prelude.{MatchOption};
 ghost use Rattle.query_core.specs.Keys.{IsGroup};
-ghost use Rattle.query_core.specs.Candidates.{IsNext, IsLast};
 ghost use Rattle.request_props.specs.Groups.{AreKeys};
+ghost use Rattle.request_props.specs.Candidates.{FindsNext};
 
 use crate::candidates::joins::next_of_join;
 use query_core::{Expr, Key, KeyParts, Query, bound_after, groups_are_known};
@@ -18,7 +17,7 @@ pub fn next_candidate(
 ) -> Option<Expr>
     requires keys { AreKeys query.now keys.now }
     requires known { IsGroup query.now group }
-    ensures { MatchOption result (IsLast query.now group after) (λ next. IsNext query.now group after next.0) }
+    ensures { FindsNext query.now group after result }
 {
     // For the proof: a group of the query has a key.
     groups_are_known();

@@ -1,14 +1,14 @@
 //! What a query implies, looked up. No call here takes memory.
 #![tactic(auto)]
 
-ghost use Rattle.std.specs.Prelude.{◌≡◌, ◌≤◌, ◌<◌, ◌↔◌, ℕ, IfSome, IsTrue, MatchOption, None, length, slice_get, slice_index_or};
+ghost use Rattle.std.specs.Prelude.{◌≡◌, ◌≤◌, ◌<◌, ◌↔◌, ℕ, IfSome, IsTrue, None, length};
+ghost use Rattle.std.specs.Prelude.{slice_get, slice_index_or};
 ghost use Rattle.std.specs.Option.{option_map, option_map_or};
-ghost use Rattle.query_core.specs.Candidates.{IsNext, IsLast};
 ghost use Rattle.query_core.specs.Crossing.{crossing_of, sides_of};
 ghost use Rattle.query_core.specs.Keys.{IsGroup, IsKey, Names};
 ghost use Rattle.query_core.specs.declared.words.KeyParts.{KeyParts as Group};
 ghost use Rattle.cardinality.specs.Rows.{rows_of};
-ghost use Rattle.request_props.specs.Candidates.{AreCandidatesOf};
+ghost use Rattle.request_props.specs.Candidates.{AreCandidatesOf, ArePhysicalOf, FindsNext};
 ghost use Rattle.request_props.specs.Ends.{Admits, AreEndsOf};
 ghost use Rattle.request_props.specs.declared.ends.Ends.{Ends as AnyEnds};
 ghost use Rattle.request_props.specs.Numbered.{IsProps, side_of, both_sides, equality_of};
@@ -18,6 +18,7 @@ ghost use Rattle.request_props.specs.Numbered.{is_grouped_list as is_list_groupe
 use crate::ends::{Crossings, Ends};
 use crate::given::GivenDist;
 use crate::groups::is_key;
+use crate::physical::PhysicalCandidate;
 use crate::props::Props;
 use crate::sides::{Equality, Side};
 use query_core::{Expr, KEYS, Key, KeyParts, Query, bound_after, count_below, groups_are_known};
@@ -40,7 +41,7 @@ impl Props {
     ) -> Option<Expr>
         requires props { IsProps query.now self.now }
         requires group { IsGroup query.now group }
-        ensures { MatchOption result (IsLast query.now group after) (λ next. IsNext query.now group after next.0) }
+        ensures { FindsNext query.now group after result }
     {
         // For the proof: the words of an expression have 64 bits.
         groups_are_known();
@@ -55,6 +56,16 @@ impl Props {
     {
         groups_are_known();
         self.candidates.as_slice()[Key::make(group).0 as usize].as_slice()
+    }
+
+    /// The physical expressions that the group can hold, ascending by their words.
+    pub fn physical_of(&self, query: &Query, group: KeyParts) -> &[PhysicalCandidate]
+        requires props { IsProps query.now self.now }
+        requires group { IsGroup query.now group }
+        ensures { ArePhysicalOf query.now group result.now }
+    {
+        groups_are_known();
+        self.physical.as_slice()[Key::make(group).0 as usize].as_slice()
     }
 
     /// How many expressions the groups can hold together.
@@ -112,7 +123,8 @@ impl Props {
     /// Predicates among which all are that equate columns across the groups.
     pub fn crossings(&self, query: &Query, left: KeyParts, right: KeyParts) -> Crossings
         requires { IsProps query.now self.now }
-        ensures { (pred : ℕ) → (crossing_of query.now left right pred ≡ None → ⊥) → Admits result pred }
+        ensures { (pred : ℕ) → (crossing_of query.now left right pred ≡ None → ⊥) →
+            Admits result pred }
     {
         match (self.ends(query, left), self.ends(query, right)) {
             (Some(left), Some(right)) => Crossings::between(left, right),
@@ -191,7 +203,7 @@ fn ends_at(list: &[Ends], place: u32) -> Option<Ends>
 // The first of the group's words after this one.
 fn next_among(query: &Query, words: &[u64], group: KeyParts, after: Option<Expr>) -> Option<Expr>
     requires { AreCandidatesOf query.now group words.now }
-    ensures { MatchOption result (IsLast query.now group after) (λ next. IsNext query.now group after next.0) }
+    ensures { FindsNext query.now group after result }
 {
     let bound = bound_after(after)?;
     match words.get(count_below(words, bound)) {

@@ -1,4 +1,4 @@
-use Rattle.std.proofs.Common.{subst, sym, List, None, Some, ℕ}
+use Rattle.std.proofs.Common.{subst, sym, None, Some}
 use Rattle.request_props.proofs.CandidateLists.{none_yet, one_more, all_found, AreUpTo}
 use Rattle.request_props.proofs.candidates.candidates_of.Goals as goal
 

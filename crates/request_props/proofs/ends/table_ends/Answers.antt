@@ -1,7 +1,6 @@
-use Rattle.std.proofs.Common.{arith, subst, sym, List}
+use Rattle.std.proofs.Common.{arith}
 use Rattle.query_core.specs.declared.words.KeyParts.TheVariants.{Get}
-use Rattle.request_props.specs.Ends.{AreEnds}
-use Rattle.request_props.proofs.Masks.{no_ends, ends_push}
+use Rattle.request_props.proofs.Masks.{ends_push}
 use Rattle.request_props.proofs.ends.table_ends.Goals as goal
 
 -- one more group's masks are found

@@ -1,7 +1,7 @@
 -- The masks stand in their lists by tables and by sets of tables.
-use Rattle.std.proofs.Common.{List, subst, sym}
+use Rattle.std.proofs.Common.{subst, sym}
 use Rattle.std.specs.Prelude.{IfSome}
-use Rattle.query_core.specs.declared.words.KeyParts.TheVariants.{Get, Filter, Join}
+use Rattle.query_core.specs.declared.words.KeyParts.TheVariants.{Get, Join}
 use Rattle.request_props.specs.Ends.{AreEnds, AreEndsOf}
 use Rattle.request_props.proofs.Masks.{ends_found, ends_filtered}
 use Rattle.request_props.proofs.props.Props.ends.Goals as goal

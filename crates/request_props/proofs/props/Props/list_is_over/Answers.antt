@@ -1,4 +1,4 @@
-use Rattle.std.proofs.Common.{◌≡◌, ◌≤◌, ◌<◌, None, length, slice_index_or, ap, subst, arith}
+use Rattle.std.proofs.Common.{◌≡◌, ◌<◌, None, length, slice_index_or, arith}
 use Rattle.request_props.specs.Numbered.{lists_of}
 use Rattle.request_props.proofs.Covering.{over_at}
 use Rattle.request_props.proofs.props.Props.list_is_over.Goals as goal

@@ -1,8 +1,5 @@
-use Rattle.std.proofs.Common.{◌≡◌, ◌≤◌, ◌<◌, ◌-◌, suc, ℕ, List, None, length, map, slice_index_or, refl, ap, sym, subst, arith}
-use Rattle.request_props.specs.Lying.{items_of, OrderLiesIn}
-use Rattle.request_props.specs.Numbered.{orders_of, order_of}
-use Rattle.query_core.specs.declared.words.KeyParts.TheVariants.{Join}
-use Rattle.request_props.proofs.Covering.{over_at, order_over}
+use Rattle.std.proofs.Common.{◌≡◌, ◌<◌, ◌-◌, None, length, slice_index_or, arith}
+use Rattle.request_props.proofs.Covering.{order_over}
 use Rattle.request_props.proofs.props.Props.order_is_over.Goals as goal
 
 -- the order is over the tables that were found
