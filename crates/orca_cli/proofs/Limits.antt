@@ -1,7 +1,7 @@
 -- Whether a query has too many hashed lists or orders, and how many, is told by its parts.
 use Rattle.std.proofs.Common.{◌≡◌, ◌≢◌, ◌<◌, ◌≤◌, ℕ, ◌++◌, length, filter_map, flat_map, refl, sym, ap, ◌∙◌, subst, arith}
 use Rattle.query_core.specs.declared.query.Query.{Query}
-use Rattle.request_props.specs.Found.{alone, ascending, elements_of, sides_of, unless_empty}
+use Rattle.request_props.specs.Found.{one_each, ascending, elements_of, sides_of, unless_empty}
 use Rattle.request_props.specs.Listing.{listing_of}
 use Rattle.request_props.specs.Numbered.{lists_of, orders_of, IsRefusedFor}
 use Rattle.request_props.specs.declared.fault.PropsFault.{PropsFault}
@@ -13,12 +13,12 @@ module _ (q r : Query) (same : AreAlike q r) where
   -- queries of the same parts have the same hashed lists
   lists_again : lists_of q ≡ lists_of r
   lists_again = λ i.
-      listing_of (filter_map (λ table. table.hashed) (same.tables i) ++ alone (flat_map (sides_of (same.items i)) (same.preds i)) ++ unless_empty (same.group_by i))
+      listing_of (filter_map (λ table. table.hashed) (same.tables i) ++ one_each (flat_map (sides_of (same.items i)) (same.preds i)) ++ unless_empty (same.group_by i))
 
   -- and the same orders
   orders_again : orders_of q ≡ orders_of r
   orders_again = λ i.
-      listing_of (unless_empty (elements_of (same.order i)) ++ alone (ascending (flat_map (sides_of (same.items i)) (same.preds i))) ++ unless_empty (ascending (same.group_by i)))
+      listing_of (unless_empty (elements_of (same.order i)) ++ one_each (ascending (flat_map (sides_of (same.items i)) (same.preds i))) ++ unless_empty (ascending (same.group_by i)))
 
   -- so what one has too many of the other has too
   pub refused_again : (fault : PropsFault) → IsRefusedFor q fault → IsRefusedFor r fault

@@ -14,7 +14,7 @@ use Rattle.query_core.specs.declared.predicate.Operand.TheVariants as operands
 use Rattle.query_core.specs.declared.predicate.CmpOp.{CmpOp}
 use Rattle.query_core.specs.declared.predicate.CmpOp.TheVariants as comparisons
 use Rattle.request_props.specs.Listing.{list_cmp, listing_of}
-use Rattle.request_props.specs.Found.{ascending, wanted_order, is_across, sides_across, sides_by, sides_of, joined_columns, alone, unless_empty, table_lists, found_lists, found_orders}
+use Rattle.request_props.specs.Found.{ascending, wanted_order, is_across, sides_across, sides_by, sides_of, joined_columns, one_each, unless_empty, table_lists, found_lists, found_orders}
 use Rattle.request_props.specs.Numbered.{lists_of, orders_of}
 
 module _ {K : Type 0} (R : K → K → Ordering) where
@@ -76,9 +76,9 @@ orders_few q =
     let lists = mapped_few (λ number. number ∷ []) (ascending (joined_columns q)) in
     let first = one_few (wanted_order q) in
     let last = one_few (ascending q.group_by) in
-    let front = unless_empty (wanted_order q) ++ alone (ascending (joined_columns q)) in
-    let two : length front ≡ length (unless_empty (wanted_order q)) + length (alone (ascending (joined_columns q))) =
-    length-append (unless_empty (wanted_order q)) (alone (ascending (joined_columns q))) in
+    let front = unless_empty (wanted_order q) ++ one_each (ascending (joined_columns q)) in
+    let two : length front ≡ length (unless_empty (wanted_order q)) + length (one_each (ascending (joined_columns q))) =
+    length-append (unless_empty (wanted_order q)) (one_each (ascending (joined_columns q))) in
     let three : length (found_orders q) ≡ length front + length (unless_empty (ascending q.group_by)) =
     length-append front (unless_empty (ascending q.group_by)) in
     omega arith
@@ -100,7 +100,7 @@ lists_few q =
     let lists = mapped_few (λ number. number ∷ []) (joined_columns q) in
     let first : length (table_lists q) ≤ length q.tables = given_all_few (λ table. table.hashed) q.tables in
     let last = one_few q.group_by in
-    let front = table_lists q ++ alone (joined_columns q) in
-    let two : length front ≡ length (table_lists q) + length (alone (joined_columns q)) = length-append (table_lists q) (alone (joined_columns q)) in
+    let front = table_lists q ++ one_each (joined_columns q) in
+    let two : length front ≡ length (table_lists q) + length (one_each (joined_columns q)) = length-append (table_lists q) (one_each (joined_columns q)) in
     let three : length (found_lists q) ≡ length front + length (unless_empty q.group_by) = length-append front (unless_empty q.group_by) in
     omega arith

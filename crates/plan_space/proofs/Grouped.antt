@@ -10,7 +10,7 @@ use Rattle.query_core.specs.declared.query.Query.{Query}
 use Rattle.query_core.specs.declared.words.KeyParts.{KeyParts}
 use Rattle.query_core.specs.declared.words.KeyParts.TheVariants as groups
 use Rattle.query_core.specs.declared.expressions.Children.TheVariants.{One}
-use Rattle.request_props.specs.Found.{ascending, joined_columns, alone, unless_empty, wanted_order}
+use Rattle.request_props.specs.Found.{ascending, joined_columns, one_each, unless_empty, wanted_order}
 use Rattle.request_props.specs.Numbered.{lists_of, IsNumbered, order_of, list_of, order_number, group_order, is_grouped_list}
 use Rattle.request_props.specs.declared.request.Dist.{Dist}
 use Rattle.request_props.specs.Lying.{OrderLiesIn}
@@ -92,7 +92,7 @@ module _ (one : ListingIsOne) (q : Query) where
   group_numbered [] is = (omega arith, refl)
   group_numbered (first ∷ others) is =
       let order = ascending (first ∷ others) in
-      let front = unless_empty (wanted_order q) ++ alone (ascending (joined_columns q)) in
+      let front = unless_empty (wanted_order q) ++ one_each (ascending (joined_columns q)) in
       let own : Contains (unless_empty (ascending q.group_by)) order =
       subst (λ columns. Contains (unless_empty (ascending columns)) order) (sym is) (contains_here order []) in
       order_numbered one q (2 * first) (ascending others) (Contains-append_right front (unless_empty (ascending q.group_by)) order own)

@@ -15,7 +15,7 @@ use Rattle.std.proofs.lemmas.Map.Keys.{sorted_tail}
 use Rattle.std.proofs.lemmas.Map.Views.{All-after_first}
 use Rattle.query_core.specs.declared.query.Query.{Query}
 use Rattle.request_props.specs.Listing.{list_cmp, listing_of}
-use Rattle.request_props.specs.Found.{ascending, wanted_order, joined_columns, alone, unless_empty, found_orders}
+use Rattle.request_props.specs.Found.{ascending, wanted_order, joined_columns, one_each, unless_empty, found_orders}
 use Rattle.request_props.specs.Numbered.{orders_of, IsNumbered, order_of}
 use Rattle.request_props.specs.Satisfied.{BeginsWith}
 use Rattle.plan_space.proofs.Codes.{AtMost-refl, AtMost-not_less}
@@ -47,7 +47,7 @@ filled_append : (lists others : List (List ℕ)) → AreFilled lists → AreFill
 filled_append [] others all rest = rest
 filled_append (list ∷ lists) others all rest = (all.0, filled_append lists others all.1 rest)
 
-filled_alone : (numbers : List ℕ) → AreFilled (alone numbers)
+filled_alone : (numbers : List ℕ) → AreFilled (one_each numbers)
 filled_alone [] = tt
 filled_alone (number ∷ numbers) = (tt, filled_alone numbers)
 
@@ -57,7 +57,7 @@ filled_unless (x ∷ xs) = (tt, tt)
 
 filled_orders : (q : Query) → AreFilled (orders_of q)
 filled_orders q =
-    let front = filled_append (unless_empty (wanted_order q)) (alone (ascending (joined_columns q)))
+    let front = filled_append (unless_empty (wanted_order q)) (one_each (ascending (joined_columns q)))
     (filled_unless (wanted_order q)) (filled_alone (ascending (joined_columns q))) in
     filled_listing (found_orders q) (filled_append _ (unless_empty (ascending q.group_by)) front (filled_unless (ascending q.group_by)))
 

@@ -10,7 +10,7 @@ use Rattle.std.proofs.lemmas.Slice.Eq.{bytes_eq-Decides}
 use Rattle.query_core.specs.declared.query.Query.{Query}
 use Rattle.query_core.specs.declared.table.QueryTable.{QueryTable}
 use Rattle.request_props.specs.Listing.{IsListing, listing_of}
-use Rattle.request_props.specs.Found.{ascending, alone, unless_empty, wanted_order, table_lists, joined_columns, found_lists, found_orders}
+use Rattle.request_props.specs.Found.{ascending, one_each, unless_empty, wanted_order, table_lists, joined_columns, found_lists, found_orders}
 use Rattle.request_props.specs.Numbered.{lists_of, orders_of, IsNumbered, order_of, list_number, list_of, order_number, column_list, column_order}
 
 -- ---- places in lists
@@ -94,23 +94,23 @@ module _ (one : ListingIsOne) where
         → (list_number q list < length (lists_of q)) × (list_of q (list_number q list) ≡ list)
     table_list_numbered t table list got hashed =
         let own : Contains (table_lists q) list = contains_filter_map (λ x. x.hashed) q.tables t table list got hashed in
-        let first = Contains-append_left (table_lists q) (alone (joined_columns q)) list own in
-        list_numbered list (Contains-append_left (table_lists q ++ alone (joined_columns q)) (unless_empty q.group_by) list first)
+        let first = Contains-append_left (table_lists q) (one_each (joined_columns q)) list own in
+        list_numbered list (Contains-append_left (table_lists q ++ one_each (joined_columns q)) (unless_empty q.group_by) list first)
 
     -- the hashed list of a side of an equality
     pub column_list_numbered : (column : ℕ) → Contains (joined_columns q) column
         → (column_list q column < length (lists_of q)) × (list_of q (column_list q column) ≡ column ∷ [])
     column_list_numbered column joined =
-        let own : Contains (alone (joined_columns q)) (column ∷ []) = contains_map (λ number. number ∷ []) (joined_columns q) column joined in
-        let first = Contains-append_right (table_lists q) (alone (joined_columns q)) (column ∷ []) own in
-        list_numbered (column ∷ []) (Contains-append_left (table_lists q ++ alone (joined_columns q)) (unless_empty q.group_by) (column ∷ []) first)
+        let own : Contains (one_each (joined_columns q)) (column ∷ []) = contains_map (λ number. number ∷ []) (joined_columns q) column joined in
+        let first = Contains-append_right (table_lists q) (one_each (joined_columns q)) (column ∷ []) own in
+        list_numbered (column ∷ []) (Contains-append_left (table_lists q ++ one_each (joined_columns q)) (unless_empty q.group_by) (column ∷ []) first)
 
     -- and its order
     pub column_order_numbered : (column : ℕ) → Contains (joined_columns q) column
         → IsNumbered q (column_order q column) × (order_of q (column_order q column) ≡ (2 * column) ∷ [])
     column_order_numbered column joined =
         let wanted = unless_empty (wanted_order q) in
-        let orders = alone (ascending (joined_columns q)) in
+        let orders = one_each (ascending (joined_columns q)) in
         let order = (2 * column) ∷ [] in
         let ascends : Contains (ascending (joined_columns q)) (2 * column) = contains_map (λ c. 2 * c) (joined_columns q) column joined in
         let own : Contains orders order = contains_map (λ number. number ∷ []) (ascending (joined_columns q)) (2 * column) ascends in

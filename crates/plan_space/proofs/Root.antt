@@ -28,7 +28,7 @@ use Rattle.query_core.specs.declared.table.Item.{Item}
 use Rattle.query_core.specs.declared.words.KeyParts.{KeyParts}
 use Rattle.query_core.specs.declared.words.KeyParts.TheVariants as groups
 use Rattle.request_props.specs.Found.{element_of, ascending, joined_columns, unless_empty, wanted_order, found_orders}
-use Rattle.request_props.specs.Found.{alone as each_alone}
+use Rattle.request_props.specs.Found.{one_each}
 use Rattle.request_props.specs.Listing.{list_cmp}
 use Rattle.request_props.specs.Numbered.{orders_of, IsNumbered, order_of, root_dist, IsNumberOf, IsProps, order_number, root_request}
 use Rattle.request_props.specs.declared.props.Props.{Props}
@@ -117,7 +117,7 @@ module _ (one : ListingIsOne) (q : Query) where
   wanted_numbered (first ∷ others) is =
       let order = first ∷ others in
       let wanted = unless_empty (wanted_order q) in
-      let joined = each_alone (ascending (joined_columns q)) in
+      let joined = one_each (ascending (joined_columns q)) in
       let own : Contains wanted order = subst (λ o. Contains (unless_empty o) order) (sym is) (contains_here order []) in
       order_numbered one q first others
       (Contains-append_left (wanted ++ joined) (unless_empty (ascending q.group_by)) order (Contains-append_left wanted joined order own))
@@ -175,15 +175,15 @@ unless_empty_full : (list : List ℕ) → All IsFull (unless_empty list)
 unless_empty_full [] = All-nil IsFull
 unless_empty_full (first ∷ others) = All-cons IsFull (first ∷ others) [] (λ never. cc) (All-nil IsFull)
 
-alone_full : (numbers : List ℕ) → All IsFull (each_alone numbers)
+alone_full : (numbers : List ℕ) → All IsFull (one_each numbers)
 alone_full [] = All-nil IsFull
-alone_full (first ∷ numbers) = All-cons IsFull (first ∷ []) (each_alone numbers) (λ never. cc) (alone_full numbers)
+alone_full (first ∷ numbers) = All-cons IsFull (first ∷ []) (one_each numbers) (λ never. cc) (alone_full numbers)
 
 -- no order that is found is empty
 found_full : (q : Query) → All IsFull (found_orders q)
 found_full q =
     let wanted = unless_empty (wanted_order q) in
-    let joined = each_alone (ascending (joined_columns q)) in
+    let joined = one_each (ascending (joined_columns q)) in
     All-append IsFull (wanted ++ joined) (unless_empty (ascending q.group_by))
     (All-append IsFull wanted joined (unless_empty_full (wanted_order q)) (alone_full (ascending (joined_columns q))))
     (unless_empty_full (ascending q.group_by))

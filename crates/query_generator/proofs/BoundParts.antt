@@ -8,7 +8,7 @@ use Rattle.query_core.specs.declared.predicate.Pred.{Pred}
 use Rattle.query_core.specs.declared.table.Item.{Item}
 use Rattle.query_core.specs.declared.table.QueryTable.{QueryTable}
 use Rattle.query_core.specs.Links.{is_between, predicate_links}
-use Rattle.request_props.specs.Found.{alone, ascending, elements_of, sides_of, unless_empty}
+use Rattle.request_props.specs.Found.{one_each, ascending, elements_of, sides_of, unless_empty}
 use Rattle.request_props.specs.Listing.{listing_of}
 use Rattle.sql_bind.specs.declared.conditions.Compared.{Compared}
 use Rattle.sql_bind.specs.declared.conditions.Side.TheVariants as sides
@@ -77,11 +77,11 @@ abbrev pub group_by : Parts → List ℕ
 group_by parts = group_numbers (used_by parts) parts.group
 
 abbrev pub lists_by : Parts → List (List ℕ)
-lists_by parts = listing_of (filter_map (λ t. t.hashed) (tables_of parts) ++ alone (joined_by parts) ++ unless_empty (group_by parts))
+lists_by parts = listing_of (filter_map (λ t. t.hashed) (tables_of parts) ++ one_each (joined_by parts) ++ unless_empty (group_by parts))
 
 abbrev pub orders_by : Parts → List (List ℕ)
 orders_by parts =
-    listing_of (unless_empty (elements_of (order_of (used_by parts) parts.keys)) ++ alone (ascending (joined_by parts)) ++ unless_empty (ascending (group_by parts)))
+    listing_of (unless_empty (elements_of (order_of (used_by parts) parts.keys)) ++ one_each (ascending (joined_by parts)) ++ unless_empty (ascending (group_by parts)))
 
 -- ---- what is known of them
 

@@ -18,7 +18,7 @@ use Rattle.query_core.specs.Crossing.{crossing_of, crossing_at, sides_with, equa
 use Rattle.query_core.specs.declared.predicate.Pred.{Pred}
 use Rattle.request_props.specs.Ends.{IsEqualityAt, AreEnds, AreEndsBelow, AreEndsOf, HasEndsAt}
 use Rattle.request_props.specs.Numbered.{side_of, equality_with, equality_of}
-use Rattle.request_props.specs.declared.ends.Ends.{Ends}
+use Rattle.request_props.specs.declared.ends.EqualityEnds.{EqualityEnds}
 use Rattle.request_props.specs.declared.sides.Equality.{Equality}
 
 pub mask-with : (mask k : ℕ) → k < 64 → bit (bit_or mask (1 * 2 ^ k % 2 ^ 64)) k ≡ 1
@@ -54,7 +54,7 @@ mask_below mask k fits has = elim (cases_lt k 64) [ inl less ↦ less | inr more
 
 module _ (q : Query) (group : KeyParts) where
   -- masks of no predicates
-  pub none_below : (ends : Ends) → AreEndsBelow q group 0 ends
+  pub none_below : (ends : EqualityEnds) → AreEndsBelow q group 0 ends
   none_below ends = record { first = λ n a b below is has. absurd (omega (arith, below)); second = λ n a b below is has. absurd (omega (arith, below)) }
 
   -- what the list of equalities has at the number of one
@@ -66,7 +66,7 @@ module _ (q : Query) (group : KeyParts) where
       get_or_from_slice_get equalities n (equality_of q is.pred) d found ∙ this
 
   -- masks of one more predicate
-  pub ends_more : (equalities : List (Option Equality)) → equalities ≡ map (equality_of q) q.preds → (n : ℕ) (ends new : Ends) (d : Option Equality) → AreEndsBelow q group n ends
+  pub ends_more : (equalities : List (Option Equality)) → equalities ≡ map (equality_of q) q.preds → (n : ℕ) (ends new : EqualityEnds) (d : Option Equality) → AreEndsBelow q group n ends
       → HasEndsAt q group (get_or equalities n d) n new → ((k : ℕ) → k ≢ n → bit new.first k ≡ bit ends.first k) → ((k : ℕ) → k ≢ n → bit new.second k ≡ bit ends.second k)
       → AreEndsBelow q group (n + 1) new
   ends_more equalities are n ends new d before this first second =
@@ -112,7 +112,7 @@ module _ (q : Query) (left right : KeyParts) (n : ℕ) where
   crosses_by (Some pred) there some = crosses_with pred there (equal_item pred.op pred.right) refl some
 
   -- a predicate that crosses is in the masks of both groups
-  pub crossing_in : (first second : Ends) → AreEndsOf q left first → AreEndsOf q right second → (crossing_of q left right n ≡ None → ⊥)
+  pub crossing_in : (first second : EqualityEnds) → AreEndsOf q left first → AreEndsOf q right second → (crossing_of q left right n ≡ None → ⊥)
       → (Has first.first n × Has second.second n) ⊎ (Has first.second n × Has second.first n)
   crossing_in first second of_left of_right some =
       let (a, b, is, has) = crosses_by (slice_get q.preds n) refl some in
@@ -128,7 +128,7 @@ module _ (q : Query) (group_of : ℕ → KeyParts) where
   no_ends k d within = absurd (omega (arith, within))
 
   -- and of one more
-  pub ends_push : (list new : List Ends) (n : ℕ) (ends : Ends) → new ≡ list ++ ends ∷ [] → length list ≡ n → AreEnds q group_of list → AreEndsOf q (group_of n) ends
+  pub ends_push : (list new : List EqualityEnds) (n : ℕ) (ends : EqualityEnds) → new ≡ list ++ ends ∷ [] → length list ≡ n → AreEnds q group_of list → AreEndsOf q (group_of n) ends
       → AreEnds q group_of new
   ends_push list new n ends grown count each is k d within =
       let longer : length new ≡ length list + 1 = ap length grown ∙ length-append list (ends ∷ []) in
@@ -144,12 +144,12 @@ module _ (q : Query) (group_of : ℕ → KeyParts) where
       ]
 
   -- what stands at a place of the list is of the group there
-  pub ends_found : (list : List Ends) → AreEnds q group_of list → (place : ℕ) (found : Option Ends)
-      → IfSome found (λ ends. (d : Ends) → (place < length list) × (get_or list place d ≡ ends)) → IfSome found (AreEndsOf q (group_of place))
+  pub ends_found : (list : List EqualityEnds) → AreEnds q group_of list → (place : ℕ) (found : Option EqualityEnds)
+      → IfSome found (λ ends. (d : EqualityEnds) → (place < length list) × (get_or list place d ≡ ends)) → IfSome found (AreEndsOf q (group_of place))
   ends_found list each place None at = tt
   ends_found list each place (Some ends) at = let (within, same) = at ends in subst (AreEndsOf q (group_of place)) same (each place ends within)
 
 -- a filtered table has the columns of the table
-pub ends_filtered : (q : Query) (table : ℕ) (found : Option Ends) → IfSome found (AreEndsOf q (Get table)) → IfSome found (AreEndsOf q (Filter table))
+pub ends_filtered : (q : Query) (table : ℕ) (found : Option EqualityEnds) → IfSome found (AreEndsOf q (Get table)) → IfSome found (AreEndsOf q (Filter table))
 ends_filtered q table None are = tt
 ends_filtered q table (Some ends) are = record { first = are.first; second = are.second }

@@ -6,7 +6,7 @@ use Rattle.std.proofs.lemmas.List.Elements.{Contains-append_left}
 use Rattle.query_core.specs.declared.query.Query.{Query}
 use Rattle.query_core.specs.declared.output.OrderKey.{OrderKey}
 use Rattle.request_props.specs.declared.props.Props.{Props}
-use Rattle.request_props.specs.Found.{elements_of, ascending, wanted_order, joined_columns, alone, unless_empty, found_orders}
+use Rattle.request_props.specs.Found.{elements_of, ascending, wanted_order, joined_columns, one_each, unless_empty, found_orders}
 use Rattle.request_props.specs.Numbered.{order_among, orders_of}
 use Rattle.request_props.proofs.Inserted.{listing_made}
 
@@ -31,8 +31,8 @@ pub wanted_known : (q : Query) → (wanted_order q ≡ []) ⊎ Contains (orders_
 wanted_known q = elim (itself_unless_empty (wanted_order q)) [
   | inl empty ↦ inl empty
   | inr within ↦
-      let front = Contains-append_left (unless_empty (wanted_order q)) (alone (ascending (joined_columns q))) (wanted_order q) within in
-      let found = Contains-append_left (unless_empty (wanted_order q) ++ alone (ascending (joined_columns q)))
+      let front = Contains-append_left (unless_empty (wanted_order q)) (one_each (ascending (joined_columns q))) (wanted_order q) within in
+      let found = Contains-append_left (unless_empty (wanted_order q) ++ one_each (ascending (joined_columns q)))
       (unless_empty (ascending q.group_by)) (wanted_order q) front in
       inr (((listing_made (found_orders q)).exact (wanted_order q)).1 found)
 ]

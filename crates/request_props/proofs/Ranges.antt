@@ -16,7 +16,7 @@ use Rattle.query_core.specs.declared.predicate.CmpOp as comparisons
 use Rattle.query_core.specs.declared.predicate.CmpOp.{CmpOp}
 use Rattle.query_core.specs.Conditions.{is_operand}
 use Rattle.query_core.specs.Results.{is_root_item}
-use Rattle.request_props.specs.Found.{ascending, wanted_order, is_across, sides_across, sides_by, sides_of, joined_columns, alone, unless_empty, table_lists, found_lists, found_orders}
+use Rattle.request_props.specs.Found.{ascending, wanted_order, is_across, sides_across, sides_by, sides_of, joined_columns, one_each, unless_empty, table_lists, found_lists, found_orders}
 
 -- each number is below a bound
 abbrev pub are_below : ℕ → List ℕ → Bool
@@ -142,14 +142,14 @@ three_parts : {A : Type 0} (first second third : List A) (a b : ℕ) → length 
 three_parts first second third a b x y z =
     let outer = length-append (first ++ second) third in let inner = length-append first second in omega arith
 
-alone_few : (q : Query) → length (alone (joined_columns q)) ≤ 80
+alone_few : (q : Query) → length (one_each (joined_columns q)) ≤ 80
 alone_few q =
     let same = length-map (joined_columns q) (λ number. number ∷ []) in
     let two = all_sides_two q.items q.preds in
     let few = q.preds_valid.few in
     omega arith
 
-ascending_few : (q : Query) → length (alone (ascending (joined_columns q))) ≤ 80
+ascending_few : (q : Query) → length (one_each (ascending (joined_columns q))) ≤ 80
 ascending_few q =
     let same = length-map (ascending (joined_columns q)) (λ number. number ∷ []) in
     let same' = length-map (joined_columns q) (λ column. 2 * column) in
@@ -162,10 +162,10 @@ pub lists_few : (q : Query) → length (found_lists q) ≤ 91
 lists_few q =
     let tables = filtered_few (λ table. table.hashed) q.tables in
     let few = q.tables_valid.few in
-    three_parts (table_lists q) (alone (joined_columns q)) (unless_empty q.group_by) 10 80 (omega arith) (alone_few q) (one_at_most q.group_by)
+    three_parts (table_lists q) (one_each (joined_columns q)) (unless_empty q.group_by) 10 80 (omega arith) (alone_few q) (one_at_most q.group_by)
 
 -- and at most 82 orders
 pub orders_few : (q : Query) → length (found_orders q) ≤ 82
 orders_few q =
-    three_parts (unless_empty (wanted_order q)) (alone (ascending (joined_columns q))) (unless_empty (ascending q.group_by)) 1 80
+    three_parts (unless_empty (wanted_order q)) (one_each (ascending (joined_columns q))) (unless_empty (ascending q.group_by)) 1 80
     (one_at_most (wanted_order q)) (ascending_few q) (one_at_most (ascending q.group_by))

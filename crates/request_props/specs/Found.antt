@@ -59,8 +59,8 @@ abbrev pub joined_columns : Query → List ℕ
 joined_columns q = flat_map (sides_of q.items) q.preds
 
 -- each number as a list of one
-abbrev pub alone : List ℕ → List (List ℕ)
-alone numbers = map (λ number. number ∷ []) numbers
+abbrev pub one_each : List ℕ → List (List ℕ)
+one_each numbers = map (λ number. number ∷ []) numbers
 
 -- the one list, unless it is empty
 abbrev pub unless_empty : List ℕ → List (List ℕ)
@@ -73,8 +73,8 @@ table_lists q = filter_map (λ table. table.hashed) q.tables
 
 -- the distribution list of each hashed table, each side of each equality between columns of different tables, and the GROUP BY list
 abbrev pub found_lists : Query → List (List ℕ)
-found_lists q = table_lists q ++ alone (joined_columns q) ++ unless_empty q.group_by
+found_lists q = table_lists q ++ one_each (joined_columns q) ++ unless_empty q.group_by
 
 -- the ORDER BY list, each side of these equalities ascending, and the GROUP BY list ascending; the empty order is none of them
 abbrev pub found_orders : Query → List (List ℕ)
-found_orders q = unless_empty (wanted_order q) ++ alone (ascending (joined_columns q)) ++ unless_empty (ascending q.group_by)
+found_orders q = unless_empty (wanted_order q) ++ one_each (ascending (joined_columns q)) ++ unless_empty (ascending q.group_by)

@@ -14,7 +14,7 @@ use std::alloc::{AllocError, Global};
 
 /// The equalities of which a group has the first column, and those of which it has the second.
 #[derive(Clone, Copy, Debug, PartialEq, Eq)]
-pub struct Ends {
+pub struct EqualityEnds {
     pub first: u64,
     pub second: u64,
 }
@@ -35,7 +35,7 @@ impl Crossings {
     }
 
     /// Those of the equalities of which each group has one column.
-    pub fn between(left: Ends, right: Ends) -> Crossings
+    pub fn between(left: EqualityEnds, right: EqualityEnds) -> Crossings
         ensures { (pred : ℕ) →
             (Has left.first pred × Has right.second pred) ⊎
             (Has left.second pred × Has right.first pred) →
@@ -62,7 +62,7 @@ pub fn table_ends(
     alloc: Global,
     query: &Query,
     equalities: &[Option<Equality>],
-) -> Result<Vec<Ends>, AllocError>
+) -> Result<Vec<EqualityEnds>, AllocError>
     requires { equalities.now ≡ map (equality_of query.now) query.now.preds }
     ensures { IfOk result (λ found. AreEnds query.now Get found.items) }
 {
@@ -78,7 +78,7 @@ pub fn set_ends(
     alloc: Global,
     query: &Query,
     equalities: &[Option<Equality>],
-) -> Result<Vec<Ends>, AllocError>
+) -> Result<Vec<EqualityEnds>, AllocError>
     requires { equalities.now ≡ map (equality_of query.now) query.now.preds }
     ensures { IfOk result (λ found. AreEnds query.now Join found.items) }
 {
@@ -98,11 +98,11 @@ fn has_pred(mask: u64, pred: u32) -> bool
 }
 
 // The equalities of which a group has a column.
-fn ends_of(query: &Query, equalities: &[Option<Equality>], group: KeyParts) -> Ends
+fn ends_of(query: &Query, equalities: &[Option<Equality>], group: KeyParts) -> EqualityEnds
     requires { equalities.now ≡ map (equality_of query.now) query.now.preds }
     ensures { AreEndsOf query.now group result }
 {
-    let mut ends = Ends {
+    let mut ends = EqualityEnds {
         first: 0,
         second: 0,
     };
@@ -118,15 +118,15 @@ fn with_ends(
     group: KeyParts,
     equality: Option<Equality>,
     pred: u32,
-    ends: Ends,
-) -> Ends
+    ends: EqualityEnds,
+) -> EqualityEnds
     requires { pred < 64 }
     ensures this { HasEndsAt query.now group equality pred result }
     ensures first { (n : ℕ) → n ≢ pred → bit result.first n ≡ bit ends.first n }
     ensures second { (n : ℕ) → n ≢ pred → bit result.second n ≡ bit ends.second n }
 {
     match equality {
-        Some(Equality { left, right }) => Ends {
+        Some(Equality { left, right }) => EqualityEnds {
             first: with_pred(ends.first, pred, query.group_has_item(group, left.column)),
             second: with_pred(ends.second, pred, query.group_has_item(group, right.column)),
         },

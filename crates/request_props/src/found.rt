@@ -3,7 +3,7 @@
 
 ghost use Rattle.std.specs.Prelude.{◌≡◌, ◌<◌, ◌++◌, IfOk, OnOk};
 ghost use Rattle.std.specs.List.{All};
-ghost use Rattle.request_props.specs.Found.{alone, ascending as ascending_of, elements_of};
+ghost use Rattle.request_props.specs.Found.{one_each, ascending as ascending_of, elements_of};
 ghost use Rattle.request_props.specs.Found.{found_lists as lists_found};
 ghost use Rattle.request_props.specs.Found.{found_orders as orders_found};
 ghost use Rattle.request_props.specs.Found.{joined_columns as columns_joined};
@@ -126,7 +126,7 @@ fn are_apart(items: &[Item], left: u32, right: u32) -> bool
 }
 
 fn push_alone(alloc: Global, found: &mut Vec<List<u32>>, numbers: &[u32]) -> Result<(), AllocError>
-    ensures { OnOk result (found.new.items ≡ found.old.items ++ alone numbers.now) }
+    ensures { OnOk result (found.new.items ≡ found.old.items ++ one_each numbers.now) }
 {
     for number in numbers {
         found.push(List::of(vec![in alloc; *number]?))?;

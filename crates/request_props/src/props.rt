@@ -13,7 +13,7 @@ mod fitting;
 mod lookups;
 
 use crate::candidates::group_candidates;
-use crate::ends::{Ends, set_ends, table_ends};
+use crate::ends::{EqualityEnds, set_ends, table_ends};
 use crate::fault::PropsFault;
 use crate::found::{found_lists, found_orders, wanted_order};
 use crate::given::GivenDist;
@@ -50,9 +50,9 @@ pub struct Props {
     /// For each predicate both its sides, where it is an equality of two items.
     equalities: List<Option<Equality>>,
     /// Of each table the equalities of which it has a column.
-    table_ends: List<Ends>,
+    table_ends: List<EqualityEnds>,
     /// The same of each set of tables, but for that of all tables.
-    set_ends: List<Ends>,
+    set_ends: List<EqualityEnds>,
     /// Where the rows of each table lie.
     placings: List<GivenDist>,
     /// Of each hashed list whether all of it is in GROUP BY.

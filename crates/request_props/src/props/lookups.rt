@@ -10,12 +10,12 @@ ghost use Rattle.query_core.specs.declared.words.KeyParts.{KeyParts as Group};
 ghost use Rattle.cardinality.specs.Rows.{rows_of};
 ghost use Rattle.request_props.specs.Candidates.{AreCandidatesOf, ArePhysicalOf, FindsNext};
 ghost use Rattle.request_props.specs.Ends.{Admits, AreEndsOf};
-ghost use Rattle.request_props.specs.declared.ends.Ends.{Ends as AnyEnds};
+ghost use Rattle.request_props.specs.declared.ends.EqualityEnds.{EqualityEnds as AnyEnds};
 ghost use Rattle.request_props.specs.Numbered.{IsProps, side_of, both_sides, equality_of};
 ghost use Rattle.request_props.specs.Numbered.{table_dist as dist_of_table, group_order as order_of_groups};
 ghost use Rattle.request_props.specs.Numbered.{is_grouped_list as is_list_grouped};
 
-use crate::ends::{Crossings, Ends};
+use crate::ends::{Crossings, EqualityEnds};
 use crate::given::GivenDist;
 use crate::groups::is_key;
 use crate::physical::PhysicalCandidate;
@@ -133,7 +133,7 @@ impl Props {
     }
 
     // The equalities of which the group has a column, where they are known.
-    fn ends(&self, query: &Query, group: KeyParts) -> Option<Ends>
+    fn ends(&self, query: &Query, group: KeyParts) -> Option<EqualityEnds>
         requires { IsProps query.now self.now }
         ensures { IfSome result (AreEndsOf query.now group) }
     {
@@ -190,7 +190,7 @@ impl Props {
 }
 
 // What stands at this place of the list, if it has so many.
-fn ends_at(list: &[Ends], place: u32) -> Option<Ends>
+fn ends_at(list: &[EqualityEnds], place: u32) -> Option<EqualityEnds>
     ensures { IfSome result (λ ends. (d : AnyEnds) → (place < length list.now) ×
         (slice_index_or list.now place d ≡ ends)) }
 {
