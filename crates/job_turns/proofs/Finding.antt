@@ -1,5 +1,5 @@
 -- Choices that were found, one after the other.
-use Rattle.std.proofs.Common.{◌⊎◌, ℕ, ◌≤◌, Bool, true, false, Option, None, Some, [], subst, arith}
+use Rattle.std.proofs.Common.{◌≡◌, ◌⊎◌, inr, ℕ, ◌≤◌, Bool, true, false, Option, None, Some, [], refl, subst, arith}
 use Rattle.query_core.specs.declared.query.Query.{Query}
 use Rattle.board_rule.specs.declared.hands.Hands.{Hands}
 use Rattle.goal_board.specs.declared.board.Right.{Right}
@@ -90,6 +90,13 @@ module _ (q : Query) (room : ℕ) (v : Hands Rules) (before : Right) where
       → Chooses q room u middle Others Is found w after → Chooses q room v before (λ child. First child ⊎ Others child) Is found w after
   chooses_after First Others Is u middle (Some choice) w after first t = record { awaited = has_both q room v before First Others u middle w after first t.awaited; is = t.is }
   chooses_after First Others Is u middle None w after first t = runs_out_after q room v before First u middle w after first t
+
+  -- looks alone, and then a choice
+  pub looks_choose : (Wanted : GoalKind → Type 0) (Is : Option Best → Type 0) (u : Hands Rules) → OnlyLooks v u → (found : Option Choice) (w : Hands Rules) (after : Right) → Chooses q room u before Wanted Is found w after
+      → Chooses q room v before Wanted Is found w after
+  looks_choose Wanted Is u looks found w after t =
+      let looked = finds_looked (λ (child : GoalKind). ⊥) (λ (best : Option Best). best ≡ None) (Known None) v before u (finds_none (λ (child : GoalKind). ⊥) (λ (best : Option Best). best ≡ None) (λ child none. none) None refl) looks in
+      chooses_others (λ (child : GoalKind). ⊥ ⊎ Wanted child) Wanted Is Is (λ child is. inr is) (λ best is. is) found w after (chooses_after (λ (child : GoalKind). ⊥) Wanted Is u before found w after looked.awaited t)
 
   -- a choice, from which another is made
   pub finds_told : (Wanted Others : GoalKind → Type 0) (Is IsOther : Option Best → Type 0) → ((child : GoalKind) → Others child → Wanted child) → (one : Choice) (w : Hands Rules) (after : Right)

@@ -14,6 +14,4 @@ pub mod Tried
 pub mod Enforced
 pub mod Serving
 pub mod Held
-pub mod LeastWords
 pub mod GoalsHeld
-pub mod Passing

@@ -1,13 +1,18 @@
--- The members of a group that may serve a request, in the order of their words.
-use Rattle.std.proofs.Common.{◌≡◌, ◌⊎◌, ℕ, ◌<◌, ◌≤◌, Option, None, Some, refl, sym, ap, subst, ◌∙◌, inl, inr, ⊎_elim, arith}
-use Rattle.query_core.specs.Expressions.{expr_of, word_of, IsPacked, IsCandidate}
+-- The members of a group that may serve a request, tried one after the other.
+use Rattle.std.proofs.Common.{◌≡◌, ◌⊎◌, ℕ, List, [], ◌∷◌, ◌++◌, ◌+◌, ◌<◌, length, get_or, take, Option, None, Some, refl, sym, ap, subst, ◌∙◌, inl, inr, ⊎_elim, arith}
+use Rattle.std.specs.List.{Contains}
+use Rattle.std.proofs.lemmas.List.{take_more}
+use Rattle.std.proofs.lemmas.List.Elements.{Contains-push_cases}
+use Rattle.query_core.specs.Expressions.{expr_of, IsCandidate}
 use Rattle.query_core.specs.declared.query.Query.{Query}
 use Rattle.query_core.specs.declared.words.KeyParts.{KeyParts}
 use Rattle.query_core.specs.declared.expressions.ExprParts.{ExprParts}
 use Rattle.query_core.specs.declared.expressions.PhysicalExpr.{PhysicalExpr}
 use Rattle.xform_rules.specs.Closure.{IsMember}
+use Rattle.request_props.specs.Candidates.{with_word, ArePhysicalOf, IsPhysicalOf}
 use Rattle.request_props.specs.Fitting.{Fits}
 use Rattle.request_props.specs.Numbered.{IsProps}
+use Rattle.request_props.specs.declared.physical.PhysicalCandidate.{PhysicalCandidate}
 use Rattle.request_props.specs.declared.props.Props.{Props}
 use Rattle.request_props.specs.declared.request.Request.{Request}
 use Rattle.plan_space.specs.declared.nodes.NodeKind.TheVariants as nodes
@@ -16,75 +21,104 @@ use Rattle.best_answers.specs.Answers.{lesser}
 use Rattle.best_answers.specs.Best.{IsBest}
 use Rattle.best_answers.specs.Laws.{NoneIsBest, LesserIsBest, CoveredIsBest}
 use Rattle.best_answers.specs.declared.best.Best.{Best}
-use Rattle.board_moves.specs.Words.{IsAbove, IsNextWord, IsNextOf}
-use Rattle.board_moves.proofs.Ascending.{IsUpTo, up_to_next, up_to_or_above}
+use Rattle.board_rule.specs.declared.hands.Hands.{Hands}
+use Rattle.goal_board.specs.declared.board.Right.{Right}
+use Rattle.goal_rules.specs.declared.rules.Rules.{Rules}
 use Rattle.goal_space.specs.Children.{CanServe}
 use Rattle.goal_space.specs.Answers.{IsAnswerTo}
 use Rattle.goal_space.specs.declared.goals.GoalKind.{GoalKind}
 use Rattle.goal_space.specs.declared.goals.GoalKind.TheVariants.{OptE}
-use Rattle.job_turns.specs.Requests.{IsServing, IsServingWord, IsMemberGoal, IsBestOfMembers, first_enforcers}
+use Rattle.job_turns.specs.Requests.{IsMemberGoal, IsGoalOfMember, IsBestOfMember, IsBestOfMembers, first_enforcers}
+use Rattle.job_turns.specs.Choices.{FindsChoice, choice_of_both}
+use Rattle.job_turns.specs.declared.choice.Choice.{Choice}
 use Rattle.job_turns.proofs.Enforced.{first_has}
-use Rattle.job_turns.proofs.Held.{same_physical}
-
--- no two physical members have one word
-abbrev pub MembersAreOne : Query → Type 0
-MembersAreOne q = (e other : PhysicalExpr) → IsMember q (expr_of e) → IsMember q (expr_of other) → word_of (expr_of e) ≡ word_of (expr_of other) → e ≡ other
-
-pub members_one : (q : Query) → ((e other : ExprParts) → IsPacked e → IsPacked other → word_of e ≡ word_of other → e ≡ other) → ((e : ExprParts) → IsCandidate q e → IsPacked e)
-    → ((e : ExprParts) → IsMember q e → IsCandidate q e) → MembersAreOne q
-members_one q one packed candidates e other member also same =
-    same_physical e other (one (expr_of e) (expr_of other) (packed (expr_of e) (candidates (expr_of e) member)) (packed (expr_of other) (candidates (expr_of other) also)) same)
+use Rattle.job_turns.proofs.Finding.{finds_both, finds_others}
 
 module _ (q : Query) (group : KeyParts) (wanted : Request) where
-  -- the goal of a member up to this word
-  abbrev pub IsMemberGoalUpTo : Option ℕ → GoalKind → Type 0
-  IsMemberGoalUpTo before child = (e : PhysicalExpr) × CanServe (IsMember q) q group wanted e × IsUpTo before (word_of (expr_of e)) × (child ≡ OptE e wanted)
+  -- the goal of a member among these
+  abbrev pub IsMemberGoalAmong : List PhysicalCandidate → GoalKind → Type 0
+  IsMemberGoalAmong tried child = (e : PhysicalExpr) × Contains tried (with_word e) × CanServe (IsMember q) q group wanted e × (child ≡ OptE e wanted)
 
-  -- the best answer of some nodes, among them all members up to this word in all modes
-  pub record IsBestUpTo (before : Option ℕ) (best : Option Best) : Type 0 where
+  -- the best answer of some nodes, among them all members among these in all modes
+  pub record IsBestAmong (tried : List PhysicalCandidate) (best : Option Best) : Type 0 where
     pub set : Nodes
-    pub has : (e : PhysicalExpr) (mode : ℕ) → CanServe (IsMember q) q group wanted e → IsUpTo before (word_of (expr_of e)) → IsIn set (nodes.Native e mode)
+    pub has : (e : PhysicalExpr) (mode : ℕ) → Contains tried (with_word e) → CanServe (IsMember q) q group wanted e → IsIn set (nodes.Native e mode)
     pub is_best : IsBest q group wanted set best
 
-  module _ (start : ℕ) (below : (e : PhysicalExpr) → CanServe (IsMember q) q group wanted e → start < word_of (expr_of e)) where
-    -- no member is up to a number before the words of all
-    pub member_goal_none : (child : GoalKind) → IsMemberGoalUpTo (Some start) child → ⊥
-    member_goal_none child (e, can, up_to, is) = let above = below e can in omega arith
+  -- no member is among none
+  pub member_goal_none : (child : GoalKind) → IsMemberGoalAmong [] child → ⊥
+  member_goal_none child (e, (k, within, is), can, is_goal) = omega (arith, within)
 
-    pub best_none : NoneIsBest q → IsBestUpTo (Some start) None
-    best_none none_best = record { set = no_nodes; has = λ e mode can up_to. let above = below e can in absurd (omega arith); is_best = none_best group wanted }
+  pub best_none : NoneIsBest q → IsBestAmong [] None
+  best_none none_best = record { set = no_nodes; has = λ e mode (k, within, is) can. absurd (omega (arith, within)); is_best = none_best group wanted }
 
-  module _ (one : MembersAreOne q) (before : Option ℕ) (word : ℕ) (e : PhysicalExpr) (next : IsNextWord (IsServingWord q group wanted) before word) (is : IsServing q group wanted word e) where
-    -- a member up to the next one is it, or one of those before
-    same_or_before : (other : PhysicalExpr) → CanServe (IsMember q) q group wanted other → word_of (expr_of other) ≤ word → (other ≡ e) ⊎ IsUpTo before (word_of (expr_of other))
-    same_or_before other can up_to =
-        ⊎_elim (λ (same : word_of (expr_of other) ≡ word). inl (one other e can.member is.can.member (same ∙ sym is.number))) (λ (old : IsUpTo before (word_of (expr_of other))). inr old)
-        (up_to_next (IsServingWord q group wanted) before word next (word_of (expr_of other)) (other, record { can = can; number = refl }) up_to)
+  module _ (tried : List PhysicalCandidate) (new : PhysicalCandidate) where
+    -- a member among these and one more is that, or among those before
+    same_or_before : (e : PhysicalExpr) → Contains (tried ++ new ∷ []) (with_word e) → CanServe (IsMember q) q group wanted e
+        → ((e ≡ new.expr) × CanServe (IsMember q) q new.expr.group wanted new.expr) ⊎ Contains tried (with_word e)
+    same_or_before e there can = ⊎_elim (λ (old : Contains tried (with_word e)). inr old)
+        (λ (last : new ≡ with_word e).
+        let same : e ≡ new.expr = sym (ap (λ (c : PhysicalCandidate). c.expr) last) in
+        let own : CanServe (IsMember q) q e.group wanted e = record { member = can.member; of_group = refl; mode = can.mode; serves = can.serves } in
+        inl (same, subst (λ (x : PhysicalExpr). CanServe (IsMember q) q x.group wanted x) same own)) (Contains-push_cases tried new (with_word e) there)
 
     -- one member more
-    pub member_goal_more : (child : GoalKind) → IsMemberGoalUpTo (Some word) child → IsMemberGoalUpTo before child ⊎ (child ≡ OptE e wanted)
-    member_goal_more child (other, can, up_to, is_goal) =
-        ⊎_elim (λ (same : other ≡ e). inr (is_goal ∙ ap (λ (x : PhysicalExpr). OptE x wanted) same)) (λ (old : IsUpTo before (word_of (expr_of other))). inl (other, can, old, is_goal)) (same_or_before other can up_to)
+    pub member_goal_more : (child : GoalKind) → IsMemberGoalAmong (tried ++ new ∷ []) child → IsMemberGoalAmong tried child ⊎ IsGoalOfMember q new.expr wanted child
+    member_goal_more child (e, there, can, is_goal) =
+        ⊎_elim (λ (last : (e ≡ new.expr) × CanServe (IsMember q) q new.expr.group wanted new.expr). inr (last.1, is_goal ∙ ap (λ (x : PhysicalExpr). OptE x wanted) last.0))
+        (λ (old : Contains tried (with_word e)). inl (e, old, can, is_goal)) (same_or_before e there can)
 
-    pub best_more : LesserIsBest q → (props : Props) → IsProps q props → Fits q group wanted → (first second : Option Best) → IsBestUpTo before first → IsAnswerTo q (OptE e wanted) second → IsBestUpTo (Some word) (lesser first second)
-    best_more lesser_best props is_props fits first second old new = record {
-      set = both_of old.set (modes_of e);
-      has = λ other mode can up_to. ⊎_elim (λ (same : other ≡ e). inr same) (λ (below : IsUpTo before (word_of (expr_of other))). inl (old.has other mode can below)) (same_or_before other can up_to);
-      is_best = lesser_best props is_props group wanted old.set (modes_of e) first second fits old.is_best (subst (λ (g : KeyParts). IsBest q g wanted (modes_of e) second) is.can.of_group new);
+    pub best_more : LesserIsBest q → (props : Props) → IsProps q props → Fits q group wanted → new.expr.group ≡ group → (first second : Option Best) → IsBestAmong tried first → IsBestOfMember q new.expr wanted second
+        → IsBestAmong (tried ++ new ∷ []) (lesser first second)
+    best_more lesser_best props is_props fits of_group first second old last = record {
+      set = both_of old.set last.set;
+      has = λ e mode there can.
+          ⊎_elim (λ (this : (e ≡ new.expr) × CanServe (IsMember q) q new.expr.group wanted new.expr). inr (subst (λ (x : PhysicalExpr). IsIn last.set (nodes.Native x mode)) (sym this.0) (last.has mode this.1)))
+          (λ (before : Contains tried (with_word e)). inl (old.has e mode before can)) (same_or_before e there can);
+      is_best = lesser_best props is_props group wanted old.set last.set first second fits old.is_best (subst (λ (g : KeyParts). IsBest q g wanted last.set second) of_group last.is_best);
     }
 
-  module _ (before : Option ℕ) (none : IsNextOf (IsServingWord q group wanted) before None) where
-    -- no member is above the last one
-    all_up_to : (e : PhysicalExpr) → CanServe (IsMember q) q group wanted e → IsUpTo before (word_of (expr_of e))
-    all_up_to e can =
-        ⊎_elim (λ (most : IsUpTo before (word_of (expr_of e))). most) (λ (above : IsAbove before (word_of (expr_of e))). absurd (none (word_of (expr_of e)) (e, record { can = can; number = refl }) above))
-        (up_to_or_above before (word_of (expr_of e)))
+  module _ (candidates : List PhysicalCandidate) (are : ArePhysicalOf q group candidates) (i : ℕ) (d : PhysicalCandidate) (within : i < length candidates) where
+    -- what holds of the group holds of that of each candidate
+    pub of_candidate : (Holds : KeyParts → Type 0) → Holds group → Holds (get_or candidates i d).expr.group
+    of_candidate Holds holds = subst Holds (sym (are.sound i d within).of_group) holds
 
-    pub member_goal_all : (child : GoalKind) → IsMemberGoal q group wanted child → IsMemberGoalUpTo before child
-    member_goal_all child (e, can, is) = (e, can, all_up_to e can, is)
+    pub candidate_here : IsPhysicalOf q (get_or candidates i d).expr.group (get_or candidates i d)
+    candidate_here = let is = are.sound i d within in record { candidate = is.candidate; of_group = refl; number = is.number }
 
-    pub best_all : (best : Option Best) → IsBestUpTo before best → IsBestOfMembers q group wanted best
-    best_all best so_far = record { set = so_far.set; has = λ e mode can. so_far.has e mode can (all_up_to e can); is_best = so_far.is_best }
+    -- one candidate more was tried
+    pub finds_more : (room : ℕ) (v : Hands Rules) (before : Right) → LesserIsBest q → (props : Props) → IsProps q props → Fits q group wanted → (one other : Choice) (u : Hands Rules) (middle : Right) (w : Hands Rules) (after : Right)
+        → FindsChoice q room v before (IsMemberGoalAmong (take i candidates)) (IsBestAmong (take i candidates)) one u middle
+        → FindsChoice q room u middle (IsGoalOfMember q (get_or candidates i d).expr wanted) (IsBestOfMember q (get_or candidates i d).expr wanted) other w after
+        → FindsChoice q room v before (IsMemberGoalAmong (take (i + 1) candidates)) (IsBestAmong (take (i + 1) candidates)) (choice_of_both one other) w after
+    finds_more room v before lesser_best props is_props fits one other u middle w after so_far last =
+        let new = get_or candidates i d in
+        let tried = take i candidates in
+        let more = tried ++ new ∷ [] in
+        let both = finds_both q room v before (IsMemberGoalAmong tried) (IsGoalOfMember q new.expr wanted) (IsBestAmong tried) (IsBestOfMember q new.expr wanted) (IsBestAmong more)
+            (best_more tried new lesser_best props is_props fits (are.sound i d within).of_group) one other u middle w after so_far last in
+        subst (λ (list : List PhysicalCandidate). FindsChoice q room v before (IsMemberGoalAmong list) (IsBestAmong list) (choice_of_both one other) w after) (sym (take_more candidates i d within))
+        (finds_others q room v before (λ (child : GoalKind). IsMemberGoalAmong tried child ⊎ IsGoalOfMember q new.expr wanted child) (IsMemberGoalAmong more) (IsBestAmong more) (IsBestAmong more)
+        (member_goal_more tried new) (λ best is. is) (choice_of_both one other) w after both)
+
+  module _ (members : (e : ExprParts) → IsMember q e → IsCandidate q e) (candidates : List PhysicalCandidate) (are : ArePhysicalOf q group candidates) where
+    -- each member is among the group's candidates
+    member_there : (e : PhysicalExpr) → CanServe (IsMember q) q group wanted e → Contains candidates (with_word e)
+    member_there e can = are.complete e (members (expr_of e) can.member) can.of_group
+
+    pub member_goal_all : (child : GoalKind) → IsMemberGoal q group wanted child → IsMemberGoalAmong candidates child
+    member_goal_all child (e, can, is) = (e, member_there e can, can, is)
+
+    pub best_all : (best : Option Best) → IsBestAmong candidates best → IsBestOfMembers q group wanted best
+    best_all best so_far = record { set = so_far.set; has = λ e mode can. so_far.has e mode (member_there e can) can; is_best = so_far.is_best }
+
+  -- the answer of an expression that is no such member is none
+  pub best_without : NoneIsBest q → (e : PhysicalExpr) → (CanServe (IsMember q) q e.group wanted e → ⊥) → IsBestOfMember q e wanted None
+  best_without none_best e none = record { set = no_nodes; has = λ mode can. none can; is_best = none_best e.group wanted }
+
+  -- and that of one that is is its goal's
+  pub best_with : (e : PhysicalExpr) (best : Option Best) → IsAnswerTo q (OptE e wanted) best → IsBestOfMember q e wanted best
+  best_with e best is = record { set = modes_of e; has = λ mode can. refl; is_best = is }
 
   -- the lesser answer of enforcers and members is that of all nodes
   pub best_of_all : LesserIsBest q → CoveredIsBest q → (props : Props) → IsProps q props → Fits q group wanted → (first second : Option Best) → IsBest q group wanted (first_enforcers wanted) first → IsBestOfMembers q group wanted second

@@ -1,12 +1,7 @@
 -- Which goals and which nodes stand behind the least plan of a group for a request.
 use Rattle.std.specs.Prelude.{◌≡◌, ◌⊎◌, ℕ, Option, None, Some, List, slice_get}
-use Rattle.query_core.specs.Expressions.{expr_of, word_of}
 use Rattle.query_core.specs.declared.query.Query.{Query}
 use Rattle.query_core.specs.declared.words.KeyParts.{KeyParts}
-use Rattle.query_core.specs.declared.words.KeyParts.TheVariants.{Get, Filter, Join, Partial, Agg}
-use Rattle.query_core.specs.declared.expressions.Physical.{Physical}
-use Rattle.query_core.specs.declared.expressions.Physical.TheVariants.{Scan, HashJoin, HashAgg, PartialAgg}
-use Rattle.query_core.specs.declared.expressions.Physical.TheVariants as physical
 use Rattle.query_core.specs.declared.expressions.PhysicalExpr.{PhysicalExpr}
 use Rattle.xform_rules.specs.Closure.{IsMember}
 use Rattle.request_props.specs.declared.request.Request.{Request}
@@ -17,7 +12,6 @@ use Rattle.best_answers.specs.Nodes.{Nodes, no_nodes, one_node, both_of, IsIn}
 use Rattle.best_answers.specs.Best.{IsBest}
 use Rattle.best_answers.specs.declared.best.Best.{Best}
 use Rattle.board_rule.specs.Looks.{ShowsFinished}
-use Rattle.board_moves.specs.Words.{IsNextWord, IsNextOf}
 use Rattle.goal_space.specs.Children.{CanServe, CanEnforce}
 use Rattle.goal_space.specs.Goals.{IsGoal}
 use Rattle.goal_space.specs.Words.{goal_word}
@@ -32,29 +26,7 @@ pub record IsImplemented (q : Query) (room : ℕ) (looks : List (ℕ × ℕ)) (g
 
 -- ---- members
 
--- the word is that of this member of the group, which may serve the request
-pub record IsServing (q : Query) (group : KeyParts) (wanted : Request) (word : ℕ) (e : PhysicalExpr) : Type 0 where
-  pub can : CanServe (IsMember q) q group wanted e
-  pub number : word_of (expr_of e) ≡ word
-
--- the word is that of a member of the group that may serve the request
-abbrev pub IsServingWord : Query → KeyParts → Request → ℕ → Type 0
-IsServingWord q group wanted word = (e : PhysicalExpr) × IsServing q group wanted word e
-
--- the next such member with its word, or none where there is none
-abbrev pub IsNextServing : Query → KeyParts → Request → Option ℕ → Option (ℕ × PhysicalExpr) → Type 0
-IsNextServing q group wanted before None = IsNextOf (IsServingWord q group wanted) before None
-IsNextServing q group wanted before (Some found) = IsNextWord (IsServingWord q group wanted) before found.0 × IsServing q group wanted found.0 found.1
-
--- the operator of the group's kind whose word is least; physical operators have greater words than logical ones
-abbrev pub least_in : KeyParts → Physical
-least_in (Get t) = Scan
-least_in (Filter t) = physical.Filter (Get 0)
-least_in (Join set) = HashJoin (Get 0) (Get 0)
-least_in Partial = PartialAgg (Get 0)
-least_in Agg = HashAgg (Get 0)
-
--- the goal of such a member
+-- the goal of a member of the group that may serve the request
 abbrev pub IsMemberGoal : Query → KeyParts → Request → GoalKind → Type 0
 IsMemberGoal q group wanted child = (e : PhysicalExpr) × CanServe (IsMember q) q group wanted e × (child ≡ OptE e wanted)
 
@@ -63,6 +35,16 @@ pub record IsBestOfMembers (q : Query) (group : KeyParts) (wanted : Request) (be
   pub set : Nodes
   pub has : (e : PhysicalExpr) (mode : ℕ) → CanServe (IsMember q) q group wanted e → IsIn set (nodes.Native e mode)
   pub is_best : IsBest q group wanted set best
+
+-- the goal of this expression, if it is such a member of its group
+abbrev pub IsGoalOfMember : Query → PhysicalExpr → Request → GoalKind → Type 0
+IsGoalOfMember q e wanted child = CanServe (IsMember q) q e.group wanted e × (child ≡ OptE e wanted)
+
+-- the best answer of some nodes, among them this expression in all modes, if it is such a member
+pub record IsBestOfMember (q : Query) (e : PhysicalExpr) (wanted : Request) (best : Option Best) : Type 0 where
+  pub set : Nodes
+  pub has : (mode : ℕ) → CanServe (IsMember q) q e.group wanted e → IsIn set (nodes.Native e mode)
+  pub is_best : IsBest q e.group wanted set best
 
 -- ---- enforcers
 

@@ -1,136 +1,104 @@
--- One member after the other.
-use Rattle.std.proofs.Common.{◌≡◌, ℕ, None, Some, refl, sym, subst, ◌∙◌, inl, inr, arith}
-use Rattle.query_core.specs.Expressions.{expr_of}
-use Rattle.query_core.specs.declared.expressions.PhysicalExpr.{PhysicalExpr}
-use Rattle.xform_rules.specs.Closure.{IsMember}
-use Rattle.goal_space.specs.Children.{CanServe}
+-- One candidate after the other.
+use Rattle.std.proofs.Common.{[], ℕ, ◌+◌, List, None, take, sym, subst, ◌∙◌}
+use Rattle.std.proofs.lemmas.List.{take_all}
+use Rattle.query_core.specs.declared.words.KeyParts.{KeyParts}
+use Rattle.request_props.specs.declared.physical.PhysicalCandidate.{PhysicalCandidate}
 use Rattle.goal_board.specs.Seats.{hands}
-use Rattle.board_moves.proofs.OneChild.{right_looked}
-use Rattle.board_moves.proofs.Ascending.{fewer_above}
 use Rattle.board_moves.proofs.Shown.{still_finished}
 use Rattle.board_moves.proofs.MovesLemmas.{later_proceeded}
-use Rattle.goal_space.specs.Answers.{IsAnswerTo}
 use Rattle.goal_space.specs.Entries.{NamesGoal, IsChildWord}
 use Rattle.goal_space.specs.Words.{goal_word}
-use Rattle.goal_space.specs.declared.goals.GoalKind.TheVariants.{Imp, Opt, OptE}
+use Rattle.goal_space.specs.declared.goals.GoalKind.TheVariants.{Imp, Opt}
 use Rattle.goal_rules.specs.Meaning.{meaning_of}
 use Rattle.job_turns.specs.Choices.{FindsChoice}
-use Rattle.job_turns.specs.Requests.{IsMemberGoal, IsBestOfMembers}
-use Rattle.job_turns.specs.Searches.{rules_mean}
+use Rattle.job_turns.specs.Requests.{IsImplemented, IsMemberGoal, IsBestOfMembers}
 use Rattle.job_turns.specs.declared.choice.Choice.{Choice}
-use Rattle.job_turns.proofs.Finding.{finds_none, finds_both, finds_others, finds_looked, chooses_none}
-use Rattle.job_turns.proofs.Serving.{IsMemberGoalUpTo, IsBestUpTo, member_goal_none, best_none, members_one, member_goal_more, best_more, member_goal_all, best_all}
+use Rattle.job_turns.proofs.Finding.{finds_none, finds_others, chooses_none}
+use Rattle.job_turns.proofs.Serving.{IsMemberGoalAmong, IsBestAmong, member_goal_none, best_none, of_candidate, candidate_here, finds_more, member_goal_all, best_all}
 use Rattle.job_turns.proofs.members.best_member.Goals as goal
 
-pub before_physical-requires : goal.before_physical-requires
-before_physical-requires g c = c.groups_are_known.ensures.in_range c.args.query.now c.args.group (c.goals_are_known.ensures.candidates c.args.query.now (Opt c.args.group c.args.wanted) c.requires.goal.is_goal)
+pub physical_of-candidates-requires-clause-group : goal.physical_of-candidates-requires-clause-group
+physical_of-candidates-requires-clause-group g c = c.goals_are_known.ensures.candidates c.args.query.now (Opt c.args.group c.args.wanted) c.requires.goal.is_goal
 
-pub members-init : goal.members-init
-members-init g c =
+pub loop-candidate-init : goal.loop-candidate-init
+loop-candidate-init g c =
     let q = c.args.query.now in
     let group = c.args.group in
     let wanted = c.args.wanted in
-    let start = c.before_physical.result in
-    let below = λ (e : PhysicalExpr) (can : CanServe (IsMember q) q group wanted e). c.before_physical.ensures q e (c.members_are_candidates.ensures q (expr_of e) can.member) can.of_group in
     record {
       seat = c.requires.seat;
       right = c.requires.right;
       hints = c.requires.hints;
-      found = finds_none q c.args.board.now.key.room (hands c.args.seat.now) c.args.job.now.right (IsMemberGoalUpTo q group wanted (Some start)) (IsBestUpTo q group wanted (Some start)) (member_goal_none q group wanted start below)
-          None (best_none q group wanted start below (c.answers_are_best.ensures.none q));
+      found = finds_none q c.args.board.now.key.room (hands c.args.seat.now) c.args.job.now.right (IsMemberGoalAmong q group wanted []) (IsBestAmong q group wanted []) (member_goal_none q group wanted)
+          None (best_none q group wanted (c.answers_are_best.ensures.none q));
     }
 
-pub next_serving-requires-clause-known : goal.next_serving-requires-clause-known
-next_serving-requires-clause-known g c = c.goals_are_known.ensures.candidates c.args.query.now (Opt c.args.group c.args.wanted) c.requires.goal.is_goal
+pub await_candidate-requires-clause-candidate : goal.await_candidate-requires-clause-candidate
+await_candidate-requires-clause-candidate g c =
+    candidate_here c.args.query.now c.args.group c.args.wanted c.physical_of-candidates.result.now c.physical_of-candidates.ensures c.loop-candidate.candidate-index _ c.loop-candidate-test.true
 
-pub next_serving-requires-clause-numbered : goal.next_serving-requires-clause-numbered
-next_serving-requires-clause-numbered g c = (c.goals_are_known.ensures.requests c.args.query.now (Opt c.args.group c.args.wanted) c.requires.goal.is_goal).numbered
-
-pub next_serving-requires-clause-implemented : goal.next_serving-requires-clause-implemented
-next_serving-requires-clause-implemented g c =
+pub await_candidate-requires-clause-goal : goal.await_candidate-requires-clause-goal
+await_candidate-requires-clause-goal g c =
     let q = c.args.query.now in
-    record {
+    of_candidate q c.args.group c.args.wanted c.physical_of-candidates.result.now c.physical_of-candidates.ensures c.loop-candidate.candidate-index _ c.loop-candidate-test.true
+    (λ (x : KeyParts). NamesGoal q c.loop-candidate.job.right.goal (Opt x c.args.wanted))
+    (subst (λ (word : ℕ). NamesGoal q word (Opt c.args.group c.args.wanted)) (sym c.loop-candidate.invariant.found.awaited.proceeds.same_goal) c.requires.goal)
+
+pub await_candidate-requires-clause-implemented : goal.await_candidate-requires-clause-implemented
+await_candidate-requires-clause-implemented g c =
+    let q = c.args.query.now in
+    let room = c.args.board.now.key.room in
+    let looks = (hands c.loop-candidate.seat).looks in
+    of_candidate q c.args.group c.args.wanted c.physical_of-candidates.result.now c.physical_of-candidates.ensures c.loop-candidate.candidate-index _ c.loop-candidate-test.true (IsImplemented q room looks) (record {
       is_goal = c.requires.implemented.is_goal;
-      finished = still_finished (meaning_of q) c.args.board.now.key.room (hands c.args.seat.now).looks (hands c.members.seat).looks
-          (later_proceeded (IsChildWord q c.args.job.now.right.goal) (hands c.args.seat.now) c.args.job.now.right (hands c.members.seat) c.members.job.right c.members.invariant.found.awaited.proceeds) (goal_word (Imp c.args.group)) c.requires.implemented.finished;
-    }
-
-pub await_choice-requires-clause-right : goal.await_choice-requires-clause-right
-await_choice-requires-clause-right g c =
-    let b = c.args.board.now in
-    right_looked (rules_mean b.key.rules) b.key.room c.members.job.right (hands c.members.seat) (hands c.next_serving.new.seat) c.next_serving.ensures.looks c.members.invariant.right
-
-pub await_choice-requires-clause-child : goal.await_choice-requires-clause-child
-await_choice-requires-clause-child g c =
-    let q = c.args.query.now in
-    let known = Opt c.args.group c.args.wanted in (
-      known,
-      subst (λ (word : ℕ). NamesGoal q word known) (sym c.members.invariant.found.awaited.proceeds.same_goal) c.requires.goal,
-      inr (inl (c.in-Some.expr, c.in-Some.ensures.next.1.can, refl)),
-    )
+      finished = still_finished (meaning_of q) room (hands c.args.seat.now).looks looks
+          (later_proceeded (IsChildWord q c.args.job.now.right.goal) (hands c.args.seat.now) c.args.job.now.right (hands c.loop-candidate.seat) c.loop-candidate.job.right c.loop-candidate.invariant.found.awaited.proceeds) (goal_word (Imp c.args.group)) c.requires.implemented.finished;
+    })
 
 pub returns-in_err-other-clause-chooses : goal.returns-in_err-other-clause-chooses
 returns-in_err-other-clause-chooses g c =
     let q = c.args.query.now in
-    let b = c.args.board.now in
-    let before = c.members.before in
-    let looked = finds_looked q b.key.room (hands c.args.seat.now) c.args.job.now.right (IsMemberGoalUpTo q c.args.group c.args.wanted before) (IsBestUpTo q c.args.group c.args.wanted before) c.members.choice (hands c.members.seat) c.members.job.right
-    (hands c.next_serving.new.seat) c.members.invariant.found c.next_serving.ensures.looks in
+    let tried = take c.loop-candidate.candidate-index c.physical_of-candidates.result.now in
     rw c.from_residual.ensures
-    (chooses_none q b.key.room (hands c.args.seat.now) c.args.job.now.right (IsMemberGoalUpTo q c.args.group c.args.wanted before) (IsBestUpTo q c.args.group c.args.wanted before) c.members.choice (hands c.next_serving.new.seat) c.members.job.right
-    (hands c.await_choice.new.seat) c.await_choice.new.job.right looked c.in_err-other.ensures.chooses)
+    (chooses_none q c.args.board.now.key.room (hands c.args.seat.now) c.args.job.now.right (IsMemberGoalAmong q c.args.group c.args.wanted tried) (IsBestAmong q c.args.group c.args.wanted tried) c.loop-candidate.choice
+    (hands c.loop-candidate.seat) c.loop-candidate.job.right (hands c.await_candidate.new.seat) c.await_candidate.new.job.right c.loop-candidate.invariant.found c.in_err-other.ensures.chooses)
 
-pub members-preserved : goal.members-preserved
-members-preserved g c =
+pub loop-candidate-preserved : goal.loop-candidate-preserved
+loop-candidate-preserved g c =
     let q = c.args.query.now in
-    let b = c.args.board.now in
+    let room = c.args.board.now.key.room in
     let group = c.args.group in
     let wanted = c.args.wanted in
-    let before = c.members.before in
-    let word = c.in-Some.word in
-    let e = c.in-Some.expr in
-    let next = c.in-Some.ensures.next in
     let v = hands c.args.seat.now in
     let start = c.args.job.now.right in
+    let candidates = c.physical_of-candidates.result.now in
+    let i = c.loop-candidate.candidate-index in
+    let after = c.await_candidate.new.job.right in
+    let w = hands c.await_candidate.new.seat in
     let fits = c.goals_are_known.ensures.requests q (Opt group wanted) c.requires.goal.is_goal in
-    let one = members_one q c.expressions_are_one.ensures.expressions (c.candidates_are_known.ensures.packed q) (c.members_are_candidates.ensures q) in
-    let joins = best_more q group wanted one before word e next.0 next.1 (c.answers_are_best.ensures.lesser q) c.args.props.now c.requires.props fits in
-    let looked = finds_looked q b.key.room v start (IsMemberGoalUpTo q group wanted before) (IsBestUpTo q group wanted before) c.members.choice (hands c.members.seat) c.members.job.right
-    (hands c.next_serving.new.seat) c.members.invariant.found c.next_serving.ensures.looks in
-    let both = finds_both q b.key.room v start (IsMemberGoalUpTo q group wanted before) (λ goal. goal ≡ OptE e wanted) (IsBestUpTo q group wanted before) (IsAnswerTo q (OptE e wanted)) (IsBestUpTo q group wanted (Some word)) joins
-    c.members.choice c.in_ok-other.other (hands c.next_serving.new.seat) c.members.job.right (hands c.await_choice.new.seat) c.await_choice.new.job.right looked c.in_ok-other.ensures.chooses in
-    let more = finds_others q b.key.room v start _ (IsMemberGoalUpTo q group wanted (Some word)) (IsBestUpTo q group wanted (Some word)) (IsBestUpTo q group wanted (Some word)) (member_goal_more q group wanted one before word e next.0 next.1) (λ best is. is)
-    _ (hands c.await_choice.new.seat) c.await_choice.new.job.right both in
     record {
-      seat = c.await_choice.ensures.seat;
-      right = c.await_choice.ensures.right;
-      hints = c.await_choice.ensures.hints ∙ c.members.invariant.hints;
-      found = subst (λ (choice : Choice). FindsChoice q b.key.room v start (IsMemberGoalUpTo q group wanted (Some word)) (IsBestUpTo q group wanted (Some word)) choice (hands c.await_choice.new.seat) c.await_choice.new.job.right)
-          (sym c.or-choice.ensures) more;
+      seat = c.await_candidate.ensures.seat;
+      right = c.await_candidate.ensures.right;
+      hints = c.await_candidate.ensures.hints ∙ c.loop-candidate.invariant.hints;
+      found = subst (λ (choice : Choice). FindsChoice q room v start (IsMemberGoalAmong q group wanted (take (i + 1) candidates)) (IsBestAmong q group wanted (take (i + 1) candidates)) choice w after) (sym c.or-choice.ensures)
+          (finds_more q group wanted candidates c.physical_of-candidates.ensures i _ c.loop-candidate-test.true room v start (c.answers_are_best.ensures.lesser q) c.args.props.now c.requires.props fits c.loop-candidate.choice c.in_ok-other.other
+          (hands c.loop-candidate.seat) c.loop-candidate.job.right w after c.loop-candidate.invariant.found c.in_ok-other.ensures.chooses);
     }
 
 pub returns-clause-chooses : goal.returns-clause-chooses
 returns-clause-chooses g c =
     let q = c.args.query.now in
-    let b = c.args.board.now in
+    let room = c.args.board.now.key.room in
     let group = c.args.group in
     let wanted = c.args.wanted in
-    let before = c.members.before in
-    let looked = finds_looked q b.key.room (hands c.args.seat.now) c.args.job.now.right (IsMemberGoalUpTo q group wanted before) (IsBestUpTo q group wanted before) c.members.choice (hands c.members.seat) c.members.job.right
-    (hands c.next_serving.new.seat) c.members.invariant.found c.next_serving.ensures.looks in
-    finds_others q b.key.room (hands c.args.seat.now) c.args.job.now.right (IsMemberGoalUpTo q group wanted before) (IsMemberGoal q group wanted) (IsBestUpTo q group wanted before) (IsBestOfMembers q group wanted)
-    (member_goal_all q group wanted before c.in_default.ensures.next) (best_all q group wanted before c.in_default.ensures.next) c.members.choice (hands c.next_serving.new.seat) c.members.job.right looked
-
-pub members-smaller : goal.members-smaller
-members-smaller g c =
-    let q = c.args.query.now in
-    let next = c.in-Some.ensures.next in
-    let e = c.in-Some.expr in
-    let small = c.expressions_are_one.ensures.small (expr_of e) (c.candidates_are_known.ensures.packed q (expr_of e) (c.members_are_candidates.ensures q (expr_of e) next.1.can.member)) in
-    let number = next.1.number in
-    fewer_above c.members.before c.in-Some.word next.0.above (omega arith)
-
-pub returns-clause-right : goal.returns-clause-right
-returns-clause-right g c =
-    let b = c.args.board.now in
-    right_looked (rules_mean b.key.rules) b.key.room c.members.job.right (hands c.members.seat) (hands c.next_serving.new.seat) c.next_serving.ensures.looks c.members.invariant.right
+    let v = hands c.args.seat.now in
+    let start = c.args.job.now.right in
+    let candidates = c.physical_of-candidates.result.now in
+    let tried = take c.loop-candidate.candidate-index candidates in
+    let w = hands c.loop-candidate.seat in
+    let after = c.loop-candidate.job.right in
+    let found = subst (λ (list : List PhysicalCandidate). FindsChoice q room v start (IsMemberGoalAmong q group wanted list) (IsBestAmong q group wanted list) c.loop-candidate.choice w after)
+    (take_all c.loop-candidate.candidate-index candidates c.loop-candidate-test.false) c.loop-candidate.invariant.found in
+    finds_others q room v start (IsMemberGoalAmong q group wanted candidates) (IsMemberGoal q group wanted) (IsBestAmong q group wanted candidates) (IsBestOfMembers q group wanted)
+    (member_goal_all q group wanted (c.members_are_candidates.ensures q) candidates c.physical_of-candidates.ensures) (best_all q group wanted (c.members_are_candidates.ensures q) candidates c.physical_of-candidates.ensures)
+    c.loop-candidate.choice w after found
