@@ -96,7 +96,7 @@ module _ (q : Query) (group : KeyParts) (wanted : Request) where
         let tried = take i candidates in
         let more = tried ++ new ∷ [] in
         let both = finds_both q room v before (IsMemberGoalAmong tried) (IsGoalOfMember q new.expr wanted) (IsBestAmong tried) (IsBestOfMember q new.expr wanted) (IsBestAmong more)
-            (best_more tried new lesser_best props is_props fits (are.sound i d within).of_group) one other u middle w after so_far last in
+        (best_more tried new lesser_best props is_props fits (are.sound i d within).of_group) one other u middle w after so_far last in
         subst (λ (list : List PhysicalCandidate). FindsChoice q room v before (IsMemberGoalAmong list) (IsBestAmong list) (choice_of_both one other) w after) (sym (take_more candidates i d within))
         (finds_others q room v before (λ (child : GoalKind). IsMemberGoalAmong tried child ⊎ IsGoalOfMember q new.expr wanted child) (IsMemberGoalAmong more) (IsBestAmong more) (IsBestAmong more)
         (member_goal_more tried new) (λ best is. is) (choice_of_both one other) w after both)
