@@ -5,4 +5,5 @@ pub mod Known
 pub mod Adding
 pub mod Traced
 pub mod CrewLines
+pub mod OneLine
 pub mod OneTrace
