@@ -72,3 +72,7 @@ IsDoneUnlessWaiting right answer Full = ⊥
 -- the word is one of these, and an entry
 abbrev pub IsEntryOf : Meaning → (ℕ → Type 0) → ℕ → Type 0
 IsEntryOf meaning Has word = Has word × meaning.entry word
+
+-- the goals of those of these words that are entries are children of the goal
+abbrev pub HaveChildGoals : Meaning → (ℕ → Type 0) → (ℕ → ℕ) → ℕ → Type 0
+HaveChildGoals meaning Has goal_of goal = (word : ℕ) → IsEntryOf meaning Has word → meaning.child goal (goal_of word)

@@ -1,7 +1,7 @@
 ghost use Rattle.std.specs.Prelude.{◌≡◌, ◌≢◌, ℕ, ◌<◌};
 ghost use Rattle.goal_board.specs.Seats.{IsSeatOf};
 ghost use Rattle.goal_board.specs.SeatCalls.{HasRightTo};
-ghost use Rattle.board_moves.specs.Moves.{IsEntryOf};
+ghost use Rattle.board_moves.specs.Moves.{HaveChildGoals};
 ghost use Rattle.board_moves.specs.Seats.{SeatAwaitsFound};
 
 use crate::job::Job;
@@ -22,8 +22,8 @@ pub fn await_found<R: GoalRules, M: Members, H: Hints>(
     requires right { HasRightTo R.meaning board.now seat.old job.old.right }
     requires words { M.can_next members.now }
     requires some_word { (word : ℕ) → M.has members.now word → word ≢ 0 }
-    requires children { (word : ℕ) → IsEntryOf (R.meaning board.now.key.rules) (M.has members.now) word →
-        (R.meaning board.now.key.rules).child job.old.right.goal (M.goal_of members.now word) }
+    requires children { HaveChildGoals (R.meaning board.now.key.rules) (M.has members.now)
+        (M.goal_of members.now) job.old.right.goal }
     requires hints { H.capacity hints.old ≡ board.now.key.room }
     ensures seat { IsSeatOf R.meaning board.now seat.new }
     ensures right { HasRightTo R.meaning board.now seat.new job.new.right }

@@ -15,6 +15,7 @@ use Rattle.plan_space.proofs.Enforcers.{among_at, first_or_second}
 use Rattle.plan_tree.specs.Enforcers.{IsEnforced}
 use Rattle.plan_tree.specs.declared.answers.Answered.{Answered}
 use Rattle.plan_tree.specs.declared.enforcers.Enforced.{Enforced}
+use Rattle.plan_tree.proofs.Enforced.{some_enforced, none_enforced}
 use Rattle.best_answers.specs.Nodes.{one_node, all_nodes}
 use Rattle.best_answers.specs.Answers.{lesser}
 use Rattle.best_answers.specs.Best.{IsBest, IsEnforcedBy}
@@ -28,16 +29,6 @@ use Rattle.goal_answers.specs.Told.{IsReady, IsAnswered}
 use Rattle.goal_answers.specs.Among.{IsAnyNode, IsEnforcerAt, IsOfMember, IsBestOfEnforcer, IsBestOfMembers}
 use Rattle.goal_answers.proofs.ByRank.{told_below}
 use Rattle.goal_answers.proofs.Trying.{best_of_none, best_of_both}
-
--- what is found is an enforcer of the list
-some_enforced : (found : Enforced) (there : Option EnforcedBy) → IsEnforced (Some found) there → (e : EnforcedBy) × (there ≡ Some e) × IsEnforced (Some found) (Some e)
-some_enforced found None is = absurd is
-some_enforced found (Some e) is = (e, refl, is)
-
--- what is not found is not in the list
-none_enforced : (there : Option EnforcedBy) → IsEnforced None there → there ≡ None
-none_enforced None is = refl
-none_enforced (Some e) is = absurd is
 
 -- the enforcer that was found at a place
 pub record IsFoundAt (wanted : Request) (place : ℕ) (found : Enforced) : Type 0 where

@@ -6,10 +6,9 @@ use Rattle.query_core.specs.declared.query.Query.{Query}
 use Rattle.query_core.specs.declared.words.KeyParts.{KeyParts}
 use Rattle.request_props.specs.Numbered.{lists_of, orders_of}
 use Rattle.request_props.specs.Requests.{IsInRange}
-use Rattle.request_props.specs.declared.request.Dist.{Dist}
-use Rattle.request_props.specs.declared.request.Dist.TheVariants as dists
 use Rattle.request_props.specs.declared.request.Request.{Request}
-use Rattle.plan_space.specs.Enforcers.{EnforcedBy, movers_of, enforcers_by, enforcers_of, Among}
+use Rattle.plan_space.specs.Enforcers.{EnforcedBy, enforcers_of, Among}
+use Rattle.plan_space.proofs.Enforcers.{few_by}
 use Rattle.plan_tree.specs.Enforcers.{AreKept, IsEnforced, IsEnforcerAt, LiesIn}
 use Rattle.plan_tree.specs.declared.enforcers.Enforced.{Enforced}
 use Rattle.goal_space.specs.declared.goals.GoalKind.{GoalKind}
@@ -56,20 +55,6 @@ module _ (q : Query) (group : KeyParts) where
   of_kept (first ∷ all) kept e (inr (not, are)) (inl same) lies_in = absurd (not (subst (λ (x : EnforcedBy). LiesIn q group x.node) same lies_in))
   of_kept (first ∷ all) kept e (inr (not, are)) (inr later) lies_in = of_kept all kept e are later lies_in
 
--- there are at most two enforcers for a request
-movers_few : (dist : Dist) → length (movers_of dist) ≤ 2
-movers_few dists.One = omega arith
-movers_few dists.Spread = omega arith
-movers_few dists.Copies = omega arith
-movers_few (dists.Hashed list) = omega arith
-
-enforcers_few : (dist : Dist) (order : ℕ) → length (enforcers_by dist order) ≤ 2
-enforcers_few dist zero = movers_few dist
-enforcers_few dists.One (suc place) = omega arith
-enforcers_few dists.Spread (suc place) = omega arith
-enforcers_few dists.Copies (suc place) = omega arith
-enforcers_few (dists.Hashed list) (suc place) = omega arith
-
 -- what the program found is what the enforcer asks for
 asked_below : (found : Option Enforced) (e : Option EnforcedBy) → IsEnforced found e → option_map (λ x. x.below) found ≡ option_map (λ x. x.below) e
 asked_below None None is = refl
@@ -110,7 +95,7 @@ as_both : (q : Query) (group : KeyParts) (wanted : Request) (kept : List Enforce
     → IsOfEnforcer q group wanted goal
     → IsOfRequest group (option_map (λ x. x.below) (slice_get kept 0)) goal ⊎ IsOfRequest group (option_map (λ x. x.below) (slice_get kept 1)) goal
 as_both q group wanted kept are goal (e, can, is) =
-    let few : length kept ≤ 2 = omega (arith, kept_few q group (enforcers_of wanted) kept are, enforcers_few wanted.dist wanted.order) in
+    let few : length kept ≤ 2 = omega (arith, kept_few q group (enforcers_of wanted) kept are, few_by wanted.dist wanted.order) in
     of_two group kept few e (of_kept q group (enforcers_of wanted) kept e are can.among can.lies_in) goal is
 
 -- what the first and the second enforcer ask for is all

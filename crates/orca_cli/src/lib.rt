@@ -36,8 +36,6 @@ mod grouped_tests;
 #[cfg(test)]
 mod join_tests;
 #[cfg(test)]
-mod listing_tests;
-#[cfg(test)]
 mod memo_tests;
 #[cfg(test)]
 mod option_tests;

@@ -25,8 +25,6 @@ use Rattle.plan_space.specs.Laws.{ChoicesServe, EnforcersAskWhatFits, LeastCosts
 use Rattle.plan_tree.specs.declared.node.Node.{Node}
 use Rattle.plan_tree.specs.Nodes as kinds
 use Rattle.plan_tree.specs.Costs.{IsCostAmong}
-use Rattle.plan_tree.specs.Enforcers.{IsEnforced}
-use Rattle.plan_tree.specs.declared.enforcers.Enforced.{Enforced}
 use Rattle.plan_search.specs.declared.kept_plans.KeptPlans.{KeptPlans}
 use Rattle.plan_search.specs.declared.choice.PlansBelow.{PlansBelow}
 use Rattle.plan_search.specs.declared.choice.Choice.{Choice}
@@ -161,13 +159,3 @@ module _ (q : Query) (answers : KeptPlans) (group : KeyParts) (wanted : Request)
         (goes_as q answers group wanted (number_of (nodes.Enforcer e.node)) (number_of (nodes.Enforcer e.node) + 1) (λ best. Beats q best plan) (IsPlaceSettled q group wanted n) old (Some (cheaper_of old choice))
         (λ best beats. only_this best (inl (kid, holds.least, beats)))
         (goes_by_one q answers group wanted order (number_of (nodes.Enforcer e.node)) (nodes.Enforcer e.node) choice plan old chosen refl)))
-
--- which enforcer was found
-pub enforced_at : (found : Enforced) (x : Option EnforcedBy) → IsEnforced (Some found) x
-    → (e : EnforcedBy) × (x ≡ Some e) × kinds.IsNode found.node (nodes.Enforcer e.node) × (found.below ≡ e.below)
-enforced_at found None is = absurd is
-enforced_at found (Some e) is = (e, refl, is.0, is.1)
-
-pub enforced_none : (x : Option EnforcedBy) → IsEnforced None x → x ≡ None
-enforced_none None is = refl
-enforced_none (Some e) is = absurd is

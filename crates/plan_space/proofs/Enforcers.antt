@@ -13,7 +13,7 @@ among_at (first ∷ others) zero e is = inl cc
 among_at (first ∷ others) (suc place) e is = inr (among_at others place e is)
 
 -- there are at most two enforcers for a distribution and an order
-few_by : (dist : Dist) (order : ℕ) → length (enforcers_by dist order) ≤ 2
+pub few_by : (dist : Dist) (order : ℕ) → length (enforcers_by dist order) ≤ 2
 few_by One zero = omega arith
 few_by Spread zero = omega arith
 few_by Copies zero = omega arith

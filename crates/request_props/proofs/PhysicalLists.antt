@@ -14,7 +14,8 @@ use Rattle.query_core.specs.declared.expressions.Operator.TheVariants as operato
 use Rattle.query_core.specs.declared.expressions.Physical.{Physical}
 use Rattle.query_core.specs.declared.expressions.PhysicalExpr.{PhysicalExpr}
 use Rattle.query_core.proofs.Rising.{rises_push}
-use Rattle.request_props.specs.Candidates.{with_word, AreCandidatesOf, IsPhysicalOf, ArePhysicalOf, AddsPhysical}
+use Rattle.request_props.specs.Candidates.{with_word, AreCandidatesOf, IsPhysicalOf, ArePhysicalOf}
+use Rattle.request_props.specs.Filling.{AddsPhysical}
 use Rattle.request_props.specs.declared.physical.PhysicalCandidate.{PhysicalCandidate}
 
 -- the words of these

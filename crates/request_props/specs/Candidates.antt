@@ -1,10 +1,10 @@
 -- The words of the expressions that the groups of a query can hold.
-use Rattle.std.specs.Prelude.{ℕ, ◌≡◌, ◌⊎◌, ◌<◌, List, [], ◌∷◌, ◌++◌, Option, MatchOption, length, map, slice_index_or}
+use Rattle.std.specs.Prelude.{ℕ, ◌≡◌, ◌<◌, List, [], Option, MatchOption, length, map, slice_index_or}
 use Rattle.std.specs.List.{All, Contains}
 use Rattle.std.specs.List.Sorted.{IsStrictlyIncreasing}
 use Rattle.query_core.specs.Keys.{key_number, IsGroup}
 use Rattle.query_core.specs.Candidates.{IsNext, IsLast}
-use Rattle.query_core.specs.Expressions.{IsCandidate, IsCandidateOf, HasWord, expr_of, word_of}
+use Rattle.query_core.specs.Expressions.{IsCandidate, IsCandidateOf, expr_of, word_of}
 use Rattle.query_core.specs.declared.query.Query.{Query}
 use Rattle.query_core.specs.declared.words.Expr.{Expr}
 use Rattle.query_core.specs.declared.words.KeyParts.{KeyParts}
@@ -56,7 +56,3 @@ ArePhysicalBelow q bound lists = (group : KeyParts) → IsGroup q group → key_
 pub record ArePhysical (q : Query) (lists : List (List PhysicalCandidate)) : Type 0 where
   pub count : length lists ≡ 2050
   pub each : ArePhysicalBelow q 2050 lists
-
--- the physical expression of the word is added, or the word is that of none
-abbrev pub AddsPhysical : ℕ → List PhysicalCandidate → List PhysicalCandidate → Type 0
-AddsPhysical word old new = (((e : PhysicalExpr) → HasWord word (expr_of e) → ⊥) × (new ≡ old)) ⊎ ((e : PhysicalExpr) × HasWord word (expr_of e) × (new ≡ old ++ with_word e ∷ []))

@@ -3,6 +3,7 @@ pub mod Requests
 pub mod Found
 pub mod Groups
 pub mod Candidates
+pub mod Filling
 pub mod Ends
 pub mod Joins
 pub mod Lying

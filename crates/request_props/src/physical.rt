@@ -7,7 +7,7 @@ ghost use Rattle.query_core.specs.Keys.{IsGroup, Names};
 ghost use Rattle.query_core.specs.declared.words.KeyParts.{KeyParts as Group};
 ghost use Rattle.request_props.specs.Groups.{AreKeys, key_of};
 ghost use Rattle.request_props.specs.Candidates.{AreCandidates, AreCandidatesOf, ArePhysical, ArePhysicalOf};
-ghost use Rattle.request_props.specs.Candidates.{AddsPhysical};
+ghost use Rattle.request_props.specs.Filling.{AddsPhysical};
 
 use orca_base::List;
 use query_core::{

@@ -1,0 +1,322 @@
+//! The least plan of small queries, as the engine finds it, against the listing of all their plans.
+ghost use Rattle.std.specs.Prelude.{IfOk};
+ghost use Rattle.request_props.specs.Numbered.{IsProps};
+ghost use Rattle.job_engine.specs.Runs.{RunEnds};
+
+use crate::listing::least_listed;
+use crate::ranked::{Ranked, rank_of};
+use catalog_json::read_catalog;
+use job_engine::{Outcome, RunNote, search_alone};
+use plan_report::extract;
+use plan_tree::Found;
+use query_core::{Options, Query, RootDist};
+use request_props::Props;
+use sql_bind::bind;
+use sql_reader::read_sql;
+use std::alloc::{AllocError, Global};
+use std::test::Fail;
+
+const ONE_TABLE: &str =
+    r#"[{"name":"t","rows":100,"distribution":"random","columns":[{"name":"a","ndv":100},{"name":"b","ndv":10}]}]"#;
+
+const INDEXED: &str =
+    r#"[{"name":"t","rows":100,"distribution":["a"],"indexes":[["a","b"],["b"]],"columns":[{"name":"a","ndv":100},{"name":"b","ndv":10}]}]"#;
+
+const HASHED: &str =
+    r#"[{"name":"t","rows":100,"distribution":["a"],"columns":[{"name":"a","ndv":100}]},{"name":"u","rows":100,"distribution":["a"],"columns":[{"name":"a","ndv":100},{"name":"b","ndv":50}]}]"#;
+
+const SMALL: &str =
+    r#"[{"name":"t","rows":100,"distribution":"random","columns":[{"name":"a","ndv":100}]},{"name":"u","rows":10,"distribution":"random","columns":[{"name":"b","ndv":10}]}]"#;
+
+const UNLINKED: &str =
+    r#"[{"name":"t","rows":10,"distribution":"random","columns":[{"name":"a","ndv":10}]},{"name":"u","rows":2,"distribution":"random","columns":[{"name":"b","ndv":2}]},{"name":"v","rows":1,"distribution":"random","columns":[{"name":"c","ndv":1}]}]"#;
+
+const ALIKE: &str =
+    r#"[{"name":"t","rows":100,"distribution":["a"],"columns":[{"name":"a","ndv":100}]},{"name":"u","rows":100,"distribution":["a"],"columns":[{"name":"a","ndv":100}]},{"name":"v","rows":100,"distribution":["a"],"columns":[{"name":"a","ndv":100}]}]"#;
+
+const PLAIN: Options = Options {
+    root: RootDist::One,
+    off: 0,
+};
+
+const SPREAD: Options = Options {
+    root: RootDist::Spread,
+    off: 0,
+};
+
+// Without hash joins and loop joins.
+const MERGE_JOINS: Options = Options {
+    root: RootDist::One,
+    off: 1 << 9 | 1 << 11,
+};
+
+// Without hash aggregations.
+const STREAM_AGGREGATIONS: Options = Options {
+    root: RootDist::One,
+    off: 1 << 12,
+};
+
+// The query of a text over tables; none where either is refused.
+fn query_of(
+    alloc: Global,
+    segments: u32,
+    tables: &str,
+    text: &str,
+    options: Options,
+) -> Result<Option<Query>, AllocError> {
+    if options.off >= 32768 || options.off % 4 != 0 {
+        return Ok(None);
+    }
+    let json = format!(in alloc; "{{\"version\":1,\"segments\":{segments},\"tables\":{tables}}}")?;
+    let Ok(catalog) = read_catalog(alloc, json.as_bytes()) else {
+        return Ok(None);
+    };
+    let Ok(select) = read_sql(alloc, text.as_bytes()) else {
+        return Ok(None);
+    };
+    match bind(alloc, &select, &catalog, options) {
+        Ok(query) => Ok(Some(query)),
+        Err(_) => Ok(None),
+    }
+}
+
+// The outcome of the engine with one worker.
+fn searched(alloc: Global, query: &Query, props: &Props) -> Result<Outcome, AllocError>
+    requires { IsProps query.now props.now }
+    ensures { IfOk result (RunEnds query.now 8192 1) }
+{
+    let mut note = RunNote::new();
+    search_alone(alloc, query, props, 8192, &mut note)
+}
+
+// The least plan that the engine finds, and the least of those of at most so many nodes.
+fn both_least(
+    alloc: Global,
+    query: &Query,
+    props: &Props,
+    most: usize,
+) -> Result<(Option<Ranked>, Option<Ranked>), Fail>
+    requires { IsProps query.now props.now }
+{
+    match searched(alloc, query, props)? {
+        Outcome::Done {
+            members,
+            goals: _,
+            answers,
+            who: _,
+        } => {
+            let found = match extract(alloc, query, props, &answers)? {
+                Found::Least { plan, cost } => Some(rank_of(alloc, &plan, cost)?),
+                Found::NoPlan => None,
+            };
+            let listed = least_listed(alloc, query, props, members.as_slice(), most)?;
+            Ok((found, listed))
+        }
+        _ => Err(Fail::new("the engine has not ended")),
+    }
+}
+
+fn cost_of(least: &Option<Ranked>) -> Option<u64> {
+    match least {
+        Some(ranked) => Some(ranked.cost),
+        None => None,
+    }
+}
+
+// Each case has the greatest number of nodes that are listed, and the costs on one segment and on four.
+#[test]
+fn the_least_plan_is_the_least_of_all(rt: HostRuntime) -> Result<(), Fail> {
+    let cases = [
+        (
+            ONE_TABLE,
+            "SELECT a FROM t ORDER BY a",
+            PLAIN,
+            6,
+            (Some(1003), Some(453)),
+        ),
+        (
+            ONE_TABLE,
+            "SELECT a FROM t ORDER BY a DESC, b",
+            SPREAD,
+            6,
+            (Some(802), Some(152)),
+        ),
+        (
+            ONE_TABLE,
+            "SELECT a FROM t WHERE b = 5",
+            PLAIN,
+            6,
+            (Some(223), Some(73)),
+        ),
+        (
+            INDEXED,
+            "SELECT a FROM t ORDER BY a",
+            PLAIN,
+            4,
+            (Some(502), Some(352)),
+        ),
+        (
+            INDEXED,
+            "SELECT a FROM t WHERE a = 5 ORDER BY b",
+            PLAIN,
+            4,
+            (Some(9), Some(9)),
+        ),
+        (
+            INDEXED,
+            "SELECT a FROM t WHERE b < 5 ORDER BY b, a",
+            SPREAD,
+            4,
+            (Some(308), Some(65)),
+        ),
+        (
+            SMALL,
+            "SELECT t.a FROM t, u",
+            PLAIN,
+            7,
+            (Some(1335), Some(1253)),
+        ),
+        (
+            SMALL,
+            "SELECT t.a FROM t, u WHERE t.a < u.b AND u.b = 1",
+            PLAIN,
+            7,
+            (Some(298), Some(134)),
+        ),
+        (
+            HASHED,
+            "SELECT t.a FROM t, u WHERE t.a = u.b ORDER BY t.a",
+            PLAIN,
+            6,
+            (Some(1706), Some(681)),
+        ),
+        (
+            HASHED,
+            "SELECT t.a FROM t, u WHERE t.a = u.a",
+            SPREAD,
+            5,
+            (Some(603), Some(153)),
+        ),
+        (
+            HASHED,
+            "SELECT t.a FROM t, u WHERE t.a = u.a",
+            MERGE_JOINS,
+            6,
+            (Some(2106), Some(581)),
+        ),
+        (HASHED, "SELECT t.a FROM t, u", MERGE_JOINS, 5, (None, None)),
+        (
+            ALIKE,
+            "SELECT t.a FROM t, u, v WHERE t.a = u.a AND u.a = v.a",
+            PLAIN,
+            6,
+            (Some(1306), Some(481)),
+        ),
+        (
+            UNLINKED,
+            "SELECT t.a FROM t, u, v",
+            PLAIN,
+            8,
+            (Some(77), Some(64)),
+        ),
+        (
+            ONE_TABLE,
+            "SELECT COUNT(*) FROM t",
+            PLAIN,
+            6,
+            (Some(309), Some(96)),
+        ),
+        (ONE_TABLE, "SELECT COUNT(*) FROM t", SPREAD, 6, (None, None)),
+        (
+            INDEXED,
+            "SELECT a, COUNT(*) FROM t GROUP BY a",
+            PLAIN,
+            4,
+            (Some(503), Some(278)),
+        ),
+        (
+            ONE_TABLE,
+            "SELECT b, COUNT(*) AS n FROM t GROUP BY b ORDER BY n DESC",
+            PLAIN,
+            6,
+            (Some(395), Some(180)),
+        ),
+        (
+            ONE_TABLE,
+            "SELECT b FROM t GROUP BY b ORDER BY b",
+            STREAM_AGGREGATIONS,
+            7,
+            (Some(375), Some(201)),
+        ),
+        (
+            HASHED,
+            "SELECT t.a, COUNT(*) FROM t, u WHERE t.a = u.a GROUP BY t.a",
+            PLAIN,
+            5,
+            (Some(1105), Some(430)),
+        ),
+    ];
+    for segments in [1u32, 4] {
+        for (tables, text, options, most, costs) in cases {
+            match query_of(rt.alloc(), segments, tables, text, options)? {
+                Some(query) => {
+                    let props = Props::collect(rt.alloc(), &query)?;
+                    let (least, of_all) = both_least(rt.alloc(), &query, &props, most)?;
+                    let cost = if segments == 1 { costs.0 } else { costs.1 };
+                    assert_eq!(rt; cost_of(&least), cost, "{segments} {text}");
+                    assert!(rt; least == of_all, "{segments} {text}");
+                }
+                None => assert!(rt; false, "{text}"),
+            }
+        }
+    }
+    Ok(())
+}
+
+// Whether the search with these rules off finds what the listing finds, at no less than a cost.
+fn agrees_without(
+    alloc: Global,
+    tables: &str,
+    text: &str,
+    off: u32,
+    most: usize,
+    least: u64,
+) -> Result<bool, Fail> {
+    let options = Options {
+        root: RootDist::One,
+        off,
+    };
+    match query_of(alloc, 4, tables, text, options)? {
+        Some(query) => {
+            let props = Props::collect(alloc, &query)?;
+            let (found, listed) = both_least(alloc, &query, &props, most)?;
+            let costs_no_less = match &found {
+                Some(ranked) => ranked.cost >= least,
+                None => true,
+            };
+            Ok(costs_no_less && found == listed)
+        }
+        None => Ok(false),
+    }
+}
+
+// Each case has the greatest number of nodes that are listed, and the cost with all rules on.
+#[test]
+fn there_is_no_plan_without_some_rules_where_none_is_listed(rt: HostRuntime) -> Result<(), Fail> {
+    let cases = [
+        (INDEXED, "SELECT a FROM t WHERE a = 5 ORDER BY b", 4, 9),
+        (SMALL, "SELECT t.a FROM t, u WHERE t.a = u.b", 7, 0),
+        (ONE_TABLE, "SELECT COUNT(*) FROM t", 5, 96),
+        (INDEXED, "SELECT a, COUNT(*) FROM t GROUP BY a", 5, 278),
+    ];
+    for first in 2..15u32 {
+        for second in first..15u32 {
+            let off = 1 << first | 1 << second;
+            for (tables, text, most, least) in cases {
+                let agrees = agrees_without(rt.alloc(), tables, text, off, most, least)?;
+                assert!(rt; agrees, "{first} {second} {text}");
+            }
+        }
+    }
+    Ok(())
+}
