@@ -15,7 +15,7 @@ use Rattle.plan_space.proofs.Enforcers.{among_at, first_or_second}
 use Rattle.plan_tree.specs.Enforcers.{IsEnforced}
 use Rattle.plan_tree.specs.declared.answers.Answered.{Answered}
 use Rattle.plan_tree.specs.declared.enforcers.Enforced.{Enforced}
-use Rattle.plan_tree.proofs.Enforced.{some_enforced, none_enforced}
+use Rattle.plan_tree.proofs.FoundEnforcers.{some_enforced, none_enforced}
 use Rattle.best_answers.specs.Nodes.{one_node, all_nodes}
 use Rattle.best_answers.specs.Answers.{lesser}
 use Rattle.best_answers.specs.Best.{IsBest, IsEnforcedBy}

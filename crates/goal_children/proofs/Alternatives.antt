@@ -18,7 +18,7 @@ use Rattle.plan_space.specs.Choices.{groups_of}
 use Rattle.plan_space.specs.Lines.{line_of}
 use Rattle.plan_space.specs.declared.lines.Line.{Line}
 use Rattle.plan_space.specs.Laws.{AsksWhatFits}
-use Rattle.plan_tree.specs.Alternatives.{AreAsked, Asks, IsAltBy}
+use Rattle.plan_tree.specs.Alternatives.{AreAsked, Asks, HasAlternative, IsAltBy}
 use Rattle.plan_tree.specs.declared.alternatives.Alt.{Alt}
 use Rattle.goal_space.specs.Children.{IsAsked}
 use Rattle.goal_space.specs.declared.goals.GoalKind.{GoalKind}
@@ -209,6 +209,11 @@ module _ (q : Query) (e : PhysicalExpr) (wanted : Request) (bound : ℕ) where
         let something : line_of q e asks.mode ≡ Some asks.line = asks.is_alternative.is_line in
         absurd (cc)
   ]
+
+  -- the same where all modes that are there for the request are below the number
+  pub asks_among : (from : ℕ) → ((m : ℕ) → HasAlternative q e wanted m → m < from) → (k : GoalKind) → IsOfAlternatives q e wanted k → IsOfModesBelow q e wanted from k
+  asks_among from below k (group, wish, asks, is) =
+      (asks.mode, below asks.mode (asks.line, asks.is_alternative), (asks.line, asks.is_alternative, (group, wish, asks.is_asked, is)))
 
   pub all_modes : (from : ℕ) (found : Option GoalKind) → ((m : ℕ) → from ≤ m → line_of q e m ≡ None) → FindsFrom (IsOfModesBelow q e wanted from) bound found
       → FindsFrom (IsOfAlternatives q e wanted) bound found

@@ -16,13 +16,13 @@ ghost use Rattle.goal_children.specs.Finding.{AreGoalsOf, Collects, FindsFrom};
 use crate::choice::asked_of;
 use crate::finding::{goal_from, sooner};
 use goal_space::GoalKind;
-use plan_space::{Line, modes_are_few, what_is_asked_fits};
-use plan_tree::{Alt, alternative_by, next_line};
+use plan_space::{Line, what_is_asked_fits};
+use plan_tree::{Alt, alternative_by, modes_for, next_among, tried_modes};
 use query_core::{Children, KeyParts, PhysicalExpr, Query, candidates_are_known, groups_are_known};
 use request_props::{Props, Request};
 use std::alloc::{AllocError, Global};
 
-/// The goals of groups for what the expression asks of them, to serve the request, mode by mode.
+/// The goals of groups for what the expression asks of them, to serve the request, mode by mode of those that may.
 pub fn asked_goals(
     alloc: Global,
     query: &Query,
@@ -35,19 +35,15 @@ pub fn asked_goals(
     requires numbered { IsNumberedRequest query.now wanted }
     ensures { IfOk result (λ goals. AreGoalsOf (IsOfAlternatives query.now e wanted) goals.items) }
 {
-    // For the proof: modes are below 192.
-    modes_are_few();
     let mut goals = Vec::new(alloc);
-    let mut from = 0;
-    'modes: loop {
-        match next_line(query, props, e, from) {
-            Some((mode, line)) => {
-                push_in_mode(query, props, e, wanted, mode, line, &mut goals)?;
-                from = mode + 1;
-            }
-            None => return Ok(goals),
-        }
+    let tried = tried_modes(query, props, e.operator);
+    let serving = modes_for(query, props, e, wanted);
+    let mut from = serving.from;
+    'modes: while let Some((mode, line)) = next_among(query, props, e, tried, serving, from) {
+        push_in_mode(query, props, e, wanted, mode, line, &mut goals)?;
+        from = mode + 1;
     }
+    Ok(goals)
 }
 
 /// Of the goals the one of the least word from the bound on.

@@ -10,7 +10,7 @@ use Rattle.plan_space.specs.declared.nodes.NodeKind.TheVariants as nodes
 use Rattle.plan_space.proofs.Enforcers.{among_at, first_or_second}
 use Rattle.plan_tree.specs.Enforcers.{IsEnforced}
 use Rattle.plan_tree.specs.declared.enforcers.Enforced.{Enforced}
-use Rattle.plan_tree.proofs.Enforced.{some_enforced, none_enforced}
+use Rattle.plan_tree.proofs.FoundEnforcers.{some_enforced, none_enforced}
 use Rattle.best_answers.specs.Nodes.{IsIn}
 use Rattle.best_answers.specs.Best.{IsEnforcedBy}
 use Rattle.goal_space.specs.Children.{CanEnforce}

@@ -24,7 +24,7 @@ use goal_board::{Board, Hints, Seat};
 use goal_rules::Rules;
 use goal_space::{GoalKind, goals_are_known};
 use plan_space::Line;
-use plan_tree::{Alt, ExprRows, alternative_by, expr_rows, modes_for, next_among};
+use plan_tree::{Alt, ExprRows, alternative_by, expr_rows, modes_for, next_among, tried_modes};
 use query_core::{Key, PhysicalExpr, Query};
 use request_props::{Props, Request};
 use xform_rules::members_are_candidates;
@@ -101,9 +101,10 @@ fn best_mode<'q, H: Hints>(
     answers_are_best();
     let rows = expr_rows(query, props, expr);
     let mut choice = Choice::Known(None);
+    let tried = tried_modes(query, props, expr.operator);
     let serving = modes_for(query, props, expr, wanted);
     let mut from = serving.from;
-    'modes: while let Some((mode, line)) = next_among(query, props, expr, serving, from) {
+    'modes: while let Some((mode, line)) = next_among(query, props, expr, tried, serving, from) {
         let native = Native {
             expr,
             wanted,

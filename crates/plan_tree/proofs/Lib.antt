@@ -13,4 +13,4 @@ pub mod LeftFits
 pub mod Unordered
 pub mod TriedModes
 pub mod JoinsServe
-pub mod Enforced
+pub mod FoundEnforcers

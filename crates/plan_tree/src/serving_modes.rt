@@ -163,9 +163,7 @@ fn serves_among(
 {
     let tried = tried_modes(query, props, expr.operator);
     let mut from = modes.from;
-    'modes: while let Some((mode, line)) = next_tried_among(
-        query, props, expr, tried, modes, from,
-    ) {
+    'modes: while let Some((mode, line)) = next_among(query, props, expr, tried, modes, from) {
         if serves(query, props, line, expr.children(), wanted) {
             return true;
         }
@@ -174,23 +172,9 @@ fn serves_among(
     false
 }
 
-/// The first of the modes from this number on in which the expression works, with its line.
+/// The first of the modes from this number on in which the expression works, with its line. `tried` are the modes that
+/// are tried of its operator, found once for a whole walk.
 pub fn next_among(
-    query: &Query,
-    props: &Props,
-    expr: PhysicalExpr,
-    modes: ModeRange,
-    from: u32,
-) -> Option<(u32, Line)>
-    requires { IsProps query.now props.now }
-    ensures { IsNextAmong query.now expr modes from result }
-{
-    let tried = tried_modes(query, props, expr.operator);
-    next_tried_among(query, props, expr, tried, modes, from)
-}
-
-// The same by the modes that are tried of the operator.
-fn next_tried_among(
     query: &Query,
     props: &Props,
     expr: PhysicalExpr,
