@@ -11,6 +11,6 @@ pub mod ModesTried
 pub mod LineModes
 pub mod LeftFits
 pub mod Unordered
-pub mod TriedModes
+pub mod TriedOfOperators
 pub mod JoinsServe
 pub mod FoundEnforcers

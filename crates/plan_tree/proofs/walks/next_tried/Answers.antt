@@ -1,6 +1,6 @@
 use Rattle.std.proofs.Common.{◌+◌, sym, arith}
 use Rattle.plan_tree.proofs.Walked.{none_more, none_at_all}
-use Rattle.plan_tree.proofs.TriedModes.{none_untried}
+use Rattle.plan_tree.proofs.TriedOfOperators.{none_untried}
 use Rattle.plan_tree.proofs.walks.next_tried.Goals as goal
 
 -- the numbers before the first one in the bands are in none

@@ -2,7 +2,7 @@ use Rattle.std.proofs.Common.{subst, sym, arith}
 use Rattle.std.proofs.lemmas.Bool.{false≢true}
 use Rattle.plan_space.specs.declared.modes.Mode.{Mode}
 use Rattle.plan_tree.specs.Walks.{AdmitsMode}
-use Rattle.plan_tree.proofs.TriedModes.{none_counted, none_more_tried}
+use Rattle.plan_tree.proofs.TriedOfOperators.{none_counted, none_more_tried}
 use Rattle.plan_tree.proofs.walks.TriedModes.next.Goals as goal
 
 pub loop-number-init : goal.loop-number-init

@@ -1,6 +1,6 @@
 -- None of the modes before this number is tried.
 use Rattle.std.proofs.Common.{◌≤◌, ◌-◌}
-use Rattle.plan_tree.proofs.TriedModes.{NoneTried}
+use Rattle.plan_tree.proofs.TriedOfOperators.{NoneTried}
 use Rattle.plan_tree.proofs.walks.TriedModes.next.Given as goal
 
 abbrev pub invariant-loop-number : goal.invariant-loop-number
