@@ -22,22 +22,3 @@ pub use job_engine::RunNote;
 pub use laws::one_outcome;
 pub use status::Status;
 pub use top::{orca_alone, orca_run, put_usage};
-
-#[cfg(test)]
-mod crew_tests;
-#[cfg(test)]
-mod failing_tests;
-#[cfg(test)]
-mod gate_tests;
-#[cfg(test)]
-mod gen_tests;
-#[cfg(test)]
-mod grouped_tests;
-#[cfg(test)]
-mod join_tests;
-#[cfg(test)]
-mod memo_tests;
-#[cfg(test)]
-mod option_tests;
-#[cfg(test)]
-mod tests;

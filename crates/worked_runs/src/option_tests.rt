@@ -1,6 +1,6 @@
 //! What the program prints where options are given.
-use crate::status::Status;
-use crate::tests::{TWO_TABLES, answered, planned};
+use crate::runs::{TWO_TABLES, answered, planned};
+use orca_cli::Status;
 use std::alloc::AllocGlobal;
 use std::sync::Wait;
 use std::test::Fail;

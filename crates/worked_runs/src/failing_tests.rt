@@ -1,7 +1,7 @@
 //! The running example over files that can't be read, and over output that can't be written.
 use crate::join_tests::JOINED;
-use crate::status::Status;
-use crate::tests::{JOIN, TWO_TABLES, run_over, shelf_of};
+use crate::runs::{JOIN, TWO_TABLES, run_over, shelf_of};
+use orca_cli::Status;
 use orca_io::MemSink;
 use std::alloc::{AllocError, AllocGlobal};
 use std::sync::Wait;

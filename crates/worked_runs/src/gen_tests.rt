@@ -1,6 +1,6 @@
 //! What the program prints for queries that it makes itself.
-use crate::status::Status;
-use crate::tests::{answered, noted};
+use crate::runs::{answered, noted};
+use orca_cli::Status;
 use std::test::Fail;
 
 #[test]

@@ -1,6 +1,6 @@
 //! What the program prints for queries over several tables.
-use crate::status::Status;
-use crate::tests::{JOIN, TWO_TABLES, answered, cause, planned};
+use crate::runs::{JOIN, TWO_TABLES, answered, cause, planned};
+use orca_cli::Status;
 use std::alloc::{AllocError, Global};
 use std::test::Fail;
 

@@ -1,6 +1,6 @@
 //! What the program prints by one worker and by several.
-use crate::status::Status;
-use crate::tests::{JOIN, TWO_TABLES, answered, noted};
+use crate::runs::{JOIN, TWO_TABLES, answered, noted};
+use orca_cli::Status;
 use std::test::Fail;
 
 const EMPTY: &str =

@@ -1,22 +1,13 @@
-use super::*;
-use crate::asked::{Asked, refused_query};
-use crate::faults::props_fault_text;
+//! Plans of one table, refusals with their causes and places, and the greatest lengths of texts.
+use crate::runs::{JOIN, TWO_TABLES, answered, cause, planned, shelf_of, words_of};
 use command_line::{Command, read_command};
-use orca_io::{MemShelf, MemSink, NoGate};
-use request_props::PropsFault;
-use std::alloc::{AllocError, Global};
-use std::sync::Wait;
+use orca_cli::{RunNote, Status, orca_alone};
+use orca_io::{MemShelf, MemSink};
+use std::alloc::Global;
 use std::test::Fail;
-use std::thread::Threads;
 
 const CATALOG: &str =
     r#"{"version":1,"segments":4,"tables":[{"name":"t","rows":1000,"distribution":"random","columns":[{"name":"a","ndv":1000},{"name":"b","ndv":10}]}]}"#;
-
-pub const TWO_TABLES: &str =
-    r#"{"version":1,"segments":4,"tables":[{"name":"T1","rows":1000,"distribution":["a"],"columns":[{"name":"a","ndv":1000}]},{"name":"T2","rows":1000,"distribution":["a"],"columns":[{"name":"a","ndv":1000},{"name":"b","ndv":500}]}]}"#;
-
-/// The running example, over these two tables.
-pub const JOIN: &str = "SELECT T1.a FROM T1, T2 WHERE T1.a = T2.b ORDER BY T1.a";
 
 const QUERY: &str = "SELECT a FROM t ORDER BY a";
 
@@ -28,56 +19,6 @@ const PLAN: [&str; 5] = [
     "    Scan(t) rows=1000 cost=251\n",
 ];
 
-pub fn words_of(alloc: Global, texts: &[&str]) -> Result<Vec<String>, AllocError> {
-    let mut words = Vec::new(alloc);
-    for text in texts {
-        words.push(String::from_str(alloc, text)?)?;
-    }
-    Ok(words)
-}
-
-pub fn shelf_of(alloc: Global, catalog: &[u8], query: &[u8]) -> Result<MemShelf, AllocError> {
-    let mut shelf = MemShelf::new(alloc);
-    shelf.put_file("c.json", catalog)?;
-    shelf.put_file("q.sql", query)?;
-    Ok(shelf)
-}
-
-// The status and the text of `plan c.json q.sql` over these two files.
-pub fn planned<R: Threads + Wait + Sync + AllocGlobal>(
-    rt: &R,
-    catalog: &[u8],
-    query: &[u8],
-) -> Result<(Status, MemSink), AllocError> {
-    answered(rt, &["plan", "c.json", "q.sql"], catalog, query)
-}
-
-// The status and the text of these words over the two files `c.json` and `q.sql`.
-pub fn answered<R: Threads + Wait + Sync + AllocGlobal>(
-    rt: &R,
-    texts: &[&str],
-    catalog: &[u8],
-    query: &[u8],
-) -> Result<(Status, MemSink), AllocError> {
-    let mut shelf = shelf_of(rt.alloc(), catalog, query)?;
-    let mut sink = MemSink::with_room(rt.alloc(), 1 << 20)?;
-    let (status, _) = run_over(rt, texts, &mut shelf, &mut sink)?;
-    Ok((status, sink))
-}
-
-// The status and the note of these words over a shelf and a sink.
-pub fn run_over<R: Threads + Wait + Sync + AllocGlobal>(
-    rt: &R,
-    texts: &[&str],
-    shelf: &mut MemShelf,
-    sink: &mut MemSink,
-) -> Result<(Status, Option<(u32, u32, u32)>), AllocError> {
-    let words = words_of(rt.alloc(), texts)?;
-    let mut note = RunNote::new();
-    let status = orca_run(rt, rt.alloc(), &words, shelf, sink, &NoGate, &mut note);
-    Ok((status, note.last()))
-}
-
 #[test]
 fn prints_the_least_plan_of_one_table(rt: HostRuntime) -> Result<(), Fail> {
     let (status, sink) = planned(&rt, CATALOG.as_bytes(), QUERY.as_bytes())?;
@@ -88,21 +29,6 @@ fn prints_the_least_plan_of_one_table(rt: HostRuntime) -> Result<(), Fail> {
     assert_eq!(rt; status, Status::Planned);
     assert_eq!(rt; sink.taken(), text.as_bytes());
     Ok(())
-}
-
-// The text after `query refused: ` or `catalog refused: `, over these two files.
-pub fn cause<R: Threads + Wait + Sync + AllocGlobal>(
-    rt: &R,
-    front: &str,
-    catalog: &[u8],
-    query: &[u8],
-) -> Result<(Status, String), Fail> {
-    let (status, sink) = planned(rt, catalog, query)?;
-    let line = str::from_utf8(sink.taken())?;
-    let told = line
-        .strip_prefix(front)
-        .and_then(|rest| rest.strip_suffix("\n"));
-    Ok((status, String::from_str(rt.alloc(), told.unwrap_or(line))?))
 }
 
 #[test]
@@ -250,29 +176,6 @@ fn a_query_that_is_no_text_is_refused_at_its_byte(rt: HostRuntime) -> Result<(),
     )?;
     assert_eq!(rt; status, Status::QueryRefused);
     assert_eq!(rt; line.as_str(), "not ASCII at 7");
-    Ok(())
-}
-
-#[test]
-fn too_many_lists_or_orders_are_told_with_their_number(rt: HostRuntime) -> Result<(), Fail> {
-    for (fault, told) in [
-        (
-            PropsFault::TooManyLists { found: 61 },
-            "query refused: too many hashed lists: 61\n",
-        ),
-        (
-            PropsFault::TooManyOrders { found: 61 },
-            "query refused: too many orders: 61\n",
-        ),
-    ] {
-        match refused_query(rt.alloc(), &props_fault_text(rt.alloc(), fault)?)? {
-            Asked::Ended(ending) => {
-                assert_eq!(rt; ending.status, Status::QueryRefused);
-                assert_eq!(rt; ending.text.as_slice(), told.as_bytes());
-            }
-            Asked::Query(_, _) => assert!(rt; false),
-        }
-    }
     Ok(())
 }
 
@@ -445,16 +348,4 @@ fn one_worker_answers_alone(rt: HostRuntime) -> Result<(), Fail> {
     assert_eq!(rt; status, Some(Status::Planned));
     assert!(rt; sink.taken().starts_with(b"cost 5253\n"));
     Ok(())
-}
-
-// The status and the note of these words, over the two files `c.json` and `q.sql`.
-pub fn noted<R: Threads + Wait + Sync + AllocGlobal>(
-    rt: &R,
-    texts: &[&str],
-    catalog: &[u8],
-    query: &[u8],
-) -> Result<(Status, Option<(u32, u32, u32)>), AllocError> {
-    let mut shelf = shelf_of(rt.alloc(), catalog, query)?;
-    let mut sink = MemSink::with_room(rt.alloc(), 1 << 20)?;
-    run_over(rt, texts, &mut shelf, &mut sink)
 }

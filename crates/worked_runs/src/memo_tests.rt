@@ -1,6 +1,6 @@
 //! The memos of queries, as the program prints them.
 
-use crate::tests::{JOIN, TWO_TABLES, answered};
+use crate::runs::{JOIN, TWO_TABLES, answered};
 use std::alloc::{AllocError, AllocGlobal, Global};
 use std::sync::Wait;
 use std::test::Fail;

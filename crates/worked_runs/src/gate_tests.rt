@@ -1,7 +1,6 @@
 //! How many workers search: each passes a gate before each of its steps.
-use crate::status::Status;
-use crate::tests::{JOIN, TWO_TABLES, shelf_of, words_of};
-use crate::*;
+use crate::runs::{JOIN, TWO_TABLES, shelf_of, words_of};
+use orca_cli::{RunNote, Status, orca_run};
 use orca_io::{Gate, MemSink};
 use std::alloc::AllocGlobal;
 use std::sync::Wait;

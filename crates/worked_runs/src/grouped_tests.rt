@@ -1,6 +1,6 @@
 //! What the program prints for grouped queries.
-use crate::status::Status;
-use crate::tests::{answered, planned};
+use crate::runs::{answered, planned};
+use orca_cli::Status;
 use std::test::Fail;
 
 const RANDOM: &str =
