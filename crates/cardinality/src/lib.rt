@@ -5,6 +5,3 @@ mod divisor;
 mod estimate;
 
 pub use estimate::rows;
-
-#[cfg(test)]
-mod tests;

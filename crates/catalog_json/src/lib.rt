@@ -15,6 +15,3 @@ mod table;
 pub use fault::CatalogFault;
 pub use laws::faults_are_told;
 pub use reading::read_catalog;
-
-#[cfg(test)]
-mod tests;

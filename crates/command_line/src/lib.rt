@@ -12,8 +12,6 @@ mod off_rules;
 mod off_set;
 mod options;
 mod pieces;
-#[cfg(test)]
-mod tests;
 mod words;
 
 pub use choices::Choices;

@@ -7,6 +7,3 @@ mod ranks;
 mod told;
 
 pub use answers::plain_answers;
-
-#[cfg(test)]
-mod tests;

@@ -2,7 +2,5 @@
 #![tactic(auto)]
 
 mod goals;
-#[cfg(test)]
-mod tests;
 
 pub use goals::{goal_lists_are_known, plain_goals};

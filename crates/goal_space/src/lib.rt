@@ -11,6 +11,3 @@ pub use goals::GoalKind;
 pub use laws::{goals_are_known, goals_ask_for_members, ranks_fall};
 pub use ranks::{rank, table_count};
 pub use words::goal_kinds_are_one;
-
-#[cfg(test)]
-mod tests;

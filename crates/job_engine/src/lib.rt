@@ -6,10 +6,6 @@ mod jobs;
 mod note;
 mod runs;
 mod searches;
-#[cfg(test)]
-mod tests;
-#[cfg(test)]
-mod turn_tests;
 
 pub use engine::Engine;
 pub use job_outcome::Outcome;

@@ -4,8 +4,6 @@
 mod finished;
 mod laws;
 mod outcome;
-#[cfg(test)]
-mod tests;
 
 pub use laws::{entries_fit_or_not, finishers_are_known};
 pub use outcome::{Outcome, outcome_of};

@@ -9,8 +9,6 @@ mod laws;
 mod members;
 mod memo;
 mod requests;
-#[cfg(test)]
-mod tests;
 mod trace;
 
 pub use crew::crew_text;

@@ -8,8 +8,6 @@ mod needs;
 mod nodes;
 mod passes;
 mod places;
-#[cfg(test)]
-mod tests;
 
 pub use check::check_plan;
 pub use fault::PlanFault;

@@ -6,8 +6,6 @@ mod lines;
 mod links;
 mod node_text;
 mod section;
-#[cfg(test)]
-mod tests;
 
 pub use extraction::{answer_to, best_in, extract};
 pub use section::plan_text;

@@ -19,8 +19,3 @@ mod word_set;
 pub use closure::plain_closure;
 pub use least::{plain_least, plain_least_of};
 pub use word_set::WordSet;
-
-#[cfg(test)]
-mod least_tests;
-#[cfg(test)]
-mod tests;

@@ -28,8 +28,3 @@ pub use seen_cost::{cost_above, cost_above_any, rows_above};
 pub use serving::may_give;
 pub use serving_modes::{may_serve, modes_for, next_among};
 pub use walks::{TriedModes, next_line, tried_modes};
-
-#[cfg(test)]
-mod grouped_tests;
-#[cfg(test)]
-mod tests;

@@ -43,6 +43,3 @@ pub use query::Query;
 pub use splits::sides_are_known;
 pub use table::{Item, QueryTable};
 pub use words::{Expr, Goal, GoalParts, Key, KeyParts};
-
-#[cfg(test)]
-mod tests;

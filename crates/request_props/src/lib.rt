@@ -28,6 +28,3 @@ pub use props::Props;
 pub use request::{Dist, Request, code, request_of};
 pub use satisfaction::{meets, satisfies};
 pub use sides::Side;
-
-#[cfg(test)]
-mod tests;

@@ -22,6 +22,3 @@ pub use binding::bind;
 pub use fault::BindFault;
 pub use laws::{bound_queries_are_there, faults_are_told, used_columns_are_known};
 pub use meaning::one_meaning;
-
-#[cfg(test)]
-mod tests;

@@ -20,6 +20,3 @@ pub use reader::{one_outcome, read_sql, readings};
 pub use syntax::{
     ColRef, FromItem, SelExpr, SelFunc, SelItem, SelKey, SelOp, SelOperand, SelPred, Select,
 };
-
-#[cfg(test)]
-mod tests;

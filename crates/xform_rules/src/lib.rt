@@ -26,6 +26,3 @@ pub use results::{applies_at, result_at};
 pub use rules::{Rule, rule_named, rule_of};
 pub use splits::splits_are_complete;
 pub use words::{applies, nth_result};
-
-#[cfg(test)]
-mod tests;

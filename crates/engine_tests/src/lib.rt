@@ -1,0 +1,9 @@
+//! The engine and what its board gives; tests alone.
+#![tactic(auto)]
+
+#[cfg(test)]
+mod outcome_tests;
+#[cfg(test)]
+mod run_tests;
+#[cfg(test)]
+mod turn_tests;

@@ -1,0 +1,198 @@
+//! Three workers on one thread, which step in drawn orders: the search of the running example has 79 entries.
+
+ghost use Rattle.std.specs.Prelude.{◌≡◌, ◌≤◌, ◌<◌, ◌^◌};
+ghost use Rattle.request_props.specs.Numbered.{IsProps};
+ghost use Rattle.goal_board.specs.Seats.{hands};
+ghost use Rattle.job_engine.specs.Searching.{IsWorker};
+
+use crate::run_tests::found_alike;
+use goal_rules::Rules;
+use job_engine::{Engine, Outcome, RunNote, Stepped, Worker, run_alone};
+use query_core::Query;
+use request_props::Props;
+use std::alloc::{AllocError, Global};
+use std::test::Fail;
+use worked_queries::two_tables;
+
+// Who steps.
+#[derive(Clone, Copy)]
+enum Turn {
+    First,
+    Second,
+    Third,
+}
+
+// The order of steps that a number gives.
+#[derive(Drop)]
+struct Draws {
+    last: u64,
+}
+
+impl Draws {
+    fn next(&mut self) -> Turn {
+        self.last = (75 * (self.last % 65_537) + 74) % 65_537;
+        match self.last % 3 {
+            0 => Turn::First,
+            1 => Turn::Second,
+            _ => Turn::Third,
+        }
+    }
+}
+
+fn is_end(stepped: Stepped) -> bool {
+    match stepped {
+        Stepped::Ran => false,
+        Stepped::Idle => false,
+        Stepped::Done => true,
+        Stepped::Full => true,
+    }
+}
+
+// A step of one worker of three.
+fn step_one<'q>(
+    engine: &Engine<'q>,
+    first: &mut Worker<Rules<'q>>,
+    second: &mut Worker<Rules<'q>>,
+    third: &mut Worker<Rules<'q>>,
+    turn: Turn,
+) -> Stepped
+    requires first { IsWorker engine.now first.old }
+    requires second { IsWorker engine.now second.old }
+    requires third { IsWorker engine.now third.old }
+    ensures first { IsWorker engine.now first.new }
+    ensures second { IsWorker engine.now second.new }
+    ensures third { IsWorker engine.now third.new }
+    ensures first_parts { (hands first.new.seat).parts ≡ (hands first.old.seat).parts }
+    ensures second_parts { (hands second.new.seat).parts ≡ (hands second.old.seat).parts }
+    ensures third_parts { (hands third.new.seat).parts ≡ (hands third.old.seat).parts }
+{
+    match turn {
+        Turn::First => engine.step(first),
+        Turn::Second => engine.step(second),
+        Turn::Third => engine.step(third),
+    }
+}
+
+// Three workers step in an order that is drawn, until one of them is told that the search has ended.
+fn step_by_draws<'q>(
+    engine: &Engine<'q>,
+    first: &mut Worker<Rules<'q>>,
+    second: &mut Worker<Rules<'q>>,
+    third: &mut Worker<Rules<'q>>,
+    number: u64,
+)
+    requires first { IsWorker engine.now first.old }
+    requires second { IsWorker engine.now second.old }
+    requires third { IsWorker engine.now third.old }
+    ensures first { IsWorker engine.now first.new }
+    ensures second { IsWorker engine.now second.new }
+    ensures third { IsWorker engine.now third.new }
+    ensures first_parts { (hands first.new.seat).parts ≡ (hands first.old.seat).parts }
+    ensures second_parts { (hands second.new.seat).parts ≡ (hands second.old.seat).parts }
+    ensures third_parts { (hands third.new.seat).parts ≡ (hands third.old.seat).parts }
+{
+    let mut draws = Draws { last: number };
+    for _turn in 0..100_000 {
+        let turn = draws.next();
+        let told = step_one(engine, first, second, third, turn);
+        if is_end(told) {
+            return;
+        }
+    }
+}
+
+// Says whether, where one of three workers was told the end, each is told the same, and what the board held.
+fn search_by_draws(
+    alloc: Global,
+    query: &Query,
+    props: &Props,
+    cap: u32,
+    number: u64,
+) -> Result<(bool, Outcome), AllocError>
+    requires props { IsProps query.now props.now }
+    requires capacity { (1 ≤ cap) × (cap ≤ 2 ^ 20) }
+{
+    let (engine, mut first) = Engine::start(alloc, query, props, cap)?;
+    let mut second = engine.split(alloc, &mut first, 1)?;
+    let mut third = engine.split(alloc, &mut first, 2)?;
+    step_by_draws(&engine, &mut first, &mut second, &mut third, number);
+    let told = engine.step(&mut first);
+    let second_told = engine.step(&mut second);
+    let third_told = engine.step(&mut third);
+    let agree = is_end(told) && told == second_told && told == third_told;
+    engine.join(&mut first, second);
+    engine.join(&mut first, third);
+    Ok((agree, engine.close(alloc, first)?))
+}
+
+// The first worker steps so many times, then a second one once and never again, and then the first until the end.
+fn search_past_one_step(
+    alloc: Global,
+    query: &Query,
+    props: &Props,
+    before: u32,
+) -> Result<(Stepped, Outcome), AllocError>
+    requires { IsProps query.now props.now }
+{
+    let (engine, mut first) = Engine::start(alloc, query, props, 79)?;
+    let mut second = engine.split(alloc, &mut first, 1)?;
+    step_until_end(&engine, &mut first, before);
+    engine.step(&mut second);
+    let told = step_until_end(&engine, &mut first, 100_000);
+    engine.join(&mut first, second);
+    Ok((told, engine.close(alloc, first)?))
+}
+
+// At most so many steps of one worker, and what the last one was told.
+fn step_until_end<'q>(engine: &Engine<'q>, worker: &mut Worker<Rules<'q>>, most: u32) -> Stepped
+    requires { IsWorker engine.now worker.old }
+    ensures worker { IsWorker engine.now worker.new }
+    ensures parts { (hands worker.new.seat).parts ≡ (hands worker.old.seat).parts }
+{
+    let mut told = Stepped::Ran;
+    for _step in 0..most {
+        told = engine.step(worker);
+        if is_end(told) {
+            break;
+        }
+    }
+    told
+}
+
+#[test]
+fn a_hundred_orders_of_three_workers_end_alike(rt: HostRuntime) -> Result<(), Fail> {
+    let alloc = rt.alloc();
+    let query = two_tables(alloc)?;
+    let Ok(props) = Props::collect(alloc, &query) else {
+        panic!(rt; "too many lists");
+    };
+    let (engine, worker) = Engine::start(alloc, &query, &props, 131_072)?;
+    let alone = run_alone(alloc, engine, worker, &mut RunNote::new())?;
+    for number in 0..100 {
+        let (agree, outcome) = search_by_draws(alloc, &query, &props, 79, number)?;
+        assert!(rt; agree && found_alike(&alone, &outcome), "{number}");
+        let (agree, outcome) = search_by_draws(alloc, &query, &props, 78, number)?;
+        assert!(rt;
+            agree && matches!(outcome, Outcome::Full { cap: 78 }),
+            "{number}"
+        );
+    }
+    Ok(())
+}
+
+#[test]
+fn a_worker_that_stops_keeps_nobody_waiting(rt: HostRuntime) -> Result<(), Fail> {
+    let alloc = rt.alloc();
+    let query = two_tables(alloc)?;
+    let Ok(props) = Props::collect(alloc, &query) else {
+        panic!(rt; "too many lists");
+    };
+    let (engine, worker) = Engine::start(alloc, &query, &props, 79)?;
+    let alone = run_alone(alloc, engine, worker, &mut RunNote::new())?;
+    for before in 0..150 {
+        let (told, outcome) = search_past_one_step(alloc, &query, &props, before)?;
+        assert_eq!(rt; told, Stepped::Done, "{before}");
+        assert!(rt; found_alike(&alone, &outcome), "{before}");
+    }
+    Ok(())
+}

@@ -1,0 +1,114 @@
+//! The traces of two queries: a table that is read, and a join in the order of a column.
+
+ghost use Rattle.request_props.specs.Numbered.{IsProps};
+
+use goal_list::{goal_lists_are_known, plain_goals};
+use job_trace::{crew_text, trace_text};
+use plan_search::plain_closure;
+use query_core::Query;
+use request_props::Props;
+use std::alloc::{AllocError, Global};
+use std::test::Fail;
+use worked_queries::{one_table, two_tables};
+use xform_rules::members_are_known;
+
+// The trace over all members and goals of the query.
+fn trace_of(alloc: Global, query: &Query, props: &Props) -> Result<Vec<u8>, AllocError>
+    requires { IsProps query.now props.now }
+{
+    // For the proof: members are words of candidates, and goals those of goals over the query.
+    members_are_known();
+    goal_lists_are_known();
+    let members = plain_closure(alloc, query)?;
+    let goals = plain_goals(alloc, query, props, members.as_slice())?;
+    trace_text(alloc, query, props, members.as_slice(), goals.as_slice())
+}
+
+// The goals by worker, where one worker finished them all.
+fn crew_of_one(alloc: Global, query: &Query, props: &Props) -> Result<Vec<u8>, AllocError>
+    requires { IsProps query.now props.now }
+{
+    // For the proof: goals of the query are goals over it.
+    goal_lists_are_known();
+    let members = plain_closure(alloc, query)?;
+    let goals = plain_goals(alloc, query, props, members.as_slice())?;
+    let who = vec![in alloc; 0u32; goals.len()]?;
+    crew_text(alloc, query, props, goals.as_slice(), &who)
+}
+
+#[test]
+fn a_table_that_is_read_has_eight_goals(rt: HostRuntime) -> Result<(), Fail> {
+    let alloc = rt.alloc();
+    let query = one_table(alloc, 0)?;
+    match Props::collect(alloc, &query) {
+        Ok(props) => {
+            assert_eq!(rt;
+                trace_of(alloc, &query, &props)?.as_slice(),
+                "trace goals=8 exp=1 expe=1 xf=1 imp=1 impe=1 opt=2 opte=1
+Exp Get(t)
+  ExpE Get(t)
+ExpE Get(t)
+Xf GetToScan Get(t)
+Imp Get(t)
+  Exp Get(t)
+  ImpE Get(t)
+ImpE Get(t)
+  Xf GetToScan Get(t)
+Opt Get(t) [One]
+  Imp Get(t)
+  Opt Get(t) [Spread]
+Opt Get(t) [Spread]
+  Imp Get(t)
+  OptE Scan(t) [Spread]
+OptE Scan(t) [Spread]
+"
+                    .as_bytes()
+            );
+            assert_eq!(rt;
+                crew_of_one(alloc, &query, &props)?.as_slice(),
+                "by-worker
+0 Exp Get(t)
+0 ExpE Get(t)
+0 Xf GetToScan Get(t)
+0 Imp Get(t)
+0 ImpE Get(t)
+0 Opt Get(t) [One]
+0 Opt Get(t) [Spread]
+0 OptE Scan(t) [Spread]
+"
+                    .as_bytes()
+            );
+        }
+        Err(_) => assert!(rt; false),
+    }
+    Ok(())
+}
+
+#[test]
+fn a_sorted_join_has_66_goals(rt: HostRuntime) -> Result<(), Fail> {
+    let alloc = rt.alloc();
+    let query = two_tables(alloc)?;
+    match Props::collect(alloc, &query) {
+        Ok(props) => {
+            let trace = trace_of(alloc, &query, &props)?;
+            let first = "trace goals=66 exp=3 expe=5 xf=11 imp=3 impe=5 opt=20 opte=19\n";
+            assert!(rt; trace.starts_with(first.as_bytes()));
+            let root = "
+Opt Join(T1, T2) [One; T1.a]
+  Imp Join(T1, T2)
+  Opt Join(T1, T2) [One]
+  Opt Join(T1, T2) [Spread; T1.a]
+  OptE MergeJoin(T1 | T2) [One; T1.a]
+  OptE LoopJoin(T1 | T2) [One; T1.a]
+";
+            assert!(rt;
+                trace
+                    .as_slice()
+                    .windows(root.len())
+                    .any(|part| part == root.as_bytes())
+            );
+        }
+        Err(_) => assert!(rt; false),
+    }
+    Ok(())
+}

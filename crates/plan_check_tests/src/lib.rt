@@ -1,0 +1,5 @@
+//! The check of given plans; tests alone.
+#![tactic(auto)]
+
+#[cfg(test)]
+mod tests;

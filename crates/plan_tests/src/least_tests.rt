@@ -1,0 +1,168 @@
+//! The least plans of worked examples: what they cost, what stands at the root, how many nodes.
+
+use plan_search::plain_least;
+use plan_space::{Enforcer, NodeKind};
+use plan_tree::{Found, Plan};
+use query_core::{KeyParts, Physical, PhysicalExpr, Query};
+use request_props::Props;
+use std::alloc::Global;
+use std::test::Fail;
+use worked_queries::{
+    cross_product, grouped, hashed_alike, huge_tables, large_and_small, sorted_table, two_tables,
+    without_a_plan,
+};
+
+// What the node at the root of a plan does.
+fn root_of(plan: &Plan) -> Option<NodeKind> {
+    match plan {
+        Plan::Leaf(node) => node.kind(),
+        Plan::Over(node, _) => node.kind(),
+        Plan::Two(node, _, _) => node.kind(),
+    }
+}
+
+// The two tables joined by a loop, rows of the left one outside, on one segment.
+fn loop_of(left: u32, right: u32) -> NodeKind {
+    NodeKind::Native(
+        PhysicalExpr::new(
+            KeyParts::Join(3),
+            Physical::LoopJoin(KeyParts::Get(left), KeyParts::Get(right)),
+        ),
+        0,
+    )
+}
+
+fn nodes_of(plan: &Plan) -> u64 {
+    match plan {
+        Plan::Leaf(_) => 1,
+        Plan::Over(_, kid) => nodes_of(kid).saturating_add(1),
+        Plan::Two(_, left, right) => nodes_of(left)
+            .saturating_add(nodes_of(right))
+            .saturating_add(1),
+    }
+}
+
+// The first node over two plans, from the root on.
+fn join_of(plan: &Plan) -> Option<NodeKind> {
+    match plan {
+        Plan::Leaf(_) => None,
+        Plan::Over(_, kid) => join_of(kid),
+        Plan::Two(node, _, _) => node.kind(),
+    }
+}
+
+// The cost of the least plan, its root, and how many nodes it has.
+fn least_of(alloc: Global, query: &Query) -> Result<Option<(u64, Option<NodeKind>, u64)>, Fail> {
+    let props = Props::collect(alloc, query)?;
+    match plain_least(alloc, query, &props)? {
+        Found::Least { plan, cost } => Ok(Some((cost, root_of(&plan), nodes_of(&plan)))),
+        Found::NoPlan => Ok(None),
+    }
+}
+
+#[test]
+fn one_side_is_redistributed_and_sorted_segments_are_merged(rt: HostRuntime) -> Result<(), Fail> {
+    let alloc = rt.alloc();
+    let query = two_tables(alloc)?;
+    assert_eq!(rt;
+        least_of(alloc, &query)?,
+        Some((7506, Some(NodeKind::Enforcer(Enforcer::GatherMerge(1))), 6))
+    );
+    Ok(())
+}
+
+#[test]
+fn tables_that_are_hashed_alike_are_joined_where_they_lie(rt: HostRuntime) -> Result<(), Fail> {
+    let alloc = rt.alloc();
+    let query = hashed_alike(alloc)?;
+    assert_eq!(rt;
+        least_of(alloc, &query)?,
+        Some((3504, Some(NodeKind::Enforcer(Enforcer::Gather)), 4))
+    );
+    Ok(())
+}
+
+#[test]
+fn small_tables_without_a_predicate_are_joined_on_one_segment(rt: HostRuntime) -> Result<(), Fail> {
+    let alloc = rt.alloc();
+    let query = cross_product(alloc)?;
+    assert_eq!(rt;
+        least_of(alloc, &query)?,
+        Some((1253, Some(loop_of(0, 1)), 5))
+    );
+    Ok(())
+}
+
+#[test]
+fn a_small_table_is_broadcast_to_a_large_one(rt: HostRuntime) -> Result<(), Fail> {
+    let alloc = rt.alloc();
+    let query = large_and_small(alloc)?;
+    assert_eq!(rt;
+        least_of(alloc, &query)?,
+        Some((52_318, Some(NodeKind::Enforcer(Enforcer::Gather)), 5))
+    );
+    Ok(())
+}
+
+#[test]
+fn the_cost_of_a_huge_join_is_capped(rt: HostRuntime) -> Result<(), Fail> {
+    let alloc = rt.alloc();
+    let query = huge_tables(alloc)?;
+    assert_eq!(rt;
+        least_of(alloc, &query)?,
+        Some((1_004_500_000_000_004, Some(loop_of(0, 1)), 5))
+    );
+    Ok(())
+}
+
+#[test]
+fn one_table_is_sorted_on_its_segments_and_merged(rt: HostRuntime) -> Result<(), Fail> {
+    let alloc = rt.alloc();
+    let query = sorted_table(alloc)?;
+    assert_eq!(rt;
+        least_of(alloc, &query)?,
+        Some((5253, Some(NodeKind::Enforcer(Enforcer::GatherMerge(1))), 3))
+    );
+    Ok(())
+}
+
+// Each segment groups its own rows, and these groups go where the hash of b says.
+#[test]
+fn groups_are_made_in_two_steps_on_the_segments(rt: HostRuntime) -> Result<(), Fail> {
+    let alloc = rt.alloc();
+    let query = grouped(alloc)?;
+    assert_eq!(rt;
+        least_of(alloc, &query)?,
+        Some((855, Some(NodeKind::Enforcer(Enforcer::GatherMerge(1))), 6))
+    );
+    Ok(())
+}
+
+#[test]
+fn there_is_no_plan_where_no_rule_makes_a_join(rt: HostRuntime) -> Result<(), Fail> {
+    let alloc = rt.alloc();
+    let query = without_a_plan(alloc)?;
+    assert_eq!(rt; least_of(alloc, &query)?, None);
+    Ok(())
+}
+
+// With the second table on the left the join costs as much. Its code comes later, since the key of that table is the
+// greater one.
+#[test]
+fn of_plans_of_one_cost_the_first_by_code_is_least(rt: HostRuntime) -> Result<(), Fail> {
+    let alloc = rt.alloc();
+    let query = two_tables(alloc)?;
+    let props = Props::collect(alloc, &query)?;
+    let found = plain_least(alloc, &query, &props)?;
+    let hashed_alike = NodeKind::Native(
+        PhysicalExpr::new(
+            KeyParts::Join(3),
+            Physical::HashJoin(KeyParts::Get(0), KeyParts::Get(1)),
+        ),
+        128,
+    );
+    assert!(rt;
+        matches!(&found, Found::Least { plan, cost: 7506 } if join_of(plan) == Some(hashed_alike))
+    );
+    Ok(())
+}

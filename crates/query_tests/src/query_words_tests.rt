@@ -1,0 +1,361 @@
+//! The running example of two tables, one of three, and one of a table with indexes.
+
+ghost use Rattle.std.specs.Prelude.{◌≡◌, IfOk};
+ghost use Rattle.query_core.specs.Keys.{IsKey};
+
+use orca_base::{List, Text};
+use query_core::*;
+use std::alloc::{AllocError, Global};
+use std::test::Fail;
+
+fn text(alloc: Global, part: &str) -> Result<Text, AllocError>
+    ensures { IfOk result (λ made. made ≡ part.now) }
+{
+    Ok(Text::of(String::from_str(alloc, part)?))
+}
+
+// `SELECT T1.a FROM T1, T2 WHERE T1.a = T2.b ORDER BY T1.a`
+fn two_tables(alloc: Global) -> Result<Query, AllocError> {
+    let tables = vec![in alloc;
+        QueryTable {
+            alias: text(alloc, "T1")?,
+            rows: 1000,
+            hashed: None,
+            indexes: List::new(alloc)
+        },
+        QueryTable {
+            alias: text(alloc, "T2")?,
+            rows: 1000,
+            hashed: None,
+            indexes: List::new(alloc)
+        },
+    ]?;
+    let items = vec![in alloc;
+        Item {
+            table: 0,
+            name: text(alloc, "a")?,
+            ndv: 1000
+        },
+        Item {
+            table: 1,
+            name: text(alloc, "b")?,
+            ndv: 500
+        },
+    ]?;
+    let preds = vec![in alloc;
+        Pred {
+            left: 0,
+            op: CmpOp::Eq,
+            right: Operand::Item(1)
+        },
+    ]?;
+    let links = links_of(alloc, &tables, &items, &preds)?;
+    Ok(Query {
+        segments: 4,
+        tables: List::of(tables),
+        items: List::of(items),
+        preds: List::of(preds),
+        links,
+        grouped: false,
+        group_by: List::new(alloc),
+        aggs: List::new(alloc),
+        output: List::of(vec![in alloc;
+            OutItem {
+                item: 0,
+                name: None
+            },
+        ]?),
+        order: List::of(vec![in alloc;
+            OrderKey {
+                item: 0,
+                desc: false
+            },
+        ]?),
+        options: Options {
+            root: RootDist::One,
+            off: 0,
+        },
+    })
+}
+
+#[test]
+fn two_tables_have_their_groups(rt: HostRuntime) -> Result<(), Fail> {
+    let query = two_tables(rt.alloc())?;
+    assert_eq!(rt; query.links.len(), 1);
+    for number in [0, 1, 1027] {
+        assert!(rt; query.is_key(Key(number)));
+    }
+    for number in [
+        2,
+        9,
+        10,
+        16,
+        17,
+        1024,
+        1025,
+        1026,
+        1028,
+        2047,
+        2048,
+        2049,
+        4_000_000_000,
+    ] {
+        assert!(rt; !query.is_key(Key(number)));
+    }
+    assert_eq!(rt; query.root(), Key(1027));
+    Ok(())
+}
+
+// `SELECT T.a FROM T, U, V WHERE U.x < 5 AND U.x = V.y`
+fn three_tables(alloc: Global) -> Result<Query, AllocError> {
+    let tables = vec![in alloc;
+        QueryTable {
+            alias: text(alloc, "T")?,
+            rows: 10,
+            hashed: None,
+            indexes: List::new(alloc)
+        },
+        QueryTable {
+            alias: text(alloc, "U")?,
+            rows: 10,
+            hashed: None,
+            indexes: List::new(alloc)
+        },
+        QueryTable {
+            alias: text(alloc, "V")?,
+            rows: 10,
+            hashed: None,
+            indexes: List::new(alloc)
+        },
+    ]?;
+    let items = vec![in alloc;
+        Item {
+            table: 0,
+            name: text(alloc, "a")?,
+            ndv: 10
+        },
+        Item {
+            table: 1,
+            name: text(alloc, "x")?,
+            ndv: 10
+        },
+        Item {
+            table: 2,
+            name: text(alloc, "y")?,
+            ndv: 10
+        },
+    ]?;
+    let preds = vec![in alloc;
+        Pred {
+            left: 1,
+            op: CmpOp::Lt,
+            right: Operand::Int(5)
+        },
+        Pred {
+            left: 1,
+            op: CmpOp::Eq,
+            right: Operand::Item(2)
+        },
+    ]?;
+    let links = links_of(alloc, &tables, &items, &preds)?;
+    Ok(Query {
+        segments: 4,
+        tables: List::of(tables),
+        items: List::of(items),
+        preds: List::of(preds),
+        links,
+        grouped: false,
+        group_by: List::new(alloc),
+        aggs: List::new(alloc),
+        output: List::of(vec![in alloc;
+            OutItem {
+                item: 0,
+                name: None
+            },
+        ]?),
+        order: List::new(alloc),
+        options: Options {
+            root: RootDist::One,
+            off: 0,
+        },
+    })
+}
+
+// The second and the third table are linked by a predicate, and the first and the second by a TRUE link.
+#[test]
+fn a_true_link_joins_what_no_predicate_does(rt: HostRuntime) -> Result<(), Fail> {
+    let query = three_tables(rt.alloc())?;
+    assert_eq!(rt; query.links.len(), 2);
+    assert!(rt; query.linked(1, 2));
+    assert!(rt; query.linked(2, 4));
+    assert!(rt; !query.linked(1, 4));
+    assert!(rt; query.connected(0));
+    assert!(rt; query.connected(7));
+    assert!(rt; !query.connected(5));
+    assert!(rt; query.is_key(Key(17)));
+    assert!(rt; !query.is_key(Key(18)));
+    assert!(rt; query.has_item(Key(17), 1));
+    assert!(rt; !query.has_item(Key(17), 2));
+    assert!(rt; !query.has_item(Key(17), 3));
+    Ok(())
+}
+
+// `SELECT T.a FROM T`, with an index on a and one on b and a
+fn one_table(alloc: Global) -> Result<Query, AllocError> {
+    let indexes = vec![in alloc;
+        List::of(vec![in alloc; 0]?),
+        List::of(vec![in alloc; 1, 0]?),
+    ]?;
+    let tables = vec![in alloc;
+        QueryTable {
+            alias: text(alloc, "T")?,
+            rows: 10,
+            hashed: None,
+            indexes: List::of(indexes)
+        },
+    ]?;
+    let items = vec![in alloc;
+        Item {
+            table: 0,
+            name: text(alloc, "a")?,
+            ndv: 10
+        },
+        Item {
+            table: 0,
+            name: text(alloc, "b")?,
+            ndv: 10
+        },
+    ]?;
+    let preds = Vec::new(alloc);
+    let links = links_of(alloc, &tables, &items, &preds)?;
+    Ok(Query {
+        segments: 4,
+        tables: List::of(tables),
+        items: List::of(items),
+        preds: List::of(preds),
+        links,
+        grouped: false,
+        group_by: List::new(alloc),
+        aggs: List::new(alloc),
+        output: List::of(vec![in alloc;
+            OutItem {
+                item: 0,
+                name: None
+            },
+        ]?),
+        order: List::new(alloc),
+        options: Options {
+            root: RootDist::One,
+            off: 0,
+        },
+    })
+}
+
+#[test]
+fn an_expression_is_one_word(rt: HostRuntime) -> Result<(), Fail> {
+    let operator = Physical::HashJoin(KeyParts::Get(0), KeyParts::Get(1));
+    let parts = ExprParts::physical(KeyParts::Join(3), operator);
+    let word = Expr(70_594_229_968_898);
+    assert_eq!(rt; Expr::make(parts), word);
+    assert_eq!(rt; word.parts(), Some(parts));
+    assert_eq!(rt; word.key(), Key(1027));
+    assert!(rt; !word.logical());
+    assert_eq!(rt; word.children(), (Some(Key(0)), Some(Key(1))));
+    assert_eq!(rt; Expr(3).parts(), None);
+    Ok(())
+}
+
+// Whether these are the words of the expressions that the group can hold, in their order.
+fn has_words(query: &Query, key: Key, words: &[u64]) -> bool
+    requires { IsKey query.now key }
+{
+    let mut after = None;
+    for word in words {
+        let next = query.next_candidate(key, after);
+        if next != Some(Expr(*word)) {
+            return false;
+        }
+        after = next;
+    }
+    query.next_candidate(key, after).is_none()
+}
+
+// A word has the key from bit 36 on, the operator from bit 31, the index from bit 26, and the children.
+#[test]
+fn a_group_holds_its_candidates(rt: HostRuntime) -> Result<(), Fail> {
+    let query = two_tables(rt.alloc())?;
+    let joins = [
+        0x403380000000,
+        0x403400002002,
+        0x403400004001,
+        0x403480002002,
+        0x403480004001,
+        0x403500002002,
+        0x403500004001,
+        0x403580002002,
+        0x403580004001,
+    ];
+    assert_eq!(rt; query.origin(query.root()), Expr(0x403380000000));
+    assert!(rt; has_words(&query, query.root(), &joins));
+    assert!(rt; query.is_key(Key(1)));
+    assert!(rt; has_words(&query, Key(1), &[0x1080000000, 0x1100000000]));
+    let read = [0x80000000, 0x100000000, 0x180000000, 0x184000000];
+    let indexed = one_table(rt.alloc())?;
+    assert!(rt; has_words(&indexed, indexed.root(), &read));
+    Ok(())
+}
+
+#[test]
+fn candidates_are_told_by_their_words(rt: HostRuntime) -> Result<(), Fail> {
+    let query = two_tables(rt.alloc())?;
+    for word in [0x80000000, 0x1100000000, 0x403380000000, 0x403580004001] {
+        assert!(rt; query.is_candidate(Expr(word)));
+    }
+    // An index that isn't there, a join of a table with itself, a group that isn't there, and no word.
+    for word in [0x180000000, 0x403400002001, 0x202100000, 0x403400002000] {
+        assert!(rt; !query.is_candidate(Expr(word)));
+    }
+    assert_eq!(rt; Key(1027).first_word(), 0x403000000000);
+    Ok(())
+}
+
+#[test]
+fn equalities_cross_groups_both_ways(rt: HostRuntime) -> Result<(), Fail> {
+    let query = two_tables(rt.alloc())?;
+    assert!(rt; query.is_key(Key(0)));
+    assert!(rt; query.is_key(Key(1)));
+    assert_eq!(rt; query.crossing(Key(0), Key(1), 0), Some((0, 1)));
+    assert_eq!(rt; query.crossing(Key(1), Key(0), 0), Some((1, 0)));
+    assert_eq!(rt; query.crossing(Key(0), Key(0), 0), None);
+    let query = three_tables(rt.alloc())?;
+    let (filtered, last) = (KeyParts::Filter(1), KeyParts::Get(2));
+    assert_eq!(rt; query.crossing_groups(filtered, last, 0), None);
+    assert_eq!(rt; query.crossing_groups(filtered, last, 1), Some((1, 2)));
+    assert_eq!(rt; query.crossing_groups(filtered, last, 2), None);
+    Ok(())
+}
+
+// The kind from bit 60 on, the subject from bit 12 on, then the rule's number or the request's code.
+#[test]
+fn goals_are_told_by_their_words(rt: HostRuntime) -> Result<(), Fail> {
+    let root = GoalParts::Opt(Key(1027), 1);
+    assert_eq!(rt; Goal::make(root), Goal(14987979559893217281));
+    assert_eq!(rt; Goal(14987979559893217281).parts(), Some(root));
+    let commute = GoalParts::Xf(Expr(0x403400002002), 2);
+    assert_eq!(rt; Goal::make(commute), Goal(0xa403400002002002));
+    assert_eq!(rt; Goal(0xa403400002002002).parts(), Some(commute));
+    let no_request = GoalParts::Opt(Key(1027), 61);
+    assert_eq!(rt; Goal(0xd00000000040303d).parts(), Some(no_request));
+    // A rule 15 and a rule 0, a kind 7, a subject that is no key, a detail where none belongs, and no goal's first bit.
+    for word in [
+        0xa40340000200200f,
+        0xa403400002002000,
+        0xf000000000000000,
+        0x8000000001000000,
+        0x8000000000001001,
+        1,
+    ] {
+        assert!(rt; Goal(word).parts().is_none());
+    }
+    Ok(())
+}

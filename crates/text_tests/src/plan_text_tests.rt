@@ -1,0 +1,204 @@
+//! Texts of plans that were made by hand.
+
+ghost use Rattle.std.specs.Prelude.{◌<◌};
+ghost use Rattle.plan_tree.specs.Nodes.{EnforcerInRange, NativeInRange};
+
+use plan_report::plan_text;
+use plan_space::{Enforcer, NodeKind};
+use plan_tree::{Found, Node, Plan};
+use query_core::{KeyParts, Physical, PhysicalExpr, Query};
+use request_props::Props;
+use std::alloc::{AllocError, Global};
+use std::test::Fail;
+use worked_queries::{totals, two_tables_descending};
+
+fn native(group: KeyParts, operator: Physical, mode: u32) -> Node
+    requires { NativeInRange (record { group = group; operator = operator }) mode }
+{
+    Node::make(NodeKind::Native(PhysicalExpr::new(group, operator), mode))
+}
+
+fn enforcer(kind: Enforcer) -> Node
+    requires { EnforcerInRange kind }
+{
+    Node::make(NodeKind::Enforcer(kind))
+}
+
+fn scan(table: u32) -> Node
+    requires { table < 10 }
+{
+    native(KeyParts::Get(table), Physical::Scan, 0)
+}
+
+fn hash_join(mode: u32) -> Node
+    requires { mode < 256 }
+{
+    let operator = Physical::HashJoin(KeyParts::Get(0), KeyParts::Get(1));
+    native(KeyParts::Join(3), operator, mode)
+}
+
+fn merge_join(mode: u32) -> Node
+    requires { mode < 256 }
+{
+    let operator = Physical::MergeJoin(KeyParts::Get(0), KeyParts::Get(1));
+    native(KeyParts::Join(3), operator, mode)
+}
+
+fn hash_agg(mode: u32) -> Node
+    requires { mode < 256 }
+{
+    native(KeyParts::Agg, Physical::HashAgg(KeyParts::Filter(0)), mode)
+}
+
+fn stream_agg(mode: u32) -> Node
+    requires { mode < 256 }
+{
+    native(
+        KeyParts::Agg,
+        Physical::StreamAgg(KeyParts::Filter(0)),
+        mode,
+    )
+}
+
+// The rows of T1 where they lie, those of T2 moved to where the hash of T2.b says, and their join,
+// sorted on each segment and then merged.
+fn two_table_plan(alloc: Global) -> Result<Plan, AllocError> {
+    let moved = Plan::Over(
+        enforcer(Enforcer::Redistribute(2)),
+        Box::new(alloc, Plan::Leaf(scan(1)))?,
+    );
+    let joined = Plan::Two(
+        hash_join(128),
+        Box::new(alloc, Plan::Leaf(scan(0)))?,
+        Box::new(alloc, moved)?,
+    );
+    let sorted = Plan::Over(enforcer(Enforcer::Sort(2)), Box::new(alloc, joined)?);
+    Ok(Plan::Over(enforcer(Enforcer::GatherMerge(2)), Box::new(alloc, sorted)?))
+}
+
+// Whether the text of what was found begins so; not where the query's lists are too many.
+fn begins(alloc: Global, query: &Query, found: &Found, wanted: &str) -> Result<bool, AllocError> {
+    match Props::collect(alloc, query) {
+        Ok(props) => {
+            let text = plan_text(alloc, query, &props, found)?;
+            Ok(text.starts_with(wanted.as_bytes()))
+        }
+        Err(_) => Ok(false),
+    }
+}
+
+// Whether the text of a plan of this node alone has such a line behind the two first ones.
+fn is_line_of(
+    alloc: Global,
+    query: &Query,
+    node: Node,
+    head: &str,
+    line: &str,
+) -> Result<bool, AllocError> {
+    let found = Found::Least {
+        plan: Plan::Leaf(node),
+        cost: 1,
+    };
+    let wanted = format!(in alloc; "cost 1\n{head}{line}")?;
+    begins(alloc, query, &found, &wanted)
+}
+
+#[test]
+fn a_plan_is_printed_a_node_a_line(rt: HostRuntime) -> Result<(), Fail> {
+    let alloc = rt.alloc();
+    let query = two_tables_descending(alloc)?;
+    let found = Found::Least {
+        plan: two_table_plan(alloc)?,
+        cost: 7506,
+    };
+    match Props::collect(alloc, &query) {
+        Ok(props) => {
+            let text = plan_text(alloc, &query, &props, &found)?;
+            let expected =
+                "cost 7506\noutput T1.a, T2.b AS c\nGatherMerge(T1.a DESC) rows=1000 cost=3001\n  \
+                Sort(T1.a DESC) rows=1000 cost=2001\n    HashJoin(colocated p0) rows=1000 cost=1001\n      \
+                Scan(T1) rows=1000 cost=251\n      Redistribute(T2.b) rows=1000 cost=1001\n        \
+                Scan(T2) rows=1000 cost=251\n";
+            assert_eq!(rt; text.as_slice(), expected.as_bytes());
+        }
+        Err(_) => assert!(rt; false),
+    }
+    Ok(())
+}
+
+#[test]
+fn a_node_is_printed_with_its_mode(rt: HostRuntime) -> Result<(), Fail> {
+    let alloc = rt.alloc();
+    let query = two_tables_descending(alloc)?;
+    let index_scan = native(KeyParts::Get(1), Physical::IndexScan(0), 0);
+    let cases = [
+        (hash_join(0), "HashJoin(one) rows=1000 "),
+        (hash_join(64), "HashJoin(copied) rows=1000 "),
+        (merge_join(0), "MergeJoin(one p0) rows=1000 "),
+        (merge_join(64), "MergeJoin(copied p0) rows=1000 "),
+        (merge_join(128), "MergeJoin(colocated p0) rows=1000 "),
+        (index_scan, "IndexScan(T2, i0) rows=1000 cost=501\n"),
+    ];
+    for (node, line) in cases {
+        let printed = is_line_of(alloc, &query, node, "output T1.a, T2.b AS c\n", line)?;
+        assert!(rt; printed, "{line}");
+    }
+    Ok(())
+}
+
+#[test]
+fn no_plan_is_one_line(rt: HostRuntime) -> Result<(), Fail> {
+    let alloc = rt.alloc();
+    let query = two_tables_descending(alloc)?;
+    match Props::collect(alloc, &query) {
+        Ok(props) => {
+            let text = plan_text(alloc, &query, &props, &Found::NoPlan)?;
+            assert_eq!(rt; text.as_slice(), "no plan\n".as_bytes());
+        }
+        Err(_) => assert!(rt; false),
+    }
+    Ok(())
+}
+
+#[test]
+fn an_order_names_an_aggregate_by_its_output_name(rt: HostRuntime) -> Result<(), Fail> {
+    let alloc = rt.alloc();
+    let query = totals(alloc)?;
+    let found = Found::Least {
+        plan: Plan::Over(
+            enforcer(Enforcer::Sort(2)),
+            Box::new(alloc, Plan::Leaf(scan(0)))?,
+        ),
+        cost: 1,
+    };
+    let wanted =
+        "cost 1\noutput COUNT(*), SUM(t.a) AS total, t.b\nSort(total DESC, t.b) rows=1000 cost=2001\n";
+    assert!(rt; begins(alloc, &query, &found, wanted)?);
+    Ok(())
+}
+
+#[test]
+fn an_aggregation_is_printed_with_where_it_groups(rt: HostRuntime) -> Result<(), Fail> {
+    let alloc = rt.alloc();
+    let query = totals(alloc)?;
+    let index_seek = native(KeyParts::Filter(0), Physical::IndexSeek(0), 0);
+    let partial_agg = native(
+        KeyParts::Partial,
+        Physical::PartialAgg(KeyParts::Filter(0)),
+        0,
+    );
+    let cases = [
+        (index_seek, "IndexSeek(t, i0) rows=100 cost=76\n"),
+        (hash_agg(0), "HashAgg(one) rows=10 "),
+        (hash_agg(128), "HashAgg(hashed t.a) rows=10 "),
+        (hash_agg(129), "HashAgg(hashed t.b) rows=10 "),
+        (stream_agg(0), "StreamAgg(one) rows=10 "),
+        (stream_agg(129), "StreamAgg(hashed t.b) rows=10 "),
+        (partial_agg, "PartialAgg rows=40 "),
+    ];
+    let head = "output COUNT(*), SUM(t.a) AS total, t.b\n";
+    for (node, line) in cases {
+        assert!(rt; is_line_of(alloc, &query, node, head, line)?, "{line}");
+    }
+    Ok(())
+}
