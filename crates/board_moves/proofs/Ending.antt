@@ -7,7 +7,7 @@ use Rattle.goal_board.specs.Calls.{FinishesGoal}
 use Rattle.board_moves.specs.declared.progress.Progress.{Progress}
 use Rattle.board_moves.specs.declared.progress.Progress.TheVariants as progress
 use Rattle.board_moves.specs.declared.progress.Turned.{Turned}
-use Rattle.board_moves.specs.Turns.{IsReady, GivesUp, Ends, Works, Turns}
+use Rattle.board_moves.specs.Turns.{IsReady, GivesUp, EndsTurn, Works, Turns}
 
 module _ {R : Type 0} (meaning : Meaning) (room : ℕ) (Adds : ℕ → Type 0) (v : Hands R) (before : Right) where
   -- a goal that is complete may be finished
@@ -17,7 +17,7 @@ module _ {R : Type 0} (meaning : Meaning) (room : ℕ) (Adds : ℕ → Type 0) (
   ready_after progress.Full w after works = tt
 
   -- the work, and then the end
-  pub turns_end : (worker : ℕ) (came : Progress) (u : Hands R) (after : Right) (turned : Turned) (w : Hands R) → Works meaning room Adds v before came u after → Ends room u after.place worker came turned w → Turns room Adds v before worker turned w
+  pub turns_end : (worker : ℕ) (came : Progress) (u : Hands R) (after : Right) (turned : Turned) (w : Hands R) → Works meaning room Adds v before came u after → EndsTurn room u after.place worker came turned w → Turns room Adds v before worker turned w
   turns_end worker (progress.Complete answer) u after turned w works ends =
       subst (λ t. Turns room Adds v before worker t w) (sym ends.1) (record {
         middle = u;

@@ -10,7 +10,7 @@ use Rattle.board_moves.specs.declared.progress.Turned.{Turned}
 use Rattle.board_moves.specs.declared.settled.Seen.{Seen}
 use Rattle.board_moves.specs.declared.settled.Settled.{Settled}
 use Rattle.board_moves.specs.Moves.{Awaits}
-use Rattle.board_moves.specs.Turns.{IsReady, Ends}
+use Rattle.board_moves.specs.Turns.{IsReady, EndsTurn}
 use Rattle.board_moves.specs.Collects.{Settles}
 use Rattle.board_moves.specs.Passes.{SeesGoal, Sees, CountsAgain, Collects, AwaitsFound}
 
@@ -31,7 +31,7 @@ module _ {R : Type 0} (meaning_of : R → Meaning) (b : Board R) (s : Seat R) wh
 
   -- a goal that is complete was finished, and another was suspended
   abbrev pub SeatEnds : (place worker : ℕ) → Progress → Turned → Seat R → Type 0
-  SeatEnds place worker progress turned t = Ends b.key.room (hands s) place worker progress turned (hands t)
+  SeatEnds place worker progress turned t = EndsTurn b.key.room (hands s) place worker progress turned (hands t)
 
   -- whether the goal is finished
   abbrev pub SeatSeesGoal : (goal : ℕ) → Seen → Seat R → Type 0

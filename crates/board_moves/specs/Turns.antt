@@ -25,10 +25,10 @@ GivesUp v place w = (answer : Suspended) × SuspendsGoal v place answer w
 
 module _ {R : Type 0} (room : ℕ) (v : Hands R) (place worker : ℕ) where
   -- a goal that is complete was finished, and another was suspended
-  abbrev pub Ends : Progress → Turned → Hands R → Type 0
-  Ends (progress.Complete answer) result w = (woken : Woken) × (result ≡ turned.Finished woken) × FinishesGoal room v place worker answer.cost answer.node woken w
-  Ends progress.Waiting result w = (result ≡ turned.Suspended) × GivesUp v place w
-  Ends progress.Full result w = (result ≡ turned.Full) × GivesUp v place w
+  abbrev pub EndsTurn : Progress → Turned → Hands R → Type 0
+  EndsTurn (progress.Complete answer) result w = (woken : Woken) × (result ≡ turned.Finished woken) × FinishesGoal room v place worker answer.cost answer.node woken w
+  EndsTurn progress.Waiting result w = (result ≡ turned.Suspended) × GivesUp v place w
+  EndsTurn progress.Full result w = (result ≡ turned.Full) × GivesUp v place w
 
 module _ {R : Type 0} (meaning : Meaning) (room : ℕ) (Adds : ℕ → Type 0) (v : Hands R) (before : Right) where
   -- what a turn has come to before it ends: the goal may be finished, or its right has a wait, or an entry found no cell

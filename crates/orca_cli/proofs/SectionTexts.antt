@@ -11,7 +11,7 @@ use Rattle.command_line.specs.declared.choices.Choices.{Choices}
 use Rattle.command_line.specs.declared.command.GenInput.{GenInput}
 use Rattle.orca_cli.specs.Asked.{IsWithinLimits}
 use Rattle.orca_cli.specs.Laws.{by, AreLines, SameTexts}
-use Rattle.orca_cli.specs.Sections.{IsMemoText, IsTrace, IsMemoLine, IsTraceLine, IsSectionText, IsWhere, GoesOn, first_line, gen_line, HasFirstLines}
+use Rattle.orca_cli.specs.Sections.{IsMemo, IsTrace, StartsMemo, StartsTrace, IsSectionText, IsWhere, GoesOn, first_line, gen_line, HasFirstLines}
 use Rattle.orca_cli.specs.declared.sections.Section.{Section}
 use Rattle.orca_cli.specs.declared.sections.Section.TheVariants as sections
 
@@ -25,7 +25,7 @@ pub record OneSections : Type 0 where
   pub trace_line : (q : Query) (goals line other : List ℕ) → IsWithinLimits q → traces.IsTraceLine q goals line → traces.IsTraceLine q goals other → line ≡ other
 
 -- a query has one memo's text
-pub memo_one : OneSections → (q : Query) (text other : List ℕ) → IsMemoText q text → IsMemoText q other → text ≡ other
+pub memo_one : OneSections → (q : Query) (text other : List ℕ) → IsMemo q text → IsMemo q other → text ≡ other
 memo_one one q text other is again =
     let words : is.words ≡ again.words = one.closure q is.words again.words is.closure again.closure in
     one.memo q is.words text other is.is_text (subst (λ ws. memos.IsMemoText q ws other) (sym words) again.is_text)
@@ -87,13 +87,13 @@ same_texts choices workers more text other same = record {
 }
 
 -- a query has one first line of the memo
-memo_line_one : OneSections → (q : Query) (line other : List ℕ) → IsMemoLine q line → IsMemoLine q other → line ≡ other
+memo_line_one : OneSections → (q : Query) (line other : List ℕ) → StartsMemo q line → StartsMemo q other → line ≡ other
 memo_line_one one q line other is again =
     let words : is.words ≡ again.words = one.closure q is.words again.words is.closure again.closure in
     one.memo_line q is.words line other is.is_line (subst (λ ws. memos.IsMemoLine q ws other) (sym words) again.is_line)
 
 -- and one of the trace
-trace_line_one : OneSections → (q : Query) (line other : List ℕ) → IsWithinLimits q → IsTraceLine q line → IsTraceLine q other → line ≡ other
+trace_line_one : OneSections → (q : Query) (line other : List ℕ) → IsWithinLimits q → StartsTrace q line → StartsTrace q other → line ≡ other
 trace_line_one one q line other within is again =
     let goals : is.goals ≡ again.goals = one.goals q is.goals again.goals is.all_goals again.all_goals in
     one.trace_line q is.goals line other within is.is_line (subst (λ gs. traces.IsTraceLine q gs other) (sym goals) again.is_line)

@@ -13,7 +13,7 @@ use Rattle.orca_cli.specs.declared.sections.Section.{Section}
 use Rattle.orca_cli.specs.declared.sections.Section.TheVariants as sections
 
 -- the text is that of the memo, whose members are the closure under the rules
-pub record IsMemoText (query : Query) (text : List ℕ) : Type 0 where
+pub record IsMemo (query : Query) (text : List ℕ) : Type 0 where
   pub words : List ℕ
   pub closure : IsClosureOf query words
   pub is_text : memos.IsMemoText query words text
@@ -36,13 +36,13 @@ pub record IsByWorker (query : Query) (workers : ℕ) (text : List ℕ) : Type 0
   pub is_text : IsCrewText query goals who text
 
 -- the line is the first one of the memo's text
-pub record IsMemoLine (query : Query) (line : List ℕ) : Type 0 where
+pub record StartsMemo (query : Query) (line : List ℕ) : Type 0 where
   pub words : List ℕ
   pub closure : IsClosureOf query words
   pub is_line : memos.IsMemoLine query words line
 
 -- the line is the first one of the trace
-pub record IsTraceLine (query : Query) (line : List ℕ) : Type 0 where
+pub record StartsTrace (query : Query) (line : List ℕ) : Type 0 where
   pub goals : List ℕ
   pub all_goals : AreGoalsOf query goals
   pub is_line : traces.IsTraceLine query goals line
@@ -61,7 +61,7 @@ is_asked choices sections.ByWorker = choices.by_worker
 
 -- the text is the section's
 abbrev pub IsSectionText : Choices → Query → Section → List ℕ → Type 0
-IsSectionText choices query sections.Memo text = IsMemoText query text
+IsSectionText choices query sections.Memo text = IsMemo query text
 IsSectionText choices query sections.Trace text = IsTrace query text
 IsSectionText choices query sections.ByWorker text = IsByWorker query choices.workers text
 
@@ -103,9 +103,9 @@ gen_line input = gen_words input.number input.tables (shape_word input.shape)
 -- the text has the line of what was generated, and the first lines of the plan, of the memo and of the trace
 pub record HasFirstLines (input : GenInput) (query : Query) (plan text : List ℕ) : Type 0 where
   pub memo : List ℕ
-  pub is_memo : IsMemoLine query memo
+  pub is_memo : StartsMemo query memo
   pub trace : List ℕ
-  pub is_trace : IsTraceLine query trace
+  pub is_trace : StartsTrace query trace
   pub lines : text ≡ gen_line input ++ first_line plan ++ memo ++ trace
 
 -- ---- what is printed of a search

@@ -1,7 +1,7 @@
 //! The sections that may stand behind the plan.
 ghost use Rattle.std.specs.Prelude.{◌≡◌, ◌++◌, IfOk};
 ghost use Rattle.orca_cli.specs.Searches.{IsSearch};
-ghost use Rattle.orca_cli.specs.Sections.{GoesOn, IsBehind, IsByWorker, IsMemoLine, IsMemoText, IsSectionText, IsTrace, IsTraceLine, is_asked as is_asked_by};
+ghost use Rattle.orca_cli.specs.Sections.{GoesOn, IsBehind, IsByWorker, StartsMemo, IsMemo, IsSectionText, IsTrace, StartsTrace, is_asked as is_asked_by};
 ghost use Rattle.orca_cli.specs.Views.{text_of};
 
 use crate::ending::Ending;
@@ -95,7 +95,7 @@ impl Section {
 // The bytes of the memo's text.
 fn memo_section(alloc: Global, choices: Choices, search: Search<'_>) -> Result<Vec<u8>, AllocError>
     requires { IsSearch search choices.workers }
-    ensures { IfOk result (λ text. IsMemoText search.entry.query.now text.items) }
+    ensures { IfOk result (λ text. IsMemo search.entry.query.now text.items) }
 {
     // The words of members are those of expressions that groups can hold.
     members_are_known();
@@ -138,7 +138,7 @@ pub fn memo_first_line(
     search: Search<'_>,
 ) -> Result<Vec<u8>, AllocError>
     requires { IsSearch search choices.workers }
-    ensures { IfOk result (λ line. IsMemoLine search.entry.query.now line.items) }
+    ensures { IfOk result (λ line. StartsMemo search.entry.query.now line.items) }
 {
     // The words of members are those of expressions that groups can hold.
     members_are_known();
@@ -152,7 +152,7 @@ pub fn trace_first_line(
     search: Search<'_>,
 ) -> Result<Vec<u8>, AllocError>
     requires { IsSearch search choices.workers }
-    ensures { IfOk result (λ line. IsTraceLine search.entry.query.now line.items) }
+    ensures { IfOk result (λ line. StartsTrace search.entry.query.now line.items) }
 {
     // The words of goals are those of goals over the query.
     goal_lists_are_known();

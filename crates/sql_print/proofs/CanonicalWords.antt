@@ -6,7 +6,7 @@ use Rattle.sql_reader.specs.declared.tokens.Kind.TheVariants as kinds
 use Rattle.sql_reader.specs.declared.syntax.SelOp.{SelOp}
 use Rattle.sql_reader.specs.declared.syntax.SelOp.TheVariants as ops
 use Rattle.sql_reader.specs.Words.{word_of, symbol_of, long_symbol}
-use Rattle.sql_reader.specs.Pieces.{blank, name, sign, Ends}
+use Rattle.sql_reader.specs.Pieces.{blank, name, sign, EndsPiece}
 use Rattle.sql_print.specs.Canonical.{op_text}
 use Rattle.sql_print.proofs.CanonicalKinds.{op_mark, group_words, order_words}
 use Rattle.sql_print.proofs.Printed.{Safe, Any, Printed, marks_printed}
@@ -14,7 +14,7 @@ use Rattle.sql_print.proofs.Printed.{Safe, Any, Printed, marks_printed}
 -- ---- symbols that no byte makes longer
 
 pub short_ends : (c : ℕ) → ((b : ℕ) → is_some (long_symbol c b) ≡ false) → (rest : List ℕ)
-    → Ends (λ byte. is_some (symbol_of (c ∷ byte ∷ []))) rest
+    → EndsPiece (λ byte. is_some (symbol_of (c ∷ byte ∷ []))) rest
 short_ends c none [] = tt
 short_ends c none (b ∷ rest) = none b
 

@@ -9,7 +9,7 @@ use Rattle.sql_reader.specs.declared.tokens.Mark.{Mark}
 use Rattle.sql_reader.specs.declared.tokens.Kind.{Kind}
 use Rattle.sql_reader.specs.declared.tokens.Kind.TheVariants as kinds
 use Rattle.sql_reader.specs.declared.tokens.Token.{Token}
-use Rattle.sql_reader.specs.Pieces.{Piece, name, is_quote, spelling, Fits, Ends, Stands, Are}
+use Rattle.sql_reader.specs.Pieces.{Piece, name, is_quote, spelling, Fits, EndsPiece, Stands, Are}
 use Rattle.sql_reader.specs.Lexing.{named_kind, kind_of, called, is_open_mark, is_open, before, with_kind, tokens_of}
 use Rattle.sql_reader.proofs.Added.{called_open}
 use Rattle.sql_reader.specs.Spellable.{is_plain, IsSpellableName}
@@ -112,7 +112,7 @@ line_are (p ∷ ps) rest l = (
 
 -- no letter, digit, `_` or quote follows
 abbrev pub Safe : List ℕ → Type 0
-Safe rest = Ends continues_name rest × Ends is_quote rest
+Safe rest = EndsPiece continues_name rest × EndsPiece is_quote rest
 
 abbrev pub Any : List ℕ → Type 0
 Any rest = Unit {0}

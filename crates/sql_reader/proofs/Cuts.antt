@@ -8,7 +8,7 @@ use Rattle.std.proofs.lemmas.Bool.Decides.{nat_tests}
 use Rattle.std.proofs.lemmas.List.{take-append-drop}
 use Rattle.orca_base.specs.Name.{begins_name, continues_name, has_name_form}
 use Rattle.sql_reader.specs.Bytes.{is_digit}
-use Rattle.sql_reader.specs.Pieces.{comment, name, integer, in_comment, spelling, number_from, Ends, BeginsWith}
+use Rattle.sql_reader.specs.Pieces.{comment, name, integer, in_comment, spelling, number_from, EndsPiece, BeginsWith}
 use Rattle.sql_reader.specs.Cutting.{Cut, name_cut, begins_with, integer_cut, digits_cut, comment_cut, minus_cut}
 use Rattle.sql_reader.proofs.Scans.{front_passes, front_ends, taken_again, left_again}
 
@@ -44,7 +44,7 @@ form_continues [] h = refl
 form_continues (b ∷ text) h = let p = and_parts (begins_name b) (list_all continues_name text) h in
     rw (continues b p.0, p.1) refl
 
-pub name_again : (text rest : List ℕ) → has_name_form text ≡ true → Ends continues_name rest
+pub name_again : (text rest : List ℕ) → has_name_form text ≡ true → EndsPiece continues_name rest
     → name_cut (text ++ rest) ≡ Some (name text, rest)
 name_again text rest h e =
     let p = form_continues text h in
@@ -52,11 +52,11 @@ name_again text rest h e =
 
 -- ---- integers
 
-not_followed : (rest : List ℕ) → begins_with continues_name rest ≡ false → Ends continues_name rest
+not_followed : (rest : List ℕ) → begins_with continues_name rest ≡ false → EndsPiece continues_name rest
 not_followed [] h = tt
 not_followed (b ∷ rest) h = h
 
-followed : (rest : List ℕ) → Ends continues_name rest → begins_with continues_name rest ≡ false
+followed : (rest : List ℕ) → EndsPiece continues_name rest → begins_with continues_name rest ≡ false
 followed [] h = refl
 followed (b ∷ rest) h = h
 
@@ -97,11 +97,11 @@ digits_sound negative b bytes h =
     subst (λ (t : List ℕ). Sound (signed_text negative t) (digits_cut negative (b ∷ bytes)))
     (take-append-drop n (b ∷ bytes)) s
 
-integer_again : (negative : Bool) (digits rest : List ℕ) → number_from 0 digits < 2 ^ 63 → Ends continues_name rest
+integer_again : (negative : Bool) (digits rest : List ℕ) → number_from 0 digits < 2 ^ 63 → EndsPiece continues_name rest
     → integer_cut negative digits rest ≡ Some (integer negative digits, rest)
 integer_again negative digits rest h e = rw (lt-ltb _ _ h, followed rest e) refl
 
-ends_digits : (rest : List ℕ) → Ends continues_name rest → Ends is_digit rest
+ends_digits : (rest : List ℕ) → EndsPiece continues_name rest → EndsPiece is_digit rest
 ends_digits [] e = tt
 ends_digits (b ∷ rest) e = not_digit (is_digit b) refl
   where
@@ -110,7 +110,7 @@ ends_digits (b ∷ rest) e = not_digit (is_digit b) refl
     not_digit false h = refl
 
 pub digits_again : (negative : Bool) (digits rest : List ℕ) → list_all is_digit digits ≡ true
-    → number_from 0 digits < 2 ^ 63 → Ends continues_name rest
+    → number_from 0 digits < 2 ^ 63 → EndsPiece continues_name rest
     → digits_cut negative (digits ++ rest) ≡ Some (integer negative digits, rest)
 digits_again negative digits rest d h e =
     let f = ends_digits rest e in
@@ -126,7 +126,7 @@ comment_sound bytes = record {
   whole = ap (λ (t : List ℕ). 45 ∷ 45 ∷ t) (sym (take-append-drop (prefix_len in_comment bytes) bytes));
 }
 
-pub comment_again : (body rest : List ℕ) → list_all in_comment body ≡ true → Ends in_comment rest
+pub comment_again : (body rest : List ℕ) → list_all in_comment body ≡ true → EndsPiece in_comment rest
     → comment_cut (body ++ rest) ≡ Some (comment body, rest)
 comment_again body rest h e = rw (taken_again in_comment body rest h e, left_again in_comment body rest h e) refl
 
@@ -149,7 +149,7 @@ second_case false true x y z e h k = k
 second_case false false x y z e h k = absurd cc
 
 pub negative_again : (digits rest : List ℕ) → 0 < length digits → list_all is_digit digits ≡ true
-    → number_from 0 digits < 2 ^ 63 → Ends continues_name rest
+    → number_from 0 digits < 2 ^ 63 → EndsPiece continues_name rest
     → minus_cut (digits ++ rest) ≡ Some (integer true digits, rest)
 negative_again [] rest l d h e = absurd (omega arith)
 negative_again (b ∷ digits) rest l d h e =

@@ -2,14 +2,14 @@
 use Rattle.std.proofs.Common.{◌≡◌, ℕ, Bool, true, false, cond, eqb-true, List, [], ◌∷◌, ◌++◌, Option, Some, None, refl}
 use Rattle.std.proofs.Common.{sym, ap, ◌∙◌, append_assoc}
 use Rattle.std.specs.Option.{option_map}
-use Rattle.sql_reader.specs.Pieces.{quoted, is_quote, doubled, Ends}
+use Rattle.sql_reader.specs.Pieces.{quoted, is_quote, doubled, EndsPiece}
 use Rattle.sql_reader.specs.Cutting.{quoting_of, quoted_by, quoted_from, with_byte, as_quoted}
 use Rattle.sql_reader.proofs.Cuts.{Sound}
 
 -- the bytes of a text up to its closing quote; behind a quote, that quote is written already
 abbrev Closes : Bool → List ℕ → List ℕ → List ℕ → Type 0
-Closes false bytes text rest = (bytes ≡ doubled text ++ 39 ∷ rest) × Ends is_quote rest
-Closes true bytes text rest = (39 ∷ bytes ≡ doubled text ++ 39 ∷ rest) × Ends is_quote rest
+Closes false bytes text rest = (bytes ≡ doubled text ++ 39 ∷ rest) × EndsPiece is_quote rest
+Closes true bytes text rest = (39 ∷ bytes ≡ doubled text ++ 39 ∷ rest) × EndsPiece is_quote rest
 
 abbrev Closed : Bool → List ℕ → Option (List ℕ × List ℕ) → Type 0
 Closed after bytes None = Unit {0}
@@ -63,7 +63,7 @@ quoted_sound bytes = sound_from bytes (quoted_from false bytes) (closed bytes).0
 
 -- ---- what stands there is found
 
-closes_here : (rest : List ℕ) → Ends is_quote rest → quoted_from true rest ≡ Some ([], rest)
+closes_here : (rest : List ℕ) → EndsPiece is_quote rest → quoted_from true rest ≡ Some ([], rest)
 closes_here [] e = refl
 closes_here (b ∷ rest) e = rw e refl
 
@@ -73,12 +73,12 @@ again_by : (b : ℕ) (text rest : List ℕ) (c : Bool) → is_quote b ≡ c
 again_by b text rest true e h = let k = eqb-true b 39 e in rw (h, k) refl
 again_by b text rest false e h = rw (e, h) refl
 
-found_again : (text rest : List ℕ) → Ends is_quote rest
+found_again : (text rest : List ℕ) → EndsPiece is_quote rest
     → quoted_from false (doubled text ++ 39 ∷ rest) ≡ Some (text, rest)
 found_again [] rest e = closes_here rest e
 found_again (b ∷ text) rest e = again_by b text rest (is_quote b) refl (found_again text rest e)
 
-pub quoted_again : (text rest : List ℕ) → Ends is_quote rest
+pub quoted_again : (text rest : List ℕ) → EndsPiece is_quote rest
     → option_map as_quoted (quoted_from false ((doubled text ++ 39 ∷ []) ++ rest)) ≡ Some (quoted text, rest)
 quoted_again text rest e = ap (λ (ts : List ℕ). option_map as_quoted (quoted_from false ts))
     (append_assoc (doubled text) (39 ∷ []) rest)

@@ -4,7 +4,7 @@ use Rattle.std.proofs.Common.{sym, arith}
 use Rattle.std.specs.List.{prefix_len, list_all}
 use Rattle.std.proofs.lemmas.List.{take_at, drop_at}
 use Rattle.std.proofs.lemmas.Bool.{and_parts}
-use Rattle.sql_reader.specs.Pieces.{Ends}
+use Rattle.sql_reader.specs.Pieces.{EndsPiece}
 
 one_more : (n : ℕ) → 1 + n ≡ suc n
 one_more n = omega arith
@@ -19,18 +19,18 @@ pub front_passes : (test : ℕ → Bool) (bytes : List ℕ) → list_all test (t
 front_passes test [] = refl
 front_passes test (b ∷ bytes) = passes_by test b bytes (prefix_len test bytes) (test b) refl (front_passes test bytes)
 
-ends_by : (test : ℕ → Bool) (b : ℕ) (bytes : List ℕ) (n : ℕ) (c : Bool) → test b ≡ c → Ends test (drop n bytes)
-    → Ends test (drop (cond c (1 + n) 0) (b ∷ bytes))
+ends_by : (test : ℕ → Bool) (b : ℕ) (bytes : List ℕ) (n : ℕ) (c : Bool) → test b ≡ c → EndsPiece test (drop n bytes)
+    → EndsPiece test (drop (cond c (1 + n) 0) (b ∷ bytes))
 ends_by test b bytes n true e h = rw (one_more n) h
 ends_by test b bytes n false e h = e
 
 -- and the next doesn't
-pub front_ends : (test : ℕ → Bool) (bytes : List ℕ) → Ends test (drop (prefix_len test bytes) bytes)
+pub front_ends : (test : ℕ → Bool) (bytes : List ℕ) → EndsPiece test (drop (prefix_len test bytes) bytes)
 front_ends test [] = tt
 front_ends test (b ∷ bytes) = ends_by test b bytes (prefix_len test bytes) (test b) refl (front_ends test bytes)
 
 -- a front that passes, before what doesn't, is the longest
-pub longest : (test : ℕ → Bool) (front rest : List ℕ) → list_all test front ≡ true → Ends test rest
+pub longest : (test : ℕ → Bool) (front rest : List ℕ) → list_all test front ≡ true → EndsPiece test rest
     → prefix_len test (front ++ rest) ≡ length front
 longest test [] [] h e = refl
 longest test [] (b ∷ rest) h e = rw e refl
@@ -40,12 +40,12 @@ longest test (b ∷ front) rest h e =
     rw p.0 (omega (arith, k))
 
 -- so it is what is taken
-pub taken_again : (test : ℕ → Bool) (front rest : List ℕ) → list_all test front ≡ true → Ends test rest
+pub taken_again : (test : ℕ → Bool) (front rest : List ℕ) → list_all test front ≡ true → EndsPiece test rest
     → take (prefix_len test (front ++ rest)) (front ++ rest) ≡ front
 taken_again test front rest h e =
     take_at front rest (prefix_len test (front ++ rest)) (sym (longest test front rest h e))
 
-pub left_again : (test : ℕ → Bool) (front rest : List ℕ) → list_all test front ≡ true → Ends test rest
+pub left_again : (test : ℕ → Bool) (front rest : List ℕ) → list_all test front ≡ true → EndsPiece test rest
     → drop (prefix_len test (front ++ rest)) (front ++ rest) ≡ rest
 left_again test front rest h e =
     drop_at front rest (prefix_len test (front ++ rest)) (sym (longest test front rest h e))

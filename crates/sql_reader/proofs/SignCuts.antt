@@ -6,7 +6,7 @@ use Rattle.std.specs.Option.{option_or}
 use Rattle.std.proofs.lemmas.Bool.Decides.{nat_tests}
 use Rattle.sql_reader.specs.Bytes.{is_sign}
 use Rattle.sql_reader.specs.Words.{short_symbol, long_symbol, symbol_of}
-use Rattle.sql_reader.specs.Pieces.{sign, Ends}
+use Rattle.sql_reader.specs.Pieces.{sign, EndsPiece}
 use Rattle.sql_reader.specs.Cutting.{short_cut, sign_cut}
 use Rattle.sql_reader.proofs.Cuts.{Sound}
 
@@ -19,12 +19,12 @@ is_some_of None h = absurd (search rules)
 is_some_of (Some a) h = refl
 
 short_sound_by : (b : ℕ) (rest : List ℕ) (s : Bool) → is_some (short_symbol b) ≡ s
-    → Ends (λ byte. is_some (symbol_of ((b ∷ []) ++ byte ∷ []))) rest
+    → EndsPiece (λ byte. is_some (symbol_of ((b ∷ []) ++ byte ∷ []))) rest
     → Sound (b ∷ rest) (cond s (Some (sign (b ∷ []), rest)) None)
 short_sound_by b rest true h e = record { fits = some_of (short_symbol b) h; stands = e; whole = refl }
 short_sound_by b rest false h e = tt
 
-ends_long : (b c : ℕ) (rest : List ℕ) → Ends (λ byte. is_some (symbol_of ((b ∷ c ∷ []) ++ byte ∷ []))) rest
+ends_long : (b c : ℕ) (rest : List ℕ) → EndsPiece (λ byte. is_some (symbol_of ((b ∷ c ∷ []) ++ byte ∷ []))) rest
 ends_long b c [] = tt
 ends_long b c (d ∷ rest) = refl
 
@@ -39,7 +39,7 @@ sign_sound (b ∷ []) = short_sound_by b [] (is_some (short_symbol b)) refl tt
 sign_sound (b ∷ c ∷ rest) = long_sound_by b c rest (is_some (long_symbol b c)) refl
 
 pub sign_again : (symbol rest : List ℕ) → IsSome (symbol_of symbol)
-    → Ends (λ byte. is_some (symbol_of (symbol ++ byte ∷ []))) rest
+    → EndsPiece (λ byte. is_some (symbol_of (symbol ++ byte ∷ []))) rest
     → sign_cut (symbol ++ rest) ≡ Some (sign symbol, rest)
 sign_again [] rest h e = absurd (search rules)
 sign_again (b ∷ []) [] h e = let k = is_some_of (short_symbol b) h in rw k refl

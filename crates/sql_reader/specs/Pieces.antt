@@ -60,18 +60,18 @@ Fits (quoted text) = Unit {0}
 Fits (sign symbol) = IsSome (symbol_of symbol)
 
 -- no such byte comes next
-abbrev pub Ends : (ℕ → Bool) → List ℕ → Type 0
-Ends test [] = Unit {0}
-Ends test (byte ∷ rest) = test byte ≡ false
+abbrev pub EndsPiece : (ℕ → Bool) → List ℕ → Type 0
+EndsPiece test [] = Unit {0}
+EndsPiece test (byte ∷ rest) = test byte ≡ false
 
 -- with the next byte it isn't a piece of its kind, and the rest may stand behind it
 abbrev pub Stands : Piece → List ℕ → Type 0
 Stands (blank byte) rest = Unit {0}
-Stands (comment body) rest = Ends in_comment rest
-Stands (name text) rest = Ends continues_name rest
-Stands (integer negative digits) rest = Ends continues_name rest
-Stands (quoted text) rest = Ends is_quote rest
-Stands (sign symbol) rest = Ends (λ byte. is_some (symbol_of (symbol ++ byte ∷ []))) rest
+Stands (comment body) rest = EndsPiece in_comment rest
+Stands (name text) rest = EndsPiece continues_name rest
+Stands (integer negative digits) rest = EndsPiece continues_name rest
+Stands (quoted text) rest = EndsPiece is_quote rest
+Stands (sign symbol) rest = EndsPiece (λ byte. is_some (symbol_of (symbol ++ byte ∷ []))) rest
 
 -- the bytes begin with the piece, and this is the rest
 pub record BeginsWith (bytes : List ℕ) (piece : Piece) (rest : List ℕ) : Type 0 where
