@@ -17,7 +17,7 @@ from=$(cd "$(dirname "$0")/.." && pwd)
 copy=$(mktemp -d)
 trap 'rm -rf "$copy"' EXIT
 mkdir "$copy/crates"
-below='plan_search plan_tree plan_space cost_units request_props xform_rules cardinality worked_queries catalog_json'
+below='plan_search plan_tree plan_space cost_units request_props xform_rules cardinality catalog_json'
 below="$below sql_bind sql_reader query_core orca_base"
 for crate in $below; do
   (cd "$from/crates" && tar cf - --exclude=out "$crate") | (cd "$copy/crates" && tar xf -)
