@@ -13,3 +13,4 @@ pub mod Alternatives
 pub mod First
 pub mod Collecting
 pub mod ByKind
+pub mod LeastPlaces

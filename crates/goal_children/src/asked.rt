@@ -2,19 +2,16 @@
 #![tactic(auto)]
 
 ghost use Rattle.std.specs.Prelude.{◌≡◌, ◌<◌, All, IfOk, IfSome, OnOk, Some};
-ghost use Rattle.std.specs.List.{Contains};
 ghost use Rattle.query_core.specs.Keys as keys;
 ghost use Rattle.query_core.specs.Expressions.{expr_of, AreInRange, IsCandidate};
 ghost use Rattle.request_props.specs.Numbered.{IsProps};
 ghost use Rattle.request_props.specs.Requests as requests;
 ghost use Rattle.plan_space.specs.Lines.{line_of as line_by_table};
-ghost use Rattle.goal_space.specs.Words.{IsInRange};
 ghost use Rattle.goal_children.specs.Over.{IsNumberedRequest};
 ghost use Rattle.goal_children.specs.Choices.{IsOfAlt, IsOfAlternatives, IsOfMode, IsOfRequest};
-ghost use Rattle.goal_children.specs.Finding.{AreGoalsOf, Collects, FindsFrom};
+ghost use Rattle.goal_children.specs.Finding.{AreGoalsOf, Collects};
 
 use crate::choice::asked_of;
-use crate::finding::{goal_from, sooner};
 use goal_space::GoalKind;
 use plan_space::{Line, what_is_asked_fits};
 use plan_tree::{Alt, alternative_by, modes_for, next_among, tried_modes};
@@ -44,18 +41,6 @@ pub fn asked_goals(
         from = mode + 1;
     }
     Ok(goals)
-}
-
-/// Of the goals the one of the least word from the bound on.
-pub fn first_among(goals: &[GoalKind], bound: u64) -> Option<GoalKind>
-    requires { All IsInRange goals.now }
-    ensures { FindsFrom (Contains goals.now) bound result }
-{
-    let mut next = None;
-    for goal in goals {
-        next = sooner(next, goal_from(*goal, bound));
-    }
-    next
 }
 
 // Adds the goals of groups for what the expression asks of them in one mode.

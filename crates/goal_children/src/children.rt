@@ -1,7 +1,7 @@
 //! The children of a goal, in the order of words. No call here takes memory.
 #![tactic(auto)]
 
-ghost use Rattle.std.specs.Prelude.{◌≡◌, IfOk, IfSome, MatchOption, OnOk};
+ghost use Rattle.std.specs.Prelude.{◌≡◌, IfOk, IfSome, MatchOption, OnOk, map};
 ghost use Rattle.std.specs.List.{All};
 ghost use Rattle.std.specs.List.Sorted.{IsStrictlyIncreasing};
 ghost use Rattle.query_core.specs.Keys.{IsGroup};
@@ -14,13 +14,14 @@ ghost use Rattle.goal_children.specs.Children.{AreChildren, AreNoMore, IsChildIn
 ghost use Rattle.goal_children.specs.Choices.{AreAskedBy};
 ghost use Rattle.goal_children.specs.Finding.{FindsFrom, IsOfExpression};
 
-use crate::asked::{asked_goals, first_among};
+use crate::asked::asked_goals;
 use crate::choice::{asked_goal_from, enforced_goal_from};
 use crate::expressions::{group_goal_from, left_goal_from, rule_goal_from};
 use crate::finding::{bound_behind, goal_from, known_goal, sooner};
 use crate::jobs::{MemberJob, Phase};
 use crate::laws::children_are_over_the_query;
 use crate::members::member_goal_from;
+use crate::words::{first_among, words_of_goals};
 use goal_space::{GoalKind, goal_kinds_are_one};
 use query_core::{ExprParts, Goal, KeyParts, Query, candidates_are_known, groups_are_known};
 use request_props::{Props, Request};
@@ -83,8 +84,11 @@ pub fn list_children(
     goal_kinds_are_one();
     list.clear();
     let asked = asked_by(alloc, query, props, goal)?;
+    let words = words_of_goals(alloc, &asked)?;
     let mut after = None;
-    'children: while let Some(child) = next_or_asked(query, props, members, goal, &asked, after) {
+    'children: while let Some(child) = next_or_asked(
+        query, props, members, goal, &asked, &words, after,
+    ) {
         list.push(child)?;
         after = Some(child.word());
     }
@@ -101,7 +105,8 @@ fn asked_by(
 ) -> Result<Vec<GoalKind>, AllocError>
     requires props { IsProps query.now props.now }
     requires goal { IsGoalOver query.now goal }
-    ensures { IfOk result (λ asked. AreAskedBy query.now goal asked.items) }
+    ensures asked { IfOk result (λ asked. AreAskedBy query.now goal asked.items) }
+    ensures in_range { IfOk result (λ asked. All IsInRange asked.items) }
 {
     match goal {
         GoalKind::OptE(e, wanted) => asked_goals(alloc, query, props, e, wanted),
@@ -109,13 +114,14 @@ fn asked_by(
     }
 }
 
-// The next child; where the goal is an expression's for a request, out of what it asks for.
+// The next child; where the goal is an expression's for a request, out of what it asks for, by the words of that.
 fn next_or_asked(
     query: &Query,
     props: &Props,
     members: &[u64],
     goal: GoalKind,
     asked: &[GoalKind],
+    words: &[u64],
     after: Option<Goal>,
 ) -> Option<GoalKind>
     requires props { IsProps query.now props.now }
@@ -123,6 +129,7 @@ fn next_or_asked(
     requires ascending { IsStrictlyIncreasing members.now }
     requires goal { IsGoalOver query.now goal }
     requires asked { AreAskedBy query.now goal asked.now }
+    requires words { words.now ≡ map goal_word asked.now }
     ensures next { MatchOption result
         (IsLastChild query.now members.now goal after)
         (IsNextChild query.now members.now goal after) }
@@ -131,7 +138,7 @@ fn next_or_asked(
     // For the proof: children have words.
     children_are_over_the_query();
     match bound_behind(after) {
-        Some(bound) => child_or_asked_from(query, props, members, goal, asked, bound),
+        Some(bound) => { child_or_asked_from(query, props, members, goal, asked, words, bound) }
         None => None,
     }
 }
@@ -142,6 +149,7 @@ fn child_or_asked_from(
     members: &[u64],
     goal: GoalKind,
     asked: &[GoalKind],
+    words: &[u64],
     bound: u64,
 ) -> Option<GoalKind>
     requires props { IsProps query.now props.now }
@@ -149,10 +157,11 @@ fn child_or_asked_from(
     requires ascending { IsStrictlyIncreasing members.now }
     requires goal { IsGoalOver query.now goal }
     requires asked { AreAskedBy query.now goal asked.now }
+    requires words { words.now ≡ map goal_word asked.now }
     ensures { FindsFrom (IsChildIn query.now members.now goal) bound result }
 {
     match goal {
-        GoalKind::OptE(_, _) => first_among(asked, bound),
+        GoalKind::OptE(_, _) => first_among(asked, words, bound),
         _ => child_from(query, props, members, goal, bound),
     }
 }

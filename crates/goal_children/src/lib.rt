@@ -9,6 +9,7 @@ mod finding;
 mod jobs;
 mod laws;
 mod members;
+mod words;
 
 pub use children::{child, list_children, next_child};
 pub use finding::known_goal;

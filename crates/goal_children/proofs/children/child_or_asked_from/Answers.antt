@@ -1,8 +1,8 @@
 use Rattle.goal_children.proofs.Collecting.{asked_found, asked_in_range}
 use Rattle.goal_children.proofs.children.child_or_asked_from.Goals as goal
 
-pub first_among-requires : goal.first_among-requires
-first_among-requires c = asked_in_range c.args.query.now c.args.goal c.in-OptE.field-0 c.in-OptE.field-1 c.args.asked.now c.in-OptE.is c.requires.asked
+pub first_among-requires-clause-in_range : goal.first_among-requires-clause-in_range
+first_among-requires-clause-in_range c = asked_in_range c.args.query.now c.args.goal c.in-OptE.field-0 c.in-OptE.field-1 c.args.asked.now c.in-OptE.is c.requires.asked
 
 -- its children are what its expression asks for
 pub returns-in-OptE : goal.returns-in-OptE
