@@ -1,5 +1,6 @@
 -- Goals over a query: about its groups and candidates, for requests that have a number.
-use Rattle.std.specs.Prelude.{ℕ, ◌≡◌, ◌<◌, length, ⊤}
+use Rattle.std.specs.Prelude.{ℕ, ◌≡◌, ◌<◌, List, All, length, ⊤}
+use Rattle.std.specs.List.Sorted.{IsStrictlyIncreasing}
 use Rattle.query_core.specs.declared.query.Query.{Query}
 use Rattle.request_props.specs.Numbered.{lists_of, IsNumbered}
 use Rattle.request_props.specs.declared.request.Dist.{Dist}
@@ -40,3 +41,8 @@ pub record IsGoalOver (q : Query) (goal : GoalKind) : Type 0 where
 -- the word is that of a goal over the query
 abbrev pub IsGoalWordOver : Query → ℕ → Type 0
 IsGoalWordOver q word = (goal : GoalKind) × IsGoalOver q goal × (goal_word goal ≡ word)
+
+-- the words ascend, and are those of goals over the query
+pub record AreGoalWords (q : Query) (words : List ℕ) : Type 0 where
+  pub over : All (IsGoalWordOver q) words
+  pub ascending : IsStrictlyIncreasing words

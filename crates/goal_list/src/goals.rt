@@ -12,7 +12,7 @@ ghost use Rattle.goal_space.specs.Children.{IsChildGoal};
 ghost use Rattle.goal_space.specs.Goals.{root_goal_of, IsGoal};
 ghost use Rattle.goal_space.specs.Entries.{IsGoalWord};
 ghost use Rattle.goal_space.specs.declared.goals.GoalKind.{GoalKind as AnyGoal};
-ghost use Rattle.goal_children.specs.Over.{IsGoalWordOver};
+ghost use Rattle.goal_children.specs.Over.{AreGoalWords};
 ghost use Rattle.goal_list.specs.Listed.{AreGoalsOf};
 ghost use Rattle.goal_list.specs.Passes.{ContainsWordOf, Grows, HasChildren, HaveChildren};
 
@@ -62,9 +62,9 @@ pub fn goal_lists_are_known()
     ensures one { (q : Query) (words others : List ℕ) →
         AreGoalsOf q words → AreGoalsOf q others → words ≡ others }
 
-    // Its words are those of goals over the query.
+    // Its words ascend, and are those of goals over the query.
     ensures over { (q : Query) (words : List ℕ) →
-        AreGoalsOf q words → All (IsGoalWordOver q) words }
+        AreGoalsOf q words → AreGoalWords q words }
 {
     goals_are_over_the_query();
 }

@@ -1,11 +1,10 @@
 //! The text by worker: the goals of a search, each with the worker that finished it.
 #![tactic(auto)]
 
-ghost use Rattle.std.specs.Prelude.{◌≡◌, ℕ, All, IfOk, OnOk, length, string_bytes};
+ghost use Rattle.std.specs.Prelude.{◌≡◌, IfOk, OnOk, length, string_bytes};
 ghost use Rattle.std.specs.List.{concat};
-ghost use Rattle.std.specs.List.Sorted.{IsStrictlyIncreasing};
 ghost use Rattle.request_props.specs.Numbered.{IsProps};
-ghost use Rattle.goal_children.specs.Over.{IsGoalWordOver};
+ghost use Rattle.goal_children.specs.Over.{AreGoalWords};
 ghost use Rattle.query_text.specs.Added.{Adds};
 ghost use Rattle.job_trace.specs.Trace as texts;
 ghost use Rattle.job_trace.specs.Trace.{IsCrewText};
@@ -26,8 +25,7 @@ pub fn crew_text(
     who: &[u32],
 ) -> Result<Vec<u8>, AllocError>
     requires props { IsProps query.now props.now }
-    requires goals { All (IsGoalWordOver query.now) goals.now }
-    requires ascending { IsStrictlyIncreasing goals.now }
+    requires goals { AreGoalWords query.now goals.now }
     requires each { length who.now ≡ length goals.now }
     ensures { IfOk result (λ text. IsCrewText query.now goals.now who.now text.items) }
 {

@@ -9,7 +9,7 @@ ghost use Rattle.query_core.specs.Goals.{kind_of};
 ghost use Rattle.request_props.specs.Numbered.{IsProps};
 ghost use Rattle.goal_space.specs.Words.{parts_of};
 ghost use Rattle.goal_space.specs.declared.goals.GoalKind.{GoalKind as AnyGoal};
-ghost use Rattle.goal_children.specs.Over.{IsGoalOver, IsGoalWordOver};
+ghost use Rattle.goal_children.specs.Over.{AreGoalWords, IsGoalOver};
 ghost use Rattle.query_text.specs.Added.{Adds};
 ghost use Rattle.job_trace.specs.Counts.{counted};
 ghost use Rattle.job_trace.specs.Trace as texts;
@@ -35,8 +35,7 @@ pub fn trace_text(
     requires props { IsProps query.now props.now }
     requires candidates { All (IsCandidateWord query.now) members.now }
     requires ascending { IsStrictlyIncreasing members.now }
-    requires goals { All (IsGoalWordOver query.now) goals.now }
-    requires goals_ascend { IsStrictlyIncreasing goals.now }
+    requires goals { AreGoalWords query.now goals.now }
     ensures { IfOk result (λ text. IsTraceText query.now members.now goals.now text.items) }
 {
     let goals = goals_of(alloc, query, props, goals)?;
@@ -55,8 +54,7 @@ pub fn trace_line(
     goals: &[u64],
 ) -> Result<Vec<u8>, AllocError>
     requires props { IsProps query.now props.now }
-    requires goals { All (IsGoalWordOver query.now) goals.now }
-    requires goals_ascend { IsStrictlyIncreasing goals.now }
+    requires goals { AreGoalWords query.now goals.now }
     ensures { IfOk result (λ line. IsTraceLine query.now goals.now line.items) }
 {
     let goals = goals_of(alloc, query, props, goals)?;
@@ -73,8 +71,7 @@ pub fn goals_of(
     words: &[u64],
 ) -> Result<Vec<GoalKind>, AllocError>
     requires props { IsProps _query.now _props.now }
-    requires over { All (IsGoalWordOver _query.now) words.now }
-    requires ascending { IsStrictlyIncreasing words.now }
+    requires words { AreGoalWords _query.now words.now }
     ensures { IfOk result (λ made. AreGoals _query.now words.now made.items) }
 {
     // For the proof: goals over the query have words.

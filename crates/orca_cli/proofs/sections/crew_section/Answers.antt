@@ -6,7 +6,6 @@ pub crew_text-requires : goal.crew_text-requires
 crew_text-requires c = record {
   props = c.requires.props;
   goals = c.goal_lists_are_known.ensures.over c.args.search.query.now c.args.search.goals.now c.requires.all_goals;
-  ascending = c.requires.all_goals.ascending;
   each = c.requires.one_each;
 }
 

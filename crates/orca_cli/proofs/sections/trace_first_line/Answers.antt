@@ -6,7 +6,6 @@ pub trace_line-requires : goal.trace_line-requires
 trace_line-requires c = record {
   props = c.requires.props;
   goals = c.goal_lists_are_known.ensures.over c.args.search.query.now c.args.search.goals.now c.requires.all_goals;
-  goals_ascend = c.requires.all_goals.ascending;
 }
 
 -- the line counts all goals

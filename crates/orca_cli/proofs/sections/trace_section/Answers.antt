@@ -8,7 +8,6 @@ trace_text-requires c = record {
   candidates = c.members_are_known.ensures.candidates c.args.search.query.now c.args.search.members.now c.requires.closure;
   ascending = c.requires.closure.ascending;
   goals = c.goal_lists_are_known.ensures.over c.args.search.query.now c.args.search.goals.now c.requires.all_goals;
-  goals_ascend = c.requires.all_goals.ascending;
 }
 
 -- the text is that of all goals over the closure
