@@ -22,7 +22,7 @@ pub fn words_of_goals(alloc: Global, goals: &[GoalKind]) -> Result<Vec<u64>, All
 }
 
 /// Of the goals of these words the one of the least word from the bound on.
-#[tactic(auto, using(crate::proofs::LeastPlaces::so_many_words, crate::proofs::LeastPlaces::no_goal_among, crate::proofs::LeastPlaces::goal_among))]
+#[tactic(auto, using(crate::proofs::LeastPlaces::so_many_words))]
 pub fn first_among(goals: &[GoalKind], words: &[u64], bound: u64) -> Option<GoalKind>
     requires in_range { All IsInRange goals.now }
     requires words { words.now ≡ map goal_word goals.now }

@@ -26,7 +26,7 @@ modes-preserved c =
     let mode = c.in-Some.mode in
     goals_more (IsOfModesBelow q c.args.e c.args.wanted from) (IsOfMode q c.args.e c.args.wanted mode) (IsOfModesBelow q c.args.e c.args.wanted (mode + 1))
     c.modes.goals.items c.push_in_mode.new.goals.items (mode_there q c.args.e c.args.wanted 0 from mode next.0 next.2)
-    (mode_cases q c.args.e c.args.wanted 0 from mode next.0 next.2) c.modes.invariant c.in_ok-push_in_mode-in-Some.ensures.ok
+    (mode_cases q c.args.e c.args.wanted 0 from mode next.0 next.2) c.modes.invariant c.in_ok-push_in_mode.ensures.ok
 
 -- no mode is left
 pub returns : goal.returns
