@@ -1,11 +1,11 @@
 //! A grouped query over one table with an index, worked by hand.
 
-ghost use Rattle.std.specs.Prelude.{◌≤◌, IfSome};
+ghost use Rattle.std.specs.Prelude.{◌≡◌, ◌≤◌, IfOk, IfSome};
 ghost use Rattle.query_core.specs.Expressions.{IsCandidate, expr_of};
 ghost use Rattle.request_props.specs.Numbered.{IsProps};
 
-use crate::node_tests::{ask, made, origin, step, text};
-use orca_base::List;
+use crate::node_tests::{ask, made, origin, step};
+use orca_base::{List, Text};
 use plan_tree::*;
 use query_core::*;
 use request_props::{Dist, Props, Request};
@@ -29,6 +29,12 @@ const BY_B_C: u32 = 1;
 const WANTED: u32 = 1;
 
 const GROUPS: u32 = 2;
+
+fn text(alloc: Global, part: &str) -> Result<Text, AllocError>
+    ensures { IfOk result (λ made. made ≡ part.now) }
+{
+    Ok(Text::of(String::from_str(alloc, part)?))
+}
 
 // `SELECT COUNT(*) FROM t WHERE b >= 5 GROUP BY b, c ORDER BY this column`, over a table of 1000
 // rows on 4 segments that is hashed on a and has an index on b, c and a

@@ -1,88 +1,17 @@
 //! Two tables that are joined by an equality, worked by hand.
 
-ghost use Rattle.std.specs.Prelude.{◌≡◌, IfOk, IfSome};
+ghost use Rattle.std.specs.Prelude.{IfSome};
 ghost use Rattle.query_core.specs.Keys.{IsGroup};
 ghost use Rattle.query_core.specs.Expressions.{IsCandidate, expr_of};
 ghost use Rattle.request_props.specs.Numbered.{IsProps};
 
-use orca_base::{List, Text};
 use plan_space::{Enforcer, NodeKind};
 use plan_tree::*;
 use query_core::*;
 use request_props::{Dist, Props, Request};
-use std::alloc::{AllocError, Global};
 use std::test::Fail;
+use worked_queries::compared_tables;
 use xform_rules::{Rule, result_at, results_are_candidates};
-
-pub fn text(alloc: Global, part: &str) -> Result<Text, AllocError>
-    ensures { IfOk result (λ made. made ≡ part.now) }
-{
-    Ok(Text::of(String::from_str(alloc, part)?))
-}
-
-// `SELECT T1.a FROM T1, T2 WHERE T1.a = T2.b ORDER BY T1.a`, over tables of 1000 rows on 4 segments
-fn two_tables(alloc: Global, op: CmpOp) -> Result<Query, AllocError> {
-    let tables = vec![in alloc;
-        QueryTable {
-            alias: text(alloc, "T1")?,
-            rows: 1000,
-            hashed: None,
-            indexes: List::new(alloc)
-        },
-        QueryTable {
-            alias: text(alloc, "T2")?,
-            rows: 1000,
-            hashed: None,
-            indexes: List::new(alloc)
-        },
-    ]?;
-    let items = vec![in alloc;
-        Item {
-            table: 0,
-            name: text(alloc, "a")?,
-            ndv: 1000
-        },
-        Item {
-            table: 1,
-            name: text(alloc, "b")?,
-            ndv: 500
-        },
-    ]?;
-    let preds = vec![in alloc;
-        Pred {
-            left: 0,
-            op,
-            right: Operand::Item(1)
-        },
-    ]?;
-    let links = links_of(alloc, &tables, &items, &preds)?;
-    Ok(Query {
-        segments: 4,
-        tables: List::of(tables),
-        items: List::of(items),
-        preds: List::of(preds),
-        links,
-        grouped: false,
-        group_by: List::new(alloc),
-        aggs: List::new(alloc),
-        output: List::of(vec![in alloc;
-            OutItem {
-                item: 0,
-                name: None
-            },
-        ]?),
-        order: List::of(vec![in alloc;
-            OrderKey {
-                item: 0,
-                desc: false
-            },
-        ]?),
-        options: Options {
-            root: RootDist::One,
-            off: 0,
-        },
-    })
-}
 
 // The result of the rule at the expression.
 pub fn step(query: &Query, rule: Rule, e: ExprParts) -> Option<ExprParts>
@@ -159,7 +88,7 @@ fn enforced(query: &Query, props: &Props, request: Request, n: u32) -> Option<En
 
 #[test]
 fn a_hash_join_with_one_crossing_equality_has_three_modes(rt: HostRuntime) -> Result<(), Fail> {
-    let query = two_tables(rt.alloc(), CmpOp::Eq)?;
+    let query = compared_tables(rt.alloc(), CmpOp::Eq, 0)?;
     let props = Props::collect(rt.alloc(), &query)?;
     for rule in [Rule::JoinToHash, Rule::JoinToMerge] {
         let join = join_by(&query, rule);
@@ -185,7 +114,7 @@ fn a_hash_join_with_one_crossing_equality_has_three_modes(rt: HostRuntime) -> Re
 
 #[test]
 fn a_join_without_an_equality_has_two_modes(rt: HostRuntime) -> Result<(), Fail> {
-    let query = two_tables(rt.alloc(), CmpOp::Lt)?;
+    let query = compared_tables(rt.alloc(), CmpOp::Lt, 0)?;
     let props = Props::collect(rt.alloc(), &query)?;
     let one = ask(Dist::One, 0);
     let spread = ask(Dist::Spread, 0);
@@ -198,7 +127,7 @@ fn a_join_without_an_equality_has_two_modes(rt: HostRuntime) -> Result<(), Fail>
 
 #[test]
 fn alternatives_are_as_by_hand(rt: HostRuntime) -> Result<(), Fail> {
-    let query = two_tables(rt.alloc(), CmpOp::Eq)?;
+    let query = compared_tables(rt.alloc(), CmpOp::Eq, 0)?;
     let props = Props::collect(rt.alloc(), &query)?;
     let rows = [
         (Rule::JoinToHash, ask(Dist::One, 0), Some(0), None),
@@ -228,7 +157,7 @@ fn alternatives_are_as_by_hand(rt: HostRuntime) -> Result<(), Fail> {
 
 #[test]
 fn joins_ask_as_by_hand(rt: HostRuntime) -> Result<(), Fail> {
-    let query = two_tables(rt.alloc(), CmpOp::Eq)?;
+    let query = compared_tables(rt.alloc(), CmpOp::Eq, 0)?;
     let props = Props::collect(rt.alloc(), &query)?;
     assert_eq!(rt;
         join_in(&query, &props, Rule::JoinToMerge, ask(Dist::Spread, 1), 128),
@@ -251,7 +180,7 @@ fn joins_ask_as_by_hand(rt: HostRuntime) -> Result<(), Fail> {
 
 #[test]
 fn costs_are_those_of_worked_examples(rt: HostRuntime) -> Result<(), Fail> {
-    let query = two_tables(rt.alloc(), CmpOp::Eq)?;
+    let query = compared_tables(rt.alloc(), CmpOp::Eq, 0)?;
     let props = Props::collect(rt.alloc(), &query)?;
     let spread = ask(Dist::Spread, 0);
     if query.is_key(Key(0)) {
@@ -295,7 +224,7 @@ fn costs_are_those_of_worked_examples(rt: HostRuntime) -> Result<(), Fail> {
 
 #[test]
 fn a_sort_comes_before_a_merge(rt: HostRuntime) -> Result<(), Fail> {
-    let query = two_tables(rt.alloc(), CmpOp::Eq)?;
+    let query = compared_tables(rt.alloc(), CmpOp::Eq, 0)?;
     let props = Props::collect(rt.alloc(), &query)?;
     let rows = [
         (ask(Dist::One, 1), 0, Some((65, ask(Dist::One, 0)))),

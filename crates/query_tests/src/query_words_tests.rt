@@ -1,4 +1,4 @@
-//! The running example of two tables, one of three, and one of a table with indexes.
+//! Groups of two tables, of three, and of one with indexes; expressions and goals by their words.
 
 ghost use Rattle.std.specs.Prelude.{◌≡◌, IfOk};
 ghost use Rattle.query_core.specs.Keys.{IsKey};
@@ -7,6 +7,7 @@ use orca_base::{List, Text};
 use query_core::*;
 use std::alloc::{AllocError, Global};
 use std::test::Fail;
+use worked_queries::{compared_tables, three_indexes};
 
 fn text(alloc: Global, part: &str) -> Result<Text, AllocError>
     ensures { IfOk result (λ made. made ≡ part.now) }
@@ -14,73 +15,9 @@ fn text(alloc: Global, part: &str) -> Result<Text, AllocError>
     Ok(Text::of(String::from_str(alloc, part)?))
 }
 
-// `SELECT T1.a FROM T1, T2 WHERE T1.a = T2.b ORDER BY T1.a`
-fn two_tables(alloc: Global) -> Result<Query, AllocError> {
-    let tables = vec![in alloc;
-        QueryTable {
-            alias: text(alloc, "T1")?,
-            rows: 1000,
-            hashed: None,
-            indexes: List::new(alloc)
-        },
-        QueryTable {
-            alias: text(alloc, "T2")?,
-            rows: 1000,
-            hashed: None,
-            indexes: List::new(alloc)
-        },
-    ]?;
-    let items = vec![in alloc;
-        Item {
-            table: 0,
-            name: text(alloc, "a")?,
-            ndv: 1000
-        },
-        Item {
-            table: 1,
-            name: text(alloc, "b")?,
-            ndv: 500
-        },
-    ]?;
-    let preds = vec![in alloc;
-        Pred {
-            left: 0,
-            op: CmpOp::Eq,
-            right: Operand::Item(1)
-        },
-    ]?;
-    let links = links_of(alloc, &tables, &items, &preds)?;
-    Ok(Query {
-        segments: 4,
-        tables: List::of(tables),
-        items: List::of(items),
-        preds: List::of(preds),
-        links,
-        grouped: false,
-        group_by: List::new(alloc),
-        aggs: List::new(alloc),
-        output: List::of(vec![in alloc;
-            OutItem {
-                item: 0,
-                name: None
-            },
-        ]?),
-        order: List::of(vec![in alloc;
-            OrderKey {
-                item: 0,
-                desc: false
-            },
-        ]?),
-        options: Options {
-            root: RootDist::One,
-            off: 0,
-        },
-    })
-}
-
 #[test]
 fn two_tables_have_their_groups(rt: HostRuntime) -> Result<(), Fail> {
-    let query = two_tables(rt.alloc())?;
+    let query = compared_tables(rt.alloc(), CmpOp::Eq, 0)?;
     assert_eq!(rt; query.links.len(), 1);
     for number in [0, 1, 1027] {
         assert!(rt; query.is_key(Key(number)));
@@ -200,57 +137,6 @@ fn a_true_link_joins_what_no_predicate_does(rt: HostRuntime) -> Result<(), Fail>
     Ok(())
 }
 
-// `SELECT T.a FROM T`, with an index on a and one on b and a
-fn one_table(alloc: Global) -> Result<Query, AllocError> {
-    let indexes = vec![in alloc;
-        List::of(vec![in alloc; 0]?),
-        List::of(vec![in alloc; 1, 0]?),
-    ]?;
-    let tables = vec![in alloc;
-        QueryTable {
-            alias: text(alloc, "T")?,
-            rows: 10,
-            hashed: None,
-            indexes: List::of(indexes)
-        },
-    ]?;
-    let items = vec![in alloc;
-        Item {
-            table: 0,
-            name: text(alloc, "a")?,
-            ndv: 10
-        },
-        Item {
-            table: 0,
-            name: text(alloc, "b")?,
-            ndv: 10
-        },
-    ]?;
-    let preds = Vec::new(alloc);
-    let links = links_of(alloc, &tables, &items, &preds)?;
-    Ok(Query {
-        segments: 4,
-        tables: List::of(tables),
-        items: List::of(items),
-        preds: List::of(preds),
-        links,
-        grouped: false,
-        group_by: List::new(alloc),
-        aggs: List::new(alloc),
-        output: List::of(vec![in alloc;
-            OutItem {
-                item: 0,
-                name: None
-            },
-        ]?),
-        order: List::new(alloc),
-        options: Options {
-            root: RootDist::One,
-            off: 0,
-        },
-    })
-}
-
 #[test]
 fn an_expression_is_one_word(rt: HostRuntime) -> Result<(), Fail> {
     let operator = Physical::HashJoin(KeyParts::Get(0), KeyParts::Get(1));
@@ -283,7 +169,7 @@ fn has_words(query: &Query, key: Key, words: &[u64]) -> bool
 // A word has the key from bit 36 on, the operator from bit 31, the index from bit 26, and the children.
 #[test]
 fn a_group_holds_its_candidates(rt: HostRuntime) -> Result<(), Fail> {
-    let query = two_tables(rt.alloc())?;
+    let query = compared_tables(rt.alloc(), CmpOp::Eq, 0)?;
     let joins = [
         0x403380000000,
         0x403400002002,
@@ -299,15 +185,22 @@ fn a_group_holds_its_candidates(rt: HostRuntime) -> Result<(), Fail> {
     assert!(rt; has_words(&query, query.root(), &joins));
     assert!(rt; query.is_key(Key(1)));
     assert!(rt; has_words(&query, Key(1), &[0x1080000000, 0x1100000000]));
-    let read = [0x80000000, 0x100000000, 0x180000000, 0x184000000];
-    let indexed = one_table(rt.alloc())?;
-    assert!(rt; has_words(&indexed, indexed.root(), &read));
+    let read = [
+        0x80000000,
+        0x100000000,
+        0x180000000,
+        0x184000000,
+        0x188000000,
+    ];
+    let indexed = three_indexes(rt.alloc())?;
+    assert!(rt; indexed.is_key(Key(0)));
+    assert!(rt; has_words(&indexed, Key(0), &read));
     Ok(())
 }
 
 #[test]
 fn candidates_are_told_by_their_words(rt: HostRuntime) -> Result<(), Fail> {
-    let query = two_tables(rt.alloc())?;
+    let query = compared_tables(rt.alloc(), CmpOp::Eq, 0)?;
     for word in [0x80000000, 0x1100000000, 0x403380000000, 0x403580004001] {
         assert!(rt; query.is_candidate(Expr(word)));
     }
@@ -321,7 +214,7 @@ fn candidates_are_told_by_their_words(rt: HostRuntime) -> Result<(), Fail> {
 
 #[test]
 fn equalities_cross_groups_both_ways(rt: HostRuntime) -> Result<(), Fail> {
-    let query = two_tables(rt.alloc())?;
+    let query = compared_tables(rt.alloc(), CmpOp::Eq, 0)?;
     assert!(rt; query.is_key(Key(0)));
     assert!(rt; query.is_key(Key(1)));
     assert_eq!(rt; query.crossing(Key(0), Key(1), 0), Some((0, 1)));
