@@ -15,7 +15,7 @@ use Rattle.goal_space.specs.Entries.{IsGoalWord, NamesGoal}
 use Rattle.goal_space.specs.Laws.{RanksFall, GoalsAreOfCandidates}
 use Rattle.goal_space.specs.Answers.{Tells, AreAnswers, words_told}
 use Rattle.goal_space.specs.declared.goals.GoalKind.{GoalKind}
-use Rattle.goal_list.specs.Listed.{AreGoalsOf}
+use Rattle.goal_children.specs.Listed.{AreGoalsOf}
 use Rattle.goal_answers.specs.Told.{IsToldBelow, AreToldBelow, IsPassed, FindsRank, IsReady, IsAnswered}
 
 module _ (q : Query) (answers : List Answered) where

@@ -17,7 +17,7 @@ use Rattle.goal_space.specs.Entries.{NamesGoal}
 use Rattle.goal_space.specs.Answers.{Tells, words_told}
 use Rattle.goal_space.specs.declared.goals.GoalKind.{GoalKind}
 use Rattle.goal_space.specs.declared.goals.GoalKind.TheVariants.{Opt}
-use Rattle.goal_list.specs.Listed.{AreGoalsOf}
+use Rattle.goal_children.specs.Listed.{AreGoalsOf}
 
 -- what is told of a goal with a rank below this one is its answer
 abbrev pub IsToldBelow : Query → ℕ → Answered → Type 0

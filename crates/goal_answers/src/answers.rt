@@ -6,7 +6,7 @@ ghost use Rattle.std.specs.List.{Contains};
 ghost use Rattle.xform_rules.specs.Closure.{IsClosureOf};
 ghost use Rattle.request_props.specs.Numbered.{IsProps};
 ghost use Rattle.goal_space.specs.Answers.{AreAnswers, words_told};
-ghost use Rattle.goal_list.specs.Listed.{AreGoalsOf};
+ghost use Rattle.goal_children.specs.Listed.{AreGoalsOf};
 ghost use Rattle.goal_answers.specs.Told.{AreOf, AreToldBelow, FindsRank, IsToldBelow};
 
 use crate::choices::answer;

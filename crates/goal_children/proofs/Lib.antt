@@ -14,3 +14,4 @@ pub mod First
 pub mod Collecting
 pub mod ByKind
 pub mod LeastPlaces
+pub mod GoalLists

@@ -4,3 +4,4 @@ pub mod Finding
 pub mod MemberJobs
 pub mod Choices
 pub mod Laws
+pub mod Listed

@@ -1,7 +1,10 @@
-//! What holds of the children of all goals over a query.
+//! What holds of the children of all goals over a query, and of the list of its goals.
 #![tactic(auto)]
 
+ghost use Rattle.std.specs.Prelude.{◌≡◌, ℕ, List};
 ghost use Rattle.query_core.specs.declared.query.Query.{Query};
+ghost use Rattle.goal_children.specs.Listed.{AreGoalsOf};
+ghost use Rattle.goal_children.specs.Over.{AreGoalWords};
 ghost use Rattle.goal_children.specs.Laws.{ChildrenAreOne, ChildrenAreOver, ClosureHasChildren, GoalsAreOver, GoalsOverHaveWords};
 
 use goal_space::{goal_kinds_are_one, goals_are_known};
@@ -37,4 +40,17 @@ pub fn goals_are_over_the_query()
     expressions_are_one();
     members_are_candidates();
     members_are_known();
+}
+
+/// What all lists of goals have in common.
+pub fn goal_lists_are_known()
+    // A query has one.
+    ensures one { (q : Query) (words others : List ℕ) →
+        AreGoalsOf q words → AreGoalsOf q others → words ≡ others }
+
+    // Its words ascend, and are those of goals over the query.
+    ensures over { (q : Query) (words : List ℕ) →
+        AreGoalsOf q words → AreGoalWords q words }
+{
+    goals_are_over_the_query();
 }

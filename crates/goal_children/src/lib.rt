@@ -13,4 +13,6 @@ mod words;
 
 pub use children::{child, list_children, next_child};
 pub use finding::known_goal;
-pub use laws::{children_are_one, children_are_over_the_query, goals_are_over_the_query};
+pub use laws::{
+    children_are_one, children_are_over_the_query, goal_lists_are_known, goals_are_over_the_query,
+};

@@ -1,3 +1,2 @@
 pub mod Growing
-pub mod Known
 pub mod Of

@@ -1,5 +1,5 @@
 -- The goal of a word of a goal of the query, and its children.
-use Rattle.std.proofs.Common.{◌≡◌, ℕ, ◌≤◌, List, length, get_or, sym, subst, ◌∙◌}
+use Rattle.std.proofs.Common.{◌≡◌, ℕ, ◌≤◌, List, length, get_or, subst}
 use Rattle.std.specs.Prelude.{All}
 use Rattle.std.specs.List.{Contains}
 use Rattle.std.proofs.lemmas.List.Elements.{All-contains, Contains-get_or}
@@ -9,9 +9,9 @@ use Rattle.request_props.specs.Numbered.{lists_of, orders_of}
 use Rattle.goal_space.specs.Words.{goal_word, HasWord, IsInRange}
 use Rattle.goal_space.specs.Children.{IsChildGoal}
 use Rattle.goal_space.specs.Goals.{IsGoal, child_goal}
-use Rattle.goal_space.specs.Entries.{IsGoalWord, NamesGoal}
+use Rattle.goal_space.specs.Entries.{IsGoalWord}
 use Rattle.goal_space.specs.declared.goals.GoalKind.{GoalKind}
-use Rattle.goal_children.specs.Children.{AreChildren, IsChildIn}
+use Rattle.goal_children.specs.Children.{AreChildren}
 use Rattle.goal_children.specs.Laws.{ClosureHasChildren, GoalsAreOver, GoalsOverHaveWords}
 use Rattle.goal_list.specs.Passes.{ContainsWordOf, HasChildren}
 

@@ -1,10 +1,9 @@
 //! The words of all goals, by passes that add the children of what is new.
 #![tactic(auto)]
 
-ghost use Rattle.std.specs.Prelude.{◌≡◌, ◌<◌, ◌≤◌, ◌^◌, ℕ, List, All, IfOk, OnOk, length};
+ghost use Rattle.std.specs.Prelude.{◌≡◌, All, IfOk, OnOk};
 ghost use Rattle.std.specs.List.{Contains};
 ghost use Rattle.std.specs.List.Sorted.{IsStrictlyIncreasing};
-ghost use Rattle.query_core.specs.declared.query.Query.{Query};
 ghost use Rattle.xform_rules.specs.Closure.{IsMember, IsClosureOf};
 ghost use Rattle.request_props.specs.Numbered.{lists_of, orders_of, IsProps};
 ghost use Rattle.goal_space.specs.Words.{goal_word, IsInRange};
@@ -12,8 +11,7 @@ ghost use Rattle.goal_space.specs.Children.{IsChildGoal};
 ghost use Rattle.goal_space.specs.Goals.{root_goal_of, IsGoal};
 ghost use Rattle.goal_space.specs.Entries.{IsGoalWord};
 ghost use Rattle.goal_space.specs.declared.goals.GoalKind.{GoalKind as AnyGoal};
-ghost use Rattle.goal_children.specs.Over.{AreGoalWords};
-ghost use Rattle.goal_list.specs.Listed.{AreGoalsOf};
+ghost use Rattle.goal_children.specs.Listed.{AreGoalsOf};
 ghost use Rattle.goal_list.specs.Passes.{ContainsWordOf, Grows, HasChildren, HaveChildren};
 
 use goal_children::{
@@ -54,19 +52,6 @@ pub fn plain_goals(
         }
         done = words;
     }
-}
-
-/// What all lists of goals have in common.
-pub fn goal_lists_are_known()
-    // A query has one.
-    ensures one { (q : Query) (words others : List ℕ) →
-        AreGoalsOf q words → AreGoalsOf q others → words ≡ others }
-
-    // Its words ascend, and are those of goals over the query.
-    ensures over { (q : Query) (words : List ℕ) →
-        AreGoalsOf q words → AreGoalWords q words }
-{
-    goals_are_over_the_query();
 }
 
 /// Adds the goal of the whole query.

@@ -3,4 +3,4 @@
 
 mod goals;
 
-pub use goals::{goal_lists_are_known, plain_goals};
+pub use goals::plain_goals;

@@ -2,7 +2,8 @@
 
 ghost use Rattle.request_props.specs.Numbered.{IsProps};
 
-use goal_list::{goal_lists_are_known, plain_goals};
+use goal_children::goal_lists_are_known;
+use goal_list::plain_goals;
 use job_trace::{crew_text, trace_text};
 use plan_search::plain_closure;
 use query_core::Query;

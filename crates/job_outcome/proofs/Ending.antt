@@ -17,7 +17,7 @@ use Rattle.goal_space.specs.Words.{goal_word}
 use Rattle.goal_space.specs.Entries.{IsEntry, IsGoalWord}
 use Rattle.goal_space.specs.Laws.{GoalRequestsFit, MembersAreAsked}
 use Rattle.goal_space.specs.Answers.{AreAnswers, TellsAnswer, words_told}
-use Rattle.goal_list.specs.Listed.{AreGoalsOf}
+use Rattle.goal_children.specs.Listed.{AreGoalsOf}
 use Rattle.board_rule.specs.Records.{Ended}
 use Rattle.board_rule.specs.Words.{Mem}
 use Rattle.goal_board.specs.Closed.{cells_below}

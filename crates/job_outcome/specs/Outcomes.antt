@@ -8,7 +8,7 @@ use Rattle.goal_space.specs.Words.{goal_word}
 use Rattle.goal_space.specs.Goals.{root_goal_of}
 use Rattle.goal_space.specs.Entries.{IsEntry, IsGoalWord}
 use Rattle.goal_space.specs.Answers.{AreAnswers, words_told}
-use Rattle.goal_list.specs.Listed.{AreGoalsOf}
+use Rattle.goal_children.specs.Listed.{AreGoalsOf}
 use Rattle.board_rule.specs.Records.{Ended}
 use Rattle.board_rule.specs.Words.{cell_word}
 use Rattle.board_rule.specs.Looks.{Looked}

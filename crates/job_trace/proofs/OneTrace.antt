@@ -7,7 +7,7 @@ use Rattle.goal_space.specs.Words.{goal_word, IsInRange}
 use Rattle.goal_space.specs.declared.goals.GoalKind.{GoalKind}
 use Rattle.goal_children.specs.Over.{IsGoalOver}
 use Rattle.goal_children.specs.Children.{AreChildren}
-use Rattle.job_trace.specs.Trace.{Traced, AreTraced, IsTraceText, trace_section}
+use Rattle.job_trace.specs.Trace.{Traced, IsTraceText, trace_section}
 
 -- the same goal with the same children
 same_parts : (t u : Traced) → t.goal ≡ u.goal → t.children ≡ u.children → t ≡ u

@@ -1,5 +1,5 @@
 -- Goals by their words, and the lines of goals with their children.
-use Rattle.std.proofs.Common.{◌≡◌, ℕ, ◌+◌, ◌<◌, List, [], ◌∷◌, ◌++◌, All, append_assoc, flat_map, map, length, get_or, take, codes, refl, sym, subst, ap, ◌∙◌, arith}
+use Rattle.std.proofs.Common.{◌≡◌, ℕ, ◌+◌, ◌<◌, List, [], ◌∷◌, ◌++◌, All, append_assoc, flat_map, map, length, get_or, take, codes, refl, sym, ap, ◌∙◌, arith}
 use Rattle.std.specs.List.{concat}
 use Rattle.std.specs.List.Sorted.{IsStrictlyIncreasing}
 use Rattle.std.proofs.lemmas.List.{append-nil, get_or-map, length-map, map-append, take_more}

@@ -1,7 +1,7 @@
 -- What the note of a run says.
 use Rattle.std.specs.Prelude.{◌≡◌, ℕ, List, Option, Some, length, ⊤}
 use Rattle.query_core.specs.declared.query.Query.{Query}
-use Rattle.goal_list.specs.Listed.{AreGoalsOf}
+use Rattle.goal_children.specs.Listed.{AreGoalsOf}
 use Rattle.command_line.specs.Command.{PlanCommand}
 use Rattle.command_line.specs.declared.choices.Choices.{Choices}
 use Rattle.orca_cli.specs.Run.{IsAskedBy}

@@ -2,7 +2,7 @@
 use Rattle.std.specs.Prelude.{◌≡◌, ◌<◌, ℕ, All, length}
 use Rattle.xform_rules.specs.Closure.{IsClosureOf}
 use Rattle.request_props.specs.Numbered.{IsProps}
-use Rattle.goal_list.specs.Listed.{AreGoalsOf}
+use Rattle.goal_children.specs.Listed.{AreGoalsOf}
 use Rattle.orca_cli.specs.declared.search.Search.{Search}
 
 -- the query with its props, all its members and its goals, and for each goal the number of one of so many workers

@@ -2,7 +2,7 @@
 use Rattle.std.specs.Prelude.{◌≡◌, ◌<◌, ℕ, All, Bool, true, false, List, [], ◌∷◌, ◌++◌, ◌==◌, Option, None, Some, codes, decimal, if◌then◌else◌, length}
 use Rattle.query_core.specs.declared.query.Query.{Query}
 use Rattle.xform_rules.specs.Closure.{IsClosureOf}
-use Rattle.goal_list.specs.Listed.{AreGoalsOf}
+use Rattle.goal_children.specs.Listed.{AreGoalsOf}
 use Rattle.job_trace.specs.Memo as memos
 use Rattle.job_trace.specs.Trace as traces
 use Rattle.job_trace.specs.Trace.{IsTraceText, IsCrewText}

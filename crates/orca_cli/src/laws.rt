@@ -1,7 +1,7 @@
 //! What follows from how commands are read, and how runs end.
 ghost use Rattle.orca_cli.specs.Laws.{OneGenerated, OneOutcome};
 
-use goal_list::goal_lists_are_known;
+use goal_children::goal_lists_are_known;
 use job_outcome::entries_fit_or_not;
 use job_trace::{memos_are_known, traces_are_known};
 use plan_space::least_is_one;

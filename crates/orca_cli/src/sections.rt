@@ -7,7 +7,7 @@ ghost use Rattle.orca_cli.specs.Views.{text_of};
 use crate::ending::Ending;
 use crate::search::Search;
 use command_line::Choices;
-use goal_list::goal_lists_are_known;
+use goal_children::goal_lists_are_known;
 use job_trace::{crew_text, memo_line, memo_text, trace_line, trace_text};
 use std::alloc::{AllocError, Global};
 use xform_rules::members_are_known;

@@ -1,7 +1,7 @@
 -- No goal lies between two ranks, and once the goals of all ranks are told, these are the answers.
 use Rattle.std.proofs.Common.{sym, subst}
 use Rattle.goal_space.specs.Answers.{AreAnswers}
-use Rattle.goal_list.specs.Listed.{AreGoalsOf}
+use Rattle.goal_children.specs.Listed.{AreGoalsOf}
 use Rattle.goal_answers.specs.Told.{AreToldBelow}
 use Rattle.goal_answers.proofs.ByRank.{told_until, all_told}
 use Rattle.goal_answers.proofs.answers.plain_answers.Goals as goal

@@ -1,4 +1,4 @@
-use Rattle.std.proofs.Common.{◌≡◌, ℕ, List, get_or, inl, inr, length, sym, subst, ◌∙◌, arith}
+use Rattle.std.proofs.Common.{ℕ, List, get_or, sym, subst, ◌∙◌, arith}
 use Rattle.std.specs.List.{Contains}
 use Rattle.std.proofs.lemmas.List.{get_or_default}
 use Rattle.plan_search.proofs.WordLists.{found_there}

@@ -1,8 +1,7 @@
 use Rattle.std.proofs.Common.{subst, sym}
-use Rattle.std.specs.Prelude.{All, Result, OnOk}
+use Rattle.std.specs.Prelude.{All}
 use Rattle.goal_space.specs.Goals.{IsGoal}
 use Rattle.goal_space.specs.Words.{IsInRange}
-use Rattle.goal_space.specs.declared.goals.GoalKind.{GoalKind}
 use Rattle.std.proofs.lemmas.Result.{on_ok_weaker}
 use Rattle.goal_list.specs.Passes.{ContainsWordOf}
 use Rattle.goal_list.proofs.Of.{goals_in_range, has_word, known_goal, children_are_goals, children_found}

@@ -1,4 +1,4 @@
-use Rattle.std.proofs.Common.{◌≡◌, ap, sym, subst, ◌∙◌}
+use Rattle.std.proofs.Common.{sym, subst}
 use Rattle.query_core.specs.Keys.{root_of}
 use Rattle.goal_space.specs.Words.{IsInRange}
 use Rattle.goal_space.specs.Goals.{root_goal_of, IsGoal, root_goal}

@@ -4,7 +4,7 @@ use Rattle.std.proofs.lemmas.List.Elements.{All-nil}
 use Rattle.plan_search.proofs.Growing.{longer_smaller}
 use Rattle.plan_search.proofs.WordLists.{few_words}
 use Rattle.goal_space.specs.Entries.{IsGoalWord}
-use Rattle.goal_list.specs.Listed.{AreGoalsOf}
+use Rattle.goal_children.specs.Listed.{AreGoalsOf}
 use Rattle.goal_list.specs.Passes.{HaveChildren}
 use Rattle.goal_list.proofs.Growing.{all_small, closed, goals_on, none_done}
 use Rattle.goal_list.proofs.Of.{goals_in_range}

@@ -1,4 +1,4 @@
-use Rattle.std.proofs.Common.{◌≡◌, ◌++◌, ◌<◌, codes, decimal, get_or, length, rules, string_bytes, arith}
+use Rattle.std.proofs.Common.{◌++◌, codes, decimal, get_or, rules, string_bytes, arith}
 use Rattle.query_text.specs.Added.{Adds}
 use Rattle.job_trace.proofs.CrewLines.{crew_more, crew_all}
 use Rattle.job_trace.proofs.crew.push_crew_lines.Goals as goal

@@ -1,4 +1,4 @@
-use Rattle.std.proofs.Common.{◌≡◌, ℕ, List, ◌<◌, [], ◌++◌, ◌+◌, rules, ap, sym, subst, ◌∙◌, arith, codes, drop, get_or, length, string_bytes, true≢false}
+use Rattle.std.proofs.Common.{◌≡◌, ℕ, List, ◌<◌, ◌++◌, ◌+◌, rules, ap, sym, subst, ◌∙◌, arith, codes, drop, get_or, length, string_bytes, true≢false}
 use denote.Text.{Utf8}
 use denote.Shadow.{shadow}
 use Rattle.query_core.specs.Sets.{Has}

@@ -1,15 +1,13 @@
 -- What all lists of the goals of a query have in common.
-use Rattle.std.proofs.Common.{◌≡◌, ℕ, List, get_or, subst, ◌∙◌}
+use Rattle.std.proofs.Common.{◌≡◌, ℕ, List, subst, ◌∙◌}
 use Rattle.std.specs.Prelude.{All}
 use Rattle.std.specs.List.{Contains}
 use Rattle.query_core.specs.declared.query.Query.{Query}
 use Rattle.xform_rules.proofs.OneClosure.{increasing_one}
-use Rattle.goal_space.specs.Words.{goal_word}
 use Rattle.goal_space.specs.Goals.{IsGoal}
-use Rattle.goal_space.specs.Entries.{IsGoalWord}
 use Rattle.goal_space.specs.declared.goals.GoalKind.{GoalKind}
 use Rattle.goal_children.specs.Over.{IsGoalOver, IsGoalWordOver}
-use Rattle.goal_list.specs.Listed.{AreGoalsOf}
+use Rattle.goal_children.specs.Listed.{AreGoalsOf}
 
 -- the words of one list are among those of the other
 among : (q : Query) (words others : List ℕ) → AreGoalsOf q words → AreGoalsOf q others → (word : ℕ) → Contains words word → Contains others word
