@@ -18,9 +18,9 @@ use std::alloc::{AllocError, Global};
 use std::sync::Wait;
 use std::thread::Threads;
 
-// For each expression that the groups can hold there are some 6 entries, and about a third of one more for each
-// predicate. A board that is all but full is slow, so it gets half as many cells again.
-const CELLS_FOR_EACH: usize = 9;
+// For each expression that the groups can hold there are some 5 entries, and about half a one more for each predicate.
+// A board that is all but full is slow, so it gets half as many cells again.
+const CELLS_FOR_EACH: usize = 6;
 
 // A board has at least so many cells more.
 const LEAST_ROOM: usize = 64;
@@ -83,7 +83,7 @@ fn usual_room(query: &Query, props: &Props, cap: u32) -> u32
     requires { 1 ≤ cap }
     ensures { (1 ≤ result) × (result ≤ cap) }
 {
-    let cells = CELLS_FOR_EACH + query.preds.len() / 2;
+    let cells = CELLS_FOR_EACH + query.preds.len();
     let usual = props
         .candidate_count()
         .saturating_mul(cells)
