@@ -1,13 +1,15 @@
 -- Laws of masks of predicates, of which each is a bit of a number of 64 bits.
-use Rattle.std.proofs.Common.{◌≡◌, ◌⊎◌, inl, inr, ℕ, ◌+◌, ◌*◌, ◌%◌, ◌^◌, ◌<◌, ◌≤◌, List, [], ◌∷◌, ◌++◌, Option, None, Some, length, length-append, map, get_or, max, min, arith, ap, refl, sym, subst, ◌∙◌, IsTrue, Bool, true, false, ◌&&◌, if◌then◌else◌}
+use Rattle.std.proofs.Common.{◌≡◌, ◌⊎◌, inl, inr, ℕ, ◌+◌, ◌-◌, ◌*◌, ◌/◌, ◌%◌, ◌^◌, ◌<◌, ◌≤◌, List, [], ◌∷◌, ◌++◌, Option, None, Some, length, length-append, map, get_or, max, min, arith, ap, refl, sym, subst, ◌∙◌, IsTrue, Bool, true, false, ◌&&◌, if◌then◌else◌}
 use Rattle.std.specs.Prelude.{bit_and, bit_or, ◌≢◌, slice_get, IfSome}
-use Rattle.std.specs.Int.{w64}
+use Rattle.std.specs.Int.{w64, bit_at, trailing_zeros}
 use Rattle.std.specs.Option.{option_map}
 use Rattle.std.proofs.lemmas.Bool.{and_parts, cases_lt, cases_eq}
 use Rattle.std.proofs.lemmas.Option.{slice_get-map, slice_get_within, get_or_from_slice_get}
 use Rattle.std.proofs.lemmas.List.{get_or_append_left}
 use Rattle.std.proofs.Math.Seq.{get_or-append_seam}
-use Rattle.std.proofs.lemmas.Nat.Bits.{bit_at_set_same, bit_at_set_other}
+use Rattle.std.proofs.Math.Nat.{div-le_self}
+use Rattle.std.proofs.lemmas.Nat.{shr-shr}
+use Rattle.std.proofs.lemmas.Nat.Bits.{bit_at_set_same, bit_at_set_other, bit_at-zero, bit_at-trailing_zeros}
 use Rattle.query_core.specs.Sets.{bit, Has}
 use Rattle.query_core.specs.Keys.{has_item}
 use Rattle.query_core.specs.declared.query.Query.{Query}
@@ -51,6 +53,34 @@ in_either a b c d k either = elim either [
 -- a mask of 64 bits has none from 64 on
 pub mask_below : (mask k : ℕ) → mask < 2 ^ 64 → Has mask k → k < 64
 mask_below mask k fits has = elim (cases_lt k 64) [ inl less ↦ less | inr more ↦ absurd (omega (arith, bit-beyond mask 64 k fits more, has)) ]
+
+-- a place from the one on to which a mask is shifted is in the rest
+shifted : (mask from pred : ℕ) → from ≤ pred → bit (mask / 2 ^ from) (pred - from) ≡ bit mask pred
+unfolding bit
+shifted mask from pred after = ap (λ x. x % 2) (shr-shr mask from (pred - from)) ∙ ap (bit_at mask) (omega (arith, after))
+
+-- where nothing is left there, the mask has no predicate from there on
+pub none_left : (mask from pred : ℕ) → mask / 2 ^ from ≡ 0 → from ≤ pred → Has mask pred → ⊥
+unfolding bit
+none_left mask from pred none after has =
+    let zero : bit_at mask pred ≡ 0 = sym (shifted mask from pred after) ∙ (ap (λ x. bit_at x (pred - from)) none ∙ bit_at-zero (pred - from)) in
+    absurd (omega (arith, zero, has))
+
+-- the first of the rest is one of the mask, and the first of it from there on
+pub first_left : (mask from : ℕ) → mask < 2 ^ 64 → 0 < mask / 2 ^ from
+    → (from + trailing_zeros w64 (mask / 2 ^ from) < 64) × ((pred : ℕ) → from ≤ pred → pred < from + trailing_zeros w64 (mask / 2 ^ from) → Has mask pred → ⊥)
+unfolding bit
+first_left mask from fits some =
+    let rest = mask / 2 ^ from in
+    let small : rest < 2 ^ 64 = omega (arith, div-le_self mask (2 ^ from), fits) in
+    let found = bit_at-trailing_zeros w64 rest some small in
+    let place = from + trailing_zeros w64 rest in
+    let here : Has mask place = sym (shifted mask from place (omega arith)) ∙ (ap (bit_at rest) (omega arith) ∙ found.1) in (
+      mask_below mask place fits here,
+      λ pred after before has.
+          let zero : bit_at rest (pred - from) ≡ 0 = found.2 (pred - from) (omega (arith, after, before)) in
+          absurd (omega (arith, shifted mask from pred after, zero, has)),
+    )
 
 module _ (q : Query) (group : KeyParts) where
   -- masks of no predicates

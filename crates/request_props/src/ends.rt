@@ -2,7 +2,7 @@
 //! else shifts or masks these.
 #![tactic(auto)]
 
-ghost use Rattle.std.specs.Prelude.{ℕ, ◌≡◌, ◌≢◌, ◌<◌, ◌⊎◌, ◌↔◌, IfOk, IsTrue, map};
+ghost use Rattle.std.specs.Prelude.{ℕ, ◌≡◌, ◌≢◌, ◌<◌, ◌≤◌, ◌⊎◌, ◌↔◌, IfOk, IsTrue, map, max};
 ghost use Rattle.query_core.specs.Sets.{bit, Has};
 ghost use Rattle.query_core.specs.declared.words.KeyParts.TheVariants.{Get, Join};
 ghost use Rattle.request_props.specs.Numbered.{equality_of};
@@ -55,6 +55,18 @@ impl Crossings {
             None => true,
         }
     }
+
+    /// The first of them from this number on, or a number that no predicate has.
+    pub fn next(self, from: u32) -> u32
+        ensures from { from ≤ result }
+        ensures near { result ≤ max from 64 }
+        ensures none { (pred : ℕ) → from ≤ pred → pred < result → Admits self pred → ⊥ }
+    {
+        match self.known {
+            Some(mask) => next_pred(mask, from),
+            None => from,
+        }
+    }
 }
 
 /// The equalities of which each table has a column.
@@ -95,6 +107,22 @@ fn has_pred(mask: u64, pred: u32) -> bool
     ensures { IsTrue result ↔ Has mask pred }
 {
     pred < 64 && (mask >> pred) & 1 == 1
+}
+
+// The first predicate of the mask from this number on, or a number that no predicate has.
+fn next_pred(mask: u64, from: u32) -> u32
+    ensures from { from ≤ result }
+    ensures near { result ≤ max from 64 }
+    ensures none { (pred : ℕ) → from ≤ pred → pred < result → Has mask pred → ⊥ }
+{
+    if from >= 64 {
+        return from;
+    }
+    let rest = mask >> from;
+    if rest == 0 {
+        return 64;
+    }
+    from + rest.trailing_zeros()
 }
 
 // The equalities of which a group has a column.
