@@ -1,7 +1,8 @@
 -- The modes by their numbers.
-use Rattle.std.proofs.Common.{◌≡◌, ℕ, ◌-◌, ◌<◌, ◌≤◌, ◌⊎◌, inl, inr, refl, subst, arith, lt-ltb}
+use Rattle.std.proofs.Common.{◌≡◌, ℕ, ◌+◌, ◌-◌, ◌<◌, ◌≤◌, ◌⊎◌, inl, inr, ap, refl, subst, sym, ◌∙◌, arith, lt-ltb}
 use Rattle.std.proofs.lemmas.Bool.{cases_lt, le-ltb}
-use Rattle.plan_space.specs.Modes.{mode_at, IsCounted}
+use Rattle.plan_space.specs.Modes.{mode_at, number_in, further, AreInARow, IsCounted}
+use Rattle.plan_space.specs.declared.modes.Mode.{Mode}
 use Rattle.plan_space.specs.declared.modes.Mode.TheVariants.{One, Copied, Hashed}
 use Rattle.plan_space.specs.declared.modes.ModeCounts.{ModeCounts}
 
@@ -25,5 +26,23 @@ counted_cases counts number is = elim (cases_lt number 64) [
   | inr far ↦ elim (cases_lt number 128) [
     | inl less ↦ inr (inl (far, less, subst (IsCounted counts) (copied_at number far less) is))
     | inr more ↦ inr (inr (more, subst (IsCounted counts) (hashed_at number more) is))
+  ]
+]
+
+-- within a kind one number on is one mode on
+pub in_a_row : AreInARow
+in_a_row number by within = elim (cases_lt number 64) [
+  | inl near ↦
+      let here = one_at number near in
+      let small : number + by < 64 = subst (λ (m : Mode). number_in m + by < 64) here within in
+      one_at (number + by) small ∙ sym (ap (λ (m : Mode). further m by) here)
+  | inr far ↦ elim (cases_lt number 128) [
+    | inl less ↦
+        let here = copied_at number far less in
+        let small : number - 64 + by < 64 = subst (λ (m : Mode). number_in m + by < 64) here within in
+        copied_at (number + by) (omega (arith, far)) (omega (arith, far, small)) ∙ (ap Copied (omega (arith, far)) ∙ sym (ap (λ (m : Mode). further m by) here))
+    | inr more ↦
+        let here = hashed_at number more in
+        hashed_at (number + by) (omega (arith, more)) ∙ (ap Hashed (omega (arith, more)) ∙ sym (ap (λ (m : Mode). further m by) here))
   ]
 ]

@@ -1,5 +1,5 @@
 -- What the numbers of modes mean.
-use Rattle.std.specs.Prelude.{ℕ, ◌-◌, ◌≤◌, ◌<◌, nat_lt, if◌then◌else◌, ⊤}
+use Rattle.std.specs.Prelude.{ℕ, ◌≡◌, ◌+◌, ◌-◌, ◌≤◌, ◌<◌, nat_lt, if◌then◌else◌, ⊤}
 use Rattle.plan_space.specs.declared.modes.Mode.{Mode}
 use Rattle.plan_space.specs.declared.modes.Mode.TheVariants.{One, Copied, Hashed}
 use Rattle.plan_space.specs.declared.modes.ModeCounts.{ModeCounts}
@@ -34,3 +34,19 @@ abbrev pub IsCounted : ModeCounts → Mode → Type 0
 IsCounted counts (One number) = number < counts.one
 IsCounted counts (Copied number) = number < counts.copied
 IsCounted counts (Hashed number) = number < counts.hashed
+
+-- the equality or the list by which the mode works
+abbrev pub number_in : Mode → ℕ
+number_in (One number) = number
+number_in (Copied number) = number
+number_in (Hashed number) = number
+
+-- the mode of the same kind by one so many further
+abbrev pub further : Mode → ℕ → Mode
+further (One number) by = One (number + by)
+further (Copied number) by = Copied (number + by)
+further (Hashed number) by = Hashed (number + by)
+
+-- the modes of a kind are numbered one after the other, 64 of each
+abbrev pub AreInARow : Type 0
+AreInARow = (number by : ℕ) → number_in (mode_at number) + by < 64 → mode_at (number + by) ≡ further (mode_at number) by
