@@ -19,8 +19,7 @@ use Rattle.goal_space.specs.declared.goals.GoalKind.TheVariants.{Opt, OptE}
 use Rattle.goal_space.specs.declared.goals.GoalKind.{GoalKind}
 use Rattle.goal_children.specs.Children.{IsChildIn}
 use Rattle.goal_children.specs.Choices.{AreAskedBy, IsOfAlt, IsOfAlternatives, IsOfRequest}
-use Rattle.goal_children.specs.Finding.{AreGoalsOf, Collects, FindsFrom, sooner_of}
-use Rattle.goal_children.proofs.Finds.{finds_as, sooner_is}
+use Rattle.goal_children.specs.Finding.{AreGoalsOf, Collects, FindsFrom}
 
 -- nothing comes, of a kind that has nothing
 pub collects_nothing : (Kind : GoalKind → Type 0) (goals : List GoalKind) → ((k : GoalKind) → Kind k → ⊥) → Collects Kind goals goals
@@ -86,24 +85,6 @@ goals_more S T U old new to from are collects = record {
 -- the same kind in other words
 pub goals_as : (S T : GoalKind → Type 0) (goals : List GoalKind) → ((k : GoalKind) → S k → T k) → ((k : GoalKind) → T k → S k) → AreGoalsOf S goals → AreGoalsOf T goals
 goals_as S T goals to from are = record { exact = λ k. (λ there. to k ((are.exact k).0 there), λ is. (are.exact k).1 (from k is)); in_range = are.in_range }
-
--- ---- the first of a list
-
--- of no goals there is none
-pub first_none : (bound : ℕ) → FindsFrom (Contains []) bound None
-first_none bound goal (k, within, at) above = omega (arith, within)
-
--- or of one more
-pub first_more : (goals : List GoalKind) (goal : GoalKind) (bound : ℕ) (before this found : Option GoalKind) → found ≡ sooner_of before this
-    → FindsFrom (Contains goals) bound before → FindsFrom (λ k. k ≡ goal) bound this → FindsFrom (Contains (goals ++ goal ∷ [])) bound found
-first_more goals goal bound before this found is first second =
-    finds_as (λ k. Contains goals k ⊎ (k ≡ goal)) (Contains (goals ++ goal ∷ [])) bound found
-    (λ k cases. elim cases [
-      | inl earlier ↦ Contains-append_left goals (goal ∷ []) k earlier
-      | inr same ↦ subst (Contains (goals ++ goal ∷ [])) (sym same) (Contains-push goals goal)
-    ])
-    (λ k there. elim (Contains-push_cases goals goal k there) [ inl earlier ↦ inl earlier | inr same ↦ inr (sym same) ])
-    (sooner_is (Contains goals) (λ k. k ≡ goal) bound before this found is first second)
 
 -- ---- what an alternative asks for
 
