@@ -1,5 +1,5 @@
 -- A mode with a line is one that is tried.
-use Rattle.std.proofs.Common.{◌≡◌, ℕ, ◌+◌, ◌<◌, ◌≤◌, Option, None, Some, refl, subst, sym, inl, inr, arith}
+use Rattle.std.proofs.Common.{◌≡◌, ℕ, ◌<◌, ◌≤◌, Option, None, Some, refl, subst, sym, inl, inr, arith}
 use Rattle.std.proofs.lemmas.Bool.{cases_lt}
 use Rattle.std.specs.Option.{option_map}
 use Rattle.query_core.specs.Crossing.{crossing_of}
@@ -8,15 +8,13 @@ use Rattle.query_core.specs.declared.words.KeyParts.{KeyParts}
 use Rattle.query_core.specs.declared.expressions.Physical.{Physical}
 use Rattle.query_core.specs.declared.expressions.Physical.TheVariants as physical
 use Rattle.query_core.specs.declared.expressions.PhysicalExpr.{PhysicalExpr}
-use Rattle.request_props.specs.Ends.{Admits}
-use Rattle.request_props.specs.declared.ends.Crossings.{Crossings}
 use Rattle.plan_space.specs.Lines.{operator_line, line_of}
 use Rattle.plan_space.specs.Modes.{mode_at, IsCounted}
 use Rattle.plan_space.specs.declared.lines.Line.{Line}
 use Rattle.plan_space.specs.declared.modes.Mode.{Mode}
 use Rattle.plan_space.specs.declared.modes.Mode.TheVariants.{One, Copied, Hashed}
 use Rattle.plan_space.specs.declared.modes.ModeCounts.{ModeCounts}
-use Rattle.plan_tree.specs.Walks.{AdmitsMode, AreAny, AreCrossingsBetween, AreNone, AreTriedOf, counts_of}
+use Rattle.plan_tree.specs.Walks.{AdmitsMode, AreAny, AreNone, AreTriedOf, counts_of}
 use Rattle.plan_tree.specs.declared.walks.TriedModes.{TriedModes}
 use Rattle.plan_tree.proofs.Counted.{line_counted}
 
@@ -66,15 +64,19 @@ NoneTried tried from below = (number : ℕ) → from ≤ number → number < bel
 pub none_counted : (tried : TriedModes) (from below : ℕ) → ((number : ℕ) → from ≤ number → number < below → IsCounted tried.counts (mode_at number) → ⊥) → NoneTried tried from below
 none_counted tried from below none number above within counted admits = none number above within counted
 
--- one more that isn't admitted, and those behind it that aren't counted
-pub none_more_tried : (tried : TriedModes) (from number next : ℕ) → NoneTried tried from number → (AdmitsMode tried (mode_at number) → ⊥)
-    → ((m : ℕ) → number + 1 ≤ m → m < next → IsCounted tried.counts (mode_at m) → ⊥) → NoneTried tried from next
-none_more_tried tried from number next before here after m above within counted admits = elim (cases_lt m number) [
+-- one more that isn't admitted, none behind it up to another number, and from there on none that is counted
+pub none_more_tried : (tried : TriedModes) (from number past next : ℕ) → NoneTried tried from number → (AdmitsMode tried (mode_at number) → ⊥)
+    → ((m : ℕ) → number < m → m < past → AdmitsMode tried (mode_at m) → ⊥)
+    → ((m : ℕ) → past ≤ m → m < next → IsCounted tried.counts (mode_at m) → ⊥) → NoneTried tried from next
+none_more_tried tried from number past next before here behind after m above within counted admits = elim (cases_lt m number) [
   | inl earlier ↦ before m above earlier counted admits
   | inr later ↦ elim (cases_lt number m) [
-    | inl past ↦ after m (omega (arith, past)) within counted
-    | inr not_past ↦
-        let same : m ≡ number = omega (arith, later, not_past) in
+    | inl beyond ↦ elim (cases_lt m past) [
+      | inl near ↦ behind m beyond near admits
+      | inr far ↦ after m far within counted
+    ]
+    | inr not_beyond ↦
+        let same : m ≡ number = omega (arith, later, not_beyond) in
         here (subst (λ (k : ℕ). AdmitsMode tried (mode_at k)) same admits)
   ]
 ]

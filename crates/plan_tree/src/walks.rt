@@ -7,7 +7,7 @@ ghost use Rattle.plan_space.specs.Modes.{mode_at, IsCounted};
 ghost use Rattle.plan_tree.specs.Walks.{AdmitsMode, AreTried, IsNextLine, counts_of as counts_by_operator};
 
 use crate::lines::line_of;
-use plan_space::{Line, MODES_END, Mode, ModeCounts, modes_are_few};
+use plan_space::{Line, MODES_END, Mode, ModeCounts, modes_are_few, modes_are_in_a_row};
 use query_core::{Physical, PhysicalExpr, Query};
 use request_props::{Crossings, Props};
 
@@ -67,9 +67,25 @@ impl TriedModes {
     {
         let mut number = self.counts.next(from);
         while number < MODES_END && !self.admits(Mode::at(number)) {
-            number = self.counts.next(number + 1);
+            number = self.counts.next(self.past(number));
         }
         number
+    }
+
+    // A number behind this one, up to which no mode of its kind is admitted.
+    fn past(self, number: u32) -> u32
+        requires { number < 192 }
+        ensures after { number < result }
+        ensures none { (m : ℕ) → number < m → m < result → AdmitsMode self (mode_at m) → ⊥ }
+    {
+        // For the proof: modes of a kind are numbered one after the other.
+        modes_are_in_a_row();
+        let (pred, next) = match Mode::at(number) {
+            Mode::One(pred) => (pred, self.one.next(pred + 1)),
+            Mode::Copied(pred) => (pred, self.copied.next(pred + 1)),
+            Mode::Hashed(pred) => (pred, self.hashed.next(pred + 1)),
+        };
+        number + (next - pred)
     }
 
     // Whether the mode is by a predicate that may cross, or by none.

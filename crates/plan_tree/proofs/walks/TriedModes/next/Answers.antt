@@ -11,13 +11,14 @@ loop-number-init c = record {
   none = none_counted c.args.self c.args.from c.next-number.result c.next-number.ensures.none;
 }
 
--- a mode that isn't admitted is passed
+-- a mode that isn't admitted is passed, and those of its kind behind it that aren't
 pub loop-number-preserved : goal.loop-number-preserved
 loop-number-preserved c =
+    let past = c.past in
     let next = c.next-number-in-loop-number in
     record {
-      after = omega (arith, c.loop-number.invariant.after, next.ensures.from);
-      none = none_more_tried c.args.self c.args.from c.loop-number.number next.result c.loop-number.invariant.none
+      after = omega (arith, c.loop-number.invariant.after, past.ensures.after, next.ensures.from);
+      none = none_more_tried c.args.self c.args.from c.loop-number.number past.result next.result c.loop-number.invariant.none
           (λ admits. false≢true (c.if-not-admits.ensures.1 (subst (λ (m : Mode). AdmitsMode c.args.self m) (sym c.at.ensures) admits)))
-          next.ensures.none;
+          past.ensures.none next.ensures.none;
     }
