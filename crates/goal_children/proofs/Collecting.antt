@@ -1,5 +1,5 @@
 -- Goals that come to a list.
-use Rattle.std.proofs.Common.{◌≡◌, ℕ, ◌↔◌, List, [], ◌∷◌, ◌++◌, All, Option, None, Some, ◌⊎◌, inl, inr, refl, sym, subst, ap, ◌∙◌, arith}
+use Rattle.std.proofs.Common.{◌≡◌, ℕ, ◌↔◌, List, [], ◌∷◌, ◌++◌, All, Option, None, Some, ◌⊎◌, inl, inr, refl, sym, subst, ap, ◌∙◌}
 use Rattle.std.specs.Prelude.{IfSome}
 use Rattle.std.specs.List.{Contains}
 use Rattle.std.specs.Option.{option_map}
@@ -20,6 +20,7 @@ use Rattle.goal_space.specs.declared.goals.GoalKind.{GoalKind}
 use Rattle.goal_children.specs.Children.{IsChildIn}
 use Rattle.goal_children.specs.Choices.{AreAskedBy, IsOfAlt, IsOfAlternatives, IsOfRequest}
 use Rattle.goal_children.specs.Finding.{AreGoalsOf, Collects, FindsFrom}
+use Rattle.goal_children.proofs.Finds.{finds_as}
 
 -- nothing comes, of a kind that has nothing
 pub collects_nothing : (Kind : GoalKind → Type 0) (goals : List GoalKind) → ((k : GoalKind) → Kind k → ⊥) → Collects Kind goals goals
