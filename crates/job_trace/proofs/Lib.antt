@@ -3,6 +3,7 @@ pub mod ByGroup
 pub mod Order
 pub mod Known
 pub mod Adding
+pub mod KeptPieces
 pub mod Traced
 pub mod CrewLines
 pub mod OneLine

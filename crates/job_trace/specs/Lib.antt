@@ -4,6 +4,7 @@ pub mod Members
 pub mod Memo
 pub mod Lines
 pub mod Requests
+pub mod Pieces
 pub mod Goals
 pub mod Trace
 pub mod GoalLines

@@ -10,6 +10,7 @@ ghost use Rattle.job_trace.specs.Trace as texts;
 ghost use Rattle.job_trace.specs.Trace.{IsCrewText};
 
 use crate::goals::push_goal_line;
+use crate::pieces::Pieces;
 use crate::trace::goals_of;
 use goal_space::GoalKind;
 use query_core::Query;
@@ -32,12 +33,13 @@ pub fn crew_text(
     let goals = goals_of(alloc, query, props, goals)?;
     let mut text = String::new(alloc);
     text.push_str("by-worker\n")?;
-    push_crew_lines(query, props, goals.as_slice(), who, &mut text)?;
+    push_crew_lines(alloc, query, props, goals.as_slice(), who, &mut text)?;
     Ok(text.into_bytes())
 }
 
 // Adds a line for each goal.
 fn push_crew_lines(
+    alloc: Global,
     query: &Query,
     props: &Props,
     goals: &[GoalKind],
@@ -49,10 +51,11 @@ fn push_crew_lines(
     ensures ok { OnOk result (Adds (string_bytes text.old)
         (concat (texts.crew_lines query.now goals.now who.now)) (string_bytes text.new)) }
 {
+    let mut pieces = Pieces::new(alloc)?;
     for place in 0..goals.len() {
         let worker = who[place];
         write!(text, "{worker} ")?;
-        push_goal_line(query, props, goals[place], text)?;
+        push_goal_line(alloc, query, props, goals[place], &mut pieces, text)?;
     }
     Ok(())
 }

@@ -8,6 +8,7 @@ mod groups;
 mod laws;
 mod members;
 mod memo;
+mod pieces;
 mod requests;
 mod trace;
 

@@ -14,10 +14,12 @@ ghost use Rattle.query_text.specs.Added.{Adds};
 ghost use Rattle.job_trace.specs.Counts.{counted};
 ghost use Rattle.job_trace.specs.Trace as texts;
 ghost use Rattle.job_trace.specs.Trace.{AreGoals, count_of, IsTraceLine, IsTraceText};
+ghost use Rattle.job_trace.specs.Pieces.{AreKept};
 ghost use Rattle.job_trace.specs.GoalLines.{AddsTraced, HaveGoalWords};
 
 use crate::counts::push_count;
 use crate::goals::push_goal_line;
+use crate::pieces::Pieces;
 use goal_children::{children_are_over_the_query, known_goal, list_children};
 use goal_space::GoalKind;
 use query_core::{Goal, Query};
@@ -163,28 +165,33 @@ fn push_all_traced(
         (string_bytes text.old) (string_bytes text.new)) }
 {
     let mut children = Vec::new(alloc);
+    let mut pieces = Pieces::new(alloc)?;
     for goal in goals {
-        push_goal_line(query, props, *goal, text)?;
+        push_goal_line(alloc, query, props, *goal, &mut pieces, text)?;
         list_children(alloc, query, props, members, *goal, &mut children)?;
-        push_child_lines(query, props, children.as_slice(), text)?;
+        push_child_lines(alloc, query, props, children.as_slice(), &mut pieces, text)?;
     }
     Ok(())
 }
 
 // Adds the lines of children.
 fn push_child_lines(
+    alloc: Global,
     query: &Query,
     props: &Props,
     children: &[GoalKind],
+    pieces: &mut Pieces,
     text: &mut String,
 ) -> Result<(), AllocError>
-    requires { IsProps query.now props.now }
+    requires props { IsProps query.now props.now }
+    requires kept { AreKept query.now pieces.old }
     ensures ok { OnOk result (Adds (string_bytes text.old)
         (concat (map (texts.child_line query.now) children.now)) (string_bytes text.new)) }
+    ensures kept { OnOk result (AreKept query.now pieces.new) }
 {
     for child in children {
         text.push_str("  ")?;
-        push_goal_line(query, props, *child, text)?;
+        push_goal_line(alloc, query, props, *child, pieces, text)?;
     }
     Ok(())
 }

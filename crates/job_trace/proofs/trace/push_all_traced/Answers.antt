@@ -1,4 +1,4 @@
-use Rattle.std.proofs.Common.{List, get_or, map, string_bytes, sym, subst, take}
+use Rattle.std.proofs.Common.{◌+◌, List, get_or, map, string_bytes, sym, subst, take}
 use Rattle.std.specs.List.{concat}
 use Rattle.std.proofs.lemmas.List.{take_all, take_more}
 use Rattle.goal_space.specs.declared.goals.GoalKind.{GoalKind}
@@ -9,7 +9,10 @@ use Rattle.job_trace.proofs.Traced.{traced_none, traced_more}
 use Rattle.job_trace.proofs.trace.push_all_traced.Goals as goal
 
 pub loop-goal-init : goal.loop-goal-init
-loop-goal-init c = traced_none c.args.query.now c.args.members.now (string_bytes c.args.text.now)
+loop-goal-init c = record {
+  added = traced_none c.args.query.now c.args.members.now (string_bytes c.args.text.now);
+  kept = c.in_ok-pieces.ensures c.args.query.now;
+}
 
 -- one more goal with its children
 pub loop-goal-preserved : goal.loop-goal-preserved
@@ -20,13 +23,15 @@ loop-goal-preserved c =
     let children = c.list_children.new.list.items in
     let before = string_bytes c.args.text.now in
     let last = string_bytes c.push_child_lines.new.text in
+    let added : AddsTraced q c.args.members.now (take (i + 1) goals) before last =
     subst (λ (gs : List GoalKind). AddsTraced q c.args.members.now gs before last) (sym (take_more goals i _ c.loop-goal-test.true))
     (traced_more q c.args.members.now (take i goals) (get_or goals i _) children before (string_bytes c.loop-goal.text) (string_bytes c.push_goal_line.new.text) last
-    c.in_ok-list_children.ensures.ok c.loop-goal.invariant c.in_ok-push_goal_line.ensures.ok
-    (subst (λ (cs : List GoalKind). Adds (string_bytes c.push_goal_line.new.text) (concat (map (child_line q) cs)) last) c.as_slice.ensures.value c.in_ok-push_child_lines.ensures.ok))
+    c.in_ok-list_children.ensures.ok c.loop-goal.invariant.added c.in_ok-push_goal_line.ensures.ok
+    (subst (λ (cs : List GoalKind). Adds (string_bytes c.push_goal_line.new.text) (concat (map (child_line q) cs)) last) c.as_slice.ensures.value c.in_ok-push_child_lines.ensures.ok)) in
+    record { added = added; kept = c.in_ok-push_child_lines.ensures.kept }
 
 pub returns : goal.returns
 returns c = record {
   ok = subst (λ (gs : List GoalKind). AddsTraced c.args.query.now c.args.members.now gs (string_bytes c.args.text.now) (string_bytes c.loop-goal.text))
-      (take_all c.loop-goal.goal-index c.args.goals.now c.loop-goal-test.false) c.loop-goal.invariant;
+      (take_all c.loop-goal.goal-index c.args.goals.now c.loop-goal-test.false) c.loop-goal.invariant.added;
 }

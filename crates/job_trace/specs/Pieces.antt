@@ -1,0 +1,20 @@
+-- The pieces that lines of goals have in common.
+use Rattle.std.specs.Prelude.{ℕ, ◌≡◌, List, ◌++◌, All, Option, IfSome, codes}
+use Rattle.query_core.specs.Expressions.{expr_of}
+use Rattle.query_core.specs.declared.query.Query.{Query}
+use Rattle.job_trace.specs.Groups.{group_text}
+use Rattle.job_trace.specs.Members.{member_text}
+use Rattle.job_trace.specs.Requests.{request_text}
+use Rattle.job_trace.specs.declared.pieces.Piece.{Piece}
+use Rattle.job_trace.specs.declared.pieces.Piece.TheVariants.{Group, Member, Wanted}
+use Rattle.job_trace.specs.declared.pieces.Written.{Written}
+
+-- a group or an expression, with all that stands before the request; and a request, with the end of its line
+abbrev pub piece_text : Query → Piece → List ℕ
+piece_text q (Group group) = codes "Opt " ++ group_text q group ++ codes " "
+piece_text q (Member e) = codes "OptE " ++ member_text q (expr_of e) ++ codes " "
+piece_text q (Wanted wanted) = request_text q wanted ++ codes "\n"
+
+-- each piece that is kept has its text
+abbrev pub AreKept : Query → List (Option Written) → Type 0
+AreKept q places = All (λ place. IfSome place (λ kept. kept.text ≡ piece_text q kept.piece)) places
