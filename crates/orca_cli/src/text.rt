@@ -4,6 +4,7 @@ ghost use Rattle.std.specs.Io.KnownBytes.{Appends};
 ghost use Rattle.orca_base.specs.Causes.{Rose};
 ghost use Rattle.orca_io.specs.Sink.{TakesPrefix};
 
+use memchr::memchr;
 use orca_io::{Sink, SinkError};
 
 /// Puts each line of the text, one put a line.
@@ -35,10 +36,8 @@ fn line_length(text: &[u8]) -> usize
     ensures some { 0 < result }
     ensures within { result ≤ length text.now }
 {
-    for (at, byte) in text.iter().enumerate() {
-        if *byte == b'\n' {
-            return at + 1;
-        }
+    match memchr(b'\n', text) {
+        Some(at) => at + 1,
+        None => text.len(),
     }
-    text.len()
 }
