@@ -12,18 +12,23 @@ use crate::note::RunNote;
 use crate::runs::{run_alone, run_crew};
 use job_outcome::Outcome;
 use orca_io::Gate;
-use query_core::Query;
+use query_core::{Operand, Pred, Query};
 use request_props::Props;
 use std::alloc::{AllocError, Global};
 use std::sync::Wait;
 use std::thread::Threads;
 
-// For each expression that the groups can hold there are some 5 entries, and about half a one more for each predicate.
-// A board that is all but full is slow, so it gets half as many cells again.
-const CELLS_FOR_EACH: usize = 6;
+// For each expression that the groups can hold a board has so many cells, one more for each comparison of two columns,
+// though of these no more than one and a half for each hashed list, and one more for each column of GROUP BY. With too
+// few cells the search is made again, and each cell too many is filled and read. Measured: of some 7,000 queries over 2
+// to 8 tables (chains, stars, snowflakes, other trees and cliques, with several equalities of two tables, filters,
+// groupings, orders, hashed tables and indexes) none would fill more than 95 of 100 cells, and the star of eight, which
+// fills 77, is no faster where it fills 90.
+const CELLS_FOR_EACH: usize = 4;
 
-// A board has at least so many cells more.
-const LEAST_ROOM: usize = 64;
+// A board has at least so many cells more, since two or three tables with many equalities have few expressions and many
+// requests.
+const LEAST_ROOM: usize = 512;
 
 /// Searches by one worker on a board of at most `cap` cells. It returns.
 pub fn search_alone(
@@ -83,7 +88,12 @@ fn usual_room(query: &Query, props: &Props, cap: u32) -> u32
     requires { 1 ≤ cap }
     ensures { (1 ≤ result) × (result ≤ cap) }
 {
-    let cells = CELLS_FOR_EACH + query.preds.len();
+    let lists = props.hashed.len();
+    let most = lists.saturating_add(lists / 2);
+    let cells = column_pairs(query.preds.as_slice())
+        .min(most)
+        .saturating_add(query.group_by.len())
+        .saturating_add(CELLS_FOR_EACH);
     let usual = props
         .candidate_count()
         .saturating_mul(cells)
@@ -93,6 +103,17 @@ fn usual_room(query: &Query, props: &Props, cap: u32) -> u32
     } else {
         cap
     }
+}
+
+// How many of the predicates compare two columns.
+fn column_pairs(preds: &[Pred]) -> usize {
+    let mut count = 0usize;
+    for pred in preds {
+        if let Operand::Item(_) = pred.right {
+            count = count.saturating_add(1);
+        }
+    }
+    count
 }
 
 // Searches by one worker on a board with fewer cells than the capacity. None where these were too few.

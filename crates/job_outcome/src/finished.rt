@@ -48,14 +48,14 @@ pub fn finished_of(
     requires { length who.now ≡ length answers.now }
     ensures { IfOk result (λ finished. finished.items ≡ pairs_of answers.now who.now) }
 {
-    let mut finished = Vec::new(alloc);
+    let mut finished = Vec::with_capacity(alloc, answers.len())?;
     for place in 0..answers.len() {
         let (goal, answer) = answers[place];
-        finished.push(Finished {
+        finished.push_reserved(Finished {
             goal,
             answer,
             who: who[place],
-        })?;
+        });
     }
     Ok(finished)
 }
@@ -79,15 +79,16 @@ pub fn lists_of(
     ensures answers { IfOk result (λ lists. lists.1.list ≡ map told_of finished.now) }
     ensures workers { IfOk result (λ lists. lists.2 ≡ map (λ (f : AnyFinished). f.who) finished.now) }
 {
-    let mut goals = List::new(alloc);
-    let mut list = List::new(alloc);
-    let mut who = List::new(alloc);
-    for one in finished {
-        goals.push(one.goal)?;
-        list.push(told(one))?;
-        who.push(one.who)?;
-    }
-    Ok((goals, Answers { list }, who))
+    let goals = finished.iter().map(|one| one.goal).collect(alloc)?;
+    let list = finished.iter().map(told).collect(alloc)?;
+    let who = finished.iter().map(|one| one.who).collect(alloc)?;
+    Ok((
+        List::of(goals),
+        Answers {
+            list: List::of(list),
+        },
+        List::of(who),
+    ))
 }
 
 // The answer in its two words says that there is no plan where the cost is the greatest number.
