@@ -80,7 +80,7 @@ pub fn lists_of(
     ensures workers { IfOk result (λ lists. lists.2 ≡ map (λ (f : AnyFinished). f.who) finished.now) }
 {
     let goals = finished.iter().map(|one| one.goal).collect(alloc)?;
-    let list = finished.iter().map(told).collect(alloc)?;
+    let list = answers_of(alloc, finished)?;
     let who = finished.iter().map(|one| one.who).collect(alloc)?;
     Ok((
         List::of(goals),
@@ -89,6 +89,13 @@ pub fn lists_of(
         },
         List::of(who),
     ))
+}
+
+// The answers to these goals.
+fn answers_of(alloc: Global, finished: &[Finished]) -> Result<Vec<Answered>, AllocError>
+    ensures { IfOk result (λ list. list.items ≡ map told_of finished.now) }
+{
+    finished.iter().map(|one| told(one)).collect(alloc)
 }
 
 // The answer in its two words says that there is no plan where the cost is the greatest number.
