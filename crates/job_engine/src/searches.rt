@@ -20,7 +20,7 @@ use std::thread::Threads;
 
 // For each expression that the groups can hold a board has so many cells, one more for each comparison of two columns,
 // though of these no more than one and a half for each hashed list, and one more for each column of GROUP BY. With too
-// few cells the search is made again, and each cell too many is filled and read. Measured: of some 7,000 queries over 2
+// few cells the search is made again, and each cell too many is filled and read. Measured: of some 8,000 queries over 2
 // to 8 tables (chains, stars, snowflakes, other trees and cliques, with several equalities of two tables, filters,
 // groupings, orders, hashed tables and indexes) none would fill more than 95 of 100 cells, and the star of eight, which
 // fills 77, is no faster where it fills 90.
