@@ -2,8 +2,6 @@
 use Rattle.std.specs.Prelude.{ℕ, List, ◌++◌, codes}
 use Rattle.query_core.specs.Expressions.{expr_of}
 use Rattle.query_core.specs.declared.query.Query.{Query}
-use Rattle.query_core.specs.declared.words.KeyParts.{KeyParts}
-use Rattle.query_core.specs.declared.expressions.ExprParts.{ExprParts}
 use Rattle.xform_rules.specs.Rules.{rule_name}
 use Rattle.goal_space.specs.declared.goals.GoalKind.{GoalKind}
 use Rattle.goal_space.specs.declared.goals.GoalKind.TheVariants.{Exp, ExpE, Xf, Imp, ImpE, Opt, OptE}

@@ -9,7 +9,7 @@ use Rattle.goal_space.specs.declared.goals.GoalKind.{GoalKind}
 use Rattle.goal_children.specs.Over.{IsGoalOver}
 use Rattle.goal_children.specs.Children.{AreChildren}
 use Rattle.job_trace.specs.Counts.{counted}
-use Rattle.job_trace.specs.Goals.{goal_text, goal_line}
+use Rattle.job_trace.specs.Goals.{goal_line}
 
 -- the words ascend, and are those of these goals, which are goals over the query
 pub record AreGoals (q : Query) (words : List ℕ) (goals : List GoalKind) : Type 0 where
