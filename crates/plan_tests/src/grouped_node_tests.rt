@@ -1,16 +1,15 @@
 //! A grouped query over one table with an index, worked by hand.
 
-ghost use Rattle.std.specs.Prelude.{◌≡◌, ◌≤◌, IfOk, IfSome};
+ghost use Rattle.std.specs.Prelude.{IfSome};
 ghost use Rattle.query_core.specs.Expressions.{IsCandidate, expr_of};
 ghost use Rattle.request_props.specs.Numbered.{IsProps};
 
 use crate::node_tests::{ask, made, origin, step};
-use orca_base::{List, Text};
 use plan_tree::*;
 use query_core::*;
 use request_props::{Dist, Props, Request};
-use std::alloc::{AllocError, Global};
 use std::test::Fail;
+use worked_queries::per_group;
 use xform_rules::Rule;
 
 const TABLE: u32 = 0;
@@ -29,85 +28,6 @@ const BY_B_C: u32 = 1;
 const WANTED: u32 = 1;
 
 const GROUPS: u32 = 2;
-
-fn text(alloc: Global, part: &str) -> Result<Text, AllocError>
-    ensures { IfOk result (λ made. made ≡ part.now) }
-{
-    Ok(Text::of(String::from_str(alloc, part)?))
-}
-
-// `SELECT COUNT(*) FROM t WHERE b >= 5 GROUP BY b, c ORDER BY this column`, over a table of 1000
-// rows on 4 segments that is hashed on a and has an index on b, c and a
-fn per_group(alloc: Global, ordered_by: u32) -> Result<Query, AllocError>
-    requires some { 1 ≤ ordered_by }
-    requires most { ordered_by ≤ 2 }
-{
-    let tables = vec![in alloc;
-        QueryTable {
-            alias: text(alloc, "t")?,
-            rows: 1000,
-            hashed: Some(List::of(vec![in alloc; 0]?)),
-            indexes: List::of(vec![in alloc; List::of(vec![in alloc; 1, 2, 0]?)]?)
-        },
-    ]?;
-    let items = vec![in alloc;
-        Item {
-            table: 0,
-            name: text(alloc, "a")?,
-            ndv: 100
-        },
-        Item {
-            table: 0,
-            name: text(alloc, "b")?,
-            ndv: 10
-        },
-        Item {
-            table: 0,
-            name: text(alloc, "c")?,
-            ndv: 4
-        },
-    ]?;
-    let preds = vec![in alloc;
-        Pred {
-            left: 1,
-            op: CmpOp::Ge,
-            right: Operand::Int(5)
-        },
-    ]?;
-    let links = links_of(alloc, &tables, &items, &preds)?;
-    Ok(Query {
-        segments: 4,
-        tables: List::of(tables),
-        items: List::of(items),
-        preds: List::of(preds),
-        links,
-        grouped: true,
-        group_by: List::of(vec![in alloc; 1, 2]?),
-        aggs: List::of(vec![in alloc;
-            Agg {
-                func: AggFunc::CountAll,
-                arg: None,
-                name: None
-            },
-        ]?),
-        output: List::of(vec![in alloc;
-            OutItem {
-                item: 3,
-                name: None
-            },
-        ]?),
-        order: List::of(vec![in alloc;
-            OrderKey {
-                item: ordered_by,
-                desc: false
-            },
-        ]?),
-        options: Options {
-            root: RootDist::One,
-            off: 0,
-        },
-    })
-}
 
 fn first_of(query: &Query, key: u32) -> Option<ExprParts>
     ensures { IfSome result (IsCandidate query.now) }
@@ -195,7 +115,7 @@ fn made_serving(
 
 #[test]
 fn aggregations_are_as_by_hand(rt: HostRuntime) -> Result<(), Fail> {
-    let query = per_group(rt.alloc(), 1)?;
+    let query = per_group(rt.alloc(), "b")?;
     let props = Props::collect(rt.alloc(), &query)?;
     let hashed = Dist::Hashed(BY_B_C);
     let rows = [
@@ -281,7 +201,7 @@ fn aggregations_are_as_by_hand(rt: HostRuntime) -> Result<(), Fail> {
 
 #[test]
 fn partial_groups_stay_where_spread_rows_lie(rt: HostRuntime) -> Result<(), Fail> {
-    let query = per_group(rt.alloc(), 1)?;
+    let query = per_group(rt.alloc(), "b")?;
     let props = Props::collect(rt.alloc(), &query)?;
     let hashed = Dist::Hashed(BY_B_C);
     let rows = [
@@ -305,8 +225,8 @@ fn partial_groups_stay_where_spread_rows_lie(rt: HostRuntime) -> Result<(), Fail
 
 #[test]
 fn an_index_gives_each_order_with_which_its_columns_begin(rt: HostRuntime) -> Result<(), Fail> {
-    let by_b = per_group(rt.alloc(), 1)?;
-    let by_c = per_group(rt.alloc(), 2)?;
+    let by_b = per_group(rt.alloc(), "b")?;
+    let by_c = per_group(rt.alloc(), "c")?;
     for (query, begins) in [(&by_b, true), (&by_c, false)] {
         let props = Props::collect(rt.alloc(), query)?;
         let rows = [
@@ -338,7 +258,7 @@ fn an_index_gives_each_order_with_which_its_columns_begin(rt: HostRuntime) -> Re
 
 #[test]
 fn a_stream_aggregation_gives_the_order_of_its_groups_alone(rt: HostRuntime) -> Result<(), Fail> {
-    let query = per_group(rt.alloc(), 2)?;
+    let query = per_group(rt.alloc(), "c")?;
     let props = Props::collect(rt.alloc(), &query)?;
     let rule = Rule::AggToStream;
     assert!(rt;

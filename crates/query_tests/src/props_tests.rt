@@ -1,105 +1,13 @@
 //! A query of two tables, worked by hand.
 
-ghost use Rattle.std.specs.Prelude.{◌≡◌, IfOk, IsTrue};
+ghost use Rattle.std.specs.Prelude.{IsTrue};
 ghost use Rattle.request_props.specs.Numbered.{IsProps};
 ghost use Rattle.request_props.specs.Satisfied.{IsOrderKnown};
 
-use orca_base::{List, Text};
 use query_core::*;
 use request_props::*;
-use std::alloc::{AllocError, Global};
 use std::test::Fail;
-
-fn text(alloc: Global, part: &str) -> Result<Text, AllocError>
-    ensures { IfOk result (λ made. made ≡ part.now) }
-{
-    Ok(Text::of(String::from_str(alloc, part)?))
-}
-
-// `SELECT A.x FROM A, B WHERE A.x = B.z AND A.x = A.y AND A.y < B.w ORDER BY A.x DESC`,
-// A hashed on x and y with an index on x and y
-fn two_tables(alloc: Global) -> Result<Query, AllocError> {
-    let tables = vec![in alloc;
-        QueryTable {
-            alias: text(alloc, "A")?,
-            rows: 100,
-            hashed: Some(List::of(vec![in alloc; 0, 1]?)),
-            indexes: List::of(vec![in alloc; List::of(vec![in alloc; 0, 1]?)]?)
-        },
-        QueryTable {
-            alias: text(alloc, "B")?,
-            rows: 100,
-            hashed: None,
-            indexes: List::new(alloc)
-        },
-    ]?;
-    let items = vec![in alloc;
-        Item {
-            table: 0,
-            name: text(alloc, "x")?,
-            ndv: 10
-        },
-        Item {
-            table: 0,
-            name: text(alloc, "y")?,
-            ndv: 10
-        },
-        Item {
-            table: 1,
-            name: text(alloc, "z")?,
-            ndv: 10
-        },
-        Item {
-            table: 1,
-            name: text(alloc, "w")?,
-            ndv: 10
-        },
-    ]?;
-    let preds = vec![in alloc;
-        Pred {
-            left: 0,
-            op: CmpOp::Eq,
-            right: Operand::Item(2)
-        },
-        Pred {
-            left: 0,
-            op: CmpOp::Eq,
-            right: Operand::Item(1)
-        },
-        Pred {
-            left: 1,
-            op: CmpOp::Lt,
-            right: Operand::Item(3)
-        },
-    ]?;
-    let links = links_of(alloc, &tables, &items, &preds)?;
-    Ok(Query {
-        segments: 4,
-        tables: List::of(tables),
-        items: List::of(items),
-        preds: List::of(preds),
-        links,
-        grouped: false,
-        group_by: List::new(alloc),
-        aggs: List::new(alloc),
-        output: List::of(vec![in alloc;
-            OutItem {
-                item: 0,
-                name: None
-            },
-        ]?),
-        order: List::of(vec![in alloc;
-            OrderKey {
-                item: 0,
-                desc: true
-            },
-        ]?),
-        options: Options {
-            root: RootDist::One,
-            off: 0,
-        },
-    })
-}
+use worked_queries::two_equalities;
 
 fn key(item: u32, desc: bool) -> OrderKey {
     OrderKey { item, desc }
@@ -121,7 +29,7 @@ fn order_at(props: &Props, place: usize) -> Option<&[OrderKey]> {
 
 #[test]
 fn lists_are_numbered_by_length_and_then_by_their_elements(rt: HostRuntime) -> Result<(), Fail> {
-    let query = two_tables(rt.alloc())?;
+    let query = two_equalities(rt.alloc())?;
     let props = Props::collect(rt.alloc(), &query)?;
     assert!(rt; list_at(&props, 0) == Some([0].as_slice()));
     assert!(rt; list_at(&props, 1) == Some([2].as_slice()));
@@ -132,7 +40,7 @@ fn lists_are_numbered_by_length_and_then_by_their_elements(rt: HostRuntime) -> R
 
 #[test]
 fn orders_are_numbered_by_their_elements(rt: HostRuntime) -> Result<(), Fail> {
-    let query = two_tables(rt.alloc())?;
+    let query = two_equalities(rt.alloc())?;
     let props = Props::collect(rt.alloc(), &query)?;
     assert!(rt; order_at(&props, 0) == Some([key(0, false)].as_slice()));
     assert!(rt; order_at(&props, 1) == Some([key(0, true)].as_slice()));
@@ -148,7 +56,7 @@ fn lent<T: Send + Sync>(value: &T) -> &T {
 
 #[test]
 fn what_is_collected_can_be_shared(rt: HostRuntime) -> Result<(), Fail> {
-    let query = two_tables(rt.alloc())?;
+    let query = two_equalities(rt.alloc())?;
     let props = Props::collect(rt.alloc(), &query)?;
     assert_eq!(rt; lent(&props).orders.len(), 3);
     Ok(())
@@ -156,7 +64,7 @@ fn what_is_collected_can_be_shared(rt: HostRuntime) -> Result<(), Fail> {
 
 #[test]
 fn what_a_query_implies_is_looked_up(rt: HostRuntime) -> Result<(), Fail> {
-    let query = two_tables(rt.alloc())?;
+    let query = two_equalities(rt.alloc())?;
     let props = Props::collect(rt.alloc(), &query)?;
     assert!(rt; props.is_key(&query, Key(1027)));
     assert!(rt; !props.is_key(&query, Key(17)));
@@ -216,7 +124,7 @@ fn answer(query: &Query, props: &Props, given: Given, request: Request) -> Optio
 
 #[test]
 fn requests_are_met_as_by_hand(rt: HostRuntime) -> Result<(), Fail> {
-    let query = two_tables(rt.alloc())?;
+    let query = two_equalities(rt.alloc())?;
     let props = Props::collect(rt.alloc(), &query)?;
     let rows = [
         (GivenDist::One, GivenOrder::Listed(2), Dist::One, 2, true),

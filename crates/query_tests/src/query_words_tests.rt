@@ -1,19 +1,10 @@
 //! Groups of two tables, of three, and of one with indexes; expressions and goals by their words.
 
-ghost use Rattle.std.specs.Prelude.{◌≡◌, IfOk};
 ghost use Rattle.query_core.specs.Keys.{IsKey};
 
-use orca_base::{List, Text};
 use query_core::*;
-use std::alloc::{AllocError, Global};
 use std::test::Fail;
-use worked_queries::{compared_tables, three_indexes};
-
-fn text(alloc: Global, part: &str) -> Result<Text, AllocError>
-    ensures { IfOk result (λ made. made ≡ part.now) }
-{
-    Ok(Text::of(String::from_str(alloc, part)?))
-}
+use worked_queries::{compared_tables, one_linked_pair, three_indexes};
 
 #[test]
 fn two_tables_have_their_groups(rt: HostRuntime) -> Result<(), Fail> {
@@ -43,85 +34,10 @@ fn two_tables_have_their_groups(rt: HostRuntime) -> Result<(), Fail> {
     Ok(())
 }
 
-// `SELECT T.a FROM T, U, V WHERE U.x < 5 AND U.x = V.y`
-fn three_tables(alloc: Global) -> Result<Query, AllocError> {
-    let tables = vec![in alloc;
-        QueryTable {
-            alias: text(alloc, "T")?,
-            rows: 10,
-            hashed: None,
-            indexes: List::new(alloc)
-        },
-        QueryTable {
-            alias: text(alloc, "U")?,
-            rows: 10,
-            hashed: None,
-            indexes: List::new(alloc)
-        },
-        QueryTable {
-            alias: text(alloc, "V")?,
-            rows: 10,
-            hashed: None,
-            indexes: List::new(alloc)
-        },
-    ]?;
-    let items = vec![in alloc;
-        Item {
-            table: 0,
-            name: text(alloc, "a")?,
-            ndv: 10
-        },
-        Item {
-            table: 1,
-            name: text(alloc, "x")?,
-            ndv: 10
-        },
-        Item {
-            table: 2,
-            name: text(alloc, "y")?,
-            ndv: 10
-        },
-    ]?;
-    let preds = vec![in alloc;
-        Pred {
-            left: 1,
-            op: CmpOp::Lt,
-            right: Operand::Int(5)
-        },
-        Pred {
-            left: 1,
-            op: CmpOp::Eq,
-            right: Operand::Item(2)
-        },
-    ]?;
-    let links = links_of(alloc, &tables, &items, &preds)?;
-    Ok(Query {
-        segments: 4,
-        tables: List::of(tables),
-        items: List::of(items),
-        preds: List::of(preds),
-        links,
-        grouped: false,
-        group_by: List::new(alloc),
-        aggs: List::new(alloc),
-        output: List::of(vec![in alloc;
-            OutItem {
-                item: 0,
-                name: None
-            },
-        ]?),
-        order: List::new(alloc),
-        options: Options {
-            root: RootDist::One,
-            off: 0,
-        },
-    })
-}
-
 // The second and the third table are linked by a predicate, and the first and the second by a TRUE link.
 #[test]
 fn a_true_link_joins_what_no_predicate_does(rt: HostRuntime) -> Result<(), Fail> {
-    let query = three_tables(rt.alloc())?;
+    let query = one_linked_pair(rt.alloc())?;
     assert_eq!(rt; query.links.len(), 2);
     assert!(rt; query.linked(1, 2));
     assert!(rt; query.linked(2, 4));
@@ -220,7 +136,7 @@ fn equalities_cross_groups_both_ways(rt: HostRuntime) -> Result<(), Fail> {
     assert_eq!(rt; query.crossing(Key(0), Key(1), 0), Some((0, 1)));
     assert_eq!(rt; query.crossing(Key(1), Key(0), 0), Some((1, 0)));
     assert_eq!(rt; query.crossing(Key(0), Key(0), 0), None);
-    let query = three_tables(rt.alloc())?;
+    let query = one_linked_pair(rt.alloc())?;
     let (filtered, last) = (KeyParts::Filter(1), KeyParts::Get(2));
     assert_eq!(rt; query.crossing_groups(filtered, last, 0), None);
     assert_eq!(rt; query.crossing_groups(filtered, last, 1), Some((1, 2)));

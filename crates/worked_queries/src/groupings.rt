@@ -1,102 +1,52 @@
 //! Queries by groups of the rows of one table.
 
-use crate::parts::*;
-use orca_base::List;
-use query_core::{Agg, AggFunc, Query, QueryTable};
-use std::alloc::{AllocError, Global};
+use crate::worked::worked;
+use query_core::Query;
+use std::alloc::Global;
+use std::test::Fail;
 
-/// `SELECT COUNT(*), t.b FROM t GROUP BY t.b ORDER BY t.b`, where t has 1,000 rows, placed at
-/// random, and b 10 values.
-pub fn grouped(alloc: Global) -> Result<Query, AllocError> {
-    let items = vec![in alloc; column(0, text(alloc, "b")?, 10)]?;
-    groups_of(
+/// The rows of each group, in the order of the groups.
+pub fn grouped(alloc: Global) -> Result<Query, Fail> {
+    worked(
         alloc,
-        table(alloc, text(alloc, "t")?, 1000),
-        items,
-        Vec::new(alloc),
-        0,
-        vec![in alloc; count()]?,
-        Selected {
-            output: vec![in alloc; shown(1), shown(0)]?,
-            order: vec![in alloc; ascending(0)]?,
-        },
+        r#"[{"name":"t","rows":1000,"distribution":"random","columns":[{"name":"b","ndv":10}]}]"#,
+        "SELECT COUNT(*), t.b FROM t GROUP BY t.b ORDER BY t.b",
     )
 }
 
-/// `SELECT COUNT(*) FROM t GROUP BY t.b`, where t has 1,000 rows, hashed on its column a of 100
-/// values, an index on a, and b 10 values.
-pub fn hashed_count(alloc: Global) -> Result<Query, AllocError> {
-    let items = vec![in alloc;
-        column(0, text(alloc, "a")?, 100),
-        column(0, text(alloc, "b")?, 10),
-    ]?;
-    groups_of(
+/// The rows of each group, of a table that is hashed by another column, which has an index.
+pub fn hashed_count(alloc: Global) -> Result<Query, Fail> {
+    worked(
         alloc,
-        indexed_table(alloc, text(alloc, "t")?, 1000, 0, 0)?,
-        items,
-        Vec::new(alloc),
-        1,
-        vec![in alloc; count()]?,
-        Selected {
-            output: vec![in alloc; shown(2)]?,
-            order: Vec::new(alloc),
-        },
+        r#"[{"name":"t","rows":1000,"distribution":["a"],"indexes":[["a"]],"columns":[{"name":"a","ndv":100},{"name":"b","ndv":10}]}]"#,
+        "SELECT COUNT(*) FROM t GROUP BY t.b",
     )
 }
 
-/// `SELECT COUNT(*) FROM t WHERE t.a = 5 GROUP BY t.b`, where t has 100,000 rows, placed at random,
-/// a 100 values and b 10, and there is an index on a and one on b and a.
-pub fn filtered_count(alloc: Global) -> Result<Query, AllocError> {
-    let indexes = vec![in alloc;
-        List::of(vec![in alloc; 0]?),
-        List::of(vec![in alloc; 1, 0]?),
-    ]?;
-    let table = QueryTable {
-        alias: text(alloc, "t")?,
-        rows: 100_000,
-        hashed: None,
-        indexes: List::of(indexes),
-    };
-    let items = vec![in alloc;
-        column(0, text(alloc, "a")?, 100),
-        column(0, text(alloc, "b")?, 10),
-    ]?;
-    groups_of(
+/// The rows of each group of a filtered table with two indexes.
+pub fn filtered_count(alloc: Global) -> Result<Query, Fail> {
+    worked(
         alloc,
-        table,
-        items,
-        vec![in alloc; equal_to(0, 5)]?,
-        1,
-        vec![in alloc; count()]?,
-        Selected {
-            output: vec![in alloc; shown(2)]?,
-            order: Vec::new(alloc),
-        },
+        r#"[{"name":"t","rows":100000,"distribution":"random","indexes":[["a"],["b","a"]],"columns":[{"name":"a","ndv":100},{"name":"b","ndv":10}]}]"#,
+        "SELECT COUNT(*) FROM t WHERE t.a = 5 GROUP BY t.b",
     )
 }
 
-/// `SELECT COUNT(*), SUM(t.a) AS total, t.b FROM t WHERE t.a = 5 GROUP BY t.b ORDER BY total DESC,
-/// t.b`, where t has 1,000 rows, hashed on its column a, an index on a, and a and b 10 values.
-pub fn totals(alloc: Global) -> Result<Query, AllocError> {
-    let items = vec![in alloc;
-        column(0, text(alloc, "a")?, 10),
-        column(0, text(alloc, "b")?, 10),
-    ]?;
-    let total = Agg {
-        func: AggFunc::Sum,
-        arg: Some(0),
-        name: Some(text(alloc, "total")?),
-    };
-    groups_of(
+/// The rows and a sum of each group of a filtered table, in the descending order of the sums.
+pub fn totals(alloc: Global) -> Result<Query, Fail> {
+    worked(
         alloc,
-        indexed_table(alloc, text(alloc, "t")?, 1000, 0, 0)?,
-        items,
-        vec![in alloc; equal_to(0, 5)]?,
-        1,
-        vec![in alloc; count(), total]?,
-        Selected {
-            output: vec![in alloc; shown(2), shown_as(3, text(alloc, "total")?), shown(1)]?,
-            order: vec![in alloc; descending(3), ascending(1)]?,
-        },
+        r#"[{"name":"t","rows":1000,"distribution":["a"],"indexes":[["a"]],"columns":[{"name":"a","ndv":10},{"name":"b","ndv":10}]}]"#,
+        "SELECT COUNT(*), SUM(t.a) AS total, t.b FROM t WHERE t.a = 5 GROUP BY t.b ORDER BY total DESC, t.b",
+    )
+}
+
+/// The rows of each group by two columns, in the order of one of these, b or c.
+pub fn per_group(alloc: Global, ordered_by: &str) -> Result<Query, Fail> {
+    let text = format!(in alloc; "SELECT COUNT(*) FROM t WHERE b >= 5 GROUP BY b, c ORDER BY {ordered_by}")?;
+    worked(
+        alloc,
+        r#"[{"name":"t","rows":1000,"distribution":["a"],"indexes":[["b","c","a"]],"columns":[{"name":"a","ndv":100},{"name":"b","ndv":10},{"name":"c","ndv":4}]}]"#,
+        &text,
     )
 }

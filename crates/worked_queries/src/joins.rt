@@ -1,242 +1,149 @@
-//! Queries of several tables, without aggregates. Where nothing else is said, rows lie at random.
+//! Queries of several tables, without aggregates.
 
-ghost use Rattle.std.specs.Prelude.{◌≡◌, ◌<◌, None, Some, true, [], ◌∷◌, IfOk};
 ghost use Rattle.query_core.specs.Results.{AreOptions};
 
-use crate::parts::*;
-use orca_base::Text;
+use crate::worked::{worked, worked_without};
 use query_core::{CmpOp, Query, RootDist};
-use std::alloc::{AllocError, Global};
+use std::alloc::Global;
+use std::test::Fail;
 
-/// The running example, `SELECT T1.a FROM T1, T2 WHERE T1.a = T2.b ORDER BY T1.a`: each table has
-/// 1,000 rows, hashed on its column a of 1,000 values, and T2.b has 500.
-pub fn two_tables(alloc: Global) -> Result<Query, AllocError> {
-    let tables = vec![in alloc;
-        hashed_table(alloc, text(alloc, "T1")?, 1000, 0)?,
-        hashed_table(alloc, text(alloc, "T2")?, 1000, 1)?,
-    ]?;
-    let items = vec![in alloc;
-        column(0, text(alloc, "a")?, 1000),
-        column(1, text(alloc, "a")?, 1000),
-        column(1, text(alloc, "b")?, 500),
-    ]?;
-    let preds = vec![in alloc; equality(0, 2)]?;
-    let order = vec![in alloc; ascending(0)]?;
-    first_item_of(alloc, tables, items, preds, order)
+const A_THOUSAND_EACH: &str =
+    r#"[{"name":"T1","rows":1000,"distribution":"random","columns":[{"name":"a","ndv":1000}]},{"name":"T2","rows":1000,"distribution":"random","columns":[{"name":"b","ndv":500}]}]"#;
+
+const UNLINKED: &str =
+    r#"[{"name":"t","rows":100,"distribution":"random","columns":[{"name":"a","ndv":10}]},{"name":"u","rows":10,"distribution":"random","columns":[{"name":"b","ndv":10}]}]"#;
+
+const FOUR: &str =
+    r#"[{"name":"A","rows":100,"distribution":"random","columns":[{"name":"a","ndv":10}]},{"name":"B","rows":100,"distribution":"random","columns":[{"name":"a","ndv":10}]},{"name":"C","rows":100,"distribution":"random","columns":[{"name":"a","ndv":10}]},{"name":"D","rows":100,"distribution":"random","columns":[{"name":"a","ndv":10}]}]"#;
+
+/// The running example: two tables, each hashed on a, of which one is joined on b.
+pub fn two_tables(alloc: Global) -> Result<Query, Fail> {
+    worked(
+        alloc,
+        r#"[{"name":"T1","rows":1000,"distribution":["a"],"columns":[{"name":"a","ndv":1000}]},{"name":"T2","rows":1000,"distribution":["a"],"columns":[{"name":"a","ndv":1000},{"name":"b","ndv":500}]}]"#,
+        "SELECT T1.a FROM T1, T2 WHERE T1.a = T2.b ORDER BY T1.a",
+    )
 }
 
-/// `SELECT T1.a, T2.b AS c FROM T1, T2 WHERE T1.a = T2.b ORDER BY T1.a DESC`: each table has 1,000
-/// rows, hashed on its column a, T2 an index on b, and all columns 1,000 values.
-pub fn two_tables_descending(alloc: Global) -> Result<Query, AllocError> {
-    let tables = vec![in alloc;
-        hashed_table(alloc, text(alloc, "T1")?, 1000, 0)?,
-        indexed_table(alloc, text(alloc, "T2")?, 1000, 1, 2)?,
-    ]?;
-    let items = vec![in alloc;
-        column(0, text(alloc, "a")?, 1000),
-        column(1, text(alloc, "a")?, 1000),
-        column(1, text(alloc, "b")?, 1000),
-    ]?;
-    let preds = vec![in alloc; equality(0, 2)]?;
-    let selected = first_and_third(alloc, text(alloc, "c")?)?;
-    rows_of(alloc, tables, items, preds, selected, 0)
+/// The same with an index on the column on which the second table is joined, in descending order.
+pub fn two_tables_descending(alloc: Global) -> Result<Query, Fail> {
+    worked(
+        alloc,
+        r#"[{"name":"T1","rows":1000,"distribution":["a"],"columns":[{"name":"a","ndv":1000}]},{"name":"T2","rows":1000,"distribution":["a"],"indexes":[["b"]],"columns":[{"name":"a","ndv":1000},{"name":"b","ndv":1000}]}]"#,
+        "SELECT T1.a, T2.b AS c FROM T1, T2 WHERE T1.a = T2.b ORDER BY T1.a DESC",
+    )
 }
 
-// The first item, and the third under a name, in the descending order of the first.
-fn first_and_third(alloc: Global, name: Text) -> Result<Selected, AllocError>
-    ensures output { IfOk result (λ made. made.output.items ≡
-        record { item = 0; name = None } ∷ record { item = 2; name = Some name } ∷ []) }
-    ensures order { IfOk result (λ made. made.order.items ≡ record { item = 0; desc = true } ∷ []) }
-{
-    Ok(Selected {
-        output: vec![in alloc; shown(0), shown_as(2, name)]?,
-        order: vec![in alloc; descending(0)]?,
-    })
+/// Two tables that are joined on the columns by which they are hashed.
+pub fn hashed_alike(alloc: Global) -> Result<Query, Fail> {
+    worked(
+        alloc,
+        r#"[{"name":"T1","rows":1000,"distribution":["a"],"columns":[{"name":"a","ndv":1000}]},{"name":"T2","rows":1000,"distribution":["a"],"columns":[{"name":"a","ndv":1000}]}]"#,
+        "SELECT T1.a FROM T1, T2 WHERE T1.a = T2.a",
+    )
 }
 
-/// `SELECT T1.a FROM T1, T2 WHERE T1.a = T2.a`: each table has 1,000 rows, hashed on its column a
-/// of 1,000 values.
-pub fn hashed_alike(alloc: Global) -> Result<Query, AllocError> {
-    let tables = vec![in alloc;
-        hashed_table(alloc, text(alloc, "T1")?, 1000, 0)?,
-        hashed_table(alloc, text(alloc, "T2")?, 1000, 1)?,
-    ]?;
-    let items = vec![in alloc;
-        column(0, text(alloc, "a")?, 1000),
-        column(1, text(alloc, "a")?, 1000),
-    ]?;
-    let preds = vec![in alloc; equality(0, 1)]?;
-    first_item_of(alloc, tables, items, preds, Vec::new(alloc))
+/// A large table and a small one.
+pub fn large_and_small(alloc: Global) -> Result<Query, Fail> {
+    worked(
+        alloc,
+        r#"[{"name":"b","rows":100000,"distribution":"random","columns":[{"name":"x","ndv":1000}]},{"name":"s","rows":10,"distribution":"random","columns":[{"name":"y","ndv":10}]}]"#,
+        "SELECT b.x FROM b, s WHERE b.x = s.y",
+    )
 }
 
-/// `SELECT b.x FROM b, s WHERE b.x = s.y`, where b has 100,000 rows and s 10.
-pub fn large_and_small(alloc: Global) -> Result<Query, AllocError> {
-    let tables = vec![in alloc;
-        table(alloc, text(alloc, "b")?, 100_000),
-        table(alloc, text(alloc, "s")?, 10),
-    ]?;
-    let items = vec![in alloc;
-        column(0, text(alloc, "x")?, 1000),
-        column(1, text(alloc, "y")?, 10),
-    ]?;
-    let preds = vec![in alloc; equality(0, 1)]?;
-    first_item_of(alloc, tables, items, preds, Vec::new(alloc))
+/// Two tables with as many rows as there can be, all alike.
+pub fn huge_tables(alloc: Global) -> Result<Query, Fail> {
+    worked(
+        alloc,
+        r#"[{"name":"T1","rows":1000000000000,"distribution":"random","columns":[{"name":"a","ndv":1}]},{"name":"T2","rows":1000000000000,"distribution":"random","columns":[{"name":"b","ndv":1}]}]"#,
+        "SELECT T1.a FROM T1, T2 WHERE T1.a < T2.b",
+    )
 }
 
-/// `SELECT T1.a FROM T1, T2 WHERE T1.a < T2.b`, where each table has 10^12 rows, all alike.
-pub fn huge_tables(alloc: Global) -> Result<Query, AllocError> {
-    let tables = vec![in alloc;
-        table(alloc, text(alloc, "T1")?, 1_000_000_000_000),
-        table(alloc, text(alloc, "T2")?, 1_000_000_000_000),
-    ]?;
-    let items = vec![in alloc;
-        column(0, text(alloc, "a")?, 1),
-        column(1, text(alloc, "b")?, 1),
-    ]?;
-    let preds = vec![in alloc; compared(0, CmpOp::Lt, 1)]?;
-    first_item_of(alloc, tables, items, preds, Vec::new(alloc))
-}
-
-/// `SELECT T1.a FROM T1, T2 WHERE T1.a .. T2.b`, by this comparison, where each table has 1,000 rows,
-/// a 1,000 values and b 500, without the rules that are off.
-pub fn compared_tables(alloc: Global, op: CmpOp, off: u32) -> Result<Query, AllocError>
+/// Two tables that are joined by this comparison of a and b, without the rules that are off.
+pub fn compared_tables(alloc: Global, op: CmpOp, off: u32) -> Result<Query, Fail>
     requires { AreOptions (record { root = RootDist.One; off = off }) }
 {
-    let tables = vec![in alloc;
-        table(alloc, text(alloc, "T1")?, 1000),
-        table(alloc, text(alloc, "T2")?, 1000),
-    ]?;
-    let items = vec![in alloc;
-        column(0, text(alloc, "a")?, 1000),
-        column(1, text(alloc, "b")?, 500),
-    ]?;
-    let preds = vec![in alloc; compared(0, op, 1)]?;
-    let selected = Selected {
-        output: vec![in alloc; shown(0)]?,
-        order: Vec::new(alloc),
-    };
-    rows_of(alloc, tables, items, preds, selected, off)
+    let sign = sign_of(op);
+    let text = format!(in alloc; "SELECT T1.a FROM T1, T2 WHERE T1.a {sign} T2.b")?;
+    worked_without(alloc, A_THOUSAND_EACH, &text, off)
 }
 
-/// `SELECT t.a FROM t, u`, where t has 100 rows and u 10.
-pub fn cross_product(alloc: Global) -> Result<Query, AllocError> {
-    cross_product_without(alloc, 0)
+fn sign_of(op: CmpOp) -> &'static str {
+    match op {
+        CmpOp::Eq => "=",
+        CmpOp::Ne => "<>",
+        CmpOp::Lt => "<",
+        CmpOp::Le => "<=",
+        CmpOp::Gt => ">",
+        CmpOp::Ge => ">=",
+    }
+}
+
+/// Two tables that no predicate links.
+pub fn cross_product(alloc: Global) -> Result<Query, Fail> {
+    worked(alloc, UNLINKED, "SELECT t.a FROM t, u")
 }
 
 /// The same where no rule may join by a loop, so that there is no plan.
-pub fn without_a_plan(alloc: Global) -> Result<Query, AllocError> {
-    cross_product_without(alloc, 2048)
+pub fn without_a_plan(alloc: Global) -> Result<Query, Fail> {
+    worked_without(alloc, UNLINKED, "SELECT t.a FROM t, u", 2048)
 }
 
-// The same without the rules that are off.
-fn cross_product_without(alloc: Global, off: u32) -> Result<Query, AllocError>
-    requires { AreOptions (record { root = RootDist.One; off = off }) }
-{
-    let tables = vec![in alloc;
-        table(alloc, text(alloc, "t")?, 100),
-        table(alloc, text(alloc, "u")?, 10),
-    ]?;
-    let items = vec![in alloc; column(0, text(alloc, "a")?, 10)]?;
-    let selected = Selected {
-        output: vec![in alloc; shown(0)]?,
-        order: Vec::new(alloc),
-    };
-    rows_of(alloc, tables, items, Vec::new(alloc), selected, off)
+/// Three tables of which a predicate links the last two, and another filters one of these.
+pub fn one_linked_pair(alloc: Global) -> Result<Query, Fail> {
+    worked(
+        alloc,
+        r#"[{"name":"T","rows":10,"distribution":"random","columns":[{"name":"a","ndv":10}]},{"name":"U","rows":10,"distribution":"random","columns":[{"name":"x","ndv":10}]},{"name":"V","rows":10,"distribution":"random","columns":[{"name":"y","ndv":10}]}]"#,
+        "SELECT T.a FROM T, U, V WHERE U.x < 5 AND U.x = V.y",
+    )
 }
 
-/// `SELECT a.x FROM a, b, c WHERE a.x = b.x AND b.x = c.x`: of 100, 1,000 and 10 rows.
-pub fn chain(alloc: Global) -> Result<Query, AllocError> {
-    let tables = vec![in alloc;
-        table(alloc, text(alloc, "a")?, 100),
-        table(alloc, text(alloc, "b")?, 1000),
-        table(alloc, text(alloc, "c")?, 10),
-    ]?;
-    let items = vec![in alloc;
-        column(0, text(alloc, "x")?, 10),
-        column(1, text(alloc, "x")?, 100),
-        column(2, text(alloc, "x")?, 5),
-    ]?;
-    let preds = vec![in alloc; equality(0, 1), equality(1, 2)]?;
-    first_item_of(alloc, tables, items, preds, Vec::new(alloc))
+/// Two tables with an equality across them and one within the first, which is hashed and has an index on its columns.
+pub fn two_equalities(alloc: Global) -> Result<Query, Fail> {
+    worked(
+        alloc,
+        r#"[{"name":"A","rows":100,"distribution":["x","y"],"indexes":[["x","y"]],"columns":[{"name":"x","ndv":10},{"name":"y","ndv":10}]},{"name":"B","rows":100,"distribution":"random","columns":[{"name":"z","ndv":10},{"name":"w","ndv":10}]}]"#,
+        "SELECT A.x FROM A, B WHERE A.x = B.z AND A.x = A.y AND A.y < B.w ORDER BY A.x DESC",
+    )
 }
 
-/// `SELECT A.x FROM A, B, C WHERE A.x = B.x AND B.x = C.x AND A.x = C.x`: each table has 100 rows,
-/// each column 10 values.
-pub fn cycle(alloc: Global) -> Result<Query, AllocError> {
-    let tables = vec![in alloc;
-        table(alloc, text(alloc, "A")?, 100),
-        table(alloc, text(alloc, "B")?, 100),
-        table(alloc, text(alloc, "C")?, 100),
-    ]?;
-    let items = vec![in alloc;
-        column(0, text(alloc, "x")?, 10),
-        column(1, text(alloc, "x")?, 10),
-        column(2, text(alloc, "x")?, 10),
-    ]?;
-    let preds = vec![in alloc; equality(0, 1), equality(1, 2), equality(0, 2)]?;
-    first_item_of(alloc, tables, items, preds, Vec::new(alloc))
+/// Three tables, each joined with the next.
+pub fn chain(alloc: Global) -> Result<Query, Fail> {
+    worked(
+        alloc,
+        r#"[{"name":"a","rows":100,"distribution":"random","columns":[{"name":"x","ndv":10}]},{"name":"b","rows":1000,"distribution":"random","columns":[{"name":"x","ndv":100}]},{"name":"c","rows":10,"distribution":"random","columns":[{"name":"x","ndv":5}]}]"#,
+        "SELECT a.x FROM a, b, c WHERE a.x = b.x AND b.x = c.x",
+    )
 }
 
-/// `SELECT A.x FROM A, B, C WHERE A.x = B.x AND A.y = B.y AND B.z = C.z AND A.w = C.w`: each table
-/// has 100 rows, each column 10 values.
-pub fn cycle_of_four_predicates(alloc: Global) -> Result<Query, AllocError> {
-    let tables = vec![in alloc;
-        table(alloc, text(alloc, "A")?, 100),
-        table(alloc, text(alloc, "B")?, 100),
-        table(alloc, text(alloc, "C")?, 100),
-    ]?;
-    let items = vec![in alloc;
-        column(0, text(alloc, "x")?, 10),
-        column(0, text(alloc, "y")?, 10),
-        column(0, text(alloc, "w")?, 10),
-        column(1, text(alloc, "x")?, 10),
-        column(1, text(alloc, "y")?, 10),
-        column(1, text(alloc, "z")?, 10),
-        column(2, text(alloc, "z")?, 10),
-        column(2, text(alloc, "w")?, 10),
-    ]?;
-    let preds = vec![in alloc;
-        equality(0, 3),
-        equality(1, 4),
-        equality(5, 6),
-        equality(2, 7),
-    ]?;
-    first_item_of(alloc, tables, items, preds, Vec::new(alloc))
+/// Three tables, each joined with each other.
+pub fn cycle(alloc: Global) -> Result<Query, Fail> {
+    worked(
+        alloc,
+        r#"[{"name":"A","rows":100,"distribution":"random","columns":[{"name":"x","ndv":10}]},{"name":"B","rows":100,"distribution":"random","columns":[{"name":"x","ndv":10}]},{"name":"C","rows":100,"distribution":"random","columns":[{"name":"x","ndv":10}]}]"#,
+        "SELECT A.x FROM A, B, C WHERE A.x = B.x AND B.x = C.x AND A.x = C.x",
+    )
 }
 
-/// `SELECT A.a FROM A, B, C, D WHERE A.a = B.a AND B.a = C.a AND C.a = D.a`: each table has 100
-/// rows, each column 10 values.
-pub fn chain_of_four(alloc: Global) -> Result<Query, AllocError> {
-    four_tables(alloc, 1, 2)
+/// The same with two equalities of one pair.
+pub fn cycle_of_four_predicates(alloc: Global) -> Result<Query, Fail> {
+    worked(
+        alloc,
+        r#"[{"name":"A","rows":100,"distribution":"random","columns":[{"name":"x","ndv":10},{"name":"y","ndv":10},{"name":"w","ndv":10}]},{"name":"B","rows":100,"distribution":"random","columns":[{"name":"x","ndv":10},{"name":"y","ndv":10},{"name":"z","ndv":10}]},{"name":"C","rows":100,"distribution":"random","columns":[{"name":"z","ndv":10},{"name":"w","ndv":10}]}]"#,
+        "SELECT A.x FROM A, B, C WHERE A.x = B.x AND A.y = B.y AND B.z = C.z AND A.w = C.w",
+    )
 }
 
-/// `SELECT A.a FROM A, B, C, D WHERE A.a = B.a AND A.a = C.a AND A.a = D.a`: each table has 100
-/// rows, each column 10 values.
-pub fn star_of_four(alloc: Global) -> Result<Query, AllocError> {
-    four_tables(alloc, 0, 0)
+/// Four tables, each joined with the next.
+pub fn chain_of_four(alloc: Global) -> Result<Query, Fail> {
+    let text = "SELECT A.a FROM A, B, C, D WHERE A.a = B.a AND B.a = C.a AND C.a = D.a";
+    worked(alloc, FOUR, text)
 }
 
-// The same, with the tables that C and D are equated with.
-fn four_tables(alloc: Global, with_third: u32, with_fourth: u32) -> Result<Query, AllocError>
-    requires third { with_third < 4 }
-    requires fourth { with_fourth < 4 }
-{
-    let tables = vec![in alloc;
-        table(alloc, text(alloc, "A")?, 100),
-        table(alloc, text(alloc, "B")?, 100),
-        table(alloc, text(alloc, "C")?, 100),
-        table(alloc, text(alloc, "D")?, 100),
-    ]?;
-    let items = vec![in alloc;
-        column(0, text(alloc, "a")?, 10),
-        column(1, text(alloc, "a")?, 10),
-        column(2, text(alloc, "a")?, 10),
-        column(3, text(alloc, "a")?, 10),
-    ]?;
-    let preds = vec![in alloc;
-        equality(0, 1),
-        equality(with_third, 2),
-        equality(with_fourth, 3),
-    ]?;
-    first_item_of(alloc, tables, items, preds, Vec::new(alloc))
+/// Four tables, of which the first is joined with each other.
+pub fn star_of_four(alloc: Global) -> Result<Query, Fail> {
+    let text = "SELECT A.a FROM A, B, C, D WHERE A.a = B.a AND A.a = C.a AND A.a = D.a";
+    worked(alloc, FOUR, text)
 }

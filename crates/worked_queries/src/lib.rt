@@ -1,15 +1,15 @@
-//! Small queries for tests, each with its text, on 4 segments.
+//! Small queries for tests, on 4 segments. Each is a text over tables, read and bound as any query is.
 #![tactic(auto)]
 
 mod groupings;
 mod joins;
-mod parts;
 mod single;
+mod worked;
 
-pub use groupings::{filtered_count, grouped, hashed_count, totals};
+pub use groupings::{filtered_count, grouped, hashed_count, per_group, totals};
 pub use joins::{
     chain, chain_of_four, compared_tables, cross_product, cycle, cycle_of_four_predicates,
-    hashed_alike, huge_tables, large_and_small, star_of_four, two_tables, two_tables_descending,
-    without_a_plan,
+    hashed_alike, huge_tables, large_and_small, one_linked_pair, star_of_four, two_equalities,
+    two_tables, two_tables_descending, without_a_plan,
 };
 pub use single::{filtered_table, one_table, sorted_table, three_indexes};
