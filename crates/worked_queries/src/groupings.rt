@@ -43,7 +43,9 @@ pub fn totals(alloc: Global) -> Result<Query, Fail> {
 
 /// The rows of each group by two columns, in the order of one of these, b or c.
 pub fn per_group(alloc: Global, ordered_by: &str) -> Result<Query, Fail> {
-    let text = format!(in alloc; "SELECT COUNT(*) FROM t WHERE b >= 5 GROUP BY b, c ORDER BY {ordered_by}")?;
+    let text = format!(in alloc;
+        "SELECT COUNT(*) FROM t WHERE b >= 5 GROUP BY b, c ORDER BY {ordered_by}"
+    )?;
     worked(
         alloc,
         r#"[{"name":"t","rows":1000,"distribution":["a"],"indexes":[["b","c","a"]],"columns":[{"name":"a","ndv":100},{"name":"b","ndv":10},{"name":"c","ndv":4}]}]"#,

@@ -7,7 +7,9 @@ use std::test::Fail;
 
 /// All values of a column of a table that has so many rows, from 1 to 10^12, at random places.
 pub fn one_table(alloc: Global, rows: u64) -> Result<Query, Fail> {
-    let tables = format!(in alloc; "[{{\"name\":\"t\",\"rows\":{rows},\"distribution\":\"random\",\"columns\":[{{\"name\":\"a\",\"ndv\":1000}}]}}]")?;
+    let tables = format!(in alloc;
+        "[{{\"name\":\"t\",\"rows\":{rows},\"distribution\":\"random\",\"columns\":[{{\"name\":\"a\",\"ndv\":1000}}]}}]"
+    )?;
     worked(alloc, &tables, "SELECT t.a FROM t")
 }
 

@@ -15,12 +15,7 @@ pub fn worked(alloc: Global, tables: &str, text: &str) -> Result<Query, Fail> {
 }
 
 /// The same without the rules that are off.
-pub fn worked_without(
-    alloc: Global,
-    tables: &str,
-    text: &str,
-    off: u32,
-) -> Result<Query, Fail>
+pub fn worked_without(alloc: Global, tables: &str, text: &str, off: u32) -> Result<Query, Fail>
     requires { AreOptions (record { root = RootDist.One; off = off }) }
 {
     let json = format!(in alloc; "{{\"version\":1,\"segments\":4,\"tables\":{tables}}}")?;
