@@ -1,12 +1,10 @@
 -- Goals that come to a list.
-use Rattle.std.proofs.Common.{◌≡◌, ℕ, ◌↔◌, List, [], ◌∷◌, ◌++◌, All, Option, None, Some, ◌⊎◌, inl, inr, refl, sym, subst, ap, ◌∙◌}
+use Rattle.std.proofs.Common.{◌≡◌, ◌↔◌, List, [], ◌∷◌, ◌++◌, Option, None, Some, ◌⊎◌, inl, inr, refl, sym, subst, ap, ◌∙◌, arith}
 use Rattle.std.specs.Prelude.{IfSome}
 use Rattle.std.specs.List.{Contains}
 use Rattle.std.specs.Option.{option_map}
 use Rattle.std.proofs.lemmas.List.Elements.{All-push, Contains-append_left, Contains-push, Contains-push_cases}
 use Rattle.query_core.specs.Keys as keys
-use Rattle.query_core.specs.declared.query.Query.{Query}
-use Rattle.query_core.specs.declared.expressions.PhysicalExpr.{PhysicalExpr}
 use Rattle.query_core.specs.declared.words.Key.{Key}
 use Rattle.query_core.specs.declared.words.KeyParts.{KeyParts}
 use Rattle.query_core.specs.declared.expressions.Children.{Children}
@@ -15,12 +13,10 @@ use Rattle.request_props.specs.Requests as requests
 use Rattle.request_props.specs.declared.request.Request.{Request}
 use Rattle.plan_tree.specs.declared.alternatives.Alt.{Alt}
 use Rattle.goal_space.specs.Words.{IsInRange}
-use Rattle.goal_space.specs.declared.goals.GoalKind.TheVariants.{Opt, OptE}
+use Rattle.goal_space.specs.declared.goals.GoalKind.TheVariants.{Opt}
 use Rattle.goal_space.specs.declared.goals.GoalKind.{GoalKind}
-use Rattle.goal_children.specs.Children.{IsChildIn}
-use Rattle.goal_children.specs.Choices.{AreAskedBy, IsOfAlt, IsOfAlternatives, IsOfRequest}
-use Rattle.goal_children.specs.Finding.{AreGoalsOf, Collects, FindsFrom}
-use Rattle.goal_children.proofs.Finds.{finds_as}
+use Rattle.goal_children.specs.Choices.{IsOfAlt, IsOfRequest}
+use Rattle.goal_children.specs.Finding.{AreGoalsOf, Collects}
 
 -- nothing comes, of a kind that has nothing
 pub collects_nothing : (Kind : GoalKind → Type 0) (goals : List GoalKind) → ((k : GoalKind) → Kind k → ⊥) → Collects Kind goals goals
@@ -71,6 +67,18 @@ collects_both S T old middle new first second = record {
   );
   in_range = λ all. second.in_range (first.in_range all);
 }
+
+-- a list of one goal
+pub one_goal_alone : (old new : List GoalKind) (goal : GoalKind) → old ≡ [] → IsInRange goal → new ≡ old ++ goal ∷ [] → AreGoalsOf (λ k. k ≡ goal) new
+one_goal_alone old new goal none in_range comes =
+    let is : new ≡ goal ∷ [] = comes ∙ ap (λ (gs : List GoalKind). gs ++ goal ∷ []) none in
+    subst (AreGoalsOf (λ k. k ≡ goal)) (sym is) (record {
+      exact = λ k. (
+        λ there. elim (Contains-push_cases [] goal k there) [ inl (i, within, at) ↦ absurd (omega (arith, within)) | inr same ↦ sym same ],
+        λ same. subst (Contains (goal ∷ [])) (sym same) (Contains-push [] goal),
+      );
+      in_range = All-push IsInRange [] goal (λ i d within. absurd (omega (arith, within))) in_range;
+    })
 
 -- a list of one kind, to which another comes
 pub goals_more : (S T U : GoalKind → Type 0) (old new : List GoalKind) → ((k : GoalKind) → (S k ⊎ T k) → U k) → ((k : GoalKind) → U k → S k ⊎ T k)
@@ -124,18 +132,3 @@ request_collected group asked wanted old new is group_in_range in_range comes =
 pub nothing_collected : (group : KeyParts) (asked : Option Request) (goals : List GoalKind) → asked ≡ None → Collects (IsOfRequest group asked) goals goals
 nothing_collected group asked goals is =
     subst (λ (r : Option Request). Collects (IsOfRequest group r) goals goals) (sym is) (collects_nothing (IsOfRequest group None) goals (λ k (below, same, number). cc))
-
--- ---- what an expression asks for
-
--- the list has the children of an expression's goal for a request
-pub asked_found : (q : Query) (words : List ℕ) (goal : GoalKind) (e : PhysicalExpr) (wanted : Request) (asked : List GoalKind) (bound : ℕ) (found : Option GoalKind)
-    → goal ≡ OptE e wanted → AreAskedBy q goal asked → FindsFrom (Contains asked) bound found → FindsFrom (IsChildIn q words goal) bound found
-asked_found q words goal e wanted asked bound found is are finds =
-    let of_goal : AreGoalsOf (IsOfAlternatives q e wanted) asked = subst (λ (g : GoalKind). AreAskedBy q g asked) is are in
-    subst (λ (g : GoalKind). FindsFrom (IsChildIn q words g) bound found) (sym is)
-    (finds_as (Contains asked) (IsChildIn q words (OptE e wanted)) bound found (λ k there. (of_goal.exact k).0 there) (λ k is_child. (of_goal.exact k).1 is_child) finds)
-
--- whose parts fit
-pub asked_in_range : (q : Query) (goal : GoalKind) (e : PhysicalExpr) (wanted : Request) (asked : List GoalKind) → goal ≡ OptE e wanted → AreAskedBy q goal asked → All IsInRange asked
-asked_in_range q goal e wanted asked is are =
-    let of_goal : AreGoalsOf (IsOfAlternatives q e wanted) asked = subst (λ (g : GoalKind). AreAskedBy q g asked) is are in of_goal.in_range

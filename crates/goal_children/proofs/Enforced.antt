@@ -1,5 +1,5 @@
 -- What enforcers ask for, as the program finds it.
-use Rattle.std.proofs.Common.{◌≡◌, ℕ, ◌≤◌, List, [], ◌∷◌, Option, None, Some, length, slice_get, refl, sym, subst, ap, ◌∙◌, ◌⊎◌, inl, inr, zero, suc, arith}
+use Rattle.std.proofs.Common.{◌≡◌, ℕ, ◌≤◌, ◌↔◌, List, [], ◌∷◌, Option, None, Some, length, slice_get, refl, sym, subst, ap, ◌∙◌, ◌⊎◌, inl, inr, zero, suc, arith}
 use Rattle.std.specs.Prelude.{IfSome}
 use Rattle.std.specs.Option.{option_map}
 use Rattle.query_core.specs.declared.query.Query.{Query}
@@ -15,9 +15,7 @@ use Rattle.goal_space.specs.declared.goals.GoalKind.{GoalKind}
 use Rattle.goal_space.specs.declared.goals.GoalKind.TheVariants.{Opt}
 use Rattle.goal_children.specs.Over.{IsNumberedRequest}
 use Rattle.goal_children.specs.Choices.{IsOfEnforcer, IsOfRequest}
-use Rattle.goal_children.specs.Finding.{FindsFrom, sooner_of}
 use Rattle.goal_children.proofs.Asking.{enforcer_numbered}
-use Rattle.goal_children.proofs.Finds.{finds_as, sooner_is}
 use Rattle.goal_children.proofs.OverChildren.{request_in_range}
 
 -- ---- enforcers that fit the group
@@ -99,23 +97,19 @@ as_both q group wanted kept are goal (e, can, is) =
     of_two group kept few e (of_kept q group (enforcers_of wanted) kept e are can.among can.lies_in) goal is
 
 -- what the first and the second enforcer ask for is all
-pub enforced_find : (q : Query) (group : KeyParts) (wanted : Request) (bound : ℕ) (first second : Option Enforced) (below other : Option Request) (a b found : Option GoalKind)
+pub enforced_exact : (q : Query) (group : KeyParts) (wanted : Request) (first second : Option Enforced) (below other : Option Request)
     → IsEnforcerAt q group wanted 0 first → IsEnforcerAt q group wanted 1 second → below ≡ option_map (λ x. x.below) first → other ≡ option_map (λ x. x.below) second
-    → found ≡ sooner_of a b → FindsFrom (IsOfRequest group below) bound a → FindsFrom (IsOfRequest group other) bound b
-    → FindsFrom (IsOfEnforcer q group wanted) bound found
-enforced_find q group wanted bound first second below other a b found is_first is_second is_below is_other is at_first at_second =
+    → (goal : GoalKind) → IsOfEnforcer q group wanted goal ↔ (IsOfRequest group below goal ⊎ IsOfRequest group other goal)
+enforced_exact q group wanted first second below other is_first is_second is_below is_other goal =
     let kept = is_first.kept in
     let same : is_second.kept ≡ kept = kept_one q group (enforcers_of wanted) is_second.kept kept is_second.are_kept is_first.are_kept in
     let one : below ≡ option_map (λ x. x.below) (slice_get kept 0) = is_below ∙ asked_below first (slice_get kept 0) is_first.at_place in
     let two : other ≡ option_map (λ x. x.below) (slice_get kept 1) =
     is_other ∙ asked_below second (slice_get is_second.kept 1) is_second.at_place ∙ ap (λ es. option_map (λ x. x.below) (slice_get es 1)) same in
     let First = IsOfRequest group (option_map (λ (x : EnforcedBy). x.below) (slice_get kept 0)) in
-    let Second = IsOfRequest group (option_map (λ (x : EnforcedBy). x.below) (slice_get kept 1)) in
-    finds_as (λ k. First k ⊎ Second k) (IsOfEnforcer q group wanted) bound found
-    (both_as q group wanted kept is_first.are_kept) (as_both q group wanted kept is_first.are_kept)
-    (sooner_is First Second bound a b found is
-    (subst (λ (r : Option Request). FindsFrom (IsOfRequest group r) bound a) one at_first)
-    (subst (λ (r : Option Request). FindsFrom (IsOfRequest group r) bound b) two at_second))
+    subst (λ (r : Option Request). IsOfEnforcer q group wanted goal ↔ (IsOfRequest group r goal ⊎ IsOfRequest group other goal)) (sym one)
+    (subst (λ (r : Option Request). IsOfEnforcer q group wanted goal ↔ (First goal ⊎ IsOfRequest group r goal)) (sym two)
+    (as_both q group wanted kept is_first.are_kept goal, both_as q group wanted kept is_first.are_kept goal))
 
 -- what was found stands at a place
 among_at : (kept : List EnforcedBy) (place : ℕ) (found : Enforced) → IsEnforced (Some found) (slice_get kept place) → (e : EnforcedBy) × Among e kept × (found.below ≡ e.below)

@@ -13,5 +13,6 @@ pub mod Alternatives
 pub mod First
 pub mod Collecting
 pub mod ByKind
-pub mod LeastPlaces
+pub mod MemberGoals
+pub mod InOrder
 pub mod GoalLists

@@ -1,5 +1,5 @@
 -- What a choice of plans asks for: of its own group by enforcers, of other groups by alternatives.
-use Rattle.std.specs.Prelude.{ℕ, ◌≡◌, ◌<◌, ◌⊎◌, List, Option, Some, ⊤}
+use Rattle.std.specs.Prelude.{ℕ, ◌≡◌, ◌<◌, ◌⊎◌, List, Option, Some}
 use Rattle.std.specs.Option.{option_map}
 use Rattle.query_core.specs.declared.query.Query.{Query}
 use Rattle.query_core.specs.declared.words.KeyParts.{KeyParts}
@@ -15,8 +15,7 @@ use Rattle.plan_space.specs.Enforcers.{EnforcedBy}
 use Rattle.plan_tree.specs.declared.alternatives.Alt.{Alt}
 use Rattle.goal_space.specs.Children.{IsAsked, AsksOf, CanEnforce}
 use Rattle.goal_space.specs.declared.goals.GoalKind.{GoalKind}
-use Rattle.goal_space.specs.declared.goals.GoalKind.TheVariants.{Exp, ExpE, Xf, Imp, ImpE, Opt, OptE}
-use Rattle.goal_children.specs.Finding.{AreGoalsOf}
+use Rattle.goal_space.specs.declared.goals.GoalKind.TheVariants.{Opt}
 
 -- the goal of the group for what an enforcer asks of it
 abbrev pub IsOfEnforcer : Query → KeyParts → Request → GoalKind → Type 0
@@ -48,13 +47,3 @@ IsOfMode q e wanted mode goal =
 -- the same in some mode below the limit
 abbrev pub IsOfModesBelow : Query → PhysicalExpr → Request → ℕ → GoalKind → Type 0
 IsOfModesBelow q e wanted limit goal = (mode : ℕ) × (mode < limit) × IsOfMode q e wanted mode goal
-
--- where the goal is an expression's for a request, the list has what it asks for
-abbrev pub AreAskedBy : Query → GoalKind → List GoalKind → Type 0
-AreAskedBy q (Exp group) goals = ⊤
-AreAskedBy q (ExpE e) goals = ⊤
-AreAskedBy q (Xf e rule) goals = ⊤
-AreAskedBy q (Imp group) goals = ⊤
-AreAskedBy q (ImpE e) goals = ⊤
-AreAskedBy q (Opt group wanted) goals = ⊤
-AreAskedBy q (OptE e wanted) goals = AreGoalsOf (IsOfAlternatives q e wanted) goals

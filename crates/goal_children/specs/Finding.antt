@@ -1,5 +1,5 @@
 -- How the next child is found: the least word of each kind of child, and of several kinds.
-use Rattle.std.specs.Prelude.{ℕ, Bool, true, false, ◌≡◌, ◌<◌, ◌≤◌, ◌⊎◌, ◌↔◌, List, All, Option, None, Some, nat_lt, slice_index, if◌then◌else◌}
+use Rattle.std.specs.Prelude.{ℕ, Bool, true, false, ◌≡◌, ◌≤◌, ◌⊎◌, ◌↔◌, List, All, Option, None, Some, nat_lt, if◌then◌else◌}
 use Rattle.std.specs.List.{Contains}
 use Rattle.query_core.specs.Expressions.{children_of, IsChild}
 use Rattle.query_core.specs.declared.query.Query.{Query}
@@ -39,13 +39,6 @@ abbrev pub sooner_of : Option GoalKind → Option GoalKind → Option GoalKind
 sooner_of None b = b
 sooner_of (Some a) None = Some a
 sooner_of (Some a) (Some b) = if nat_lt (goal_word b) (goal_word a) then Some b else Some a
-
--- of the words before the limit, the place of the least from the bound on; or none where there is none
-abbrev pub IsLeastPlace : List ℕ → ℕ → ℕ → Option ℕ → Type 0
-IsLeastPlace words bound limit None = (k : ℕ) → k < limit → slice_index words k < bound
-IsLeastPlace words bound limit (Some place) =
-    (place < limit) × (bound ≤ slice_index words place)
-    × ((k : ℕ) → k < limit → bound ≤ slice_index words k → slice_index words place ≤ slice_index words k)
 
 -- the list has the goals of the kind, and no others, each as often as it likes
 pub record AreGoalsOf (Kind : GoalKind → Type 0) (goals : List GoalKind) : Type 0 where

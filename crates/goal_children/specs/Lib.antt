@@ -5,3 +5,4 @@ pub mod MemberJobs
 pub mod Choices
 pub mod Laws
 pub mod Listed
+pub mod GoalLists

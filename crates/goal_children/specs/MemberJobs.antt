@@ -1,5 +1,6 @@
 -- The goals of members: which an expression has, and their words.
 use Rattle.std.specs.Prelude.{ℕ, ◌≡◌, ◌<◌, IsTrue, List, length, slice_index, ⊤}
+use Rattle.std.specs.List.{Contains}
 use Rattle.query_core.specs.Expressions.{expr_of, is_logical, word_of, IsCandidate}
 use Rattle.query_core.specs.Goals.{goal_number}
 use Rattle.query_core.specs.declared.query.Query.{Query}
@@ -55,6 +56,14 @@ pub record IsServed (q : Query) (wanted : Request) (e : ExprParts) (goal : GoalK
 abbrev pub IsGoalOf : Query → MemberJob → ExprParts → GoalKind → Type 0
 IsGoalOf q (Transform phase) e goal = IsTransformed phase e goal
 IsGoalOf q (Serve wanted) e goal = IsServed q wanted e goal
+
+-- the goal is that of the candidate of the word
+abbrev pub IsGoalOfWord : Query → MemberJob → ℕ → GoalKind → Type 0
+IsGoalOfWord q job word goal = (e : ExprParts) × IsCandidate q e × (word_of e ≡ word) × IsGoalOf q job e goal
+
+-- the goal is that of the candidate of one of the words
+abbrev pub IsGoalAmong : Query → MemberJob → List ℕ → GoalKind → Type 0
+IsGoalAmong q job words goal = (word : ℕ) × Contains words word × IsGoalOfWord q job word goal
 
 -- none of the candidates of the words below the place has a goal for the job
 abbrev pub HaveNoGoalsBelow : Query → MemberJob → List ℕ → ℕ → Type 0

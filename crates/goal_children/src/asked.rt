@@ -1,17 +1,18 @@
-//! All goals that an expression's alternatives ask for, as a list.
+//! All goals that enforcers and alternatives ask for, as a list.
 #![tactic(auto)]
 
 ghost use Rattle.std.specs.Prelude.{◌≡◌, ◌<◌, All, IfOk, IfSome, OnOk, Some};
 ghost use Rattle.query_core.specs.Keys as keys;
+ghost use Rattle.query_core.specs.Keys.{IsGroup};
 ghost use Rattle.query_core.specs.Expressions.{expr_of, AreInRange, IsCandidate};
 ghost use Rattle.request_props.specs.Numbered.{IsProps};
 ghost use Rattle.request_props.specs.Requests as requests;
 ghost use Rattle.plan_space.specs.Lines.{line_of as line_by_table};
 ghost use Rattle.goal_children.specs.Over.{IsNumberedRequest};
-ghost use Rattle.goal_children.specs.Choices.{IsOfAlt, IsOfAlternatives, IsOfMode, IsOfRequest};
+ghost use Rattle.goal_children.specs.Choices.{IsOfAlt, IsOfAlternatives, IsOfEnforcer, IsOfMode, IsOfRequest};
 ghost use Rattle.goal_children.specs.Finding.{AreGoalsOf, Collects};
 
-use crate::choice::asked_of;
+use crate::choice::{asked_of, enforced_by};
 use goal_space::GoalKind;
 use plan_space::{Line, what_is_asked_fits};
 use plan_tree::{Alt, alternative_by, modes_for, next_among, tried_modes};
@@ -106,4 +107,26 @@ fn push_asked(
         }
         None => Ok(()),
     }
+}
+
+/// Adds the goals of the group for what enforcers for the request ask of it.
+pub fn push_enforced(
+    query: &Query,
+    props: &Props,
+    group: KeyParts,
+    wanted: Request,
+    goals: &mut Vec<GoalKind>,
+) -> Result<(), AllocError>
+    requires props { IsProps query.now props.now }
+    requires known { IsGroup query.now group }
+    requires numbered { IsNumberedRequest query.now wanted }
+    ensures ok { OnOk result
+        (Collects (IsOfEnforcer query.now group wanted) goals.old.items goals.new.items) }
+{
+    // For the proof: groups have keys.
+    groups_are_known();
+    let (first, second) = enforced_by(query, props, group, wanted);
+    push_asked(group, first, goals)?;
+    push_asked(group, second, goals)?;
+    Ok(())
 }

@@ -1,7 +1,7 @@
-//! The children of a goal, in the order of words. No call here takes memory.
+//! The children of a goal one after the other, in the order of words. No call here takes memory.
 #![tactic(auto)]
 
-ghost use Rattle.std.specs.Prelude.{◌≡◌, IfOk, IfSome, MatchOption, OnOk, map};
+ghost use Rattle.std.specs.Prelude.{◌≡◌, IfSome, MatchOption};
 ghost use Rattle.std.specs.List.{All};
 ghost use Rattle.std.specs.List.Sorted.{IsStrictlyIncreasing};
 ghost use Rattle.query_core.specs.Keys.{IsGroup};
@@ -10,22 +10,18 @@ ghost use Rattle.request_props.specs.Numbered.{IsProps};
 ghost use Rattle.goal_space.specs.Words.{goal_word, IsInRange};
 ghost use Rattle.goal_space.specs.declared.goals.GoalKind.{GoalKind as AnyGoal};
 ghost use Rattle.goal_children.specs.Over.{IsGoalOver, IsGoalWordOver, IsNumberedRequest};
-ghost use Rattle.goal_children.specs.Children.{AreChildren, AreNoMore, IsChildIn, IsChildWordAt, IsLastChild, IsNextChild};
-ghost use Rattle.goal_children.specs.Choices.{AreAskedBy};
+ghost use Rattle.goal_children.specs.Children.{AreNoMore, IsChildIn, IsChildWordAt, IsLastChild, IsNextChild};
 ghost use Rattle.goal_children.specs.Finding.{FindsFrom, IsOfExpression};
 
-use crate::asked::asked_goals;
 use crate::choice::{asked_goal_from, enforced_goal_from};
 use crate::expressions::{group_goal_from, left_goal_from, rule_goal_from};
 use crate::finding::{bound_behind, goal_from, known_goal, sooner};
 use crate::jobs::{MemberJob, Phase};
 use crate::laws::children_are_over_the_query;
 use crate::members::member_goal_from;
-use crate::words::{first_among, words_of_goals};
 use goal_space::{GoalKind, goal_kinds_are_one};
 use query_core::{ExprParts, Goal, KeyParts, Query, candidates_are_known, groups_are_known};
 use request_props::{Props, Request};
-use std::alloc::{AllocError, Global};
 
 /// The child at this place, from 0, in the order of words, over the listed members.
 pub fn child(query: &Query, props: &Props, members: &[u64], goal: Goal, n: u32) -> Option<Goal>
@@ -62,108 +58,6 @@ fn nth_child(query: &Query, props: &Props, members: &[u64], goal: GoalKind, n: u
         passed += 1;
     }
     None
-}
-
-/// Puts the children of the goal into the list, ascending by their words, in place of what it held.
-pub fn list_children(
-    alloc: Global,
-    query: &Query,
-    props: &Props,
-    members: &[u64],
-    goal: GoalKind,
-    list: &mut Vec<GoalKind>,
-) -> Result<(), AllocError>
-    requires props { IsProps query.now props.now }
-    requires candidates { All (IsCandidateWord query.now) members.now }
-    requires ascending { IsStrictlyIncreasing members.now }
-    requires goal { IsGoalOver query.now goal }
-    ensures ok { OnOk result (AreChildren query.now members.now goal list.new.items) }
-{
-    // For the proof: children have words, and a word is that of one goal.
-    children_are_over_the_query();
-    goal_kinds_are_one();
-    list.clear();
-    let asked = asked_by(alloc, query, props, goal)?;
-    let words = words_of_goals(alloc, &asked)?;
-    let mut after = None;
-    'children: while let Some(child) = next_or_asked(
-        query, props, members, goal, &asked, &words, after,
-    ) {
-        list.push(child)?;
-        after = Some(child.word());
-    }
-    Ok(())
-}
-
-// What an expression asks for to serve a request, if the goal is of that kind. So its modes are
-// looked at once, and not for each child.
-fn asked_by(
-    alloc: Global,
-    query: &Query,
-    props: &Props,
-    goal: GoalKind,
-) -> Result<Vec<GoalKind>, AllocError>
-    requires props { IsProps query.now props.now }
-    requires goal { IsGoalOver query.now goal }
-    ensures asked { IfOk result (λ asked. AreAskedBy query.now goal asked.items) }
-    ensures in_range { IfOk result (λ asked. All IsInRange asked.items) }
-{
-    match goal {
-        GoalKind::OptE(e, wanted) => asked_goals(alloc, query, props, e, wanted),
-        _ => Ok(Vec::new(alloc)),
-    }
-}
-
-// The next child; where the goal is an expression's for a request, out of what it asks for, by the words of that.
-fn next_or_asked(
-    query: &Query,
-    props: &Props,
-    members: &[u64],
-    goal: GoalKind,
-    asked: &[GoalKind],
-    words: &[u64],
-    after: Option<Goal>,
-) -> Option<GoalKind>
-    requires props { IsProps query.now props.now }
-    requires candidates { All (IsCandidateWord query.now) members.now }
-    requires ascending { IsStrictlyIncreasing members.now }
-    requires goal { IsGoalOver query.now goal }
-    requires asked { AreAskedBy query.now goal asked.now }
-    requires words { words.now ≡ map goal_word asked.now }
-    ensures next { MatchOption result
-        (IsLastChild query.now members.now goal after)
-        (IsNextChild query.now members.now goal after) }
-    ensures in_range { IfSome result IsInRange }
-{
-    // For the proof: children have words.
-    children_are_over_the_query();
-    match bound_behind(after) {
-        Some(bound) => { child_or_asked_from(query, props, members, goal, asked, words, bound) }
-        None => None,
-    }
-}
-
-fn child_or_asked_from(
-    query: &Query,
-    props: &Props,
-    members: &[u64],
-    goal: GoalKind,
-    asked: &[GoalKind],
-    words: &[u64],
-    bound: u64,
-) -> Option<GoalKind>
-    requires props { IsProps query.now props.now }
-    requires candidates { All (IsCandidateWord query.now) members.now }
-    requires ascending { IsStrictlyIncreasing members.now }
-    requires goal { IsGoalOver query.now goal }
-    requires asked { AreAskedBy query.now goal asked.now }
-    requires words { words.now ≡ map goal_word asked.now }
-    ensures { FindsFrom (IsChildIn query.now members.now goal) bound result }
-{
-    match goal {
-        GoalKind::OptE(_, _) => first_among(asked, words, bound),
-        _ => child_from(query, props, members, goal, bound),
-    }
 }
 
 /// The child of the least word, over the listed members; behind that of a goal, where one is given.

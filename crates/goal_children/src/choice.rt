@@ -1,7 +1,7 @@
 //! The goals that a choice of plans waits for: what enforcers and alternatives ask for.
 #![tactic(auto)]
 
-ghost use Rattle.std.specs.Prelude.{◌≡◌, ◌<◌, IfSome, Some};
+ghost use Rattle.std.specs.Prelude.{◌≡◌, ◌<◌, ◌↔◌, ◌⊎◌, IfSome, Some};
 ghost use Rattle.std.specs.Option.{option_map};
 ghost use Rattle.query_core.specs.Keys as keys;
 ghost use Rattle.query_core.specs.Keys.{IsGroup};
@@ -9,6 +9,7 @@ ghost use Rattle.query_core.specs.Expressions.{expr_of, AreInRange, IsCandidate}
 ghost use Rattle.request_props.specs.Numbered.{IsProps};
 ghost use Rattle.request_props.specs.Requests.{IsInRange};
 ghost use Rattle.plan_space.specs.Lines.{line_of as line_by_table};
+ghost use Rattle.goal_space.specs.declared.goals.GoalKind.{GoalKind as AnyGoal};
 ghost use Rattle.goal_children.specs.Over.{IsNumberedRequest};
 ghost use Rattle.goal_children.specs.Choices.{IsOfAlt, IsOfAlternatives, IsOfEnforcer, IsOfMode, IsOfRequest};
 ghost use Rattle.goal_children.specs.Finding.{FindsFrom};
@@ -37,13 +38,34 @@ pub fn enforced_goal_from(
 {
     // For the proof: groups have keys.
     groups_are_known();
-    let key = Key::make(group);
-    let first = below(enforcer(query, props, key, wanted, 0));
-    let second = below(enforcer(query, props, key, wanted, 1));
+    let (first, second) = enforced_by(query, props, group, wanted);
     sooner(
         asked_of_group(group, first, bound),
         asked_of_group(group, second, bound),
     )
+}
+
+/// What enforcers for the request ask of the group: two at most.
+pub fn enforced_by(
+    query: &Query,
+    props: &Props,
+    group: KeyParts,
+    wanted: Request,
+) -> (Option<Request>, Option<Request>)
+    requires props { IsProps query.now props.now }
+    requires known { IsGroup query.now group }
+    requires numbered { IsNumberedRequest query.now wanted }
+    ensures exact { (goal : AnyGoal) → IsOfEnforcer query.now group wanted goal
+        ↔ (IsOfRequest group result.0 goal ⊎ IsOfRequest group result.1 goal) }
+    ensures first { IfSome result.0 IsInRange }
+    ensures second { IfSome result.1 IsInRange }
+{
+    // For the proof: groups have keys.
+    groups_are_known();
+    let key = Key::make(group);
+    let first = below(enforcer(query, props, key, wanted, 0));
+    let second = below(enforcer(query, props, key, wanted, 1));
+    (first, second)
 }
 
 // What an enforcer asks of its own group.

@@ -8,11 +8,14 @@ mod expressions;
 mod finding;
 mod jobs;
 mod laws;
+mod lists;
 mod members;
 mod words;
 
-pub use children::{child, list_children, next_child};
+pub use children::{child, next_child};
 pub use finding::known_goal;
 pub use laws::{
     children_are_one, children_are_over_the_query, goal_lists_are_known, goals_are_over_the_query,
 };
+pub use lists::list_children;
+pub use words::put_goals;

@@ -1,7 +1,7 @@
 //! The goals of the members of a group, in the order of words.
 #![tactic(auto)]
 
-ghost use Rattle.std.specs.Prelude.{◌≡◌, ◌<◌, ◌≤◌, ◌^◌, ◌↔◌, ℕ, IsTrue, MatchOption, length, slice_index};
+ghost use Rattle.std.specs.Prelude.{◌≡◌, ◌<◌, ◌≤◌, ◌^◌, ◌↔◌, ℕ, IsTrue, MatchOption, OnOk, length, slice_index};
 ghost use Rattle.std.specs.List.{All};
 ghost use Rattle.std.specs.List.Sorted.{IsStrictlyIncreasing};
 ghost use Rattle.query_core.specs.declared.expressions.ExprParts.{ExprParts as AnyExpr};
@@ -10,9 +10,9 @@ ghost use Rattle.query_core.specs.Keys.{IsGroup};
 ghost use Rattle.query_core.specs.Expressions.{expr_of, IsCandidate, IsCandidateWord};
 ghost use Rattle.request_props.specs.Numbered.{IsProps, IsNumbered};
 ghost use Rattle.plan_tree.specs.Alternatives.{HasAlternative};
-ghost use Rattle.goal_children.specs.Finding.{FindsFrom, IsOfMembers};
+ghost use Rattle.goal_children.specs.Finding.{Collects, FindsFrom, IsOfMembers};
 ghost use Rattle.goal_space.specs.declared.goals.GoalKind.{GoalKind as AnyGoal};
-ghost use Rattle.goal_children.specs.MemberJobs.{word_at, HasNumberedJob, HaveNoGoals, IsFirstGoal, IsGoalOf, IsJobInRange, IsServed, IsTransformed};
+ghost use Rattle.goal_children.specs.MemberJobs.{word_at, HasNumberedJob, HaveNoGoals, IsFirstGoal, IsGoalAmong, IsGoalOf, IsGoalOfWord, IsJobInRange, IsServed, IsTransformed};
 
 use crate::jobs::{MemberJob, Phase};
 use goal_space::GoalKind;
@@ -22,6 +22,7 @@ use query_core::{
     expressions_are_one, groups_are_known,
 };
 use request_props::{Props, Request, code};
+use std::alloc::AllocError;
 use xform_rules::words_of;
 
 /// The first of the goals that the members of the group have for the job, from the bound on.
@@ -47,6 +48,74 @@ pub fn member_goal_from(
     let own = words_of(members, group);
     let from = first_from(job, own, bound);
     first_goal(query, props, job, &own[from..])
+}
+
+/// Adds the goals that the members of the group have for the job.
+pub fn push_member_goals(
+    query: &Query,
+    props: &Props,
+    members: &[u64],
+    group: KeyParts,
+    job: MemberJob,
+    goals: &mut Vec<GoalKind>,
+) -> Result<(), AllocError>
+    requires props { IsProps query.now props.now }
+    requires candidates { All (IsCandidateWord query.now) members.now }
+    requires ascending { IsStrictlyIncreasing members.now }
+    requires known { IsGroup query.now group }
+    requires numbered { HasNumberedJob query.now job }
+    ensures ok { OnOk result
+        (Collects (IsOfMembers query.now members.now group job) goals.old.items goals.new.items) }
+{
+    // For the proof: the words of candidates fit, and groups have keys.
+    candidates_are_known();
+    groups_are_known();
+    push_goals_of(query, props, job, words_of(members, group), goals)
+}
+
+// Adds the goals that the candidates of the words have for the job.
+fn push_goals_of(
+    query: &Query,
+    props: &Props,
+    job: MemberJob,
+    words: &[u64],
+    goals: &mut Vec<GoalKind>,
+) -> Result<(), AllocError>
+    requires props { IsProps query.now props.now }
+    requires candidates { All (IsCandidateWord query.now) words.now }
+    requires numbered { HasNumberedJob query.now job }
+    ensures ok { OnOk result
+        (Collects (IsGoalAmong query.now job words.now) goals.old.items goals.new.items) }
+{
+    for word in words {
+        push_goal_of(query, props, job, *word, goals)?;
+    }
+    Ok(())
+}
+
+// Adds the goal that the candidate of the word has for the job, if it has one.
+fn push_goal_of(
+    query: &Query,
+    props: &Props,
+    job: MemberJob,
+    word: u64,
+    goals: &mut Vec<GoalKind>,
+) -> Result<(), AllocError>
+    requires props { IsProps query.now props.now }
+    requires candidate { IsCandidateWord query.now word }
+    requires numbered { HasNumberedJob query.now job }
+    ensures ok { OnOk result
+        (Collects (IsGoalOfWord query.now job word) goals.old.items goals.new.items) }
+{
+    // For the proof: the words of candidates fit.
+    candidates_are_known();
+    match job.goal_of(query, props, Expr(word).known_parts()) {
+        Some(goal) => {
+            goals.push(goal)?;
+            Ok(())
+        }
+        None => Ok(()),
+    }
 }
 
 // The goal of the first of the words that has one for the job.

@@ -1,61 +1,53 @@
-//! Goals with their words beside them.
+//! Goals in the order of their words.
 #![tactic(auto)]
 
-ghost use Rattle.std.specs.Prelude.{◌≡◌, ◌+◌, ◌<◌, IfOk, length, map};
-ghost use Rattle.std.specs.List.{All, Contains};
+ghost use Rattle.std.specs.Prelude.{◌≡◌, IfOk, OnOk, map};
+ghost use Rattle.std.specs.List.{All};
 ghost use Rattle.goal_space.specs.Words.{goal_word, IsInRange};
-ghost use Rattle.goal_children.specs.Finding.{FindsFrom, IsLeastPlace};
+ghost use Rattle.goal_children.specs.GoalLists.{AreInOrder, HaveGoalWords, IsWordOfGoal};
 
-use goal_space::GoalKind;
+use crate::finding::known_goal;
+use goal_space::{GoalKind, goal_kinds_are_one};
+use query_core::Goal;
 use std::alloc::{AllocError, Global};
 
-/// The words of the goals.
-pub fn words_of_goals(alloc: Global, goals: &[GoalKind]) -> Result<Vec<u64>, AllocError>
+/// Puts the goals into the list, ascending by their words and each once, in place of what it held.
+pub fn put_in_order(
+    alloc: Global,
+    goals: &[GoalKind],
+    list: &mut Vec<GoalKind>,
+) -> Result<(), AllocError>
+    requires { All IsInRange goals.now }
+    ensures ok { OnOk result (AreInOrder goals.now list.new.items) }
+{
+    // For the proof: a word is that of one goal.
+    goal_kinds_are_one();
+    let mut words = words_of_goals(alloc, goals)?;
+    words.sort_unstable();
+    words.dedup();
+    put_goals(&words, list)
+}
+
+// The words of the goals.
+fn words_of_goals(alloc: Global, goals: &[GoalKind]) -> Result<Vec<u64>, AllocError>
     requires { All IsInRange goals.now }
     ensures { IfOk result (λ words. words.items ≡ map goal_word goals.now) }
 {
-    let mut words = Vec::new(alloc);
+    let mut words = Vec::with_capacity(alloc, goals.len())?;
     for goal in goals {
         words.push(goal.word().0)?;
     }
     Ok(words)
 }
 
-/// Of the goals of these words the one of the least word from the bound on.
-#[tactic(auto, using(crate::proofs::LeastPlaces::so_many_words))]
-pub fn first_among(goals: &[GoalKind], words: &[u64], bound: u64) -> Option<GoalKind>
-    requires in_range { All IsInRange goals.now }
-    requires words { words.now ≡ map goal_word goals.now }
-    ensures { FindsFrom (Contains goals.now) bound result }
+/// Puts the goals of the words into the list, in place of what it held.
+pub fn put_goals(words: &[u64], list: &mut Vec<GoalKind>) -> Result<(), AllocError>
+    requires { All IsWordOfGoal words.now }
+    ensures ok { OnOk result (HaveGoalWords words.now list.new.items) }
 {
-    match least_from(words, bound) {
-        Some(place) => Some(goals[place]),
-        None => None,
+    list.clear();
+    for word in words {
+        list.push(known_goal(Goal(*word)))?;
     }
-}
-
-// The place of the least of the words from the bound on.
-fn least_from(words: &[u64], bound: u64) -> Option<usize>
-    ensures { IsLeastPlace words.now bound (length words.now) result }
-{
-    let mut least = None;
-    for place in 0..words.len() {
-        least = lesser_place(words, bound, least, place);
-    }
-    least
-}
-
-// The same of the words up to this place, where it is told for those before it.
-fn lesser_place(words: &[u64], bound: u64, before: Option<usize>, place: usize) -> Option<usize>
-    requires within { place < length words.now }
-    requires before { IsLeastPlace words.now bound place before }
-    ensures { IsLeastPlace words.now bound (place + 1) result }
-{
-    if words[place] < bound {
-        return before;
-    }
-    match before {
-        Some(least) if words[least] <= words[place] => before,
-        _ => Some(place),
-    }
+    Ok(())
 }

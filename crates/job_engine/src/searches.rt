@@ -107,13 +107,14 @@ fn usual_room(query: &Query, props: &Props, cap: u32) -> u32
 
 // How many of the predicates compare two columns.
 fn column_pairs(preds: &[Pred]) -> usize {
-    let mut count = 0usize;
-    for pred in preds {
-        if let Operand::Item(_) = pred.right {
-            count = count.saturating_add(1);
-        }
+    preds.iter().filter(|pred| compares_columns(pred)).count()
+}
+
+fn compares_columns(pred: &Pred) -> bool {
+    match pred.right {
+        Operand::Item(_) => true,
+        _ => false,
     }
-    count
 }
 
 // Searches by one worker on a board with fewer cells than the capacity. None where these were too few.

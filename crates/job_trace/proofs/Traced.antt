@@ -1,5 +1,5 @@
 -- Goals by their words, and the lines of goals with their children.
-use Rattle.std.proofs.Common.{◌≡◌, ℕ, ◌+◌, ◌<◌, List, [], ◌∷◌, ◌++◌, All, append_assoc, flat_map, map, length, get_or, take, codes, refl, sym, ap, ◌∙◌, arith}
+use Rattle.std.proofs.Common.{◌≡◌, ℕ, ◌+◌, ◌<◌, List, [], ◌∷◌, ◌++◌, All, append_assoc, flat_map, map, length, get_or, take, refl, sym, ap, ◌∙◌, arith}
 use Rattle.std.specs.List.{concat}
 use Rattle.std.specs.List.Sorted.{IsStrictlyIncreasing}
 use Rattle.std.proofs.lemmas.List.{append-nil, get_or-map, length-map, map-append, take_more}
@@ -7,21 +7,17 @@ use Rattle.std.proofs.lemmas.List.Concat.{flat_map-append}
 use Rattle.std.proofs.lemmas.List.Folds.{concat-append}
 use Rattle.std.proofs.lemmas.List.Elements.{All-cons, All-head, All-push, All-tail}
 use Rattle.query_core.specs.declared.query.Query.{Query}
-use Rattle.query_core.specs.declared.words.KeyParts.TheVariants.{Partial}
-use Rattle.goal_space.specs.Words.{goal_word, HasWord, IsInRange}
+use Rattle.goal_space.specs.Words.{goal_word, IsInRange}
 use Rattle.goal_space.specs.declared.goals.GoalKind.{GoalKind}
-use Rattle.goal_space.specs.declared.goals.GoalKind.TheVariants.{Exp}
 use Rattle.goal_children.specs.Over.{IsGoalOver, IsGoalWordOver}
 use Rattle.goal_children.specs.Children.{AreChildren}
+use Rattle.goal_children.specs.GoalLists.{HaveGoalWords, IsWordOfGoal}
 use Rattle.query_text.specs.Added.{Adds}
-use Rattle.job_trace.specs.Goals.{goal_line}
-use Rattle.job_trace.specs.Trace.{AreGoals, Traced, child_line, traced_lines}
-use Rattle.job_trace.specs.GoalLines.{AddsTraced, HaveGoalWords}
+use Rattle.goal_children.proofs.Listing.{some_goal}
+use Rattle.job_trace.specs.Goals.{child_line, goal_line}
+use Rattle.job_trace.specs.Trace.{AreGoals, Traced, traced_lines}
+use Rattle.job_trace.specs.GoalLines.{AddsTraced}
 use Rattle.job_trace.proofs.Adding.{adds_more}
-
--- some goal, to name the one at a place
-pub some_goal : GoalKind
-some_goal = Exp Partial
 
 -- each word has its goal
 there : (q : Query) (words : List ℕ) → All (IsGoalWordOver q) words → (goals : List GoalKind) × (map goal_word goals ≡ words) × All (IsGoalOver q) goals
@@ -41,25 +37,20 @@ goals_there q words all ascending =
 pub have_goals : (q : Query) (words : List ℕ) (goals : List GoalKind) → ((goal : GoalKind) → IsGoalOver q goal → IsInRange goal) → AreGoals q words goals → HaveGoalWords words goals
 have_goals q words goals in_range are = record { numbers = are.numbers; in_range = λ k d within. in_range _ (are.over k d within) }
 
-module _ (words : List ℕ) (goals : List GoalKind) (have : HaveGoalWords words goals) where
-  -- as many words as goals
-  pub as_many : length words ≡ length goals
-  as_many = ap length (sym have.numbers) ∙ length-map goals goal_word
-
-  -- each word is that of the goal at its place
-  pub goal_at : (i : ℕ) → i < length goals → HasWord (get_or goals i some_goal) (get_or words i 0)
-  goal_at i within = record {
-    in_range = have.in_range i some_goal within;
-    number = sym (get_or-map goal_word goals i some_goal 0 within) ∙ ap (λ ws. get_or ws i 0) have.numbers;
-  }
+-- each of the words is that of the goal at its place
+pub words_of_goals : (words : List ℕ) (goals : List GoalKind) → HaveGoalWords words goals → All IsWordOfGoal words
+words_of_goals words goals have k d within =
+    let inside : k < length goals = omega (arith, within, ap length (sym have.numbers), length-map goals goal_word) in
+    let goal = get_or goals k some_goal in
+    (goal, record { in_range = have.in_range k some_goal inside; number = sym (get_or-map goal_word goals k some_goal d inside) ∙ ap (λ ws. get_or ws k d) have.numbers })
 
 -- ---- lines
 
 -- one more child
-pub child_more : (q : Query) (children : List GoalKind) (i : ℕ) (d : GoalKind) → i < length children → (first before middle after : List ℕ)
-    → Adds first (concat (map (child_line q) (take i children))) before → Adds before (codes "  ") middle → Adds middle (goal_line q (get_or children i d)) after
+pub child_more : (q : Query) (children : List GoalKind) (i : ℕ) (d : GoalKind) → i < length children → (first before after : List ℕ)
+    → Adds first (concat (map (child_line q) (take i children))) before → Adds before (child_line q (get_or children i d)) after
     → Adds first (concat (map (child_line q) (take (i + 1) children))) after
-child_more q children i d within first before middle after so_far spaces line =
+child_more q children i d within first before after so_far line =
     let earlier : List ℕ = concat (map (child_line q) (take i children)) in
     let this : List ℕ = child_line q (get_or children i d) in
     let all : concat (map (child_line q) (take (i + 1) children)) ≡ earlier ++ this =
@@ -67,8 +58,7 @@ child_more q children i d within first before middle after so_far spaces line =
     ∙ ap concat (map-append (child_line q) (take i children) (get_or children i d ∷ []))
     ∙ concat-append (map (child_line q) (take i children)) (this ∷ [])
     ∙ ap (λ l. earlier ++ l) (append-nil this) in
-    adds_more first earlier before this after so_far (adds_more before (codes "  ") middle (goal_line q (get_or children i d)) after spaces line)
-    ∙ ap (λ l. first ++ l) (sym all)
+    adds_more first earlier before this after so_far line ∙ ap (λ l. first ++ l) (sym all)
 
 module _ (q : Query) (members : List ℕ) where
   -- before the first goal

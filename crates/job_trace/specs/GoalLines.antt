@@ -1,17 +1,11 @@
--- Goals by their words, and the lines of the trace as the program adds them.
+-- The lines of the trace as the program adds them.
 use Rattle.std.specs.Prelude.{ℕ, ◌≡◌, List, All, flat_map, map}
 use Rattle.std.specs.List.{concat}
 use Rattle.query_core.specs.declared.query.Query.{Query}
-use Rattle.goal_space.specs.Words.{goal_word, IsInRange}
 use Rattle.goal_space.specs.declared.goals.GoalKind.{GoalKind}
 use Rattle.goal_children.specs.Children.{AreChildren}
 use Rattle.query_text.specs.Added.{Adds}
 use Rattle.job_trace.specs.Trace.{Traced, traced_lines}
-
--- the words are those of these goals, whose parts fit
-pub record HaveGoalWords (words : List ℕ) (goals : List GoalKind) : Type 0 where
-  pub numbers : map goal_word goals ≡ words
-  pub in_range : All IsInRange goals
 
 -- the lines of the goals were added, each goal's with those of its children behind
 pub record AddsTraced (q : Query) (members : List ℕ) (goals : List GoalKind) (before after : List ℕ) : Type 0 where

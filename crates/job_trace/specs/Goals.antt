@@ -22,3 +22,7 @@ goal_text q (OptE e wanted) = codes "OptE " ++ member_text q (expr_of e) ++ code
 -- the line of a goal
 abbrev pub goal_line : Query → GoalKind → List ℕ
 goal_line q goal = goal_text q goal ++ codes "\n"
+
+-- the line of a child, two spaces before it
+abbrev pub child_line : Query → GoalKind → List ℕ
+child_line q goal = codes "  " ++ goal_line q goal

@@ -2,16 +2,17 @@
 use Rattle.std.specs.Prelude.{ℕ, ◌≡◌, List, ◌++◌, All, Option, IfSome, codes}
 use Rattle.query_core.specs.Expressions.{expr_of}
 use Rattle.query_core.specs.declared.query.Query.{Query}
-use Rattle.job_trace.specs.Groups.{group_text}
+use Rattle.goal_space.specs.declared.goals.GoalKind.TheVariants.{Opt}
+use Rattle.job_trace.specs.Goals.{child_line}
 use Rattle.job_trace.specs.Members.{member_text}
 use Rattle.job_trace.specs.Requests.{request_text}
 use Rattle.job_trace.specs.declared.pieces.Piece.{Piece}
-use Rattle.job_trace.specs.declared.pieces.Piece.TheVariants.{Group, Member, Wanted}
+use Rattle.job_trace.specs.declared.pieces.Piece.TheVariants.{Child, Member, Wanted}
 use Rattle.job_trace.specs.declared.pieces.Written.{Written}
 
--- a group or an expression, with all that stands before the request; and a request, with the end of its line
+-- the whole line of a child; an expression, with all that stands before the request; and a request, with the end of its line
 abbrev pub piece_text : Query → Piece → List ℕ
-piece_text q (Group group) = codes "Opt " ++ group_text q group ++ codes " "
+piece_text q (Child group wanted) = child_line q (Opt group wanted)
 piece_text q (Member e) = codes "OptE " ++ member_text q (expr_of e) ++ codes " "
 piece_text q (Wanted wanted) = request_text q wanted ++ codes "\n"
 

@@ -9,7 +9,7 @@ use Rattle.goal_space.specs.declared.goals.GoalKind.{GoalKind}
 use Rattle.goal_children.specs.Over.{IsGoalOver}
 use Rattle.goal_children.specs.Children.{AreChildren}
 use Rattle.job_trace.specs.Counts.{counted}
-use Rattle.job_trace.specs.Goals.{goal_line}
+use Rattle.job_trace.specs.Goals.{child_line, goal_line}
 
 -- the words ascend, and are those of these goals, which are goals over the query
 pub record AreGoals (q : Query) (words : List ℕ) (goals : List GoalKind) : Type 0 where
@@ -45,10 +45,6 @@ trace_line goals =
     ++ counted (codes " opt=") (count_of 5 goals)
     ++ counted (codes " opte=") (count_of 6 goals)
     ++ codes "\n"
-
--- the line of a child, two spaces before it
-abbrev pub child_line : Query → GoalKind → List ℕ
-child_line q goal = codes "  " ++ goal_line q goal
 
 -- the line of a goal, and then those of its children
 abbrev pub traced_lines : Query → Traced → List (List ℕ)

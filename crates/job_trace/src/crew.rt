@@ -51,7 +51,7 @@ fn push_crew_lines(
     ensures ok { OnOk result (Adds (string_bytes text.old)
         (concat (texts.crew_lines query.now goals.now who.now)) (string_bytes text.new)) }
 {
-    let mut pieces = Pieces::new(alloc)?;
+    let mut pieces = Pieces::new(alloc, goals.len())?;
     for place in 0..goals.len() {
         let worker = who[place];
         write!(text, "{worker} ")?;

@@ -43,12 +43,40 @@ pub fn push_goal_line(
         GoalKind::Imp(group) => push_of_group(query, "Imp ", group, text),
         GoalKind::ImpE(e) => push_of_member(query, "ImpE ", e, text),
         GoalKind::Opt(group, wanted) => {
-            pieces.push(alloc, query, props, Piece::Group(group), text)?;
+            text.push_str("Opt ")?;
+            push_group(query, group, text)?;
+            text.push_str(" ")?;
             pieces.push(alloc, query, props, Piece::Wanted(wanted), text)
         }
         GoalKind::OptE(e, wanted) => {
             pieces.push(alloc, query, props, Piece::Member(e), text)?;
             pieces.push(alloc, query, props, Piece::Wanted(wanted), text)
+        }
+    }
+}
+
+/// Adds the line of a child.
+pub fn push_child_line(
+    alloc: Global,
+    query: &Query,
+    props: &Props,
+    child: GoalKind,
+    pieces: &mut Pieces,
+    text: &mut String,
+) -> Result<(), AllocError>
+    requires props { IsProps query.now props.now }
+    requires kept { AreKept query.now pieces.old }
+    ensures ok { OnOk result (Adds (string_bytes text.old)
+        (texts.child_line query.now child) (string_bytes text.new)) }
+    ensures kept { OnOk result (AreKept query.now pieces.new) }
+{
+    match child {
+        GoalKind::Opt(group, wanted) => {
+            pieces.push(alloc, query, props, Piece::Child(group, wanted), text)
+        }
+        _ => {
+            text.push_str("  ")?;
+            push_goal_line(alloc, query, props, child, pieces, text)
         }
     }
 }

@@ -16,14 +16,14 @@ use request_props::{Dist, Props, Request};
 use std::alloc::{AllocError, Global};
 use std::marker::Model;
 
-/// What the line of a goal with a request begins with, or what it ends with.
+/// What recurs in the lines of goals with requests.
 #[derive(Clone, Copy)]
 pub enum Piece {
-    /// The beginning, for a group.
-    Group(KeyParts),
-    /// The beginning, for an expression.
+    /// The whole line of a child, for a group and a request.
+    Child(KeyParts, Request),
+    /// The beginning of a line, for an expression.
     Member(PhysicalExpr),
-    /// The request, with which the line ends.
+    /// The request, with which a line ends.
     Wanted(Request),
 }
 
@@ -49,16 +49,17 @@ impl Model for Pieces {
     ghost view = { λ p. p.places.items };
 }
 
-// 1024 places for groups, four times as many for expressions, and as many for requests.
-const PLACES: usize = 9 * 1024;
+// The most places that a table has.
+const MOST_PLACES: usize = 64 * 1024;
 
 impl Pieces {
-    /// No piece has a text yet.
-    pub fn new(alloc: Global) -> Result<Pieces, AllocError>
+    /// No piece has a text yet. There are places enough for the lines of so many goals.
+    pub fn new(alloc: Global, goals: usize) -> Result<Pieces, AllocError>
         ensures { IfOk result (λ made. (q : AnyQuery) → AreKept q made) }
     {
-        let mut places = Vec::with_capacity(alloc, PLACES)?;
-        for _ in 0..PLACES {
+        let count = goals.min(MOST_PLACES);
+        let mut places = Vec::with_capacity(alloc, count)?;
+        for _ in 0..count {
             places.push(None)?;
         }
         Ok(Pieces { places })
@@ -79,7 +80,7 @@ impl Pieces {
             (piece_text query.now piece) (string_bytes text.new)) }
         ensures kept { OnOk result (AreKept query.now self.new) }
     {
-        let place = place_of(piece);
+        let place = place_of(piece, self.places.len());
         if let Some(known) = self.find(place, piece) {
             return text.push_str(known);
         }
@@ -116,7 +117,7 @@ fn is_same(one: Piece, other: Piece) -> bool
     ensures { IsTrue result → one ≡ other }
 {
     match (one, other) {
-        (Piece::Group(g), Piece::Group(h)) => g == h,
+        (Piece::Child(g, v), Piece::Child(h, w)) => g == h && v == w,
         (Piece::Member(e), Piece::Member(f)) => {
             e.group == f.group && is_same_operator(e.operator, f.operator)
         }
@@ -175,10 +176,12 @@ fn push_piece(
         (piece_text query.now piece) (string_bytes text.new)) }
 {
     match piece {
-        Piece::Group(group) => {
-            text.push_str("Opt ")?;
+        Piece::Child(group, wanted) => {
+            text.push_str("  Opt ")?;
             push_group(query, group, text)?;
-            text.push_str(" ")
+            text.push_str(" ")?;
+            push_request(query, props, wanted, text)?;
+            text.push_str("\n")
         }
         Piece::Member(e) => {
             text.push_str("OptE ")?;
@@ -192,48 +195,64 @@ fn push_piece(
     }
 }
 
-// The place of a piece. Another may have the same, but seldom one that is printed beside it.
-fn place_of(piece: Piece) -> usize {
+// The place of a piece among so many. Another may have the same, but seldom one that is printed beside it.
+fn place_of(piece: Piece, places: usize) -> usize {
+    let spread = u64::from(number_of(piece).wrapping_mul(0x9E37_79B1));
+    (spread.wrapping_mul(places as u64) >> 32) as usize
+}
+
+// A number that few pieces share.
+fn number_of(piece: Piece) -> u32 {
     match piece {
-        Piece::Group(group) => place_in(0, place_of_group(group)),
-        Piece::Member(e) => place_of_member(e),
-        Piece::Wanted(wanted) => place_of_request(wanted),
+        Piece::Child(group, wanted) => {
+            pair(number_of_group(group), number_of_request(wanted), 1 << 12)
+        }
+        Piece::Member(e) => pair(
+            number_of_group(e.group),
+            number_of_operator(e.operator),
+            1 << 15,
+        ),
+        Piece::Wanted(wanted) => number_of_request(wanted),
     }
 }
 
-// The place of this number among 1024, of which there are as many before as the row says.
-fn place_in(row: usize, number: u32) -> usize
-    requires { row < 9 }
-{
-    row * 1024 + (number % 1024) as usize
+// The number of a pair, where the second is one of so many.
+fn pair(first: u32, second: u32, of: u32) -> u32 {
+    first.wrapping_mul(of).wrapping_add(second)
 }
 
-fn place_of_group(group: KeyParts) -> u32 {
+fn number_of_group(group: KeyParts) -> u32 {
     match group {
-        KeyParts::Get(table) => table,
-        KeyParts::Filter(table) => table,
-        KeyParts::Join(set) => set,
+        KeyParts::Get(table) => table.wrapping_add(2),
+        KeyParts::Filter(table) => table.wrapping_add(34),
+        KeyParts::Join(set) => set.wrapping_add(66),
         KeyParts::Partial => 0,
         KeyParts::Agg => 1,
     }
 }
 
 // Members of one group differ in the operator or in what it stands on.
-fn place_of_member(e: PhysicalExpr) -> usize {
-    match e.operator {
-        Physical::HashJoin(left, _) => place_in(1, place_of_group(left)),
-        Physical::MergeJoin(left, _) => place_in(2, place_of_group(left)),
-        Physical::LoopJoin(left, _) => place_in(3, place_of_group(left)),
-        _ => place_in(4, place_of_group(e.group)),
+fn number_of_operator(operator: Physical) -> u32 {
+    match operator {
+        Physical::Scan => 0,
+        Physical::IndexScan(index) => pair(1, index, 1 << 11),
+        Physical::Filter(_) => 2,
+        Physical::IndexSeek(index) => pair(3, index, 1 << 11),
+        Physical::HashJoin(left, _) => pair(4, number_of_group(left), 1 << 11),
+        Physical::MergeJoin(left, _) => pair(5, number_of_group(left), 1 << 11),
+        Physical::LoopJoin(left, _) => pair(6, number_of_group(left), 1 << 11),
+        Physical::HashAgg(_) => 7,
+        Physical::StreamAgg(_) => 8,
+        Physical::PartialAgg(_) => 9,
     }
 }
 
-fn place_of_request(wanted: Request) -> usize {
+fn number_of_request(wanted: Request) -> u32 {
     let dist = match wanted.dist {
         Dist::One => 0,
         Dist::Spread => 1,
         Dist::Copies => 2,
-        Dist::Hashed(list) => list % 64,
+        Dist::Hashed(list) => list.wrapping_add(3),
     };
-    5 * 1024 + (dist * 64 + wanted.order % 64) as usize
+    pair(dist, wanted.order, 1 << 6)
 }

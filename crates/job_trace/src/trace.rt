@@ -1,28 +1,28 @@
 //! The text of the trace: the goals of a search, each with its children.
 #![tactic(auto)]
 
-ghost use Rattle.std.specs.Prelude.{◌≡◌, List, All, IfOk, OnOk, map, string_bytes};
+ghost use Rattle.std.specs.Prelude.{◌≡◌, All, IfOk, OnOk, map, string_bytes};
 ghost use Rattle.std.specs.List.{concat};
 ghost use Rattle.std.specs.List.Sorted.{IsStrictlyIncreasing};
 ghost use Rattle.query_core.specs.Expressions.{IsCandidateWord};
 ghost use Rattle.query_core.specs.Goals.{kind_of};
 ghost use Rattle.request_props.specs.Numbered.{IsProps};
 ghost use Rattle.goal_space.specs.Words.{parts_of};
-ghost use Rattle.goal_space.specs.declared.goals.GoalKind.{GoalKind as AnyGoal};
 ghost use Rattle.goal_children.specs.Over.{AreGoalWords, IsGoalOver};
 ghost use Rattle.query_text.specs.Added.{Adds};
 ghost use Rattle.job_trace.specs.Counts.{counted};
+ghost use Rattle.job_trace.specs.Goals.{child_line};
 ghost use Rattle.job_trace.specs.Trace as texts;
 ghost use Rattle.job_trace.specs.Trace.{AreGoals, count_of, IsTraceLine, IsTraceText};
 ghost use Rattle.job_trace.specs.Pieces.{AreKept};
-ghost use Rattle.job_trace.specs.GoalLines.{AddsTraced, HaveGoalWords};
+ghost use Rattle.job_trace.specs.GoalLines.{AddsTraced};
 
 use crate::counts::push_count;
-use crate::goals::push_goal_line;
+use crate::goals::{push_child_line, push_goal_line};
 use crate::pieces::Pieces;
-use goal_children::{children_are_over_the_query, known_goal, list_children};
-use goal_space::GoalKind;
-use query_core::{Goal, Query};
+use goal_children::{children_are_over_the_query, list_children, put_goals};
+use goal_space::{GoalKind, goal_kinds_are_one};
+use query_core::Query;
 use request_props::Props;
 use std::alloc::{AllocError, Global};
 
@@ -76,21 +76,11 @@ pub fn goals_of(
     requires words { AreGoalWords _query.now words.now }
     ensures { IfOk result (λ made. AreGoals _query.now words.now made.items) }
 {
-    // For the proof: goals over the query have words.
+    // For the proof: goals over the query have words, and a word is that of one goal.
     children_are_over_the_query();
-    typed_goals(alloc, words)
-}
-
-// The goals of the words.
-fn typed_goals(alloc: Global, words: &[u64]) -> Result<Vec<GoalKind>, AllocError>
-    requires { (goals : List AnyGoal) × HaveGoalWords words.now goals }
-    ensures { IfOk result (λ made. (goals : List AnyGoal) → HaveGoalWords words.now goals
-        → made.items ≡ goals) }
-{
-    let mut made = Vec::new(alloc);
-    for word in words {
-        made.push(known_goal(Goal(*word)))?;
-    }
+    goal_kinds_are_one();
+    let mut made = Vec::with_capacity(alloc, words.len())?;
+    put_goals(words, &mut made)?;
     Ok(made)
 }
 
@@ -165,7 +155,7 @@ fn push_all_traced(
         (string_bytes text.old) (string_bytes text.new)) }
 {
     let mut children = Vec::new(alloc);
-    let mut pieces = Pieces::new(alloc)?;
+    let mut pieces = Pieces::new(alloc, goals.len())?;
     for goal in goals {
         push_goal_line(alloc, query, props, *goal, &mut pieces, text)?;
         list_children(alloc, query, props, members, *goal, &mut children)?;
@@ -186,12 +176,11 @@ fn push_child_lines(
     requires props { IsProps query.now props.now }
     requires kept { AreKept query.now pieces.old }
     ensures ok { OnOk result (Adds (string_bytes text.old)
-        (concat (map (texts.child_line query.now) children.now)) (string_bytes text.new)) }
+        (concat (map (child_line query.now) children.now)) (string_bytes text.new)) }
     ensures kept { OnOk result (AreKept query.now pieces.new) }
 {
     for child in children {
-        text.push_str("  ")?;
-        push_goal_line(alloc, query, props, *child, pieces, text)?;
+        push_child_line(alloc, query, props, *child, pieces, text)?;
     }
     Ok(())
 }

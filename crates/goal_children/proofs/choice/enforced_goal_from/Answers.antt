@@ -1,20 +1,14 @@
-use Rattle.goal_children.proofs.Enforced.{below_in_range, enforced_find}
+use Rattle.std.proofs.Common.{◌⊎◌}
+use Rattle.goal_children.specs.Choices.{IsOfEnforcer, IsOfRequest}
+use Rattle.goal_children.proofs.Finds.{finds_as, sooner_is}
 use Rattle.goal_children.proofs.choice.enforced_goal_from.Goals as goal
 
-pub asked_of_group-requires-clause-wanted : goal.asked_of_group-requires-clause-wanted
-asked_of_group-requires-clause-wanted c =
-    below_in_range c.args.query.now c.requires.props.few_lists c.requires.props.few_orders c.args.group c.args.wanted 0 c.enforcer.result c.below-first.result c.requires.numbered
-    (c.enforcer.ensures.at_place c.args.group (record { number = c.make-key.ensures.number; known = c.requires.known })) c.below-first.ensures
-
-pub asked_of_group-requires-2-clause-wanted : goal.asked_of_group-requires-2-clause-wanted
-asked_of_group-requires-2-clause-wanted c =
-    below_in_range c.args.query.now c.requires.props.few_lists c.requires.props.few_orders c.args.group c.args.wanted 1 c.enforcer-2.result c.below-second.result c.requires.numbered
-    (c.enforcer-2.ensures.at_place c.args.group (record { number = c.make-key.ensures.number; known = c.requires.known })) c.below-second.ensures
-
+-- the sooner of the two
 pub returns : goal.returns
 returns c =
-    enforced_find c.args.query.now c.args.group c.args.wanted c.args.bound c.enforcer.result c.enforcer-2.result c.below-first.result c.below-second.result
-    c.asked_of_group.result c.asked_of_group-2.result c.sooner.result
-    (c.enforcer.ensures.at_place c.args.group (record { number = c.make-key.ensures.number; known = c.requires.known }))
-    (c.enforcer-2.ensures.at_place c.args.group (record { number = c.make-key.ensures.number; known = c.requires.known }))
-    c.below-first.ensures c.below-second.ensures c.sooner.ensures c.asked_of_group.ensures c.asked_of_group-2.ensures
+    let q = c.args.query.now in
+    let First = IsOfRequest c.args.group c.enforced_by-first.result.0 in
+    let Second = IsOfRequest c.args.group c.enforced_by-first.result.1 in
+    finds_as (λ k. First k ⊎ Second k) (IsOfEnforcer q c.args.group c.args.wanted) c.args.bound c.sooner.result
+    (λ k. (c.enforced_by-first.ensures.exact k).1) (λ k. (c.enforced_by-first.ensures.exact k).0)
+    (sooner_is First Second c.args.bound c.asked_of_group.result c.asked_of_group-2.result c.sooner.result c.sooner.ensures c.asked_of_group.ensures c.asked_of_group-2.ensures)

@@ -3,7 +3,7 @@ use Rattle.std.specs.List.{concat}
 use Rattle.std.proofs.lemmas.List.{take_all, take_more}
 use Rattle.goal_space.specs.declared.goals.GoalKind.{GoalKind}
 use Rattle.query_text.specs.Added.{Adds}
-use Rattle.job_trace.specs.Trace.{child_line}
+use Rattle.job_trace.specs.Goals.{child_line}
 use Rattle.job_trace.specs.GoalLines.{AddsTraced}
 use Rattle.job_trace.proofs.Traced.{traced_none, traced_more}
 use Rattle.job_trace.proofs.trace.push_all_traced.Goals as goal

@@ -2,7 +2,7 @@ use Rattle.std.proofs.Common.{map, take, string_bytes}
 use Rattle.std.specs.List.{concat}
 use Rattle.query_text.specs.Added.{Adds}
 use Rattle.job_trace.specs.Pieces.{AreKept}
-use Rattle.job_trace.specs.Trace.{child_line}
+use Rattle.job_trace.specs.Goals.{child_line}
 use Rattle.job_trace.proofs.trace.push_child_lines.Given as goal
 
 -- the lines of the children before this one were added, and pieces have their texts

@@ -1,6 +1,6 @@
 use Rattle.std.proofs.Common.{◌-◌, ◌^◌}
 use Rattle.goal_children.proofs.Listing.{AreUpTo, place_behind}
-use Rattle.goal_children.proofs.children.list_children.Given as goal
+use Rattle.goal_children.proofs.lists.list_each.Given as goal
 
 -- the list has the children up to the one before
 abbrev pub invariant-children : goal.invariant-children

@@ -3,7 +3,7 @@ use Rattle.goal_space.specs.Words.{goal_word, IsInRange}
 use Rattle.goal_space.specs.declared.goals.GoalKind.{GoalKind}
 use Rattle.goal_children.specs.Children.{IsChildIn}
 use Rattle.goal_children.proofs.Listing.{AreUpTo, up_to_none, up_to_next, all_up_to, place_more}
-use Rattle.goal_children.proofs.children.list_children.Goals as goal
+use Rattle.goal_children.proofs.lists.list_each.Goals as goal
 
 pub children-init : goal.children-init
 children-init c =

@@ -1,0 +1,82 @@
+-- The goals of words, and those of a group's members.
+use Rattle.std.proofs.Common.{◌≡◌, ℕ, ◌↔◌, List, [], ◌∷◌, ◌++◌, refl, sym, subst, ap, ◌∙◌, ◌⊎◌, inl, inr, arith}
+use Rattle.std.specs.List.{Contains}
+use Rattle.std.proofs.lemmas.List.Elements.{Contains-append_left, Contains-push, Contains-push_cases}
+use Rattle.query_core.specs.Expressions.{word_of, HasWord, IsCandidate, IsCandidateWord, IsPacked}
+use Rattle.query_core.specs.declared.query.Query.{Query}
+use Rattle.query_core.specs.declared.words.KeyParts.{KeyParts}
+use Rattle.query_core.specs.declared.expressions.ExprParts.{ExprParts}
+use Rattle.query_core.specs.declared.expressions.PhysicalExpr.{PhysicalExpr}
+use Rattle.query_core.proofs.ExpressionLemmas.{expr_of_one}
+use Rattle.goal_space.specs.declared.goals.GoalKind.{GoalKind}
+use Rattle.goal_space.specs.declared.goals.GoalKind.TheVariants.{OptE}
+use Rattle.goal_children.specs.declared.jobs.MemberJob.{MemberJob}
+use Rattle.goal_children.specs.declared.jobs.MemberJob.TheVariants.{Transform, Serve}
+use Rattle.goal_children.specs.Finding.{Collects, IsOfMembers}
+use Rattle.goal_children.specs.MemberJobs.{IsGoalAmong, IsGoalOf, IsGoalOfWord}
+use Rattle.goal_children.proofs.Collecting.{collects_as, collects_both, collects_nothing}
+use Rattle.goal_children.proofs.OfMembers.{has_member, of_member}
+
+-- an expression has one goal for a job
+goal_one : (q : Query) (job : MemberJob) (e : ExprParts) (k l : GoalKind) → IsGoalOf q job e k → IsGoalOf q job e l → k ≡ l
+goal_one q (Transform phase) e k l is also = is.1 ∙ sym also.1
+goal_one q (Serve wanted) e k l is also =
+    let same : is.physical ≡ also.physical = expr_of_one is.physical also.physical (sym is.is ∙ also.is) in
+    is.number ∙ ap (λ (p : PhysicalExpr). OptE p wanted) same ∙ sym also.number
+
+module _ (q : Query) (packed : (e : ExprParts) → IsCandidate q e → IsPacked e) where
+  -- a goal of a word is that of the expression which is known to have it
+  pub goal_of_known : (job : MemberJob) (word : ℕ) (known : ExprParts) → ((e : ExprParts) → HasWord word e → e ≡ known) → (goal : GoalKind) → IsGoalOfWord q job word goal
+      → IsGoalOf q job known goal
+  goal_of_known job word known only goal (e, candidate, number, is) =
+      subst (λ (x : ExprParts). IsGoalOf q job x goal) (only e (record { packed = packed e candidate; number = number })) is
+
+  -- so there is one
+  pub one_goal : (job : MemberJob) (word : ℕ) (known : ExprParts) → ((e : ExprParts) → HasWord word e → e ≡ known) → IsCandidateWord q word → (goal : GoalKind)
+      → IsGoalOf q job known goal → (k : GoalKind) → IsGoalOfWord q job word k ↔ (k ≡ goal)
+  one_goal job word known only (e, candidate, number) goal is k =
+      let same : e ≡ known = only e (record { packed = packed e candidate; number = number }) in (
+        λ of_word. goal_one q job known k goal (goal_of_known job word known only k of_word) is,
+        λ also. (e, candidate, number, subst (λ (x : ExprParts). IsGoalOf q job x k) (sym same) (subst (IsGoalOf q job known) (sym also) is)),
+      )
+
+  module _ (words own : List ℕ) (group : KeyParts) (job : MemberJob) where
+    -- the goals of the group's words are those of its members
+    pub among_members : ((e : ExprParts) → IsPacked e → Contains own (word_of e) → e.group ≡ group) → ((word : ℕ) → Contains own word → Contains words word)
+        → (goal : GoalKind) → IsGoalAmong q job own goal → IsOfMembers q words group job goal
+    among_members only part goal (word, within, (e, candidate, number, is)) =
+        let there : Contains own (word_of e) = subst (Contains own) (sym number) within in
+        of_member q words group job goal (record {
+          expr = e;
+          listed = record { candidate = candidate; listed = part (word_of e) there };
+          of_group = only e (packed e candidate) there;
+          is_goal = is;
+        })
+
+    pub members_among : ((e : ExprParts) → IsPacked e → e.group ≡ group → Contains words (word_of e) → Contains own (word_of e))
+        → (goal : GoalKind) → IsOfMembers q words group job goal → IsGoalAmong q job own goal
+    members_among own_words goal is =
+        let has = has_member q words group job goal is in
+        (word_of has.expr, own_words has.expr (packed has.expr has.listed.candidate) has.of_group has.listed.listed, (has.expr, has.listed.candidate, refl, has.is_goal))
+
+-- ---- one word after the other
+
+module _ (q : Query) (job : MemberJob) where
+  -- of no word
+  pub none_among : (goals : List GoalKind) → Collects (IsGoalAmong q job []) goals goals
+  none_among goals = collects_nothing (IsGoalAmong q job []) goals (λ k (word, (place, within, at), of_word). absurd (omega (arith, within)))
+
+  -- of one more
+  pub more_among : (words : List ℕ) (word : ℕ) (old middle new : List GoalKind) → Collects (IsGoalAmong q job words) old middle → Collects (IsGoalOfWord q job word) middle new
+      → Collects (IsGoalAmong q job (words ++ word ∷ [])) old new
+  more_among words word old middle new first second =
+      collects_as (λ k. IsGoalAmong q job words k ⊎ IsGoalOfWord q job word k) (IsGoalAmong q job (words ++ word ∷ [])) old new
+      (λ k cases. elim cases [
+        | inl (other, there, of_word) ↦ (other, Contains-append_left words (word ∷ []) other there, of_word)
+        | inr of_word ↦ (word, Contains-push words word, of_word)
+      ])
+      (λ k (other, there, of_word). elim (Contains-push_cases words word other there) [
+        | inl earlier ↦ inl (other, earlier, of_word)
+        | inr same ↦ inr (subst (λ w. IsGoalOfWord q job w k) (sym same) of_word)
+      ])
+      (collects_both (IsGoalAmong q job words) (IsGoalOfWord q job word) old middle new first second)
