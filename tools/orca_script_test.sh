@@ -36,14 +36,11 @@ expect() {
 make_checkout 'echo "a proof is open"; exit 1'
 expect "a build that fails at a crate starts no stale program" 125 "" "a proof is open"
 
-make_checkout '[ "$1" = all ] && exit 0; echo "the linker failed"; exit 1'
+make_checkout '[ "$1" = check ] && exit 0; echo "the linker failed"; exit 1'
 expect "a build that fails at the program starts no stale program" 125 "" "the linker failed"
 
-make_checkout '[ "$1" = all ] && exit 0; printf "#!/bin/sh\necho \$1\nexit 2\n" > out/orca; chmod +x out/orca; exit 2'
+make_checkout '[ "$1" = check ] && exit 0; printf "#!/bin/sh\necho \$1\nexit 2\n" > out/orca; chmod +x out/orca; exit 2'
 expect "a program that was built is started with the words, and its status is the script's" 2 "word" "proving and building"
-
-make_checkout 'echo "== orca_base"; echo "logic=proved"; exit 1'
-expect "each crate that is proved is told" 125 "" "^orca: proved orca_base$"
 
 make_checkout 'echo "never called"; exit 1'
 touch "$checkout/crates/orca/out/orca"
