@@ -1,5 +1,5 @@
 -- What holds of all children holds of the left one and of the right one.
-use Rattle.std.proofs.Common.{ℕ, inl, inr, refl, slice_get}
+use Rattle.std.proofs.Common.{inl, inr, refl, slice_get}
 use Rattle.std.specs.Option.{IfSome}
 use Rattle.query_core.specs.Expressions.{IsChild}
 use Rattle.query_core.specs.declared.expressions.Children.{Children}

@@ -1,5 +1,5 @@
 -- What the rows of a plan cost by what is asked of it.
-use Rattle.std.proofs.Common.{◌≡◌, ℕ, zero, suc, List, [], ◌∷◌, inl, inr, refl, sym, ap, ◌∙◌, subst}
+use Rattle.std.proofs.Common.{◌≡◌, ℕ, List, [], ◌∷◌, refl, sym, subst}
 use Rattle.query_core.specs.Expressions.{physical_children}
 use Rattle.query_core.specs.declared.query.Query.{Query}
 use Rattle.query_core.specs.declared.words.KeyParts.{KeyParts}
@@ -11,7 +11,6 @@ use Rattle.request_props.specs.Satisfied.{Meets, Satisfies}
 use Rattle.request_props.specs.declared.given.GivenDist.{GivenDist}
 use Rattle.request_props.specs.declared.given.GivenDist.TheVariants as given
 use Rattle.request_props.specs.declared.request.Dist.{Dist}
-use Rattle.request_props.specs.declared.request.Dist.TheVariants.{One, Spread, Copies, Hashed}
 use Rattle.request_props.specs.declared.request.Request.{Request}
 use Rattle.plan_space.specs.declared.lines.LeftDist.{LeftDist}
 use Rattle.plan_space.specs.declared.lines.LeftDist.TheVariants as left_dists
@@ -25,7 +24,7 @@ use Rattle.plan_space.specs.Alternatives.{DistServes, dist_asked, LineServes, Is
 use Rattle.plan_space.specs.Choices.{groups_of}
 use Rattle.plan_space.specs.Laws.{AreOf}
 use Rattle.plan_space.specs.Cost.{share_of, first_share, second_share}
-use Rattle.plan_tree.specs.Costs.{first_asked, second_asked, below_of, IsEnforcerCost, IsCostAmong}
+use Rattle.plan_tree.specs.Costs.{first_asked, second_asked, IsEnforcerCost, IsCostAmong}
 
 module _ (agree : (dist : GivenDist) (asked : Dist) → Meets dist asked → class_of dist ≡ class_asked asked) where
   -- the share of a kid's rows

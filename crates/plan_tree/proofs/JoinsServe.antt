@@ -1,5 +1,5 @@
 -- Hash joins and loop joins serve all requests that suit them, and hash joins only without an order.
-use Rattle.std.proofs.Common.{◌≡◌, ◌↔◌, ◌<◌, ℕ, List, [], Bool, Some, refl, sym, subst, arith}
+use Rattle.std.proofs.Common.{◌≡◌, ℕ, [], Some, refl, sym, subst, arith}
 use Rattle.std.proofs.lemmas.List.Elements.{All-nil}
 use Rattle.query_core.specs.Expressions.{physical_children}
 use Rattle.query_core.specs.declared.expressions.Children.{Children}
@@ -16,13 +16,12 @@ use Rattle.request_props.specs.declared.request.Dist.{Dist}
 use Rattle.request_props.specs.declared.request.Dist.TheVariants.{One, Spread, Copies, Hashed}
 use Rattle.request_props.specs.declared.request.Request.{Request}
 use Rattle.plan_space.specs.Alternatives.{DistServes, JoinServes, LineServes, dist_asked}
-use Rattle.plan_space.specs.Lines.{hash_line, in_order, line_of, loop_line, on_one, operator_line, request}
+use Rattle.plan_space.specs.Lines.{hash_line, in_order, loop_line, on_one, operator_line, request}
 use Rattle.plan_space.specs.Modes.{mode_at}
 use Rattle.plan_space.specs.declared.lines.LeftDist.{LeftDist}
 use Rattle.plan_space.specs.declared.lines.LeftDist.TheVariants as left_dists
 use Rattle.plan_space.specs.declared.lines.LeftOrder.{LeftOrder}
 use Rattle.plan_space.specs.declared.lines.LeftOrder.TheVariants as left_orders
-use Rattle.plan_space.specs.declared.lines.Line.{Line}
 use Rattle.plan_space.specs.declared.lines.Line.TheVariants.{Beside}
 use Rattle.plan_tree.specs.ServingModes.{MayServe, SuitsJoin, WantsCopies}
 

@@ -11,6 +11,7 @@ pub mod ModesTried
 pub mod LineModes
 pub mod LeftFits
 pub mod Unordered
+pub mod Merging
 pub mod TriedOfOperators
 pub mod JoinsServe
 pub mod FoundEnforcers

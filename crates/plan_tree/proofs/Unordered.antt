@@ -1,6 +1,6 @@
 -- A hash join gives no order, and serves only requests for none.
-use Rattle.std.proofs.Common.{◌≡◌, ℕ, [], false, Option, Some, None, refl, subst}
-use Rattle.std.specs.Prelude.{◌==◌, nat_lt, length}
+use Rattle.std.proofs.Common.{◌≡◌, ℕ, [], Option, Some, None, refl, subst}
+use Rattle.std.specs.Prelude.{◌==◌}
 use Rattle.std.specs.Option.{option_map}
 use Rattle.std.proofs.lemmas.Bool.{cond_both}
 use Rattle.query_core.specs.Crossing.{crossing_of}
@@ -12,13 +12,13 @@ use Rattle.query_core.specs.declared.expressions.Physical.TheVariants as physica
 use Rattle.query_core.specs.declared.expressions.PhysicalExpr.{PhysicalExpr}
 use Rattle.query_core.specs.declared.query.Query.{Query}
 use Rattle.query_core.specs.declared.words.KeyParts.{KeyParts}
-use Rattle.request_props.specs.Numbered.{lists_of, order_of}
+use Rattle.request_props.specs.Numbered.{order_of}
 use Rattle.request_props.specs.Satisfied.{BeginsWith, given_order}
 use Rattle.request_props.specs.declared.given.GivenOrder.{GivenOrder}
 use Rattle.request_props.specs.declared.given.GivenOrder.TheVariants.{Listed}
 use Rattle.request_props.specs.declared.request.Request.{Request}
 use Rattle.plan_space.specs.Alternatives.{LineServes, OrderServes}
-use Rattle.plan_space.specs.Lines.{only_line, single_line, hash_colocated, hash_line, agg_line, operator_line, in_order}
+use Rattle.plan_space.specs.Lines.{only_line, hash_colocated, hash_line, operator_line, in_order}
 use Rattle.plan_space.specs.declared.lines.LeftOrder.{LeftOrder}
 use Rattle.plan_space.specs.declared.lines.Line.{Line}
 use Rattle.plan_space.specs.declared.lines.Line.TheVariants.{Alone, Above, Beside}

@@ -6,7 +6,6 @@ use Rattle.query_core.specs.Expressions.{physical_children}
 use Rattle.query_core.specs.declared.expressions.PhysicalExpr.{PhysicalExpr}
 use Rattle.cardinality.specs.Rows.{rows_of}
 use Rattle.cost_units.specs.Cost.{local_cost, most_rows}
-use Rattle.cost_units.specs.declared.shape.Class.TheVariants as classes
 use Rattle.request_props.specs.Satisfied.{Satisfies}
 use Rattle.request_props.specs.declared.request.Dist.TheVariants.{Spread}
 use Rattle.request_props.specs.declared.request.Request.{Request}

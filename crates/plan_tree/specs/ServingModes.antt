@@ -1,11 +1,14 @@
 -- In which modes an expression may serve a request, as its operator and the distribution that is asked for say.
 use Rattle.std.specs.Prelude.{ℕ, ◌≡◌, ◌≤◌, ◌<◌, Bool, true, false, Option, None, Some, ⊤}
+use Rattle.query_core.specs.Crossing.{crossing_of}
 use Rattle.query_core.specs.declared.expressions.Physical.{Physical}
 use Rattle.query_core.specs.declared.expressions.Physical.TheVariants as physical
 use Rattle.query_core.specs.declared.expressions.PhysicalExpr.{PhysicalExpr}
 use Rattle.query_core.specs.declared.query.Query.{Query}
 use Rattle.query_core.specs.declared.words.KeyParts.{KeyParts}
 use Rattle.request_props.specs.Fitting.{Fits}
+use Rattle.request_props.specs.Numbered.{column_order, order_of}
+use Rattle.request_props.specs.Satisfied.{BeginsWith}
 use Rattle.request_props.specs.declared.request.Dist.{Dist}
 use Rattle.request_props.specs.declared.request.Dist.TheVariants.{One, Spread, Copies, Hashed}
 use Rattle.request_props.specs.declared.request.Request.{Request}
@@ -40,6 +43,15 @@ WantsCopies (Hashed list) = ⊥
 pub record SuitsJoin (q : Query) (left : KeyParts) (wanted : Request) : Type 0 where
   pub no_copies : WantsCopies wanted.dist → ⊥
   pub fits : Fits q left wanted
+
+-- the left one of the columns that are equated gives the order
+abbrev pub MergesIn : Query → ℕ → Option (ℕ × ℕ) → Type 0
+MergesIn q wanted None = ⊥
+MergesIn q wanted (Some sides) = BeginsWith (order_of q (column_order q sides.0)) (order_of q wanted)
+
+-- so does that of some predicate across the groups
+abbrev pub MayMergeIn : Query → KeyParts → KeyParts → ℕ → Type 0
+MayMergeIn q left right wanted = (pred : ℕ) × MergesIn q wanted (crossing_of q left right pred)
 
 -- the expression may serve the request in some mode
 abbrev pub MayServe : Query → PhysicalExpr → Request → Type 0

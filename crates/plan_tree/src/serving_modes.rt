@@ -2,22 +2,24 @@
 //! only merge joins and aggregations are looked at mode by mode.
 #![tactic(auto)]
 
-ghost use Rattle.std.specs.Prelude.{ℕ, ◌≡◌, ◌↔◌, IsTrue, []};
+ghost use Rattle.std.specs.Prelude.{ℕ, ◌≡◌, ◌↔◌, IsTrue};
+ghost use Rattle.query_core.specs.Crossing.{crossing_of};
 ghost use Rattle.query_core.specs.Expressions.{expr_of, IsCandidate};
+ghost use Rattle.query_core.specs.declared.expressions.Physical.TheVariants.{MergeJoin};
 ghost use Rattle.request_props.specs.Numbered.{IsProps, IsNumbered, order_of};
 ghost use Rattle.request_props.specs.Satisfied.{BeginsWith};
 ghost use Rattle.plan_space.specs.Modes.{IsAmong};
 ghost use Rattle.plan_tree.specs.Alternatives.{HasAlternative};
 ghost use Rattle.plan_tree.specs.ServingModes.{has_spread_modes as spread_modes};
-ghost use Rattle.plan_tree.specs.ServingModes.{MayServe, MayServeAmong, IsNextAmong, SuitsJoin, WantsCopies};
+ghost use Rattle.plan_tree.specs.ServingModes.{MayServe, MayServeAmong, IsNextAmong, MayMergeIn, MergesIn, SuitsJoin, WantsCopies};
 ghost use Rattle.plan_tree.specs.Walks.{AreTried};
 
 use crate::lines::line_of;
-use crate::serving::serves;
+use crate::serving::{gives, serves};
 use crate::walks::{TriedModes, next_tried, tried_modes};
 use plan_space::{Line, ModeRange, modes_are_few};
 use query_core::{KeyParts, Physical, PhysicalExpr, Query};
-use request_props::{Dist, Given, GivenDist, GivenOrder, Props, Request, satisfies};
+use request_props::{Dist, GivenDist, GivenOrder, Props, Request};
 
 /// Whether the expression may serve the request in some mode.
 pub fn may_serve(query: &Query, props: &Props, expr: PhysicalExpr, wanted: Request) -> bool
@@ -32,38 +34,94 @@ pub fn may_serve(query: &Query, props: &Props, expr: PhysicalExpr, wanted: Reque
         Physical::Filter(_) => serves_in_first(query, props, expr, wanted),
         Physical::IndexSeek(_) => serves_in_first(query, props, expr, wanted),
         Physical::HashJoin(left, _) => {
-            asks_no_order(query, props, wanted.order) && suits_join(query, props, left, wanted)
+            begins_with(query, props, 0, wanted.order) && suits_join(query, props, left, wanted)
         }
-        Physical::MergeJoin(left, _) => {
-            suits_join(query, props, left, wanted) && serves_in_some(query, props, expr, wanted)
+        Physical::MergeJoin(left, right) => {
+            suits_join(query, props, left, wanted)
+                && merge_serves(query, props, expr, left, right, wanted)
         }
         Physical::LoopJoin(left, _) => suits_join(query, props, left, wanted),
         Physical::HashAgg(_) => {
-            asks_no_order(query, props, wanted.order) && serves_in_some(query, props, expr, wanted)
+            begins_with(query, props, 0, wanted.order) && serves_in_some(query, props, expr, wanted)
         }
         Physical::StreamAgg(_) => serves_in_some(query, props, expr, wanted),
         Physical::PartialAgg(_) => serves_in_first(query, props, expr, wanted),
     }
 }
 
-// Whether the empty order begins with this one.
-fn asks_no_order(query: &Query, props: &Props, wanted: u32) -> bool
+// Whether the order of the first number begins with that of the second.
+fn begins_with(query: &Query, props: &Props, order: u32, wanted: u32) -> bool
     requires props { IsProps query.now props.now }
     requires numbered { IsNumbered query.now wanted }
-    ensures { IsTrue result ↔ BeginsWith [] (order_of query.now wanted) }
+    ensures { IsTrue result ↔ BeginsWith (order_of query.now order) (order_of query.now wanted) }
 {
-    if wanted == 0 {
-        return true;
-    }
-    let unordered = Given {
-        dist: GivenDist::One,
-        order: GivenOrder::Listed(0),
-    };
     let anywhere = Request {
         dist: Dist::One,
         order: wanted,
     };
-    satisfies(query, props, unordered, anywhere)
+    gives(
+        query,
+        props,
+        GivenDist::One,
+        GivenOrder::Listed(order),
+        anywhere,
+    )
+}
+
+// Whether the merge join of these groups may serve the request, where that may be in its order at all.
+fn merge_serves(
+    query: &Query,
+    props: &Props,
+    expr: PhysicalExpr,
+    left: KeyParts,
+    right: KeyParts,
+    wanted: Request,
+) -> bool
+    requires props { IsProps query.now props.now }
+    requires candidate { IsCandidate query.now (expr_of expr) }
+    requires merges { expr.operator ≡ MergeJoin left right }
+    requires numbered { IsNumbered query.now wanted.order }
+    ensures { IsTrue result ↔ MayServe query.now expr wanted }
+{
+    may_merge_in(query, props, left, right, wanted.order)
+        && serves_in_some(query, props, expr, wanted)
+}
+
+// Whether a merge join may give the order: some equality across the groups has a left column that gives it.
+fn may_merge_in(query: &Query, props: &Props, left: KeyParts, right: KeyParts, wanted: u32) -> bool
+    requires props { IsProps query.now props.now }
+    requires numbered { IsNumbered query.now wanted }
+    ensures { IsTrue result ↔ MayMergeIn query.now left right wanted }
+{
+    let count = query.preds.len() as u32;
+    let crossings = props.crossings(query, left, right);
+    let mut pred = crossings.next(0);
+    while pred < count {
+        if merges_in(query, props, left, right, pred, wanted) {
+            return true;
+        }
+        pred = crossings.next(pred + 1);
+    }
+    false
+}
+
+// Whether the predicate is such an equality.
+fn merges_in(
+    query: &Query,
+    props: &Props,
+    left: KeyParts,
+    right: KeyParts,
+    pred: u32,
+    wanted: u32,
+) -> bool
+    requires props { IsProps query.now props.now }
+    requires numbered { IsNumbered query.now wanted }
+    ensures { IsTrue result ↔ MergesIn query.now wanted (crossing_of query.now left right pred) }
+{
+    match props.crossing(query, left, right, pred) {
+        Some((side, _)) => begins_with(query, props, side.order, wanted),
+        None => false,
+    }
 }
 
 // Whether the request suits a join over this left child. A join gives only what lies in that, and no copies.

@@ -1,4 +1,4 @@
-use Rattle.std.proofs.Common.{◌≡◌, ◌-◌, ◌+◌, ◌∙◌, Bool, Option, Some, None, false, ℕ, slice_get, refl, sym, subst, arith}
+use Rattle.std.proofs.Common.{◌≡◌, ◌-◌, ◌+◌, ◌∙◌, Option, Some, None, false, ℕ, refl, sym, subst, arith}
 use Rattle.plan_tree.specs.Alternatives.{IsAltOf, HasAlternative}
 use Rattle.plan_tree.proofs.Decided.{has, has_alternative, has_none, has_no_line}
 use Rattle.plan_tree.proofs.Modes.{passing, modes_are, skipped_to, at_first, after_first, at_end}

@@ -1,4 +1,4 @@
-use Rattle.std.proofs.Common.{◌≡◌, ℕ, ◌/◌, ap, sym, ◌∙◌}
+use Rattle.std.proofs.Common.{ℕ, ◌/◌, ap, sym, ◌∙◌}
 use Rattle.query_core.specs.Expressions.{word_of, expr_of}
 use Rattle.plan_tree.proofs.NodeNumbers.{word_at}
 use Rattle.plan_tree.proofs.node.native_of.Goals as goal
