@@ -1,13 +1,13 @@
 -- Which goals and which nodes stand behind the least plan of a group for a request.
 use Rattle.std.specs.Prelude.{◌≡◌, ◌⊎◌, ℕ, Option, None, Some, List, slice_get}
 use Rattle.query_core.specs.declared.query.Query.{Query}
+use Rattle.query_core.specs.declared.words.Goal.{Goal}
 use Rattle.query_core.specs.declared.words.KeyParts.{KeyParts}
 use Rattle.query_core.specs.declared.expressions.PhysicalExpr.{PhysicalExpr}
 use Rattle.xform_rules.specs.Closure.{IsMember}
 use Rattle.request_props.specs.declared.request.Request.{Request}
 use Rattle.plan_space.specs.Enforcers.{EnforcedBy, enforcers_of}
 use Rattle.plan_space.specs.declared.nodes.NodeKind.TheVariants as nodes
-use Rattle.plan_tree.specs.Alternatives.{HasAlternative}
 use Rattle.best_answers.specs.Nodes.{Nodes, no_nodes, one_node, both_of, IsIn}
 use Rattle.best_answers.specs.Best.{IsBest}
 use Rattle.best_answers.specs.declared.best.Best.{Best}
@@ -39,6 +39,11 @@ pub record IsBestOfMembers (q : Query) (group : KeyParts) (wanted : Request) (be
 -- the goal of this expression, if it is such a member of its group
 abbrev pub IsGoalOfMember : Query → PhysicalExpr → Request → GoalKind → Type 0
 IsGoalOfMember q e wanted child = CanServe (IsMember q) q e.group wanted e × (child ≡ OptE e wanted)
+
+-- the word of that goal, or there is none
+abbrev pub IsWordOfMember : Query → PhysicalExpr → Request → Option Goal → Type 0
+IsWordOfMember q e wanted None = CanServe (IsMember q) q e.group wanted e → ⊥
+IsWordOfMember q e wanted (Some word) = CanServe (IsMember q) q e.group wanted e × (goal_word (OptE e wanted) ≡ word.0)
 
 -- the best answer of some nodes, among them this expression in all modes, if it is such a member
 pub record IsBestOfMember (q : Query) (e : PhysicalExpr) (wanted : Request) (best : Option Best) : Type 0 where

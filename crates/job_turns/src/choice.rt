@@ -5,6 +5,7 @@ ghost use Rattle.std.specs.Prelude.{◌≡◌, ◌<◌, ◌-◌, ◌^◌, Option
 ghost use Rattle.query_core.specs.declared.query.Query.{Query as AnyQuery};
 ghost use Rattle.goal_board.specs.Seats.{hands};
 ghost use Rattle.goal_space.specs.Answers.{IsAnswerTo};
+ghost use Rattle.goal_space.specs.Words.{goal_word};
 ghost use Rattle.goal_rules.specs.Answers.{AreWordsOf};
 ghost use Rattle.best_answers.specs.declared.best.Best.{Best as AnyBest};
 ghost use Rattle.job_turns.specs.Searches.{IsBoardOf, IsSeat, HasRight};
@@ -12,14 +13,14 @@ ghost use Rattle.job_turns.specs.Works.{IsChildOf};
 ghost use Rattle.job_turns.specs.Choices.{choice_of_both, most_word, AnswersAreKnown, Chooses, IsProgressOf, PutsChildren};
 
 use crate::laws::words_are_known;
-use crate::over_query::await_goal;
+use crate::over_query::await_word;
 use best_answers::{Best, answers_are_best, lesser};
 use board_moves::{Job, Progress, put_goal};
 use goal_board::{Answer, Board, Hints, Inserted, Seat};
 use goal_rules::Rules;
 use goal_space::{GoalKind, goal_kinds_are_one, goals_are_known};
 use plan_tree::Node;
-use query_core::Query;
+use query_core::{Goal, Query};
 
 /// What is known of the best answer of some nodes for a request.
 #[derive(Clone, Copy)]
@@ -43,19 +44,21 @@ impl Choice {
     }
 }
 
-/// Awaits a child of the goal, and tells its answer. None where it found every cell taken.
+/// Awaits a child of the goal, which has this word, and tells its answer. None where it found every cell taken.
 pub(crate) fn await_choice<'q, H: Hints>(
     query: &Query,
     board: &Board<Rules<'q>>,
     seat: &mut Seat<Rules<'q>>,
     job: &mut Job,
     child: GoalKind,
+    word: Goal,
     hints: &mut H,
 ) -> Option<Choice>
     requires board { IsBoardOf query.now board.now }
     requires seat { IsSeat board.now seat.old }
     requires right { HasRight board.now seat.old job.old.right }
     requires child { IsChildOf query.now job.old.right.goal child }
+    requires word { goal_word child ≡ word.0 }
     requires hints { H.capacity hints.old ≡ board.now.key.room }
     ensures seat { IsSeat board.now seat.new }
     ensures right { HasRight board.now seat.new job.new.right }
@@ -65,7 +68,7 @@ pub(crate) fn await_choice<'q, H: Hints>(
 {
     // For the proof: the words of an answer tell it.
     answers_are_known();
-    match await_goal(query, board, seat, job, child, hints) {
+    match await_word(query, board, seat, job, child, word, hints) {
         Progress::Complete(answer) => Some(Choice::Known(best_of(answer))),
         Progress::Waiting => Some(Choice::Open),
         Progress::Full => None,

@@ -16,6 +16,7 @@ ghost use Rattle.job_turns.specs.Choices.{Chooses, PutsChildren};
 ghost use Rattle.job_turns.specs.Requests.{IsEnforcerGoal, IsEnforcerGoalAt, enforcer_at, first_enforcers};
 
 use crate::choice::{Choice, await_choice, put_child};
+use crate::laws::words_are_known;
 use best_answers::{answers_are_best, best_of_enforcer};
 use board_moves::Job;
 use goal_board::{Board, Hints, Seat};
@@ -148,13 +149,15 @@ fn await_enforcer<'q, H: Hints>(
         result (hands seat.new) job.new.right }
     ensures hints { H.capacity hints.new ≡ H.capacity hints.old }
 {
-    // For the proof: the request fits the group, and no node has no answer.
+    // For the proof: the request fits the group, a child of a goal has a word, and no node has no answer.
     goals_are_known();
+    words_are_known();
     answers_are_best();
     match enforcer_for(query, props, group, wanted, place) {
         Some(enforced) => {
             let child = GoalKind::Opt(group, enforced.below);
-            let found = await_choice(query, board, seat, job, child, hints)?;
+            let word = child.word();
+            let found = await_choice(query, board, seat, job, child, word, hints)?;
             match found {
                 Choice::Known(below) => {
                     let best = best_of_enforcer(query, props, group, wanted, enforced, below);

@@ -13,6 +13,7 @@ mod one_turn;
 mod over_query;
 mod requests;
 mod rule_results;
+mod words;
 
 pub use board_moves::{Settled, Turned};
 pub use groups::settled;

@@ -1,28 +1,29 @@
 //! The members of a group that may serve a request, and the best answer of them.
 #![tactic(auto)]
 
-ghost use Rattle.std.specs.Prelude.{◌≡◌, ◌↔◌, IsTrue};
+ghost use Rattle.std.specs.Prelude.{◌≡◌};
 ghost use Rattle.xform_rules.specs.Closure.{IsMember};
 ghost use Rattle.request_props.specs.Candidates.{IsPhysicalOf};
 ghost use Rattle.request_props.specs.Numbered.{IsProps, IsNumbered};
+ghost use Rattle.request_props.specs.Requests.{IsInRange};
 ghost use Rattle.goal_board.specs.Seats.{hands};
 ghost use Rattle.board_moves.specs.Moves.{OnlyLooks};
-ghost use Rattle.goal_space.specs.Children.{CanServe};
 ghost use Rattle.goal_space.specs.Entries.{NamesGoal};
 ghost use Rattle.goal_space.specs.declared.goals.GoalKind.TheVariants.{Opt};
 ghost use Rattle.job_turns.specs.Searches.{IsBoardOf, IsSeat, HasRight};
 ghost use Rattle.job_turns.specs.Choices.{Chooses};
 ghost use Rattle.job_turns.specs.Requests.{IsImplemented, IsMemberGoal, IsBestOfMembers};
-ghost use Rattle.job_turns.specs.Requests.{IsGoalOfMember, IsBestOfMember};
+ghost use Rattle.job_turns.specs.Requests.{IsGoalOfMember, IsBestOfMember, IsWordOfMember};
 
 use crate::choice::{Choice, await_choice};
+use crate::words::member_goal;
 use best_answers::answers_are_best;
 use board_moves::Job;
 use goal_board::{Board, Hints, Seat};
 use goal_rules::{Rules, entries_are_known};
 use goal_space::{GoalKind, goals_are_known};
 use plan_tree::may_serve;
-use query_core::{KeyParts, Query};
+use query_core::{Expr, Goal, KeyParts, Query, candidates_are_known, expressions_are_one};
 use request_props::{PhysicalCandidate, Props, Request};
 use xform_rules::members_are_candidates;
 
@@ -96,46 +97,52 @@ fn await_candidate<'q, H: Hints>(
     // For the proof: the request is one of the query's, and the best of no nodes is none.
     goals_are_known();
     answers_are_best();
-    if may_serve_here(query, props, board, seat, candidate, wanted) {
-        await_choice(
-            query,
-            board,
-            seat,
-            job,
-            GoalKind::OptE(candidate.expr, wanted),
-            hints,
-        )
-    } else {
-        Some(Choice::Known(None))
+    match goal_here(query, props, board, seat, candidate, wanted) {
+        Some(goal) => {
+            let child = GoalKind::OptE(candidate.expr, wanted);
+            await_choice(query, board, seat, job, child, goal, hints)
+        }
+        None => Some(Choice::Known(None)),
     }
 }
 
-// Whether the candidate is a member, and may serve the request.
-fn may_serve_here<'q>(
+// The word of the candidate's goal, if it is a member that may serve the request.
+fn goal_here<'q>(
     query: &Query,
     props: &Props,
     board: &Board<Rules<'q>>,
     seat: &mut Seat<Rules<'q>>,
     candidate: PhysicalCandidate,
     wanted: Request,
-) -> bool
+) -> Option<Goal>
     requires props { IsProps query.now props.now }
     requires board { IsBoardOf query.now board.now }
     requires seat { IsSeat board.now seat.old }
     requires candidate { IsPhysicalOf query.now candidate.expr.group candidate }
     requires numbered { IsNumbered query.now wanted.order }
+    requires in_range { IsInRange wanted }
     requires implemented { IsImplemented query.now board.now.key.room
         (hands seat.old).looks candidate.expr.group }
     ensures seat { IsSeat board.now seat.new }
     ensures looks { OnlyLooks (hands seat.old) (hands seat.new) }
-    ensures serves { IsTrue result ↔
-        CanServe (IsMember query.now) query.now candidate.expr.group wanted candidate.expr }
+    ensures goal { IsWordOfMember query.now candidate.expr wanted result }
 {
-    // For the proof: what is in a cell is a member, and all members are.
+    // For the proof: expressions have small words, what is in a cell is an entry, and goals are of members.
+    candidates_are_known();
+    expressions_are_one();
     entries_are_known();
-    if may_serve(query, props, candidate.expr, wanted) {
-        board.holds(seat, candidate.word)
+    goals_are_known();
+    if !may_serve(query, props, candidate.expr, wanted) {
+        return None;
+    }
+    let goal = member_goal(Expr(candidate.word), wanted);
+    // Where the goal was put in before, the expression is such a member.
+    if board.holds(seat, goal.0) {
+        return Some(goal);
+    }
+    if board.holds(seat, candidate.word) {
+        Some(goal)
     } else {
-        false
+        None
     }
 }

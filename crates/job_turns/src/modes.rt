@@ -18,6 +18,7 @@ ghost use Rattle.job_turns.specs.Choices.{Chooses, IsNative, IsAskedByChild, IsG
 
 use crate::choice::{Choice, await_choice, progress_of};
 use crate::laws::words_are_known;
+use crate::words::group_goal;
 use best_answers::{answers_are_best, best_in_mode};
 use board_moves::{Job, Progress};
 use goal_board::{Board, Hints, Seat};
@@ -25,7 +26,7 @@ use goal_rules::Rules;
 use goal_space::{GoalKind, goals_are_known};
 use plan_space::Line;
 use plan_tree::{Alt, ExprRows, alternative_by, expr_rows, modes_for, next_among, tried_modes};
-use query_core::{Key, PhysicalExpr, Query};
+use query_core::{Key, PhysicalExpr, Query, groups_are_known};
 use request_props::{Props, Request};
 use xform_rules::members_are_candidates;
 
@@ -225,10 +226,14 @@ fn await_asked<'q, H: Hints>(
         result (hands seat.new) job.new.right }
     ensures hints { H.capacity hints.new ≡ H.capacity hints.old }
 {
+    // For the proof: a group has a small key, and a child of a goal has a word.
+    groups_are_known();
+    words_are_known();
     match asked {
         Some((key, wanted)) => {
             let child = GoalKind::Opt(query.group(key), wanted);
-            await_choice(query, board, seat, job, child, hints)
+            let word = group_goal(key, wanted);
+            await_choice(query, board, seat, job, child, word, hints)
         }
         None => Some(Choice::Known(None)),
     }

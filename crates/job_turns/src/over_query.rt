@@ -5,6 +5,7 @@ ghost use Rattle.std.specs.Prelude.{◌≡◌, ℕ, Some};
 ghost use Rattle.job_turns.specs.Searches.{IsBoardOf, IsSeat, HasRight};
 ghost use Rattle.job_turns.specs.Works.{IsChildOf, IsOneOf};
 ghost use Rattle.job_turns.specs.Seats.{AreChildrenOf, SeatAwaitsOne, SeatAwaits};
+ghost use Rattle.goal_space.specs.Words.{goal_word};
 ghost use Rattle.goal_space.specs.declared.goals.GoalKind.{GoalKind as Kind};
 
 use crate::laws::words_are_known;
@@ -12,7 +13,7 @@ use board_moves::{Job, Progress};
 use goal_board::{Board, Hints, Seat};
 use goal_rules::Rules;
 use goal_space::GoalKind;
-use query_core::Query;
+use query_core::{Goal, Query};
 
 /// Awaits a child of the goal.
 pub(crate) fn await_goal<'q, H: Hints>(
@@ -35,7 +36,33 @@ pub(crate) fn await_goal<'q, H: Hints>(
 {
     // For the proof: a child of a goal has a word.
     words_are_known();
-    job.await_child(board, seat, child.word().0, hints)
+    await_word(query, board, seat, job, child, child.word(), hints)
+}
+
+/// Awaits a child of the goal, which has this word.
+pub(crate) fn await_word<'q, H: Hints>(
+    _query: &Query,
+    board: &Board<Rules<'q>>,
+    seat: &mut Seat<Rules<'q>>,
+    job: &mut Job,
+    _child: GoalKind,
+    word: Goal,
+    hints: &mut H,
+) -> Progress
+    requires board { IsBoardOf _query.now board.now }
+    requires seat { IsSeat board.now seat.old }
+    requires right { HasRight board.now seat.old job.old.right }
+    requires child { IsChildOf _query.now job.old.right.goal _child }
+    requires word { goal_word _child ≡ word.0 }
+    requires hints { H.capacity hints.old ≡ board.now.key.room }
+    ensures seat { IsSeat board.now seat.new }
+    ensures right { HasRight board.now seat.new job.new.right }
+    ensures awaits { SeatAwaitsOne _query.now board.now seat.old job.old _child result seat.new job.new }
+    ensures hints { H.capacity hints.new ≡ H.capacity hints.old }
+{
+    // For the proof: a child of a goal has a word.
+    words_are_known();
+    job.await_child(board, seat, word.0, hints)
 }
 
 /// Awaits those of two children that are there. False where one found every cell taken.

@@ -19,6 +19,19 @@ enforcer_for-requires-clause-known g c = c.goals_are_known.ensures.candidates c.
 pub enforcer_for-requires-clause-fits : goal.enforcer_for-requires-clause-fits
 enforcer_for-requires-clause-fits g c = c.goals_are_known.ensures.requests c.args.query.now (Opt c.args.group c.args.wanted) c.requires.goal.is_goal
 
+pub word-word-requires : goal.word-word-requires
+word-word-requires g c =
+    let q = c.args.query.now in
+    let group = c.args.group in
+    let wanted = c.args.wanted in
+    let fits = c.goals_are_known.ensures.requests q (Opt group wanted) c.requires.goal.is_goal in
+    let found = found_at q group wanted c.args.place fits c.in-Some.enforced c.in-Some.ensures in
+    (c.words_are_known.ensures.words q c.requires.board.small (Opt group wanted) (Opt group c.in-Some.enforced.below) c.args.job.now.right.goal c.requires.goal
+    (inr (inr (found.e, found.can, ap (λ (r : Request). Opt group r) found.is.is.1)))).1
+
+pub await_choice-requires-clause-word : goal.await_choice-requires-clause-word
+await_choice-requires-clause-word g c = sym c.word-word.ensures.number
+
 pub await_choice-requires-clause-child : goal.await_choice-requires-clause-child
 await_choice-requires-clause-child g c =
     let q = c.args.query.now in

@@ -1,7 +1,5 @@
 -- The goal of a member that may serve is awaited, and else there is no answer.
-use Rattle.std.proofs.Common.{◌≡◌, Option, None, refl, sym, inr, inl, ◌∙◌}
-use Rattle.std.proofs.lemmas.Bool.{false≢true}
-use Rattle.best_answers.specs.declared.best.Best.{Best}
+use Rattle.std.proofs.Common.{◌≡◌, None, refl, inr, inl}
 use Rattle.goal_board.specs.Seats.{hands}
 use Rattle.board_moves.proofs.OneChild.{right_looked}
 use Rattle.xform_rules.specs.Closure.{IsMember}
@@ -16,38 +14,44 @@ use Rattle.job_turns.proofs.Finding.{finds_none, finds_looked, looks_choose, cho
 use Rattle.job_turns.proofs.Serving.{best_without, best_with}
 use Rattle.job_turns.proofs.members.await_candidate.Goals as goal
 
-pub may_serve_here-requires-clause-numbered : goal.may_serve_here-requires-clause-numbered
-may_serve_here-requires-clause-numbered g c = (c.goals_are_known.ensures.requests c.args.query.now (Opt c.args.candidate.expr.group c.args.wanted) c.requires.goal.is_goal).numbered
+pub goal_here-requires-clause-numbered : goal.goal_here-requires-clause-numbered
+goal_here-requires-clause-numbered g c = (c.goals_are_known.ensures.requests c.args.query.now (Opt c.args.candidate.expr.group c.args.wanted) c.requires.goal.is_goal).numbered
 
-pub returns-else-may_serve_here-clause-right : goal.returns-else-may_serve_here-clause-right
-returns-else-may_serve_here-clause-right g c =
+pub goal_here-requires-clause-in_range : goal.goal_here-requires-clause-in_range
+goal_here-requires-clause-in_range g c = (c.goals_are_known.ensures.words c.args.query.now c.requires.props.few_lists c.requires.props.few_orders (Opt c.args.candidate.expr.group c.args.wanted) c.requires.goal.is_goal).1
+
+pub await_choice-requires-clause-word : goal.await_choice-requires-clause-word
+await_choice-requires-clause-word g c = c.in-Some.ensures.goal.1
+
+pub returns-in-None-clause-right : goal.returns-in-None-clause-right
+returns-in-None-clause-right g c =
     let b = c.args.board.now in
-    right_looked (rules_mean b.key.rules) b.key.room c.args.job.now.right (hands c.args.seat.now) (hands c.may_serve_here.new.seat) c.may_serve_here.ensures.looks c.requires.right
+    right_looked (rules_mean b.key.rules) b.key.room c.args.job.now.right (hands c.args.seat.now) (hands c.goal_here.new.seat) c.goal_here.ensures.looks c.requires.right
 
-pub returns-else-may_serve_here-clause-chooses : goal.returns-else-may_serve_here-clause-chooses
-returns-else-may_serve_here-clause-chooses g c =
+pub returns-in-None-clause-chooses : goal.returns-in-None-clause-chooses
+returns-in-None-clause-chooses g c =
     let q = c.args.query.now in
     let e = c.args.candidate.expr in
     let wanted = c.args.wanted in
     let room = c.args.board.now.key.room in
     let v = hands c.args.seat.now in
-    let none : CanServe (IsMember q) q e.group wanted e → ⊥ = λ can. false≢true (sym c.if-may_serve_here.false ∙ c.may_serve_here.ensures.serves.1 can) in
-    finds_looked q room v c.args.job.now.right (IsGoalOfMember q e wanted) (IsBestOfMember q e wanted) (Known None) v c.args.job.now.right (hands c.may_serve_here.new.seat)
+    let none : CanServe (IsMember q) q e.group wanted e → ⊥ = c.in-None.ensures.goal in
+    finds_looked q room v c.args.job.now.right (IsGoalOfMember q e wanted) (IsBestOfMember q e wanted) (Known None) v c.args.job.now.right (hands c.goal_here.new.seat)
     (finds_none q room v c.args.job.now.right (IsGoalOfMember q e wanted) (IsBestOfMember q e wanted) (λ child is. none is.0) None (best_without q e.group wanted (c.answers_are_best.ensures.none q) e none))
-    c.may_serve_here.ensures.looks
+    c.goal_here.ensures.looks
 
 pub await_choice-requires-clause-right : goal.await_choice-requires-clause-right
 await_choice-requires-clause-right g c =
     let b = c.args.board.now in
-    right_looked (rules_mean b.key.rules) b.key.room c.args.job.now.right (hands c.args.seat.now) (hands c.may_serve_here.new.seat) c.may_serve_here.ensures.looks c.requires.right
+    right_looked (rules_mean b.key.rules) b.key.room c.args.job.now.right (hands c.args.seat.now) (hands c.goal_here.new.seat) c.goal_here.ensures.looks c.requires.right
 
 pub await_choice-requires-clause-child : goal.await_choice-requires-clause-child
 await_choice-requires-clause-child g c =
     let e = c.args.candidate.expr in
-    (Opt e.group c.args.wanted, c.requires.goal, inr (inl (e, c.may_serve_here.ensures.serves.0 c.if-may_serve_here.true, refl)))
+    (Opt e.group c.args.wanted, c.requires.goal, inr (inl (e, c.in-Some.ensures.goal.0, refl)))
 
-pub returns-then-may_serve_here-clause-chooses : goal.returns-then-may_serve_here-clause-chooses
-returns-then-may_serve_here-clause-chooses g c =
+pub returns-in-Some-clause-chooses : goal.returns-in-Some-clause-chooses
+returns-in-Some-clause-chooses g c =
     let q = c.args.query.now in
     let e = c.args.candidate.expr in
     let wanted = c.args.wanted in
@@ -56,6 +60,6 @@ returns-then-may_serve_here-clause-chooses g c =
     let before = c.args.job.now.right in
     let w = hands c.await_choice.new.seat in
     let after = c.await_choice.new.job.right in
-    looks_choose q room v before (IsGoalOfMember q e wanted) (IsBestOfMember q e wanted) (hands c.may_serve_here.new.seat) c.may_serve_here.ensures.looks c.await_choice.result w after
-    (chooses_others q room (hands c.may_serve_here.new.seat) before (λ (child : GoalKind). child ≡ OptE e wanted) (IsGoalOfMember q e wanted) (IsAnswerTo q (OptE e wanted)) (IsBestOfMember q e wanted)
+    looks_choose q room v before (IsGoalOfMember q e wanted) (IsBestOfMember q e wanted) (hands c.goal_here.new.seat) c.goal_here.ensures.looks c.await_choice.result w after
+    (chooses_others q room (hands c.goal_here.new.seat) before (λ (child : GoalKind). child ≡ OptE e wanted) (IsGoalOfMember q e wanted) (IsAnswerTo q (OptE e wanted)) (IsBestOfMember q e wanted)
     (λ child is. is.1) (best_with q e.group wanted e) c.await_choice.result w after c.await_choice.ensures.chooses)

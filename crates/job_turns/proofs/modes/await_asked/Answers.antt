@@ -1,5 +1,6 @@
 -- Something is asked of the group of a key, or nothing.
-use Rattle.std.proofs.Common.{◌≡◌, Option, None, Some, sym, subst}
+use Rattle.std.proofs.Common.{◌≡◌, Option, None, Some, sym, subst, ap, ◌∙◌, arith}
+use Rattle.query_core.specs.Keys.{key_number}
 use Rattle.query_core.specs.declared.words.Key.{Key}
 use Rattle.request_props.specs.declared.request.Request.{Request}
 use Rattle.best_answers.specs.Best.{IsBestAsked}
@@ -20,6 +21,24 @@ pub await_choice-requires-clause-child : goal.await_choice-requires-clause-child
 await_choice-requires-clause-child g c =
     let asked = subst (IsAskedByChild c.args.query.now c.args.job.now.right.goal) c.in-Some.is c.requires.asked in
     child_of_key c.args.query.now c.in-Some.key c.in-Some.wanted c.group.result c.group.ensures.only c.args.job.now.right.goal asked
+
+pub group_goal-word-requires-clause-key : goal.group_goal-word-requires-clause-key
+group_goal-word-requires-clause-key g c =
+    let asked = subst (IsAskedByChild c.args.query.now c.args.job.now.right.goal) c.in-Some.is c.requires.asked in
+    let number = asked.1.number in
+    let small = c.groups_are_known.ensures.small asked.0 (c.groups_are_known.ensures.in_range c.args.query.now asked.0 asked.1.known) in
+    omega (arith, number, small)
+
+pub group_goal-word-requires-clause-wanted : goal.group_goal-word-requires-clause-wanted
+group_goal-word-requires-clause-wanted g c =
+    let asked = subst (IsAskedByChild c.args.query.now c.args.job.now.right.goal) c.in-Some.is c.requires.asked in
+    let child = asked.2 in
+    (c.words_are_known.ensures.words c.args.query.now c.requires.board.small child.0 (Opt asked.0 c.in-Some.wanted) c.args.job.now.right.goal child.1 child.2).1.1
+
+pub await_choice-requires-clause-word : goal.await_choice-requires-clause-word
+await_choice-requires-clause-word g c =
+    let asked = subst (IsAskedByChild c.args.query.now c.args.job.now.right.goal) c.in-Some.is c.requires.asked in
+    c.group_goal-word.ensures c.group.result (asked.1.number ∙ ap key_number (c.group.ensures.only asked.0 asked.1))
 
 pub returns-in-Some-clause-chooses : goal.returns-in-Some-clause-chooses
 returns-in-Some-clause-chooses g c =

@@ -1,25 +1,6 @@
--- The child of the goal is one over the board's rules.
-use Rattle.std.proofs.Common.{ℕ, sym, subst}
-use Rattle.query_core.specs.declared.query.Query.{Query}
-use Rattle.goal_board.specs.Seats.{hands}
-use Rattle.board_moves.specs.Moves.{Awaits}
-use Rattle.goal_space.specs.Words.{goal_word}
-use Rattle.goal_space.specs.Entries.{IsChildWord}
-use Rattle.goal_rules.specs.Meaning.{meaning_of}
+-- A child has a word.
 use Rattle.job_turns.proofs.over_query.await_goal.Goals as goal
 
 pub word-requires : goal.word-requires
 word-requires g c =
     let child = c.requires.child in (c.words_are_known.ensures.words c.args.query.now c.requires.board.small child.0 c.args.child c.args.job.now.right.goal child.1 child.2).1
-
-pub await_child-requires-clause-child : goal.await_child-requires-clause-child
-await_child-requires-clause-child g c κs within =
-    let child = c.requires.child in
-    let known = (c.words_are_known.ensures.words c.args.query.now c.requires.board.small child.0 c.args.child c.args.job.now.right.goal child.1 child.2).0 in
-    subst (λ (q : Query). IsChildWord q c.args.job.now.right.goal c.word.result.0) (sym c.requires.board.same_query) (subst (IsChildWord c.args.query.now c.args.job.now.right.goal) (sym c.word.ensures.number) known)
-
-pub returns-clause-awaits : goal.returns-clause-awaits
-returns-clause-awaits g c =
-    let b = c.args.board.now in
-    subst (λ (q : Query). Awaits (meaning_of q) b.key.room (hands c.args.seat.now) c.args.job.now.right (goal_word c.args.child) c.await_child.result (hands c.await_child.new.seat) c.await_child.new.self.right) c.requires.board.same_query
-    (subst (λ (word : ℕ). Awaits (meaning_of b.key.rules.query.now) b.key.room (hands c.args.seat.now) c.args.job.now.right word c.await_child.result (hands c.await_child.new.seat) c.await_child.new.self.right) c.word.ensures.number c.await_child.ensures.awaits)

@@ -1,0 +1,35 @@
+//! The words of goals for requests, by the words of what they are about.
+#![tactic(auto)]
+
+ghost use Rattle.std.specs.Prelude.{◌≡◌, ◌<◌, ◌^◌};
+ghost use Rattle.query_core.specs.Keys.{key_number};
+ghost use Rattle.query_core.specs.Expressions.{expr_of, word_of};
+ghost use Rattle.query_core.specs.declared.expressions.PhysicalExpr.{PhysicalExpr};
+ghost use Rattle.query_core.specs.declared.words.KeyParts.{KeyParts};
+ghost use Rattle.request_props.specs.Requests.{IsInRange};
+ghost use Rattle.goal_space.specs.Words.{goal_word};
+ghost use Rattle.goal_space.specs.declared.goals.GoalKind.TheVariants.{Opt, OptE};
+
+use query_core::{Expr, Goal, GoalParts, Key};
+use request_props::{Request, code};
+
+/// The word of the goal of the group of this key for the request.
+pub(crate) fn group_goal(key: Key, wanted: Request) -> Goal
+    requires key { key.0 < 2 ^ 12 }
+    requires wanted { IsInRange wanted }
+    ensures { (group : KeyParts) → key.0 ≡ key_number group →
+        goal_word (Opt group wanted) ≡ result.0 }
+{
+    Goal::make(GoalParts::Opt(key, code(wanted)))
+}
+
+/// The word of the goal of the expression of this word for the request.
+pub(crate) fn member_goal(expr: Expr, wanted: Request) -> Goal
+    requires expr { expr.0 < 2 ^ 48 }
+    requires wanted { IsInRange wanted }
+    ensures word { (e : PhysicalExpr) → word_of (expr_of e) ≡ expr.0 →
+        goal_word (OptE e wanted) ≡ result.0 }
+    ensures some { 0 < result.0 }
+{
+    Goal::make(GoalParts::OptE(expr, code(wanted)))
+}
