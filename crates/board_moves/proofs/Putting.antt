@@ -21,31 +21,6 @@ module _ {R : Type 0} (room : ℕ) where
   pub only_looks_at : (v : Hands R) (word at : ℕ) (w : Hands R) → FindsAt room v word at w → OnlyLooks v w
   only_looks_at v word at w t = record { more = t.more; looks = t.looks; hands_are = t.hands_are }
 
-  -- an insert after looks
-  pub inserts_looked : (v : Hands R) (word : ℕ) (u : Hands R) (answer : Inserted) (w : Hands R) → OnlyLooks v u → Inserts room u word answer w → Inserts room v word answer w
-  inserts_looked v word u (Fresh at) w first t = record {
-    near = t.near;
-    more = t.more ++ first.more;
-    looks = seen_both v u first.more ((cell_word at, 0) ∷ t.more) first.hands_are first.looks t.looks;
-    hands_are = t.hands_are ∙ ap (λ (h : Hands R). placed h at word) (seen_twice v u (seen t.more u) first.more t.more first.hands_are refl);
-  }
-  inserts_looked v word u (Known at) w first t = record {
-    near = t.near;
-    more = t.more ++ first.more;
-    looks = seen_both v u first.more t.more first.hands_are first.looks t.looks;
-    stands = looked_later t.more first.more (cell_word at) word t.stands;
-    hands_are = seen_twice v u w first.more t.more first.hands_are t.hands_are;
-  }
-  inserts_looked v word u Full w first t = record {
-    more = t.more ++ first.more;
-    looks = seen_both v u first.more t.more first.hands_are first.looks t.looks;
-    others = λ place near. saw_later t.more first.more word place (t.others place near);
-    hands_are = t.hands_are ∙ ap (λ (h : Hands R). filled h) (seen_twice v u (seen t.more u) first.more t.more first.hands_are refl);
-  }
-
-  pub inserts_after : (v : Hands R) (word : ℕ) (u : Hands R) (answer : Inserted) (w : Hands R) → FindsNone room v word u → Inserts room u word answer w → Inserts room v word answer w
-  inserts_after v word u answer w none t = inserts_looked v word u answer w (only_looks_none v word u none) t
-
   -- a word that is held was found in a cell
   pub held_at : (v : Hands R) (word : ℕ) (w : Hands R) → ((found : Option ℕ) × (true ≡ is_some found) × Finds room v word found w) → (at : ℕ) × FindsAt room v word at w
   held_at v word w (None, is, t) = let bad : ⊥ = cc in absurd bad

@@ -8,20 +8,7 @@ ghost use Rattle.board_moves.specs.Moves.{OnlyLooks, IsEntryOf};
 use crate::words::Words;
 use goal_board::{Board, GoalRules, Hints, Inserted, Seat};
 
-/// The place of an entry, which is put in unless it is found. A look costs less than a step that puts it in would.
-pub fn put<R: GoalRules>(board: &Board<R>, seat: &mut Seat<R>, word: u64) -> Inserted
-    requires seat { IsSeatOf R.meaning board.now seat.old }
-    requires enters { (R.meaning board.now.key.rules).entry word }
-    ensures seat { IsSeatOf R.meaning board.now seat.new }
-    ensures answer { Inserts board.now.key.room (hands seat.old) word result (hands seat.new) }
-{
-    match board.find(seat, word) {
-        Some(at) => Inserted::Known { at },
-        None => board.insert(seat, word),
-    }
-}
-
-/// The same of a goal, which is hinted where it was put in.
+/// Puts a goal into the table, and hints it where it wasn't there before.
 pub fn put_goal<R: GoalRules, H: Hints>(
     board: &Board<R>,
     seat: &mut Seat<R>,
@@ -35,7 +22,7 @@ pub fn put_goal<R: GoalRules, H: Hints>(
     ensures answer { Inserts board.now.key.room (hands seat.old) goal result (hands seat.new) }
     ensures hints { H.capacity hints.new ≡ H.capacity hints.old }
 {
-    let put = put(board, seat, goal);
+    let put = board.insert(seat, goal);
     if let Inserted::Fresh { at } = put {
         hints.hint(at);
     }

@@ -6,7 +6,6 @@ ghost use Rattle.board_moves.specs.Collects.{IsExploration, ExplorationAdds};
 
 use crate::awaiting::await_found;
 use crate::collection::settle;
-use crate::entries::put;
 use crate::job::Job;
 use crate::progress::Progress;
 use crate::settled::Settled;
@@ -37,7 +36,7 @@ pub fn explore<R: GoalRules, W: Group, H: Hints>(
         (hands seat.old) job.old.right result (hands seat.new) job.new.right }
     ensures hints { H.capacity hints.new ≡ H.capacity hints.old }
 {
-    match put(board, seat, group.origin()) {
+    match board.insert(seat, group.origin()) {
         Inserted::Full => Progress::Full,
         _ => explore_members(board, seat, job, group, hints)
     }

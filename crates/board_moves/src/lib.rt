@@ -12,7 +12,7 @@ mod words;
 
 pub use awaiting::await_found;
 pub use collection::settle;
-pub use entries::{next_entry, put, put_goal};
+pub use entries::{next_entry, put_goal};
 pub use exploring::explore;
 pub use job::Job;
 pub use progress::{Progress, Turned};

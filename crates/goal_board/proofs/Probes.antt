@@ -65,6 +65,21 @@ module _ {R : Type 0} (meaning_of : R → Meaning) (rules : R) (room : ℕ) (v :
         last = λ _. subst (SoundWith meaning_of rules room) (sym is) (sound_looked meaning_of rules room w (cell_word place) value over moment some_part);
       }
 
+  -- it stays where it is after a look at the cell
+  pub looks_here : (steps place : ℕ) (w after : Hands R) (value : ℕ) → Probes meaning_of rules room v word steps place w → AreHandsOver meaning_of rules room w → 0 < w.parts
+      → after ≡ looked w (cell_word place) value → Moment meaning_of w (cell_word place) value → Probes meaning_of rules room v word steps place after
+  looks_here steps place w after value p over some_part is moment =
+      let more : List (ℕ × ℕ) = (cell_word place, value) ∷ p.more in
+      record {
+        near = p.near;
+        more = more;
+        looks = seen_more v w (cell_word place, value) p.more p.hands_are (λ e. omega (arith, e)) p.looks (saw_at meaning_of rules room w (cell_word place) value over moment);
+        passed = all_passed_as room (home_of word room) steps (SawOther p.more word) (SawOther more word) (λ q _ t. (t.0, inr t.1, t.2, t.3)) p.passed;
+        here = p.here;
+        hands_are = is ∙ ap (λ h. looked h (cell_word place) value) p.hands_are;
+        last = λ _. subst (SoundWith meaning_of rules room) (sym is) (sound_looked meaning_of rules room w (cell_word place) value over moment some_part);
+      }
+
   -- an entry may be put where the probe stands
   pub may_put : (steps place : ℕ) (w : Hands R) → Probes meaning_of rules room v word steps place w → steps < room → (meaning_of rules).entry word → word ≢ 0
       → MayPut (meaning_of rules) room w.looks place word

@@ -19,6 +19,15 @@ impl<R: GoalRules> Board<R> {
         let room = self.key.room;
         let mut place = home(word, room);
         for _step in 0..room {
+            // A look costs less than a step that finds the cell taken.
+            let seen = self.look(seat, cell_at(place));
+            if seen == word {
+                return Inserted::Known { at: place };
+            }
+            if seen != 0 {
+                place = next_place(place, room);
+                continue;
+            }
             let found = self.put(seat, place, word);
             if found == 0 {
                 return Inserted::Fresh { at: place };

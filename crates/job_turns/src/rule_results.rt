@@ -24,7 +24,7 @@ use crate::expressions::NO_CHOICE;
 use crate::group_members::ExploredGroup;
 use crate::laws::words_are_known;
 use crate::over_query::await_goal;
-use board_moves::{Job, Progress, next_entry, put};
+use board_moves::{Job, Progress, next_entry};
 use goal_board::{Board, Hints, Inserted, Seat};
 use goal_rules::{Rules, entries_are_known};
 use goal_space::{GoalKind, goals_are_known};
@@ -106,7 +106,7 @@ fn put_member<'q>(
     ensures right { HasRight board.now seat.new job.now.right }
     ensures puts { SeatPuts query.now board.now seat.old job.now (λ other. other ≡ e) result seat.new }
 {
-    match put(board, seat, Expr::make(e).0) {
+    match board.insert(seat, Expr::make(e).0) {
         Inserted::Full => false,
         _ => true,
     }
