@@ -1,6 +1,5 @@
 -- Pieces with their texts, each at its place.
-use Rattle.std.proofs.Common.{◌≡◌, ℕ, ◌<◌, List, [], ◌∷◌, ◌++◌, Option, Some, None, IfSome, get_or, length, sym, subst, ◌∙◌}
-use Rattle.std.proofs.lemmas.List.Elements.{All-push}
+use Rattle.std.proofs.Common.{◌≡◌, ℕ, ◌<◌, List, Option, Some, IfSome, get_or, length, sym, subst, ◌∙◌}
 use Rattle.query_core.specs.declared.query.Query.{Query}
 use Rattle.job_trace.specs.Pieces.{piece_text, AreKept}
 use Rattle.job_trace.specs.declared.pieces.Written.{Written}
@@ -13,7 +12,3 @@ IsKept q place = IfSome place (λ kept. kept.text ≡ piece_text q kept.piece)
 pub kept_at : (q : Query) (places : List (Option Written)) (at : ℕ) (place : Option Written) (found : Written) → AreKept q places → at < length places
     → place ≡ get_or places at place → place ≡ Some found → found.text ≡ piece_text q found.piece
 kept_at q places at place found kept within is has = subst (IsKept q) (sym is ∙ has) (kept at place within)
-
--- one more place holds nothing
-pub kept_more : (q : Query) (places : List (Option Written)) → AreKept q places → AreKept q (places ++ None ∷ [])
-kept_more q places kept = All-push (IsKept q) places None kept tt

@@ -1,7 +1,7 @@
 //! The pieces that lines of goals have in common. The text of a piece is made once, and then kept.
 #![tactic(auto)]
 
-ghost use Rattle.std.specs.Prelude.{◌≡◌, ◌<◌, IfOk, IfSome, IsTrue, OnOk, string_bytes};
+ghost use Rattle.std.specs.Prelude.{◌≡◌, IfOk, IfSome, IsTrue, OnOk, length, min, string_bytes};
 ghost use Rattle.request_props.specs.Numbered.{IsProps};
 ghost use Rattle.query_core.specs.declared.query.Query.{Query as AnyQuery};
 ghost use Rattle.query_text.specs.Added.{Adds};
@@ -50,16 +50,17 @@ impl Model for Pieces {
 }
 
 // The most places that a table has.
-const MOST_PLACES: usize = 64 * 1024;
+const MOST_PLACES: usize = 65_536;
 
 impl Pieces {
     /// No piece has a text yet. There are places enough for the lines of so many goals.
     pub fn new(alloc: Global, goals: usize) -> Result<Pieces, AllocError>
-        ensures { IfOk result (λ made. (q : AnyQuery) → AreKept q made) }
+        ensures kept { IfOk result (λ made. (q : AnyQuery) → AreKept q made) }
+        ensures places { IfOk result (λ made. length made ≡ min goals 65536) }
     {
         let count = goals.min(MOST_PLACES);
         let mut places = Vec::with_capacity(alloc, count)?;
-        for _ in 0..count {
+        while places.len() < count {
             places.push(None)?;
         }
         Ok(Pieces { places })
@@ -197,37 +198,31 @@ fn push_piece(
 
 // The place of a piece among so many. Another may have the same, but seldom one that is printed beside it.
 fn place_of(piece: Piece, places: usize) -> usize {
-    let spread = u64::from(number_of(piece).wrapping_mul(0x9E37_79B1));
+    let spread = u64::from(mixed(number_of(piece), 0));
     (spread.wrapping_mul(places as u64) >> 32) as usize
 }
 
 // A number that few pieces share.
 fn number_of(piece: Piece) -> u32 {
     match piece {
-        Piece::Child(group, wanted) => {
-            pair(number_of_group(group), number_of_request(wanted), 1 << 12)
-        }
-        Piece::Member(e) => pair(
-            number_of_group(e.group),
-            number_of_operator(e.operator),
-            1 << 15,
-        ),
+        Piece::Child(group, wanted) => mixed(number_of_group(group), number_of_request(wanted)),
+        Piece::Member(e) => mixed(number_of_group(e.group), number_of_operator(e.operator)),
         Piece::Wanted(wanted) => number_of_request(wanted),
     }
 }
 
-// The number of a pair, where the second is one of so many.
-fn pair(first: u32, second: u32, of: u32) -> u32 {
-    first.wrapping_mul(of).wrapping_add(second)
+// Two numbers as one: multiplicative hashing (Knuth, The Art of Computer Programming, volume 3, section 6.4).
+fn mixed(first: u32, second: u32) -> u32 {
+    (first ^ second.rotate_left(16)).wrapping_mul(0x9E37_79B1)
 }
 
 fn number_of_group(group: KeyParts) -> u32 {
     match group {
-        KeyParts::Get(table) => table.wrapping_add(2),
-        KeyParts::Filter(table) => table.wrapping_add(34),
-        KeyParts::Join(set) => set.wrapping_add(66),
-        KeyParts::Partial => 0,
-        KeyParts::Agg => 1,
+        KeyParts::Get(table) => mixed(0, table),
+        KeyParts::Filter(table) => mixed(1, table),
+        KeyParts::Join(set) => mixed(2, set),
+        KeyParts::Partial => 3,
+        KeyParts::Agg => 4,
     }
 }
 
@@ -235,12 +230,12 @@ fn number_of_group(group: KeyParts) -> u32 {
 fn number_of_operator(operator: Physical) -> u32 {
     match operator {
         Physical::Scan => 0,
-        Physical::IndexScan(index) => pair(1, index, 1 << 11),
+        Physical::IndexScan(index) => mixed(1, index),
         Physical::Filter(_) => 2,
-        Physical::IndexSeek(index) => pair(3, index, 1 << 11),
-        Physical::HashJoin(left, _) => pair(4, number_of_group(left), 1 << 11),
-        Physical::MergeJoin(left, _) => pair(5, number_of_group(left), 1 << 11),
-        Physical::LoopJoin(left, _) => pair(6, number_of_group(left), 1 << 11),
+        Physical::IndexSeek(index) => mixed(3, index),
+        Physical::HashJoin(left, _) => mixed(4, number_of_group(left)),
+        Physical::MergeJoin(left, _) => mixed(5, number_of_group(left)),
+        Physical::LoopJoin(left, _) => mixed(6, number_of_group(left)),
         Physical::HashAgg(_) => 7,
         Physical::StreamAgg(_) => 8,
         Physical::PartialAgg(_) => 9,
@@ -252,7 +247,7 @@ fn number_of_request(wanted: Request) -> u32 {
         Dist::One => 0,
         Dist::Spread => 1,
         Dist::Copies => 2,
-        Dist::Hashed(list) => list.wrapping_add(3),
+        Dist::Hashed(list) => mixed(3, list),
     };
-    pair(dist, wanted.order, 1 << 6)
+    mixed(dist, wanted.order)
 }

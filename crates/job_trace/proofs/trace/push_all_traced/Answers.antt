@@ -11,7 +11,7 @@ use Rattle.job_trace.proofs.trace.push_all_traced.Goals as goal
 pub loop-goal-init : goal.loop-goal-init
 loop-goal-init c = record {
   added = traced_none c.args.query.now c.args.members.now (string_bytes c.args.text.now);
-  kept = c.in_ok-pieces.ensures c.args.query.now;
+  kept = c.in_ok-pieces.ensures.kept c.args.query.now;
 }
 
 -- one more goal with its children
