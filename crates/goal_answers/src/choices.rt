@@ -107,7 +107,7 @@ fn best_member(
     } = source;
     let goal = GoalKind::Opt(group, wanted);
     let mut children = Vec::new(alloc);
-    list_children(alloc, query, props, members, goal, &mut children)?;
+    list_children(query, props, members, goal, &mut children)?;
     Ok(best_of_goals(source, group, wanted, children.as_slice()))
 }
 

@@ -1,5 +1,5 @@
 -- Words go by kind, so a goal of a lesser kind comes first.
-use Rattle.std.proofs.Common.{◌≡◌, ℕ, ◌+◌, ◌*◌, ◌^◌, ◌<◌, ◌≤◌, List, Option, None, Some, ◌⊎◌, inl, inr, ap, arith}
+use Rattle.std.proofs.Common.{◌≡◌, ℕ, ◌+◌, ◌*◌, ◌^◌, ◌<◌, ◌≤◌, List, Option, None, Some, ◌⊎◌, inl, inr, sym, subst, ap, arith}
 use Rattle.query_core.specs.Goals.{kind_of, subject_of, detail_of, FitsGoal}
 use Rattle.query_core.specs.declared.query.Query.{Query}
 use Rattle.query_core.specs.declared.words.GoalParts.{GoalParts}
@@ -8,11 +8,13 @@ use Rattle.query_core.specs.declared.words.KeyParts.{KeyParts}
 use Rattle.request_props.specs.declared.request.Request.{Request}
 use Rattle.goal_space.specs.Words.{goal_word, parts_of}
 use Rattle.goal_space.specs.declared.goals.GoalKind.{GoalKind}
-use Rattle.goal_space.specs.declared.goals.GoalKind.TheVariants.{Imp, Opt}
-use Rattle.goal_children.specs.declared.jobs.MemberJob.TheVariants.{Serve}
+use Rattle.goal_space.specs.declared.goals.GoalKind.TheVariants.{Exp, Imp, Opt}
+use Rattle.goal_children.specs.declared.jobs.MemberJob.TheVariants.{Serve, Transform}
+use Rattle.goal_children.specs.declared.jobs.Phase.TheVariants.{Implementation}
 use Rattle.goal_children.specs.Children.{IsChildIn}
 use Rattle.goal_children.specs.Choices.{IsOfEnforcer}
-use Rattle.goal_children.specs.Finding.{FindsFrom, IsLeastFrom, IsOfMembers}
+use Rattle.goal_children.specs.Finding.{Appends, FindsFrom, Inserts, IsLeastFrom, IsOfMembers}
+use Rattle.goal_children.proofs.Appending.{appends_both, appends_inserted, appends_more}
 use Rattle.goal_children.proofs.Finds.{finds_as, finds_left, finds_right}
 
 -- the number of the goal's kind
@@ -30,8 +32,11 @@ fields_small (parts.Opt key request) fits = omega (arith, fits.0, fits.1)
 fields_small (parts.OptE expr request) fits = omega (arith, fits.0, fits.1)
 
 -- so a lesser kind has a lesser word
+kind_before : (k l : GoalKind) → FitsGoal (parts_of k) → kind_number k < kind_number l → goal_word k < goal_word l
+kind_before k l fits less = omega (arith, fields_small (parts_of k) fits, less)
+
 kind_first : (k l : GoalKind) → FitsGoal (parts_of k) → kind_number k < kind_number l → goal_word k ≤ goal_word l
-kind_first k l fits less = omega (arith, fields_small (parts_of k) fits, less)
+kind_first k l fits less = omega (arith, kind_before k l fits less)
 
 module _ (q : Query) (words : List ℕ) (group : KeyParts) (wanted : Request) (bound : ℕ) where
   -- the members that serve, and what enforcers ask for
@@ -75,3 +80,41 @@ module _ (q : Query) (words : List ℕ) (group : KeyParts) (wanted : Request) (b
       (finds_as (λ k. Enforced k ⊎ Served k) (λ k. Served k ⊎ Enforced k) bound found
       (λ k cases. elim cases [ inl is ↦ inr is | inr is ↦ inl is ]) (λ k cases. elim cases [ inl is ↦ inr is | inr is ↦ inl is ])
       (finds_right Enforced Served bound found nothing first))
+
+-- ---- kinds of children that come to a list, one behind the other
+
+module _ (q : Query) (words : List ℕ) (group : KeyParts) where
+  -- the exploration of a group, and the members that it implements
+  pub implemented_added : (old middle new : List GoalKind) → FitsGoal (parts_of (Exp group)) → Appends (λ k. k ≡ Exp group) old middle
+      → Appends (IsOfMembers q words group (Transform Implementation)) middle new → Appends (IsChildIn q words (Imp group)) old new
+  implemented_added old middle new fits first second =
+      appends_more (λ k. k ≡ Exp group) (IsOfMembers q words group (Transform Implementation)) (IsChildIn q words (Imp group)) old middle new
+      (λ k l is (e, is_in, also). kind_before k l (subst (λ (g : GoalKind). FitsGoal (parts_of g)) (sym is) fits) (omega (arith, ap kind_number is, ap kind_number also)))
+      (λ k cases. cases) (λ k cases. cases) first second
+
+  module _ (wanted : Request) (fits : (k : GoalKind) → IsChildIn q words (Opt group wanted) k → FitsGoal (parts_of k)) where
+    -- the implementation of a group, what enforcers ask for, and the members that serve
+    pub chosen_added : (old first second new : List GoalKind) → Appends (λ k. k ≡ Imp group) old first → Inserts (IsOfEnforcer q group wanted) first second
+        → Appends (IsOfMembers q words group (Serve wanted)) second new → Appends (IsChildIn q words (Opt group wanted)) old new
+    chosen_added old first second new imp enforced served =
+        let Child = IsChildIn q words (Opt group wanted) in
+        let Served = IsOfMembers q words group (Serve wanted) in
+        let Enforced = IsOfEnforcer q group wanted in
+        let both : Appends (λ (k : GoalKind). (k ≡ Imp group) ⊎ Enforced k) old second =
+        appends_both (λ k. k ≡ Imp group) Enforced old first second
+        (λ k l is (e, can, also). kind_before k l (fits k (inl is)) (omega (arith, ap kind_number is, ap kind_number also)))
+        imp (appends_inserted Enforced first second enforced) in
+        appends_more (λ k. (k ≡ Imp group) ⊎ Enforced k) Served Child old second new
+        (λ k l early (e, can, also). elim early [
+          | inl is ↦ kind_before k l (fits k (inl is)) (omega (arith, ap kind_number is, ap kind_number also))
+          | inr (f, may, is) ↦ kind_before k l (fits k (inr (inr (f, may, is)))) (omega (arith, ap kind_number is, ap kind_number also))
+        ])
+        (λ k cases. elim cases as (λ _. Child k) [
+          | inl early ↦ elim early as (λ _. Child k) [ inl is ↦ inl is | inr asked ↦ inr (inr asked) ]
+          | inr serves ↦ inr (inl serves)
+        ])
+        (λ k is. elim is as (λ _. ((k ≡ Imp group) ⊎ Enforced k) ⊎ Served k) [
+          | inl same ↦ inl (inl same)
+          | inr later ↦ elim later as (λ _. ((k ≡ Imp group) ⊎ Enforced k) ⊎ Served k) [ inl serves ↦ inr serves | inr asked ↦ inl (inr asked) ]
+        ])
+        both served

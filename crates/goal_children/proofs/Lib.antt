@@ -14,5 +14,8 @@ pub mod First
 pub mod Collecting
 pub mod ByKind
 pub mod MemberGoals
-pub mod InOrder
+pub mod OfWords
+pub mod Inserting
+pub mod Places
+pub mod Appending
 pub mod GoalLists

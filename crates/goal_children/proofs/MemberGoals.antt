@@ -1,6 +1,9 @@
 -- The goals of words, and those of a group's members.
-use Rattle.std.proofs.Common.{◌≡◌, ℕ, ◌↔◌, List, [], ◌∷◌, ◌++◌, refl, sym, subst, ap, ◌∙◌, ◌⊎◌, inl, inr, arith}
+use Rattle.std.proofs.Common.{◌≡◌, ℕ, ◌+◌, ◌<◌, ◌↔◌, List, [], ◌∷◌, ◌++◌, get_or, length, take, refl, sym, subst, ap, ◌∙◌, ◌⊎◌, inl, inr, arith}
 use Rattle.std.specs.List.{Contains}
+use Rattle.std.specs.List.Sorted.{IsStrictlyIncreasing}
+use Rattle.std.proofs.lemmas.List.{get_or_default, get_or-take, length-take, take_more}
+use Rattle.std.proofs.lemmas.List.Kept.{AllPairs-from_increasing}
 use Rattle.std.proofs.lemmas.List.Elements.{Contains-append_left, Contains-push, Contains-push_cases}
 use Rattle.query_core.specs.Expressions.{word_of, HasWord, IsCandidate, IsCandidateWord, IsPacked}
 use Rattle.query_core.specs.declared.query.Query.{Query}
@@ -8,14 +11,15 @@ use Rattle.query_core.specs.declared.words.KeyParts.{KeyParts}
 use Rattle.query_core.specs.declared.expressions.ExprParts.{ExprParts}
 use Rattle.query_core.specs.declared.expressions.PhysicalExpr.{PhysicalExpr}
 use Rattle.query_core.proofs.ExpressionLemmas.{expr_of_one}
+use Rattle.goal_space.specs.Words.{goal_word}
 use Rattle.goal_space.specs.declared.goals.GoalKind.{GoalKind}
 use Rattle.goal_space.specs.declared.goals.GoalKind.TheVariants.{OptE}
 use Rattle.goal_children.specs.declared.jobs.MemberJob.{MemberJob}
 use Rattle.goal_children.specs.declared.jobs.MemberJob.TheVariants.{Transform, Serve}
-use Rattle.goal_children.specs.Finding.{Collects, IsOfMembers}
+use Rattle.goal_children.specs.Finding.{Appends, IsOfMembers}
 use Rattle.goal_children.specs.MemberJobs.{IsGoalAmong, IsGoalOf, IsGoalOfWord}
-use Rattle.goal_children.proofs.Collecting.{collects_as, collects_both, collects_nothing}
-use Rattle.goal_children.proofs.OfMembers.{has_member, of_member}
+use Rattle.goal_children.proofs.Appending.{appends_more, appends_nothing}
+use Rattle.goal_children.proofs.OfMembers.{goal_at, has_member, of_member, word_less}
 
 -- an expression has one goal for a job
 goal_one : (q : Query) (job : MemberJob) (e : ExprParts) (k l : GoalKind) → IsGoalOf q job e k → IsGoalOf q job e l → k ≡ l
@@ -61,22 +65,39 @@ module _ (q : Query) (packed : (e : ExprParts) → IsCandidate q e → IsPacked 
 
 -- ---- one word after the other
 
+-- a word before another
+word_before : (words : List ℕ) (i word : ℕ) → IsStrictlyIncreasing words → i < length words → Contains (take i words) word → word < get_or words i 0
+word_before words i word rises within (k, inside, at) =
+    let short : k < i = omega (arith, inside, length-take i words) in
+    let this : get_or words k word ≡ word = sym (get_or-take i words k word short) ∙ at in
+    let that : get_or words i word ≡ get_or words i 0 = get_or_default words i word 0 within in
+    omega (arith, AllPairs-from_increasing words rises k i word short within, this, that)
+
 module _ (q : Query) (job : MemberJob) where
   -- of no word
-  pub none_among : (goals : List GoalKind) → Collects (IsGoalAmong q job []) goals goals
-  none_among goals = collects_nothing (IsGoalAmong q job []) goals (λ k (word, (place, within, at), of_word). absurd (omega (arith, within)))
+  pub none_among : (goals : List GoalKind) → Appends (IsGoalAmong q job []) goals goals
+  none_among goals = appends_nothing (IsGoalAmong q job []) goals (λ k (word, (place, within, at), of_word). absurd (omega (arith, within)))
+
+  -- a lesser word has a goal that comes before
+  among_less : (words : List ℕ) (i : ℕ) → IsStrictlyIncreasing words → i < length words → (k l : GoalKind) → IsGoalAmong q job (take i words) k → IsGoalOfWord q job (get_or words i 0) l
+      → goal_word k < goal_word l
+  among_less words i rises within k l (word, there, (e, candidate, number, is)) (f, also, at, has) =
+      let less : word_of e < word_of f = omega (arith, word_before words i word rises within there, number, at) in
+      omega (arith, goal_at q job e k is, goal_at q job f l has, word_less job (word_of e) (word_of f) less)
 
   -- of one more
-  pub more_among : (words : List ℕ) (word : ℕ) (old middle new : List GoalKind) → Collects (IsGoalAmong q job words) old middle → Collects (IsGoalOfWord q job word) middle new
-      → Collects (IsGoalAmong q job (words ++ word ∷ [])) old new
-  more_among words word old middle new first second =
-      collects_as (λ k. IsGoalAmong q job words k ⊎ IsGoalOfWord q job word k) (IsGoalAmong q job (words ++ word ∷ [])) old new
+  pub more_among : (words : List ℕ) (i : ℕ) (old middle new : List GoalKind) → IsStrictlyIncreasing words → i < length words → Appends (IsGoalAmong q job (take i words)) old middle
+      → Appends (IsGoalOfWord q job (get_or words i 0)) middle new → Appends (IsGoalAmong q job (take (i + 1) words)) old new
+  more_among words i old middle new rises within first second =
+      let word = get_or words i 0 in
+      subst (λ ws. Appends (IsGoalAmong q job ws) old new) (sym (take_more words i 0 within))
+      (appends_more (IsGoalAmong q job (take i words)) (IsGoalOfWord q job word) (IsGoalAmong q job (take i words ++ word ∷ [])) old middle new (among_less words i rises within)
       (λ k cases. elim cases [
-        | inl (other, there, of_word) ↦ (other, Contains-append_left words (word ∷ []) other there, of_word)
-        | inr of_word ↦ (word, Contains-push words word, of_word)
+        | inl (other, there, of_word) ↦ (other, Contains-append_left (take i words) (word ∷ []) other there, of_word)
+        | inr of_word ↦ (word, Contains-push (take i words) word, of_word)
       ])
-      (λ k (other, there, of_word). elim (Contains-push_cases words word other there) [
+      (λ k (other, there, of_word). elim (Contains-push_cases (take i words) word other there) [
         | inl earlier ↦ inl (other, earlier, of_word)
         | inr same ↦ inr (subst (λ w. IsGoalOfWord q job w k) (sym same) of_word)
       ])
-      (collects_both (IsGoalAmong q job words) (IsGoalOfWord q job word) old middle new first second)
+      first second)

@@ -31,6 +31,11 @@ word_rises (Transform Exploration) first second order = omega arith
 word_rises (Transform Implementation) first second order = omega arith
 word_rises (Serve wanted) first second order = omega arith
 
+pub word_less : (job : MemberJob) (first second : ℕ) → first < second → word_at job first < word_at job second
+word_less (Transform Exploration) first second less = omega (arith, less)
+word_less (Transform Implementation) first second less = omega (arith, less)
+word_less (Serve wanted) first second less = omega (arith, less)
+
 -- ascending words do not fall
 pub words_rise : (words : List ℕ) → IsStrictlyIncreasing words → (i j : ℕ) → i ≤ j → j < length words → get_or words i 0 ≤ get_or words j 0
 words_rise words ascending i j order within = elim (cases_eq i j) [

@@ -1,6 +1,7 @@
--- How the next child is found: the least word of each kind of child, and of several kinds.
-use Rattle.std.specs.Prelude.{ℕ, Bool, true, false, ◌≡◌, ◌≤◌, ◌⊎◌, ◌↔◌, List, All, Option, None, Some, nat_lt, if◌then◌else◌}
+-- How the next child is found, the least word of each kind of child and of several kinds; and how kinds of children come to a list.
+use Rattle.std.specs.Prelude.{ℕ, Bool, true, false, ◌≡◌, ◌<◌, ◌≤◌, ◌⊎◌, ◌↔◌, List, All, Option, None, Some, map, nat_lt, if◌then◌else◌}
 use Rattle.std.specs.List.{Contains}
+use Rattle.std.specs.List.Sorted.{IsStrictlyIncreasing}
 use Rattle.query_core.specs.Expressions.{children_of, IsChild}
 use Rattle.query_core.specs.declared.query.Query.{Query}
 use Rattle.query_core.specs.declared.words.KeyParts.{KeyParts}
@@ -40,15 +41,30 @@ sooner_of None b = b
 sooner_of (Some a) None = Some a
 sooner_of (Some a) (Some b) = if nat_lt (goal_word b) (goal_word a) then Some b else Some a
 
--- the list has the goals of the kind, and no others, each as often as it likes
-pub record AreGoalsOf (Kind : GoalKind → Type 0) (goals : List GoalKind) : Type 0 where
-  pub exact : (goal : GoalKind) → Contains goals goal ↔ Kind goal
-  pub in_range : All IsInRange goals
+-- ---- goals that come to a list
+
+-- the words of the goals rise
+abbrev pub AreRising : List GoalKind → Type 0
+AreRising goals = IsStrictlyIncreasing (map goal_word goals)
+
+-- the goals of the kind have greater words than those of the list
+abbrev pub AreBehind : (GoalKind → Type 0) → List GoalKind → Type 0
+AreBehind Kind goals = (k l : GoalKind) → Contains goals k → Kind l → goal_word k < goal_word l
 
 -- the goals of the kind came to the list, and no others
 pub record Collects (Kind : GoalKind → Type 0) (old new : List GoalKind) : Type 0 where
   pub exact : (goal : GoalKind) → Contains new goal ↔ (Contains old goal ⊎ Kind goal)
   pub in_range : All IsInRange old → All IsInRange new
+
+-- they came behind all others, so words that rose rise on where those of the kind are greater
+pub record Appends (Kind : GoalKind → Type 0) (old new : List GoalKind) : Type 0 where
+  pub collects : Collects Kind old new
+  pub rises : AreRising old → AreBehind Kind old → AreRising new
+
+-- each came to its place, so words that rose still rise
+pub record Inserts (Kind : GoalKind → Type 0) (old new : List GoalKind) : Type 0 where
+  pub collects : Collects Kind old new
+  pub rises : AreRising old → AreRising new
 
 -- ---- kinds of children
 
@@ -71,9 +87,17 @@ does_explore Implementation = false
 abbrev pub IsOfGroups : Phase → Children → GoalKind → Type 0
 IsOfGroups phase children goal = (group : KeyParts) × IsChild children group × (goal ≡ group_goal phase group)
 
+-- the goal of the left group
+abbrev pub IsOfLeftGroup : Children → GoalKind → Type 0
+IsOfLeftGroup children goal = (group : KeyParts) × IsLeft children group × (goal ≡ Exp group)
+
 -- the goal of the left group, where the rule binds a member of it
 abbrev pub IsOfLeft : ExprParts → Rule → Children → GoalKind → Type 0
 IsOfLeft e rule children goal = (group : KeyParts) × (rule ≡ JoinAssociate) × IsLeft children group × (goal ≡ Exp group)
+
+-- the rule is of the phase and applies to the expression
+abbrev pub IsTried : Query → Bool → ExprParts → Rule → Type 0
+IsTried q exploring e rule = (explores rule ≡ exploring) × Applies q rule e
 
 -- the goal of one rule at the expression, if it is of the phase and applies
 abbrev pub IsOfRule : Query → Bool → ExprParts → Rule → GoalKind → Type 0

@@ -1,9 +1,9 @@
 -- Goals by their words.
-use Rattle.std.specs.Prelude.{ℕ, ◌≡◌, ◌↔◌, List, All, map}
+use Rattle.std.specs.Prelude.{ℕ, ◌≡◌, ◌<◌, ◌≤◌, List, All, get_or, length, map}
 use Rattle.std.specs.List.{Contains}
-use Rattle.std.specs.List.Sorted.{IsStrictlyIncreasing}
 use Rattle.goal_space.specs.Words.{goal_word, HasWord, IsInRange}
 use Rattle.goal_space.specs.declared.goals.GoalKind.{GoalKind}
+use Rattle.goal_children.specs.Finding.{AreRising}
 
 -- the word is that of a goal
 abbrev pub IsWordOfGoal : ℕ → Type 0
@@ -14,7 +14,12 @@ pub record HaveGoalWords (words : List ℕ) (goals : List GoalKind) : Type 0 whe
   pub numbers : map goal_word goals ≡ words
   pub in_range : All IsInRange goals
 
--- the list has the goals, each once, ascending by their words
-pub record AreInOrder (goals list : List GoalKind) : Type 0 where
-  pub rises : IsStrictlyIncreasing (map goal_word list)
-  pub same : (goal : GoalKind) → Contains list goal ↔ Contains goals goal
+-- the word is that of one of the goals
+abbrev pub HaveWord : List GoalKind → ℕ → Type 0
+HaveWord goals word = Contains (map goal_word goals) word
+
+-- goals before the place have lesser words, if words rise, and those from it on have greater ones
+pub record IsPlaceFor (goals : List GoalKind) (word place : ℕ) : Type 0 where
+  pub within : place ≤ length goals
+  pub before : AreRising goals → (k : ℕ) → k < place → get_or (map goal_word goals) k 0 < word
+  pub after : (k : ℕ) → place ≤ k → k < length goals → word < get_or (map goal_word goals) k 0

@@ -1,15 +1,19 @@
 //! The goals that an expression waits for in exploration and in implementation.
 #![tactic(auto)]
 
-ghost use Rattle.std.specs.Prelude.{◌≡◌};
+ghost use Rattle.std.specs.Prelude.{◌≡◌, ◌↔◌, IsTrue, OnOk};
+ghost use Rattle.std.specs.List.{All};
 ghost use Rattle.query_core.specs.Expressions.{children_of, AreInRange, IsCandidate, IsPacked};
 ghost use Rattle.goal_space.specs.Children.{IsRuleAt};
-ghost use Rattle.goal_children.specs.Finding.{does_explore, FindsFrom, IsOfGroups, IsOfLeft, IsOfRule};
+ghost use Rattle.goal_space.specs.Words.{IsInRange};
+ghost use Rattle.goal_children.specs.Finding.{does_explore, FindsFrom, Inserts, IsOfExpression, IsOfGroups, IsOfLeft, IsOfLeftGroup, IsOfRule, IsTried};
 
 use crate::finding::{goal_from, sooner};
 use crate::jobs::Phase;
+use crate::words::insert_goal;
 use goal_space::GoalKind;
 use query_core::{Children, ExprParts, Query};
+use std::alloc::AllocError;
 use xform_rules::{Rule, applies_at};
 
 /// The first goal of the groups that an expression stands on, from the bound on.
@@ -66,9 +70,127 @@ fn goal_of_rule(
     requires { IsPacked e }
     ensures { FindsFrom (IsOfRule query.now (does_explore phase) e rule) bound result }
 {
-    if rule.explores() == phase.explores() && applies_at(query, rule, e) {
+    if applies_in(query, phase, e, rule) {
         goal_from(GoalKind::Xf(e, rule), bound)
     } else {
         None
     }
+}
+
+/// Adds the goals that an expression waits for in the phase.
+pub fn insert_transformed(
+    query: &Query,
+    e: ExprParts,
+    phase: Phase,
+    goals: &mut Vec<GoalKind>,
+) -> Result<(), AllocError>
+    requires packed { IsPacked e }
+    requires listed { All IsInRange goals.old.items }
+    ensures ok { OnOk result
+        (Inserts (IsOfExpression query.now phase e) goals.old.items goals.new.items) }
+{
+    insert_groups(phase, e.children(), goals)?;
+    insert_rules(query, phase, e, goals)?;
+    Ok(())
+}
+
+// Adds the goals of the groups that an expression stands on.
+fn insert_groups(
+    phase: Phase,
+    children: Children,
+    goals: &mut Vec<GoalKind>,
+) -> Result<(), AllocError>
+    requires children { AreInRange children }
+    requires listed { All IsInRange goals.old.items }
+    ensures ok { OnOk result (Inserts (IsOfGroups phase children) goals.old.items goals.new.items) }
+{
+    match children {
+        Children::Zero => Ok(()),
+        Children::One(child) => insert_goal(phase.of_group(child), goals),
+        Children::Two(left, right) => {
+            insert_goal(phase.of_group(left), goals)?;
+            insert_goal(phase.of_group(right), goals)?;
+            Ok(())
+        }
+    }
+}
+
+// Adds the goals of the rules of the phase that apply to the expression.
+fn insert_rules(
+    query: &Query,
+    phase: Phase,
+    e: ExprParts,
+    goals: &mut Vec<GoalKind>,
+) -> Result<(), AllocError>
+    requires packed { IsPacked e }
+    requires listed { All IsInRange goals.old.items }
+    ensures ok { OnOk result
+        (Inserts (IsRuleAt query.now (does_explore phase) e) goals.old.items goals.new.items) }
+{
+    let rules = Rule::all();
+    for rule in &rules {
+        insert_rule(query, phase, e, *rule, goals)?;
+    }
+    Ok(())
+}
+
+// Adds the goal of one rule, if it is of the phase and applies.
+fn insert_rule(
+    query: &Query,
+    phase: Phase,
+    e: ExprParts,
+    rule: Rule,
+    goals: &mut Vec<GoalKind>,
+) -> Result<(), AllocError>
+    requires packed { IsPacked e }
+    requires listed { All IsInRange goals.old.items }
+    ensures ok { OnOk result
+        (Inserts (IsOfRule query.now (does_explore phase) e rule) goals.old.items goals.new.items) }
+{
+    if applies_in(query, phase, e, rule) {
+        insert_goal(GoalKind::Xf(e, rule), goals)
+    } else {
+        Ok(())
+    }
+}
+
+/// Adds the goal of the left group, where the rule binds a member of it.
+pub fn insert_left(e: ExprParts, rule: Rule, goals: &mut Vec<GoalKind>) -> Result<(), AllocError>
+    requires children { AreInRange (children_of e.operator) }
+    requires listed { All IsInRange goals.old.items }
+    ensures ok { OnOk result
+        (Inserts (IsOfLeft e rule (children_of e.operator)) goals.old.items goals.new.items) }
+{
+    if associates(rule) {
+        insert_left_group(e.children(), goals)
+    } else {
+        Ok(())
+    }
+}
+
+// Adds the goal of the left group.
+fn insert_left_group(children: Children, goals: &mut Vec<GoalKind>) -> Result<(), AllocError>
+    requires children { AreInRange children }
+    requires listed { All IsInRange goals.old.items }
+    ensures ok { OnOk result (Inserts (IsOfLeftGroup children) goals.old.items goals.new.items) }
+{
+    match children {
+        Children::Zero => Ok(()),
+        Children::One(child) => insert_goal(GoalKind::Exp(child), goals),
+        Children::Two(left, _) => insert_goal(GoalKind::Exp(left), goals),
+    }
+}
+
+// Whether the rule binds a member of the left group.
+fn associates(rule: Rule) -> bool
+    ensures { IsTrue result ↔ (rule ≡ Rule.JoinAssociate) }
+{
+    rule == Rule::JoinAssociate
+}
+
+// Whether the rule is of the phase and applies to the expression.
+fn applies_in(query: &Query, phase: Phase, e: ExprParts, rule: Rule) -> bool
+    ensures { IsTrue result ↔ IsTried query.now (does_explore phase) e rule }
+{
+    rule.explores() == phase.explores() && applies_at(query, rule, e)
 }

@@ -1,31 +1,30 @@
 //! All children of a goal, as a list.
 #![tactic(auto)]
 
-ghost use Rattle.std.specs.Prelude.{◌≡◌, IfOk, OnOk};
+ghost use Rattle.std.specs.Prelude.{◌≡◌, OnOk};
 ghost use Rattle.std.specs.List.{All};
 ghost use Rattle.std.specs.List.Sorted.{IsStrictlyIncreasing};
 ghost use Rattle.query_core.specs.Keys.{IsGroup};
 ghost use Rattle.query_core.specs.Expressions.{IsCandidateWord};
 ghost use Rattle.request_props.specs.Numbered.{IsProps};
+ghost use Rattle.goal_space.specs.Words.{IsInRange};
 ghost use Rattle.goal_space.specs.declared.goals.GoalKind.{GoalKind as AnyGoal};
 ghost use Rattle.goal_children.specs.Over.{IsGoalOver, IsNumberedRequest};
 ghost use Rattle.goal_children.specs.Children.{AreChildren, IsChildIn};
-ghost use Rattle.goal_children.specs.Finding.{AreGoalsOf};
+ghost use Rattle.goal_children.specs.Finding.{Appends};
 
-use crate::asked::{asked_goals, push_enforced};
-use crate::children::next_child;
-use crate::jobs::MemberJob;
+use crate::asked::{insert_asked, insert_enforced};
+use crate::expressions::{insert_left, insert_transformed};
+use crate::jobs::{MemberJob, Phase};
 use crate::laws::children_are_over_the_query;
 use crate::members::push_member_goals;
-use crate::words::put_in_order;
 use goal_space::{GoalKind, goal_kinds_are_one};
-use query_core::{KeyParts, Query, groups_are_known};
+use query_core::{KeyParts, Query, candidates_are_known, groups_are_known};
 use request_props::{Props, Request};
-use std::alloc::{AllocError, Global};
+use std::alloc::AllocError;
 
 /// Puts the children of the goal into the list, ascending by their words, in place of what it held.
 pub fn list_children(
-    alloc: Global,
     query: &Query,
     props: &Props,
     members: &[u64],
@@ -38,69 +37,94 @@ pub fn list_children(
     requires goal { IsGoalOver query.now goal }
     ensures ok { OnOk result (AreChildren query.now members.now goal list.new.items) }
 {
+    list.clear();
+    add_children(query, props, members, goal, list)
+}
+
+// Adds the children of the goal: the table of children, one row a kind of goal.
+fn add_children(
+    query: &Query,
+    props: &Props,
+    members: &[u64],
+    goal: GoalKind,
+    goals: &mut Vec<GoalKind>,
+) -> Result<(), AllocError>
+    requires props { IsProps query.now props.now }
+    requires candidates { All (IsCandidateWord query.now) members.now }
+    requires ascending { IsStrictlyIncreasing members.now }
+    requires goal { IsGoalOver query.now goal }
+    requires listed { All IsInRange goals.old.items }
+    ensures ok { OnOk result
+        (Appends (IsChildIn query.now members.now goal) goals.old.items goals.new.items) }
+{
+    // For the proof: the words of candidates fit.
+    candidates_are_known();
     match goal {
-        // A group's members are looked at once, and so are the modes of an expression.
-        GoalKind::Opt(group, wanted) => {
-            let goals = chosen_goals(alloc, query, props, members, group, wanted)?;
-            put_in_order(alloc, &goals, list)
+        GoalKind::Exp(group) => {
+            let job = MemberJob::Transform(Phase::Exploration);
+            push_member_goals(query, props, members, group, job, goals)
         }
-        GoalKind::OptE(e, wanted) => {
-            let goals = asked_goals(alloc, query, props, e, wanted)?;
-            put_in_order(alloc, &goals, list)
-        }
-        _ => list_each(query, props, members, goal, list),
+        GoalKind::ExpE(e) => insert_transformed(query, e, Phase::Exploration, goals),
+        GoalKind::Xf(e, rule) => insert_left(e, rule, goals),
+        GoalKind::Imp(group) => add_implemented(query, props, members, group, goals),
+        GoalKind::ImpE(e) => insert_transformed(query, e, Phase::Implementation, goals),
+        GoalKind::Opt(group, wanted) => add_chosen(query, props, members, group, wanted, goals),
+        GoalKind::OptE(e, wanted) => insert_asked(query, props, e, wanted, goals),
     }
 }
 
-// The children of a group for a request, in no order.
-fn chosen_goals(
-    alloc: Global,
+// Adds the children of the implementation of a group.
+fn add_implemented(
+    query: &Query,
+    props: &Props,
+    members: &[u64],
+    group: KeyParts,
+    goals: &mut Vec<GoalKind>,
+) -> Result<(), AllocError>
+    requires props { IsProps query.now props.now }
+    requires candidates { All (IsCandidateWord query.now) members.now }
+    requires ascending { IsStrictlyIncreasing members.now }
+    requires known { IsGroup query.now group }
+    ensures ok { OnOk result
+        (Appends (IsChildIn query.now members.now (AnyGoal.Imp group)) goals.old.items goals.new.items) }
+{
+    // For the proof: groups have keys, and words fit.
+    groups_are_known();
+    goal_kinds_are_one();
+    // Words go by kind: the group's exploration, and then its members.
+    goals.push(GoalKind::Exp(group))?;
+    let job = MemberJob::Transform(Phase::Implementation);
+    push_member_goals(query, props, members, group, job, goals)?;
+    Ok(())
+}
+
+// Adds the children of a group for a request.
+fn add_chosen(
     query: &Query,
     props: &Props,
     members: &[u64],
     group: KeyParts,
     wanted: Request,
-) -> Result<Vec<GoalKind>, AllocError>
+    goals: &mut Vec<GoalKind>,
+) -> Result<(), AllocError>
     requires props { IsProps query.now props.now }
     requires candidates { All (IsCandidateWord query.now) members.now }
     requires ascending { IsStrictlyIncreasing members.now }
     requires known { IsGroup query.now group }
     requires numbered { IsNumberedRequest query.now wanted }
-    ensures { IfOk result (λ goals.
-        AreGoalsOf (IsChildIn query.now members.now (GoalKind.Opt group wanted)) goals.items) }
+    requires listed { All IsInRange goals.old.items }
+    ensures ok { OnOk result
+        (Appends (IsChildIn query.now members.now (AnyGoal.Opt group wanted)) goals.old.items
+        goals.new.items) }
 {
-    // For the proof: groups have keys.
+    // For the proof: groups have keys, and children have words that fit.
     groups_are_known();
-    let mut goals = Vec::new(alloc);
-    goals.push(GoalKind::Imp(group))?;
-    push_enforced(query, props, group, wanted, &mut goals)?;
-    let job = MemberJob::Serve(wanted);
-    push_member_goals(query, props, members, group, job, &mut goals)?;
-    Ok(goals)
-}
-
-// The children of a goal, found one after the other.
-fn list_each(
-    query: &Query,
-    props: &Props,
-    members: &[u64],
-    goal: GoalKind,
-    list: &mut Vec<GoalKind>,
-) -> Result<(), AllocError>
-    requires props { IsProps query.now props.now }
-    requires candidates { All (IsCandidateWord query.now) members.now }
-    requires ascending { IsStrictlyIncreasing members.now }
-    requires goal { IsGoalOver query.now goal }
-    ensures ok { OnOk result (AreChildren query.now members.now goal list.new.items) }
-{
-    // For the proof: children have words, and a word is that of one goal.
-    children_are_over_the_query();
     goal_kinds_are_one();
-    list.clear();
-    let mut after = None;
-    'children: while let Some(child) = next_child(query, props, members, goal, after) {
-        list.push(child)?;
-        after = Some(child.word());
-    }
+    children_are_over_the_query();
+    // Words go by kind: the group's implementation, its other requests, and then its members.
+    goals.push(GoalKind::Imp(group))?;
+    insert_enforced(query, props, group, wanted, goals)?;
+    let job = MemberJob::Serve(wanted);
+    push_member_goals(query, props, members, group, job, goals)?;
     Ok(())
 }

@@ -10,7 +10,7 @@ ghost use Rattle.query_core.specs.Keys.{IsGroup};
 ghost use Rattle.query_core.specs.Expressions.{expr_of, IsCandidate, IsCandidateWord};
 ghost use Rattle.request_props.specs.Numbered.{IsProps, IsNumbered};
 ghost use Rattle.plan_tree.specs.Alternatives.{HasAlternative};
-ghost use Rattle.goal_children.specs.Finding.{Collects, FindsFrom, IsOfMembers};
+ghost use Rattle.goal_children.specs.Finding.{Appends, FindsFrom, IsOfMembers};
 ghost use Rattle.goal_space.specs.declared.goals.GoalKind.{GoalKind as AnyGoal};
 ghost use Rattle.goal_children.specs.MemberJobs.{word_at, HasNumberedJob, HaveNoGoals, IsFirstGoal, IsGoalAmong, IsGoalOf, IsGoalOfWord, IsJobInRange, IsServed, IsTransformed};
 
@@ -65,7 +65,7 @@ pub fn push_member_goals(
     requires known { IsGroup query.now group }
     requires numbered { HasNumberedJob query.now job }
     ensures ok { OnOk result
-        (Collects (IsOfMembers query.now members.now group job) goals.old.items goals.new.items) }
+        (Appends (IsOfMembers query.now members.now group job) goals.old.items goals.new.items) }
 {
     // For the proof: the words of candidates fit, and groups have keys.
     candidates_are_known();
@@ -83,9 +83,10 @@ fn push_goals_of(
 ) -> Result<(), AllocError>
     requires props { IsProps query.now props.now }
     requires candidates { All (IsCandidateWord query.now) words.now }
+    requires ascending { IsStrictlyIncreasing words.now }
     requires numbered { HasNumberedJob query.now job }
     ensures ok { OnOk result
-        (Collects (IsGoalAmong query.now job words.now) goals.old.items goals.new.items) }
+        (Appends (IsGoalAmong query.now job words.now) goals.old.items goals.new.items) }
 {
     for word in words {
         push_goal_of(query, props, job, *word, goals)?;
@@ -105,7 +106,7 @@ fn push_goal_of(
     requires candidate { IsCandidateWord query.now word }
     requires numbered { HasNumberedJob query.now job }
     ensures ok { OnOk result
-        (Collects (IsGoalOfWord query.now job word) goals.old.items goals.new.items) }
+        (Appends (IsGoalOfWord query.now job word) goals.old.items goals.new.items) }
 {
     // For the proof: the words of candidates fit.
     candidates_are_known();

@@ -1,43 +1,65 @@
-//! Goals in the order of their words.
+//! Goals at their places by their words, and the goals of words.
 #![tactic(auto)]
 
-ghost use Rattle.std.specs.Prelude.{◌≡◌, IfOk, OnOk, map};
+ghost use Rattle.std.specs.Prelude.{◌≡◌, MatchOption, OnOk};
 ghost use Rattle.std.specs.List.{All};
 ghost use Rattle.goal_space.specs.Words.{goal_word, IsInRange};
-ghost use Rattle.goal_children.specs.GoalLists.{AreInOrder, HaveGoalWords, IsWordOfGoal};
+ghost use Rattle.goal_children.specs.Finding.{Inserts};
+ghost use Rattle.goal_children.specs.GoalLists.{HaveGoalWords, HaveWord, IsPlaceFor, IsWordOfGoal};
 
 use crate::finding::known_goal;
 use goal_space::{GoalKind, goal_kinds_are_one};
-use query_core::Goal;
-use std::alloc::{AllocError, Global};
+use query_core::{Goal, GoalParts, Key};
+use request_props::code;
+use std::alloc::AllocError;
 
-/// Puts the goals into the list, ascending by their words and each once, in place of what it held.
-pub fn put_in_order(
-    alloc: Global,
-    goals: &[GoalKind],
-    list: &mut Vec<GoalKind>,
-) -> Result<(), AllocError>
-    requires { All IsInRange goals.now }
-    ensures ok { OnOk result (AreInOrder goals.now list.new.items) }
+/// Adds the goal at its place, unless it is there.
+pub fn insert_goal(goal: GoalKind, goals: &mut Vec<GoalKind>) -> Result<(), AllocError>
+    requires in_range { IsInRange goal }
+    requires listed { All IsInRange goals.old.items }
+    ensures ok { OnOk result (Inserts (λ k. k ≡ goal) goals.old.items goals.new.items) }
 {
     // For the proof: a word is that of one goal.
     goal_kinds_are_one();
-    let mut words = words_of_goals(alloc, goals)?;
-    words.sort_unstable();
-    words.dedup();
-    put_goals(&words, list)
+    match place_for(goals.as_slice(), goal.word().0) {
+        Some(place) => {
+            goals.insert(place, goal)?;
+            Ok(())
+        }
+        None => Ok(()),
+    }
 }
 
-// The words of the goals.
-fn words_of_goals(alloc: Global, goals: &[GoalKind]) -> Result<Vec<u64>, AllocError>
+// The place of a goal of this word, if none of the goals has it. Mostly it is near the end.
+fn place_for(goals: &[GoalKind], word: u64) -> Option<usize>
     requires { All IsInRange goals.now }
-    ensures { IfOk result (λ words. words.items ≡ map goal_word goals.now) }
+    ensures { MatchOption result (HaveWord goals.now word) (IsPlaceFor goals.now word) }
 {
-    let mut words = Vec::with_capacity(alloc, goals.len())?;
-    for goal in goals {
-        words.push(goal.word().0)?;
+    let mut place = goals.len();
+    while place > 0 {
+        let before = word_of(goals[place - 1]);
+        if before == word {
+            return None;
+        }
+        if before < word {
+            return Some(place);
+        }
+        place -= 1;
     }
-    Ok(words)
+    Some(0)
+}
+
+// The word of a goal. Those of groups for requests are many, so theirs is made here.
+fn word_of(goal: GoalKind) -> u64
+    requires { IsInRange goal }
+    ensures { result ≡ goal_word goal }
+{
+    match goal {
+        GoalKind::Opt(group, wanted) => {
+            Goal::make(GoalParts::Opt(Key::make(group), code(wanted))).0
+        }
+        _ => goal.word().0,
+    }
 }
 
 /// Puts the goals of the words into the list, in place of what it held.

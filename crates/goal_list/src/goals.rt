@@ -88,7 +88,7 @@ fn add_children(
     let mut children = Vec::new(alloc);
     for word in words {
         if done.binary_search(word).is_err() {
-            add_children_of(alloc, query, props, members, *word, &mut children, found)?;
+            add_children_of(query, props, members, *word, &mut children, found)?;
         }
     }
     Ok(())
@@ -96,7 +96,6 @@ fn add_children(
 
 /// Adds the children of the goal of one word. The list holds what it likes.
 fn add_children_of(
-    alloc: Global,
     query: &Query,
     props: &Props,
     members: &[u64],
@@ -117,7 +116,7 @@ fn add_children_of(
     goal_kinds_are_one();
     members_are_known();
     let goal = known_goal(Goal(word));
-    list_children(alloc, query, props, members, goal, children)?;
+    list_children(query, props, members, goal, children)?;
     add_all(query, children.as_slice(), found)
 }
 

@@ -158,7 +158,7 @@ fn push_all_traced(
     let mut pieces = Pieces::new(alloc, goals.len())?;
     for goal in goals {
         push_goal_line(alloc, query, props, *goal, &mut pieces, text)?;
-        list_children(alloc, query, props, members, *goal, &mut children)?;
+        list_children(query, props, members, *goal, &mut children)?;
         push_child_lines(alloc, query, props, children.as_slice(), &mut pieces, text)?;
     }
     Ok(())

@@ -1,5 +1,5 @@
 use Rattle.goal_children.specs.MemberJobs.{IsGoalOfWord}
-use Rattle.goal_children.proofs.Collecting.{collects_nothing, collects_one}
+use Rattle.goal_children.proofs.Appending.{appends_nothing, appends_one}
 use Rattle.goal_children.proofs.First.{known_word, candidate_of_word}
 use Rattle.goal_children.proofs.MemberGoals.{goal_of_known, one_goal}
 use Rattle.goal_children.proofs.OfMembers.{goal_in_range, job_in_range}
@@ -22,7 +22,7 @@ returns-in_ok-push-in-Some c =
     let candidate = candidate_of_word q packed c.args.word e c.known_parts.ensures.only c.requires.candidate in
     let in_range = job_in_range q c.requires.props.few_lists c.requires.props.few_orders c.args.job c.requires.numbered in
     record {
-      ok = collects_one (IsGoalOfWord q c.args.job c.args.word) c.args.goals.now.items c.push.new.self.items c.in-Some.goal
+      ok = appends_one (IsGoalOfWord q c.args.job c.args.word) c.args.goals.now.items c.push.new.self.items c.in-Some.goal
           (one_goal q packed c.args.job c.args.word e c.known_parts.ensures.only c.requires.candidate c.in-Some.goal c.in-Some.ensures)
           (goal_in_range q c.args.job e c.in-Some.goal in_range (packed e candidate) c.in-Some.ensures) c.in_ok-push-in-Some.ensures.items;
     }
@@ -33,6 +33,6 @@ returns-in-None c =
     let q = c.args.query.now in
     let packed = c.candidates_are_known.ensures.packed q in
     record {
-      ok = collects_nothing (IsGoalOfWord q c.args.job c.args.word) c.args.goals.now.items
+      ok = appends_nothing (IsGoalOfWord q c.args.job c.args.word) c.args.goals.now.items
           (λ k is. c.in-None.ensures k (goal_of_known q packed c.args.job c.args.word c.known_parts.result c.known_parts.ensures.only k is));
     }

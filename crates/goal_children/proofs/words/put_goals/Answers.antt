@@ -1,6 +1,6 @@
 use Rattle.std.proofs.Common.{sym, subst}
 use Rattle.goal_children.specs.GoalLists.{HaveGoalWords}
-use Rattle.goal_children.proofs.InOrder.{no_words, one_more_word}
+use Rattle.goal_children.proofs.OfWords.{no_words, one_more_word}
 use Rattle.goal_children.proofs.words.put_goals.Goals as goal
 
 pub known_goal-requires : goal.known_goal-requires
