@@ -22,16 +22,6 @@ abbrev pub IsUpTo : Option Goal → GoalKind → Type 0
 IsUpTo None goal = ⊥
 IsUpTo (Some before) goal = goal_word goal ≤ before.0
 
--- the least word that comes later
-abbrev pub place_behind : Option Goal → ℕ
-place_behind None = 0
-place_behind (Some before) = before.0 + 1
-
--- it rises
-pub place_more : (before : Option Goal) (next : GoalKind) (word : Goal) → word.0 ≡ goal_word next → IsBehind before next → place_behind before < place_behind (Some word)
-place_more None next word number behind = omega arith
-place_more (Some before) next word number behind = omega (arith, number, behind)
-
 -- a goal comes later or it doesn't
 behind_or_not : (before : Option Goal) (goal : GoalKind) → IsBehind before goal ⊎ IsUpTo before goal
 behind_or_not None goal = inl tt
