@@ -1,4 +1,4 @@
-use Rattle.std.proofs.Common.{◌≡◌, Bool, true, false}
+use Rattle.std.proofs.Common.{◌≡◌, true, false}
 use Rattle.std.proofs.lemmas.Result.{on_ok_weaker}
 use Rattle.goal_space.specs.declared.goals.GoalKind.TheVariants.{Xf}
 use Rattle.goal_children.specs.Finding.{does_explore, IsOfRule}

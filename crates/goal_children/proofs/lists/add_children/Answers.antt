@@ -2,7 +2,7 @@ use Rattle.std.proofs.Common.{sym, subst}
 use Rattle.std.proofs.lemmas.Result.{on_ok_weaker}
 use Rattle.goal_space.specs.Laws.{IsOfCandidate}
 use Rattle.goal_space.specs.declared.goals.GoalKind.{GoalKind}
-use Rattle.goal_space.specs.declared.goals.GoalKind.TheVariants.{Exp, ExpE, Xf, ImpE, OptE}
+use Rattle.goal_space.specs.declared.goals.GoalKind.TheVariants.{ExpE, Xf, ImpE, OptE}
 use Rattle.goal_children.specs.Children.{IsChildIn}
 use Rattle.goal_children.specs.Finding.{Appends}
 use Rattle.goal_children.proofs.Appending.{appends_inserted}

@@ -1,4 +1,4 @@
-use Rattle.std.proofs.Common.{sym, subst}
+use Rattle.std.proofs.Common.{subst}
 use Rattle.std.proofs.lemmas.List.{take_all}
 use Rattle.goal_children.specs.Finding.{Appends}
 use Rattle.goal_children.specs.MemberJobs.{IsGoalAmong}
