@@ -1,10 +1,13 @@
 -- What a sink has taken of a text that is put piece by piece.
-use Rattle.std.proofs.Common.{◌≡◌, ℕ, ◌+◌, ◌≤◌, List, ◌++◌, length, take, Option, sym, ap, ◌∙◌, subst, arith, length-append, append_assoc}
-use Rattle.std.proofs.Math.Seq.{take-append-add}
+use Rattle.std.proofs.Common.{◌≡◌, ℕ, ◌+◌, ◌<◌, ◌≤◌, suc, List, ◌∷◌, ◌++◌, length, get_or, take, drop, Option, Vec, sym, ap, ◌∙◌, subst, arith, length-append, append_assoc}
+use Rattle.std.proofs.Math.Seq.{split_at, take-append-add}
 use Rattle.std.proofs.lemmas.List.{take-append-le}
+use Rattle.std.proofs.lemmas.List.Concat.{flat_map-append}
 use Rattle.std.proofs.KnownBytes.{Appends-trans}
 use Rattle.std.specs.Io.KnownBytes.{Appends}
+use Rattle.std.specs.declared.alloc.Global.{Global}
 use Rattle.orca_io.specs.Sink.{TakesPrefix}
+use Rattle.orca_cli.specs.Views.{joined}
 
 -- the first bytes of a text are all of its front and the first bytes of what is behind
 take-front : (front piece back : List ℕ) (n : ℕ) → n ≤ length piece → take (length front + n) (front ++ (piece ++ back)) ≡ front ++ take n piece
@@ -28,3 +31,17 @@ module _ (old mid new : Option (List ℕ)) (text front rest : List ℕ) (parts :
   -- of its next piece a prefix was taken
   pub prefix_taken : (piece back : List ℕ) → rest ≡ piece ++ back → Appends old mid front → TakesPrefix mid new piece → TakesPrefix old new text
   prefix_taken piece back cut before after = subst (TakesPrefix old new) (sym (parts ∙ ap (λ behind. front ++ behind) cut)) (prefix_after old mid new front piece back before after)
+
+-- ---- texts, one behind the other
+
+-- those before the one at a place, this one, and those behind it
+joined_around : (texts : List (Vec ℕ Global)) (at : ℕ) (d : Vec ℕ Global) → at < length texts
+    → joined texts ≡ joined (take at texts) ++ ((get_or texts at d).items ++ joined (drop (suc at) texts))
+joined_around texts at d within =
+    ap joined (split_at texts at d within) ∙ flat_map-append (λ (text : Vec ℕ Global). text.items) (take at texts) (get_or texts at d ∷ drop (suc at) texts)
+
+-- after the texts before the one at a place were taken, a prefix of this one makes a prefix of all
+pub text_cut : (old mid new : Option (List ℕ)) (texts : List (Vec ℕ Global)) (at : ℕ) (d : Vec ℕ Global) → at < length texts → Appends old mid (joined (take at texts)) → TakesPrefix mid new (get_or texts at d).items → TakesPrefix old new (joined texts)
+text_cut old mid new texts at d within before this =
+    subst (TakesPrefix old new) (sym (joined_around texts at d within))
+    (prefix_after old mid new (joined (take at texts)) (get_or texts at d).items (joined (drop (suc at) texts)) before this)

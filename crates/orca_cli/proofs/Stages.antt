@@ -60,10 +60,10 @@ plan_searched Tells capacity query status front text room (stages.least is plan)
 plan_searched Tells capacity query status front text room (stages.none is impossible line) goes = unplanned is room impossible (subst (λ line. Tells line text) line goes)
 
 -- the ending with what is printed for its plan
-pub followed_searched : (Tells : List ℕ → List ℕ → Type 0) (capacity : ℕ) (query : Query) (front made : Ending) → HasRoom query capacity → IsPlanOf query front.status (text_of front)
-    → made.status ≡ front.status → Tells (text_of front) (text_of made) → IsSearchEnd Tells capacity query made.status (text_of made)
-followed_searched Tells capacity query front made room plan same goes =
-    plan_searched Tells capacity query made.status (text_of front) (text_of made) room (subst (λ s. IsPlanOf query s (text_of front)) (sym same) plan) goes
+pub followed_searched : (Tells : List ℕ → List ℕ → Type 0) (capacity : ℕ) (query : Query) (status : Status) (front : List ℕ) (made : Ending) → HasRoom query capacity → IsPlanOf query status front
+    → made.status ≡ status → Tells front (text_of made) → IsSearchEnd Tells capacity query made.status (text_of made)
+followed_searched Tells capacity query status front made room plan same goes =
+    plan_searched Tells capacity query made.status front (text_of made) room (subst (λ s. IsPlanOf query s front) (sym same) plan) goes
 
 -- ---- refusals
 

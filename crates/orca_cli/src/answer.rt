@@ -12,8 +12,8 @@ ghost use Rattle.orca_cli.specs.Stages.{IsDone};
 ghost use Rattle.orca_cli.specs.Views.{text_of};
 
 use crate::ending::{Ending, too_many_entries};
-use crate::lines::with_first_lines;
-use crate::planning::planned;
+use crate::lines::first_lines;
+use crate::planning::{PlanLines, planned};
 use crate::search::{Search, search_alone, search_by_crew};
 use crate::sections::with_sections;
 use command_line::{Choices, GenInput};
@@ -125,8 +125,8 @@ fn done(
         search.entry.query.now ending.status (text_of ending)) }
     ensures done { IfOk result (λ ending. IsDone ending.status) }
 {
-    let ending = planned(alloc, search.query, search.props, answers)?;
-    told(alloc, choices, generated, search, ending)
+    let plan = planned(alloc, search.query, search.props, answers)?;
+    told(alloc, choices, generated, search, plan)
 }
 
 // What is printed of the plan: first lines where the query was generated, and else all of it with
@@ -136,15 +136,15 @@ fn told(
     choices: Choices,
     generated: Option<GenInput>,
     search: Search<'_>,
-    ending: Ending,
+    plan: PlanLines,
 ) -> Result<Ending, AllocError>
     requires { IsSearch search choices.workers }
-    ensures status { IfOk result (λ made. made.status ≡ ending.status) }
+    ensures status { IfOk result (λ made. made.status ≡ plan.status) }
     ensures text { IfOk result (λ made. Tells generated choices search.entry.query.now
-        (text_of ending) (text_of made)) }
+        plan.lines.items (text_of made)) }
 {
     match generated {
-        Some(input) => with_first_lines(alloc, input, choices, search, ending),
-        None => with_sections(alloc, choices, search, ending),
+        Some(input) => first_lines(alloc, input, choices, search, plan),
+        None => with_sections(alloc, choices, search, plan),
     }
 }

@@ -6,6 +6,7 @@ ghost use Rattle.orca_cli.specs.Sections.{HasFirstLines, first_line as line_firs
 ghost use Rattle.orca_cli.specs.Views.{text_of};
 
 use crate::ending::Ending;
+use crate::planning::PlanLines;
 use crate::search::Search;
 use crate::sections::{memo_first_line, trace_first_line};
 use command_line::{Choices, GenInput};
@@ -13,26 +14,23 @@ use query_generator::GenShape;
 use std::alloc::{AllocError, Global};
 
 /// What was generated, and the first lines of the plan, of the memo and of the trace.
-pub fn with_first_lines(
+pub fn first_lines(
     alloc: Global,
     input: GenInput,
     choices: Choices,
     search: Search<'_>,
-    ending: Ending,
+    plan: PlanLines,
 ) -> Result<Ending, AllocError>
     requires { IsSearch search choices.workers }
-    ensures status { IfOk result (λ made. made.status ≡ ending.status) }
+    ensures status { IfOk result (λ made. made.status ≡ plan.status) }
     ensures text { IfOk result (λ made. HasFirstLines input search.entry.query.now
-        (text_of ending) (text_of made)) }
+        plan.lines.items (text_of made)) }
 {
     let memo = memo_first_line(alloc, choices, search)?;
     let trace = trace_first_line(alloc, choices, search)?;
     let line = gen_line(alloc, input)?;
-    let text = with_lines_of(line, &ending.text, &memo, &trace)?;
-    Ok(Ending {
-        status: ending.status,
-        text,
-    })
+    let text = with_lines_of(line, &plan.lines, &memo, &trace)?;
+    Ending::of(alloc, plan.status, text)
 }
 
 // The text, and behind it the plan's first line and those of the memo and of the trace.

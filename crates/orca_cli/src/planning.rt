@@ -3,9 +3,7 @@ ghost use Rattle.std.specs.Prelude.{◌≡◌, IfOk};
 ghost use Rattle.request_props.specs.Numbered.{IsProps};
 ghost use Rattle.goal_space.specs.Answers.{AreAnswers};
 ghost use Rattle.orca_cli.specs.Stages.{IsPlanOf, status_for};
-ghost use Rattle.orca_cli.specs.Views.{text_of};
 
-use crate::ending::Ending;
 use crate::status::Status;
 use plan_report::{extract, plan_text};
 use plan_tree::{Answers, Found};
@@ -13,22 +11,29 @@ use query_core::Query;
 use request_props::Props;
 use std::alloc::{AllocError, Global};
 
+/// The lines of a plan, or the line that there is none, and the status that goes with them.
+#[derive(Drop)]
+pub struct PlanLines {
+    pub status: Status,
+    pub lines: Vec<u8>,
+}
+
 /// The least plan of a query, or that there is none.
 pub fn planned(
     alloc: Global,
     query: &Query,
     props: &Props,
     answers: &Answers,
-) -> Result<Ending, AllocError>
+) -> Result<PlanLines, AllocError>
     requires props { IsProps query.now props.now }
     requires answers { AreAnswers query.now answers.now.list }
-    ensures { IfOk result (λ ending. IsPlanOf query.now ending.status (text_of ending)) }
+    ensures { IfOk result (λ plan. IsPlanOf query.now plan.status plan.lines.items) }
 {
     let found = extract(alloc, query, props, answers)?;
     let status = status_of(&found);
-    Ok(Ending {
+    Ok(PlanLines {
         status,
-        text: plan_text(alloc, query, props, &found)?,
+        lines: plan_text(alloc, query, props, &found)?,
     })
 }
 

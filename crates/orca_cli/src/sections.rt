@@ -5,6 +5,7 @@ ghost use Rattle.orca_cli.specs.Sections.{GoesOn, IsBehind, IsByWorker, StartsMe
 ghost use Rattle.orca_cli.specs.Views.{text_of};
 
 use crate::ending::Ending;
+use crate::planning::PlanLines;
 use crate::search::Search;
 use command_line::Choices;
 use goal_children::goal_lists_are_known;
@@ -23,18 +24,19 @@ pub enum Section {
     ByWorker,
 }
 
-/// The ending, and behind it the sections that are asked for.
+/// The plan, and behind it the sections that are asked for.
 pub fn with_sections(
     alloc: Global,
     choices: Choices,
     search: Search<'_>,
-    ending: Ending,
+    plan: PlanLines,
 ) -> Result<Ending, AllocError>
     requires { IsSearch search choices.workers }
-    ensures status { IfOk result (λ made. made.status ≡ ending.status) }
+    ensures status { IfOk result (λ made. made.status ≡ plan.status) }
     ensures text { IfOk result
-        (λ made. GoesOn choices search.entry.query.now (text_of ending) (text_of made)) }
+        (λ made. GoesOn choices search.entry.query.now plan.lines.items (text_of made)) }
 {
+    let ending = Ending::of(alloc, plan.status, plan.lines)?;
     let ending = with_section(alloc, Section::Memo, choices, search, ending)?;
     let ending = with_section(alloc, Section::Trace, choices, search, ending)?;
     with_section(alloc, Section::ByWorker, choices, search, ending)
@@ -159,16 +161,16 @@ pub fn trace_first_line(
     trace_line(alloc, search.query, search.props, search.goals)
 }
 
-// The ending with more text behind its own.
+// The ending with one more text behind its own.
 fn followed(ending: Ending, section: Vec<u8>) -> Result<Ending, AllocError>
     ensures status { IfOk result (λ made. made.status ≡ ending.status) }
     ensures text { IfOk result
         (λ made. text_of made ≡ text_of ending ++ section.items) }
 {
-    let mut text = ending.text;
-    text.extend_from_slice(&section)?;
+    let mut texts = ending.texts;
+    texts.push(section)?;
     Ok(Ending {
         status: ending.status,
-        text,
+        texts,
     })
 }

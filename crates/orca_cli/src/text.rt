@@ -1,14 +1,30 @@
-// A text is made whole, and then put line by line.
+// Texts are made whole, and then put line by line.
 ghost use Rattle.std.specs.Prelude.{◌≡◌, ◌≤◌, ◌<◌, length, OnOk, OnErr};
 ghost use Rattle.std.specs.Io.KnownBytes.{Appends};
 ghost use Rattle.orca_base.specs.Causes.{Rose};
 ghost use Rattle.orca_io.specs.Sink.{TakesPrefix};
+ghost use Rattle.orca_cli.specs.Views.{joined};
 
 use memchr::memchr;
 use orca_io::{Sink, SinkError};
 
-/// Puts each line of the text, one put a line.
-pub fn put_lines<K: Sink>(out: &mut K, text: &[u8]) -> Result<(), SinkError>
+/// Puts the lines of the texts, one text behind the other.
+pub fn put_texts<K: Sink>(out: &mut K, texts: &[Vec<u8>]) -> Result<(), SinkError>
+    ensures ok { OnOk result
+        (Appends (K.taken out.old) (K.taken out.new) (joined texts.now)) }
+
+    ensures failed { OnErr result (Rose (K.faults out.old) (K.faults out.new)) }
+    ensures err { OnErr result
+        (TakesPrefix (K.taken out.old) (K.taken out.new) (joined texts.now)) }
+{
+    for text in texts {
+        put_lines(out, text)?;
+    }
+    Ok(())
+}
+
+// Puts each line of the text, one put a line.
+fn put_lines<K: Sink>(out: &mut K, text: &[u8]) -> Result<(), SinkError>
     ensures ok { OnOk result
         (Appends (K.taken out.old) (K.taken out.new) text.now) }
 

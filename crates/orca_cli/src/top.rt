@@ -16,7 +16,7 @@ use crate::ending::Ending;
 use crate::files::asked_by_files;
 use crate::generated::asked_by_input;
 use crate::status::Status;
-use crate::text::put_lines;
+use crate::text::put_texts;
 use command_line::{Choices, Command, GenCommand, PlanCommand, read_command};
 use job_engine::RunNote;
 use job_outcome::entries_fit_or_not;
@@ -245,7 +245,7 @@ fn put_ending<K: Sink>(out: &mut K, ending: &Ending) -> Status
     ensures { IsPut ending.now.status (text_of ending.now) (K.taken out.old) (K.taken out.new)
         (K.faults out.old) (K.faults out.new) result }
 {
-    match put_lines(out, &ending.text) {
+    match put_texts(out, &ending.texts) {
         Ok(()) => ending.status,
         Err(_) => Status::WriteFault,
     }

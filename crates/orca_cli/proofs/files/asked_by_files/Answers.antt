@@ -25,9 +25,11 @@ returns-in-Bytes g c =
     let file = held command.files.catalog in
     let read : AreHeld file 1048576 c.in-Bytes.bytes.items = rw c.in-Bytes.is at c.in_ok-read_file.ensures.read in
     let are : AreHeld file 1048576 c.deref.result.now = subst (AreHeld file 1048576) (sym c.deref.ensures.value) read in
+    let middle = g.S.Shelf.faults c.read_file.new.shelf in
+    let after = g.S.Shelf.faults c.asked_over_bytes.new.shelf in
     let same = c.in_ok-read_file.ensures.same command.files.query in
     IfOk-weaker c.asked_over_bytes.result _ _
     (λ a is. asking_then _ _ _ _ a (λ query asked. asked_files command held 1048576 c.deref.result.now _ query are same asked)
-    (λ status text ending. over_files command held (g.S.Shelf.faults c.args.shelf.now) _ _ 1048576 c.deref.result.now status text are c.in_ok-read_file.ensures.later
-    (retold_over c.deref.result.now command.choices command.files.query _ _ _ _ status text same ending)) is)
+    (λ status text ending. over_files command held (g.S.Shelf.faults c.args.shelf.now) middle after 1048576 c.deref.result.now status text are c.in_ok-read_file.ensures.later
+    (retold_over c.deref.result.now command.choices command.files.query _ _ middle after status text same ending)) is)
     c.asked_over_bytes.ensures

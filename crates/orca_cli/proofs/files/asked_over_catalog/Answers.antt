@@ -25,5 +25,5 @@ returns-in-Bytes g c =
     let held : AreHeld file 65536 c.deref.result.now = subst (AreHeld file 65536) (sym c.deref.ensures.value) read in
     IfOk-weaker c.asked_by_text.result _ _
     (λ a is. asking_then _ _ _ _ a (λ query asks. asked_read c.args.catalog.now c.args.choices.options file 65536 c.deref.result.now query held asks)
-    (λ status text answer. answer_read c.args.catalog.now c.args.choices c.args.query.now file _ _ 65536 c.deref.result.now status text held answer) is)
+    (λ status text answer. answer_read c.args.catalog.now c.args.choices c.args.query.now file (g.S.Shelf.faults c.args.shelf.now) (g.S.Shelf.faults c.read_file.new.shelf) 65536 c.deref.result.now status text held answer) is)
     c.asked_by_text.ensures
