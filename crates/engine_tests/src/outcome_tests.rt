@@ -16,7 +16,7 @@ use std::alloc::{AllocError, Global};
 use std::test::Fail;
 use std::thread;
 use std::thread::Threads;
-use worked_queries::two_tables;
+use worked_queries::{props_of, two_tables};
 
 // The words of all members, and those of all goals.
 fn entries_of(
@@ -130,9 +130,7 @@ fn put_by_two<R: GoalRules>(
 fn two_threads_put_each_entry_of_a_query_once(rt: HostRuntime) -> Result<(), Fail> {
     let alloc = rt.alloc();
     let query = two_tables(alloc)?;
-    let Ok(props) = Props::collect(alloc, &query) else {
-        panic!(rt; "there are too many lists");
-    };
+    let props = props_of(alloc, &query)?;
     let (members, goals) = entries_of(alloc, &query, &props)?;
     let (board, seat) = Board::start(alloc, Rules::new(&query, &props), 79)?;
     let (seat, new_members, new_goals) = put_by_two(

@@ -2,9 +2,8 @@
 
 use job_engine::{Engine, Outcome, RunNote, run_alone, run_crew};
 use orca_io::NoGate;
-use request_props::Props;
 use std::test::Fail;
-use worked_queries::one_table;
+use worked_queries::{one_table, props_of};
 
 // The word of the goal Opt Get(t) [One]: kind 5, key 0, request 0.
 const ROOT: u64 = 13 << 60;
@@ -38,9 +37,7 @@ pub fn found_alike(one: &Outcome, other: &Outcome) -> bool {
 fn a_search_without_a_step_is_unfinished(rt: HostRuntime) -> Result<(), Fail> {
     let alloc = rt.alloc();
     let query = one_table(alloc, 0)?;
-    let Ok(props) = Props::collect(alloc, &query) else {
-        panic!(rt; "too many lists");
-    };
+    let props = props_of(alloc, &query)?;
     let (engine, mut worker) = Engine::start(alloc, &query, &props, 64)?;
     let other = engine.split(alloc, &mut worker, 63)?;
     engine.join(&mut worker, other);
@@ -55,9 +52,7 @@ fn a_search_without_a_step_is_unfinished(rt: HostRuntime) -> Result<(), Fail> {
 fn one_worker_and_two_find_the_same(rt: HostRuntime) -> Result<(), Fail> {
     let alloc = rt.alloc();
     let query = one_table(alloc, 0)?;
-    let Ok(props) = Props::collect(alloc, &query) else {
-        panic!(rt; "too many lists");
-    };
+    let props = props_of(alloc, &query)?;
     let mut note = RunNote::new();
     assert_eq!(rt; note.last(), None);
     let (engine, worker) = Engine::start(alloc, &query, &props, 131072)?;
@@ -88,9 +83,7 @@ fn one_worker_and_two_find_the_same(rt: HostRuntime) -> Result<(), Fail> {
 fn too_few_cells_are_full(rt: HostRuntime) -> Result<(), Fail> {
     let alloc = rt.alloc();
     let query = one_table(alloc, 0)?;
-    let Ok(props) = Props::collect(alloc, &query) else {
-        panic!(rt; "too many lists");
-    };
+    let props = props_of(alloc, &query)?;
     for (cap, fits) in [(9, false), (10, true)] {
         let mut note = RunNote::new();
         let (engine, worker) = Engine::start(alloc, &query, &props, cap)?;

@@ -12,7 +12,7 @@ use query_core::Query;
 use request_props::Props;
 use std::alloc::{AllocError, Global};
 use std::test::Fail;
-use worked_queries::two_tables;
+use worked_queries::{props_of, two_tables};
 
 // Who steps.
 #[derive(Clone, Copy)]
@@ -163,9 +163,7 @@ fn step_until_end<'q>(engine: &Engine<'q>, worker: &mut Worker<Rules<'q>>, most:
 fn a_hundred_orders_of_three_workers_end_alike(rt: HostRuntime) -> Result<(), Fail> {
     let alloc = rt.alloc();
     let query = two_tables(alloc)?;
-    let Ok(props) = Props::collect(alloc, &query) else {
-        panic!(rt; "too many lists");
-    };
+    let props = props_of(alloc, &query)?;
     let (engine, worker) = Engine::start(alloc, &query, &props, 131_072)?;
     let alone = run_alone(alloc, engine, worker, &mut RunNote::new())?;
     for number in 0..100 {
@@ -184,9 +182,7 @@ fn a_hundred_orders_of_three_workers_end_alike(rt: HostRuntime) -> Result<(), Fa
 fn a_worker_that_stops_keeps_nobody_waiting(rt: HostRuntime) -> Result<(), Fail> {
     let alloc = rt.alloc();
     let query = two_tables(alloc)?;
-    let Ok(props) = Props::collect(alloc, &query) else {
-        panic!(rt; "too many lists");
-    };
+    let props = props_of(alloc, &query)?;
     let (engine, worker) = Engine::start(alloc, &query, &props, 79)?;
     let alone = run_alone(alloc, engine, worker, &mut RunNote::new())?;
     for before in 0..150 {

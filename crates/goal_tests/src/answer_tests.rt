@@ -16,7 +16,9 @@ use query_core::Query;
 use request_props::Props;
 use std::alloc::{AllocError, Global};
 use std::test::Fail;
-use worked_queries::{chain, grouped, large_and_small, one_table, two_tables, without_a_plan};
+use worked_queries::{
+    chain, grouped, large_and_small, one_table, props_of, two_tables, without_a_plan,
+};
 
 fn answers_of(alloc: Global, query: &Query, props: &Props) -> Result<Answers, AllocError>
     requires { IsProps query.now props.now }
@@ -86,14 +88,14 @@ fn all_as_searched(
 
 // Whether all answers of the query are.
 fn are_as_searched(alloc: Global, query: &Query) -> Result<bool, Fail> {
-    let props = Props::collect(alloc, query)?;
+    let props = props_of(alloc, query)?;
     let answers = answers_of(alloc, query, &props)?;
     Ok(all_as_searched(alloc, query, &props, answers.list.as_slice())?)
 }
 
 // The plan's text by the answers, and by the plain search.
 fn texts_of(alloc: Global, query: &Query) -> Result<(Vec<u8>, Vec<u8>), Fail> {
-    let props = Props::collect(alloc, query)?;
+    let props = props_of(alloc, query)?;
     let answers = answers_of(alloc, query, &props)?;
     let extracted = extract(alloc, query, &props, &answers)?;
     let searched = plain_least(alloc, query, &props)?;

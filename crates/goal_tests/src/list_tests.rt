@@ -10,7 +10,7 @@ use query_core::Query;
 use request_props::Props;
 use std::alloc::{AllocError, Global};
 use std::test::Fail;
-use worked_queries::{one_table, two_tables};
+use worked_queries::{one_table, props_of, two_tables};
 use xform_rules::members_are_known;
 
 // The trace over all members and goals of the query.
@@ -41,11 +41,10 @@ fn crew_of_one(alloc: Global, query: &Query, props: &Props) -> Result<Vec<u8>, A
 fn a_table_that_is_read_has_eight_goals(rt: HostRuntime) -> Result<(), Fail> {
     let alloc = rt.alloc();
     let query = one_table(alloc, 0)?;
-    match Props::collect(alloc, &query) {
-        Ok(props) => {
-            assert_eq!(rt;
-                trace_of(alloc, &query, &props)?.as_slice(),
-                "trace goals=8 exp=1 expe=1 xf=1 imp=1 impe=1 opt=2 opte=1
+    let props = props_of(alloc, &query)?;
+    assert_eq!(rt;
+        trace_of(alloc, &query, &props)?.as_slice(),
+        "trace goals=8 exp=1 expe=1 xf=1 imp=1 impe=1 opt=2 opte=1
 Exp Get(t)
   ExpE Get(t)
 ExpE Get(t)
@@ -63,11 +62,11 @@ Opt Get(t) [Spread]
   OptE Scan(t) [Spread]
 OptE Scan(t) [Spread]
 "
-                    .as_bytes()
-            );
-            assert_eq!(rt;
-                crew_of_one(alloc, &query, &props)?.as_slice(),
-                "by-worker
+            .as_bytes()
+    );
+    assert_eq!(rt;
+        crew_of_one(alloc, &query, &props)?.as_slice(),
+        "by-worker
 0 Exp Get(t)
 0 ExpE Get(t)
 0 Xf GetToScan Get(t)
@@ -77,11 +76,8 @@ OptE Scan(t) [Spread]
 0 Opt Get(t) [Spread]
 0 OptE Scan(t) [Spread]
 "
-                    .as_bytes()
-            );
-        }
-        Err(_) => assert!(rt; false),
-    }
+            .as_bytes()
+    );
     Ok(())
 }
 
@@ -89,12 +85,11 @@ OptE Scan(t) [Spread]
 fn a_sorted_join_has_66_goals(rt: HostRuntime) -> Result<(), Fail> {
     let alloc = rt.alloc();
     let query = two_tables(alloc)?;
-    match Props::collect(alloc, &query) {
-        Ok(props) => {
-            let trace = trace_of(alloc, &query, &props)?;
-            let first = "trace goals=66 exp=3 expe=5 xf=11 imp=3 impe=5 opt=20 opte=19\n";
-            assert!(rt; trace.starts_with(first.as_bytes()));
-            let root = "
+    let props = props_of(alloc, &query)?;
+    let trace = trace_of(alloc, &query, &props)?;
+    let first = "trace goals=66 exp=3 expe=5 xf=11 imp=3 impe=5 opt=20 opte=19\n";
+    assert!(rt; trace.starts_with(first.as_bytes()));
+    let root = "
 Opt Join(T1, T2) [One; T1.a]
   Imp Join(T1, T2)
   Opt Join(T1, T2) [One]
@@ -102,14 +97,11 @@ Opt Join(T1, T2) [One; T1.a]
   OptE MergeJoin(T1 | T2) [One; T1.a]
   OptE LoopJoin(T1 | T2) [One; T1.a]
 ";
-            assert!(rt;
-                trace
-                    .as_slice()
-                    .windows(root.len())
-                    .any(|part| part == root.as_bytes())
-            );
-        }
-        Err(_) => assert!(rt; false),
-    }
+    assert!(rt;
+        trace
+            .as_slice()
+            .windows(root.len())
+            .any(|part| part == root.as_bytes())
+    );
     Ok(())
 }

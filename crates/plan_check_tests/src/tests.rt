@@ -13,7 +13,7 @@ use request_props::{Dist, Props, Request};
 use std::alloc::{AllocError, Global};
 use std::process::Abort;
 use std::test::Fail;
-use worked_queries::{filtered_table, hashed_count, large_and_small, two_tables};
+use worked_queries::{filtered_table, hashed_count, large_and_small, props_of, two_tables};
 
 // ---- nodes by their numbers
 
@@ -134,7 +134,7 @@ const LEAST: [(u64, u32); 6] = [
 #[test]
 fn a_plan_costs_what_the_table_says(rt: HostRuntime) -> Result<(), Fail> {
     let query = two_tables(rt.alloc())?;
-    let props = Props::collect(rt.alloc(), &query)?;
+    let props = props_of(rt.alloc(), &query)?;
     // 4,001 for the copies, and 250 + 2 * 1,000 + 250 + 1 for the join
     let copied = Case {
         nodes: &[(HASH + COPIED, 2), (SCAN_1, 0), (BROADCAST, 1), (SCAN_2, 0)],
@@ -175,7 +175,7 @@ fn a_plan_costs_what_the_table_says(rt: HostRuntime) -> Result<(), Fail> {
 #[test]
 fn the_least_plan_has_its_cost(rt: HostRuntime) -> Result<(), Fail> {
     let query = two_tables(rt.alloc())?;
-    let props = Props::collect(rt.alloc(), &query)?;
+    let props = props_of(rt.alloc(), &query)?;
     for order in [0, 1] {
         let least = Case {
             nodes: &LEAST,
@@ -207,7 +207,7 @@ fn the_least_plan_has_its_cost(rt: HostRuntime) -> Result<(), Fail> {
 #[test]
 fn copies_of_a_small_table_cost_little(rt: HostRuntime) -> Result<(), Fail> {
     let query = large_and_small(rt.alloc())?;
-    let props = Props::collect(rt.alloc(), &query)?;
+    let props = props_of(rt.alloc(), &query)?;
     let copied = Case {
         nodes: &[
             (GATHER, 1),
@@ -235,7 +235,7 @@ fn sorts(alloc: Global, many: u32) -> Result<Plan, AllocError> {
 #[test]
 fn a_thousand_nodes_are_few_enough(rt: HostRuntime) -> Result<(), Fail> {
     let query = two_tables(rt.alloc())?;
-    let props = Props::collect(rt.alloc(), &query)?;
+    let props = props_of(rt.alloc(), &query)?;
     for (many, says) in [
         (999, Ok(999 * 2001 + 251)),
         (1000, Err(PlanFault::TooLarge { nodes: 1001 })),
@@ -253,7 +253,7 @@ fn a_thousand_nodes_are_few_enough(rt: HostRuntime) -> Result<(), Fail> {
 #[test]
 fn a_number_that_no_node_of_the_query_has_is_told(rt: HostRuntime) -> Result<(), Fail> {
     let query = two_tables(rt.alloc())?;
-    let props = Props::collect(rt.alloc(), &query)?;
+    let props = props_of(rt.alloc(), &query)?;
     // nothing; a sort by no order and by a third; a fourth list; a mode without a line; a table read
     // by an index that it hasn't; and the logical expression of the table
     for number in [
@@ -285,7 +285,7 @@ fn a_number_that_no_node_of_the_query_has_is_told(rt: HostRuntime) -> Result<(),
 #[test]
 fn the_last_node_with_wrong_kids_is_told(rt: HostRuntime) -> Result<(), Fail> {
     let query = two_tables(rt.alloc())?;
-    let props = Props::collect(rt.alloc(), &query)?;
+    let props = props_of(rt.alloc(), &query)?;
     let turned = Case {
         nodes: &[
             (SORT_A, 1),
@@ -322,7 +322,7 @@ fn the_last_node_with_wrong_kids_is_told(rt: HostRuntime) -> Result<(), Fail> {
 #[test]
 fn the_first_node_whose_needs_are_not_met_is_told(rt: HostRuntime) -> Result<(), Fail> {
     let query = two_tables(rt.alloc())?;
-    let props = Props::collect(rt.alloc(), &query)?;
+    let props = props_of(rt.alloc(), &query)?;
     let by_another_column = Case {
         nodes: &[(SORT_A, 1), (HASH + COLOCATED, 2), (SCAN_1, 0), (SCAN_2, 0)],
         dist: Dist::Spread,
@@ -358,7 +358,7 @@ fn the_first_node_whose_needs_are_not_met_is_told(rt: HostRuntime) -> Result<(),
 #[test]
 fn a_valid_plan_may_not_be_what_is_asked_for(rt: HostRuntime) -> Result<(), Fail> {
     let query = two_tables(rt.alloc())?;
-    let props = Props::collect(rt.alloc(), &query)?;
+    let props = props_of(rt.alloc(), &query)?;
     for (dist, order) in [(Dist::Spread, 1), (Dist::One, 2), (Dist::Copies, 0)] {
         let other = Case {
             nodes: &LEAST,
@@ -374,7 +374,7 @@ fn a_valid_plan_may_not_be_what_is_asked_for(rt: HostRuntime) -> Result<(), Fail
 #[test]
 fn the_whole_plan_is_looked_through_for_one_fault_first(rt: HostRuntime) -> Result<(), Fail> {
     let query = two_tables(rt.alloc())?;
-    let props = Props::collect(rt.alloc(), &query)?;
+    let props = props_of(rt.alloc(), &query)?;
     // needs that aren't met stand above wrong kids, and these above a number of no node
     let wrong_kids = Case {
         nodes: &[(REDISTRIBUTE_B, 1), (SORT_A, 2), (SCAN_1, 0), (SCAN_1, 0)],
@@ -419,7 +419,7 @@ fn stream_agg(mode: u32) -> u64
 #[test]
 fn aggregations_cost_what_the_table_says(rt: HostRuntime) -> Result<(), Fail> {
     let query = hashed_count(rt.alloc())?;
-    let props = Props::collect(rt.alloc(), &query)?;
+    let props = props_of(rt.alloc(), &query)?;
     // 1,000 rows on one segment: a gather at 2,001, and 2 * 1,000 + 10 + 1
     let gathered = Case {
         nodes: &[(hash_agg(KeyParts::Get(0), 0), 1), (GATHER, 1), (SCAN_1, 0)],
@@ -466,7 +466,7 @@ fn an_aggregation_by_a_list_outside_group_by_lacks_what_it_needs(
     rt: HostRuntime,
 ) -> Result<(), Fail> {
     let query = hashed_count(rt.alloc())?;
-    let props = Props::collect(rt.alloc(), &query)?;
+    let props = props_of(rt.alloc(), &query)?;
     let by_another_list = hash_agg(KeyParts::Get(0), 128);
     let over_a_scan = Case {
         nodes: &[(by_another_list, 1), (SCAN_1, 0)],
@@ -492,7 +492,7 @@ fn an_aggregation_by_a_list_outside_group_by_lacks_what_it_needs(
 #[test]
 fn a_filter_and_an_index_cost_what_the_table_says(rt: HostRuntime) -> Result<(), Fail> {
     let query = filtered_table(rt.alloc())?;
-    let props = Props::collect(rt.alloc(), &query)?;
+    let props = props_of(rt.alloc(), &query)?;
     let filter = native(KeyParts::Filter(0), Physical::Filter(KeyParts::Get(0)), 0);
     let over_a_scan = Case {
         nodes: &[(filter, 1), (SCAN_1, 0)],

@@ -9,7 +9,7 @@ use plan_tree::*;
 use query_core::*;
 use request_props::{Dist, Props, Request};
 use std::test::Fail;
-use worked_queries::per_group;
+use worked_queries::{per_group, props_of};
 use xform_rules::Rule;
 
 const TABLE: u32 = 0;
@@ -116,7 +116,7 @@ fn made_serving(
 #[test]
 fn aggregations_are_as_by_hand(rt: HostRuntime) -> Result<(), Fail> {
     let query = per_group(rt.alloc(), "b")?;
-    let props = Props::collect(rt.alloc(), &query)?;
+    let props = props_of(rt.alloc(), &query)?;
     let hashed = Dist::Hashed(BY_B_C);
     let rows = [
         // On one segment, and by the hash of the GROUP BY columns.
@@ -202,7 +202,7 @@ fn aggregations_are_as_by_hand(rt: HostRuntime) -> Result<(), Fail> {
 #[test]
 fn partial_groups_stay_where_spread_rows_lie(rt: HostRuntime) -> Result<(), Fail> {
     let query = per_group(rt.alloc(), "b")?;
-    let props = Props::collect(rt.alloc(), &query)?;
+    let props = props_of(rt.alloc(), &query)?;
     let hashed = Dist::Hashed(BY_B_C);
     let rows = [
         (
@@ -228,7 +228,7 @@ fn an_index_gives_each_order_with_which_its_columns_begin(rt: HostRuntime) -> Re
     let by_b = per_group(rt.alloc(), "b")?;
     let by_c = per_group(rt.alloc(), "c")?;
     for (query, begins) in [(&by_b, true), (&by_c, false)] {
-        let props = Props::collect(rt.alloc(), query)?;
+        let props = props_of(rt.alloc(), query)?;
         let rows = [
             (ask(Dist::Spread, 0), true),
             (ask(Dist::Spread, WANTED), begins),
@@ -259,7 +259,7 @@ fn an_index_gives_each_order_with_which_its_columns_begin(rt: HostRuntime) -> Re
 #[test]
 fn a_stream_aggregation_gives_the_order_of_its_groups_alone(rt: HostRuntime) -> Result<(), Fail> {
     let query = per_group(rt.alloc(), "c")?;
-    let props = Props::collect(rt.alloc(), &query)?;
+    let props = props_of(rt.alloc(), &query)?;
     let rule = Rule::AggToStream;
     assert!(rt;
         aggregation_serving(&query, &props, rule, false, ask(Dist::One, WANTED), 0).is_none()

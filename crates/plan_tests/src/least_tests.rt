@@ -4,12 +4,11 @@ use plan_search::plain_least;
 use plan_space::{Enforcer, NodeKind};
 use plan_tree::{Found, Plan};
 use query_core::{KeyParts, Physical, PhysicalExpr, Query};
-use request_props::Props;
 use std::alloc::Global;
 use std::test::Fail;
 use worked_queries::{
-    cross_product, grouped, hashed_alike, huge_tables, large_and_small, sorted_table, two_tables,
-    without_a_plan,
+    cross_product, grouped, hashed_alike, huge_tables, large_and_small, props_of, sorted_table,
+    two_tables, without_a_plan,
 };
 
 // What the node at the root of a plan does.
@@ -53,7 +52,7 @@ fn join_of(plan: &Plan) -> Option<NodeKind> {
 
 // The cost of the least plan, its root, and how many nodes it has.
 fn least_of(alloc: Global, query: &Query) -> Result<Option<(u64, Option<NodeKind>, u64)>, Fail> {
-    let props = Props::collect(alloc, query)?;
+    let props = props_of(alloc, query)?;
     match plain_least(alloc, query, &props)? {
         Found::Least { plan, cost } => Ok(Some((cost, root_of(&plan), nodes_of(&plan)))),
         Found::NoPlan => Ok(None),
@@ -152,7 +151,7 @@ fn there_is_no_plan_where_no_rule_makes_a_join(rt: HostRuntime) -> Result<(), Fa
 fn of_plans_of_one_cost_the_first_by_code_is_least(rt: HostRuntime) -> Result<(), Fail> {
     let alloc = rt.alloc();
     let query = two_tables(alloc)?;
-    let props = Props::collect(alloc, &query)?;
+    let props = props_of(alloc, &query)?;
     let found = plain_least(alloc, &query, &props)?;
     let hashed_alike = NodeKind::Native(
         PhysicalExpr::new(

@@ -10,7 +10,7 @@ use plan_tree::*;
 use query_core::*;
 use request_props::{Dist, Props, Request};
 use std::test::Fail;
-use worked_queries::compared_tables;
+use worked_queries::{compared_tables, props_of};
 use xform_rules::{Rule, result_at, results_are_candidates};
 
 // The result of the rule at the expression.
@@ -89,7 +89,7 @@ fn enforced(query: &Query, props: &Props, request: Request, n: u32) -> Option<En
 #[test]
 fn a_hash_join_with_one_crossing_equality_has_three_modes(rt: HostRuntime) -> Result<(), Fail> {
     let query = compared_tables(rt.alloc(), CmpOp::Eq, 0)?;
-    let props = Props::collect(rt.alloc(), &query)?;
+    let props = props_of(rt.alloc(), &query)?;
     for rule in [Rule::JoinToHash, Rule::JoinToMerge] {
         let join = join_by(&query, rule);
         assert!(rt; join.is_some());
@@ -115,7 +115,7 @@ fn a_hash_join_with_one_crossing_equality_has_three_modes(rt: HostRuntime) -> Re
 #[test]
 fn a_join_without_an_equality_has_two_modes(rt: HostRuntime) -> Result<(), Fail> {
     let query = compared_tables(rt.alloc(), CmpOp::Lt, 0)?;
-    let props = Props::collect(rt.alloc(), &query)?;
+    let props = props_of(rt.alloc(), &query)?;
     let one = ask(Dist::One, 0);
     let spread = ask(Dist::Spread, 0);
     assert!(rt; join_in(&query, &props, Rule::JoinToLoop, one, 0).is_some());
@@ -128,7 +128,7 @@ fn a_join_without_an_equality_has_two_modes(rt: HostRuntime) -> Result<(), Fail>
 #[test]
 fn alternatives_are_as_by_hand(rt: HostRuntime) -> Result<(), Fail> {
     let query = compared_tables(rt.alloc(), CmpOp::Eq, 0)?;
-    let props = Props::collect(rt.alloc(), &query)?;
+    let props = props_of(rt.alloc(), &query)?;
     let rows = [
         (Rule::JoinToHash, ask(Dist::One, 0), Some(0), None),
         (Rule::JoinToHash, ask(Dist::One, 1), None, None),
@@ -158,7 +158,7 @@ fn alternatives_are_as_by_hand(rt: HostRuntime) -> Result<(), Fail> {
 #[test]
 fn joins_ask_as_by_hand(rt: HostRuntime) -> Result<(), Fail> {
     let query = compared_tables(rt.alloc(), CmpOp::Eq, 0)?;
-    let props = Props::collect(rt.alloc(), &query)?;
+    let props = props_of(rt.alloc(), &query)?;
     assert_eq!(rt;
         join_in(&query, &props, Rule::JoinToMerge, ask(Dist::Spread, 1), 128),
         Some(Alt {
@@ -181,7 +181,7 @@ fn joins_ask_as_by_hand(rt: HostRuntime) -> Result<(), Fail> {
 #[test]
 fn costs_are_those_of_worked_examples(rt: HostRuntime) -> Result<(), Fail> {
     let query = compared_tables(rt.alloc(), CmpOp::Eq, 0)?;
-    let props = Props::collect(rt.alloc(), &query)?;
+    let props = props_of(rt.alloc(), &query)?;
     let spread = ask(Dist::Spread, 0);
     if query.is_key(Key(0)) {
         let table = query.group(Key(0));
@@ -225,7 +225,7 @@ fn costs_are_those_of_worked_examples(rt: HostRuntime) -> Result<(), Fail> {
 #[test]
 fn a_sort_comes_before_a_merge(rt: HostRuntime) -> Result<(), Fail> {
     let query = compared_tables(rt.alloc(), CmpOp::Eq, 0)?;
-    let props = Props::collect(rt.alloc(), &query)?;
+    let props = props_of(rt.alloc(), &query)?;
     let rows = [
         (ask(Dist::One, 1), 0, Some((65, ask(Dist::One, 0)))),
         (ask(Dist::One, 1), 1, Some((129, ask(Dist::Spread, 1)))),

@@ -7,46 +7,46 @@ ghost use Rattle.request_props.specs.Satisfied.{IsOrderKnown};
 use query_core::*;
 use request_props::*;
 use std::test::Fail;
-use worked_queries::two_equalities;
+use worked_queries::{props_of, two_equalities};
 
 fn key(item: u32, desc: bool) -> OrderKey {
     OrderKey { item, desc }
 }
 
-fn list_at(props: &Props, place: usize) -> Option<&[u32]> {
+fn has_list(props: &Props, place: usize, list: &[u32]) -> bool {
     match props.hashed.as_slice().get(place) {
-        Some(list) => Some(list.as_slice()),
-        None => None,
+        Some(hashed) => hashed.as_slice() == list,
+        None => false,
     }
 }
 
-fn order_at(props: &Props, place: usize) -> Option<&[OrderKey]> {
+fn has_order(props: &Props, place: usize, order: &[OrderKey]) -> bool {
     match props.orders.as_slice().get(place) {
-        Some(order) => Some(order.as_slice()),
-        None => None,
+        Some(listed) => listed.as_slice() == order,
+        None => false,
     }
 }
 
 #[test]
 fn lists_are_numbered_by_length_and_then_by_their_elements(rt: HostRuntime) -> Result<(), Fail> {
     let query = two_equalities(rt.alloc())?;
-    let props = Props::collect(rt.alloc(), &query)?;
-    assert!(rt; list_at(&props, 0) == Some([0].as_slice()));
-    assert!(rt; list_at(&props, 1) == Some([2].as_slice()));
-    assert!(rt; list_at(&props, 2) == Some([0, 1].as_slice()));
-    assert!(rt; list_at(&props, 3) == None);
+    let props = props_of(rt.alloc(), &query)?;
+    let lists: [&[u32]; 3] = [&[0], &[2], &[0, 1]];
+    assert_eq!(rt; props.hashed.len(), lists.len());
+    for (place, list) in lists.into_iter().enumerate() {
+        assert!(rt; has_list(&props, place, list), "{place}");
+    }
     Ok(())
 }
 
 #[test]
 fn orders_are_numbered_by_their_elements(rt: HostRuntime) -> Result<(), Fail> {
     let query = two_equalities(rt.alloc())?;
-    let props = Props::collect(rt.alloc(), &query)?;
-    assert!(rt; order_at(&props, 0) == Some([key(0, false)].as_slice()));
-    assert!(rt; order_at(&props, 1) == Some([key(0, true)].as_slice()));
-    assert!(rt; order_at(&props, 2) == Some([key(2, false)].as_slice()));
-    assert!(rt; order_at(&props, 3) == None);
-    assert_eq!(rt; props.root.order, 2);
+    let props = props_of(rt.alloc(), &query)?;
+    assert!(rt; has_order(&props, 0, &[key(0, false)]));
+    assert!(rt; has_order(&props, 1, &[key(0, true)]));
+    assert!(rt; has_order(&props, 2, &[key(2, false)]));
+    assert!(rt; props.orders.len() == 3 && props.root.order == 2);
     Ok(())
 }
 
@@ -57,7 +57,7 @@ fn lent<T: Send + Sync>(value: &T) -> &T {
 #[test]
 fn what_is_collected_can_be_shared(rt: HostRuntime) -> Result<(), Fail> {
     let query = two_equalities(rt.alloc())?;
-    let props = Props::collect(rt.alloc(), &query)?;
+    let props = props_of(rt.alloc(), &query)?;
     assert_eq!(rt; lent(&props).orders.len(), 3);
     Ok(())
 }
@@ -65,29 +65,37 @@ fn what_is_collected_can_be_shared(rt: HostRuntime) -> Result<(), Fail> {
 #[test]
 fn what_a_query_implies_is_looked_up(rt: HostRuntime) -> Result<(), Fail> {
     let query = two_equalities(rt.alloc())?;
-    let props = Props::collect(rt.alloc(), &query)?;
-    assert!(rt; props.is_key(&query, Key(1027)));
-    assert!(rt; !props.is_key(&query, Key(17)));
+    let props = props_of(rt.alloc(), &query)?;
+    for (number, is_key) in [(1027, true), (17, false)] {
+        assert!(rt; props.is_key(&query, Key(number)) == is_key, "{number}");
+    }
     // All pairs of 10 and 100 rows, of which a tenth and then a third is left.
     assert_eq!(rt; props.rows(&query, query.root()), 34);
-    let sides = props.crossing(&query, KeyParts::Get(1), KeyParts::Filter(0), 0);
-    assert_eq!(rt; sides, Some((side(2, 1, 3), side(0, 0, 1))));
-    assert_eq!(rt;
-        props.crossing(&query, KeyParts::Get(1), KeyParts::Filter(0), 1),
-        None
-    );
-    assert_eq!(rt; props.table_dist(&query, 0), GivenDist::Hashed(2));
-    assert_eq!(rt; props.table_dist(&query, 1), GivenDist::Random);
+    for (predicate, sides) in [(0, Some((side(2, 1, 3), side(0, 0, 1)))), (1, None)] {
+        let crossing = props.crossing(&query, KeyParts::Get(1), KeyParts::Filter(0), predicate);
+        assert!(rt; crossing == sides, "{predicate}");
+    }
+    for (table, dist) in [(0, GivenDist::Hashed(2)), (1, GivenDist::Random)] {
+        assert!(rt; props.table_dist(&query, table) == dist, "{table}");
+    }
     assert!(rt; !props.is_grouped_list(&query, 0));
+    assert!(rt; props.group_order(&query) == 0);
+    Ok(())
+}
+
+#[test]
+fn requests_fit_groups(rt: HostRuntime) -> Result<(), Fail> {
+    let query = two_equalities(rt.alloc())?;
+    let props = props_of(rt.alloc(), &query)?;
     let wanted = Request {
         dist: Dist::Hashed(1),
         order: 3,
     };
-    assert!(rt; props.fits(&query, KeyParts::Join(3), wanted));
-    assert!(rt; !props.fits(&query, KeyParts::Get(0), wanted));
+    for (group, fits) in [(KeyParts::Join(3), true), (KeyParts::Get(0), false)] {
+        assert!(rt; props.fits(&query, group, wanted) == fits);
+    }
     assert!(rt; props.hash_fits(&query, KeyParts::Filter(0), 2));
     assert!(rt; !props.order_fits(&query, KeyParts::Agg, 3));
-    assert_eq!(rt; props.group_order(&query), 0);
     Ok(())
 }
 
@@ -122,102 +130,90 @@ fn answer(query: &Query, props: &Props, given: Given, request: Request) -> Optio
     }
 }
 
+// Where rows lie, in which order, what is asked for, and whether it is met.
+const ROWS: [(GivenDist, GivenOrder, Dist, u32, bool); 12] = [
+    (GivenDist::One, GivenOrder::Listed(2), Dist::One, 2, true),
+    (GivenDist::One, GivenOrder::Listed(2), Dist::One, 0, true),
+    (GivenDist::One, GivenOrder::Listed(0), Dist::One, 2, false),
+    (GivenDist::One, GivenOrder::Index(0, 0), Dist::One, 1, true),
+    (GivenDist::One, GivenOrder::Index(0, 0), Dist::One, 2, false),
+    (
+        GivenDist::Copies,
+        GivenOrder::Listed(0),
+        Dist::One,
+        0,
+        false,
+    ),
+    (
+        GivenDist::Copies,
+        GivenOrder::Listed(0),
+        Dist::Copies,
+        0,
+        true,
+    ),
+    (
+        GivenDist::Random,
+        GivenOrder::Listed(0),
+        Dist::Spread,
+        0,
+        true,
+    ),
+    (
+        GivenDist::Random,
+        GivenOrder::Listed(0),
+        Dist::Hashed(0),
+        0,
+        false,
+    ),
+    (
+        GivenDist::Hashed(2),
+        GivenOrder::Listed(0),
+        Dist::Spread,
+        0,
+        true,
+    ),
+    (
+        GivenDist::Hashed(2),
+        GivenOrder::Listed(0),
+        Dist::Hashed(2),
+        0,
+        true,
+    ),
+    (
+        GivenDist::Hashed(1),
+        GivenOrder::Listed(0),
+        Dist::Hashed(0),
+        0,
+        false,
+    ),
+];
+
 #[test]
 fn requests_are_met_as_by_hand(rt: HostRuntime) -> Result<(), Fail> {
     let query = two_equalities(rt.alloc())?;
-    let props = Props::collect(rt.alloc(), &query)?;
-    let rows = [
-        (GivenDist::One, GivenOrder::Listed(2), Dist::One, 2, true),
-        (GivenDist::One, GivenOrder::Listed(2), Dist::One, 0, true),
-        (GivenDist::One, GivenOrder::Listed(0), Dist::One, 2, false),
-        (GivenDist::One, GivenOrder::Index(0, 0), Dist::One, 1, true),
-        (GivenDist::One, GivenOrder::Index(0, 0), Dist::One, 2, false),
-        (
-            GivenDist::Copies,
-            GivenOrder::Listed(0),
-            Dist::One,
-            0,
-            false,
-        ),
-        (
-            GivenDist::Copies,
-            GivenOrder::Listed(0),
-            Dist::Copies,
-            0,
-            true,
-        ),
-        (
-            GivenDist::Random,
-            GivenOrder::Listed(0),
-            Dist::Spread,
-            0,
-            true,
-        ),
-        (
-            GivenDist::Random,
-            GivenOrder::Listed(0),
-            Dist::Hashed(0),
-            0,
-            false,
-        ),
-        (
-            GivenDist::Hashed(2),
-            GivenOrder::Listed(0),
-            Dist::Spread,
-            0,
-            true,
-        ),
-        (
-            GivenDist::Hashed(2),
-            GivenOrder::Listed(0),
-            Dist::Hashed(2),
-            0,
-            true,
-        ),
-        (
-            GivenDist::Hashed(1),
-            GivenOrder::Listed(0),
-            Dist::Hashed(0),
-            0,
-            false,
-        ),
-    ];
-    for (given, listed, dist, order, met) in rows {
+    let props = props_of(rt.alloc(), &query)?;
+    for (given_dist, given_order, dist, order, met) in ROWS {
         let given = Given {
-            dist: given,
-            order: listed,
+            dist: given_dist,
+            order: given_order,
         };
-        assert_eq!(rt;
-            answer(&query, &props, given, Request { dist, order }),
-            Some(met)
-        );
+        let request = Request { dist, order };
+        assert_eq!(rt; answer(&query, &props, given, request), Some(met));
     }
     Ok(())
 }
 
 #[test]
 fn requests_have_codes(rt: HostRuntime) {
-    assert_eq!(rt;
-        code(Request {
-            dist: Dist::Hashed(3),
-            order: 2
-        }),
-        386
-    );
-    assert_eq!(rt;
-        request_of(386),
-        Some(Request {
-            dist: Dist::Hashed(3),
-            order: 2
-        })
-    );
-    assert_eq!(rt;
-        request_of(4028),
-        Some(Request {
-            dist: Dist::Hashed(59),
-            order: 60
-        })
-    );
-    assert_eq!(rt; request_of(61), None);
-    assert_eq!(rt; request_of(4032), None);
+    for (number, list, order) in [(386, 3, 2), (4028, 59, 60)] {
+        let request = Request {
+            dist: Dist::Hashed(list),
+            order,
+        };
+        assert_eq!(rt; code(request), number);
+        assert_eq!(rt; request_of(number), Some(request), "{number}");
+    }
+    for number in [61, 4032] {
+        assert!(rt; request_of(number).is_none(), "{number}");
+    }
 }

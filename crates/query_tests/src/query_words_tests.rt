@@ -39,17 +39,17 @@ fn two_tables_have_their_groups(rt: HostRuntime) -> Result<(), Fail> {
 fn a_true_link_joins_what_no_predicate_does(rt: HostRuntime) -> Result<(), Fail> {
     let query = one_linked_pair(rt.alloc())?;
     assert_eq!(rt; query.links.len(), 2);
-    assert!(rt; query.linked(1, 2));
-    assert!(rt; query.linked(2, 4));
-    assert!(rt; !query.linked(1, 4));
-    assert!(rt; query.connected(0));
-    assert!(rt; query.connected(7));
-    assert!(rt; !query.connected(5));
-    assert!(rt; query.is_key(Key(17)));
+    for (one, other, linked) in [(1, 2, true), (2, 4, true), (1, 4, false)] {
+        assert!(rt; query.linked(one, other) == linked, "{one} {other}");
+    }
+    for (tables, connected) in [(0, true), (7, true), (5, false)] {
+        assert!(rt; query.connected(tables) == connected, "{tables}");
+    }
     assert!(rt; !query.is_key(Key(18)));
-    assert!(rt; query.has_item(Key(17), 1));
-    assert!(rt; !query.has_item(Key(17), 2));
-    assert!(rt; !query.has_item(Key(17), 3));
+    assert!(rt; query.is_key(Key(17)));
+    for (item, has) in [(1, true), (2, false), (3, false)] {
+        assert!(rt; query.has_item(Key(17), item) == has, "{item}");
+    }
     Ok(())
 }
 
@@ -58,12 +58,12 @@ fn an_expression_is_one_word(rt: HostRuntime) -> Result<(), Fail> {
     let operator = Physical::HashJoin(KeyParts::Get(0), KeyParts::Get(1));
     let parts = ExprParts::physical(KeyParts::Join(3), operator);
     let word = Expr(70_594_229_968_898);
-    assert_eq!(rt; Expr::make(parts), word);
-    assert_eq!(rt; word.parts(), Some(parts));
-    assert_eq!(rt; word.key(), Key(1027));
+    assert!(rt; Expr::make(parts) == word);
+    assert!(rt; word.parts() == Some(parts));
+    assert!(rt; word.key() == Key(1027));
     assert!(rt; !word.logical());
-    assert_eq!(rt; word.children(), (Some(Key(0)), Some(Key(1))));
-    assert_eq!(rt; Expr(3).parts(), None);
+    assert!(rt; word.children() == (Some(Key(0)), Some(Key(1))));
+    assert!(rt; Expr(3).parts().is_none());
     Ok(())
 }
 
@@ -131,30 +131,32 @@ fn candidates_are_told_by_their_words(rt: HostRuntime) -> Result<(), Fail> {
 #[test]
 fn equalities_cross_groups_both_ways(rt: HostRuntime) -> Result<(), Fail> {
     let query = compared_tables(rt.alloc(), CmpOp::Eq, 0)?;
-    assert!(rt; query.is_key(Key(0)));
-    assert!(rt; query.is_key(Key(1)));
-    assert_eq!(rt; query.crossing(Key(0), Key(1), 0), Some((0, 1)));
-    assert_eq!(rt; query.crossing(Key(1), Key(0), 0), Some((1, 0)));
-    assert_eq!(rt; query.crossing(Key(0), Key(0), 0), None);
+    let tables = [(0, 1, Some((0, 1))), (1, 0, Some((1, 0))), (0, 0, None)];
+    for (left, right, sides) in tables {
+        let (left, right) = (Key(left), Key(right));
+        assert!(rt; query.is_key(left) && query.is_key(right));
+        assert_eq!(rt; query.crossing(left, right, 0), sides);
+    }
     let query = one_linked_pair(rt.alloc())?;
     let (filtered, last) = (KeyParts::Filter(1), KeyParts::Get(2));
-    assert_eq!(rt; query.crossing_groups(filtered, last, 0), None);
-    assert_eq!(rt; query.crossing_groups(filtered, last, 1), Some((1, 2)));
-    assert_eq!(rt; query.crossing_groups(filtered, last, 2), None);
+    for (predicate, sides) in [(0, None), (1, Some((1, 2))), (2, None)] {
+        assert_eq!(rt; query.crossing_groups(filtered, last, predicate), sides);
+    }
     Ok(())
 }
 
 // The kind from bit 60 on, the subject from bit 12 on, then the rule's number or the request's code.
 #[test]
 fn goals_are_told_by_their_words(rt: HostRuntime) -> Result<(), Fail> {
-    let root = GoalParts::Opt(Key(1027), 1);
-    assert_eq!(rt; Goal::make(root), Goal(14987979559893217281));
-    assert_eq!(rt; Goal(14987979559893217281).parts(), Some(root));
-    let commute = GoalParts::Xf(Expr(0x403400002002), 2);
-    assert_eq!(rt; Goal::make(commute), Goal(0xa403400002002002));
-    assert_eq!(rt; Goal(0xa403400002002002).parts(), Some(commute));
+    for (parts, word) in [
+        (GoalParts::Opt(Key(1027), 1), 0xd000000000403001),
+        (GoalParts::Xf(Expr(0x403400002002), 2), 0xa403400002002002),
+    ] {
+        assert!(rt; Goal::make(parts) == Goal(word), "{word}");
+        assert!(rt; Goal(word).parts() == Some(parts), "{word}");
+    }
     let no_request = GoalParts::Opt(Key(1027), 61);
-    assert_eq!(rt; Goal(0xd00000000040303d).parts(), Some(no_request));
+    assert!(rt; Goal(0xd00000000040303d).parts() == Some(no_request));
     // A rule 15 and a rule 0, a kind 7, a subject that is no key, a detail where none belongs, and no goal's first bit.
     for word in [
         0xa40340000200200f,

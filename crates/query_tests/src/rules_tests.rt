@@ -5,6 +5,14 @@ use std::test::Fail;
 use worked_queries::{compared_tables, three_indexes};
 use xform_rules::nth_result;
 
+// The joins of the first table and the second: a word has the key from bit 36 on, the operator from bit 31, the index
+// from bit 26, and the children.
+const HASH_JOIN: u64 = 0x403480002002;
+
+const MERGE_JOIN: u64 = 0x403500002002;
+
+const LOOP_JOIN: u64 = 0x403580002002;
+
 // The result of a rule at the expression with which the group of this key begins.
 fn first_step(query: &Query, key: u32, rule: u32, n: u32) -> Option<u64> {
     if !query.is_key(Key(key)) {
@@ -25,51 +33,50 @@ fn second_step(query: &Query, rule: u32) -> Option<u64> {
 #[test]
 fn a_join_of_two_tables_is_implemented_in_three_ways(rt: HostRuntime) -> Result<(), Fail> {
     let query = compared_tables(rt.alloc(), CmpOp::Eq, 0)?;
-    let hash = 70_594_229_968_898;
-    assert_eq!(rt; second_step(&query, 9), Some(hash));
-    assert_eq!(rt; second_step(&query, 10), Some(hash + (1 << 31)));
-    assert_eq!(rt; second_step(&query, 11), Some(hash + (2 << 31)));
-    assert_eq!(rt;
-        second_step(&query, 2),
-        Some(hash - (1 << 31) + (1 << 13) - 1)
-    );
-    assert_eq!(rt; second_step(&query, 12), None);
-    assert_eq!(rt; first_step(&query, 1027, 9, 0), None);
-    assert_eq!(rt; first_step(&query, 1027, 1, 1), None);
+    for (rule, result) in [
+        (9, Some(HASH_JOIN)),
+        (10, Some(MERGE_JOIN)),
+        (11, Some(LOOP_JOIN)),
+        (2, Some(0x403400004001)),
+        (12, None),
+    ] {
+        assert_eq!(rt; second_step(&query, rule), result, "{rule}");
+    }
+    for (rule, n) in [(9, 0), (1, 1)] {
+        assert_eq!(rt; first_step(&query, 1027, rule, n), None, "{rule}");
+    }
     Ok(())
 }
 
 #[test]
 fn without_an_equality_a_join_is_by_loops(rt: HostRuntime) -> Result<(), Fail> {
     let query = compared_tables(rt.alloc(), CmpOp::Lt, 0)?;
-    assert_eq!(rt; second_step(&query, 9), None);
-    assert_eq!(rt; second_step(&query, 10), None);
-    assert_eq!(rt;
-        second_step(&query, 11),
-        Some(70_594_229_968_898 + (2 << 31))
-    );
+    for (rule, result) in [(9, None), (10, None), (11, Some(LOOP_JOIN))] {
+        assert_eq!(rt; second_step(&query, rule), result, "{rule}");
+    }
     Ok(())
 }
 
 #[test]
 fn a_rule_that_is_off_has_no_result(rt: HostRuntime) -> Result<(), Fail> {
     let query = compared_tables(rt.alloc(), CmpOp::Eq, 1 << 9)?;
-    assert_eq!(rt; second_step(&query, 9), None);
-    assert_eq!(rt;
-        second_step(&query, 10),
-        Some(70_594_229_968_898 + (1 << 31))
-    );
+    for (rule, result) in [(9, None), (10, Some(MERGE_JOIN))] {
+        assert_eq!(rt; second_step(&query, rule), result, "{rule}");
+    }
     Ok(())
 }
 
 #[test]
 fn an_index_is_sought_where_its_first_column_is_compared(rt: HostRuntime) -> Result<(), Fail> {
     let query = three_indexes(rt.alloc())?;
-    let seek = (16 << 36) + (6 << 31);
-    assert_eq!(rt; first_step(&query, 16, 8, 0), Some(seek + (1 << 26)));
-    assert_eq!(rt; first_step(&query, 16, 8, 1), Some(seek + (2 << 26)));
-    assert_eq!(rt; first_step(&query, 16, 8, 2), None);
-    assert_eq!(rt; first_step(&query, 0, 6, 2), Some((3 << 31) + (2 << 26)));
-    assert_eq!(rt; first_step(&query, 0, 6, 3), None);
+    for (key, rule, n, result) in [
+        (16, 8, 0, Some(0x10304000000)),
+        (16, 8, 1, Some(0x10308000000)),
+        (16, 8, 2, None),
+        (0, 6, 2, Some(0x188000000)),
+        (0, 6, 3, None),
+    ] {
+        assert_eq!(rt; first_step(&query, key, rule, n), result, "{rule} {n}");
+    }
     Ok(())
 }

@@ -7,10 +7,9 @@ use plan_report::plan_text;
 use plan_space::{Enforcer, NodeKind};
 use plan_tree::{Found, Node, Plan};
 use query_core::{KeyParts, Physical, PhysicalExpr, Query};
-use request_props::Props;
 use std::alloc::{AllocError, Global};
 use std::test::Fail;
-use worked_queries::{totals, two_tables_descending};
+use worked_queries::{props_of, totals, two_tables_descending};
 
 fn native(group: KeyParts, operator: Physical, mode: u32) -> Node
     requires { NativeInRange (record { group = group; operator = operator }) mode }
@@ -76,15 +75,11 @@ fn two_table_plan(alloc: Global) -> Result<Plan, AllocError> {
     Ok(Plan::Over(enforcer(Enforcer::GatherMerge(2)), Box::new(alloc, sorted)?))
 }
 
-// Whether the text of what was found begins so; not where the query's lists are too many.
-fn begins(alloc: Global, query: &Query, found: &Found, wanted: &str) -> Result<bool, AllocError> {
-    match Props::collect(alloc, query) {
-        Ok(props) => {
-            let text = plan_text(alloc, query, &props, found)?;
-            Ok(text.starts_with(wanted.as_bytes()))
-        }
-        Err(_) => Ok(false),
-    }
+// Whether the text of what was found begins so.
+fn begins(alloc: Global, query: &Query, found: &Found, wanted: &str) -> Result<bool, Fail> {
+    let props = props_of(alloc, query)?;
+    let text = plan_text(alloc, query, &props, found)?;
+    Ok(text.starts_with(wanted.as_bytes()))
 }
 
 // Whether the text of a plan of this node alone has such a line behind the two first ones.
@@ -94,7 +89,7 @@ fn is_line_of(
     node: Node,
     head: &str,
     line: &str,
-) -> Result<bool, AllocError> {
+) -> Result<bool, Fail> {
     let found = Found::Least {
         plan: Plan::Leaf(node),
         cost: 1,
@@ -111,18 +106,14 @@ fn a_plan_is_printed_a_node_a_line(rt: HostRuntime) -> Result<(), Fail> {
         plan: two_table_plan(alloc)?,
         cost: 7506,
     };
-    match Props::collect(alloc, &query) {
-        Ok(props) => {
-            let text = plan_text(alloc, &query, &props, &found)?;
-            let expected =
-                "cost 7506\noutput T1.a, T2.b AS c\nGatherMerge(T1.a DESC) rows=1000 cost=3001\n  \
-                Sort(T1.a DESC) rows=1000 cost=2001\n    HashJoin(colocated p0) rows=1000 cost=1001\n      \
-                Scan(T1) rows=1000 cost=251\n      Redistribute(T2.b) rows=1000 cost=1001\n        \
-                Scan(T2) rows=1000 cost=251\n";
-            assert_eq!(rt; text.as_slice(), expected.as_bytes());
-        }
-        Err(_) => assert!(rt; false),
-    }
+    let props = props_of(alloc, &query)?;
+    let text = plan_text(alloc, &query, &props, &found)?;
+    let expected =
+        "cost 7506\noutput T1.a, T2.b AS c\nGatherMerge(T1.a DESC) rows=1000 cost=3001\n  \
+        Sort(T1.a DESC) rows=1000 cost=2001\n    HashJoin(colocated p0) rows=1000 cost=1001\n      \
+        Scan(T1) rows=1000 cost=251\n      Redistribute(T2.b) rows=1000 cost=1001\n        \
+        Scan(T2) rows=1000 cost=251\n";
+    assert_eq!(rt; text.as_slice(), expected.as_bytes());
     Ok(())
 }
 
@@ -150,13 +141,9 @@ fn a_node_is_printed_with_its_mode(rt: HostRuntime) -> Result<(), Fail> {
 fn no_plan_is_one_line(rt: HostRuntime) -> Result<(), Fail> {
     let alloc = rt.alloc();
     let query = two_tables_descending(alloc)?;
-    match Props::collect(alloc, &query) {
-        Ok(props) => {
-            let text = plan_text(alloc, &query, &props, &Found::NoPlan)?;
-            assert_eq!(rt; text.as_slice(), "no plan\n".as_bytes());
-        }
-        Err(_) => assert!(rt; false),
-    }
+    let props = props_of(alloc, &query)?;
+    let text = plan_text(alloc, &query, &props, &Found::NoPlan)?;
+    assert_eq!(rt; text.as_slice(), "no plan\n".as_bytes());
     Ok(())
 }
 
