@@ -18,6 +18,7 @@ use Rattle.plan_space.specs.Choices.{groups_of}
 use Rattle.plan_space.specs.Lines.{line_of}
 use Rattle.plan_space.specs.declared.lines.Line.{Line}
 use Rattle.plan_space.specs.Laws.{AsksWhatFits}
+use Rattle.plan_tree.specs.ServingModes.{NoneServes}
 use Rattle.plan_tree.specs.Alternatives.{AreAsked, Asks, HasAlternative, IsAltBy}
 use Rattle.plan_tree.specs.declared.alternatives.Alt.{Alt}
 use Rattle.goal_space.specs.Children.{IsAsked}
@@ -169,7 +170,7 @@ module _ (q : Query) (e : PhysicalExpr) (wanted : Request) (bound : ℕ) where
 
   -- ---- goals of the modes up to the next one that has a line
 
-  module _ (from mode : ℕ) (order : from ≤ mode) (none : (m : ℕ) → from ≤ m → m < mode → line_of q e m ≡ None) where
+  module _ (from mode : ℕ) (order : from ≤ mode) (none : NoneServes q e wanted from mode) where
     pub mode_there : (k : GoalKind) → IsOfModesBelow q e wanted from k ⊎ IsOfMode q e wanted mode k → IsOfModesBelow q e wanted (mode + 1) k
     mode_there k (inl (m, less, of_mode)) = (m, omega (arith, less, order), of_mode)
     mode_there k (inr of_mode) = (mode, omega arith, of_mode)
@@ -178,10 +179,7 @@ module _ (q : Query) (e : PhysicalExpr) (wanted : Request) (bound : ℕ) where
     mode_cases k (m, less, (line, alternative, wishes)) = elim (cases_lt m from) [
       | inl earlier ↦ inl (m, earlier, (line, alternative, wishes))
       | inr not_earlier ↦ elim (cases_lt m mode) [
-        | inl skipped ↦
-            let nothing : line_of q e m ≡ None = none m not_earlier skipped in
-            let something : line_of q e m ≡ Some line = alternative.is_line in
-            absurd (cc)
+        | inl skipped ↦ absurd (none m not_earlier skipped (line, alternative))
         | inr not_skipped ↦
             let same : m ≡ mode = omega (arith, less, not_skipped) in
             inr (subst (λ j. IsOfMode q e wanted j k) same (line, alternative, wishes))
@@ -195,26 +193,16 @@ module _ (q : Query) (e : PhysicalExpr) (wanted : Request) (bound : ℕ) where
         finds_as (λ k. IsOfModesBelow q e wanted from k ⊎ IsOfMode q e wanted mode k) (IsOfModesBelow q e wanted (mode + 1)) bound found mode_there mode_cases
         (sooner_is (IsOfModesBelow q e wanted from) (IsOfMode q e wanted mode) bound before this found is first second)
 
-  -- ---- where no line is left, these are the goals of all modes
+  -- ---- where all modes that are there for the request are below the number, these are the goals of all modes
 
   pub mode_asks : (from : ℕ) (k : GoalKind) → IsOfModesBelow q e wanted from k → IsOfAlternatives q e wanted k
   mode_asks from k (m, less, (line, alternative, (group, below, asked, is))) =
       (group, below, record { mode = m; line = line; is_alternative = alternative; is_asked = asked }, is)
 
-  pub asks_mode : (from : ℕ) → ((m : ℕ) → from ≤ m → line_of q e m ≡ None) → (k : GoalKind) → IsOfAlternatives q e wanted k → IsOfModesBelow q e wanted from k
-  asks_mode from none k (group, below, asks, is) = elim (cases_lt asks.mode from) [
-    | inl earlier ↦ (asks.mode, earlier, (asks.line, asks.is_alternative, (group, below, asks.is_asked, is)))
-    | inr later ↦
-        let nothing : line_of q e asks.mode ≡ None = none asks.mode later in
-        let something : line_of q e asks.mode ≡ Some asks.line = asks.is_alternative.is_line in
-        absurd (cc)
-  ]
-
-  -- the same where all modes that are there for the request are below the number
   pub asks_among : (from : ℕ) → ((m : ℕ) → HasAlternative q e wanted m → m < from) → (k : GoalKind) → IsOfAlternatives q e wanted k → IsOfModesBelow q e wanted from k
   asks_among from below k (group, wish, asks, is) =
       (asks.mode, below asks.mode (asks.line, asks.is_alternative), (asks.line, asks.is_alternative, (group, wish, asks.is_asked, is)))
 
-  pub all_modes : (from : ℕ) (found : Option GoalKind) → ((m : ℕ) → from ≤ m → line_of q e m ≡ None) → FindsFrom (IsOfModesBelow q e wanted from) bound found
+  pub all_modes : (from : ℕ) (found : Option GoalKind) → ((m : ℕ) → HasAlternative q e wanted m → m < from) → FindsFrom (IsOfModesBelow q e wanted from) bound found
       → FindsFrom (IsOfAlternatives q e wanted) bound found
-  all_modes from found none finds = finds_as (IsOfModesBelow q e wanted from) (IsOfAlternatives q e wanted) bound found (mode_asks from) (asks_mode from none) finds
+  all_modes from found below finds = finds_as (IsOfModesBelow q e wanted from) (IsOfAlternatives q e wanted) bound found (mode_asks from) (asks_among from below) finds

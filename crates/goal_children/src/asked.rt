@@ -18,7 +18,7 @@ use crate::choice::{asked_of, enforced_by};
 use crate::words::insert_goal;
 use goal_space::GoalKind;
 use plan_space::{Line, what_is_asked_fits};
-use plan_tree::{Alt, alternative_by, modes_for, next_among, tried_modes};
+use plan_tree::{Alt, alternative_by, modes_to_try, next_serving};
 use query_core::{Children, KeyParts, PhysicalExpr, Query, candidates_are_known, groups_are_known};
 use request_props::{Props, Request};
 use std::alloc::AllocError;
@@ -38,10 +38,9 @@ pub fn insert_asked(
     ensures ok { OnOk result
         (Inserts (IsOfAlternatives query.now e wanted) goals.old.items goals.new.items) }
 {
-    let tried = tried_modes(query, props, e.operator);
-    let serving = modes_for(query, props, e, wanted);
-    let mut from = serving.from;
-    'modes: while let Some((mode, line)) = next_among(query, props, e, tried, serving, from) {
+    let modes = modes_to_try(query, props, e, wanted);
+    let mut from = 0;
+    'modes: while let Some((mode, line)) = next_serving(query, props, e, wanted, modes, from) {
         insert_in_mode(query, props, e, wanted, mode, line, goals)?;
         from = mode + 1;
     }

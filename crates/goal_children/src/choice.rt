@@ -16,8 +16,8 @@ ghost use Rattle.goal_children.specs.Finding.{FindsFrom};
 
 use crate::finding::{goal_from, sooner};
 use goal_space::GoalKind;
-use plan_space::{Line, modes_are_few, what_is_asked_fits};
-use plan_tree::{Alt, Enforced, alternative_by, enforcer, next_line};
+use plan_space::{Line, what_is_asked_fits};
+use plan_tree::{Alt, Enforced, alternative_by, enforcer, modes_to_try, next_serving};
 use query_core::{
     Children, Key, KeyParts, PhysicalExpr, Query, candidates_are_known, groups_are_known,
 };
@@ -92,21 +92,16 @@ pub fn asked_goal_from(
     requires numbered { IsNumberedRequest query.now wanted }
     ensures { FindsFrom (IsOfAlternatives query.now e wanted) bound result }
 {
-    // For the proof: modes are below 192.
-    modes_are_few();
+    let tried = modes_to_try(query, props, e, wanted);
     let (mut next, mut from) = (None, 0);
-    'modes: loop {
-        match next_line(query, props, e, from) {
-            Some((mode, line)) => {
-                next = sooner(
-                    next,
-                    goal_in_mode(query, props, e, wanted, mode, line, bound),
-                );
-                from = mode + 1;
-            }
-            None => return next,
-        }
+    'modes: while let Some((mode, line)) = next_serving(query, props, e, wanted, tried, from) {
+        next = sooner(
+            next,
+            goal_in_mode(query, props, e, wanted, mode, line, bound),
+        );
+        from = mode + 1;
     }
+    next
 }
 
 // The first goal of a group for what the expression asks of it in one mode.

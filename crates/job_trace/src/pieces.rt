@@ -52,6 +52,9 @@ impl Model for Pieces {
 // The most places that a table has.
 const MOST_PLACES: usize = 65_536;
 
+// About as many orders as a query has: more are told apart less well.
+const ORDERS: u32 = 16;
+
 impl Pieces {
     /// No piece has a text yet. There are places enough for the lines of so many goals.
     pub fn new(alloc: Global, goals: usize) -> Result<Pieces, AllocError>
@@ -196,17 +199,32 @@ fn push_piece(
     }
 }
 
-// The place of a piece among so many. Another may have the same, but seldom one that is printed beside it.
+// The place of a piece among so many. Pieces of one group stand side by side, since their lines do. Another piece may
+// have the same place, but seldom one that is printed beside it.
 fn place_of(piece: Piece, places: usize) -> usize {
     let spread = u64::from(mixed(number_of(piece), 0));
-    (spread.wrapping_mul(places as u64) >> 32) as usize
+    let first = (spread.wrapping_mul(places as u64) >> 32) as usize;
+    let place = first.wrapping_add(place_in_group(piece) as usize);
+    match place.checked_sub(places) {
+        Some(rest) => rest,
+        None => place,
+    }
 }
 
-// A number that few pieces share.
+// A number that few have but the pieces of one group.
 fn number_of(piece: Piece) -> u32 {
     match piece {
-        Piece::Child(group, wanted) => mixed(number_of_group(group), number_of_request(wanted)),
+        Piece::Child(group, _) => number_of_group(group),
         Piece::Member(e) => mixed(number_of_group(e.group), number_of_operator(e.operator)),
+        Piece::Wanted(_) => 5,
+    }
+}
+
+// A number that few of these have.
+fn place_in_group(piece: Piece) -> u32 {
+    match piece {
+        Piece::Child(_, wanted) => number_of_request(wanted),
+        Piece::Member(_) => 0,
         Piece::Wanted(wanted) => number_of_request(wanted),
     }
 }
@@ -242,12 +260,13 @@ fn number_of_operator(operator: Physical) -> u32 {
     }
 }
 
+// Requests for one distribution have numbers side by side.
 fn number_of_request(wanted: Request) -> u32 {
-    let dist = match wanted.dist {
+    let dist: u32 = match wanted.dist {
         Dist::One => 0,
         Dist::Spread => 1,
         Dist::Copies => 2,
-        Dist::Hashed(list) => mixed(3, list),
+        Dist::Hashed(list) => list.wrapping_add(3),
     };
-    mixed(dist, wanted.order)
+    dist.wrapping_mul(ORDERS).wrapping_add(wanted.order)
 }

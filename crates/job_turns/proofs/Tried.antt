@@ -18,7 +18,7 @@ use Rattle.plan_space.specs.declared.lines.Line.{Line}
 use Rattle.plan_space.specs.declared.nodes.NodeKind.{NodeKind}
 use Rattle.plan_space.specs.declared.nodes.NodeKind.TheVariants as nodes
 use Rattle.plan_tree.specs.Alternatives.{Asks, AreAsked, IsAltBy, HasAlternative}
-use Rattle.plan_tree.specs.Walks.{AreNone}
+use Rattle.plan_tree.specs.ServingModes.{NoneServes}
 use Rattle.plan_tree.specs.declared.alternatives.Alt.{Alt}
 use Rattle.best_answers.specs.Nodes.{Nodes, no_nodes, one_node, modes_of, both_of, all_nodes, IsIn, IsModeOf}
 use Rattle.best_answers.specs.Answers.{lesser}
@@ -138,29 +138,28 @@ module _ (q : Query) (e : PhysicalExpr) (wanted : Request) where
     pub has : (mode : ℕ) (line : Line) → mode < from → IsAlternative q e wanted mode line → IsIn set (nodes.Native e mode)
     pub is_best : IsBest q e.group wanted set best
 
-  module _ (start : ℕ) (none : (mode : ℕ) → mode < start → HasAlternative q e wanted mode → ⊥) where
-    -- no mode below the first that may serve is there for the request
-    pub goal_below_none : (child : GoalKind) → IsGoalBelow start child → ⊥
-    goal_below_none child (mode, below, of) = none mode below (of.line, of.is_alternative)
+  -- no mode is below the first
+  pub goal_below_none : (child : GoalKind) → IsGoalBelow 0 child → ⊥
+  goal_below_none child (mode, below, of) = omega (arith, below)
 
-    pub best_below_none : NoneIsBest q → IsBestBelow start None
-    best_below_none none_best = record {
-      set = no_nodes;
-      within = λ node at. absurd at;
-      has = λ mode line below alternative. absurd (none mode below (line, alternative));
-      is_best = none_best e.group wanted;
-    }
+  pub best_below_none : NoneIsBest q → IsBestBelow 0 None
+  best_below_none none_best = record {
+    set = no_nodes;
+    within = λ node at. absurd at;
+    has = λ mode line below alternative. absurd (omega (arith, below));
+    is_best = none_best e.group wanted;
+  }
 
   -- a mode with an alternative is one of those before, or the next one
-  before_or_next : (from mode : ℕ) → AreNone q e from mode → (other : ℕ) (line : Line) → other < mode + 1 → IsAlternative q e wanted other line → (other < from) ⊎ (other ≡ mode)
+  before_or_next : (from mode : ℕ) → NoneServes q e wanted from mode → (other : ℕ) (line : Line) → other < mode + 1 → IsAlternative q e wanted other line → (other < from) ⊎ (other ≡ mode)
   before_or_next from mode none other line below alternative =
       ⊎_elim (λ (less : other < from). inl less)
       (λ (most : from ≤ other). ⊎_elim
-      (λ (less : other < mode). let no_line = none other most less in let never : None ≡ Some line = sym no_line ∙ alternative.is_line in let bad : ⊥ = cc in absurd bad)
+      (λ (less : other < mode). absurd (none other most less (line, alternative)))
       (λ (more : mode ≤ other). inr (omega arith)) (cases_lt other mode))
       (cases_lt other from)
 
-  module _ (from mode : ℕ) (none : AreNone q e from mode) where
+  module _ (from mode : ℕ) (none : NoneServes q e wanted from mode) where
     -- one mode more
     pub goal_below_more : (child : GoalKind) → IsGoalBelow (mode + 1) child → IsGoalBelow from child ⊎ IsGoalIn q e wanted mode child
     goal_below_more child (other, below, of) =

@@ -25,7 +25,7 @@ use goal_board::{Board, Hints, Seat};
 use goal_rules::Rules;
 use goal_space::{GoalKind, goals_are_known};
 use plan_space::Line;
-use plan_tree::{Alt, ExprRows, alternative_by, expr_rows, modes_for, next_among, tried_modes};
+use plan_tree::{Alt, ExprRows, alternative_by, expr_rows, modes_to_try, next_serving};
 use query_core::{Key, PhysicalExpr, Query, groups_are_known};
 use request_props::{Props, Request};
 use xform_rules::members_are_candidates;
@@ -102,10 +102,9 @@ fn best_mode<'q, H: Hints>(
     answers_are_best();
     let rows = expr_rows(query, props, expr);
     let mut choice = Choice::Known(None);
-    let tried = tried_modes(query, props, expr.operator);
-    let serving = modes_for(query, props, expr, wanted);
-    let mut from = serving.from;
-    'modes: while let Some((mode, line)) = next_among(query, props, expr, tried, serving, from) {
+    let modes = modes_to_try(query, props, expr, wanted);
+    let mut from = 0;
+    'modes: while let Some((mode, line)) = next_serving(query, props, expr, wanted, modes, from) {
         let native = Native {
             expr,
             wanted,

@@ -14,6 +14,8 @@ use Rattle.plan_space.specs.declared.lines.Line.{Line}
 use Rattle.plan_space.specs.declared.modes.Mode.{Mode}
 use Rattle.plan_space.specs.declared.modes.Mode.TheVariants.{One, Copied, Hashed}
 use Rattle.plan_space.specs.declared.modes.ModeCounts.{ModeCounts}
+use Rattle.request_props.specs.declared.request.Request.{Request}
+use Rattle.plan_tree.specs.Alternatives.{HasAlternative}
 use Rattle.plan_tree.specs.Walks.{AdmitsMode, AreAny, AreNone, AreTriedOf, counts_of}
 use Rattle.plan_tree.specs.declared.walks.TriedModes.{TriedModes}
 use Rattle.plan_tree.proofs.Counted.{line_counted}
@@ -44,6 +46,11 @@ module _ (q : Query) (tried : TriedModes) (line : Line) where
   operator_tried group (physical.HashAgg child) mode are is = any_mode tried are mode
   operator_tried group (physical.StreamAgg child) mode are is = any_mode tried are mode
   operator_tried group (physical.PartialAgg child) mode are is = any_mode tried are mode
+
+-- a mode that is there for a request is tried
+pub alternative_tried : (q : Query) (e : PhysicalExpr) (wanted : Request) (tried : TriedModes) → AreTriedOf q e.operator tried → (mode : ℕ) → HasAlternative q e wanted mode
+    → AdmitsMode tried (mode_at mode)
+alternative_tried q e wanted tried are mode has = operator_tried q tried has.0 e.group e.operator (mode_at mode) are has.1.is_line
 
 -- so no line is there in the modes that aren't tried
 pub none_untried : (q : Query) (e : PhysicalExpr) (tried : TriedModes) (from below : ℕ) → tried.counts ≡ counts_of q e.operator → AreTriedOf q e.operator tried

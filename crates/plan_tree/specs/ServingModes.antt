@@ -1,23 +1,20 @@
 -- In which modes an expression may serve a request, as its operator and the distribution that is asked for say.
 use Rattle.std.specs.Prelude.{ℕ, ◌≡◌, ◌≤◌, ◌<◌, Bool, true, false, Option, None, Some, ⊤}
-use Rattle.query_core.specs.Crossing.{crossing_of}
 use Rattle.query_core.specs.declared.expressions.Physical.{Physical}
 use Rattle.query_core.specs.declared.expressions.Physical.TheVariants as physical
 use Rattle.query_core.specs.declared.expressions.PhysicalExpr.{PhysicalExpr}
 use Rattle.query_core.specs.declared.query.Query.{Query}
 use Rattle.query_core.specs.declared.words.KeyParts.{KeyParts}
 use Rattle.request_props.specs.Fitting.{Fits}
-use Rattle.request_props.specs.Numbered.{column_order, order_of}
-use Rattle.request_props.specs.Satisfied.{BeginsWith}
 use Rattle.request_props.specs.declared.request.Dist.{Dist}
 use Rattle.request_props.specs.declared.request.Dist.TheVariants.{One, Spread, Copies, Hashed}
 use Rattle.request_props.specs.declared.request.Request.{Request}
 use Rattle.plan_space.specs.Lines.{line_of}
-use Rattle.plan_space.specs.Modes.{IsAmong}
+use Rattle.plan_space.specs.Modes.{mode_at, IsAmong}
 use Rattle.plan_space.specs.declared.lines.Line.{Line}
 use Rattle.plan_tree.specs.Alternatives.{HasAlternative}
-use Rattle.plan_tree.specs.Walks.{IsNextLine}
-use Rattle.plan_space.specs.declared.modes.ModeRange.{ModeRange}
+use Rattle.plan_tree.specs.Walks.{AdmitsMode, counts_of}
+use Rattle.plan_tree.specs.declared.serving_modes.ServingModes.{ServingModes}
 
 -- the operator has modes for spread rows, and others for rows on one segment
 abbrev pub has_spread_modes : Physical → Bool
@@ -44,24 +41,21 @@ pub record SuitsJoin (q : Query) (left : KeyParts) (wanted : Request) : Type 0 w
   pub no_copies : WantsCopies wanted.dist → ⊥
   pub fits : Fits q left wanted
 
--- the left one of the columns that are equated gives the order
-abbrev pub MergesIn : Query → ℕ → Option (ℕ × ℕ) → Type 0
-MergesIn q wanted None = ⊥
-MergesIn q wanted (Some sides) = BeginsWith (order_of q (column_order q sides.0)) (order_of q wanted)
-
--- so does that of some predicate across the groups
-abbrev pub MayMergeIn : Query → KeyParts → KeyParts → ℕ → Type 0
-MayMergeIn q left right wanted = (pred : ℕ) × MergesIn q wanted (crossing_of q left right pred)
-
 -- the expression may serve the request in some mode
 abbrev pub MayServe : Query → PhysicalExpr → Request → Type 0
 MayServe q e wanted = (mode : ℕ) × HasAlternative q e wanted mode
 
--- the expression may serve the request in one of the modes
-abbrev pub MayServeAmong : Query → PhysicalExpr → Request → ModeRange → Type 0
-MayServeAmong q e wanted modes = (mode : ℕ) × IsAmong modes mode × HasAlternative q e wanted mode
+-- no mode from the number on and below the other is there for the request
+abbrev pub NoneServes : Query → PhysicalExpr → Request → ℕ → ℕ → Type 0
+NoneServes q e wanted from below = (mode : ℕ) → from ≤ mode → mode < below → HasAlternative q e wanted mode → ⊥
 
--- the first of the modes from the number on that has a line, with its line; or none has one
-abbrev pub IsNextAmong : Query → PhysicalExpr → ModeRange → ℕ → Option (ℕ × Line) → Type 0
-IsNextAmong q e modes from None = (mode : ℕ) → from ≤ mode → mode < modes.to → line_of q e mode ≡ None
-IsNextAmong q e modes from (Some found) = (found.0 < modes.to) × IsNextLine q e from (Some found)
+-- all modes that are there for the request are among those that are tried
+pub record AreServing (q : Query) (e : PhysicalExpr) (wanted : Request) (modes : ServingModes) : Type 0 where
+  pub counted : modes.tried.counts ≡ counts_of q e.operator
+  pub tried : (mode : ℕ) → HasAlternative q e wanted mode → AdmitsMode modes.tried (mode_at mode)
+  pub among : (mode : ℕ) → HasAlternative q e wanted mode → IsAmong modes.range mode
+
+-- a mode from the number on, with its line, before which none is there for the request; or none is at all
+abbrev pub IsNextServing : Query → PhysicalExpr → Request → ℕ → Option (ℕ × Line) → Type 0
+IsNextServing q e wanted from None = (mode : ℕ) → from ≤ mode → HasAlternative q e wanted mode → ⊥
+IsNextServing q e wanted from (Some found) = (from ≤ found.0) × (found.0 < 192) × NoneServes q e wanted from found.0 × (line_of q e found.0 ≡ Some found.1)

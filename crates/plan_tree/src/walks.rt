@@ -16,28 +16,8 @@ pub fn next_line(query: &Query, props: &Props, expr: PhysicalExpr, from: u32) ->
     requires { IsProps query.now props.now }
     ensures { IsNextLine query.now expr from result }
 {
-    next_tried(
-        query,
-        props,
-        expr,
-        tried_modes(query, props, expr.operator),
-        from,
-    )
-}
-
-/// The same by the modes that are tried of the operator.
-pub fn next_tried(
-    query: &Query,
-    props: &Props,
-    expr: PhysicalExpr,
-    tried: TriedModes,
-    from: u32,
-) -> Option<(u32, Line)>
-    requires props { IsProps query.now props.now }
-    requires tried { AreTried query.now expr.operator tried }
-    ensures { IsNextLine query.now expr from result }
-{
     modes_are_few();
+    let tried = tried_modes(query, props, expr.operator);
     let mut mode = tried.next(from);
     while mode < MODES_END {
         match line_of(query, props, expr, mode) {
@@ -60,7 +40,7 @@ pub struct TriedModes {
 
 impl TriedModes {
     /// The first number from this one on whose mode is tried, or one that no mode with a line has.
-    fn next(self, from: u32) -> u32
+    pub fn next(self, from: u32) -> u32
         ensures from { from ≤ result }
         ensures none { (number : ℕ) → from ≤ number → number < result →
             IsCounted self.counts (mode_at number) → AdmitsMode self (mode_at number) → ⊥ }
@@ -132,8 +112,8 @@ pub fn tried_modes(query: &Query, props: &Props, operator: Physical) -> TriedMod
     }
 }
 
-// How many modes of each kind the operator can have.
-fn counts_of(query: &Query, props: &Props, operator: Physical) -> ModeCounts
+/// How many modes of each kind the operator can have.
+pub fn counts_of(query: &Query, props: &Props, operator: Physical) -> ModeCounts
     requires { IsProps query.now props.now }
     ensures { result ≡ counts_by_operator query.now operator }
 {

@@ -18,7 +18,7 @@ use Rattle.query_core.specs.declared.words.KeyParts.TheVariants.{Get, Filter}
 use Rattle.query_core.proofs.Bits.{bit-or, bit-and, bit-below, bit-read, bit-beyond}
 use Rattle.query_core.specs.Crossing.{crossing_of, crossing_at, sides_with, equal_item}
 use Rattle.query_core.specs.declared.predicate.Pred.{Pred}
-use Rattle.request_props.specs.Ends.{IsEqualityAt, AreEnds, AreEndsBelow, AreEndsOf, HasEndsAt}
+use Rattle.request_props.specs.Ends.{IsEqualityAt, AreEnds, AreEndsBelow, AreEndsOf, HasColumn, HasEndsAt, IsGivenBy}
 use Rattle.request_props.specs.Numbered.{side_of, equality_with, equality_of}
 use Rattle.request_props.specs.declared.ends.EqualityEnds.{EqualityEnds}
 use Rattle.request_props.specs.declared.sides.Equality.{Equality}
@@ -82,9 +82,9 @@ first_left mask from fits some =
           absurd (omega (arith, shifted mask from pred after, zero, has)),
     )
 
-module _ (q : Query) (group : KeyParts) where
+module _ (q : Query) (IsOne : ℕ → Type 0) where
   -- masks of no predicates
-  pub none_below : (ends : EqualityEnds) → AreEndsBelow q group 0 ends
+  pub none_below : (ends : EqualityEnds) → AreEndsBelow q IsOne 0 ends
   none_below ends = record { first = λ n a b below is has. absurd (omega (arith, below)); second = λ n a b below is has. absurd (omega (arith, below)) }
 
   -- what the list of equalities has at the number of one
@@ -96,12 +96,12 @@ module _ (q : Query) (group : KeyParts) where
       get_or_from_slice_get equalities n (equality_of q is.pred) d found ∙ this
 
   -- masks of one more predicate
-  pub ends_more : (equalities : List (Option Equality)) → equalities ≡ map (equality_of q) q.preds → (n : ℕ) (ends new : EqualityEnds) (d : Option Equality) → AreEndsBelow q group n ends
-      → HasEndsAt q group (get_or equalities n d) n new → ((k : ℕ) → k ≢ n → bit new.first k ≡ bit ends.first k) → ((k : ℕ) → k ≢ n → bit new.second k ≡ bit ends.second k)
-      → AreEndsBelow q group (n + 1) new
+  pub ends_more : (equalities : List (Option Equality)) → equalities ≡ map (equality_of q) q.preds → (n : ℕ) (ends new : EqualityEnds) (d : Option Equality) → AreEndsBelow q IsOne n ends
+      → HasEndsAt IsOne (get_or equalities n d) n new → ((k : ℕ) → k ≢ n → bit new.first k ≡ bit ends.first k) → ((k : ℕ) → k ≢ n → bit new.second k ≡ bit ends.second k)
+      → AreEndsBelow q IsOne (n + 1) new
   ends_more equalities are n ends new d before this first second =
-      let at : (a b : ℕ) → IsEqualityAt q n a b → HasEndsAt q group (Some (record { left = side_of q a; right = side_of q b })) n new =
-      λ a b is. subst (λ e. HasEndsAt q group e n new) (there equalities are n a b is d) this in
+      let at : (a b : ℕ) → IsEqualityAt q n a b → HasEndsAt IsOne (Some (record { left = side_of q a; right = side_of q b })) n new =
+      λ a b is. subst (λ e. HasEndsAt IsOne e n new) (there equalities are n a b is d) this in
       record {
         first = λ k a b below is has. elim (cases_eq k n) [
           | inl same ↦ subst (Has new.first) (sym same) ((at a b (subst (λ x. IsEqualityAt q x a b) same is)).0 has)
@@ -113,73 +113,94 @@ module _ (q : Query) (group : KeyParts) where
         ];
       }
 
--- one of two tests passed
-one_passed : (x y : Bool) (s t : ℕ × ℕ) → ((if x then Some s else if y then Some t else None) ≡ None → ⊥) → IsTrue x ⊎ IsTrue y
-one_passed true y s t some = inl refl
-one_passed false true s t some = inr refl
-one_passed false false s t some = absurd (some refl)
+-- one of two tests passed, and what it gives is there
+passed_with : (x y : Bool) (s t u : ℕ × ℕ) → (if x then Some s else if y then Some t else None) ≡ Some u → (IsTrue x × (s ≡ u)) ⊎ (IsTrue y × (t ≡ u))
+passed_with true y s t u is = inl (refl, cc)
+passed_with false true s t u is = inr (refl, cc)
+passed_with false false s t u is = cc
 
-module _ (q : Query) (left right : KeyParts) (n : ℕ) where
-  -- it is an equality of which each group has one column
+module _ (q : Query) (left right : KeyParts) (n c d : ℕ) where
+  -- it is an equality of which each group has one column, and this is that of the left group
   abbrev pub Crosses : Type 0
-  Crosses = (a b : ℕ) × IsEqualityAt q n a b × ((IsTrue (has_item q left a) × IsTrue (has_item q right b)) ⊎ (IsTrue (has_item q left b) × IsTrue (has_item q right a)))
+  Crosses = (a b : ℕ) × IsEqualityAt q n a b
+      × ((IsTrue (has_item q left a) × IsTrue (has_item q right b) × (a ≡ c)) ⊎ (IsTrue (has_item q left b) × IsTrue (has_item q right a) × (b ≡ c)))
 
-  crosses_with : (pred : Pred) → slice_get q.preds n ≡ Some pred → (b : Option ℕ) → equal_item pred.op pred.right ≡ b → (sides_with q left right pred.left b ≡ None → ⊥) → Crosses
-  crosses_with pred there None second some = absurd (some refl)
-  crosses_with pred there (Some b) second some =
+  crosses_with : (pred : Pred) → slice_get q.preds n ≡ Some pred → (b : Option ℕ) → equal_item pred.op pred.right ≡ b → sides_with q left right pred.left b ≡ Some (c, d) → Crosses
+  crosses_with pred there None second is = cc
+  crosses_with pred there (Some b) second is =
       let a = pred.left in (
         a,
         b,
         record { pred = pred; there = there; first = refl; second = second },
-        elim (one_passed (has_item q left a && has_item q right b) (has_item q left b && has_item q right a) (a, b) (b, a) some) [
-          | inl both ↦ inl (and_parts _ _ both)
-          | inr both ↦ inr (and_parts _ _ both)
+        elim (passed_with (has_item q left a && has_item q right b) (has_item q left b && has_item q right a) (a, b) (b, a) (c, d) is) [
+          | inl both ↦ inl ((and_parts _ _ both.0).0, (and_parts _ _ both.0).1, ap (λ (p : ℕ × ℕ). p.0) both.1)
+          | inr both ↦ inr ((and_parts _ _ both.0).0, (and_parts _ _ both.0).1, ap (λ (p : ℕ × ℕ). p.0) both.1)
         ],
       )
 
-  crosses_by : (found : Option Pred) → slice_get q.preds n ≡ found → (crossing_at q left right found ≡ None → ⊥) → Crosses
-  crosses_by None there some = absurd (some refl)
-  crosses_by (Some pred) there some = crosses_with pred there (equal_item pred.op pred.right) refl some
+  crosses_by : (found : Option Pred) → slice_get q.preds n ≡ found → crossing_at q left right found ≡ Some (c, d) → Crosses
+  crosses_by None there is = cc
+  crosses_by (Some pred) there is = crosses_with pred there (equal_item pred.op pred.right) refl is
 
-  -- a predicate that crosses is in the masks of both groups
-  pub crossing_in : (first second : EqualityEnds) → AreEndsOf q left first → AreEndsOf q right second → (crossing_of q left right n ≡ None → ⊥)
-      → (Has first.first n × Has second.second n) ⊎ (Has first.second n × Has second.first n)
-  crossing_in first second of_left of_right some =
-      let (a, b, is, has) = crosses_by (slice_get q.preds n) refl some in
-      let below : n < length q.preds = slice_get_within q.preds n is.pred is.there in
+  -- a predicate that crosses is in the masks of both groups, and in those of an order that the left column gives
+  pub merging_in : (order : List ℕ) (first second giving : EqualityEnds) → AreEndsOf q (HasColumn q left) first → AreEndsOf q (HasColumn q right) second → AreEndsOf q (IsGivenBy order) giving
+      → crossing_of q left right n ≡ Some (c, d) → IsGivenBy order c
+      → (Has first.first n × Has giving.first n × Has second.second n) ⊎ (Has first.second n × Has giving.second n × Has second.first n)
+  merging_in order first second giving of_left of_right of_order is given =
+      let (a, b, at, has) = crosses_by (slice_get q.preds n) refl is in
+      let below : n < length q.preds = slice_get_within q.preds n at.pred at.there in
       elim has [
-        | inl both ↦ inl (of_left.first n a b below is both.0, of_right.second n a b below is both.1)
-        | inr both ↦ inr (of_left.second n a b below is both.0, of_right.first n a b below is both.1)
+        | inl both ↦ inl (of_left.first n a b below at both.0, of_order.first n a b below at (subst (IsGivenBy order) (sym both.2) given), of_right.second n a b below at both.1)
+        | inr both ↦ inr (of_left.second n a b below at both.0, of_order.second n a b below at (subst (IsGivenBy order) (sym both.2) given), of_right.first n a b below at both.1)
       ]
 
-module _ (q : Query) (group_of : ℕ → KeyParts) where
-  -- the masks of no groups
-  pub no_ends : AreEnds q group_of []
+  crossing_as : (first second : EqualityEnds) → AreEndsOf q (HasColumn q left) first → AreEndsOf q (HasColumn q right) second → crossing_of q left right n ≡ Some (c, d)
+      → (Has first.first n × Has second.second n) ⊎ (Has first.second n × Has second.first n)
+  crossing_as first second of_left of_right is =
+      let (a, b, at, has) = crosses_by (slice_get q.preds n) refl is in
+      let below : n < length q.preds = slice_get_within q.preds n at.pred at.there in
+      elim has [
+        | inl both ↦ inl (of_left.first n a b below at both.0, of_right.second n a b below at both.1)
+        | inr both ↦ inr (of_left.second n a b below at both.0, of_right.first n a b below at both.1)
+      ]
+
+module _ (q : Query) (left right : KeyParts) (n : ℕ) (first second : EqualityEnds) (of_left : AreEndsOf q (HasColumn q left) first) (of_right : AreEndsOf q (HasColumn q right) second) where
+  crossing_by_cases : (found : Option (ℕ × ℕ)) → crossing_of q left right n ≡ found → (found ≡ None → ⊥) → (Has first.first n × Has second.second n) ⊎ (Has first.second n × Has second.first n)
+  crossing_by_cases None is some = absurd (some refl)
+  crossing_by_cases (Some (c, d)) is some = crossing_as q left right n c d first second of_left of_right is
+
+  -- a predicate that crosses is in the masks of both groups
+  pub crossing_in : (crossing_of q left right n ≡ None → ⊥) → (Has first.first n × Has second.second n) ⊎ (Has first.second n × Has second.first n)
+  crossing_in some = crossing_by_cases (crossing_of q left right n) refl some
+
+module _ (q : Query) (IsOneAt : ℕ → ℕ → Type 0) where
+  -- masks at no place
+  pub no_ends : AreEnds q IsOneAt []
   no_ends k d within = absurd (omega (arith, within))
 
   -- and of one more
-  pub ends_push : (list new : List EqualityEnds) (n : ℕ) (ends : EqualityEnds) → new ≡ list ++ ends ∷ [] → length list ≡ n → AreEnds q group_of list → AreEndsOf q (group_of n) ends
-      → AreEnds q group_of new
+  pub ends_push : (list new : List EqualityEnds) (n : ℕ) (ends : EqualityEnds) → new ≡ list ++ ends ∷ [] → length list ≡ n → AreEnds q IsOneAt list → AreEndsOf q (IsOneAt n) ends
+      → AreEnds q IsOneAt new
   ends_push list new n ends grown count each is k d within =
       let longer : length new ≡ length list + 1 = ap length grown ∙ length-append list (ends ∷ []) in
       elim (cases_lt k n) [
         | inl below ↦
             let same : get_or new k d ≡ get_or list k d = rw grown (get_or_append_left list (ends ∷ []) d k (omega (arith, below, count))) in
-            subst (AreEndsOf q (group_of k)) (sym same) (each k d (omega (arith, below, count)))
+            subst (AreEndsOf q (IsOneAt k)) (sym same) (each k d (omega (arith, below, count)))
         | inr above ↦
             let last : length list ≡ k = omega (arith, above, within, longer, count) in
             let at_end : get_or new (length list) d ≡ ends = rw grown (get_or-append_seam list ends [] d) in
             let own : get_or new k d ≡ ends = subst (λ (m : ℕ). get_or new m d ≡ ends) last at_end in
-            subst (AreEndsOf q (group_of k)) (sym own) (subst (λ (m : ℕ). AreEndsOf q (group_of m) ends) (sym count ∙ last) is)
+            subst (AreEndsOf q (IsOneAt k)) (sym own) (subst (λ (m : ℕ). AreEndsOf q (IsOneAt m) ends) (sym count ∙ last) is)
       ]
 
-  -- what stands at a place of the list is of the group there
-  pub ends_found : (list : List EqualityEnds) → AreEnds q group_of list → (place : ℕ) (found : Option EqualityEnds)
-      → IfSome found (λ ends. (d : EqualityEnds) → (place < length list) × (get_or list place d ≡ ends)) → IfSome found (AreEndsOf q (group_of place))
+  -- what stands at a place of the list is of that place
+  pub ends_found : (list : List EqualityEnds) → AreEnds q IsOneAt list → (place : ℕ) (found : Option EqualityEnds)
+      → IfSome found (λ ends. (d : EqualityEnds) → (place < length list) × (get_or list place d ≡ ends)) → IfSome found (AreEndsOf q (IsOneAt place))
   ends_found list each place None at = tt
-  ends_found list each place (Some ends) at = let (within, same) = at ends in subst (AreEndsOf q (group_of place)) same (each place ends within)
+  ends_found list each place (Some ends) at = let (within, same) = at ends in subst (AreEndsOf q (IsOneAt place)) same (each place ends within)
 
 -- a filtered table has the columns of the table
-pub ends_filtered : (q : Query) (table : ℕ) (found : Option EqualityEnds) → IfSome found (AreEndsOf q (Get table)) → IfSome found (AreEndsOf q (Filter table))
+pub ends_filtered : (q : Query) (table : ℕ) (found : Option EqualityEnds) → IfSome found (AreEndsOf q (HasColumn q (Get table))) → IfSome found (AreEndsOf q (HasColumn q (Filter table)))
 ends_filtered q table None are = tt
 ends_filtered q table (Some ends) are = record { first = are.first; second = are.second }

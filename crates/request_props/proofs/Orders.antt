@@ -1,13 +1,19 @@
 -- The numbered orders of a query, and orders that begin with others.
-use Rattle.std.proofs.Common.{◌≡◌, ℕ, zero, suc, ◌<◌, ◌≤◌, ◌⊎◌, List, [], ◌∷◌, ◌++◌, length, map, inl, inr, refl, arith}
+use Rattle.std.proofs.Common.{◌≡◌, ℕ, zero, suc, ◌*◌, ◌<◌, ◌≤◌, ◌⊎◌, List, [], ◌∷◌, ◌++◌, length, map, inl, inr, refl, sym, ap, subst, arith, bytes_eq}
 use Rattle.std.specs.Prelude.{slice_index_or}
-use Rattle.std.specs.List.{Contains}
+use Rattle.std.specs.List.{Contains, position_or_len}
+use Rattle.std.proofs.lemmas.Bool.{cases_lt}
+use Rattle.std.proofs.lemmas.List.Sums.{passes_at_first}
+use Rattle.std.proofs.lemmas.Slice.Eq.{bytes_eq-Decides}
+use Rattle.std.proofs.Math.ListN.{get_or-eq_default}
 use Rattle.std.proofs.lemmas.List.Elements.{Contains-append_left}
 use Rattle.query_core.specs.declared.query.Query.{Query}
 use Rattle.query_core.specs.declared.output.OrderKey.{OrderKey}
 use Rattle.request_props.specs.declared.props.Props.{Props}
 use Rattle.request_props.specs.Found.{elements_of, ascending, wanted_order, joined_columns, one_each, unless_empty, found_orders}
-use Rattle.request_props.specs.Numbered.{order_among, orders_of}
+use Rattle.request_props.specs.Ends.{IsGivenBy}
+use Rattle.request_props.specs.Numbered.{order_among, order_of, orders_of, column_order}
+use Rattle.request_props.specs.Satisfied.{BeginsWith}
 use Rattle.request_props.proofs.Inserted.{listing_made}
 
 -- the elements of the order at a place
@@ -22,6 +28,10 @@ pub order_at : (props : Props) (number place : ℕ) (d : List OrderKey) → numb
     → elements_of (slice_index_or props.orders place d) ≡ order_among (map elements_of props.orders) number
 order_at props number place d next within = rw next (elements_at props.orders place d (omega (arith, next, within)))
 
+-- the same, of the elements
+pub order_behind : (orders : List (List ℕ)) (number place : ℕ) → number ≡ suc place → order_among orders number ≡ slice_index_or orders place []
+order_behind orders number place next = rw next refl
+
 itself_unless_empty : (list : List ℕ) → (list ≡ []) ⊎ Contains (unless_empty list) list
 itself_unless_empty [] = inl refl
 itself_unless_empty (first ∷ others) = inr (0, omega arith, refl)
@@ -35,4 +45,31 @@ wanted_known q = elim (itself_unless_empty (wanted_order q)) [
       let found = Contains-append_left (unless_empty (wanted_order q) ++ one_each (ascending (joined_columns q)))
       (unless_empty (ascending q.group_by)) (wanted_order q) front in
       inr (((listing_made (found_orders q)).exact (wanted_order q)).1 found)
+]
+
+-- what stands at the first place of a list is the list, or there is none and it is empty
+itself_or_empty : (lists : List (List ℕ)) (list : List ℕ)
+    → (slice_index_or lists (position_or_len (bytes_eq list) lists) [] ≡ list) ⊎ (slice_index_or lists (position_or_len (bytes_eq list) lists) [] ≡ [])
+itself_or_empty lists list =
+    let place = position_or_len (bytes_eq list) lists in
+    elim (cases_lt place (length lists)) [
+      | inl below ↦ inl (sym ((bytes_eq-Decides list (slice_index_or lists place [])).0 (passes_at_first (bytes_eq list) lists [] below)))
+      | inr beyond ↦ inr (get_or-eq_default lists [] beyond)
+    ]
+
+begins_empty : (order wanted : List ℕ) → order ≡ [] → BeginsWith order wanted → wanted ≡ []
+begins_empty order [] is begins = refl
+begins_empty [] (y ∷ ys) is begins = absurd begins
+begins_empty (x ∷ xs) (y ∷ ys) is begins = cc
+
+begins_alone : (column : ℕ) (wanted : List ℕ) → BeginsWith ((2 * column) ∷ []) wanted → IsGivenBy wanted column
+begins_alone column [] begins = inl refl
+begins_alone column (y ∷ []) begins = inr (ap (λ x. x ∷ []) (sym begins.0))
+begins_alone column (y ∷ z ∷ zs) begins = absurd begins.1
+
+-- an order with which that of a column begins is given by the column
+pub begins_given : (q : Query) (column : ℕ) (wanted : List ℕ) → BeginsWith (order_of q (column_order q column)) wanted → IsGivenBy wanted column
+begins_given q column wanted begins = elim (itself_or_empty (orders_of q) ((2 * column) ∷ [])) [
+  | inl is ↦ begins_alone column wanted (subst (λ (order : List ℕ). BeginsWith order wanted) is begins)
+  | inr is ↦ inl (begins_empty (order_of q (column_order q column)) wanted is begins)
 ]

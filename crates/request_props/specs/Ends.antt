@@ -1,5 +1,5 @@
--- Which equalities a group has a column of, as masks of predicates.
-use Rattle.std.specs.Prelude.{ℕ, ◌≡◌, ◌<◌, Option, None, Some, List, length, slice_get, slice_index_or, IsTrue, ⊤}
+-- Which equalities have a column of a group, or one that gives an order, as masks of predicates.
+use Rattle.std.specs.Prelude.{ℕ, ◌≡◌, ◌<◌, ◌*◌, ◌⊎◌, Option, None, Some, List, [], ◌∷◌, length, slice_get, slice_index_or, IsTrue, ⊤}
 use Rattle.query_core.specs.Crossing.{equal_item}
 use Rattle.query_core.specs.Sets.{Has}
 use Rattle.query_core.specs.Keys.{has_item}
@@ -17,25 +17,32 @@ pub record IsEqualityAt (q : Query) (number a b : ℕ) : Type 0 where
   pub first : pred.left ≡ a
   pub second : equal_item pred.op pred.right ≡ Some b
 
--- of the predicates below the bound, the masks have each equality of which the group has the first item, and each of
--- which it has the second
-pub record AreEndsBelow (q : Query) (group : KeyParts) (bound : ℕ) (ends : EqualityEnds) : Type 0 where
-  pub first : (number a b : ℕ) → number < bound → IsEqualityAt q number a b → IsTrue (has_item q group a) → Has ends.first number
-  pub second : (number a b : ℕ) → number < bound → IsEqualityAt q number a b → IsTrue (has_item q group b) → Has ends.second number
+-- the group has the column
+abbrev pub HasColumn : Query → KeyParts → ℕ → Type 0
+HasColumn q group column = IsTrue (has_item q group column)
+
+-- rows in the order of this column alone, ascending, are in the order
+abbrev pub IsGivenBy : List ℕ → ℕ → Type 0
+IsGivenBy order column = (order ≡ []) ⊎ (order ≡ (2 * column) ∷ [])
+
+-- of the predicates below the bound, the masks have each equality whose first item is one of these columns, and each
+-- whose second is
+pub record AreEndsBelow (q : Query) (IsOne : ℕ → Type 0) (bound : ℕ) (ends : EqualityEnds) : Type 0 where
+  pub first : (number a b : ℕ) → number < bound → IsEqualityAt q number a b → IsOne a → Has ends.first number
+  pub second : (number a b : ℕ) → number < bound → IsEqualityAt q number a b → IsOne b → Has ends.second number
 
 -- of all predicates
-abbrev pub AreEndsOf : Query → KeyParts → EqualityEnds → Type 0
-AreEndsOf q group ends = AreEndsBelow q group (length q.preds) ends
+abbrev pub AreEndsOf : Query → (ℕ → Type 0) → EqualityEnds → Type 0
+AreEndsOf q IsOne ends = AreEndsBelow q IsOne (length q.preds) ends
 
--- the masks of each group in a list of them
-abbrev pub AreEnds : Query → (ℕ → KeyParts) → List EqualityEnds → Type 0
-AreEnds q group_of list = (k : ℕ) (d : EqualityEnds) → k < length list → AreEndsOf q (group_of k) (slice_index_or list k d)
+-- the masks for each place of a list of them
+abbrev pub AreEnds : Query → (ℕ → ℕ → Type 0) → List EqualityEnds → Type 0
+AreEnds q IsOneAt list = (k : ℕ) (d : EqualityEnds) → k < length list → AreEndsOf q (IsOneAt k) (slice_index_or list k d)
 
--- where this is an equality, the masks have it as far as the group has its columns
-abbrev pub HasEndsAt : Query → KeyParts → Option Equality → ℕ → EqualityEnds → Type 0
-HasEndsAt q group None number ends = ⊤
-HasEndsAt q group (Some e) number ends =
-    (IsTrue (has_item q group e.left.column) → Has ends.first number) × (IsTrue (has_item q group e.right.column) → Has ends.second number)
+-- where this is an equality, the masks have it as far as its columns are among these
+abbrev pub HasEndsAt : (ℕ → Type 0) → Option Equality → ℕ → EqualityEnds → Type 0
+HasEndsAt IsOne None number ends = ⊤
+HasEndsAt IsOne (Some e) number ends = (IsOne e.left.column → Has ends.first number) × (IsOne e.right.column → Has ends.second number)
 
 -- the predicate is in the mask, if one is known
 abbrev pub IsInMask : Option ℕ → ℕ → Type 0

@@ -13,7 +13,7 @@ use Rattle.request_props.specs.Listing.{listing_of}
 use Rattle.request_props.specs.Found.{ascending, elements_of, wanted_order, found_lists, found_orders}
 use Rattle.request_props.specs.Groups.{AreKeys, AreGroupRows}
 use Rattle.request_props.specs.Candidates.{AreCandidates, ArePhysical}
-use Rattle.request_props.specs.Ends.{AreEnds}
+use Rattle.request_props.specs.Ends.{AreEnds, HasColumn, IsGivenBy}
 use Rattle.request_props.specs.Lying.{items_of, AreTablesOf}
 use Rattle.request_props.specs.declared.given.GivenDist.{GivenDist}
 use Rattle.request_props.specs.declared.given.GivenDist.TheVariants as given
@@ -22,6 +22,9 @@ use Rattle.request_props.specs.declared.sides.Equality.{Equality}
 use Rattle.request_props.specs.declared.request.Dist as dists
 use Rattle.request_props.specs.declared.request.Dist.{Dist}
 use Rattle.request_props.specs.declared.request.Request.{Request}
+use Rattle.request_props.specs.declared.tables.GroupTables.{GroupTables}
+use Rattle.request_props.specs.declared.tables.EqualityTables.{EqualityTables}
+use Rattle.request_props.specs.declared.tables.PlacementTables.{PlacementTables}
 use Rattle.request_props.specs.declared.props.Props.{Props}
 use Rattle.request_props.specs.declared.fault.PropsFault.{PropsFault}
 use Rattle.request_props.specs.declared.fault.PropsFault.TheVariants.{TooManyLists, TooManyOrders, Memory}
@@ -125,6 +128,28 @@ are_grouped q columns = list_all (is_grouped_by q) columns
 abbrev pub is_grouped_list : Query → ℕ → Bool
 is_grouped_list q list = nat_lt list (length (lists_of q)) && are_grouped q (list_of q list)
 
+-- what each group of the query can hold
+pub record AreGroupTables (q : Query) (tables : GroupTables) : Type 0 where
+  pub keys : AreKeys q tables.keys
+  pub rows : AreGroupRows q tables.rows
+  pub candidates : AreCandidates q tables.candidates
+  pub physical : ArePhysical q tables.physical
+
+-- the equalities of the query, and which of them have a column of each group, and one that gives each order
+pub record AreEqualityTables (q : Query) (tables : EqualityTables) : Type 0 where
+  pub sides : tables.sides ≡ map (equality_of q) q.preds
+  pub of_tables : AreEnds q (λ table. HasColumn q (Get table)) tables.of_tables
+  pub of_sets : AreEnds q (λ set. HasColumn q (Join set)) tables.of_sets
+  pub of_orders : AreEnds q (λ number. IsGivenBy (order_of q number)) tables.of_orders
+
+-- where rows of tables lie, and where lists and orders do
+pub record ArePlacementTables (q : Query) (tables : PlacementTables) : Type 0 where
+  pub placings : tables.placings ≡ map (λ table. dist_by q table.hashed) q.tables
+  pub grouped : tables.grouped ≡ map (are_grouped q) (lists_of q)
+  pub of_lists : AreTablesOf q (lists_of q) tables.of_lists
+  pub of_orders : AreTablesOf q (map items_of (orders_of q)) tables.of_orders
+  pub by_groups : tables.by_groups ≡ group_order q
+
 -- the hashed lists and the orders of the query, at most 60 of each, what is asked of its whole plan, and what else a plan's nodes want to know
 pub record IsProps (q : Query) (props : Props) : Type 0 where
   pub lists : props.hashed ≡ lists_of q
@@ -132,18 +157,9 @@ pub record IsProps (q : Query) (props : Props) : Type 0 where
   pub order_lists : map elements_of props.orders ≡ orders_of q
   pub few_orders : length (orders_of q) ≤ 60
   pub root_request : IsRoot q props.root
-  pub known_keys : AreKeys q props.keys
-  pub known_rows : AreGroupRows q props.rows
-  pub known_candidates : AreCandidates q props.candidates
-  pub known_physical : ArePhysical q props.physical
-  pub known_equalities : props.equalities ≡ map (equality_of q) q.preds
-  pub known_table_ends : AreEnds q Get props.table_ends
-  pub known_set_ends : AreEnds q Join props.set_ends
-  pub known_placings : props.placings ≡ map (λ table. dist_by q table.hashed) q.tables
-  pub known_grouped : props.grouped ≡ map (are_grouped q) (lists_of q)
-  pub known_lists : AreTablesOf q (lists_of q) props.list_tables
-  pub known_orders : AreTablesOf q (map items_of (orders_of q)) props.order_tables
-  pub known_order : props.by_groups ≡ group_order q
+  pub groups : AreGroupTables q props.groups.value
+  pub equalities : AreEqualityTables q props.equalities.value
+  pub placement : ArePlacementTables q props.placement.value
 
 -- there are more than 60 hashed lists, or else more than 60 orders, and so many of them
 abbrev pub IsRefusedFor : Query → PropsFault → Type 0

@@ -1,18 +1,19 @@
-//! Which equalities a group has a column of, as masks of predicates: each predicate is the bit of its number. Nothing
-//! else shifts or masks these.
+//! Which equalities have a column of a group, or one that gives an order, as masks of predicates: each predicate is the
+//! bit of its number. Nothing else shifts or masks these.
 #![tactic(auto)]
 
 ghost use Rattle.std.specs.Prelude.{ℕ, ◌≡◌, ◌≢◌, ◌<◌, ◌≤◌, ◌⊎◌, ◌↔◌, IfOk, IsTrue, map, max};
 ghost use Rattle.query_core.specs.Sets.{bit, Has};
 ghost use Rattle.query_core.specs.declared.words.KeyParts.TheVariants.{Get, Join};
-ghost use Rattle.request_props.specs.Numbered.{equality_of};
-ghost use Rattle.request_props.specs.Ends.{Admits, AreEnds, AreEndsOf, HasEndsAt};
+ghost use Rattle.request_props.specs.Numbered.{equality_of, order_of, orders_of};
+ghost use Rattle.request_props.specs.Ends.{Admits, AreEnds, AreEndsOf, HasColumn, HasEndsAt, IsGivenBy};
 
 use crate::sides::Equality;
+use orca_base::List;
 use query_core::{KeyParts, Query, sets};
 use std::alloc::{AllocError, Global};
 
-/// The equalities of which a group has the first column, and those of which it has the second.
+/// The equalities whose first column is one of some, as those of a group, and those whose second is.
 #[derive(Clone, Copy, Debug, PartialEq, Eq)]
 pub struct EqualityEnds {
     pub first: u64,
@@ -46,6 +47,22 @@ impl Crossings {
         }
     }
 
+    /// Those of the equalities of which each group has one column, and that of the left group gives an order.
+    pub fn merging(left: EqualityEnds, right: EqualityEnds, giving: EqualityEnds) -> Crossings
+        ensures { (pred : ℕ) →
+            (Has left.first pred × Has giving.first pred × Has right.second pred) ⊎
+            (Has left.second pred × Has giving.second pred × Has right.first pred) →
+            Admits result pred }
+    {
+        Crossings::between(
+            EqualityEnds {
+                first: left.first & giving.first,
+                second: left.second & giving.second,
+            },
+            right,
+        )
+    }
+
     /// Whether the predicate is among them.
     pub fn admits(self, pred: u32) -> bool
         ensures { IsTrue result ↔ Admits self pred }
@@ -76,7 +93,7 @@ pub fn table_ends(
     equalities: &[Option<Equality>],
 ) -> Result<Vec<EqualityEnds>, AllocError>
     requires { equalities.now ≡ map (equality_of query.now) query.now.preds }
-    ensures { IfOk result (λ found. AreEnds query.now Get found.items) }
+    ensures { IfOk result (λ found. AreEnds query.now (λ table. HasColumn query.now (Get table)) found.items) }
 {
     let mut found = Vec::new(alloc);
     for table in 0..query.tables.len() {
@@ -92,11 +109,31 @@ pub fn set_ends(
     equalities: &[Option<Equality>],
 ) -> Result<Vec<EqualityEnds>, AllocError>
     requires { equalities.now ≡ map (equality_of query.now) query.now.preds }
-    ensures { IfOk result (λ found. AreEnds query.now Join found.items) }
+    ensures { IfOk result (λ found. AreEnds query.now (λ set. HasColumn query.now (Join set)) found.items) }
 {
     let mut found = Vec::new(alloc);
     for set in 0..sets::first(query.tables.len() as u32) {
         found.push(ends_of(query, equalities, KeyParts::Join(set)))?;
+    }
+    Ok(found)
+}
+
+/// For each order, by its number, the equalities of which a column gives it.
+pub fn order_ends(
+    alloc: Global,
+    query: &Query,
+    equalities: &[Option<Equality>],
+    orders: &[List<u32>],
+) -> Result<Vec<EqualityEnds>, AllocError>
+    requires equalities { equalities.now ≡ map (equality_of query.now) query.now.preds }
+    requires orders { orders.now ≡ orders_of query.now }
+    ensures { IfOk result (λ found.
+        AreEnds query.now (λ number. IsGivenBy (order_of query.now number)) found.items) }
+{
+    let mut found = Vec::new(alloc);
+    found.push(ends_giving(query, equalities, &[]))?;
+    for place in 0..orders.len() {
+        found.push(ends_giving(query, equalities, orders[place].as_slice()))?;
     }
     Ok(found)
 }
@@ -128,17 +165,31 @@ fn next_pred(mask: u64, from: u32) -> u32
 // The equalities of which a group has a column.
 fn ends_of(query: &Query, equalities: &[Option<Equality>], group: KeyParts) -> EqualityEnds
     requires { equalities.now ≡ map (equality_of query.now) query.now.preds }
-    ensures { AreEndsOf query.now group result }
+    ensures { AreEndsOf query.now (HasColumn query.now group) result }
 {
-    let mut ends = EqualityEnds {
-        first: 0,
-        second: 0,
-    };
+    let mut ends = NO_ENDS;
     for pred in 0..equalities.len() {
         ends = with_ends(query, group, equalities[pred], pred as u32, ends);
     }
     ends
 }
+
+// The equalities of which a column gives an order.
+fn ends_giving(_query: &Query, equalities: &[Option<Equality>], order: &[u32]) -> EqualityEnds
+    requires { equalities.now ≡ map (equality_of _query.now) _query.now.preds }
+    ensures { AreEndsOf _query.now (IsGivenBy order.now) result }
+{
+    let mut ends = NO_ENDS;
+    for pred in 0..equalities.len() {
+        ends = with_ends_giving(order, equalities[pred], pred as u32, ends);
+    }
+    ends
+}
+
+const NO_ENDS: EqualityEnds = EqualityEnds {
+    first: 0,
+    second: 0,
+};
 
 // These, and those of the predicate of this number.
 fn with_ends(
@@ -149,7 +200,7 @@ fn with_ends(
     ends: EqualityEnds,
 ) -> EqualityEnds
     requires { pred < 64 }
-    ensures this { HasEndsAt query.now group equality pred result }
+    ensures this { HasEndsAt (HasColumn query.now group) equality pred result }
     ensures first { (n : ℕ) → n ≢ pred → bit result.first n ≡ bit ends.first n }
     ensures second { (n : ℕ) → n ≢ pred → bit result.second n ≡ bit ends.second n }
 {
@@ -159,6 +210,38 @@ fn with_ends(
             second: with_pred(ends.second, pred, query.group_has_item(group, right.column)),
         },
         None => ends,
+    }
+}
+
+// The same for an order.
+fn with_ends_giving(
+    order: &[u32],
+    equality: Option<Equality>,
+    pred: u32,
+    ends: EqualityEnds,
+) -> EqualityEnds
+    requires { pred < 64 }
+    ensures this { HasEndsAt (IsGivenBy order.now) equality pred result }
+    ensures first { (n : ℕ) → n ≢ pred → bit result.first n ≡ bit ends.first n }
+    ensures second { (n : ℕ) → n ≢ pred → bit result.second n ≡ bit ends.second n }
+{
+    match equality {
+        Some(Equality { left, right }) => EqualityEnds {
+            first: with_pred(ends.first, pred, is_given_by(order, left.column)),
+            second: with_pred(ends.second, pred, is_given_by(order, right.column)),
+        },
+        None => ends,
+    }
+}
+
+// Whether rows in the order of this column alone, ascending, are in the order.
+fn is_given_by(order: &[u32], column: u32) -> bool
+    ensures { IsGivenBy order.now column → IsTrue result }
+{
+    match order {
+        [] => true,
+        [element] => element % 2 == 0 && element / 2 == column,
+        [_, _, ..] => false,
     }
 }
 

@@ -17,6 +17,7 @@ mod props;
 mod request;
 mod satisfaction;
 mod sides;
+mod tables;
 
 pub use classes::{class_asked, class_of, classes_agree};
 pub use ends::Crossings;

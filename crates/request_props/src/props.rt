@@ -12,18 +12,11 @@ ghost use Rattle.request_props.specs.Numbered.{root_dist as dist_of_root};
 mod fitting;
 mod lookups;
 
-use crate::candidates::group_candidates;
-use crate::ends::{EqualityEnds, set_ends, table_ends};
 use crate::fault::PropsFault;
 use crate::found::{found_lists, found_orders, wanted_order};
-use crate::given::GivenDist;
-use crate::groups::{group_rows, query_keys};
-use crate::lying::{items_of_orders, tables_of_lists};
 use crate::numbering::numbered;
-use crate::numbers::{equalities, group_order, grouped, placings};
-use crate::physical::{PhysicalCandidate, group_physical};
 use crate::request::{Dist, Request};
-use crate::sides::Equality;
+use crate::tables::{EqualityTables, GroupTables, PlacementTables};
 use orca_base::List;
 use query_core::{OrderKey, Query, RootDist};
 use std::alloc::{AllocError, Global};
@@ -39,30 +32,9 @@ pub struct Props {
     /// The orders that aren't empty. An order's number is its place and one more.
     pub orders: List<List<OrderKey>>,
     pub root: Request,
-    /// Whether each number below `KEYS` is that of a key of the query.
-    keys: List<bool>,
-    /// The estimated rows of each group, by the number of its key.
-    rows: List<u64>,
-    /// The words of the expressions that each group can hold, ascending, by the number of its key.
-    candidates: List<List<u64>>,
-    /// The physical ones of them, with their words, in the same order.
-    physical: List<List<PhysicalCandidate>>,
-    /// For each predicate both its sides, where it is an equality of two items.
-    equalities: List<Option<Equality>>,
-    /// Of each table the equalities of which it has a column.
-    table_ends: List<EqualityEnds>,
-    /// The same of each set of tables, but for that of all tables.
-    set_ends: List<EqualityEnds>,
-    /// Where the rows of each table lie.
-    placings: List<GivenDist>,
-    /// Of each hashed list whether all of it is in GROUP BY.
-    grouped: List<bool>,
-    /// Of each hashed list the tables of its columns; none where an item is no column.
-    list_tables: List<Option<u32>>,
-    /// The same of each order.
-    order_tables: List<Option<u32>>,
-    /// The number of the order of the GROUP BY columns, each ascending.
-    by_groups: u32,
+    groups: Box<GroupTables>,
+    equalities: Box<EqualityTables>,
+    placement: Box<PlacementTables>,
 }
 
 impl Props {
@@ -74,35 +46,18 @@ impl Props {
         let hashed = hashed_lists(alloc, query)?;
         let orders = order_lists(alloc, query)?;
         let root = root_request(alloc, query, orders.as_slice())?;
-        let keys = query_keys(alloc, query)?;
-        let rows = group_rows(alloc, query, keys.as_slice())?;
-        let candidates = group_candidates(alloc, query, keys.as_slice())?;
-        let physical = group_physical(alloc, query, keys.as_slice(), candidates.as_slice())?;
-        let equalities = equalities(alloc, query, hashed.as_slice(), orders.as_slice())?;
-        let table_ends = table_ends(alloc, query, equalities.as_slice())?;
-        let set_ends = set_ends(alloc, query, equalities.as_slice())?;
-        let placings = placings(alloc, query, hashed.as_slice())?;
-        let grouped = grouped(alloc, query, hashed.as_slice())?;
-        let by_groups = group_order(alloc, query, orders.as_slice())?;
-        let list_tables = tables_of_lists(alloc, query, hashed.as_slice())?;
-        let items = items_of_orders(alloc, orders.as_slice())?;
-        let order_tables = tables_of_lists(alloc, query, items.as_slice())?;
+        let groups = GroupTables::collect(alloc, query)?;
+        let (lists, order_lists) = (hashed.as_slice(), orders.as_slice());
+        let equalities = EqualityTables::collect(alloc, query, lists, order_lists)?;
+        let placement = PlacementTables::collect(alloc, query, lists, order_lists)?;
+        let keys = orders_as_keys(alloc, order_lists)?;
         Ok(Props {
             hashed: List::of(hashed),
-            orders: List::of(orders_as_keys(alloc, orders.as_slice())?),
+            orders: List::of(keys),
             root,
-            keys: List::of(keys),
-            rows: List::of(rows),
-            candidates: List::of(candidates),
-            physical: List::of(physical),
-            equalities: List::of(equalities),
-            table_ends: List::of(table_ends),
-            set_ends: List::of(set_ends),
-            placings: List::of(placings),
-            grouped: List::of(grouped),
-            list_tables: List::of(list_tables),
-            order_tables: List::of(order_tables),
-            by_groups,
+            groups,
+            equalities,
+            placement,
         })
     }
 

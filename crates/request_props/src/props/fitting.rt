@@ -67,7 +67,7 @@ impl Props {
         requires { IsProps query.now self.now }
         ensures { IsTrue result ↔ HashFits query.now (Join set) list }
     {
-        match self.list_tables.as_slice().get(list as usize) {
+        match self.placement.of_lists.as_slice().get(list as usize) {
             Some(tables) => covers(set, *tables),
             None => false,
         }
@@ -92,7 +92,7 @@ impl Props {
         if order == 0 {
             return true;
         }
-        match self.order_tables.as_slice().get(order as usize - 1) {
+        match self.placement.of_orders.as_slice().get(order as usize - 1) {
             Some(tables) => covers(set, *tables),
             None => false,
         }

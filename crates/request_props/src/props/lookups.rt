@@ -1,7 +1,7 @@
 //! What a query implies, looked up. No call here takes memory.
 #![tactic(auto)]
 
-ghost use Rattle.std.specs.Prelude.{◌≡◌, ◌≤◌, ◌<◌, ◌↔◌, ℕ, IfSome, IsTrue, None, length};
+ghost use Rattle.std.specs.Prelude.{◌≡◌, ◌≤◌, ◌<◌, ◌↔◌, ℕ, IfSome, IsTrue, None, Some, length};
 ghost use Rattle.std.specs.Prelude.{slice_get, slice_index_or};
 ghost use Rattle.std.specs.Option.{option_map, option_map_or};
 ghost use Rattle.query_core.specs.Crossing.{crossing_of, sides_of};
@@ -9,11 +9,12 @@ ghost use Rattle.query_core.specs.Keys.{IsGroup, IsKey, Names};
 ghost use Rattle.query_core.specs.declared.words.KeyParts.{KeyParts as Group};
 ghost use Rattle.cardinality.specs.Rows.{rows_of};
 ghost use Rattle.request_props.specs.Candidates.{AreCandidatesOf, ArePhysicalOf, FindsNext};
-ghost use Rattle.request_props.specs.Ends.{Admits, AreEndsOf};
+ghost use Rattle.request_props.specs.Ends.{Admits, AreEndsOf, HasColumn};
 ghost use Rattle.request_props.specs.declared.ends.EqualityEnds.{EqualityEnds as AnyEnds};
 ghost use Rattle.request_props.specs.Numbered.{IsProps, side_of, both_sides, equality_of};
 ghost use Rattle.request_props.specs.Numbered.{table_dist as dist_of_table, group_order as order_of_groups};
-ghost use Rattle.request_props.specs.Numbered.{is_grouped_list as is_list_grouped};
+ghost use Rattle.request_props.specs.Numbered.{is_grouped_list as is_list_grouped, order_of, column_order};
+ghost use Rattle.request_props.specs.Satisfied.{BeginsWith};
 
 use crate::ends::{Crossings, EqualityEnds};
 use crate::given::GivenDist;
@@ -29,7 +30,7 @@ impl Props {
         requires { IsProps query.now self.now }
         ensures { IsTrue result ↔ IsKey query.now key }
     {
-        is_key(query, self.keys.as_slice(), key)
+        is_key(query, self.groups.keys.as_slice(), key)
     }
 
     /// The same as `Query::next_candidate`, by a look into the words that the group can hold.
@@ -55,7 +56,7 @@ impl Props {
         ensures { AreCandidatesOf query.now group result.now }
     {
         groups_are_known();
-        self.candidates.as_slice()[Key::make(group).0 as usize].as_slice()
+        self.groups.candidates.as_slice()[Key::make(group).0 as usize].as_slice()
     }
 
     /// The physical expressions that the group can hold, ascending by their words.
@@ -65,13 +66,13 @@ impl Props {
         ensures { ArePhysicalOf query.now group result.now }
     {
         groups_are_known();
-        self.physical.as_slice()[Key::make(group).0 as usize].as_slice()
+        self.groups.physical.as_slice()[Key::make(group).0 as usize].as_slice()
     }
 
     /// How many expressions the groups can hold together.
     pub fn candidate_count(&self) -> usize {
         let mut count = 0usize;
-        for words in self.candidates.as_slice() {
+        for words in self.groups.candidates.as_slice() {
             count = count.saturating_add(words.len());
         }
         count
@@ -85,7 +86,7 @@ impl Props {
     {
         groups_are_known();
         if key.0 < KEYS {
-            self.rows.as_slice()[key.0 as usize]
+            self.groups.rows.as_slice()[key.0 as usize]
         } else {
             0
         }
@@ -132,15 +133,32 @@ impl Props {
         }
     }
 
+    /// Predicates among which all are that equate columns across the groups, that of the left group giving the order.
+    pub fn merging(&self, query: &Query, left: KeyParts, right: KeyParts, order: u32) -> Crossings
+        requires { IsProps query.now self.now }
+        ensures { (pred a b : ℕ) → crossing_of query.now left right pred ≡ Some (a, b) →
+            BeginsWith (order_of query.now (column_order query.now a)) (order_of query.now order) →
+            Admits result pred }
+    {
+        match (
+            self.ends(query, left),
+            self.ends(query, right),
+            ends_at(self.equalities.of_orders.as_slice(), order),
+        ) {
+            (Some(left), Some(right), Some(giving)) => Crossings::merging(left, right, giving),
+            _ => Crossings::any(),
+        }
+    }
+
     // The equalities of which the group has a column, where they are known.
     fn ends(&self, query: &Query, group: KeyParts) -> Option<EqualityEnds>
         requires { IsProps query.now self.now }
-        ensures { IfSome result (AreEndsOf query.now group) }
+        ensures { IfSome result (AreEndsOf query.now (HasColumn query.now group)) }
     {
         match group {
-            KeyParts::Get(table) => ends_at(self.table_ends.as_slice(), table),
-            KeyParts::Filter(table) => ends_at(self.table_ends.as_slice(), table),
-            KeyParts::Join(set) => ends_at(self.set_ends.as_slice(), set),
+            KeyParts::Get(table) => ends_at(self.equalities.of_tables.as_slice(), table),
+            KeyParts::Filter(table) => ends_at(self.equalities.of_tables.as_slice(), table),
+            KeyParts::Join(set) => ends_at(self.equalities.of_sets.as_slice(), set),
             KeyParts::Partial => None,
             KeyParts::Agg => None,
         }
@@ -152,7 +170,7 @@ impl Props {
         ensures { result ≡
             option_map_or (equality_of query.now) (slice_get query.now.preds pred) None }
     {
-        match self.equalities.as_slice().get(pred as usize) {
+        match self.equalities.sides.as_slice().get(pred as usize) {
             Some(equality) => *equality,
             None => None,
         }
@@ -163,7 +181,7 @@ impl Props {
         requires { IsProps query.now self.now }
         ensures { result ≡ dist_of_table query.now table }
     {
-        match self.placings.as_slice().get(table as usize) {
+        match self.placement.placings.as_slice().get(table as usize) {
             Some(dist) => *dist,
             None => GivenDist::Random,
         }
@@ -174,7 +192,7 @@ impl Props {
         requires { IsProps query.now self.now }
         ensures { result ≡ is_list_grouped query.now list }
     {
-        match self.grouped.as_slice().get(list as usize) {
+        match self.placement.grouped.as_slice().get(list as usize) {
             Some(grouped) => *grouped,
             None => false,
         }
@@ -185,7 +203,7 @@ impl Props {
         requires { IsProps query.now self.now }
         ensures { result ≡ order_of_groups query.now }
     {
-        self.by_groups
+        self.placement.by_groups
     }
 }
 

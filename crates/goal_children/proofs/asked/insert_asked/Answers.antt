@@ -5,16 +5,15 @@ use Rattle.goal_children.proofs.Alternatives.{mode_there, mode_cases, mode_asks,
 use Rattle.goal_children.proofs.Inserting.{inserts_as, inserts_more, inserts_nothing}
 use Rattle.goal_children.proofs.asked.insert_asked.Goals as goal
 
--- no mode before the first of those that may serve is there for the request
+-- no mode is below the first
 pub modes-init : goal.modes-init
-modes-init c = inserts_nothing (IsOfModesBelow c.args.query.now c.args.e c.args.wanted c.modes_for-serving.result.from) c.args.goals.now.items
-    (λ k (mode, less, (line, alternative, wishes)). let above = (c.modes_for-serving.ensures mode (line, alternative)).above in omega (arith, less, above))
+modes-init c = inserts_nothing (IsOfModesBelow c.args.query.now c.args.e c.args.wanted 0) c.args.goals.now.items (λ k (mode, less, is). omega (arith, less))
 
 -- one more mode that has a line
 pub modes-preserved : goal.modes-preserved
 modes-preserved c =
     let q = c.args.query.now in
-    let next = c.in-Some.ensures.1 in
+    let next = c.in-Some.ensures in
     let from = c.modes.from in
     let mode = c.in-Some.mode in
     inserts_more (IsOfModesBelow q c.args.e c.args.wanted from) (IsOfMode q c.args.e c.args.wanted mode) (IsOfModesBelow q c.args.e c.args.wanted (mode + 1))
@@ -25,7 +24,7 @@ modes-preserved c =
 pub returns : goal.returns
 returns c =
     let q = c.args.query.now in
-    let all = all_below q c.args.e c.args.wanted c.modes_for-serving.result c.modes.from c.modes_for-serving.ensures c.in_default.ensures in
+    let all = all_below q c.args.e c.args.wanted c.modes.from c.in_default.ensures in
     record {
       ok = inserts_as (IsOfModesBelow q c.args.e c.args.wanted c.modes.from) (IsOfAlternatives q c.args.e c.args.wanted) c.args.goals.now.items c.modes.goals.items
           (mode_asks q c.args.e c.args.wanted 0 c.modes.from) (asks_among q c.args.e c.args.wanted 0 c.modes.from all) c.modes.invariant;

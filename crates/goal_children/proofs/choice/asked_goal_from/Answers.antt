@@ -1,4 +1,5 @@
 use Rattle.std.proofs.Common.{arith}
+use Rattle.plan_tree.proofs.ModesTried.{all_below}
 use Rattle.goal_children.specs.Choices.{IsOfModesBelow}
 use Rattle.goal_children.proofs.Alternatives.{no_modes, mode_more, all_modes}
 use Rattle.goal_children.proofs.Finds.{found_in_range}
@@ -25,5 +26,7 @@ modes-preserved c =
     }
 
 -- no mode is left
-pub returns-in-None : goal.returns-in-None
-returns-in-None c = all_modes c.args.query.now c.args.e c.args.wanted c.args.bound c.modes.from c.modes.next c.in-None.ensures c.modes.invariant.finds
+pub returns : goal.returns
+returns c =
+    let q = c.args.query.now in
+    all_modes q c.args.e c.args.wanted c.args.bound c.modes.from c.modes.next (all_below q c.args.e c.args.wanted c.modes.from c.in_default.ensures) c.modes.invariant.finds

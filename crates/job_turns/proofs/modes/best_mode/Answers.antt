@@ -1,5 +1,5 @@
 -- One mode after the other.
-use Rattle.std.proofs.Common.{ℕ, ◌+◌, ◌<◌, None, sym, subst, ◌∙◌, arith}
+use Rattle.std.proofs.Common.{ℕ, ◌+◌, None, sym, subst, ◌∙◌, arith}
 use Rattle.goal_board.specs.Seats.{hands}
 use Rattle.goal_space.specs.Children.{IsChildGoal}
 use Rattle.goal_space.specs.Answers.{IsAnswerTo}
@@ -8,7 +8,6 @@ use Rattle.goal_space.specs.declared.goals.GoalKind.TheVariants.{OptE}
 use Rattle.xform_rules.specs.Closure.{IsMember}
 use Rattle.job_turns.specs.Choices.{IsGoalIn, IsBestIn, FindsChoice}
 use Rattle.job_turns.specs.declared.choice.Choice.{Choice}
-use Rattle.plan_tree.specs.Alternatives.{HasAlternative}
 use Rattle.plan_tree.proofs.ModesTried.{all_below}
 use Rattle.job_turns.proofs.Finding.{finds_none, finds_both, finds_others, chooses_none}
 use Rattle.job_turns.proofs.Tried.{IsGoalBelow, IsBestBelow, goal_below_none, best_below_none, goal_below_more, best_below_more, goal_below_all, best_below_all}
@@ -22,14 +21,12 @@ modes-init g c =
     let q = c.args.query.now in
     let e = c.args.expr in
     let wanted = c.args.wanted in
-    let start = c.modes_for-serving.result.from in
-    let none : (mode : ℕ) → mode < start → HasAlternative q e wanted mode → ⊥ = λ mode below has. let above = (c.modes_for-serving.ensures mode has).above in omega arith in
     record {
       seat = c.requires.seat;
       right = c.requires.right;
       hints = c.requires.hints;
-      found = finds_none q c.args.board.now.key.room (hands c.args.seat.now) c.args.job.now.right (IsGoalBelow q e wanted start) (IsBestBelow q e wanted start) (goal_below_none q e wanted start none)
-          None (best_below_none q e wanted start none (c.answers_are_best.ensures.none q));
+      found = finds_none q c.args.board.now.key.room (hands c.args.seat.now) c.args.job.now.right (IsGoalBelow q e wanted 0) (IsBestBelow q e wanted 0) (goal_below_none q e wanted)
+          None (best_below_none q e wanted (c.answers_are_best.ensures.none q));
     }
 
 pub await_mode-requires-clause-native : goal.await_mode-requires-clause-native
@@ -41,8 +38,8 @@ await_mode-requires-clause-native g c =
       member = (c.goals_are_known.ensures.members q known c.requires.goal.is_goal).1;
       fits = c.goals_are_known.ensures.requests q known c.requires.goal.is_goal;
       rows = c.expr_rows-rows.ensures;
-      line = next.1.3;
-      few = omega (arith, next.1.1);
+      line = next.3;
+      few = omega (arith, next.1);
     }
 
 pub await_mode-requires-clause-goal : goal.await_mode-requires-clause-goal
@@ -66,10 +63,10 @@ modes-preserved g c =
     let mode = c.in-Some.mode in
     let next = c.in-Some.ensures in
     let fits = c.goals_are_known.ensures.requests q (OptE e wanted) c.requires.goal.is_goal in
-    let joins = best_below_more q e wanted from mode next.1.2 (c.answers_are_best.ensures.lesser q) c.args.props.now c.requires.props fits in
+    let joins = best_below_more q e wanted from mode next.2 (c.answers_are_best.ensures.lesser q) c.args.props.now c.requires.props fits in
     let both = finds_both q b.key.room (hands c.args.seat.now) c.args.job.now.right (IsGoalBelow q e wanted from) (IsGoalIn q e wanted mode) (IsBestBelow q e wanted from) (IsBestIn q e wanted mode) (IsBestBelow q e wanted (mode + 1)) joins
     c.modes.choice c.in_ok-other.other (hands c.modes.seat) c.modes.job.right (hands c.await_mode.new.seat) c.await_mode.new.job.right c.modes.invariant.found c.in_ok-other.ensures.chooses in
-    let more = finds_others q b.key.room (hands c.args.seat.now) c.args.job.now.right _ (IsGoalBelow q e wanted (mode + 1)) (IsBestBelow q e wanted (mode + 1)) (IsBestBelow q e wanted (mode + 1)) (goal_below_more q e wanted from mode next.1.2) (λ best is. is)
+    let more = finds_others q b.key.room (hands c.args.seat.now) c.args.job.now.right _ (IsGoalBelow q e wanted (mode + 1)) (IsBestBelow q e wanted (mode + 1)) (IsBestBelow q e wanted (mode + 1)) (goal_below_more q e wanted from mode next.2) (λ best is. is)
     _ (hands c.await_mode.new.seat) c.await_mode.new.job.right both in
     record {
       seat = c.await_mode.ensures.seat;
@@ -85,6 +82,6 @@ returns-clause-chooses g c =
     let e = c.args.expr in
     let wanted = c.args.wanted in
     let from = c.modes.from in
-    let all = all_below q e wanted c.modes_for-serving.result from c.modes_for-serving.ensures c.in_default.ensures in
+    let all = all_below q e wanted from c.in_default.ensures in
     finds_others q c.args.board.now.key.room (hands c.args.seat.now) c.args.job.now.right (IsGoalBelow q e wanted from) (IsChildGoal (IsMember q) q (OptE e wanted)) (IsBestBelow q e wanted from) (IsAnswerTo q (OptE e wanted))
     (goal_below_all q e wanted from all) (best_below_all q e wanted from all (c.answers_are_best.ensures.covered q)) c.modes.choice (hands c.modes.seat) c.modes.job.right c.modes.invariant.found

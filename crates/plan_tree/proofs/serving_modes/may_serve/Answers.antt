@@ -31,7 +31,7 @@ returns-else-suits_join c =
     let join = c.in-MergeJoin in (
       λ is. absurd (false≢true (sym c.if-suits_join.false ∙ is)),
       λ serves. c.suits_join-in-MergeJoin.ensures.1
-          (join_suits c.args.query.now c.args.expr join.left join.right c.args.wanted
+          (join_suits c.args.query.now c.args.expr join.left join.field-1 c.args.wanted
           (ap physical_children join.is) c.requires.numbered serves),
     )
 

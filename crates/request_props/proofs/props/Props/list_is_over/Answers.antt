@@ -7,8 +7,8 @@ use Rattle.request_props.proofs.props.Props.list_is_over.Goals as goal
 pub returns-in-Some : goal.returns-in-Some
 returns-in-Some c =
     let q = c.args.query.now in
-    let found = c.args.self.now.list_tables in
-    let known = c.requires.known_lists in
+    let found = c.args.self.now.placement.value.of_lists in
+    let known = c.requires.placement.of_lists in
     let inside : c.args.list < length found = grind arith in
     let is : c.in-Some.tables.now ≡ slice_index_or found c.args.list None = grind arith in
     let over = over_at q (lists_of q) found c.args.list c.args.set c.in-Some.tables.now known inside is in (

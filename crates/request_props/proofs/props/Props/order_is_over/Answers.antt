@@ -7,8 +7,8 @@ pub returns-in-Some : goal.returns-in-Some
 returns-in-Some c =
     let q = c.args.query.now in
     let place = c.args.order - 1 in
-    let found = c.args.self.now.order_tables in
-    let known = c.requires.known_orders in
+    let found = c.args.self.now.placement.value.of_orders in
+    let known = c.requires.placement.of_orders in
     let inside : place < length found = grind arith in
     let is : c.in-Some.tables.now ≡ slice_index_or found place None = grind arith in
     order_over q c.args.order place c.args.set c.in-Some.tables.now c.covers.result (omega arith) found known inside is c.covers.ensures

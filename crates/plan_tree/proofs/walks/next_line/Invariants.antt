@@ -1,6 +1,6 @@
 use Rattle.std.proofs.Common.{◌≤◌, ◌-◌}
 use Rattle.plan_tree.specs.Walks.{AreNone}
-use Rattle.plan_tree.proofs.walks.next_tried.Given as goal
+use Rattle.plan_tree.proofs.walks.next_line.Given as goal
 
 -- no number before this one has a line
 abbrev pub invariant-loop-mode : goal.invariant-loop-mode

@@ -1,0 +1,24 @@
+-- A predicate that crosses, and whose left column gives the order, is in all three masks.
+use Rattle.std.proofs.Common.{◌≡◌, ℕ, Option, subst, sym}
+use Rattle.std.specs.Prelude.{IfSome}
+use Rattle.request_props.specs.Ends.{AreEnds, AreEndsOf, IsGivenBy}
+use Rattle.request_props.specs.Numbered.{order_of}
+use Rattle.request_props.specs.declared.ends.EqualityEnds.{EqualityEnds}
+use Rattle.request_props.proofs.Masks.{ends_found, merging_in}
+use Rattle.request_props.proofs.Orders.{begins_given}
+use Rattle.request_props.proofs.props.Props.merging.Goals as goal
+
+pub returns-in-Some-Some-Some : goal.returns-in-Some-Some-Some
+returns-in-Some-Some-Some c pred a b crosses begins =
+    let q = c.args.query.now in
+    let order = order_of q c.args.order in
+    let some = c.in-Some-Some-Some in
+    let given = λ (number : ℕ). IsGivenBy (order_of q number) in
+    let at = c.as_slice.ensures in
+    let in_box = c.deref.ensures in
+    let same : c.as_slice.result.now ≡ c.args.self.now.equalities.value.of_orders = cc in
+    let each = subst (AreEnds q given) (sym same) c.requires.equalities.of_orders in
+    let found = ends_found q given c.as_slice.result.now each c.args.order c.ends_at.result c.ends_at.ensures in
+    let giving = subst (λ (ends : Option EqualityEnds). IfSome ends (AreEndsOf q (given c.args.order))) some.is-2 found in
+    c.merging.ensures pred
+    (merging_in q c.args.left c.args.right pred a b order some.left some.right some.giving some.ensures some.ensures' giving crosses (begins_given q a order begins))

@@ -1,0 +1,137 @@
+//! What a query implies, found once: of its groups, of its equalities, and of where rows lie.
+#![tactic(auto)]
+
+ghost use Rattle.std.specs.Prelude.{◌≡◌, ◌≤◌, IfOk, length};
+ghost use Rattle.request_props.specs.Numbered.{lists_of, orders_of};
+ghost use Rattle.request_props.specs.Numbered.{AreGroupTables, AreEqualityTables, ArePlacementTables};
+
+use crate::candidates::group_candidates;
+use crate::ends::{EqualityEnds, order_ends, set_ends, table_ends};
+use crate::given::GivenDist;
+use crate::groups::{group_rows, query_keys};
+use crate::lying::{items_of_orders, tables_of_lists};
+use crate::numbers::{equalities, group_order, grouped, placings};
+use crate::physical::{PhysicalCandidate, group_physical};
+use crate::sides::Equality;
+use orca_base::List;
+use query_core::Query;
+use std::alloc::{AllocError, Global};
+
+/// What each group can hold, by the number of its key.
+#[derive(Debug, Drop)]
+pub struct GroupTables {
+    /// Whether each number below `KEYS` is that of a key of the query.
+    pub keys: List<bool>,
+    /// The estimated rows of each group.
+    pub rows: List<u64>,
+    /// The words of the expressions that each group can hold, ascending.
+    pub candidates: List<List<u64>>,
+    /// The physical ones of them, with their words, in the same order.
+    pub physical: List<List<PhysicalCandidate>>,
+}
+
+/// The equalities of two items.
+#[derive(Debug, Drop)]
+pub struct EqualityTables {
+    /// For each predicate both its sides, where it is such an equality.
+    pub sides: List<Option<Equality>>,
+    /// Of each table the equalities of which it has a column.
+    pub of_tables: List<EqualityEnds>,
+    /// The same of each set of tables, but for that of all tables.
+    pub of_sets: List<EqualityEnds>,
+    /// For each order, by its number, the equalities of which a column gives it.
+    pub of_orders: List<EqualityEnds>,
+}
+
+/// Where rows lie, and the tables of lists and orders.
+#[derive(Debug, Drop)]
+pub struct PlacementTables {
+    /// Where the rows of each table lie.
+    pub placings: List<GivenDist>,
+    /// Of each hashed list whether all of it is in GROUP BY.
+    pub grouped: List<bool>,
+    /// Of each hashed list the tables of its columns; none where an item is no column.
+    pub of_lists: List<Option<u32>>,
+    /// The same of each order.
+    pub of_orders: List<Option<u32>>,
+    /// The number of the order of the GROUP BY columns, each ascending.
+    pub by_groups: u32,
+}
+
+impl GroupTables {
+    /// What the query's groups can hold.
+    pub fn collect(alloc: Global, query: &Query) -> Result<Box<GroupTables>, AllocError>
+        ensures { IfOk result (λ tables. AreGroupTables query.now tables.value) }
+    {
+        let keys = query_keys(alloc, query)?;
+        let rows = group_rows(alloc, query, keys.as_slice())?;
+        let candidates = group_candidates(alloc, query, keys.as_slice())?;
+        let physical = group_physical(alloc, query, keys.as_slice(), candidates.as_slice())?;
+        let tables = GroupTables {
+            keys: List::of(keys),
+            rows: List::of(rows),
+            candidates: List::of(candidates),
+            physical: List::of(physical),
+        };
+        Ok(Box::new(alloc, tables)?)
+    }
+}
+
+impl EqualityTables {
+    /// The query's equalities, by its lists and orders.
+    pub fn collect(
+        alloc: Global,
+        query: &Query,
+        lists: &[List<u32>],
+        orders: &[List<u32>],
+    ) -> Result<Box<EqualityTables>, AllocError>
+        requires lists { lists.now ≡ lists_of query.now }
+        requires few_lists { length lists.now ≤ 60 }
+        requires orders { orders.now ≡ orders_of query.now }
+        requires few_orders { length orders.now ≤ 60 }
+        ensures { IfOk result (λ tables. AreEqualityTables query.now tables.value) }
+    {
+        let sides = equalities(alloc, query, lists, orders)?;
+        let of_tables = table_ends(alloc, query, sides.as_slice())?;
+        let of_sets = set_ends(alloc, query, sides.as_slice())?;
+        let of_orders = order_ends(alloc, query, sides.as_slice(), orders)?;
+        let tables = EqualityTables {
+            sides: List::of(sides),
+            of_tables: List::of(of_tables),
+            of_sets: List::of(of_sets),
+            of_orders: List::of(of_orders),
+        };
+        Ok(Box::new(alloc, tables)?)
+    }
+}
+
+impl PlacementTables {
+    /// Where rows lie, by the query's lists and orders.
+    pub fn collect(
+        alloc: Global,
+        query: &Query,
+        lists: &[List<u32>],
+        orders: &[List<u32>],
+    ) -> Result<Box<PlacementTables>, AllocError>
+        requires lists { lists.now ≡ lists_of query.now }
+        requires few_lists { length lists.now ≤ 60 }
+        requires orders { orders.now ≡ orders_of query.now }
+        requires few_orders { length orders.now ≤ 60 }
+        ensures { IfOk result (λ tables. ArePlacementTables query.now tables.value) }
+    {
+        let placings = placings(alloc, query, lists)?;
+        let grouped = grouped(alloc, query, lists)?;
+        let of_lists = tables_of_lists(alloc, query, lists)?;
+        let items = items_of_orders(alloc, orders)?;
+        let of_orders = tables_of_lists(alloc, query, items.as_slice())?;
+        let by_groups = group_order(alloc, query, orders)?;
+        let tables = PlacementTables {
+            placings: List::of(placings),
+            grouped: List::of(grouped),
+            of_lists: List::of(of_lists),
+            of_orders: List::of(of_orders),
+            by_groups,
+        };
+        Ok(Box::new(alloc, tables)?)
+    }
+}
