@@ -36,5 +36,10 @@ fn main(rt: HostRuntime) -> ExitCode {
         // A word that isn't text is no word of a command.
         Err(_) => put_usage(&mut out),
     };
+    // Lines that were held back count as written only now.
+    let status = match out.finish() {
+        Ok(()) => status,
+        Err(_) => Status::WriteFault,
+    };
     ExitCode::from(status.number())
 }

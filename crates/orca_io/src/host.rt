@@ -1,12 +1,14 @@
 // The host's files and its standard output. Of the bytes that they give and take nothing is told.
 ghost use Rattle.std.specs.Prelude.{◌≡◌, ◌⊎◌, ◌≤◌, ◌+◌, None, OnOk, OnErr, IfErr, vec_len};
 ghost use Rattle.std.specs.Io.{StartsWith};
+ghost use Rattle.orca_base.specs.Causes.{Rose};
 ghost use Rattle.orca_io.specs.declared.shelf.ShelfError.TheVariants.{Failed, TooLong, Memory};
 ghost use Rattle.orca_io.specs.Shelf.{AddsAtMost, HasCause};
 ghost use Rattle.orca_io.specs.Host.{IsOverOrStopped};
 
 use crate::count::next_count;
 use crate::{Shelf, ShelfError, Sink, SinkError};
+use arrayvec::ArrayVec;
 use std::io::{ErrorKind, Read};
 use std::rt::Files;
 use std::{fs, io};
@@ -90,10 +92,15 @@ fn refusal(e: io::Error) -> ShelfError
     }
 }
 
-/// The host's standard output.
+// How many bytes standard output may hold back.
+const MOST_HELD: usize = 8192;
+
+/// The host's standard output. Pieces are held back, and written together where they no longer fit, so that a text of
+/// many short lines takes few calls of the host. Behind the last piece call `finish`: what is held is lost without it.
 #[derive(Drop)]
 pub struct StdSink<'r, R: Print> {
     rt: &'r R,
+    held: ArrayVec<u8, MOST_HELD>,
     faults: u64,
 }
 
@@ -101,7 +108,38 @@ impl<'r, R: Print> StdSink<'r, R> {
     pub fn new(rt: &'r R) -> StdSink<'r, R>
         ensures { result.faults ≡ 0 }
     {
-        StdSink { rt, faults: 0 }
+        StdSink {
+            rt,
+            held: ArrayVec::new(),
+            faults: 0,
+        }
+    }
+
+    /// Writes what is held. Where the host refuses it, it is lost.
+    pub fn finish(&mut self) -> Result<(), SinkError>
+        ensures failed { OnErr result (Rose self.old.faults self.new.faults) }
+        ensures later { self.old.faults ≤ self.new.faults }
+    {
+        if self.held.is_empty() {
+            return Ok(());
+        }
+        let written = self.rt.write_all(self.held.as_slice());
+        self.held.clear();
+        self.told(written)
+    }
+
+    // The answer to what the host said, where a refusal is counted.
+    fn told(&mut self, written: io::Result<()>) -> Result<(), SinkError>
+        ensures failed { OnErr result (Rose self.old.faults self.new.faults) }
+        ensures later { self.old.faults ≤ self.new.faults }
+    {
+        match written {
+            Ok(()) => Ok(()),
+            Err(_) => {
+                self.faults = next_count(self.faults);
+                Err(SinkError::Failed)
+            }
+        }
     }
 }
 
@@ -111,12 +149,15 @@ impl<'r, R: Print> Sink for StdSink<'r, R> {
     ghost faults = { λ sink. sink.faults };
 
     fn put(&mut self, bytes: &[u8]) -> Result<(), SinkError> {
-        match self.rt.write_all(bytes) {
-            Ok(()) => Ok(()),
-            Err(_) => {
-                self.faults = next_count(self.faults);
-                Err(SinkError::Failed)
-            }
+        if self.held.try_extend_from_slice(bytes).is_ok() {
+            return Ok(());
         }
+        self.finish()?;
+        if self.held.try_extend_from_slice(bytes).is_ok() {
+            return Ok(());
+        }
+        // It is longer than all that may be held.
+        let written = self.rt.write_all(bytes);
+        self.told(written)
     }
 }

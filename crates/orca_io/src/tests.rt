@@ -55,12 +55,20 @@ impl Print for ClosedOutput {
 }
 
 #[test]
-fn standard_output_takes_a_line_unless_it_is_closed(rt: HostRuntime) {
-    assert_eq!(rt; StdSink::new(&rt).put(b"a line\n"), Ok(()));
-    assert_eq!(rt;
-        StdSink::new(&ClosedOutput).put(b"a line\n"),
-        Err(SinkError::Failed)
-    );
+fn standard_output_takes_lines_unless_it_is_closed(rt: HostRuntime) {
+    let mut out = StdSink::new(&rt);
+    assert_eq!(rt; out.put(b"a line\n"), Ok(()));
+    assert_eq!(rt; out.finish(), Ok(()));
+    let mut closed = StdSink::new(&ClosedOutput);
+    // A line is held back, and so are as many as there is room for.
+    for _ in 0..1170 {
+        assert_eq!(rt; closed.put(b"a line\n"), Ok(()));
+    }
+    assert_eq!(rt; closed.put(b"a line\n"), Err(SinkError::Failed));
+    assert_eq!(rt; closed.put(b"a line\n"), Ok(()));
+    assert_eq!(rt; closed.finish(), Err(SinkError::Failed));
+    assert_eq!(rt; closed.finish(), Ok(()));
+    assert_eq!(rt; closed.put(&[b'.'; 8193]), Err(SinkError::Failed));
 }
 
 #[test]
