@@ -8,9 +8,11 @@ passed=0
 # A checkout with one crate, whose program says that it is stale, and a command rt of these lines.
 make_checkout() {
   checkout=$(mktemp -d)
-  mkdir -p "$checkout/crates/orca/src" "$checkout/crates/orca/out" "$checkout/bin"
+  mkdir -p "$checkout/crates/orca/src" "$checkout/crates/orca/out" "$checkout/bin" "$checkout/tools"
+  mkdir -p "$checkout/crates/low" "$checkout/crates/high" "$checkout/crates/beside"
   cp "$top/orca" "$checkout/orca"
-  echo "orca:" > "$checkout/crates.txt"
+  cp "$top/tools/build_libraries.py" "$checkout/tools"
+  printf '%s\n' "# a comment" "orca: high std" "low:" "high may_wait=1: low" "beside: low" > "$checkout/crates.txt"
   printf '#!/bin/sh\necho stale\n' > "$checkout/crates/orca/out/orca"
   chmod +x "$checkout/crates/orca/out/orca"
   touch -d "1 hour ago" "$checkout/crates/orca/out/orca" "$checkout/crates.txt"
@@ -36,10 +38,16 @@ expect() {
 make_checkout 'echo "a proof is open"; exit 1'
 expect "a build that fails at a crate starts no stale program" 125 "" "a proof is open"
 
-make_checkout '[ "$1" = check ] && exit 0; echo "the linker failed"; exit 1'
+make_checkout 'pwd | sed "s,.*/,," >> ../../order; [ "$1" = lib ] && exit 0; echo built: $(cat ../../order); exit 1'
+expect "the libraries below the program are built in order before it, and no other" 125 "" "built: low high orca"
+
+make_checkout 'case $PWD in */low) exit 0;; */high) echo "high has an open proof"; exit 1;; esac; echo "went on"; exit 0'
+expect "a library that fails ends the build" 125 "" "high has an open proof"
+
+make_checkout '[ "$1" != run ] && exit 0; echo "the linker failed"; exit 1'
 expect "a build that fails at the program starts no stale program" 125 "" "the linker failed"
 
-make_checkout '[ "$1" = check ] && exit 0; printf "#!/bin/sh\necho \$1\nexit 2\n" > out/orca; chmod +x out/orca; exit 2'
+make_checkout '[ "$1" != run ] && exit 0; printf "#!/bin/sh\necho \$1\nexit 2\n" > out/orca; chmod +x out/orca; exit 2'
 expect "a program that was built is started with the words, and its status is the script's" 2 "word" "proving and building"
 
 make_checkout 'echo "never called"; exit 1'

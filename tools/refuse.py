@@ -30,6 +30,8 @@ with open(os.path.join(TOP, "examples", "two_tables.json")) as file:
 RUNS = [
     ("the running example", TWO_TABLES, JOIN, []),
     ("the running example by 8 workers", TWO_TABLES, JOIN, ["--workers", "8"]),
+    ("three tables with all sections", TWO_TABLES, "SELECT x.a FROM T1 x, T1 y, T2 z WHERE x.a = y.a AND y.a = z.b",
+     ["--memo", "--trace", "--by-worker"]),
     ("one table in an order", ONE_TABLE % (1000, '"random"', 1000), "SELECT a FROM t ORDER BY a", []),
     ("a table of no rows with all sections", ONE_TABLE % (0, '"random"', 1000), "SELECT a FROM t",
      ["--memo", "--trace", "--by-worker"]),
@@ -37,6 +39,8 @@ RUNS = [
 ]
 PLANNED, READ_FAULT, WRITE_FAULT, MEMORY = 0, 6, 7, 8
 SECONDS = 60
+# how many bytes the program holds back
+HELD = 8192
 
 
 class Refuser:
@@ -84,12 +88,22 @@ def faults_of_reads(refuser, pool, text):
     return Counter(status for status, _ in answers), faults
 
 
+def writes_of(text):
+    """The lines of a text, as they are written together."""
+    writes = [b""]
+    for line in text.splitlines(keepends=True):
+        if len(writes[-1]) + len(line) > HELD:
+            writes.append(b"")
+        writes[-1] += line
+    return writes
+
+
 def faults_of_writes(refuser, pool, text):
-    """Each line is one write."""
-    seen, faults, lines = Counter(), [], text.splitlines(keepends=True)
+    """Lines are written together, as many as are held back."""
+    seen, faults, written = Counter(), [], writes_of(text)
     for kept in (0, 3):
         answers = refuser.refused(pool, "write", refuser.run("write", 0)[2], kept)
-        wanted = [(WRITE_FAULT, b"".join(lines[:at]) + lines[at][:kept]) for at in range(len(lines))]
+        wanted = [(WRITE_FAULT, b"".join(written[:at]) + written[at][:kept]) for at in range(len(written))]
         seen += Counter(status for status, _ in answers)
         if answers != wanted:
             faults.append(f"writes that fail after {kept} bytes: {answers}")
