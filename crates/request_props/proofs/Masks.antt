@@ -18,7 +18,7 @@ use Rattle.query_core.specs.declared.words.KeyParts.TheVariants.{Get, Filter}
 use Rattle.query_core.proofs.Bits.{bit-or, bit-and, bit-below, bit-read, bit-beyond}
 use Rattle.query_core.specs.Crossing.{crossing_of, crossing_at, sides_with, equal_item}
 use Rattle.query_core.specs.declared.predicate.Pred.{Pred}
-use Rattle.request_props.specs.Ends.{IsEqualityAt, AreEnds, AreEndsBelow, AreEndsOf, HasColumn, HasEndsAt, IsGivenBy}
+use Rattle.request_props.specs.Ends.{IsEqualityAt, AreEnds, AreEndsBelow, AreEndsOf, HasAcross, HasColumn, HasEndsAt, IsGivenBy}
 use Rattle.request_props.specs.Numbered.{side_of, equality_with, equality_of}
 use Rattle.request_props.specs.declared.ends.EqualityEnds.{EqualityEnds}
 use Rattle.request_props.specs.declared.sides.Equality.{Equality}
@@ -113,6 +113,15 @@ module _ (q : Query) (IsOne : ℕ → Type 0) where
         ];
       }
 
+-- masks of what is in both are of the columns that are of both
+pub ends_of_both : (q : Query) (IsOne IsOther : ℕ → Type 0) (one other both : EqualityEnds) → AreEndsOf q IsOne one → AreEndsOf q IsOther other
+    → ((k : ℕ) → Has one.first k → Has other.first k → Has both.first k) → ((k : ℕ) → Has one.second k → Has other.second k → Has both.second k)
+    → AreEndsOf q (λ column. IsOne column × IsOther column) both
+ends_of_both q IsOne IsOther one other both of_one of_other first second = record {
+  first = λ k a b below is has. first k (of_one.first k a b below is has.0) (of_other.first k a b below is has.1);
+  second = λ k a b below is has. second k (of_one.second k a b below is has.0) (of_other.second k a b below is has.1);
+}
+
 -- one of two tests passed, and what it gives is there
 passed_with : (x y : Bool) (s t u : ℕ × ℕ) → (if x then Some s else if y then Some t else None) ≡ Some u → (IsTrue x × (s ≡ u)) ⊎ (IsTrue y × (t ≡ u))
 passed_with true y s t u is = inl (refl, cc)
@@ -142,35 +151,30 @@ module _ (q : Query) (left right : KeyParts) (n c d : ℕ) where
   crosses_by None there is = cc
   crosses_by (Some pred) there is = crosses_with pred there (equal_item pred.op pred.right) refl is
 
-  -- a predicate that crosses is in the masks of both groups, and in those of an order that the left column gives
-  pub merging_in : (order : List ℕ) (first second giving : EqualityEnds) → AreEndsOf q (HasColumn q left) first → AreEndsOf q (HasColumn q right) second → AreEndsOf q (IsGivenBy order) giving
-      → crossing_of q left right n ≡ Some (c, d) → IsGivenBy order c
-      → (Has first.first n × Has giving.first n × Has second.second n) ⊎ (Has first.second n × Has giving.second n × Has second.first n)
-  merging_in order first second giving of_left of_right of_order is given =
-      let (a, b, at, has) = crosses_by (slice_get q.preds n) refl is in
+  -- masks of some columns of the left group, this one among them, and masks of the right group have it across
+  crosses_in : (IsLeft : ℕ → Type 0) (first second : EqualityEnds) → AreEndsOf q IsLeft first → AreEndsOf q (HasColumn q right) second
+      → ((a : ℕ) → HasColumn q left a → a ≡ c → IsLeft a) → Crosses → HasAcross first second n
+  crosses_in IsLeft first second of_left of_right is_left (a, b, at, has) =
       let below : n < length q.preds = slice_get_within q.preds n at.pred at.there in
       elim has [
-        | inl both ↦ inl (of_left.first n a b below at both.0, of_order.first n a b below at (subst (IsGivenBy order) (sym both.2) given), of_right.second n a b below at both.1)
-        | inr both ↦ inr (of_left.second n a b below at both.0, of_order.second n a b below at (subst (IsGivenBy order) (sym both.2) given), of_right.first n a b below at both.1)
+        | inl both ↦ inl (of_left.first n a b below at (is_left a both.0 both.2), of_right.second n a b below at both.1)
+        | inr both ↦ inr (of_left.second n a b below at (is_left b both.0 both.2), of_right.first n a b below at both.1)
       ]
 
-  crossing_as : (first second : EqualityEnds) → AreEndsOf q (HasColumn q left) first → AreEndsOf q (HasColumn q right) second → crossing_of q left right n ≡ Some (c, d)
-      → (Has first.first n × Has second.second n) ⊎ (Has first.second n × Has second.first n)
-  crossing_as first second of_left of_right is =
-      let (a, b, at, has) = crosses_by (slice_get q.preds n) refl is in
-      let below : n < length q.preds = slice_get_within q.preds n at.pred at.there in
-      elim has [
-        | inl both ↦ inl (of_left.first n a b below at both.0, of_right.second n a b below at both.1)
-        | inr both ↦ inr (of_left.second n a b below at both.0, of_right.first n a b below at both.1)
-      ]
+  -- a predicate that crosses and whose left column gives the order is in the masks of both groups and of the order
+  pub merging_in : (order : List ℕ) (first second : EqualityEnds) → AreEndsOf q (λ a. HasColumn q left a × IsGivenBy order a) first → AreEndsOf q (HasColumn q right) second
+      → crossing_of q left right n ≡ Some (c, d) → IsGivenBy order c → HasAcross first second n
+  merging_in order first second of_left of_right is given =
+      crosses_in (λ a. HasColumn q left a × IsGivenBy order a) first second of_left of_right (λ a has same. (has, subst (IsGivenBy order) (sym same) given)) (crosses_by (slice_get q.preds n) refl is)
 
 module _ (q : Query) (left right : KeyParts) (n : ℕ) (first second : EqualityEnds) (of_left : AreEndsOf q (HasColumn q left) first) (of_right : AreEndsOf q (HasColumn q right) second) where
-  crossing_by_cases : (found : Option (ℕ × ℕ)) → crossing_of q left right n ≡ found → (found ≡ None → ⊥) → (Has first.first n × Has second.second n) ⊎ (Has first.second n × Has second.first n)
+  crossing_by_cases : (found : Option (ℕ × ℕ)) → crossing_of q left right n ≡ found → (found ≡ None → ⊥) → HasAcross first second n
   crossing_by_cases None is some = absurd (some refl)
-  crossing_by_cases (Some (c, d)) is some = crossing_as q left right n c d first second of_left of_right is
+  crossing_by_cases (Some (c, d)) is some =
+      crosses_in q left right n c d (HasColumn q left) first second of_left of_right (λ a has same. has) (crosses_by q left right n c d (slice_get q.preds n) refl is)
 
   -- a predicate that crosses is in the masks of both groups
-  pub crossing_in : (crossing_of q left right n ≡ None → ⊥) → (Has first.first n × Has second.second n) ⊎ (Has first.second n × Has second.first n)
+  pub crossing_in : (crossing_of q left right n ≡ None → ⊥) → HasAcross first second n
   crossing_in some = crossing_by_cases (crossing_of q left right n) refl some
 
 module _ (q : Query) (IsOneAt : ℕ → ℕ → Type 0) where

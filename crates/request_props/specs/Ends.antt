@@ -39,6 +39,10 @@ AreEndsOf q IsOne ends = AreEndsBelow q IsOne (length q.preds) ends
 abbrev pub AreEnds : Query → (ℕ → ℕ → Type 0) → List EqualityEnds → Type 0
 AreEnds q IsOneAt list = (k : ℕ) (d : EqualityEnds) → k < length list → AreEndsOf q (IsOneAt k) (slice_index_or list k d)
 
+-- the one has the predicate by its first item and the other by its second, or the other way round
+abbrev pub HasAcross : EqualityEnds → EqualityEnds → ℕ → Type 0
+HasAcross one other number = (Has one.first number × Has other.second number) ⊎ (Has one.second number × Has other.first number)
+
 -- where this is an equality, the masks have it as far as its columns are among these
 abbrev pub HasEndsAt : (ℕ → Type 0) → Option Equality → ℕ → EqualityEnds → Type 0
 HasEndsAt IsOne None number ends = ⊤

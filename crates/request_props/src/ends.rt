@@ -2,11 +2,11 @@
 //! bit of its number. Nothing else shifts or masks these.
 #![tactic(auto)]
 
-ghost use Rattle.std.specs.Prelude.{ℕ, ◌≡◌, ◌≢◌, ◌<◌, ◌≤◌, ◌⊎◌, ◌↔◌, IfOk, IsTrue, map, max};
+ghost use Rattle.std.specs.Prelude.{ℕ, ◌≡◌, ◌≢◌, ◌<◌, ◌≤◌, ◌↔◌, IfOk, IsTrue, map, max};
 ghost use Rattle.query_core.specs.Sets.{bit, Has};
 ghost use Rattle.query_core.specs.declared.words.KeyParts.TheVariants.{Get, Join};
 ghost use Rattle.request_props.specs.Numbered.{equality_of, order_of, orders_of};
-ghost use Rattle.request_props.specs.Ends.{Admits, AreEnds, AreEndsOf, HasColumn, HasEndsAt, IsGivenBy};
+ghost use Rattle.request_props.specs.Ends.{Admits, AreEnds, AreEndsOf, HasAcross, HasColumn, HasEndsAt, IsGivenBy};
 
 use crate::sides::Equality;
 use orca_base::List;
@@ -18,6 +18,21 @@ use std::alloc::{AllocError, Global};
 pub struct EqualityEnds {
     pub first: u64,
     pub second: u64,
+}
+
+impl EqualityEnds {
+    /// The equalities that are in both, by the same column.
+    pub fn and(self, other: EqualityEnds) -> EqualityEnds
+        ensures first { (pred : ℕ) → Has self.first pred → Has other.first pred →
+            Has result.first pred }
+        ensures second { (pred : ℕ) → Has self.second pred → Has other.second pred →
+            Has result.second pred }
+    {
+        EqualityEnds {
+            first: self.first & other.first,
+            second: self.second & other.second,
+        }
+    }
 }
 
 /// Predicates among which all are that equate columns across two groups.
@@ -37,30 +52,11 @@ impl Crossings {
 
     /// Those of the equalities of which each group has one column.
     pub fn between(left: EqualityEnds, right: EqualityEnds) -> Crossings
-        ensures { (pred : ℕ) →
-            (Has left.first pred × Has right.second pred) ⊎
-            (Has left.second pred × Has right.first pred) →
-            Admits result pred }
+        ensures { (pred : ℕ) → HasAcross left right pred → Admits result pred }
     {
         Crossings {
             known: Some((left.first & right.second) | (left.second & right.first)),
         }
-    }
-
-    /// Those of the equalities of which each group has one column, and that of the left group gives an order.
-    pub fn merging(left: EqualityEnds, right: EqualityEnds, giving: EqualityEnds) -> Crossings
-        ensures { (pred : ℕ) →
-            (Has left.first pred × Has giving.first pred × Has right.second pred) ⊎
-            (Has left.second pred × Has giving.second pred × Has right.first pred) →
-            Admits result pred }
-    {
-        Crossings::between(
-            EqualityEnds {
-                first: left.first & giving.first,
-                second: left.second & giving.second,
-            },
-            right,
-        )
     }
 
     /// Whether the predicate is among them.

@@ -145,7 +145,7 @@ impl Props {
             self.ends(query, right),
             ends_at(self.equalities.of_orders.as_slice(), order),
         ) {
-            (Some(left), Some(right), Some(giving)) => Crossings::merging(left, right, giving),
+            (Some(left), Some(right), Some(giving)) => Crossings::between(left.and(giving), right),
             _ => Crossings::any(),
         }
     }

@@ -1,10 +1,10 @@
--- A predicate that crosses, and whose left column gives the order, is in all three masks.
+-- A predicate that crosses, and whose left column gives the order, is in the masks of both groups and of the order.
 use Rattle.std.proofs.Common.{◌≡◌, ℕ, Option, subst, sym}
 use Rattle.std.specs.Prelude.{IfSome}
-use Rattle.request_props.specs.Ends.{AreEnds, AreEndsOf, IsGivenBy}
+use Rattle.request_props.specs.Ends.{AreEnds, AreEndsOf, HasColumn, IsGivenBy}
 use Rattle.request_props.specs.Numbered.{order_of}
 use Rattle.request_props.specs.declared.ends.EqualityEnds.{EqualityEnds}
-use Rattle.request_props.proofs.Masks.{ends_found, merging_in}
+use Rattle.request_props.proofs.Masks.{ends_found, ends_of_both, merging_in}
 use Rattle.request_props.proofs.Orders.{begins_given}
 use Rattle.request_props.proofs.props.Props.merging.Goals as goal
 
@@ -20,5 +20,5 @@ returns-in-Some-Some-Some c pred a b crosses begins =
     let each = subst (AreEnds q given) (sym same) c.requires.equalities.of_orders in
     let found = ends_found q given c.as_slice.result.now each c.args.order c.ends_at.result c.ends_at.ensures in
     let giving = subst (λ (ends : Option EqualityEnds). IfSome ends (AreEndsOf q (given c.args.order))) some.is-2 found in
-    c.merging.ensures pred
-    (merging_in q c.args.left c.args.right pred a b order some.left some.right some.giving some.ensures some.ensures' giving crosses (begins_given q a order begins))
+    let both = ends_of_both q (HasColumn q c.args.left) (IsGivenBy order) some.left some.giving c.and.result some.ensures giving c.and.ensures.first c.and.ensures.second in
+    c.between.ensures pred (merging_in q c.args.left c.args.right pred a b order c.and.result some.right both some.ensures' crosses (begins_given q a order begins))
