@@ -6,6 +6,7 @@ use Rattle.query_core.specs.Keys.{has_item}
 use Rattle.query_core.specs.declared.predicate.Pred.{Pred}
 use Rattle.query_core.specs.declared.query.Query.{Query}
 use Rattle.query_core.specs.declared.words.KeyParts.{KeyParts}
+use Rattle.query_core.specs.declared.words.KeyParts.TheVariants.{Get, Join}
 use Rattle.request_props.specs.declared.ends.EqualityEnds.{EqualityEnds}
 use Rattle.request_props.specs.declared.ends.Crossings.{Crossings}
 use Rattle.request_props.specs.declared.sides.Equality.{Equality}
@@ -38,6 +39,14 @@ AreEndsOf q IsOne ends = AreEndsBelow q IsOne (length q.preds) ends
 -- the masks for each place of a list of them
 abbrev pub AreEnds : Query → (ℕ → ℕ → Type 0) → List EqualityEnds → Type 0
 AreEnds q IsOneAt list = (k : ℕ) (d : EqualityEnds) → k < length list → AreEndsOf q (IsOneAt k) (slice_index_or list k d)
+
+-- the masks of each table, by its number
+abbrev pub AreTableEnds : Query → List EqualityEnds → Type 0
+AreTableEnds q list = AreEnds q (λ table. HasColumn q (Get table)) list
+
+-- the masks of each set of tables, by the set
+abbrev pub AreSetEnds : Query → List EqualityEnds → Type 0
+AreSetEnds q list = AreEnds q (λ set. HasColumn q (Join set)) list
 
 -- the one has the predicate by its first item and the other by its second, or the other way round
 abbrev pub HasAcross : EqualityEnds → EqualityEnds → ℕ → Type 0

@@ -5,7 +5,6 @@ use Rattle.std.specs.Option.{option_map_or}
 use Rattle.query_core.specs.Crossing.{equal_item}
 use Rattle.query_core.specs.Keys.{is_grouped_by}
 use Rattle.query_core.specs.declared.query.Query.{Query}
-use Rattle.query_core.specs.declared.words.KeyParts.TheVariants.{Get, Join}
 use Rattle.query_core.specs.declared.predicate.Pred.{Pred}
 use Rattle.query_core.specs.declared.options.RootDist.{RootDist}
 use Rattle.query_core.specs.declared.options.RootDist.TheVariants.{One, Spread}
@@ -13,8 +12,9 @@ use Rattle.request_props.specs.Listing.{listing_of}
 use Rattle.request_props.specs.Found.{ascending, elements_of, wanted_order, found_lists, found_orders}
 use Rattle.request_props.specs.Groups.{AreKeys, AreGroupRows}
 use Rattle.request_props.specs.Candidates.{AreCandidates, ArePhysical}
-use Rattle.request_props.specs.Ends.{AreEnds, HasColumn, IsGivenBy}
+use Rattle.request_props.specs.Ends.{AreEnds, AreSetEnds, AreTableEnds, IsGivenBy}
 use Rattle.request_props.specs.Lying.{items_of, AreTablesOf}
+use Rattle.request_props.specs.declared.ends.EqualityEnds.{EqualityEnds}
 use Rattle.request_props.specs.declared.given.GivenDist.{GivenDist}
 use Rattle.request_props.specs.declared.given.GivenDist.TheVariants as given
 use Rattle.request_props.specs.declared.sides.Side.{Side}
@@ -49,6 +49,10 @@ order_among orders (suc place) = slice_index_or orders place []
 -- the order that has the number
 abbrev pub order_of : Query → ℕ → List ℕ
 order_of q number = order_among (orders_of q) number
+
+-- the masks of each order, by its number
+abbrev pub AreOrderEnds : Query → List EqualityEnds → Type 0
+AreOrderEnds q list = AreEnds q (λ number. IsGivenBy (order_of q number)) list
 
 -- the distribution that the root option asks for
 abbrev pub root_dist : RootDist → Dist
@@ -138,9 +142,9 @@ pub record AreGroupTables (q : Query) (tables : GroupTables) : Type 0 where
 -- the equalities of the query, and which of them have a column of each group, and one that gives each order
 pub record AreEqualityTables (q : Query) (tables : EqualityTables) : Type 0 where
   pub sides : tables.sides ≡ map (equality_of q) q.preds
-  pub of_tables : AreEnds q (λ table. HasColumn q (Get table)) tables.of_tables
-  pub of_sets : AreEnds q (λ set. HasColumn q (Join set)) tables.of_sets
-  pub of_orders : AreEnds q (λ number. IsGivenBy (order_of q number)) tables.of_orders
+  pub of_tables : AreTableEnds q tables.of_tables
+  pub of_sets : AreSetEnds q tables.of_sets
+  pub of_orders : AreOrderEnds q tables.of_orders
 
 -- where rows of tables lie, and where lists and orders do
 pub record ArePlacementTables (q : Query) (tables : PlacementTables) : Type 0 where

@@ -4,9 +4,8 @@
 
 ghost use Rattle.std.specs.Prelude.{ℕ, ◌≡◌, ◌≢◌, ◌<◌, ◌≤◌, ◌↔◌, IfOk, IsTrue, map, max};
 ghost use Rattle.query_core.specs.Sets.{bit, Has};
-ghost use Rattle.query_core.specs.declared.words.KeyParts.TheVariants.{Get, Join};
-ghost use Rattle.request_props.specs.Numbered.{equality_of, order_of, orders_of};
-ghost use Rattle.request_props.specs.Ends.{Admits, AreEnds, AreEndsOf, HasAcross, HasColumn, HasEndsAt, IsGivenBy};
+ghost use Rattle.request_props.specs.Numbered.{AreOrderEnds, equality_of, orders_of};
+ghost use Rattle.request_props.specs.Ends.{Admits, AreEndsOf, AreSetEnds, AreTableEnds, HasAcross, HasColumn, HasEndsAt, IsGivenBy};
 
 use crate::sides::Equality;
 use orca_base::List;
@@ -89,7 +88,7 @@ pub fn table_ends(
     equalities: &[Option<Equality>],
 ) -> Result<Vec<EqualityEnds>, AllocError>
     requires { equalities.now ≡ map (equality_of query.now) query.now.preds }
-    ensures { IfOk result (λ found. AreEnds query.now (λ table. HasColumn query.now (Get table)) found.items) }
+    ensures { IfOk result (λ found. AreTableEnds query.now found.items) }
 {
     let mut found = Vec::new(alloc);
     for table in 0..query.tables.len() {
@@ -105,7 +104,7 @@ pub fn set_ends(
     equalities: &[Option<Equality>],
 ) -> Result<Vec<EqualityEnds>, AllocError>
     requires { equalities.now ≡ map (equality_of query.now) query.now.preds }
-    ensures { IfOk result (λ found. AreEnds query.now (λ set. HasColumn query.now (Join set)) found.items) }
+    ensures { IfOk result (λ found. AreSetEnds query.now found.items) }
 {
     let mut found = Vec::new(alloc);
     for set in 0..sets::first(query.tables.len() as u32) {
@@ -123,8 +122,7 @@ pub fn order_ends(
 ) -> Result<Vec<EqualityEnds>, AllocError>
     requires equalities { equalities.now ≡ map (equality_of query.now) query.now.preds }
     requires orders { orders.now ≡ orders_of query.now }
-    ensures { IfOk result (λ found.
-        AreEnds query.now (λ number. IsGivenBy (order_of query.now number)) found.items) }
+    ensures { IfOk result (λ found. AreOrderEnds query.now found.items) }
 {
     let mut found = Vec::new(alloc);
     found.push(ends_giving(query, equalities, &[]))?;

@@ -17,6 +17,6 @@ loop-place-preserved c =
     let order : c.as_slice.result.now ≡ order_of q (place + 1) = c.as_slice.ensures ∙ (read ∙ ap (λ (orders : List (List ℕ)). slice_index_or orders place []) c.requires.orders) ∙ sym (order_behind (orders_of q) (place + 1) place (omega arith)) in
     record {
       count = omega (arith, c.in_ok-push-2.ensures.len, c.loop-place.invariant.count);
-      each = ends_push q (λ number. IsGivenBy (order_of q number)) c.loop-place.found.items c.push-in-loop-place.new.self.items (place + 1) next.result c.in_ok-push-2.ensures.items
+      each = ends_push q _ c.loop-place.found.items c.push-in-loop-place.new.self.items (place + 1) next.result c.in_ok-push-2.ensures.items
           c.loop-place.invariant.count c.loop-place.invariant.each (subst (λ wanted. AreEndsOf q (IsGivenBy wanted) next.result) order next.ensures);
     }

@@ -1,8 +1,7 @@
 -- The masks stand in their lists by tables and by sets of tables.
 use Rattle.std.proofs.Common.{◌≡◌, subst, sym}
 use Rattle.std.specs.Prelude.{IfSome}
-use Rattle.query_core.specs.declared.words.KeyParts.TheVariants.{Get, Join}
-use Rattle.request_props.specs.Ends.{AreEnds, AreEndsOf, HasColumn}
+use Rattle.request_props.specs.Ends.{AreEndsOf, AreSetEnds, AreTableEnds, HasColumn}
 use Rattle.request_props.proofs.Masks.{ends_found, ends_filtered}
 use Rattle.request_props.proofs.props.Props.ends.Goals as goal
 
@@ -12,8 +11,8 @@ returns-in-Get c =
     let at = c.as_slice.ensures in
     let in_box = c.deref.ensures in
     let same : c.as_slice.result.now ≡ c.args.self.now.equalities.value.of_tables = cc in
-    let each = subst (AreEnds q (λ table. HasColumn q (Get table))) (sym same) c.requires.equalities.of_tables in
-    subst (λ g. IfSome c.ends_at.result (AreEndsOf q (HasColumn q g))) (sym c.in-Get.is) (ends_found q (λ table. HasColumn q (Get table)) c.as_slice.result.now each c.in-Get.table c.ends_at.result c.ends_at.ensures)
+    let each = subst (AreTableEnds q) (sym same) c.requires.equalities.of_tables in
+    subst (λ g. IfSome c.ends_at.result (AreEndsOf q (HasColumn q g))) (sym c.in-Get.is) (ends_found q _ c.as_slice.result.now each c.in-Get.table c.ends_at.result c.ends_at.ensures)
 
 pub returns-in-Filter : goal.returns-in-Filter
 returns-in-Filter c =
@@ -21,10 +20,10 @@ returns-in-Filter c =
     let at = c.as_slice-in-Filter.ensures in
     let in_box = c.deref-in-Filter.ensures in
     let same : c.as_slice-in-Filter.result.now ≡ c.args.self.now.equalities.value.of_tables = cc in
-    let each = subst (AreEnds q (λ table. HasColumn q (Get table))) (sym same) c.requires.equalities.of_tables in
+    let each = subst (AreTableEnds q) (sym same) c.requires.equalities.of_tables in
     subst (λ g. IfSome c.ends_at-in-Filter.result (AreEndsOf q (HasColumn q g))) (sym c.in-Filter.is)
     (ends_filtered q c.in-Filter.table c.ends_at-in-Filter.result
-    (ends_found q (λ table. HasColumn q (Get table)) c.as_slice-in-Filter.result.now each c.in-Filter.table c.ends_at-in-Filter.result c.ends_at-in-Filter.ensures))
+    (ends_found q _ c.as_slice-in-Filter.result.now each c.in-Filter.table c.ends_at-in-Filter.result c.ends_at-in-Filter.ensures))
 
 pub returns-in-Join : goal.returns-in-Join
 returns-in-Join c =
@@ -32,5 +31,5 @@ returns-in-Join c =
     let at = c.as_slice-in-Join.ensures in
     let in_box = c.deref-in-Join.ensures in
     let same : c.as_slice-in-Join.result.now ≡ c.args.self.now.equalities.value.of_sets = cc in
-    let each = subst (AreEnds q (λ set. HasColumn q (Join set))) (sym same) c.requires.equalities.of_sets in
-    subst (λ g. IfSome c.ends_at-in-Join.result (AreEndsOf q (HasColumn q g))) (sym c.in-Join.is) (ends_found q (λ set. HasColumn q (Join set)) c.as_slice-in-Join.result.now each c.in-Join.set c.ends_at-in-Join.result c.ends_at-in-Join.ensures)
+    let each = subst (AreSetEnds q) (sym same) c.requires.equalities.of_sets in
+    subst (λ g. IfSome c.ends_at-in-Join.result (AreEndsOf q (HasColumn q g))) (sym c.in-Join.is) (ends_found q _ c.as_slice-in-Join.result.now each c.in-Join.set c.ends_at-in-Join.result c.ends_at-in-Join.ensures)
