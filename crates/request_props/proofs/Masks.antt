@@ -113,6 +113,13 @@ module _ (q : Query) (IsOne : ℕ → Type 0) where
         ];
       }
 
+-- masks of some columns are those of fewer
+pub ends_fewer : (q : Query) (IsOne IsOther : ℕ → Type 0) (ends : EqualityEnds) → ((column : ℕ) → IsOther column → IsOne column) → AreEndsOf q IsOne ends → AreEndsOf q IsOther ends
+ends_fewer q IsOne IsOther ends fewer are = record {
+  first = λ k a b below is has. are.first k a b below is (fewer a has);
+  second = λ k a b below is has. are.second k a b below is (fewer b has);
+}
+
 -- masks of what is in both are of the columns that are of both
 pub ends_of_both : (q : Query) (IsOne IsOther : ℕ → Type 0) (one other both : EqualityEnds) → AreEndsOf q IsOne one → AreEndsOf q IsOther other
     → ((k : ℕ) → Has one.first k → Has other.first k → Has both.first k) → ((k : ℕ) → Has one.second k → Has other.second k → Has both.second k)
@@ -207,4 +214,4 @@ module _ (q : Query) (IsOneAt : ℕ → ℕ → Type 0) where
 -- a filtered table has the columns of the table
 pub ends_filtered : (q : Query) (table : ℕ) (found : Option EqualityEnds) → IfSome found (AreEndsOf q (HasColumn q (Get table))) → IfSome found (AreEndsOf q (HasColumn q (Filter table)))
 ends_filtered q table None are = tt
-ends_filtered q table (Some ends) are = record { first = are.first; second = are.second }
+ends_filtered q table (Some ends) are = ends_fewer q (HasColumn q (Get table)) (HasColumn q (Filter table)) ends (λ column has. has) are

@@ -8,6 +8,8 @@ use Rattle.query_core.specs.declared.query.Query.{Query}
 use Rattle.query_core.specs.declared.words.KeyParts.{KeyParts}
 use Rattle.query_core.specs.declared.words.KeyParts.TheVariants.{Get, Join}
 use Rattle.request_props.specs.declared.ends.EqualityEnds.{EqualityEnds}
+use Rattle.request_props.specs.declared.ends.Columns.TheVariants as columns
+use Rattle.request_props.specs.declared.ends.Columns.{Columns}
 use Rattle.request_props.specs.declared.ends.Crossings.{Crossings}
 use Rattle.request_props.specs.declared.sides.Equality.{Equality}
 
@@ -25,6 +27,13 @@ HasColumn q group column = IsTrue (has_item q group column)
 -- rows in the order of this column alone, ascending, are in the order
 abbrev pub IsGivenBy : List ℕ → ℕ → Type 0
 IsGivenBy order column = (order ≡ []) ⊎ (order ≡ (2 * column) ∷ [])
+
+-- it is one of these columns
+abbrev pub IsAmong : Query → Columns → ℕ → Type 0
+IsAmong q (columns.Of group) = HasColumn q group
+IsAmong q columns.All = λ column. ⊤
+IsAmong q (columns.One one) = λ column. column ≡ one
+IsAmong q columns.None = λ column. ⊥
 
 -- of the predicates below the bound, the masks have each equality whose first item is one of these columns, and each
 -- whose second is

@@ -4,8 +4,10 @@
 
 ghost use Rattle.std.specs.Prelude.{ℕ, ◌≡◌, ◌≢◌, ◌<◌, ◌≤◌, ◌↔◌, IfOk, IsTrue, map, max};
 ghost use Rattle.query_core.specs.Sets.{bit, Has};
+ghost use Rattle.query_core.specs.declared.query.Query.{Query as AnyQuery};
 ghost use Rattle.request_props.specs.Numbered.{AreOrderEnds, equality_of, orders_of};
-ghost use Rattle.request_props.specs.Ends.{Admits, AreEndsOf, AreSetEnds, AreTableEnds, HasAcross, HasColumn, HasEndsAt, IsGivenBy};
+ghost use Rattle.request_props.specs.Ends.{Admits, AreEndsOf, AreSetEnds, AreTableEnds, HasAcross};
+ghost use Rattle.request_props.specs.Ends.{HasEndsAt, IsAmong, IsGivenBy};
 
 use crate::sides::Equality;
 use orca_base::List;
@@ -81,6 +83,41 @@ impl Crossings {
     }
 }
 
+// Some columns.
+#[derive(Clone, Copy)]
+enum Columns {
+    // Those that the group has.
+    Of(KeyParts),
+    All,
+    One(u32),
+    None,
+}
+
+impl Columns {
+    // Those of which each gives the order.
+    fn giving(order: &[u32]) -> Columns
+        ensures { (q : AnyQuery) (column : ℕ) → IsGivenBy order.now column → IsAmong q result column }
+    {
+        match order {
+            [] => Columns::All,
+            [element] if element % 2 == 0 => Columns::One(element / 2),
+            _ => Columns::None,
+        }
+    }
+
+    // Whether this is one of them.
+    fn have(self, query: &Query, column: u32) -> bool
+        ensures { IsTrue result ↔ IsAmong query.now self column }
+    {
+        match self {
+            Columns::Of(group) => query.group_has_item(group, column),
+            Columns::All => true,
+            Columns::One(one) => column == one,
+            Columns::None => false,
+        }
+    }
+}
+
 /// The equalities of which each table has a column.
 pub fn table_ends(
     alloc: Global,
@@ -92,7 +129,7 @@ pub fn table_ends(
 {
     let mut found = Vec::new(alloc);
     for table in 0..query.tables.len() {
-        found.push(ends_of(query, equalities, KeyParts::Get(table as u32)))?;
+        found.push(ends_of(query, equalities, Columns::Of(KeyParts::Get(table as u32))))?;
     }
     Ok(found)
 }
@@ -108,7 +145,7 @@ pub fn set_ends(
 {
     let mut found = Vec::new(alloc);
     for set in 0..sets::first(query.tables.len() as u32) {
-        found.push(ends_of(query, equalities, KeyParts::Join(set)))?;
+        found.push(ends_of(query, equalities, Columns::Of(KeyParts::Join(set))))?;
     }
     Ok(found)
 }
@@ -156,86 +193,48 @@ fn next_pred(mask: u64, from: u32) -> u32
     from + rest.trailing_zeros()
 }
 
-// The equalities of which a group has a column.
-fn ends_of(query: &Query, equalities: &[Option<Equality>], group: KeyParts) -> EqualityEnds
+// The equalities of which a column gives the order.
+fn ends_giving(query: &Query, equalities: &[Option<Equality>], order: &[u32]) -> EqualityEnds
     requires { equalities.now ≡ map (equality_of query.now) query.now.preds }
-    ensures { AreEndsOf query.now (HasColumn query.now group) result }
+    ensures { AreEndsOf query.now (IsGivenBy order.now) result }
 {
-    let mut ends = NO_ENDS;
+    ends_of(query, equalities, Columns::giving(order))
+}
+
+// The equalities that have one of the columns.
+fn ends_of(query: &Query, equalities: &[Option<Equality>], columns: Columns) -> EqualityEnds
+    requires { equalities.now ≡ map (equality_of query.now) query.now.preds }
+    ensures { AreEndsOf query.now (IsAmong query.now columns) result }
+{
+    let mut ends = EqualityEnds {
+        first: 0,
+        second: 0,
+    };
     for pred in 0..equalities.len() {
-        ends = with_ends(query, group, equalities[pred], pred as u32, ends);
+        ends = with_ends(query, columns, equalities[pred], pred as u32, ends);
     }
     ends
 }
-
-// The equalities of which a column gives an order.
-fn ends_giving(_query: &Query, equalities: &[Option<Equality>], order: &[u32]) -> EqualityEnds
-    requires { equalities.now ≡ map (equality_of _query.now) _query.now.preds }
-    ensures { AreEndsOf _query.now (IsGivenBy order.now) result }
-{
-    let mut ends = NO_ENDS;
-    for pred in 0..equalities.len() {
-        ends = with_ends_giving(order, equalities[pred], pred as u32, ends);
-    }
-    ends
-}
-
-const NO_ENDS: EqualityEnds = EqualityEnds {
-    first: 0,
-    second: 0,
-};
 
 // These, and those of the predicate of this number.
 fn with_ends(
     query: &Query,
-    group: KeyParts,
+    columns: Columns,
     equality: Option<Equality>,
     pred: u32,
     ends: EqualityEnds,
 ) -> EqualityEnds
     requires { pred < 64 }
-    ensures this { HasEndsAt (HasColumn query.now group) equality pred result }
+    ensures this { HasEndsAt (IsAmong query.now columns) equality pred result }
     ensures first { (n : ℕ) → n ≢ pred → bit result.first n ≡ bit ends.first n }
     ensures second { (n : ℕ) → n ≢ pred → bit result.second n ≡ bit ends.second n }
 {
     match equality {
         Some(Equality { left, right }) => EqualityEnds {
-            first: with_pred(ends.first, pred, query.group_has_item(group, left.column)),
-            second: with_pred(ends.second, pred, query.group_has_item(group, right.column)),
+            first: with_pred(ends.first, pred, columns.have(query, left.column)),
+            second: with_pred(ends.second, pred, columns.have(query, right.column)),
         },
         None => ends,
-    }
-}
-
-// The same for an order.
-fn with_ends_giving(
-    order: &[u32],
-    equality: Option<Equality>,
-    pred: u32,
-    ends: EqualityEnds,
-) -> EqualityEnds
-    requires { pred < 64 }
-    ensures this { HasEndsAt (IsGivenBy order.now) equality pred result }
-    ensures first { (n : ℕ) → n ≢ pred → bit result.first n ≡ bit ends.first n }
-    ensures second { (n : ℕ) → n ≢ pred → bit result.second n ≡ bit ends.second n }
-{
-    match equality {
-        Some(Equality { left, right }) => EqualityEnds {
-            first: with_pred(ends.first, pred, is_given_by(order, left.column)),
-            second: with_pred(ends.second, pred, is_given_by(order, right.column)),
-        },
-        None => ends,
-    }
-}
-
-// Whether rows in the order of this column alone, ascending, are in the order.
-fn is_given_by(order: &[u32], column: u32) -> bool
-    ensures { IsGivenBy order.now column → IsTrue result }
-{
-    match order {
-        [] => true,
-        [element] => element % 2 == 0 && element / 2 == column,
-        [_, _, ..] => false,
     }
 }
 

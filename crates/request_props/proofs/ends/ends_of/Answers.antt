@@ -1,12 +1,12 @@
 use Rattle.std.proofs.Common.{ap, arith, length, None, subst, ◌≡◌, ◌∙◌}
 use Rattle.std.proofs.lemmas.List.{length-map}
-use Rattle.request_props.specs.Ends.{AreEndsBelow, HasColumn}
+use Rattle.request_props.specs.Ends.{AreEndsBelow, IsAmong}
 use Rattle.request_props.specs.Numbered.{equality_of}
 use Rattle.request_props.proofs.Masks.{none_below, ends_more}
 use Rattle.request_props.proofs.ends.ends_of.Goals as goal
 
 pub loop-pred-init : goal.loop-pred-init
-loop-pred-init c = none_below c.args.query.now (HasColumn c.args.query.now c.args.group) _
+loop-pred-init c = none_below c.args.query.now (IsAmong c.args.query.now c.args.columns) _
 
 pub with_ends-ends-requires : goal.with_ends-ends-requires
 with_ends-ends-requires c =
@@ -15,11 +15,11 @@ with_ends-ends-requires c =
 
 pub loop-pred-preserved : goal.loop-pred-preserved
 loop-pred-preserved c =
-    ends_more c.args.query.now (HasColumn c.args.query.now c.args.group) c.args.equalities.now c.requires c.loop-pred.pred c.loop-pred.ends c.with_ends-ends.result None c.loop-pred.invariant
+    ends_more c.args.query.now (IsAmong c.args.query.now c.args.columns) c.args.equalities.now c.requires c.loop-pred.pred c.loop-pred.ends c.with_ends-ends.result None c.loop-pred.invariant
     c.with_ends-ends.ensures.this c.with_ends-ends.ensures.first c.with_ends-ends.ensures.second
 
 pub returns : goal.returns
 returns c =
     let q = c.args.query.now in
     let count : c.loop-pred.pred ≡ length q.preds = omega (arith, ap length c.requires ∙ length-map q.preds (equality_of q)) in
-    subst (λ n. AreEndsBelow q (HasColumn q c.args.group) n c.loop-pred.ends) count c.loop-pred.invariant
+    subst (λ n. AreEndsBelow q (IsAmong q c.args.columns) n c.loop-pred.ends) count c.loop-pred.invariant

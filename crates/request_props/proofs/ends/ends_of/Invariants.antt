@@ -1,6 +1,6 @@
 -- The masks have the predicates before this one.
-use Rattle.request_props.specs.Ends.{AreEndsBelow, HasColumn}
+use Rattle.request_props.specs.Ends.{AreEndsBelow, IsAmong}
 use Rattle.request_props.proofs.ends.ends_of.Given as goal
 
 abbrev pub invariant-loop-pred : goal.invariant-loop-pred
-invariant-loop-pred l = AreEndsBelow l.query (HasColumn l.query l.group) l.pred l.ends
+invariant-loop-pred l = AreEndsBelow l.query (IsAmong l.query l.columns) l.pred l.ends
