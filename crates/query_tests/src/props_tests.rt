@@ -7,7 +7,7 @@ ghost use Rattle.request_props.specs.Satisfied.{IsOrderKnown};
 use query_core::*;
 use request_props::*;
 use std::test::Fail;
-use worked_queries::{props_of, two_equalities};
+use worked_queries::{cycle_of_four_predicates, props_of, two_equalities};
 
 fn key(item: u32, desc: bool) -> OrderKey {
     OrderKey { item, desc }
@@ -80,6 +80,36 @@ fn what_a_query_implies_is_looked_up(rt: HostRuntime) -> Result<(), Fail> {
     }
     assert!(rt; !props.is_grouped_list(&query, 0));
     assert!(rt; props.group_order(&query) == 0);
+    Ok(())
+}
+
+#[test]
+fn merges_are_by_a_left_column_that_gives_the_order(rt: HostRuntime) -> Result<(), Fail> {
+    let query = cycle_of_four_predicates(rt.alloc())?;
+    let props = props_of(rt.alloc(), &query)?;
+    // Two groups, an order and the predicates. The order of a column has the number after the column's.
+    let rows: [(KeyParts, KeyParts, u32, &[u32]); 10] = [
+        (KeyParts::Join(3), KeyParts::Get(2), 0, &[2, 3]),
+        (KeyParts::Join(3), KeyParts::Get(2), 6, &[2]),
+        (KeyParts::Join(3), KeyParts::Get(2), 3, &[3]),
+        // A right column alone gives the first order, and a column of no such predicate the second.
+        (KeyParts::Join(3), KeyParts::Get(2), 7, &[]),
+        (KeyParts::Join(3), KeyParts::Get(2), 1, &[]),
+        (KeyParts::Get(2), KeyParts::Join(3), 7, &[2]),
+        (KeyParts::Get(2), KeyParts::Join(3), 6, &[]),
+        (KeyParts::Get(0), KeyParts::Filter(1), 0, &[0, 1]),
+        (KeyParts::Get(0), KeyParts::Filter(1), 2, &[1]),
+        (KeyParts::Filter(1), KeyParts::Get(0), 5, &[1]),
+    ];
+    for (left, right, order, preds) in rows {
+        let merging = props.merging(&query, left, right, order);
+        for pred in 0..4u32 {
+            assert!(rt;
+                merging.admits(pred) == preds.contains(&pred),
+                "{order} {pred}"
+            );
+        }
+    }
     Ok(())
 }
 
