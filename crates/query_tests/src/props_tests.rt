@@ -102,8 +102,11 @@ fn merges_are_by_a_left_column_that_gives_the_order(rt: HostRuntime) -> Result<(
         (KeyParts::Filter(1), KeyParts::Get(0), 5, &[1]),
     ];
     for (left, right, order, preds) in rows {
+        let crossings = props.crossings(&query, left, right);
         let merging = props.merging(&query, left, right, order);
         for pred in 0..4u32 {
+            let crosses = props.crossing(&query, left, right, pred).is_some();
+            assert!(rt; crossings.admits(pred) == crosses, "{order} {pred}");
             assert!(rt;
                 merging.admits(pred) == preds.contains(&pred),
                 "{order} {pred}"
