@@ -3,7 +3,6 @@
 
 ghost use Rattle.query_core.specs.declared.query.Query.{Query};
 ghost use Rattle.plan_space.specs.Nodes.{Tree};
-ghost use Rattle.plan_space.specs.Modes.{AreInARow};
 ghost use Rattle.plan_space.specs.Order.{IsAtMost};
 ghost use Rattle.plan_space.specs.Laws.{GivesWhatFits, SatisfactionSplits, SatisfactionJoins, AsksWhatFits, ChoicesServe, SettledIsLeast, LeastIsOne};
 ghost use Rattle.plan_space.specs.Laws.{RootRequestFits, RootRequestIsCollected, ModesAreFew};
@@ -90,11 +89,6 @@ pub fn root_request_is_collected()
 {
     listing_is_one();
 }
-
-/// The modes of a kind are numbered one after the other.
-pub fn modes_are_in_a_row()
-    ensures { AreInARow }
-{}
 
 /// An expression has few modes, where the query has at most 60 hashed lists.
 pub fn modes_are_few()

@@ -7,10 +7,10 @@ mod modes;
 mod nodes;
 
 pub use laws::{
-    choices_serve, costs_fit, keys_fall, least_is_one, modes_are_few, modes_are_in_a_row,
-    plans_are_ordered, root_request_fits, root_request_is_collected, satisfaction_splits,
-    settled_is_least, what_is_asked_fits, what_is_given_fits,
+    choices_serve, costs_fit, keys_fall, least_is_one, modes_are_few, plans_are_ordered,
+    root_request_fits, root_request_is_collected, satisfaction_splits, settled_is_least,
+    what_is_asked_fits, what_is_given_fits,
 };
 pub use lines::{LeftDist, LeftOrder, Line};
-pub use modes::{END as MODES_END, Mode, ModeCounts, ModeRange};
+pub use modes::{END as MODES_END, Mode, ModeSets};
 pub use nodes::{Enforcer, NodeKind};

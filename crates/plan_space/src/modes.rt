@@ -2,7 +2,10 @@
 #![tactic(auto)]
 
 ghost use Rattle.std.specs.Prelude.{ℕ, ◌≡◌, ◌<◌, ◌≤◌};
-ghost use Rattle.plan_space.specs.Modes.{mode_at, IsAmong, IsCounted, IsOnOne, IsSpread};
+ghost use Rattle.plan_space.specs.Modes.{mode_at, HasMode, IsOnOne, IsSpread};
+ghost use Rattle.plan_space.specs.declared.modes.Mode.{Mode as AnyMode};
+
+use request_props::NumberSet;
 
 /// How an expression works, with the number of an equality or of a hashed list where it works by one.
 #[derive(Clone, Copy, Debug, PartialEq, Eq)]
@@ -15,19 +18,12 @@ pub enum Mode {
     Hashed(u32),
 }
 
-/// The numbers of modes from one on, below another.
+/// The modes to try of an expression: of each kind those by the numbers of a set.
 #[derive(Clone, Copy, Debug, PartialEq, Eq)]
-pub struct ModeRange {
-    pub from: u32,
-    pub to: u32,
-}
-
-/// How many modes of each kind an expression can have, from the number 0 on.
-#[derive(Clone, Copy, Debug, PartialEq, Eq)]
-pub struct ModeCounts {
-    pub one: u32,
-    pub copied: u32,
-    pub hashed: u32,
+pub struct ModeSets {
+    pub one: NumberSet,
+    pub copied: NumberSet,
+    pub hashed: NumberSet,
 }
 
 const COPIED: u32 = 64;
@@ -52,59 +48,52 @@ impl Mode {
     }
 }
 
-impl ModeRange {
-    /// All modes that a query with at most 60 hashed lists has.
-    pub fn all() -> ModeRange
-        ensures { (number : ℕ) → number < 192 → IsAmong result number }
-    {
-        ModeRange { from: 0, to: END }
+impl ModeSets {
+    /// No modes.
+    pub fn none() -> ModeSets {
+        ModeSets {
+            one: NumberSet::none(),
+            copied: NumberSet::none(),
+            hashed: NumberSet::none(),
+        }
     }
 
     /// Those in which all rows are on one segment.
-    pub fn on_one() -> ModeRange
-        ensures { (number : ℕ) → IsOnOne (mode_at number) → IsAmong result number }
+    pub fn on_one(self) -> ModeSets
+        ensures { (mode : AnyMode) → HasMode self mode → IsOnOne mode → HasMode result mode }
     {
-        ModeRange {
-            from: 0,
-            to: COPIED,
+        ModeSets {
+            one: self.one,
+            copied: NumberSet::none(),
+            hashed: NumberSet::none(),
         }
     }
 
     /// The others.
-    pub fn spread() -> ModeRange
-        ensures { (number : ℕ) → number < 192 → IsSpread (mode_at number) → IsAmong result number }
+    pub fn spread(self) -> ModeSets
+        ensures { (mode : AnyMode) → HasMode self mode → IsSpread mode → HasMode result mode }
     {
-        ModeRange {
-            from: COPIED,
-            to: END,
+        ModeSets {
+            one: NumberSet::none(),
+            copied: self.copied,
+            hashed: self.hashed,
         }
     }
 
-    /// No modes.
-    pub fn none() -> ModeRange {
-        ModeRange { from: END, to: END }
-    }
-}
-
-impl ModeCounts {
     /// The first number from this one on whose mode is one of these, or one that no mode with a line has.
-    #[tactic(auto, using(crate::proofs::ModeNumbers::counted_cases))]
     pub fn next(self, from: u32) -> u32
         ensures from { from ≤ result }
         ensures none { (number : ℕ) → from ≤ number → number < result →
-            IsCounted self (mode_at number) → ⊥ }
+            HasMode self (mode_at number) → ⊥ }
     {
-        if from < self.one {
-            return from;
+        let one = self.one.next(from);
+        if one < COPIED {
+            return one;
         }
-        let copied = from.max(COPIED);
-        if copied - COPIED < self.copied {
+        let copied = COPIED + self.copied.next(from.max(COPIED) - COPIED);
+        if copied < HASHED {
             return copied;
         }
-        let hashed = from.max(HASHED);
-        if hashed - HASHED < self.hashed {
-            return hashed;
-        }
-        from.max(END)
+        HASHED + self.hashed.next(from.max(HASHED) - HASHED)
     }
 }

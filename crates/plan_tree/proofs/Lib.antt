@@ -5,13 +5,11 @@ pub mod NodeNumbers
 pub mod Decided
 pub mod Lined
 pub mod Modes
-pub mod Counted
-pub mod Walked
 pub mod ModesTried
 pub mod LineModes
 pub mod LeftFits
 pub mod Unordered
-pub mod Merging
+pub mod JoinsTried
 pub mod TriedOfOperators
 pub mod JoinsServe
 pub mod FoundEnforcers

@@ -1,5 +1,5 @@
 -- Modes in which an expression may not serve a request, one after the other.
-use Rattle.std.proofs.Common.{◌≡◌, ℕ, ◌+◌, ◌<◌, ◌≤◌, None, Some, max, min, sym, subst, ◌∙◌, inl, inr, arith}
+use Rattle.std.proofs.Common.{◌≡◌, ℕ, ◌+◌, ◌<◌, ◌≤◌, Option, None, Some, sym, subst, ◌∙◌, inl, inr, arith}
 use Rattle.std.proofs.lemmas.Bool.{cases_lt}
 use Rattle.query_core.specs.declared.query.Query.{Query}
 use Rattle.query_core.specs.declared.expressions.PhysicalExpr.{PhysicalExpr}
@@ -9,13 +9,10 @@ use Rattle.plan_space.specs.Alternatives.{LineServes}
 use Rattle.plan_space.specs.Lines.{line_of}
 use Rattle.plan_space.specs.declared.lines.Line.{Line}
 use Rattle.plan_tree.specs.Alternatives.{HasAlternative}
-use Rattle.plan_tree.specs.Walks.{AreNone}
-use Rattle.plan_space.specs.Modes.{mode_at, IsCounted}
-use Rattle.plan_space.specs.declared.modes.ModeCounts.{ModeCounts}
-use Rattle.plan_tree.specs.ServingModes.{AreServing, NoneServes}
-use Rattle.plan_tree.specs.Walks.{AdmitsMode}
-use Rattle.plan_tree.specs.declared.serving_modes.ServingModes.{ServingModes}
-use Rattle.plan_tree.proofs.Counted.{line_counted}
+use Rattle.plan_space.specs.Modes.{mode_at, HasMode}
+use Rattle.plan_space.specs.declared.modes.ModeSets.{ModeSets}
+use Rattle.plan_tree.specs.ServingModes.{AreServing, IsNextServing, NoneServes}
+use Rattle.plan_tree.specs.Walks.{IsNextTried}
 
 module _ (q : Query) (e : PhysicalExpr) (wanted : Request) where
   -- the line of a mode serves, or the mode isn't there
@@ -34,10 +31,6 @@ module _ (q : Query) (e : PhysicalExpr) (wanted : Request) where
   pub no_line : (mode : ℕ) → line_of q e mode ≡ None → HasAlternative q e wanted mode → ⊥
   no_line mode none has = let never : None ≡ Some has.0 = sym none ∙ has.1.is_line in let wrong : ⊥ = cc in wrong
 
-  -- where no mode has a line, none is there
-  pub none_without_lines : (from below : ℕ) → AreNone q e from below → NoneServes q e wanted from below
-  none_without_lines from below none mode above within = no_line mode (none mode above within)
-
   -- those before the next mode, and it
   pub none_past : (first from next : ℕ) → NoneServes q e wanted first from → NoneServes q e wanted from next → (HasAlternative q e wanted next → ⊥)
       → NoneServes q e wanted first (next + 1)
@@ -51,10 +44,6 @@ module _ (q : Query) (e : PhysicalExpr) (wanted : Request) where
     ]
   ]
 
-  -- those up to a number, and those from there on
-  pub none_joined : (first from below : ℕ) → NoneServes q e wanted first from → NoneServes q e wanted from below → NoneServes q e wanted first below
-  none_joined first from below before after mode above within = elim (cases_lt mode from) [ inl earlier ↦ before mode above earlier | inr later ↦ after mode later within ]
-
   -- where none is left from the number on, none is there, and all are below it
   pub none_at_all : (from : ℕ) → NoneServes q e wanted 0 from → ((mode : ℕ) → from ≤ mode → HasAlternative q e wanted mode → ⊥) → (mode : ℕ) → HasAlternative q e wanted mode → ⊥
   none_at_all from before after mode has = elim (cases_lt mode from) [ inl less ↦ before mode (omega arith) less has | inr most ↦ after mode most has ]
@@ -62,18 +51,11 @@ module _ (q : Query) (e : PhysicalExpr) (wanted : Request) where
   pub all_below : (from : ℕ) → ((mode : ℕ) → from ≤ mode → HasAlternative q e wanted mode → ⊥) → (mode : ℕ) → HasAlternative q e wanted mode → mode < from
   all_below from after mode has = elim (cases_lt mode from) [ inl less ↦ less | inr most ↦ absurd (after mode most has) ]
 
-  module _ (modes : ServingModes) (are : AreServing q e wanted modes) where
-    -- none is there among those that aren't tried
-    pub none_beside : (from below : ℕ) → ((mode : ℕ) → from ≤ mode → mode < below → IsCounted modes.tried.counts (mode_at mode) → AdmitsMode modes.tried (mode_at mode) → ⊥)
-        → NoneServes q e wanted from below
-    none_beside from below beside mode above within has =
-        let counts : IsCounted modes.tried.counts (mode_at mode) = subst (λ (c : ModeCounts). IsCounted c (mode_at mode)) (sym are.counted) (line_counted q e mode has.0 has.1.is_line) in
-        beside mode above within counts (are.tried mode has)
+  module _ (modes : ModeSets) (are : AreServing q e wanted modes) where
+    untried : (mode : ℕ) → (HasMode modes (mode_at mode) → line_of q e mode ≡ None) → HasAlternative q e wanted mode → ⊥
+    untried mode none has = no_line mode (none (are mode has)) has
 
-    -- nor before those of the range
-    pub none_before : (from low below : ℕ) → low ≤ max from modes.range.from → NoneServes q e wanted low below → NoneServes q e wanted from below
-    none_before from low below least none mode above within has = let among = are.among mode has in none mode (omega (arith, above, least, among.above)) within has
-
-    -- nor behind them
-    pub none_behind : (from end : ℕ) → min modes.range.to 192 ≤ end → NoneServes q e wanted from end → (mode : ℕ) → from ≤ mode → mode < 192 → HasAlternative q e wanted mode → ⊥
-    none_behind from end far none mode above few has = let among = are.among mode has in none mode above (omega (arith, far, few, among.below)) has
+    -- none before the next of these with a line serves, and where there is no next one, none at all
+    pub next_serves : (from : ℕ) (found : Option (ℕ × Line)) → IsNextTried q e modes from found → IsNextServing q e wanted from found
+    next_serves from None none = λ mode above. untried mode (none mode above)
+    next_serves from (Some (first, line)) next = (next.0, next.1, λ mode above within. untried mode (next.2 mode above within), next.3)

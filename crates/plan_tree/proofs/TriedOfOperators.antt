@@ -1,89 +1,116 @@
 -- A mode with a line is one that is tried.
-use Rattle.std.proofs.Common.{◌≡◌, ℕ, ◌<◌, ◌≤◌, Option, None, Some, refl, subst, sym, inl, inr, arith}
-use Rattle.std.proofs.lemmas.Bool.{cases_lt}
+use Rattle.std.proofs.Common.{◌≡◌, ℕ, ◌+◌, ◌<◌, ◌≤◌, Option, None, Some, length, refl, subst, inl, inr, arith, nat_lt}
+use Rattle.std.specs.Prelude.{◌==◌}
 use Rattle.std.specs.Option.{option_map}
+use Rattle.std.proofs.lemmas.Bool.{cases_lt, cond_both, eqb-true, ltb-true}
 use Rattle.query_core.specs.Crossing.{crossing_of}
 use Rattle.query_core.specs.declared.query.Query.{Query}
 use Rattle.query_core.specs.declared.words.KeyParts.{KeyParts}
 use Rattle.query_core.specs.declared.expressions.Physical.{Physical}
 use Rattle.query_core.specs.declared.expressions.Physical.TheVariants as physical
 use Rattle.query_core.specs.declared.expressions.PhysicalExpr.{PhysicalExpr}
-use Rattle.plan_space.specs.Lines.{operator_line, line_of}
-use Rattle.plan_space.specs.Modes.{mode_at, IsCounted}
+use Rattle.request_props.specs.Numbered.{lists_of, group_order}
+use Rattle.request_props.specs.NumberSets.{HasBelow}
+use Rattle.plan_space.specs.Lines.{only_line, single_line, loop_line, agg_line, operator_line, line_of}
+use Rattle.plan_space.specs.Modes.{mode_at, HasMode}
 use Rattle.plan_space.specs.declared.lines.Line.{Line}
 use Rattle.plan_space.specs.declared.modes.Mode.{Mode}
 use Rattle.plan_space.specs.declared.modes.Mode.TheVariants.{One, Copied, Hashed}
-use Rattle.plan_space.specs.declared.modes.ModeCounts.{ModeCounts}
-use Rattle.request_props.specs.declared.request.Request.{Request}
-use Rattle.plan_tree.specs.Alternatives.{HasAlternative}
-use Rattle.plan_tree.specs.Walks.{AdmitsMode, AreAny, AreNone, AreTriedOf, counts_of}
-use Rattle.plan_tree.specs.declared.walks.TriedModes.{TriedModes}
-use Rattle.plan_tree.proofs.Counted.{line_counted}
+use Rattle.plan_space.specs.declared.modes.ModeSets.{ModeSets}
+use Rattle.plan_tree.specs.Walks.{AreNone, AreNoneTried, AreTriedOf, IsNextLine, IsNextTried}
 
 -- what a crossing made crosses
-some_crosses : (line_by : (ℕ × ℕ) → Line) (found : Option (ℕ × ℕ)) (line : Line) → option_map line_by found ≡ Some line → found ≡ None → ⊥
+pub some_crosses : (line_by : (ℕ × ℕ) → Line) (found : Option (ℕ × ℕ)) (line : Line) → option_map line_by found ≡ Some line → found ≡ None → ⊥
 some_crosses line_by None line is none = let wrong : ⊥ = cc in wrong
 some_crosses line_by (Some sides) line is none = let wrong : ⊥ = cc in wrong
 
-any_mode : (tried : TriedModes) → AreAny tried.one × AreAny tried.copied × AreAny tried.hashed → (mode : Mode) → AdmitsMode tried mode
-any_mode tried any (One number) = any.0 number
-any_mode tried any (Copied number) = any.1 number
-any_mode tried any (Hashed number) = any.2 number
+-- a line where the number is 0 is one
+pub only_first : (own line : Line) (number : ℕ) → only_line own number ≡ Some line → number < 1
+only_first own line number =
+    cond_both (number == 0) (Some own) None (λ found. found ≡ Some line → number < 1) (λ first is. omega (arith, eqb-true number 0 first)) (λ other never. cc)
 
-module _ (q : Query) (tried : TriedModes) (line : Line) where
-  operator_tried : (group : KeyParts) (operator : Physical) (mode : Mode) → AreTriedOf q operator tried → operator_line q group operator mode ≡ Some line → AdmitsMode tried mode
-  operator_tried group physical.Scan mode are is = any_mode tried are mode
-  operator_tried group (physical.IndexScan index) mode are is = any_mode tried are mode
-  operator_tried group (physical.Filter child) mode are is = any_mode tried are mode
-  operator_tried group (physical.IndexSeek index) mode are is = any_mode tried are mode
-  operator_tried group (physical.HashJoin left right) (One number) are is = are.0 number
-  operator_tried group (physical.HashJoin left right) (Copied number) are is = are.1 number
+module _ (q : Query) (modes : ModeSets) (line : Line) where
+  single_tried : HasBelow modes.one 1 → (own : Line) (mode : Mode) → single_line own mode ≡ Some line → HasMode modes mode
+  single_tried first own (One number) is = first number (only_first own line number is)
+  single_tried first own (Copied number) is = let wrong : ⊥ = cc in absurd wrong
+  single_tried first own (Hashed number) is = let wrong : ⊥ = cc in absurd wrong
+
+  loop_tried : HasBelow modes.one 1 → HasBelow modes.copied 1 → (mode : Mode) → loop_line mode ≡ Some line → HasMode modes mode
+  loop_tried first copied (One number) is = first number (only_first _ line number is)
+  loop_tried first copied (Copied number) is = copied number (only_first _ line number is)
+  loop_tried first copied (Hashed number) is = let wrong : ⊥ = cc in absurd wrong
+
+  list_numbered : (order list : ℕ) → agg_line q order (Hashed list) ≡ Some line → list < length (lists_of q)
+  list_numbered order list =
+      cond_both (nat_lt list (length (lists_of q))) _ None (λ found. found ≡ Some line → list < length (lists_of q))
+      (λ numbered is. ltb-true list (length (lists_of q)) numbered) (λ other never. cc)
+
+  agg_tried : HasBelow modes.one 1 → HasBelow modes.hashed (length (lists_of q)) → (order : ℕ) (mode : Mode) → agg_line q order mode ≡ Some line → HasMode modes mode
+  agg_tried first lists order (One number) is = first number (only_first _ line number is)
+  agg_tried first lists order (Copied number) is = let wrong : ⊥ = cc in absurd wrong
+  agg_tried first lists order (Hashed list) is = lists list (list_numbered order list is)
+
+  pub operator_tried : (group : KeyParts) (operator : Physical) (mode : Mode) → AreTriedOf q operator modes → operator_line q group operator mode ≡ Some line → HasMode modes mode
+  operator_tried group physical.Scan mode are is = single_tried are _ mode is
+  operator_tried group (physical.IndexScan index) mode are is = single_tried are _ mode is
+  operator_tried group (physical.Filter child) mode are is = single_tried are _ mode is
+  operator_tried group (physical.IndexSeek index) mode are is = single_tried are _ mode is
+  operator_tried group (physical.HashJoin left right) (One number) are is = are.0 number (only_first _ line number is)
+  operator_tried group (physical.HashJoin left right) (Copied number) are is = are.1 number (only_first _ line number is)
   operator_tried group (physical.HashJoin left right) (Hashed number) are is = are.2 number (some_crosses _ (crossing_of q left right number) line is)
   operator_tried group (physical.MergeJoin left right) (One number) are is = are.0 number (some_crosses _ (crossing_of q left right number) line is)
   operator_tried group (physical.MergeJoin left right) (Copied number) are is = are.1 number (some_crosses _ (crossing_of q left right number) line is)
   operator_tried group (physical.MergeJoin left right) (Hashed number) are is = are.2 number (some_crosses _ (crossing_of q left right number) line is)
-  operator_tried group (physical.LoopJoin left right) mode are is = any_mode tried are mode
-  operator_tried group (physical.HashAgg child) mode are is = any_mode tried are mode
-  operator_tried group (physical.StreamAgg child) mode are is = any_mode tried are mode
-  operator_tried group (physical.PartialAgg child) mode are is = any_mode tried are mode
+  operator_tried group (physical.LoopJoin left right) mode are is = loop_tried are.0 are.1 mode is
+  operator_tried group (physical.HashAgg child) mode are is = agg_tried are.0 are.1 0 mode is
+  operator_tried group (physical.StreamAgg child) mode are is = agg_tried are.0 are.1 (group_order q) mode is
+  operator_tried group (physical.PartialAgg child) mode are is = single_tried are _ mode is
 
--- a mode that is there for a request is tried
-pub alternative_tried : (q : Query) (e : PhysicalExpr) (wanted : Request) (tried : TriedModes) → AreTriedOf q e.operator tried → (mode : ℕ) → HasAlternative q e wanted mode
-    → AdmitsMode tried (mode_at mode)
-alternative_tried q e wanted tried are mode has = operator_tried q tried has.0 e.group e.operator (mode_at mode) are has.1.is_line
+module _ (q : Query) (e : PhysicalExpr) (modes : ModeSets) where
+  -- numbers that are passed have no line among these
+  pub none_passed : (from below : ℕ) → ((mode : ℕ) → from ≤ mode → mode < below → HasMode modes (mode_at mode) → ⊥) → AreNoneTried q e modes from below
+  none_passed from below passed mode above within has = absurd (passed mode above within has)
 
--- so no line is there in the modes that aren't tried
-pub none_untried : (q : Query) (e : PhysicalExpr) (tried : TriedModes) (from below : ℕ) → tried.counts ≡ counts_of q e.operator → AreTriedOf q e.operator tried
-    → ((mode : ℕ) → from ≤ mode → mode < below → IsCounted tried.counts (mode_at mode) → AdmitsMode tried (mode_at mode) → ⊥) → AreNone q e from below
-none_untried q e tried from below counted are beside mode at within =
-    elim (line_of q e mode) as (λ (found : Option Line). line_of q e mode ≡ found → found ≡ None) [
-      | None ↦ λ is. refl
-      | Some line ↦ λ is.
-          let counts : IsCounted tried.counts (mode_at mode) = subst (λ (c : ModeCounts). IsCounted c (mode_at mode)) (sym counted) (line_counted q e mode line is) in
-          absurd (beside mode at within counts (operator_tried q tried line e.group e.operator (mode_at mode) are is))
-    ] refl
-
--- no mode from the number on and below the other is tried
-abbrev pub NoneTried : TriedModes → ℕ → ℕ → Type 0
-NoneTried tried from below = (number : ℕ) → from ≤ number → number < below → IsCounted tried.counts (mode_at number) → AdmitsMode tried (mode_at number) → ⊥
-
--- those that aren't counted
-pub none_counted : (tried : TriedModes) (from below : ℕ) → ((number : ℕ) → from ≤ number → number < below → IsCounted tried.counts (mode_at number) → ⊥) → NoneTried tried from below
-none_counted tried from below none number above within counted admits = none number above within counted
-
--- one more that isn't admitted, none behind it up to another number, and from there on none that is counted
-pub none_more_tried : (tried : TriedModes) (from number past next : ℕ) → NoneTried tried from number → (AdmitsMode tried (mode_at number) → ⊥)
-    → ((m : ℕ) → number < m → m < past → AdmitsMode tried (mode_at m) → ⊥)
-    → ((m : ℕ) → past ≤ m → m < next → IsCounted tried.counts (mode_at m) → ⊥) → NoneTried tried from next
-none_more_tried tried from number past next before here behind after m above within counted admits = elim (cases_lt m number) [
-  | inl earlier ↦ before m above earlier counted admits
-  | inr later ↦ elim (cases_lt number m) [
-    | inl beyond ↦ elim (cases_lt m past) [
-      | inl near ↦ behind m beyond near admits
-      | inr far ↦ after m far within counted
+  -- those before a mode without a line, and those behind it that are passed
+  pub none_after : (from mode next : ℕ) → AreNoneTried q e modes from mode → line_of q e mode ≡ None
+      → ((m : ℕ) → mode + 1 ≤ m → m < next → HasMode modes (mode_at m) → ⊥) → AreNoneTried q e modes from next
+  none_after from mode next before here passed m above within has = elim (cases_lt m mode) [
+    | inl earlier ↦ before m above earlier has
+    | inr later ↦ elim (cases_lt mode m) [
+      | inl behind ↦ absurd (passed m (omega arith) within has)
+      | inr not_behind ↦ let same : mode ≡ m = omega arith in subst (λ (k : ℕ). line_of q e k ≡ None) same here
     ]
-    | inr not_beyond ↦
-        let same : m ≡ number = omega (arith, later, not_beyond) in
-        here (subst (λ (k : ℕ). AdmitsMode tried (mode_at k)) same admits)
   ]
-]
+
+  -- and all of them, where those with a line are few
+  pub none_from : (from mode : ℕ) → AreNoneTried q e modes from mode → 192 ≤ mode → ((m : ℕ) (line : Line) → line_of q e m ≡ Some line → m < 192)
+      → (m : ℕ) → from ≤ m → HasMode modes (mode_at m) → line_of q e m ≡ None
+  none_from from mode before far few m above has =
+      elim (line_of q e m) as (λ (found : Option Line). line_of q e m ≡ found → found ≡ None) [
+        | None ↦ λ is. refl
+        | Some line ↦ λ is.
+            let within = few m line is in
+            let none = before m above (omega arith) has in
+            let never : ⊥ = cc in
+            absurd never
+      ] refl
+
+  module _ (are : AreTriedOf q e.operator modes) where
+    -- a mode that would have a line, and isn't tried, has none
+    untried : (mode : ℕ) (found : Option Line) → line_of q e mode ≡ found → (HasMode modes (mode_at mode) → line_of q e mode ≡ None) → found ≡ None
+    untried mode None is none = refl
+    untried mode (Some line) is none =
+        let never = none (operator_tried q modes line e.group e.operator (mode_at mode) are is) in
+        let wrong : ⊥ = cc in
+        absurd wrong
+
+    all_tried : (mode : ℕ) → (HasMode modes (mode_at mode) → line_of q e mode ≡ None) → line_of q e mode ≡ None
+    all_tried mode none = untried mode (line_of q e mode) refl none
+
+    none_tried : (from below : ℕ) → AreNoneTried q e modes from below → AreNone q e from below
+    none_tried from below none mode above within = all_tried mode (none mode above within)
+
+    -- so the first line of these is the first of all
+    pub first_of_all : (from : ℕ) (found : Option (ℕ × Line)) → IsNextTried q e modes from found → IsNextLine q e from found
+    first_of_all from None none = λ mode above. all_tried mode (none mode above)
+    first_of_all from (Some (mode, line)) next = (next.0, next.1, none_tried from mode next.2, next.3)

@@ -10,11 +10,10 @@ use Rattle.request_props.specs.declared.request.Dist.{Dist}
 use Rattle.request_props.specs.declared.request.Dist.TheVariants.{One, Spread, Copies, Hashed}
 use Rattle.request_props.specs.declared.request.Request.{Request}
 use Rattle.plan_space.specs.Lines.{line_of}
-use Rattle.plan_space.specs.Modes.{mode_at, IsAmong}
+use Rattle.plan_space.specs.Modes.{mode_at, HasMode}
 use Rattle.plan_space.specs.declared.lines.Line.{Line}
+use Rattle.plan_space.specs.declared.modes.ModeSets.{ModeSets}
 use Rattle.plan_tree.specs.Alternatives.{HasAlternative}
-use Rattle.plan_tree.specs.Walks.{AdmitsMode, counts_of}
-use Rattle.plan_tree.specs.declared.serving_modes.ServingModes.{ServingModes}
 
 -- the operator has modes for spread rows, and others for rows on one segment
 abbrev pub has_spread_modes : Physical → Bool
@@ -49,11 +48,9 @@ MayServe q e wanted = (mode : ℕ) × HasAlternative q e wanted mode
 abbrev pub NoneServes : Query → PhysicalExpr → Request → ℕ → ℕ → Type 0
 NoneServes q e wanted from below = (mode : ℕ) → from ≤ mode → mode < below → HasAlternative q e wanted mode → ⊥
 
--- all modes that are there for the request are among those that are tried
-pub record AreServing (q : Query) (e : PhysicalExpr) (wanted : Request) (modes : ServingModes) : Type 0 where
-  pub counted : modes.tried.counts ≡ counts_of q e.operator
-  pub tried : (mode : ℕ) → HasAlternative q e wanted mode → AdmitsMode modes.tried (mode_at mode)
-  pub among : (mode : ℕ) → HasAlternative q e wanted mode → IsAmong modes.range mode
+-- all modes that are there for the request are among these
+abbrev pub AreServing : Query → PhysicalExpr → Request → ModeSets → Type 0
+AreServing q e wanted modes = (mode : ℕ) → HasAlternative q e wanted mode → HasMode modes (mode_at mode)
 
 -- a mode from the number on, with its line, before which none is there for the request; or none is at all
 abbrev pub IsNextServing : Query → PhysicalExpr → Request → ℕ → Option (ℕ × Line) → Type 0

@@ -7,14 +7,12 @@ use Rattle.query_core.specs.declared.query.Query.{Query}
 use Rattle.query_core.specs.Crossing.{crossing_of}
 use Rattle.query_core.specs.declared.words.KeyParts.{KeyParts}
 use Rattle.request_props.specs.Numbered.{lists_of}
-use Rattle.request_props.specs.Ends.{Admits}
-use Rattle.request_props.specs.declared.ends.Crossings.{Crossings}
+use Rattle.request_props.specs.NumberSets.{HasBelow, HasNumber}
+use Rattle.request_props.specs.declared.number_set.NumberSet.{NumberSet}
 use Rattle.plan_space.specs.Lines.{line_of}
+use Rattle.plan_space.specs.Modes.{mode_at, HasMode}
 use Rattle.plan_space.specs.declared.lines.Line.{Line}
-use Rattle.plan_space.specs.declared.modes.Mode.{Mode}
-use Rattle.plan_space.specs.declared.modes.Mode.TheVariants.{One, Copied, Hashed}
-use Rattle.plan_space.specs.declared.modes.ModeCounts.{ModeCounts}
-use Rattle.plan_tree.specs.declared.walks.TriedModes.{TriedModes}
+use Rattle.plan_space.specs.declared.modes.ModeSets.{ModeSets}
 
 -- no mode from the number on and below the other has a line
 abbrev pub AreNone : Query → PhysicalExpr → ℕ → ℕ → Type 0
@@ -25,45 +23,29 @@ abbrev pub IsNextLine : Query → PhysicalExpr → ℕ → Option (ℕ × Line) 
 IsNextLine q e from None = (mode : ℕ) → from ≤ mode → line_of q e mode ≡ None
 IsNextLine q e from (Some found) = (from ≤ found.0) × (found.0 < 192) × AreNone q e from found.0 × (line_of q e found.0 ≡ Some found.1)
 
--- the mode is by a predicate that may cross, or by none
-abbrev pub AdmitsMode : TriedModes → Mode → Type 0
-AdmitsMode tried (One number) = Admits tried.one number
-AdmitsMode tried (Copied number) = Admits tried.copied number
-AdmitsMode tried (Hashed number) = Admits tried.hashed number
+-- none of these modes from the number on and below the other has a line
+abbrev pub AreNoneTried : Query → PhysicalExpr → ModeSets → ℕ → ℕ → Type 0
+AreNoneTried q e modes from below = (mode : ℕ) → from ≤ mode → mode < below → HasMode modes (mode_at mode) → line_of q e mode ≡ None
 
--- each predicate that equates columns across the groups may cross
-abbrev pub AreCrossingsBetween : Query → KeyParts → KeyParts → Crossings → Type 0
-AreCrossingsBetween q left right crossings = (pred : ℕ) → (crossing_of q left right pred ≡ None → ⊥) → Admits crossings pred
+-- a mode from the number on that has a line, with its line, before which none of these has; or none of these has one
+abbrev pub IsNextTried : Query → PhysicalExpr → ModeSets → ℕ → Option (ℕ × Line) → Type 0
+IsNextTried q e modes from None = (mode : ℕ) → from ≤ mode → HasMode modes (mode_at mode) → line_of q e mode ≡ None
+IsNextTried q e modes from (Some found) = (from ≤ found.0) × (found.0 < 192) × AreNoneTried q e modes from found.0 × (line_of q e found.0 ≡ Some found.1)
 
--- all predicates may
-abbrev pub AreAny : Crossings → Type 0
-AreAny crossings = (pred : ℕ) → Admits crossings pred
+-- each predicate that equates columns across the groups is among these
+abbrev pub AreCrossingsBetween : Query → KeyParts → KeyParts → NumberSet → Type 0
+AreCrossingsBetween q left right preds = (pred : ℕ) → (crossing_of q left right pred ≡ None → ⊥) → HasNumber preds pred
 
--- the predicates by which the operator can work in its modes of each kind may cross
-abbrev pub AreTriedOf : Query → Physical → TriedModes → Type 0
-AreTriedOf q (physical.HashJoin left right) tried = AreAny tried.one × AreAny tried.copied × AreCrossingsBetween q left right tried.hashed
-AreTriedOf q (physical.MergeJoin left right) tried =
-    AreCrossingsBetween q left right tried.one × AreCrossingsBetween q left right tried.copied × AreCrossingsBetween q left right tried.hashed
-AreTriedOf q operator tried = AreAny tried.one × AreAny tried.copied × AreAny tried.hashed
-
--- so many modes of each kind
-abbrev pub counts : ℕ → ℕ → ℕ → ModeCounts
-counts one copied hashed = record { one = one; copied = copied; hashed = hashed }
-
--- how many modes of each kind the operator can have
-abbrev pub counts_of : Query → Physical → ModeCounts
-counts_of q physical.Scan = counts 1 0 0
-counts_of q (physical.IndexScan index) = counts 1 0 0
-counts_of q (physical.Filter child) = counts 1 0 0
-counts_of q (physical.IndexSeek index) = counts 1 0 0
-counts_of q (physical.HashJoin left right) = counts 1 1 (length q.preds)
-counts_of q (physical.MergeJoin left right) = counts (length q.preds) (length q.preds) (length q.preds)
-counts_of q (physical.LoopJoin left right) = counts 1 1 0
-counts_of q (physical.HashAgg child) = counts 1 0 (length (lists_of q))
-counts_of q (physical.StreamAgg child) = counts 1 0 (length (lists_of q))
-counts_of q (physical.PartialAgg child) = counts 1 0 0
-
--- all modes in which the operator can work are among these
-pub record AreTried (q : Query) (operator : Physical) (tried : TriedModes) : Type 0 where
-  pub counted : tried.counts ≡ counts_of q operator
-  pub crossings : AreTriedOf q operator tried
+-- each mode in which the operator can work is among these: the first of a kind, or those by equalities or lists
+abbrev pub AreTriedOf : Query → Physical → ModeSets → Type 0
+AreTriedOf q physical.Scan modes = HasBelow modes.one 1
+AreTriedOf q (physical.IndexScan index) modes = HasBelow modes.one 1
+AreTriedOf q (physical.Filter child) modes = HasBelow modes.one 1
+AreTriedOf q (physical.IndexSeek index) modes = HasBelow modes.one 1
+AreTriedOf q (physical.HashJoin left right) modes = HasBelow modes.one 1 × HasBelow modes.copied 1 × AreCrossingsBetween q left right modes.hashed
+AreTriedOf q (physical.MergeJoin left right) modes =
+    AreCrossingsBetween q left right modes.one × AreCrossingsBetween q left right modes.copied × AreCrossingsBetween q left right modes.hashed
+AreTriedOf q (physical.LoopJoin left right) modes = HasBelow modes.one 1 × HasBelow modes.copied 1
+AreTriedOf q (physical.HashAgg child) modes = HasBelow modes.one 1 × HasBelow modes.hashed (length (lists_of q))
+AreTriedOf q (physical.StreamAgg child) modes = HasBelow modes.one 1 × HasBelow modes.hashed (length (lists_of q))
+AreTriedOf q (physical.PartialAgg child) modes = HasBelow modes.one 1

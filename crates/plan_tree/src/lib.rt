@@ -26,5 +26,5 @@ pub use plan::{Found, Plan};
 pub use seen::{Below, Seen, given_satisfies, plan_seen, seen_above, seen_below};
 pub use seen_cost::{cost_above, cost_above_any, rows_above};
 pub use serving::may_give;
-pub use serving_modes::{ServingModes, may_serve, modes_to_try, next_serving};
+pub use serving_modes::{may_serve, modes_to_try, next_serving};
 pub use walks::next_line;

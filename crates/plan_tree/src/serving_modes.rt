@@ -2,29 +2,20 @@
 //! the first mode or the request itself tells that, and only merge joins and aggregations are looked at mode by mode.
 #![tactic(auto)]
 
-ghost use Rattle.std.specs.Prelude.{ℕ, ◌≡◌, ◌↔◌, IsTrue};
+ghost use Rattle.std.specs.Prelude.{◌≡◌, ◌↔◌, IsTrue};
 ghost use Rattle.query_core.specs.Expressions.{expr_of, IsCandidate};
 ghost use Rattle.request_props.specs.Numbered.{IsProps, IsNumbered, order_of};
 ghost use Rattle.request_props.specs.Satisfied.{BeginsWith};
-ghost use Rattle.plan_space.specs.Modes.{mode_at, IsAmong};
 ghost use Rattle.plan_tree.specs.Alternatives.{HasAlternative};
 ghost use Rattle.plan_tree.specs.ServingModes.{has_spread_modes as spread_modes};
 ghost use Rattle.plan_tree.specs.ServingModes.{AreServing, IsNextServing, MayServe, SuitsJoin, WantsCopies};
-ghost use Rattle.plan_tree.specs.Walks.{AdmitsMode, counts_of as counts_by_operator};
 
 use crate::lines::line_of;
 use crate::serving::{gives, serves};
-use crate::walks::{TriedModes, counts_of, tried_modes};
-use plan_space::{Line, MODES_END, ModeRange, modes_are_few};
+use crate::walks::{next_tried, tried, tried_modes};
+use plan_space::{Line, ModeSets};
 use query_core::{KeyParts, Physical, PhysicalExpr, Query};
-use request_props::{Dist, GivenDist, GivenOrder, Props, Request};
-
-/// The modes that are tried of an expression for a request, found once for a whole walk.
-#[derive(Clone, Copy)]
-pub struct ServingModes {
-    tried: TriedModes,
-    range: ModeRange,
-}
+use request_props::{Dist, GivenDist, GivenOrder, NumberSet, Props, Request};
 
 /// Whether the expression may serve the request in some mode.
 pub fn may_serve(query: &Query, props: &Props, expr: PhysicalExpr, wanted: Request) -> bool
@@ -121,19 +112,20 @@ fn serves_in_some(query: &Query, props: &Props, expr: PhysicalExpr, wanted: Requ
     false
 }
 
-/// The modes to try of an expression for a request.
-pub fn modes_to_try(
-    query: &Query,
-    props: &Props,
-    expr: PhysicalExpr,
-    wanted: Request,
-) -> ServingModes
+/// The modes to try of an expression for a request: all are among them in which it may serve that.
+pub fn modes_to_try(query: &Query, props: &Props, expr: PhysicalExpr, wanted: Request) -> ModeSets
     requires { IsProps query.now props.now }
     ensures { AreServing query.now expr wanted result }
 {
-    ServingModes {
-        tried: tried_for(query, props, expr, wanted),
-        range: modes_for(query, props, expr, wanted),
+    let modes = modes_by_operator(query, props, expr, wanted);
+    if !has_spread_modes(expr.operator) {
+        return modes;
+    }
+    match wanted.dist {
+        Dist::One => modes.on_one(),
+        Dist::Spread => modes.spread(),
+        Dist::Copies => ModeSets::none(),
+        Dist::Hashed(_) => modes.spread(),
     }
 }
 
@@ -143,63 +135,33 @@ pub fn next_serving(
     props: &Props,
     expr: PhysicalExpr,
     _wanted: Request,
-    modes: ServingModes,
+    modes: ModeSets,
     from: u32,
 ) -> Option<(u32, Line)>
     requires props { IsProps query.now props.now }
     requires modes { AreServing query.now expr _wanted modes }
     ensures { IsNextServing query.now expr _wanted from result }
 {
-    // For the proof: an expression has few modes.
-    modes_are_few();
-    let end = modes.range.to.min(MODES_END);
-    let mut mode = modes.tried.next(from.max(modes.range.from));
-    while mode < end {
-        match line_of(query, props, expr, mode) {
-            Some(line) => return Some((mode, line)),
-            None => {}
-        }
-        mode = modes.tried.next(mode + 1);
-    }
-    None
+    next_tried(query, props, expr, modes, from)
 }
 
-// The modes that are tried for the request: of a merge join those by predicates whose left column gives the order.
-fn tried_for(query: &Query, props: &Props, expr: PhysicalExpr, wanted: Request) -> TriedModes
+// The same without a look at the kinds of modes: of a join those by predicates whose left column gives the order or the
+// hash that is asked for.
+fn modes_by_operator(query: &Query, props: &Props, expr: PhysicalExpr, wanted: Request) -> ModeSets
     requires { IsProps query.now props.now }
-    ensures counted { result.counts ≡ counts_by_operator query.now expr.operator }
-    ensures tried { (mode : ℕ) → HasAlternative query.now expr wanted mode →
-        AdmitsMode result (mode_at mode) }
+    ensures { AreServing query.now expr wanted result }
 {
     match expr.operator {
+        Physical::HashJoin(left, right) => {
+            let first = NumberSet::below(1);
+            tried(first, first, props.hashing(query, left, right, wanted.dist))
+        }
         Physical::MergeJoin(left, right) => {
             let merging = props.merging(query, left, right, wanted.order);
-            TriedModes {
-                counts: counts_of(query, props, expr.operator),
-                one: merging,
-                copied: merging,
-                hashed: merging,
-            }
+            let hashing = props.hashing(query, left, right, wanted.dist);
+            tried(merging, merging, merging.and(hashing))
         }
         _ => tried_modes(query, props, expr.operator),
-    }
-}
-
-// The modes among which all those are in which the expression may serve the request.
-fn modes_for(query: &Query, props: &Props, expr: PhysicalExpr, wanted: Request) -> ModeRange
-    requires props { IsProps query.now props.now }
-    ensures { (mode : ℕ) → HasAlternative query.now expr wanted mode → IsAmong result mode }
-{
-    // For the proof: an expression has few modes.
-    modes_are_few();
-    if !has_spread_modes(expr.operator) {
-        return ModeRange::all();
-    }
-    match wanted.dist {
-        Dist::One => ModeRange::on_one(),
-        Dist::Spread => ModeRange::spread(),
-        Dist::Copies => ModeRange::none(),
-        Dist::Hashed(_) => ModeRange::spread(),
     }
 }
 

@@ -1,142 +1,92 @@
 //! The modes of an expression, one after the other. No call here takes memory.
 #![tactic(auto)]
 
-ghost use Rattle.std.specs.Prelude.{ℕ, ◌≡◌, ◌≤◌, ◌<◌, ◌↔◌, IsTrue};
-ghost use Rattle.request_props.specs.Numbered.{IsProps};
-ghost use Rattle.plan_space.specs.Modes.{mode_at, IsCounted};
-ghost use Rattle.plan_tree.specs.Walks.{AdmitsMode, AreTried, IsNextLine, counts_of as counts_by_operator};
+ghost use Rattle.std.specs.Prelude.{◌≡◌, length};
+ghost use Rattle.request_props.specs.NumberSets.{HasBelow};
+ghost use Rattle.request_props.specs.Numbered.{IsProps, lists_of};
+ghost use Rattle.plan_tree.specs.Walks.{AreTriedOf, IsNextLine, IsNextTried};
 
 use crate::lines::line_of;
-use plan_space::{Line, MODES_END, Mode, ModeCounts, modes_are_few, modes_are_in_a_row};
+use plan_space::{Line, MODES_END, ModeSets, modes_are_few};
 use query_core::{Physical, PhysicalExpr, Query};
-use request_props::{Crossings, Props};
+use request_props::{NumberSet, Props};
 
 /// The first mode from this number on in which the expression works, with its line.
 pub fn next_line(query: &Query, props: &Props, expr: PhysicalExpr, from: u32) -> Option<(u32, Line)>
     requires { IsProps query.now props.now }
     ensures { IsNextLine query.now expr from result }
 {
+    next_tried(
+        query,
+        props,
+        expr,
+        tried_modes(query, props, expr.operator),
+        from,
+    )
+}
+
+/// The first of these modes from this number on in which the expression works, with its line.
+pub fn next_tried(
+    query: &Query,
+    props: &Props,
+    expr: PhysicalExpr,
+    modes: ModeSets,
+    from: u32,
+) -> Option<(u32, Line)>
+    requires { IsProps query.now props.now }
+    ensures { IsNextTried query.now expr modes from result }
+{
+    // For the proof: an expression has few modes.
     modes_are_few();
-    let tried = tried_modes(query, props, expr.operator);
-    let mut mode = tried.next(from);
+    let mut mode = modes.next(from);
     while mode < MODES_END {
         match line_of(query, props, expr, mode) {
             Some(line) => return Some((mode, line)),
             None => {}
         }
-        mode = tried.next(mode + 1);
+        mode = modes.next(mode + 1);
     }
     None
 }
 
-/// The modes that are tried: so many of each kind, and of these those by the predicates that may cross.
-#[derive(Clone, Copy)]
-pub struct TriedModes {
-    pub counts: ModeCounts,
-    pub one: Crossings,
-    pub copied: Crossings,
-    pub hashed: Crossings,
-}
-
-impl TriedModes {
-    /// The first number from this one on whose mode is tried, or one that no mode with a line has.
-    pub fn next(self, from: u32) -> u32
-        ensures from { from ≤ result }
-        ensures none { (number : ℕ) → from ≤ number → number < result →
-            IsCounted self.counts (mode_at number) → AdmitsMode self (mode_at number) → ⊥ }
-    {
-        let mut number = self.counts.next(from);
-        while number < MODES_END && !self.admits(Mode::at(number)) {
-            number = self.counts.next(self.past(number));
-        }
-        number
-    }
-
-    // A number behind this one, up to which no mode of its kind is admitted.
-    fn past(self, number: u32) -> u32
-        requires { number < 192 }
-        ensures after { number < result }
-        ensures none { (m : ℕ) → number < m → m < result → AdmitsMode self (mode_at m) → ⊥ }
-    {
-        // For the proof: modes of a kind are numbered one after the other.
-        modes_are_in_a_row();
-        let (pred, next) = match Mode::at(number) {
-            Mode::One(pred) => (pred, self.one.next(pred + 1)),
-            Mode::Copied(pred) => (pred, self.copied.next(pred + 1)),
-            Mode::Hashed(pred) => (pred, self.hashed.next(pred + 1)),
-        };
-        number + (next - pred)
-    }
-
-    // Whether the mode is by a predicate that may cross, or by none.
-    fn admits(self, mode: Mode) -> bool
-        ensures { IsTrue result ↔ AdmitsMode self mode }
-    {
-        match mode {
-            Mode::One(number) => self.one.admits(number),
-            Mode::Copied(number) => self.copied.admits(number),
-            Mode::Hashed(number) => self.hashed.admits(number),
-        }
-    }
-}
-
 /// The modes that are tried of an operator: all are among them in which it works.
-pub fn tried_modes(query: &Query, props: &Props, operator: Physical) -> TriedModes
+pub fn tried_modes(query: &Query, props: &Props, operator: Physical) -> ModeSets
     requires { IsProps query.now props.now }
-    ensures { AreTried query.now operator result }
+    ensures { AreTriedOf query.now operator result }
 {
-    let counts = counts_of(query, props, operator);
-    let any = Crossings::any();
+    let first = NumberSet::below(1);
+    let none = NumberSet::none();
     match operator {
-        Physical::HashJoin(left, right) => TriedModes {
-            counts,
-            one: any,
-            copied: any,
-            hashed: props.crossings(query, left, right),
-        },
+        Physical::Scan => tried(first, none, none),
+        Physical::IndexScan(_) => tried(first, none, none),
+        Physical::Filter(_) => tried(first, none, none),
+        Physical::IndexSeek(_) => tried(first, none, none),
+        Physical::HashJoin(left, right) => {
+            tried(first, first, props.crossings(query, left, right))
+        }
         Physical::MergeJoin(left, right) => {
             let crossings = props.crossings(query, left, right);
-            TriedModes {
-                counts,
-                one: crossings,
-                copied: crossings,
-                hashed: crossings,
-            }
+            tried(crossings, crossings, crossings)
         }
-        _ => TriedModes {
-            counts,
-            one: any,
-            copied: any,
-            hashed: any,
-        },
+        Physical::LoopJoin(_, _) => tried(first, first, none),
+        Physical::HashAgg(_) => tried(first, none, by_lists(query, props)),
+        Physical::StreamAgg(_) => tried(first, none, by_lists(query, props)),
+        Physical::PartialAgg(_) => tried(first, none, none),
     }
 }
 
-/// How many modes of each kind the operator can have.
-pub fn counts_of(query: &Query, props: &Props, operator: Physical) -> ModeCounts
+// The numbers of all hashed lists.
+fn by_lists(query: &Query, props: &Props) -> NumberSet
     requires { IsProps query.now props.now }
-    ensures { result ≡ counts_by_operator query.now operator }
+    ensures { HasBelow result (length (lists_of query.now)) }
 {
-    let preds = query.preds.len() as u32;
-    let lists = props.hashed.len() as u32;
-    match operator {
-        Physical::Scan => counts(1, 0, 0),
-        Physical::IndexScan(_) => counts(1, 0, 0),
-        Physical::Filter(_) => counts(1, 0, 0),
-        Physical::IndexSeek(_) => counts(1, 0, 0),
-        Physical::HashJoin(_, _) => counts(1, 1, preds),
-        Physical::MergeJoin(_, _) => counts(preds, preds, preds),
-        Physical::LoopJoin(_, _) => counts(1, 1, 0),
-        Physical::HashAgg(_) => counts(1, 0, lists),
-        Physical::StreamAgg(_) => counts(1, 0, lists),
-        Physical::PartialAgg(_) => counts(1, 0, 0),
-    }
+    NumberSet::below(props.hashed.len() as u32)
 }
 
-fn counts(one: u32, copied: u32, hashed: u32) -> ModeCounts
+pub fn tried(one: NumberSet, copied: NumberSet, hashed: NumberSet) -> ModeSets
     ensures { result ≡ record { one = one; copied = copied; hashed = hashed } }
 {
-    ModeCounts {
+    ModeSets {
         one,
         copied,
         hashed,

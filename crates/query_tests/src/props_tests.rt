@@ -106,14 +106,45 @@ fn merges_are_by_a_left_column_that_gives_the_order(rt: HostRuntime) -> Result<(
         let merging = props.merging(&query, left, right, order);
         for pred in 0..4u32 {
             let crosses = props.crossing(&query, left, right, pred).is_some();
-            assert!(rt; crossings.admits(pred) == crosses, "{order} {pred}");
+            assert!(rt; has(crossings, pred) == crosses, "{order} {pred}");
             assert!(rt;
-                merging.admits(pred) == preds.contains(&pred),
+                has(merging, pred) == preds.contains(&pred),
                 "{order} {pred}"
             );
         }
     }
     Ok(())
+}
+
+#[test]
+fn hashes_are_by_a_left_column_that_is_the_list(rt: HostRuntime) -> Result<(), Fail> {
+    let query = cycle_of_four_predicates(rt.alloc())?;
+    let props = props_of(rt.alloc(), &query)?;
+    // Two groups, what is asked for and the predicates. The list of a column has the column's number.
+    let rows: [(KeyParts, KeyParts, Dist, &[u32]); 7] = [
+        (KeyParts::Join(3), KeyParts::Get(2), Dist::Spread, &[2, 3]),
+        (KeyParts::Join(3), KeyParts::Get(2), Dist::Hashed(5), &[2]),
+        (KeyParts::Join(3), KeyParts::Get(2), Dist::Hashed(2), &[3]),
+        // A right column alone is the list.
+        (KeyParts::Join(3), KeyParts::Get(2), Dist::Hashed(6), &[]),
+        (KeyParts::Get(2), KeyParts::Join(3), Dist::Hashed(6), &[2]),
+        (KeyParts::Get(0), KeyParts::Filter(1), Dist::Hashed(1), &[1]),
+        (KeyParts::Filter(1), KeyParts::Get(0), Dist::Hashed(4), &[1]),
+    ];
+    for (left, right, wanted, preds) in rows {
+        let hashing = props.hashing(&query, left, right, wanted);
+        for pred in 0..4u32 {
+            assert!(rt;
+                has(hashing, pred) == preds.contains(&pred),
+                "{wanted:?} {pred}"
+            );
+        }
+    }
+    Ok(())
+}
+
+fn has(numbers: NumberSet, number: u32) -> bool {
+    numbers.next(number) == number
 }
 
 #[test]

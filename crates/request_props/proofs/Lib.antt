@@ -10,5 +10,6 @@ pub mod SideLemmas
 pub mod LeftRanges
 pub mod KindOrder
 pub mod CandidateLists
-pub mod Masks
+pub mod NumberSets
+pub mod EqualityEnds
 pub mod PhysicalLists

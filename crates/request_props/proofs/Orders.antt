@@ -1,5 +1,5 @@
 -- The numbered orders of a query, and orders that begin with others.
-use Rattle.std.proofs.Common.{◌≡◌, ℕ, zero, suc, ◌*◌, ◌<◌, ◌≤◌, ◌⊎◌, List, [], ◌∷◌, ◌++◌, length, map, inl, inr, refl, sym, ap, subst, arith, bytes_eq}
+use Rattle.std.proofs.Common.{◌≡◌, ℕ, zero, suc, ◌*◌, ◌<◌, ◌≤◌, ◌⊎◌, List, [], ◌∷◌, ◌++◌, length, map, inl, inr, refl, sym, ap, subst, ◌∙◌, arith, bytes_eq}
 use Rattle.std.specs.Prelude.{slice_index_or}
 use Rattle.std.specs.List.{Contains, position_or_len}
 use Rattle.std.proofs.lemmas.Bool.{cases_lt}
@@ -56,6 +56,13 @@ itself_or_empty lists list =
       | inl below ↦ inl (sym ((bytes_eq-Decides list (slice_index_or lists place [])).0 (passes_at_first (bytes_eq list) lists [] below)))
       | inr beyond ↦ inr (get_or-eq_default lists [] beyond)
     ]
+
+-- what has its first place below the end stands there
+pub list_at : (lists : List (List ℕ)) (list : List ℕ) (place : ℕ) → position_or_len (bytes_eq list) lists ≡ place → place < length lists → slice_index_or lists place [] ≡ list
+list_at lists list place is below =
+    let first = position_or_len (bytes_eq list) lists in
+    let within : first < length lists = omega (arith, is, below) in
+    ap (λ (k : ℕ). slice_index_or lists k []) (sym is) ∙ sym ((bytes_eq-Decides list (slice_index_or lists first [])).0 (passes_at_first (bytes_eq list) lists [] within))
 
 begins_empty : (order wanted : List ℕ) → order ≡ [] → BeginsWith order wanted → wanted ≡ []
 begins_empty order [] is begins = refl

@@ -4,6 +4,7 @@ pub mod Found
 pub mod Groups
 pub mod Candidates
 pub mod Filling
+pub mod NumberSets
 pub mod Ends
 pub mod Joins
 pub mod Lying

@@ -50,7 +50,7 @@ order_among orders (suc place) = slice_index_or orders place []
 abbrev pub order_of : Query → ℕ → List ℕ
 order_of q number = order_among (orders_of q) number
 
--- the masks of each order, by its number
+-- the sets of each order, by its number
 abbrev pub AreOrderEnds : Query → List EqualityEnds → Type 0
 AreOrderEnds q list = AreEnds q (λ number. IsGivenBy (order_of q number)) list
 
@@ -89,6 +89,10 @@ column_list q column = list_number q (column ∷ [])
 -- the order of one ascending column
 abbrev pub column_order : Query → ℕ → ℕ
 column_order q column = order_number q ((2 * column) ∷ [])
+
+-- the sets of each hashed list, by its number
+abbrev pub AreListEnds : Query → List EqualityEnds → Type 0
+AreListEnds q list = AreEnds q (λ number column. column_list q column ≡ number) list
 
 -- a column that an equality compares, with the numbers of its list and of its ascending order
 abbrev pub side_of : Query → ℕ → Side
@@ -139,12 +143,13 @@ pub record AreGroupTables (q : Query) (tables : GroupTables) : Type 0 where
   pub candidates : AreCandidates q tables.candidates
   pub physical : ArePhysical q tables.physical
 
--- the equalities of the query, and which of them have a column of each group, and one that gives each order
+-- the equalities of the query, and which of them have a column of each group, one that gives each order, and one that is all of each list
 pub record AreEqualityTables (q : Query) (tables : EqualityTables) : Type 0 where
   pub sides : tables.sides ≡ map (equality_of q) q.preds
   pub of_tables : AreTableEnds q tables.of_tables
   pub of_sets : AreSetEnds q tables.of_sets
   pub of_orders : AreOrderEnds q tables.of_orders
+  pub of_lists : AreListEnds q tables.of_lists
 
 -- where rows of tables lie, and where lists and orders do
 pub record ArePlacementTables (q : Query) (tables : PlacementTables) : Type 0 where

@@ -1,14 +1,15 @@
-//! Which equalities have a column of a group, or one that gives an order, as masks of predicates: each predicate is the
-//! bit of its number. Nothing else shifts or masks these.
+//! Which equalities have a column of a group, one that gives an order, or one by which rows are hashed, as sets of the
+//! numbers of predicates.
 #![tactic(auto)]
 
-ghost use Rattle.std.specs.Prelude.{ℕ, ◌≡◌, ◌≢◌, ◌<◌, ◌≤◌, ◌↔◌, IfOk, IsTrue, map, max};
-ghost use Rattle.query_core.specs.Sets.{bit, Has};
+ghost use Rattle.std.specs.Prelude.{ℕ, ◌≡◌, ◌<◌, ◌↔◌, [], ◌∷◌, IfOk, IsTrue, map};
 ghost use Rattle.query_core.specs.declared.query.Query.{Query as AnyQuery};
-ghost use Rattle.request_props.specs.Numbered.{AreOrderEnds, equality_of, orders_of};
-ghost use Rattle.request_props.specs.Ends.{Admits, AreEndsOf, AreSetEnds, AreTableEnds, HasAcross};
+ghost use Rattle.request_props.specs.NumberSets.{HasNumber};
+ghost use Rattle.request_props.specs.Numbered.{AreListEnds, AreOrderEnds, equality_of, lists_of, orders_of};
+ghost use Rattle.request_props.specs.Ends.{AreEndsOf, AreSetEnds, AreTableEnds, HasAcross};
 ghost use Rattle.request_props.specs.Ends.{HasEndsAt, IsAmong, IsGivenBy};
 
+use crate::number_set::NumberSet;
 use crate::sides::Equality;
 use orca_base::List;
 use query_core::{KeyParts, Query, sets};
@@ -17,69 +18,31 @@ use std::alloc::{AllocError, Global};
 /// The equalities whose first column is one of some, as those of a group, and those whose second is.
 #[derive(Clone, Copy, Debug, PartialEq, Eq)]
 pub struct EqualityEnds {
-    pub first: u64,
-    pub second: u64,
+    pub first: NumberSet,
+    pub second: NumberSet,
 }
 
 impl EqualityEnds {
     /// The equalities that are in both, by the same column.
     pub fn and(self, other: EqualityEnds) -> EqualityEnds
-        ensures first { (pred : ℕ) → Has self.first pred → Has other.first pred →
-            Has result.first pred }
-        ensures second { (pred : ℕ) → Has self.second pred → Has other.second pred →
-            Has result.second pred }
+        ensures first { (pred : ℕ) → HasNumber self.first pred → HasNumber other.first pred →
+            HasNumber result.first pred }
+        ensures second { (pred : ℕ) → HasNumber self.second pred →
+            HasNumber other.second pred → HasNumber result.second pred }
     {
         EqualityEnds {
-            first: self.first & other.first,
-            second: self.second & other.second,
-        }
-    }
-}
-
-/// Predicates among which all are that equate columns across two groups.
-#[derive(Clone, Copy, Debug, PartialEq, Eq)]
-pub struct Crossings {
-    /// None where they aren't known, so that it may be any.
-    known: Option<u64>,
-}
-
-impl Crossings {
-    /// Any predicates.
-    pub fn any() -> Crossings
-        ensures { (pred : ℕ) → Admits result pred }
-    {
-        Crossings { known: None }
-    }
-
-    /// Those of the equalities of which each group has one column.
-    pub fn between(left: EqualityEnds, right: EqualityEnds) -> Crossings
-        ensures { (pred : ℕ) → HasAcross left right pred → Admits result pred }
-    {
-        Crossings {
-            known: Some((left.first & right.second) | (left.second & right.first)),
+            first: self.first.and(other.first),
+            second: self.second.and(other.second),
         }
     }
 
-    /// Whether the predicate is among them.
-    pub fn admits(self, pred: u32) -> bool
-        ensures { IsTrue result ↔ Admits self pred }
+    /// Those of which each has one column.
+    pub fn across(self, other: EqualityEnds) -> NumberSet
+        ensures { (pred : ℕ) → HasAcross self other pred → HasNumber result pred }
     {
-        match self.known {
-            Some(mask) => has_pred(mask, pred),
-            None => true,
-        }
-    }
-
-    /// The first of them from this number on, or a number that no predicate has.
-    pub fn next(self, from: u32) -> u32
-        ensures from { from ≤ result }
-        ensures near { result ≤ max from 64 }
-        ensures none { (pred : ℕ) → from ≤ pred → pred < result → Admits self pred → ⊥ }
-    {
-        match self.known {
-            Some(mask) => next_pred(mask, from),
-            None => from,
-        }
+        self.first
+            .and(other.second)
+            .or(self.second.and(other.first))
     }
 }
 
@@ -101,6 +64,16 @@ impl Columns {
         match order {
             [] => Columns::All,
             [element] if element % 2 == 0 => Columns::One(element / 2),
+            _ => Columns::None,
+        }
+    }
+
+    // That which is all of the list.
+    fn alone_in(list: &[u32]) -> Columns
+        ensures { (q : AnyQuery) (column : ℕ) → list.now ≡ column ∷ [] → IsAmong q result column }
+    {
+        match list {
+            [column] => Columns::One(*column),
             _ => Columns::None,
         }
     }
@@ -169,28 +142,23 @@ pub fn order_ends(
     Ok(found)
 }
 
-// Whether the mask has the predicate.
-#[tactic(auto, using(crate::proofs::Masks::masks))]
-fn has_pred(mask: u64, pred: u32) -> bool
-    ensures { IsTrue result ↔ Has mask pred }
+/// For each hashed list, by its number, the equalities of which a column is all of it.
+pub fn list_ends(
+    alloc: Global,
+    query: &Query,
+    equalities: &[Option<Equality>],
+    lists: &[List<u32>],
+) -> Result<Vec<EqualityEnds>, AllocError>
+    requires equalities { equalities.now ≡ map (equality_of query.now) query.now.preds }
+    requires lists { lists.now ≡ lists_of query.now }
+    ensures { IfOk result (λ found. AreListEnds query.now found.items) }
 {
-    pred < 64 && (mask >> pred) & 1 == 1
-}
-
-// The first predicate of the mask from this number on, or a number that no predicate has.
-fn next_pred(mask: u64, from: u32) -> u32
-    ensures from { from ≤ result }
-    ensures near { result ≤ max from 64 }
-    ensures none { (pred : ℕ) → from ≤ pred → pred < result → Has mask pred → ⊥ }
-{
-    if from >= 64 {
-        return from;
+    let mut found = Vec::new(alloc);
+    for place in 0..lists.len() {
+        let columns = Columns::alone_in(lists[place].as_slice());
+        found.push(ends_of(query, equalities, columns))?;
     }
-    let rest = mask >> from;
-    if rest == 0 {
-        return 64;
-    }
-    from + rest.trailing_zeros()
+    Ok(found)
 }
 
 // The equalities of which a column gives the order.
@@ -207,8 +175,8 @@ fn ends_of(query: &Query, equalities: &[Option<Equality>], columns: Columns) -> 
     ensures { AreEndsOf query.now (IsAmong query.now columns) result }
 {
     let mut ends = EqualityEnds {
-        first: 0,
-        second: 0,
+        first: NumberSet::none(),
+        second: NumberSet::none(),
     };
     for pred in 0..equalities.len() {
         ends = with_ends(query, columns, equalities[pred], pred as u32, ends);
@@ -226,24 +194,14 @@ fn with_ends(
 ) -> EqualityEnds
     requires { pred < 64 }
     ensures this { HasEndsAt (IsAmong query.now columns) equality pred result }
-    ensures first { (n : ℕ) → n ≢ pred → bit result.first n ≡ bit ends.first n }
-    ensures second { (n : ℕ) → n ≢ pred → bit result.second n ≡ bit ends.second n }
+    ensures first { (other : ℕ) → HasNumber ends.first other → HasNumber result.first other }
+    ensures second { (other : ℕ) → HasNumber ends.second other → HasNumber result.second other }
 {
     match equality {
         Some(Equality { left, right }) => EqualityEnds {
-            first: with_pred(ends.first, pred, columns.have(query, left.column)),
-            second: with_pred(ends.second, pred, columns.have(query, right.column)),
+            first: ends.first.with(pred, columns.have(query, left.column)),
+            second: ends.second.with(pred, columns.have(query, right.column)),
         },
         None => ends,
     }
-}
-
-// The mask, with the predicate where it is one of them.
-#[tactic(auto, using(crate::proofs::Masks::masks))]
-fn with_pred(mask: u64, pred: u32, is_one: bool) -> u64
-    requires { pred < 64 }
-    ensures this { IsTrue is_one → Has result pred }
-    ensures others { (n : ℕ) → n ≢ pred → bit result n ≡ bit mask n }
-{
-    if is_one { mask | (1 << pred) } else { mask }
 }

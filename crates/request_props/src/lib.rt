@@ -10,6 +10,7 @@ mod found;
 mod given;
 mod groups;
 mod lying;
+mod number_set;
 mod numbering;
 mod numbers;
 mod physical;
@@ -20,9 +21,9 @@ mod sides;
 mod tables;
 
 pub use classes::{class_asked, class_of, classes_agree};
-pub use ends::Crossings;
 pub use fault::PropsFault;
 pub use given::{Given, GivenDist, GivenOrder};
+pub use number_set::NumberSet;
 pub use numbering::listing_is_one;
 pub use physical::PhysicalCandidate;
 pub use props::Props;

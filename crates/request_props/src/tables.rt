@@ -6,7 +6,7 @@ ghost use Rattle.request_props.specs.Numbered.{lists_of, orders_of};
 ghost use Rattle.request_props.specs.Numbered.{AreGroupTables, AreEqualityTables, ArePlacementTables};
 
 use crate::candidates::group_candidates;
-use crate::ends::{EqualityEnds, order_ends, set_ends, table_ends};
+use crate::ends::{EqualityEnds, list_ends, order_ends, set_ends, table_ends};
 use crate::given::GivenDist;
 use crate::groups::{group_rows, query_keys};
 use crate::lying::{items_of_orders, tables_of_lists};
@@ -41,6 +41,8 @@ pub struct EqualityTables {
     pub of_sets: List<EqualityEnds>,
     /// For each order, by its number, the equalities of which a column gives it.
     pub of_orders: List<EqualityEnds>,
+    /// For each hashed list, by its number, the equalities of which a column is all of it.
+    pub of_lists: List<EqualityEnds>,
 }
 
 /// Where rows lie, and the tables of lists and orders.
@@ -95,11 +97,13 @@ impl EqualityTables {
         let of_tables = table_ends(alloc, query, sides.as_slice())?;
         let of_sets = set_ends(alloc, query, sides.as_slice())?;
         let of_orders = order_ends(alloc, query, sides.as_slice(), orders)?;
+        let of_lists = list_ends(alloc, query, sides.as_slice(), lists)?;
         let tables = EqualityTables {
             sides: List::of(sides),
             of_tables: List::of(of_tables),
             of_sets: List::of(of_sets),
             of_orders: List::of(of_orders),
+            of_lists: List::of(of_lists),
         };
         Ok(Box::new(alloc, tables)?)
     }

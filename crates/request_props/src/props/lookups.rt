@@ -9,18 +9,22 @@ ghost use Rattle.query_core.specs.Keys.{IsGroup, IsKey, Names};
 ghost use Rattle.query_core.specs.declared.words.KeyParts.{KeyParts as Group};
 ghost use Rattle.cardinality.specs.Rows.{rows_of};
 ghost use Rattle.request_props.specs.Candidates.{AreCandidatesOf, ArePhysicalOf, FindsNext};
-ghost use Rattle.request_props.specs.Ends.{Admits, AreEndsOf, HasColumn};
+ghost use Rattle.request_props.specs.Ends.{AreEndsOf, HasColumn};
+ghost use Rattle.request_props.specs.NumberSets.{HasBelow, HasNumber};
+ghost use Rattle.request_props.specs.declared.given.GivenDist.TheVariants.{Hashed};
 ghost use Rattle.request_props.specs.declared.ends.EqualityEnds.{EqualityEnds as AnyEnds};
 ghost use Rattle.request_props.specs.Numbered.{IsProps, side_of, both_sides, equality_of};
 ghost use Rattle.request_props.specs.Numbered.{table_dist as dist_of_table, group_order as order_of_groups};
-ghost use Rattle.request_props.specs.Numbered.{is_grouped_list as is_list_grouped, order_of, column_order};
-ghost use Rattle.request_props.specs.Satisfied.{BeginsWith};
+ghost use Rattle.request_props.specs.Numbered.{is_grouped_list as is_list_grouped, order_of, column_list, column_order};
+ghost use Rattle.request_props.specs.Satisfied.{BeginsWith, Meets};
 
-use crate::ends::{Crossings, EqualityEnds};
+use crate::ends::EqualityEnds;
 use crate::given::GivenDist;
 use crate::groups::is_key;
+use crate::number_set::NumberSet;
 use crate::physical::PhysicalCandidate;
 use crate::props::Props;
+use crate::request::Dist;
 use crate::sides::{Equality, Side};
 use query_core::{Expr, KEYS, Key, KeyParts, Query, bound_after, count_below, groups_are_known};
 
@@ -122,31 +126,62 @@ impl Props {
     }
 
     /// Predicates among which all are that equate columns across the groups.
-    pub fn crossings(&self, query: &Query, left: KeyParts, right: KeyParts) -> Crossings
+    pub fn crossings(&self, query: &Query, left: KeyParts, right: KeyParts) -> NumberSet
         requires { IsProps query.now self.now }
         ensures { (pred : ℕ) → (crossing_of query.now left right pred ≡ None → ⊥) →
-            Admits result pred }
+            HasNumber result pred }
     {
         match (self.ends(query, left), self.ends(query, right)) {
-            (Some(left), Some(right)) => Crossings::between(left, right),
-            _ => Crossings::any(),
+            (Some(left), Some(right)) => left.across(right),
+            _ => any_preds(),
         }
     }
 
     /// Predicates among which all are that equate columns across the groups, that of the left group giving the order.
-    pub fn merging(&self, query: &Query, left: KeyParts, right: KeyParts, order: u32) -> Crossings
+    pub fn merging(&self, query: &Query, left: KeyParts, right: KeyParts, order: u32) -> NumberSet
         requires { IsProps query.now self.now }
         ensures { (pred a b : ℕ) → crossing_of query.now left right pred ≡ Some (a, b) →
             BeginsWith (order_of query.now (column_order query.now a)) (order_of query.now order) →
-            Admits result pred }
+            HasNumber result pred }
     {
         match (
             self.ends(query, left),
             self.ends(query, right),
             ends_at(self.equalities.of_orders.as_slice(), order),
         ) {
-            (Some(left), Some(right), Some(giving)) => Crossings::between(left.and(giving), right),
-            _ => Crossings::any(),
+            (Some(left), Some(right), Some(giving)) => left.and(giving).across(right),
+            _ => any_preds(),
+        }
+    }
+
+    /// Predicates among which all are that equate columns across the groups, so that rows hashed by that of the left
+    /// group are distributed as asked.
+    pub fn hashing(&self, query: &Query, left: KeyParts, right: KeyParts, wanted: Dist) -> NumberSet
+        requires { IsProps query.now self.now }
+        ensures { (pred a b : ℕ) → crossing_of query.now left right pred ≡ Some (a, b) →
+            Meets (Hashed (column_list query.now a)) wanted → HasNumber result pred }
+    {
+        match wanted {
+            Dist::One => NumberSet::none(),
+            Dist::Spread => self.crossings(query, left, right),
+            Dist::Copies => NumberSet::none(),
+            Dist::Hashed(list) => self.hashing_by(query, left, right, list),
+        }
+    }
+
+    // The same for this list.
+    fn hashing_by(&self, query: &Query, left: KeyParts, right: KeyParts, list: u32) -> NumberSet
+        requires { IsProps query.now self.now }
+        ensures { (pred a b : ℕ) → crossing_of query.now left right pred ≡ Some (a, b) →
+            column_list query.now a ≡ list → HasNumber result pred }
+    {
+        match (
+            self.ends(query, left),
+            self.ends(query, right),
+            ends_at(self.equalities.of_lists.as_slice(), list),
+        ) {
+            (Some(left), Some(right), Some(hashed)) => left.and(hashed).across(right),
+            _ => any_preds(),
         }
     }
 
@@ -205,6 +240,13 @@ impl Props {
     {
         self.placement.by_groups
     }
+}
+
+// The numbers of all predicates.
+fn any_preds() -> NumberSet
+    ensures { HasBelow result 64 }
+{
+    NumberSet::below(64)
 }
 
 // What stands at this place of the list, if it has so many.

@@ -1,5 +1,5 @@
 use Rattle.request_props.specs.Ends.{IsAmong, IsGivenBy}
-use Rattle.request_props.proofs.Masks.{ends_fewer}
+use Rattle.request_props.proofs.EqualityEnds.{ends_fewer}
 use Rattle.request_props.proofs.ends.ends_giving.Goals as goal
 
 pub returns : goal.returns

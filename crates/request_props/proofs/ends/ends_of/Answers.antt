@@ -2,7 +2,7 @@ use Rattle.std.proofs.Common.{ap, arith, length, None, subst, ◌≡◌, ◌∙�
 use Rattle.std.proofs.lemmas.List.{length-map}
 use Rattle.request_props.specs.Ends.{AreEndsBelow, IsAmong}
 use Rattle.request_props.specs.Numbered.{equality_of}
-use Rattle.request_props.proofs.Masks.{none_below, ends_more}
+use Rattle.request_props.proofs.EqualityEnds.{none_below, ends_more}
 use Rattle.request_props.proofs.ends.ends_of.Goals as goal
 
 pub loop-pred-init : goal.loop-pred-init

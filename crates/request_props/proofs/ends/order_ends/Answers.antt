@@ -3,7 +3,7 @@ use Rattle.std.proofs.Common.{◌≡◌, ℕ, ◌+◌, ◌<◌, List, [], length
 use Rattle.std.proofs.lemmas.List.{get_or_read_under}
 use Rattle.request_props.specs.Ends.{AreEndsOf, IsGivenBy}
 use Rattle.request_props.specs.Numbered.{order_of, orders_of}
-use Rattle.request_props.proofs.Masks.{ends_push}
+use Rattle.request_props.proofs.EqualityEnds.{ends_push}
 use Rattle.request_props.proofs.Orders.{order_behind}
 use Rattle.request_props.proofs.ends.order_ends.Goals as goal
 

@@ -1,5 +1,5 @@
 use Rattle.std.proofs.Common.{arith}
-use Rattle.request_props.proofs.Masks.{ends_push}
+use Rattle.request_props.proofs.EqualityEnds.{ends_push}
 use Rattle.request_props.proofs.ends.table_ends.Goals as goal
 
 -- one more group's masks are found

@@ -1,89 +1,25 @@
--- Laws of masks of predicates, of which each is a bit of a number of 64 bits.
-use Rattle.std.proofs.Common.{◌≡◌, ◌⊎◌, inl, inr, ℕ, ◌+◌, ◌-◌, ◌*◌, ◌/◌, ◌%◌, ◌^◌, ◌<◌, ◌≤◌, List, [], ◌∷◌, ◌++◌, Option, None, Some, length, length-append, map, get_or, max, min, arith, ap, refl, sym, subst, ◌∙◌, IsTrue, Bool, true, false, ◌&&◌, if◌then◌else◌}
-use Rattle.std.specs.Prelude.{bit_and, bit_or, ◌≢◌, slice_get, IfSome}
-use Rattle.std.specs.Int.{w64, bit_at, trailing_zeros}
+-- Laws of the equalities that have one of some columns, as sets of the numbers of predicates.
+use Rattle.std.proofs.Common.{◌≡◌, ◌⊎◌, inl, inr, ℕ, ◌+◌, ◌<◌, ◌≤◌, List, [], ◌∷◌, ◌++◌, Option, None, Some, length, length-append, map, get_or, arith, ap, refl, sym, subst, ◌∙◌, IsTrue, Bool, true, false, ◌&&◌, if◌then◌else◌}
+use Rattle.std.specs.Prelude.{slice_get, IfSome}
 use Rattle.std.specs.Option.{option_map}
 use Rattle.std.proofs.lemmas.Bool.{and_parts, cases_lt, cases_eq}
 use Rattle.std.proofs.lemmas.Option.{slice_get-map, slice_get_within, get_or_from_slice_get}
 use Rattle.std.proofs.lemmas.List.{get_or_append_left}
 use Rattle.std.proofs.Math.Seq.{get_or-append_seam}
-use Rattle.std.proofs.Math.Nat.{div-le_self}
-use Rattle.std.proofs.lemmas.Nat.{shr-shr}
-use Rattle.std.proofs.lemmas.Nat.Bits.{bit_at_set_same, bit_at_set_other, bit_at-zero, bit_at-trailing_zeros}
-use Rattle.query_core.specs.Sets.{bit, Has}
 use Rattle.query_core.specs.Keys.{has_item}
 use Rattle.query_core.specs.declared.query.Query.{Query}
 use Rattle.query_core.specs.declared.words.KeyParts.{KeyParts}
 use Rattle.query_core.specs.declared.words.KeyParts.TheVariants.{Get, Filter}
-use Rattle.query_core.proofs.Bits.{bit-or, bit-and, bit-below, bit-read, bit-beyond}
 use Rattle.query_core.specs.Crossing.{crossing_of, crossing_at, sides_with, equal_item}
 use Rattle.query_core.specs.declared.predicate.Pred.{Pred}
-use Rattle.request_props.specs.Ends.{IsEqualityAt, AreEnds, AreEndsBelow, AreEndsOf, HasAcross, HasColumn, HasEndsAt, IsGivenBy}
+use Rattle.request_props.specs.Ends.{IsEqualityAt, AreEnds, AreEndsBelow, AreEndsOf, HasAcross, HasColumn, HasEndsAt}
+use Rattle.request_props.specs.NumberSets.{HasNumber}
 use Rattle.request_props.specs.Numbered.{side_of, equality_with, equality_of}
 use Rattle.request_props.specs.declared.ends.EqualityEnds.{EqualityEnds}
 use Rattle.request_props.specs.declared.sides.Equality.{Equality}
 
-pub mask-with : (mask k : ℕ) → k < 64 → bit (bit_or mask (1 * 2 ^ k % 2 ^ 64)) k ≡ 1
-unfolding bit
-mask-with mask k within = bit_at_set_same w64 mask k within
-
-pub mask-with_other : (mask k : ℕ) → k < 64 → (t : ℕ) → t ≢ k → bit (bit_or mask (1 * 2 ^ k % 2 ^ 64)) t ≡ bit mask t
-unfolding bit
-mask-with_other mask k within t other = bit_at_set_other w64 mask k within t other
-
-pub ruleset masks = (arith, mask-with, mask-with_other, bit-or, bit-and, bit-below, bit-read, bit-beyond)
-
--- what is in both masks is in their meet, and what is in one is in the join
-pub in_both : (a b k : ℕ) → Has a k → Has b k → Has (bit_and a b) k
-in_both a b k first second = omega (arith, bit-and a b k, first, second)
-
-pub in_first : (a b k : ℕ) → Has a k → Has (bit_or a b) k
-in_first a b k first = omega (arith, bit-or a b k, first, bit-below b k)
-
-pub in_second : (a b k : ℕ) → Has b k → Has (bit_or a b) k
-in_second a b k second = omega (arith, bit-or a b k, second, bit-below a k)
-
--- in the join of the meets of two and two others
-pub in_either : (a b c d k : ℕ) → (Has a k × Has b k) ⊎ (Has c k × Has d k) → Has (bit_or (bit_and a b) (bit_and c d)) k
-in_either a b c d k either = elim either [
-  | inl both ↦ in_first (bit_and a b) (bit_and c d) k (in_both a b k both.0 both.1)
-  | inr both ↦ in_second (bit_and a b) (bit_and c d) k (in_both c d k both.0 both.1)
-]
-
--- a mask of 64 bits has none from 64 on
-pub mask_below : (mask k : ℕ) → mask < 2 ^ 64 → Has mask k → k < 64
-mask_below mask k fits has = elim (cases_lt k 64) [ inl less ↦ less | inr more ↦ absurd (omega (arith, bit-beyond mask 64 k fits more, has)) ]
-
--- a place from the one on to which a mask is shifted is in the rest
-shifted : (mask from pred : ℕ) → from ≤ pred → bit (mask / 2 ^ from) (pred - from) ≡ bit mask pred
-unfolding bit
-shifted mask from pred after = ap (λ x. x % 2) (shr-shr mask from (pred - from)) ∙ ap (bit_at mask) (omega (arith, after))
-
--- where nothing is left there, the mask has no predicate from there on
-pub none_left : (mask from pred : ℕ) → mask / 2 ^ from ≡ 0 → from ≤ pred → Has mask pred → ⊥
-unfolding bit
-none_left mask from pred none after has =
-    let zero : bit_at mask pred ≡ 0 = sym (shifted mask from pred after) ∙ (ap (λ x. bit_at x (pred - from)) none ∙ bit_at-zero (pred - from)) in
-    absurd (omega (arith, zero, has))
-
--- the first of the rest is one of the mask, and the first of it from there on
-pub first_left : (mask from : ℕ) → mask < 2 ^ 64 → 0 < mask / 2 ^ from
-    → (from + trailing_zeros w64 (mask / 2 ^ from) < 64) × ((pred : ℕ) → from ≤ pred → pred < from + trailing_zeros w64 (mask / 2 ^ from) → Has mask pred → ⊥)
-unfolding bit
-first_left mask from fits some =
-    let rest = mask / 2 ^ from in
-    let small : rest < 2 ^ 64 = omega (arith, div-le_self mask (2 ^ from), fits) in
-    let found = bit_at-trailing_zeros w64 rest some small in
-    let place = from + trailing_zeros w64 rest in
-    let here : Has mask place = sym (shifted mask from place (omega arith)) ∙ (ap (bit_at rest) (omega arith) ∙ found.1) in (
-      mask_below mask place fits here,
-      λ pred after before has.
-          let zero : bit_at rest (pred - from) ≡ 0 = found.2 (pred - from) (omega (arith, after, before)) in
-          absurd (omega (arith, shifted mask from pred after, zero, has)),
-    )
-
 module _ (q : Query) (IsOne : ℕ → Type 0) where
-  -- masks of no predicates
+  -- sets of no predicates
   pub none_below : (ends : EqualityEnds) → AreEndsBelow q IsOne 0 ends
   none_below ends = record { first = λ n a b below is has. absurd (omega (arith, below)); second = λ n a b below is has. absurd (omega (arith, below)) }
 
@@ -95,21 +31,21 @@ module _ (q : Query) (IsOne : ℕ → Type 0) where
       let this : equality_of q is.pred ≡ Some (record { left = side_of q a; right = side_of q b }) = ap (equality_with q is.pred.left) is.second ∙ ap (λ x. equality_with q x (Some b)) is.first in
       get_or_from_slice_get equalities n (equality_of q is.pred) d found ∙ this
 
-  -- masks of one more predicate
+  -- sets of one more predicate
   pub ends_more : (equalities : List (Option Equality)) → equalities ≡ map (equality_of q) q.preds → (n : ℕ) (ends new : EqualityEnds) (d : Option Equality) → AreEndsBelow q IsOne n ends
-      → HasEndsAt IsOne (get_or equalities n d) n new → ((k : ℕ) → k ≢ n → bit new.first k ≡ bit ends.first k) → ((k : ℕ) → k ≢ n → bit new.second k ≡ bit ends.second k)
+      → HasEndsAt IsOne (get_or equalities n d) n new → ((k : ℕ) → HasNumber ends.first k → HasNumber new.first k) → ((k : ℕ) → HasNumber ends.second k → HasNumber new.second k)
       → AreEndsBelow q IsOne (n + 1) new
   ends_more equalities are n ends new d before this first second =
       let at : (a b : ℕ) → IsEqualityAt q n a b → HasEndsAt IsOne (Some (record { left = side_of q a; right = side_of q b })) n new =
       λ a b is. subst (λ e. HasEndsAt IsOne e n new) (there equalities are n a b is d) this in
       record {
         first = λ k a b below is has. elim (cases_eq k n) [
-          | inl same ↦ subst (Has new.first) (sym same) ((at a b (subst (λ x. IsEqualityAt q x a b) same is)).0 has)
-          | inr differs ↦ first k differs ∙ before.first k a b (omega (arith, below, differs)) is has
+          | inl same ↦ subst (HasNumber new.first) (sym same) ((at a b (subst (λ x. IsEqualityAt q x a b) same is)).0 has)
+          | inr differs ↦ first k (before.first k a b (omega (arith, below, differs)) is has)
         ];
         second = λ k a b below is has. elim (cases_eq k n) [
-          | inl same ↦ subst (Has new.second) (sym same) ((at a b (subst (λ x. IsEqualityAt q x a b) same is)).1 has)
-          | inr differs ↦ second k differs ∙ before.second k a b (omega (arith, below, differs)) is has
+          | inl same ↦ subst (HasNumber new.second) (sym same) ((at a b (subst (λ x. IsEqualityAt q x a b) same is)).1 has)
+          | inr differs ↦ second k (before.second k a b (omega (arith, below, differs)) is has)
         ];
       }
 
@@ -120,9 +56,9 @@ ends_fewer q IsOne IsOther ends fewer are = record {
   second = λ k a b below is has. are.second k a b below is (fewer b has);
 }
 
--- masks of what is in both are of the columns that are of both
+-- sets of what is in both are of the columns that are of both
 pub ends_of_both : (q : Query) (IsOne IsOther : ℕ → Type 0) (one other both : EqualityEnds) → AreEndsOf q IsOne one → AreEndsOf q IsOther other
-    → ((k : ℕ) → Has one.first k → Has other.first k → Has both.first k) → ((k : ℕ) → Has one.second k → Has other.second k → Has both.second k)
+    → ((k : ℕ) → HasNumber one.first k → HasNumber other.first k → HasNumber both.first k) → ((k : ℕ) → HasNumber one.second k → HasNumber other.second k → HasNumber both.second k)
     → AreEndsOf q (λ column. IsOne column × IsOther column) both
 ends_of_both q IsOne IsOther one other both of_one of_other first second = record {
   first = λ k a b below is has. first k (of_one.first k a b below is has.0) (of_other.first k a b below is has.1);
@@ -158,7 +94,7 @@ module _ (q : Query) (left right : KeyParts) (n c d : ℕ) where
   crosses_by None there is = cc
   crosses_by (Some pred) there is = crosses_with pred there (equal_item pred.op pred.right) refl is
 
-  -- masks of some columns of the left group, this one among them, and masks of the right group have it across
+  -- sets of some columns of the left group, this one among them, and sets of the right group have it across
   crosses_in : (IsLeft : ℕ → Type 0) (first second : EqualityEnds) → AreEndsOf q IsLeft first → AreEndsOf q (HasColumn q right) second
       → ((a : ℕ) → HasColumn q left a → a ≡ c → IsLeft a) → Crosses → HasAcross first second n
   crosses_in IsLeft first second of_left of_right is_left (a, b, at, has) =
@@ -168,11 +104,23 @@ module _ (q : Query) (left right : KeyParts) (n c d : ℕ) where
         | inr both ↦ inr (of_left.second n a b below at (is_left b both.0 both.2), of_right.first n a b below at both.1)
       ]
 
-  -- a predicate that crosses and whose left column gives the order is in the masks of both groups and of the order
-  pub merging_in : (order : List ℕ) (first second : EqualityEnds) → AreEndsOf q (λ a. HasColumn q left a × IsGivenBy order a) first → AreEndsOf q (HasColumn q right) second
-      → crossing_of q left right n ≡ Some (c, d) → IsGivenBy order c → HasAcross first second n
-  merging_in order first second of_left of_right is given =
-      crosses_in (λ a. HasColumn q left a × IsGivenBy order a) first second of_left of_right (λ a has same. (has, subst (IsGivenBy order) (sym same) given)) (crosses_by (slice_get q.preds n) refl is)
+  -- a predicate that crosses, and whose left column is one of some, is in the sets of both groups and of those columns
+  pub narrowed_in : (IsOne : ℕ → Type 0) (first second : EqualityEnds) → AreEndsOf q (λ a. HasColumn q left a × IsOne a) first → AreEndsOf q (HasColumn q right) second
+      → crossing_of q left right n ≡ Some (c, d) → IsOne c → HasAcross first second n
+  narrowed_in IsOne first second of_left of_right is one =
+      crosses_in (λ a. HasColumn q left a × IsOne a) first second of_left of_right (λ a has same. (has, subst IsOne (sym same) one)) (crosses_by (slice_get q.preds n) refl is)
+
+  -- and it is a predicate of the query
+  pub crosses_within : crossing_of q left right n ≡ Some (c, d) → n < length q.preds
+  crosses_within is = let (a, b, at, has) = crosses_by (slice_get q.preds n) refl is in slice_get_within q.preds n at.pred at.there
+
+module _ (q : Query) (left right : KeyParts) (n : ℕ) where
+  within_by_cases : (found : Option (ℕ × ℕ)) → crossing_of q left right n ≡ found → (found ≡ None → ⊥) → n < length q.preds
+  within_by_cases None is some = absurd (some refl)
+  within_by_cases (Some (c, d)) is some = crosses_within q left right n c d is
+
+  pub crossing_within : (crossing_of q left right n ≡ None → ⊥) → n < length q.preds
+  crossing_within some = within_by_cases (crossing_of q left right n) refl some
 
 module _ (q : Query) (left right : KeyParts) (n : ℕ) (first second : EqualityEnds) (of_left : AreEndsOf q (HasColumn q left) first) (of_right : AreEndsOf q (HasColumn q right) second) where
   crossing_by_cases : (found : Option (ℕ × ℕ)) → crossing_of q left right n ≡ found → (found ≡ None → ⊥) → HasAcross first second n
@@ -180,12 +128,12 @@ module _ (q : Query) (left right : KeyParts) (n : ℕ) (first second : EqualityE
   crossing_by_cases (Some (c, d)) is some =
       crosses_in q left right n c d (HasColumn q left) first second of_left of_right (λ a has same. has) (crosses_by q left right n c d (slice_get q.preds n) refl is)
 
-  -- a predicate that crosses is in the masks of both groups
+  -- a predicate that crosses is in the sets of both groups
   pub crossing_in : (crossing_of q left right n ≡ None → ⊥) → HasAcross first second n
   crossing_in some = crossing_by_cases (crossing_of q left right n) refl some
 
 module _ (q : Query) (IsOneAt : ℕ → ℕ → Type 0) where
-  -- masks at no place
+  -- sets at no place
   pub no_ends : AreEnds q IsOneAt []
   no_ends k d within = absurd (omega (arith, within))
 

@@ -1,0 +1,83 @@
+//! Sets of numbers below 64, as of predicates or of hashed lists, each the bit of its number in a mask. Nothing else
+//! shifts or masks these.
+#![tactic(auto)]
+
+ghost use Rattle.std.specs.Prelude.{ℕ, ◌<◌, ◌≤◌, ◌⊎◌, IsTrue, max};
+ghost use Rattle.request_props.specs.NumberSets.{HasBelow, HasNumber};
+
+/// A set of numbers below 64.
+#[derive(Clone, Copy, Debug, PartialEq, Eq)]
+pub struct NumberSet {
+    mask: u64,
+}
+
+impl NumberSet {
+    /// No number.
+    pub fn none() -> NumberSet {
+        NumberSet { mask: 0 }
+    }
+
+    /// The numbers below this one; all where it is 64 or more.
+    pub fn below(bound: u32) -> NumberSet
+        ensures { bound ≤ 64 → HasBelow result bound }
+    {
+        if bound < 64 {
+            NumberSet {
+                mask: (1 << bound) - 1,
+            }
+        } else {
+            NumberSet { mask: u64::MAX }
+        }
+    }
+
+    /// These numbers, and this one where it is to be one of them.
+    pub fn with(self, number: u32, is_one: bool) -> NumberSet
+        requires { number < 64 }
+        ensures this { IsTrue is_one → HasNumber result number }
+        ensures others { (other : ℕ) → HasNumber self other → HasNumber result other }
+    {
+        if is_one {
+            NumberSet {
+                mask: self.mask | (1 << number),
+            }
+        } else {
+            self
+        }
+    }
+
+    /// The numbers that are in both.
+    pub fn and(self, other: NumberSet) -> NumberSet
+        ensures { (number : ℕ) → HasNumber self number → HasNumber other number →
+            HasNumber result number }
+    {
+        NumberSet {
+            mask: self.mask & other.mask,
+        }
+    }
+
+    /// The numbers that are in one or in both.
+    pub fn or(self, other: NumberSet) -> NumberSet
+        ensures { (number : ℕ) → HasNumber self number ⊎ HasNumber other number →
+            HasNumber result number }
+    {
+        NumberSet {
+            mask: self.mask | other.mask,
+        }
+    }
+
+    /// The first of the numbers from this one on, or one that is none of them and 64 at least.
+    pub fn next(self, from: u32) -> u32
+        ensures from { from ≤ result }
+        ensures near { result ≤ max from 64 }
+        ensures none { (number : ℕ) → from ≤ number → number < result → HasNumber self number → ⊥ }
+    {
+        if from >= 64 {
+            return from;
+        }
+        let rest = self.mask >> from;
+        if rest == 0 {
+            return 64;
+        }
+        from + rest.trailing_zeros()
+    }
+}
