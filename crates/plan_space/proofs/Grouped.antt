@@ -1,5 +1,5 @@
 -- The lists and the order of GROUP BY lie in the groups over which aggregations stand, and in their own, so the lines of aggregations fit.
-use Rattle.std.proofs.Common.{◌≡◌, ℕ, zero, suc, ◌-◌, ◌*◌, ◌/◌, ◌<◌, List, [], ◌∷◌, ◌++◌, length, refl, sym, subst, inl, inr, arith, IsTrue, nat_lt, slice_index_or}
+use Rattle.std.proofs.Common.{◌≡◌, ℕ, zero, suc, ◌*◌, ◌/◌, ◌<◌, List, [], ◌∷◌, ◌++◌, length, refl, sym, subst, inl, inr, arith, IsTrue, nat_lt, slice_index_or}
 use Rattle.std.specs.Prelude.{Some, None, ◌==◌, All}
 use Rattle.std.specs.List.{Contains, list_all, list_any}
 use Rattle.std.proofs.lemmas.Bool.{cond_both, false≢true, and_parts, or_left, or_right, or_cases, ltb-true, eqb-true, eq-eqb}

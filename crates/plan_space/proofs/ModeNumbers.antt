@@ -3,7 +3,6 @@ use Rattle.std.proofs.Common.{◌≡◌, ℕ, ◌-◌, ◌<◌, ◌≤◌, ◌�
 use Rattle.std.proofs.lemmas.Bool.{cases_lt, le-ltb}
 use Rattle.plan_space.specs.Modes.{mode_at, HasMode}
 use Rattle.request_props.specs.NumberSets.{HasNumber}
-use Rattle.plan_space.specs.declared.modes.Mode.{Mode}
 use Rattle.plan_space.specs.declared.modes.Mode.TheVariants.{One, Copied, Hashed}
 use Rattle.plan_space.specs.declared.modes.ModeSets.{ModeSets}
 

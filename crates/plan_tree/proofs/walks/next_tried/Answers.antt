@@ -1,4 +1,4 @@
-use Rattle.std.proofs.Common.{◌+◌, sym, arith}
+use Rattle.std.proofs.Common.{sym, arith}
 use Rattle.plan_tree.proofs.TriedOfOperators.{none_passed, none_after, none_from}
 use Rattle.plan_tree.proofs.walks.next_tried.Goals as goal
 

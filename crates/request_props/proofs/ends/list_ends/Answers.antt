@@ -1,7 +1,7 @@
 -- The next list's sets are found.
-use Rattle.std.proofs.Common.{◌≡◌, ℕ, ◌<◌, List, [], ◌∷◌, length, slice_index_or, arith, ap, refl, sym, ◌∙◌}
+use Rattle.std.proofs.Common.{◌≡◌, ℕ, ◌<◌, List, [], ◌∷◌, length, slice_index_or, arith, ap, refl, ◌∙◌}
 use Rattle.std.proofs.lemmas.List.{get_or_read_under}
-use Rattle.request_props.specs.Ends.{AreEndsOf, IsAmong}
+use Rattle.request_props.specs.Ends.{IsAmong}
 use Rattle.request_props.specs.Numbered.{column_list, lists_of}
 use Rattle.request_props.proofs.EqualityEnds.{ends_fewer, ends_push}
 use Rattle.request_props.proofs.Orders.{list_at}

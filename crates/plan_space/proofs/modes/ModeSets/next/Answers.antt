@@ -1,5 +1,5 @@
 -- No number is passed whose mode is one of them.
-use Rattle.std.proofs.Common.{◌≡◌, ℕ, ◌-◌, ◌<◌, ◌≤◌, inl, inr, arith}
+use Rattle.std.proofs.Common.{◌-◌, inl, inr, arith}
 use Rattle.plan_space.proofs.ModeNumbers.{has_cases}
 use Rattle.plan_space.proofs.modes.ModeSets.next.Goals as goal
 

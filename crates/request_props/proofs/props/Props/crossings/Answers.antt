@@ -1,5 +1,4 @@
-use Rattle.std.proofs.Common.{arith}
-use Rattle.request_props.proofs.EqualityEnds.{crossing_in, crossing_within}
+use Rattle.request_props.proofs.EqualityEnds.{crossing_in}
 use Rattle.request_props.proofs.props.Props.crossings.Goals as goal
 
 -- a predicate that crosses is in the sets of both groups

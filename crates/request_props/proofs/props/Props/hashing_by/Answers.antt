@@ -1,10 +1,10 @@
 -- A predicate that crosses, and whose left column is all of the list, is in the sets of both groups and of the list.
-use Rattle.std.proofs.Common.{◌≡◌, ℕ, Option, arith, subst, sym}
+use Rattle.std.proofs.Common.{◌≡◌, ℕ, Option, subst, sym}
 use Rattle.std.specs.Prelude.{IfSome}
 use Rattle.request_props.specs.Ends.{AreEndsOf, HasColumn}
 use Rattle.request_props.specs.Numbered.{AreListEnds, column_list}
 use Rattle.request_props.specs.declared.ends.EqualityEnds.{EqualityEnds}
-use Rattle.request_props.proofs.EqualityEnds.{crosses_within, ends_found, ends_of_both, narrowed_in}
+use Rattle.request_props.proofs.EqualityEnds.{ends_found, ends_of_both, narrowed_in}
 use Rattle.request_props.proofs.props.Props.hashing_by.Goals as goal
 
 pub returns-in-Some-Some-Some : goal.returns-in-Some-Some-Some

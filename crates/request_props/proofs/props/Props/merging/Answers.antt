@@ -1,10 +1,10 @@
 -- A predicate that crosses, and whose left column gives the order, is in the sets of both groups and of the order.
-use Rattle.std.proofs.Common.{◌≡◌, Option, arith, subst, sym}
+use Rattle.std.proofs.Common.{◌≡◌, Option, subst, sym}
 use Rattle.std.specs.Prelude.{IfSome}
 use Rattle.request_props.specs.Ends.{AreEndsOf, HasColumn, IsGivenBy}
 use Rattle.request_props.specs.Numbered.{AreOrderEnds, order_of}
 use Rattle.request_props.specs.declared.ends.EqualityEnds.{EqualityEnds}
-use Rattle.request_props.proofs.EqualityEnds.{crosses_within, ends_found, ends_of_both, narrowed_in}
+use Rattle.request_props.proofs.EqualityEnds.{ends_found, ends_of_both, narrowed_in}
 use Rattle.request_props.proofs.Orders.{begins_given}
 use Rattle.request_props.proofs.props.Props.merging.Goals as goal
 
