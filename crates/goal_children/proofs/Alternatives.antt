@@ -15,7 +15,6 @@ use Rattle.request_props.specs.Requests.{IsInRange}
 use Rattle.request_props.specs.declared.request.Request.{Request}
 use Rattle.plan_space.specs.Alternatives.{asked_of}
 use Rattle.plan_space.specs.Choices.{groups_of}
-use Rattle.plan_space.specs.Lines.{line_of}
 use Rattle.plan_space.specs.declared.lines.Line.{Line}
 use Rattle.plan_space.specs.Laws.{AsksWhatFits}
 use Rattle.plan_tree.specs.ServingModes.{NoneServes}
@@ -26,7 +25,7 @@ use Rattle.goal_space.specs.declared.goals.GoalKind.{GoalKind}
 use Rattle.goal_space.specs.declared.goals.GoalKind.TheVariants.{Opt}
 use Rattle.goal_children.specs.Over.{IsNumberedRequest}
 use Rattle.goal_children.specs.Choices.{IsOfAlt, IsOfAlternatives, IsOfMode, IsOfModesBelow, IsOfRequest, IsOfWishes}
-use Rattle.goal_children.specs.Finding.{FindsFrom, Inserts, sooner_of}
+use Rattle.goal_children.specs.Finding.{FindsFrom, InsertsGoals, sooner_of}
 use Rattle.goal_children.proofs.Asking.{asks_numbered}
 use Rattle.goal_children.proofs.Inserting.{inserts_as}
 use Rattle.goal_children.proofs.Finds.{finds_as, sooner_is}
@@ -125,11 +124,11 @@ module _ (q : Query) where
           (subst (λ (x : Children). FindsFrom (IsOfAlt x alt) bound found) are finds)
 
       -- and what came of the alternative came of the mode
-      pub mode_inserted : (children : Children) (old new : List GoalKind) → children ≡ physical_children e.operator → Inserts (IsOfAlt children alt) old new
-          → Inserts (IsOfMode q e wanted mode) old new
+      pub mode_inserted : (children : Children) (old new : List GoalKind) → children ≡ physical_children e.operator → InsertsGoals (IsOfAlt children alt) old new
+          → InsertsGoals (IsOfMode q e wanted mode) old new
       mode_inserted children old new are inserts =
           inserts_as (IsOfAlt (physical_children e.operator) alt) (IsOfMode q e wanted mode) old new mode_as as_mode
-          (subst (λ (x : Children). Inserts (IsOfAlt x alt) old new) are inserts)
+          (subst (λ (x : Children). InsertsGoals (IsOfAlt x alt) old new) are inserts)
 
       -- what the alternative asks for has a code
       module _ (few_lists : length (lists_of q) ≤ 60) (few_orders : length (orders_of q) ≤ 60) (asks_what_fits : AsksWhatFits q) (candidate : IsCandidate q (expr_of e))

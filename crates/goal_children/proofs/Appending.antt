@@ -8,7 +8,7 @@ use Rattle.query_core.specs.declared.query.Query.{Query}
 use Rattle.goal_space.specs.Words.{goal_word, IsInRange}
 use Rattle.goal_space.specs.declared.goals.GoalKind.{GoalKind}
 use Rattle.goal_children.specs.Children.{AreChildren, IsChildIn}
-use Rattle.goal_children.specs.Finding.{Appends, AreRising, Inserts}
+use Rattle.goal_children.specs.Finding.{AppendsGoals, AreRising, InsertsGoals}
 use Rattle.goal_children.proofs.Collecting.{collects_as, collects_both, collects_nothing, collects_one}
 use Rattle.goal_children.proofs.OneList.{goal_of_word}
 
@@ -17,12 +17,12 @@ pub none_rise : AreRising []
 none_rise = λ k within. absurd (omega (arith, within))
 
 -- nothing comes, of a kind that has nothing
-pub appends_nothing : (Kind : GoalKind → Type 0) (goals : List GoalKind) → ((k : GoalKind) → Kind k → ⊥) → Appends Kind goals goals
+pub appends_nothing : (Kind : GoalKind → Type 0) (goals : List GoalKind) → ((k : GoalKind) → Kind k → ⊥) → AppendsGoals Kind goals goals
 appends_nothing Kind goals none = record { collects = collects_nothing Kind goals none; rises = λ rises behind. rises }
 
 -- one goal comes
 pub appends_one : (Kind : GoalKind → Type 0) (old new : List GoalKind) (goal : GoalKind) → ((k : GoalKind) → (Kind k ↔ (k ≡ goal))) → IsInRange goal → new ≡ old ++ goal ∷ []
-    → Appends Kind old new
+    → AppendsGoals Kind old new
 appends_one Kind old new goal only in_range comes = record {
   collects = collects_one Kind old new goal only in_range comes;
   rises = λ rises behind.
@@ -34,15 +34,15 @@ appends_one Kind old new goal only in_range comes = record {
 }
 
 -- the same kind in other words
-pub appends_as : (S T : GoalKind → Type 0) (old new : List GoalKind) → ((k : GoalKind) → S k → T k) → ((k : GoalKind) → T k → S k) → Appends S old new → Appends T old new
+pub appends_as : (S T : GoalKind → Type 0) (old new : List GoalKind) → ((k : GoalKind) → S k → T k) → ((k : GoalKind) → T k → S k) → AppendsGoals S old new → AppendsGoals T old new
 appends_as S T old new to from appends = record {
   collects = collects_as S T old new to from appends.collects;
   rises = λ rises behind. appends.rises rises (λ k l there is. behind k l there (to l is));
 }
 
 -- goals of one kind come, and then greater ones of another
-pub appends_both : (S T : GoalKind → Type 0) (old middle new : List GoalKind) → ((k l : GoalKind) → S k → T l → goal_word k < goal_word l) → Appends S old middle → Appends T middle new
-    → Appends (λ k. S k ⊎ T k) old new
+pub appends_both : (S T : GoalKind → Type 0) (old middle new : List GoalKind) → ((k l : GoalKind) → S k → T l → goal_word k < goal_word l) → AppendsGoals S old middle → AppendsGoals T middle new
+    → AppendsGoals (λ k. S k ⊎ T k) old new
 appends_both S T old middle new less first second = record {
   collects = collects_both S T old middle new first.collects second.collects;
   rises = λ rises behind. second.rises (first.rises rises (λ k l there is. behind k l there (inl is))) (λ k l there is. elim ((first.collects.exact k).0 there) [
@@ -53,15 +53,15 @@ appends_both S T old middle new less first second = record {
 
 -- and are one kind
 pub appends_more : (S T U : GoalKind → Type 0) (old middle new : List GoalKind) → ((k l : GoalKind) → S k → T l → goal_word k < goal_word l)
-    → ((k : GoalKind) → (S k ⊎ T k) → U k) → ((k : GoalKind) → U k → S k ⊎ T k) → Appends S old middle → Appends T middle new → Appends U old new
+    → ((k : GoalKind) → (S k ⊎ T k) → U k) → ((k : GoalKind) → U k → S k ⊎ T k) → AppendsGoals S old middle → AppendsGoals T middle new → AppendsGoals U old new
 appends_more S T U old middle new less to from first second = appends_as (λ k. S k ⊎ T k) U old new to from (appends_both S T old middle new less first second)
 
 -- goals that come to their places may come to the end
-pub appends_inserted : (Kind : GoalKind → Type 0) (old new : List GoalKind) → Inserts Kind old new → Appends Kind old new
+pub appends_inserted : (Kind : GoalKind → Type 0) (old new : List GoalKind) → InsertsGoals Kind old new → AppendsGoals Kind old new
 appends_inserted Kind old new inserts = record { collects = inserts.collects; rises = λ rises behind. inserts.rises rises }
 
 -- children that came to an empty list are all
-pub are_children : (q : Query) (words : List ℕ) (goal : GoalKind) (old new : List GoalKind) → old ≡ [] → Appends (IsChildIn q words goal) old new → AreChildren q words goal new
+pub are_children : (q : Query) (words : List ℕ) (goal : GoalKind) (old new : List GoalKind) → old ≡ [] → AppendsGoals (IsChildIn q words goal) old new → AreChildren q words goal new
 are_children q words goal old new none appends =
     let empty : (k : GoalKind) → Contains old k → ⊥ = λ k there. (let (i, within, at) = subst (λ (gs : List GoalKind). Contains gs k) none there in omega (arith, within)) in
     record {

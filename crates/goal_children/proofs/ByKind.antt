@@ -13,7 +13,7 @@ use Rattle.goal_children.specs.declared.jobs.MemberJob.TheVariants.{Serve, Trans
 use Rattle.goal_children.specs.declared.jobs.Phase.TheVariants.{Implementation}
 use Rattle.goal_children.specs.Children.{IsChildIn}
 use Rattle.goal_children.specs.Choices.{IsOfEnforcer}
-use Rattle.goal_children.specs.Finding.{Appends, FindsFrom, Inserts, IsLeastFrom, IsOfMembers}
+use Rattle.goal_children.specs.Finding.{AppendsGoals, FindsFrom, InsertsGoals, IsLeastFrom, IsOfMembers}
 use Rattle.goal_children.proofs.Appending.{appends_both, appends_inserted, appends_more}
 use Rattle.goal_children.proofs.Finds.{finds_as, finds_left, finds_right}
 
@@ -85,8 +85,8 @@ module _ (q : Query) (words : List ℕ) (group : KeyParts) (wanted : Request) (b
 
 module _ (q : Query) (words : List ℕ) (group : KeyParts) where
   -- the exploration of a group, and the members that it implements
-  pub implemented_added : (old middle new : List GoalKind) → FitsGoal (parts_of (Exp group)) → Appends (λ k. k ≡ Exp group) old middle
-      → Appends (IsOfMembers q words group (Transform Implementation)) middle new → Appends (IsChildIn q words (Imp group)) old new
+  pub implemented_added : (old middle new : List GoalKind) → FitsGoal (parts_of (Exp group)) → AppendsGoals (λ k. k ≡ Exp group) old middle
+      → AppendsGoals (IsOfMembers q words group (Transform Implementation)) middle new → AppendsGoals (IsChildIn q words (Imp group)) old new
   implemented_added old middle new fits first second =
       appends_more (λ k. k ≡ Exp group) (IsOfMembers q words group (Transform Implementation)) (IsChildIn q words (Imp group)) old middle new
       (λ k l is (e, is_in, also). kind_before k l (subst (λ (g : GoalKind). FitsGoal (parts_of g)) (sym is) fits) (omega (arith, ap kind_number is, ap kind_number also)))
@@ -94,13 +94,13 @@ module _ (q : Query) (words : List ℕ) (group : KeyParts) where
 
   module _ (wanted : Request) (fits : (k : GoalKind) → IsChildIn q words (Opt group wanted) k → FitsGoal (parts_of k)) where
     -- the implementation of a group, what enforcers ask for, and the members that serve
-    pub chosen_added : (old first second new : List GoalKind) → Appends (λ k. k ≡ Imp group) old first → Inserts (IsOfEnforcer q group wanted) first second
-        → Appends (IsOfMembers q words group (Serve wanted)) second new → Appends (IsChildIn q words (Opt group wanted)) old new
+    pub chosen_added : (old first second new : List GoalKind) → AppendsGoals (λ k. k ≡ Imp group) old first → InsertsGoals (IsOfEnforcer q group wanted) first second
+        → AppendsGoals (IsOfMembers q words group (Serve wanted)) second new → AppendsGoals (IsChildIn q words (Opt group wanted)) old new
     chosen_added old first second new imp enforced served =
         let Child = IsChildIn q words (Opt group wanted) in
         let Served = IsOfMembers q words group (Serve wanted) in
         let Enforced = IsOfEnforcer q group wanted in
-        let both : Appends (λ (k : GoalKind). (k ≡ Imp group) ⊎ Enforced k) old second =
+        let both : AppendsGoals (λ (k : GoalKind). (k ≡ Imp group) ⊎ Enforced k) old second =
         appends_both (λ k. k ≡ Imp group) Enforced old first second
         (λ k l is (e, can, also). kind_before k l (fits k (inl is)) (omega (arith, ap kind_number is, ap kind_number also)))
         imp (appends_inserted Enforced first second enforced) in

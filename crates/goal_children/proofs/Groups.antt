@@ -6,11 +6,11 @@ use Rattle.query_core.specs.declared.expressions.Children.TheVariants.{Zero, One
 use Rattle.goal_space.specs.declared.goals.GoalKind.{GoalKind}
 use Rattle.goal_space.specs.declared.goals.GoalKind.TheVariants.{Exp}
 use Rattle.goal_children.specs.declared.jobs.Phase.{Phase}
-use Rattle.goal_children.specs.Finding.{group_goal, sooner_of, FindsFrom, Inserts, IsOfGroups, IsOfLeftGroup}
+use Rattle.goal_children.specs.Finding.{phase_goal_of_group, sooner_of, FindsFrom, InsertsGoals, IsOfGroups, IsOfLeftGroup}
 use Rattle.goal_children.proofs.Finds.{finds_as, sooner_is}
 use Rattle.goal_children.proofs.Inserting.{inserts_as, inserts_more, inserts_nothing}
 
-module _ (phase : Phase) (left right : KeyParts) (l r : GoalKind) (is_l : l ≡ group_goal phase left) (is_r : r ≡ group_goal phase right) where
+module _ (phase : Phase) (left right : KeyParts) (l r : GoalKind) (is_l : l ≡ phase_goal_of_group phase left) (is_r : r ≡ phase_goal_of_group phase right) where
   -- the goals of two groups
   two_as : (k : GoalKind) → (k ≡ l) ⊎ (k ≡ r) → IsOfGroups phase (Two left right) k
   two_as k (inl same) = (left, inl refl, same ∙ is_l)
@@ -18,8 +18,8 @@ module _ (phase : Phase) (left right : KeyParts) (l r : GoalKind) (is_l : l ≡ 
 
   as_two : (k : GoalKind) → IsOfGroups phase (Two left right) k → (k ≡ l) ⊎ (k ≡ r)
   as_two k (group, child, same) = elim child [
-    | inl at ↦ inl (same ∙ ap (group_goal phase) at ∙ sym is_l)
-    | inr at ↦ inr (same ∙ ap (group_goal phase) at ∙ sym is_r)
+    | inl at ↦ inl (same ∙ ap (phase_goal_of_group phase) at ∙ sym is_l)
+    | inr at ↦ inr (same ∙ ap (phase_goal_of_group phase) at ∙ sym is_r)
   ]
 
   -- the first is the sooner one
@@ -30,7 +30,7 @@ module _ (phase : Phase) (left right : KeyParts) (l r : GoalKind) (is_l : l ≡ 
 
 -- the same of children that are two groups
 pub groups_find : (phase : Phase) (children : Children) (left right : KeyParts) (bound : ℕ) (a b found : Option GoalKind) (l r : GoalKind) → children ≡ Two left right
-    → l ≡ group_goal phase left → r ≡ group_goal phase right → found ≡ sooner_of a b → FindsFrom (λ k. k ≡ l) bound a → FindsFrom (λ k. k ≡ r) bound b
+    → l ≡ phase_goal_of_group phase left → r ≡ phase_goal_of_group phase right → found ≡ sooner_of a b → FindsFrom (λ k. k ≡ l) bound a → FindsFrom (λ k. k ≡ r) bound b
     → FindsFrom (IsOfGroups phase children) bound found
 groups_find phase children left right bound a b found l r are is_l is_r is first second =
     subst (λ (x : Children). FindsFrom (IsOfGroups phase x) bound found) (sym are) (two_finds phase left right l r is_l is_r bound a b found is first second)
@@ -38,38 +38,38 @@ groups_find phase children left right bound a b found l r are is_l is_r is first
 -- ---- goals that come to a list
 
 -- of no groups none
-pub no_groups_inserted : (phase : Phase) (children : Children) (goals : List GoalKind) → children ≡ Zero → Inserts (IsOfGroups phase children) goals goals
+pub no_groups_inserted : (phase : Phase) (children : Children) (goals : List GoalKind) → children ≡ Zero → InsertsGoals (IsOfGroups phase children) goals goals
 no_groups_inserted phase children goals are =
-    subst (λ (x : Children). Inserts (IsOfGroups phase x) goals goals) (sym are) (inserts_nothing (IsOfGroups phase Zero) goals (λ k (group, child, same). child))
+    subst (λ (x : Children). InsertsGoals (IsOfGroups phase x) goals goals) (sym are) (inserts_nothing (IsOfGroups phase Zero) goals (λ k (group, child, same). child))
 
 -- of one group its goal
-pub one_group_inserted : (phase : Phase) (children : Children) (group : KeyParts) (old new : List GoalKind) (goal : GoalKind) → children ≡ One group → goal ≡ group_goal phase group
-    → Inserts (λ k. k ≡ goal) old new → Inserts (IsOfGroups phase children) old new
+pub one_group_inserted : (phase : Phase) (children : Children) (group : KeyParts) (old new : List GoalKind) (goal : GoalKind) → children ≡ One group → goal ≡ phase_goal_of_group phase group
+    → InsertsGoals (λ k. k ≡ goal) old new → InsertsGoals (IsOfGroups phase children) old new
 one_group_inserted phase children group old new goal are is inserts =
-    subst (λ (x : Children). Inserts (IsOfGroups phase x) old new) (sym are)
+    subst (λ (x : Children). InsertsGoals (IsOfGroups phase x) old new) (sym are)
     (inserts_as (λ k. k ≡ goal) (IsOfGroups phase (One group)) old new (λ k same. (group, refl, same ∙ is))
-    (λ k (child, at, same). same ∙ ap (group_goal phase) at ∙ sym is) inserts)
+    (λ k (child, at, same). same ∙ ap (phase_goal_of_group phase) at ∙ sym is) inserts)
 
 -- of two groups the goals of both
 pub two_groups_inserted : (phase : Phase) (children : Children) (left right : KeyParts) (old middle new : List GoalKind) (l r : GoalKind) → children ≡ Two left right
-    → l ≡ group_goal phase left → r ≡ group_goal phase right → Inserts (λ k. k ≡ l) old middle → Inserts (λ k. k ≡ r) middle new → Inserts (IsOfGroups phase children) old new
+    → l ≡ phase_goal_of_group phase left → r ≡ phase_goal_of_group phase right → InsertsGoals (λ k. k ≡ l) old middle → InsertsGoals (λ k. k ≡ r) middle new → InsertsGoals (IsOfGroups phase children) old new
 two_groups_inserted phase children left right old middle new l r are is_l is_r first second =
-    subst (λ (x : Children). Inserts (IsOfGroups phase x) old new) (sym are)
+    subst (λ (x : Children). InsertsGoals (IsOfGroups phase x) old new) (sym are)
     (inserts_more (λ k. k ≡ l) (λ k. k ≡ r) (IsOfGroups phase (Two left right)) old middle new (two_as phase left right l r is_l is_r) (as_two phase left right l r is_l is_r) first second)
 
 -- the goal of the left group
-pub no_left_inserted : (children : Children) (goals : List GoalKind) → children ≡ Zero → Inserts (IsOfLeftGroup children) goals goals
+pub no_left_inserted : (children : Children) (goals : List GoalKind) → children ≡ Zero → InsertsGoals (IsOfLeftGroup children) goals goals
 no_left_inserted children goals are =
-    subst (λ (x : Children). Inserts (IsOfLeftGroup x) goals goals) (sym are) (inserts_nothing (IsOfLeftGroup Zero) goals (λ k (group, left, same). left))
+    subst (λ (x : Children). InsertsGoals (IsOfLeftGroup x) goals goals) (sym are) (inserts_nothing (IsOfLeftGroup Zero) goals (λ k (group, left, same). left))
 
-pub one_left_inserted : (children : Children) (child : KeyParts) (old new : List GoalKind) → children ≡ One child → Inserts (λ k. k ≡ Exp child) old new
-    → Inserts (IsOfLeftGroup children) old new
+pub one_left_inserted : (children : Children) (child : KeyParts) (old new : List GoalKind) → children ≡ One child → InsertsGoals (λ k. k ≡ Exp child) old new
+    → InsertsGoals (IsOfLeftGroup children) old new
 one_left_inserted children child old new are inserts =
-    subst (λ (x : Children). Inserts (IsOfLeftGroup x) old new) (sym are)
+    subst (λ (x : Children). InsertsGoals (IsOfLeftGroup x) old new) (sym are)
     (inserts_as (λ k. k ≡ Exp child) (IsOfLeftGroup (One child)) old new (λ k same. (child, refl, same)) (λ k (group, left, same). same ∙ ap Exp left) inserts)
 
-pub two_left_inserted : (children : Children) (left right : KeyParts) (old new : List GoalKind) → children ≡ Two left right → Inserts (λ k. k ≡ Exp left) old new
-    → Inserts (IsOfLeftGroup children) old new
+pub two_left_inserted : (children : Children) (left right : KeyParts) (old new : List GoalKind) → children ≡ Two left right → InsertsGoals (λ k. k ≡ Exp left) old new
+    → InsertsGoals (IsOfLeftGroup children) old new
 two_left_inserted children left right old new are inserts =
-    subst (λ (x : Children). Inserts (IsOfLeftGroup x) old new) (sym are)
+    subst (λ (x : Children). InsertsGoals (IsOfLeftGroup x) old new) (sym are)
     (inserts_as (λ k. k ≡ Exp left) (IsOfLeftGroup (Two left right)) old new (λ k same. (left, refl, same)) (λ k (group, at, same). same ∙ ap Exp at) inserts)

@@ -18,7 +18,7 @@ use Rattle.goal_space.specs.Words.{goal_word, IsInRange}
 use Rattle.goal_space.specs.declared.goals.GoalKind.TheVariants.{Opt}
 use Rattle.goal_space.specs.declared.goals.GoalKind.{GoalKind}
 use Rattle.goal_children.specs.Choices.{IsOfAlt, IsOfRequest}
-use Rattle.goal_children.specs.Finding.{Inserts}
+use Rattle.goal_children.specs.Finding.{InsertsGoals}
 use Rattle.goal_children.specs.GoalLists.{IsPlaceFor}
 use Rattle.goal_children.proofs.Collecting.{collects_as, collects_both, collects_nothing}
 
@@ -76,7 +76,7 @@ words_insert (g ∷ goals) (suc place) goal = ap (λ ws. goal_word g ∷ ws) (wo
 
 module _ (goals : List GoalKind) (goal : GoalKind) where
   -- the goal is there already
-  pub inserted_before : Contains goals goal → Inserts (λ k. k ≡ goal) goals goals
+  pub inserted_before : Contains goals goal → InsertsGoals (λ k. k ≡ goal) goals goals
   inserted_before there = record {
     collects = record {
       exact = λ k. (λ within. inl within, λ cases. elim cases [ inl within ↦ within | inr same ↦ subst (Contains goals) (sym same) there ]);
@@ -86,12 +86,12 @@ module _ (goals : List GoalKind) (goal : GoalKind) where
   }
 
   -- it comes to its place
-  pub inserted_at : (place : ℕ) (new : List GoalKind) → new ≡ insert goals place goal → IsInRange goal → IsPlaceFor goals (goal_word goal) place → Inserts (λ k. k ≡ goal) goals new
+  pub inserted_at : (place : ℕ) (new : List GoalKind) → new ≡ insert goals place goal → IsInRange goal → IsPlaceFor goals (goal_word goal) place → InsertsGoals (λ k. k ≡ goal) goals new
   inserted_at place new comes in_range is =
       let moved : IsPermutation (goal ∷ goals) (insert goals place goal) = IsPermutation-insert goals place goal in
       let back : IsPermutation (insert goals place goal) (goal ∷ goals) = IsPermutation-sym (goal ∷ goals) (insert goals place goal) moved in
       let long : length (map goal_word goals) ≡ length goals = length-map goals goal_word in
-      subst (Inserts (λ k. k ≡ goal) goals) (sym comes) (record {
+      subst (InsertsGoals (λ k. k ≡ goal) goals) (sym comes) (record {
         collects = record {
           exact = λ k. (
             λ there. cons_cases goal goals k (Contains-permutation (insert goals place goal) (goal ∷ goals) k back there),
@@ -110,55 +110,55 @@ module _ (goals : List GoalKind) (goal : GoalKind) where
 -- ---- kinds of goals
 
 -- nothing comes, of a kind that has nothing
-pub inserts_nothing : (Kind : GoalKind → Type 0) (goals : List GoalKind) → ((k : GoalKind) → Kind k → ⊥) → Inserts Kind goals goals
+pub inserts_nothing : (Kind : GoalKind → Type 0) (goals : List GoalKind) → ((k : GoalKind) → Kind k → ⊥) → InsertsGoals Kind goals goals
 inserts_nothing Kind goals none = record { collects = collects_nothing Kind goals none; rises = λ rises. rises }
 
 -- the same kind in other words
-pub inserts_as : (S T : GoalKind → Type 0) (old new : List GoalKind) → ((k : GoalKind) → S k → T k) → ((k : GoalKind) → T k → S k) → Inserts S old new → Inserts T old new
+pub inserts_as : (S T : GoalKind → Type 0) (old new : List GoalKind) → ((k : GoalKind) → S k → T k) → ((k : GoalKind) → T k → S k) → InsertsGoals S old new → InsertsGoals T old new
 inserts_as S T old new to from inserts = record { collects = collects_as S T old new to from inserts.collects; rises = inserts.rises }
 
 -- two kinds come, one after the other
-pub inserts_both : (S T : GoalKind → Type 0) (old middle new : List GoalKind) → Inserts S old middle → Inserts T middle new → Inserts (λ k. S k ⊎ T k) old new
+pub inserts_both : (S T : GoalKind → Type 0) (old middle new : List GoalKind) → InsertsGoals S old middle → InsertsGoals T middle new → InsertsGoals (λ k. S k ⊎ T k) old new
 inserts_both S T old middle new first second =
     record { collects = collects_both S T old middle new first.collects second.collects; rises = λ rises. second.rises (first.rises rises) }
 
 -- and are one kind
 pub inserts_more : (S T U : GoalKind → Type 0) (old middle new : List GoalKind) → ((k : GoalKind) → (S k ⊎ T k) → U k) → ((k : GoalKind) → U k → S k ⊎ T k)
-    → Inserts S old middle → Inserts T middle new → Inserts U old new
+    → InsertsGoals S old middle → InsertsGoals T middle new → InsertsGoals U old new
 inserts_more S T U old middle new to from first second = inserts_as (λ k. S k ⊎ T k) U old new to from (inserts_both S T old middle new first second)
 
 -- ---- what an alternative asks for
 
 -- of two children
 pub two_inserted : (children : Children) (alt : Alt) (left right : KeyParts) (old middle new : List GoalKind) (first second : Option Request) → children ≡ arities.Two left right
-    → first ≡ option_map (λ a. a.1) alt.left → second ≡ option_map (λ a. a.1) alt.right → Inserts (IsOfRequest left first) old middle
-    → Inserts (IsOfRequest right second) middle new → Inserts (IsOfAlt children alt) old new
+    → first ≡ option_map (λ a. a.1) alt.left → second ≡ option_map (λ a. a.1) alt.right → InsertsGoals (IsOfRequest left first) old middle
+    → InsertsGoals (IsOfRequest right second) middle new → InsertsGoals (IsOfAlt children alt) old new
 two_inserted children alt left right old middle new first second are is_first is_second of_left of_right =
-    subst (λ (x : Children). Inserts (IsOfAlt x alt) old new) (sym are)
+    subst (λ (x : Children). InsertsGoals (IsOfAlt x alt) old new) (sym are)
     (inserts_both (IsOfRequest left (option_map (λ (a : Key × Request). a.1) alt.left)) (IsOfRequest right (option_map (λ (a : Key × Request). a.1) alt.right)) old middle new
-    (subst (λ (r : Option Request). Inserts (IsOfRequest left r) old middle) is_first of_left)
-    (subst (λ (r : Option Request). Inserts (IsOfRequest right r) middle new) is_second of_right))
+    (subst (λ (r : Option Request). InsertsGoals (IsOfRequest left r) old middle) is_first of_left)
+    (subst (λ (r : Option Request). InsertsGoals (IsOfRequest right r) middle new) is_second of_right))
 
 -- of one child
 pub one_inserted : (children : Children) (alt : Alt) (child : KeyParts) (old new : List GoalKind) (asked : Option Request) → children ≡ arities.One child
-    → asked ≡ option_map (λ a. a.1) alt.left → Inserts (IsOfRequest child asked) old new → Inserts (IsOfAlt children alt) old new
+    → asked ≡ option_map (λ a. a.1) alt.left → InsertsGoals (IsOfRequest child asked) old new → InsertsGoals (IsOfAlt children alt) old new
 one_inserted children alt child old new asked are is inserts =
-    subst (λ (x : Children). Inserts (IsOfAlt x alt) old new) (sym are) (subst (λ (r : Option Request). Inserts (IsOfRequest child r) old new) is inserts)
+    subst (λ (x : Children). InsertsGoals (IsOfAlt x alt) old new) (sym are) (subst (λ (r : Option Request). InsertsGoals (IsOfRequest child r) old new) is inserts)
 
 -- of no child nothing
-pub none_inserted : (children : Children) (alt : Alt) (goals : List GoalKind) → children ≡ arities.Zero → Inserts (IsOfAlt children alt) goals goals
+pub none_inserted : (children : Children) (alt : Alt) (goals : List GoalKind) → children ≡ arities.Zero → InsertsGoals (IsOfAlt children alt) goals goals
 none_inserted children alt goals are =
-    subst (λ (x : Children). Inserts (IsOfAlt x alt) goals goals) (sym are) (inserts_nothing (IsOfAlt arities.Zero alt) goals (λ k is. is))
+    subst (λ (x : Children). InsertsGoals (IsOfAlt x alt) goals goals) (sym are) (inserts_nothing (IsOfAlt arities.Zero alt) goals (λ k is. is))
 
 -- the goal for what is asked
 pub request_inserted : (group : KeyParts) (asked : Option Request) (wanted : Request) (old new : List GoalKind) → asked ≡ Some wanted
-    → Inserts (λ k. k ≡ Opt group wanted) old new → Inserts (IsOfRequest group asked) old new
+    → InsertsGoals (λ k. k ≡ Opt group wanted) old new → InsertsGoals (IsOfRequest group asked) old new
 request_inserted group asked wanted old new is inserts =
-    subst (λ (r : Option Request). Inserts (IsOfRequest group r) old new) (sym is)
+    subst (λ (r : Option Request). InsertsGoals (IsOfRequest group r) old new) (sym is)
     (inserts_as (λ k. k ≡ Opt group wanted) (IsOfRequest group (Some wanted)) old new (λ k number. (wanted, refl, number))
     (λ k (below, same, number). (let at : wanted ≡ below = cc in number ∙ ap (Opt group) (sym at))) inserts)
 
 -- nothing where nothing is
-pub nothing_inserted : (group : KeyParts) (asked : Option Request) (goals : List GoalKind) → asked ≡ None → Inserts (IsOfRequest group asked) goals goals
+pub nothing_inserted : (group : KeyParts) (asked : Option Request) (goals : List GoalKind) → asked ≡ None → InsertsGoals (IsOfRequest group asked) goals goals
 nothing_inserted group asked goals is =
-    subst (λ (r : Option Request). Inserts (IsOfRequest group r) goals goals) (sym is) (inserts_nothing (IsOfRequest group None) goals (λ k (below, same, number). cc))
+    subst (λ (r : Option Request). InsertsGoals (IsOfRequest group r) goals goals) (sym is) (inserts_nothing (IsOfRequest group None) goals (λ k (below, same, number). cc))

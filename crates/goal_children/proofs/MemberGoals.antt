@@ -16,7 +16,7 @@ use Rattle.goal_space.specs.declared.goals.GoalKind.{GoalKind}
 use Rattle.goal_space.specs.declared.goals.GoalKind.TheVariants.{OptE}
 use Rattle.goal_children.specs.declared.jobs.MemberJob.{MemberJob}
 use Rattle.goal_children.specs.declared.jobs.MemberJob.TheVariants.{Transform, Serve}
-use Rattle.goal_children.specs.Finding.{Appends, IsOfMembers}
+use Rattle.goal_children.specs.Finding.{AppendsGoals, IsOfMembers}
 use Rattle.goal_children.specs.MemberJobs.{IsGoalAmong, IsGoalOf, IsGoalOfWord}
 use Rattle.goal_children.proofs.Appending.{appends_more, appends_nothing}
 use Rattle.goal_children.proofs.OfMembers.{goal_at, has_member, of_member, word_less}
@@ -75,7 +75,7 @@ word_before words i word rises within (k, inside, at) =
 
 module _ (q : Query) (job : MemberJob) where
   -- of no word
-  pub none_among : (goals : List GoalKind) → Appends (IsGoalAmong q job []) goals goals
+  pub none_among : (goals : List GoalKind) → AppendsGoals (IsGoalAmong q job []) goals goals
   none_among goals = appends_nothing (IsGoalAmong q job []) goals (λ k (word, (place, within, at), of_word). absurd (omega (arith, within)))
 
   -- a lesser word has a goal that comes before
@@ -86,11 +86,11 @@ module _ (q : Query) (job : MemberJob) where
       omega (arith, goal_at q job e k is, goal_at q job f l has, word_less job (word_of e) (word_of f) less)
 
   -- of one more
-  pub more_among : (words : List ℕ) (i : ℕ) (old middle new : List GoalKind) → IsStrictlyIncreasing words → i < length words → Appends (IsGoalAmong q job (take i words)) old middle
-      → Appends (IsGoalOfWord q job (get_or words i 0)) middle new → Appends (IsGoalAmong q job (take (i + 1) words)) old new
+  pub more_among : (words : List ℕ) (i : ℕ) (old middle new : List GoalKind) → IsStrictlyIncreasing words → i < length words → AppendsGoals (IsGoalAmong q job (take i words)) old middle
+      → AppendsGoals (IsGoalOfWord q job (get_or words i 0)) middle new → AppendsGoals (IsGoalAmong q job (take (i + 1) words)) old new
   more_among words i old middle new rises within first second =
       let word = get_or words i 0 in
-      subst (λ ws. Appends (IsGoalAmong q job ws) old new) (sym (take_more words i 0 within))
+      subst (λ ws. AppendsGoals (IsGoalAmong q job ws) old new) (sym (take_more words i 0 within))
       (appends_more (IsGoalAmong q job (take i words)) (IsGoalOfWord q job word) (IsGoalAmong q job (take i words ++ word ∷ [])) old middle new (among_less words i rises within)
       (λ k cases. elim cases [
         | inl (other, there, of_word) ↦ (other, Contains-append_left (take i words) (word ∷ []) other there, of_word)

@@ -1,10 +1,10 @@
 -- The goals of a group's members, which stand in the order of the members' words.
-use Rattle.std.proofs.Common.{◌≡◌, ℕ, ◌+◌, ◌-◌, ◌<◌, ◌≤◌, ◌^◌, List, Option, None, Some, All, length, get_or, drop, refl, sym, subst, ap, ◌∙◌, inl, inr, arith}
+use Rattle.std.proofs.Common.{◌≡◌, ℕ, ◌+◌, ◌-◌, ◌<◌, ◌≤◌, ◌^◌, List, Option, None, Some, All, length, get_or, drop, take, refl, sym, subst, ap, ◌∙◌, inl, inr, arith}
 use Rattle.std.specs.Prelude.{MatchOption}
 use Rattle.std.specs.List.{Contains}
 use Rattle.std.specs.List.Sorted.{IsStrictlyIncreasing}
 use Rattle.std.proofs.lemmas.Bool.{cases_eq, cases_lt}
-use Rattle.std.proofs.lemmas.List.{get_or_default, get_or-drop, length-drop}
+use Rattle.std.proofs.lemmas.List.{get_or_default, get_or-drop, get_or-take, length-drop, length-take}
 use Rattle.std.proofs.lemmas.List.Elements.{All-contains, Contains-get_or}
 use Rattle.std.proofs.lemmas.List.Kept.{AllPairs-from_increasing}
 use Rattle.query_core.specs.Expressions.{expr_of, word_of, IsCandidate, IsCandidateWord, IsPacked}
@@ -19,7 +19,7 @@ use Rattle.goal_children.specs.declared.jobs.Phase.TheVariants.{Exploration, Imp
 use Rattle.goal_children.specs.declared.jobs.MemberJob.{MemberJob}
 use Rattle.goal_children.specs.declared.jobs.MemberJob.TheVariants.{Transform, Serve}
 use Rattle.goal_space.specs.Children.{IsListedIn}
-use Rattle.goal_children.specs.Finding.{expr_goal, IsOfMembers, FindsFrom, IsLeastFrom}
+use Rattle.goal_children.specs.Finding.{phase_goal_of_expr, IsOfMembers, FindsFrom, IsLeastFrom}
 use Rattle.goal_children.proofs.OverChildren.{request_in_range}
 use Rattle.goal_children.specs.MemberJobs.{word_at, HasNumberedJob, HaveNoGoals, IsFirstGoal, IsGoalOf, IsJobInRange}
 
@@ -43,11 +43,11 @@ words_rise words ascending i j order within = elim (cases_eq i j) [
   | inr apart ↦ omega (arith, AllPairs-from_increasing words ascending i j 0 (omega (arith, order, apart)) within)
 ]
 
-expr_goal_word : (phase : Phase) (e : ExprParts) → goal_word (expr_goal phase e) ≡ word_at (Transform phase) (word_of e)
+expr_goal_word : (phase : Phase) (e : ExprParts) → goal_word (phase_goal_of_expr phase e) ≡ word_at (Transform phase) (word_of e)
 expr_goal_word Exploration e = refl
 expr_goal_word Implementation e = refl
 
-expr_goal_in_range : (phase : Phase) (e : ExprParts) → IsPacked e → IsInRange (expr_goal phase e)
+expr_goal_in_range : (phase : Phase) (e : ExprParts) → IsPacked e → IsInRange (phase_goal_of_expr phase e)
 expr_goal_in_range Exploration e packed = packed
 expr_goal_in_range Implementation e packed = packed
 
@@ -158,7 +158,9 @@ module _ (q : Query) where
     pub found_none : HaveNoGoals q job (drop first own) → FindsFrom (IsOfMembers q words group job) bound None
     found_none none goal is above =
         let at = stands_at goal is above in
-        none at.place at.has.expr goal at.within at.has.listed.candidate at.word at.has.is_goal
+        let e = at.has.expr in
+        let there : Contains (drop first own) (word_of e) = (at.place, at.within, sym (get_or_default (drop first own) at.place 0 (word_of e) at.within) ∙ sym at.word) in
+        none goal (word_of e, there, (e, at.has.listed.candidate, refl, at.has.is_goal))
 
     pub found_some : IsJobInRange job → (goal : GoalKind) → IsFirstGoal q job (drop first own) goal → IsLeastFrom (IsOfMembers q words group job) bound goal
     found_some in_range goal is =
@@ -180,7 +182,16 @@ module _ (q : Query) where
           least = λ other is_other above.
               let at_other = stands_at other is_other above in
               elim (cases_lt at_other.place is.place) [
-                | inl less ↦ absurd (is.before at_other.place at_other.has.expr other less at_other.has.listed.candidate at_other.word at_other.has.is_goal)
+                | inl less ↦
+                    let e = at_other.has.expr in
+                    let inside : at_other.place < length (take is.place (drop first own)) = omega (arith, less, at_other.within, length-take is.place (drop first own)) in
+                    let there : Contains (take is.place (drop first own)) (word_of e) = (
+                      at_other.place,
+                      inside,
+                      get_or-take is.place (drop first own) at_other.place (word_of e) less
+                          ∙ sym (get_or_default (drop first own) at_other.place 0 (word_of e) at_other.within) ∙ sym at_other.word,
+                    ) in
+                    absurd (is.before other (word_of e, there, (e, at_other.has.listed.candidate, refl, at_other.has.is_goal)))
                 | inr more ↦
                     let within_other : first + at_other.place < length own = omega (arith, at_other.within, length-drop first own) in
                     let other_at : word_of at_other.has.expr ≡ get_or own (first + at_other.place) 0 = at_other.word ∙ get_or-drop first own at_other.place 0 in

@@ -6,7 +6,7 @@ use Rattle.query_core.specs.declared.expressions.ExprParts.{ExprParts}
 use Rattle.xform_rules.specs.declared.rules.Rule.{Rule}
 use Rattle.goal_space.specs.Children.{IsRuleAt}
 use Rattle.goal_space.specs.declared.goals.GoalKind.{GoalKind}
-use Rattle.goal_children.specs.Finding.{FindsFrom, Inserts, IsOfRule, sooner_of}
+use Rattle.goal_children.specs.Finding.{FindsFrom, InsertsGoals, IsOfRule, sooner_of}
 use Rattle.goal_children.proofs.Finds.{finds_as, sooner_is}
 use Rattle.goal_children.proofs.Inserting.{inserts_as, inserts_more, inserts_nothing}
 use Rattle.std.proofs.lemmas.List.Elements.{Contains-append_left, Contains-push, Contains-push_cases}
@@ -33,8 +33,8 @@ module _ (q : Query) (exploring : Bool) (e : ExprParts) (rules : List Rule) (rul
       finds_as (λ k. IsOfRules q exploring e rules k ⊎ IsOfRule q exploring e rule k) (IsOfRules q exploring e (rules ++ rule ∷ [])) bound found rules_as as_rules
       (sooner_is (IsOfRules q exploring e rules) (IsOfRule q exploring e rule) bound before this found is first second)
 
-  pub rule_inserted : (old middle new : List GoalKind) → Inserts (IsOfRules q exploring e rules) old middle → Inserts (IsOfRule q exploring e rule) middle new
-      → Inserts (IsOfRules q exploring e (rules ++ rule ∷ [])) old new
+  pub rule_inserted : (old middle new : List GoalKind) → InsertsGoals (IsOfRules q exploring e rules) old middle → InsertsGoals (IsOfRule q exploring e rule) middle new
+      → InsertsGoals (IsOfRules q exploring e (rules ++ rule ∷ [])) old new
   rule_inserted old middle new first second =
       inserts_more (IsOfRules q exploring e rules) (IsOfRule q exploring e rule) (IsOfRules q exploring e (rules ++ rule ∷ [])) old middle new rules_as as_rules first second
 
@@ -50,12 +50,12 @@ each_rule q exploring e rules bound found every finds =
     (λ k (rule, there, (kind, applies, is)). (rule, kind, applies, is)) (λ k (rule, kind, applies, is). (rule, every rule, (kind, applies, is))) finds
 
 -- goals that come to a list: of no rules none
-pub no_rules_inserted : (q : Query) (exploring : Bool) (e : ExprParts) (goals : List GoalKind) → Inserts (IsOfRules q exploring e []) goals goals
+pub no_rules_inserted : (q : Query) (exploring : Bool) (e : ExprParts) (goals : List GoalKind) → InsertsGoals (IsOfRules q exploring e []) goals goals
 no_rules_inserted q exploring e goals = inserts_nothing (IsOfRules q exploring e []) goals (λ k (rule, (i, within, is), of_rule). absurd (omega (arith, within)))
 
 -- and of all rules those of the phase that apply
 pub each_rule_inserted : (q : Query) (exploring : Bool) (e : ExprParts) (rules : List Rule) (old new : List GoalKind) → ((rule : Rule) → Contains rules rule)
-    → Inserts (IsOfRules q exploring e rules) old new → Inserts (IsRuleAt q exploring e) old new
+    → InsertsGoals (IsOfRules q exploring e rules) old new → InsertsGoals (IsRuleAt q exploring e) old new
 each_rule_inserted q exploring e rules old new every inserts =
     inserts_as (IsOfRules q exploring e rules) (IsRuleAt q exploring e) old new
     (λ k (rule, there, (kind, applies, is)). (rule, kind, applies, is)) (λ k (rule, kind, applies, is). (rule, every rule, (kind, applies, is))) inserts

@@ -57,26 +57,26 @@ pub record Collects (Kind : GoalKind → Type 0) (old new : List GoalKind) : Typ
   pub in_range : All IsInRange old → All IsInRange new
 
 -- they came behind all others, so words that rose rise on where those of the kind are greater
-pub record Appends (Kind : GoalKind → Type 0) (old new : List GoalKind) : Type 0 where
+pub record AppendsGoals (Kind : GoalKind → Type 0) (old new : List GoalKind) : Type 0 where
   pub collects : Collects Kind old new
   pub rises : AreRising old → AreBehind Kind old → AreRising new
 
 -- each came to its place, so words that rose still rise
-pub record Inserts (Kind : GoalKind → Type 0) (old new : List GoalKind) : Type 0 where
+pub record InsertsGoals (Kind : GoalKind → Type 0) (old new : List GoalKind) : Type 0 where
   pub collects : Collects Kind old new
   pub rises : AreRising old → AreRising new
 
 -- ---- kinds of children
 
 -- the goal of a group in a phase
-abbrev pub group_goal : Phase → KeyParts → GoalKind
-group_goal Exploration group = Exp group
-group_goal Implementation group = Imp group
+abbrev pub phase_goal_of_group : Phase → KeyParts → GoalKind
+phase_goal_of_group Exploration group = Exp group
+phase_goal_of_group Implementation group = Imp group
 
 -- the goal of an expression in a phase
-abbrev pub expr_goal : Phase → ExprParts → GoalKind
-expr_goal Exploration e = ExpE e
-expr_goal Implementation e = ImpE e
+abbrev pub phase_goal_of_expr : Phase → ExprParts → GoalKind
+phase_goal_of_expr Exploration e = ExpE e
+phase_goal_of_expr Implementation e = ImpE e
 
 -- the rules of the phase explore
 abbrev pub does_explore : Phase → Bool
@@ -85,7 +85,7 @@ does_explore Implementation = false
 
 -- the goal of one of the groups
 abbrev pub IsOfGroups : Phase → Children → GoalKind → Type 0
-IsOfGroups phase children goal = (group : KeyParts) × IsChild children group × (goal ≡ group_goal phase group)
+IsOfGroups phase children goal = (group : KeyParts) × IsChild children group × (goal ≡ phase_goal_of_group phase group)
 
 -- the goal of the left group
 abbrev pub IsOfLeftGroup : Children → GoalKind → Type 0
@@ -109,5 +109,5 @@ IsOfExpression q phase e goal = IsOfGroups phase (children_of e.operator) goal �
 
 -- the goal of a job of a member of the group
 abbrev pub IsOfMembers : Query → List ℕ → KeyParts → MemberJob → GoalKind → Type 0
-IsOfMembers q words group (Transform phase) goal = (e : ExprParts) × IsLogicalIn (IsListedIn q words) group e × (goal ≡ expr_goal phase e)
+IsOfMembers q words group (Transform phase) goal = (e : ExprParts) × IsLogicalIn (IsListedIn q words) group e × (goal ≡ phase_goal_of_expr phase e)
 IsOfMembers q words group (Serve wanted) goal = (e : PhysicalExpr) × CanServe (IsListedIn q words) q group wanted e × (goal ≡ OptE e wanted)

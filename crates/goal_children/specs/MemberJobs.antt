@@ -1,5 +1,5 @@
 -- The goals of members: which an expression has, and their words.
-use Rattle.std.specs.Prelude.{ℕ, ◌≡◌, ◌<◌, IsTrue, List, length, slice_index, ⊤}
+use Rattle.std.specs.Prelude.{ℕ, ◌≡◌, ◌<◌, IsTrue, List, length, slice_index, take, ⊤}
 use Rattle.std.specs.List.{Contains}
 use Rattle.query_core.specs.Expressions.{expr_of, is_logical, word_of, IsCandidate}
 use Rattle.query_core.specs.Goals.{goal_number}
@@ -18,7 +18,7 @@ use Rattle.goal_children.specs.declared.jobs.Phase.TheVariants.{Exploration, Imp
 use Rattle.goal_children.specs.declared.jobs.MemberJob.{MemberJob}
 use Rattle.goal_children.specs.declared.jobs.MemberJob.TheVariants.{Transform, Serve}
 use Rattle.goal_children.specs.Over.{IsNumberedRequest}
-use Rattle.goal_children.specs.Finding.{expr_goal}
+use Rattle.goal_children.specs.Finding.{phase_goal_of_expr}
 
 -- the request of the job, if it has one, has numbers
 abbrev pub HasNumberedJob : Query → MemberJob → Type 0
@@ -42,7 +42,7 @@ word_at job word = goal_number (parts_at job word)
 
 -- the goal is that of the logical expression
 abbrev pub IsTransformed : Phase → ExprParts → GoalKind → Type 0
-IsTransformed phase e goal = IsTrue (is_logical e.operator) × (goal ≡ expr_goal phase e)
+IsTransformed phase e goal = IsTrue (is_logical e.operator) × (goal ≡ phase_goal_of_expr phase e)
 
 -- the goal is that of the physical expression, which may serve the request
 pub record IsServed (q : Query) (wanted : Request) (e : ExprParts) (goal : GoalKind) : Type 0 where
@@ -65,14 +65,9 @@ IsGoalOfWord q job word goal = (e : ExprParts) × IsCandidate q e × (word_of e 
 abbrev pub IsGoalAmong : Query → MemberJob → List ℕ → GoalKind → Type 0
 IsGoalAmong q job words goal = (word : ℕ) × Contains words word × IsGoalOfWord q job word goal
 
--- none of the candidates of the words below the place has a goal for the job
-abbrev pub HaveNoGoalsBelow : Query → MemberJob → List ℕ → ℕ → Type 0
-HaveNoGoalsBelow q job words limit =
-    (k : ℕ) (e : ExprParts) (goal : GoalKind) → k < limit → IsCandidate q e → word_of e ≡ slice_index words k → IsGoalOf q job e goal → ⊥
-
 -- none of the candidates of the words has a goal for the job
 abbrev pub HaveNoGoals : Query → MemberJob → List ℕ → Type 0
-HaveNoGoals q job words = HaveNoGoalsBelow q job words (length words)
+HaveNoGoals q job words = (goal : GoalKind) → IsGoalAmong q job words goal → ⊥
 
 -- the goal is that of the first of the words that has one
 pub record IsFirstGoal (q : Query) (job : MemberJob) (words : List ℕ) (goal : GoalKind) : Type 0 where
@@ -82,4 +77,4 @@ pub record IsFirstGoal (q : Query) (job : MemberJob) (words : List ℕ) (goal : 
   pub candidate : IsCandidate q expr
   pub word : word_of expr ≡ slice_index words place
   pub is_goal : IsGoalOf q job expr goal
-  pub before : HaveNoGoalsBelow q job words place
+  pub before : HaveNoGoals q job (take place words)

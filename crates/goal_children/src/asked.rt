@@ -12,7 +12,7 @@ ghost use Rattle.plan_space.specs.Lines.{line_of as line_by_table};
 ghost use Rattle.goal_space.specs.Words.{IsInRange};
 ghost use Rattle.goal_children.specs.Over.{IsNumberedRequest};
 ghost use Rattle.goal_children.specs.Choices.{IsOfAlt, IsOfAlternatives, IsOfEnforcer, IsOfMode, IsOfRequest};
-ghost use Rattle.goal_children.specs.Finding.{Inserts};
+ghost use Rattle.goal_children.specs.Finding.{InsertsGoals};
 
 use crate::choice::{asked_of, enforced_by};
 use crate::words::insert_goal;
@@ -36,7 +36,7 @@ pub fn insert_asked(
     requires numbered { IsNumberedRequest query.now wanted }
     requires listed { All IsInRange goals.old.items }
     ensures ok { OnOk result
-        (Inserts (IsOfAlternatives query.now e wanted) goals.old.items goals.new.items) }
+        (InsertsGoals (IsOfAlternatives query.now e wanted) goals.old.items goals.new.items) }
 {
     let modes = modes_to_try(query, props, e, wanted);
     let mut from = 0;
@@ -64,7 +64,7 @@ fn insert_in_mode(
     requires line { line_by_table query.now e mode ≡ Some line }
     requires listed { All IsInRange goals.old.items }
     ensures ok { OnOk result
-        (Inserts (IsOfMode query.now e wanted mode) goals.old.items goals.new.items) }
+        (InsertsGoals (IsOfMode query.now e wanted mode) goals.old.items goals.new.items) }
 {
     // For the proof: children are groups with keys, and what is asked of them has numbers.
     candidates_are_known();
@@ -82,7 +82,7 @@ fn insert_wished(children: Children, alt: Alt, goals: &mut Vec<GoalKind>) -> Res
     requires left { IfSome alt.left (λ asked. requests.IsInRange asked.1) }
     requires right { IfSome alt.right (λ asked. requests.IsInRange asked.1) }
     requires listed { All IsInRange goals.old.items }
-    ensures ok { OnOk result (Inserts (IsOfAlt children alt) goals.old.items goals.new.items) }
+    ensures ok { OnOk result (InsertsGoals (IsOfAlt children alt) goals.old.items goals.new.items) }
 {
     match children {
         Children::Zero => Ok(()),
@@ -104,7 +104,7 @@ fn insert_request(
     requires group { keys.IsInRange group }
     requires wanted { IfSome wanted requests.IsInRange }
     requires listed { All IsInRange goals.old.items }
-    ensures ok { OnOk result (Inserts (IsOfRequest group wanted) goals.old.items goals.new.items) }
+    ensures ok { OnOk result (InsertsGoals (IsOfRequest group wanted) goals.old.items goals.new.items) }
 {
     match wanted {
         Some(wanted) => insert_goal(GoalKind::Opt(group, wanted), goals),
@@ -125,7 +125,7 @@ pub fn insert_enforced(
     requires numbered { IsNumberedRequest query.now wanted }
     requires listed { All IsInRange goals.old.items }
     ensures ok { OnOk result
-        (Inserts (IsOfEnforcer query.now group wanted) goals.old.items goals.new.items) }
+        (InsertsGoals (IsOfEnforcer query.now group wanted) goals.old.items goals.new.items) }
 {
     // For the proof: groups have keys.
     groups_are_known();

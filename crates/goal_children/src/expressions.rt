@@ -6,7 +6,7 @@ ghost use Rattle.std.specs.List.{All};
 ghost use Rattle.query_core.specs.Expressions.{children_of, AreInRange, IsCandidate, IsPacked};
 ghost use Rattle.goal_space.specs.Children.{IsRuleAt};
 ghost use Rattle.goal_space.specs.Words.{IsInRange};
-ghost use Rattle.goal_children.specs.Finding.{does_explore, FindsFrom, Inserts, IsOfExpression, IsOfGroups, IsOfLeft, IsOfLeftGroup, IsOfRule, IsTried};
+ghost use Rattle.goal_children.specs.Finding.{does_explore, FindsFrom, InsertsGoals, IsOfExpression, IsOfGroups, IsOfLeft, IsOfLeftGroup, IsOfRule, IsTried};
 
 use crate::finding::{goal_from, sooner};
 use crate::jobs::Phase;
@@ -87,7 +87,7 @@ pub fn insert_transformed(
     requires packed { IsPacked e }
     requires listed { All IsInRange goals.old.items }
     ensures ok { OnOk result
-        (Inserts (IsOfExpression query.now phase e) goals.old.items goals.new.items) }
+        (InsertsGoals (IsOfExpression query.now phase e) goals.old.items goals.new.items) }
 {
     insert_groups(phase, e.children(), goals)?;
     insert_rules(query, phase, e, goals)?;
@@ -102,7 +102,7 @@ fn insert_groups(
 ) -> Result<(), AllocError>
     requires children { AreInRange children }
     requires listed { All IsInRange goals.old.items }
-    ensures ok { OnOk result (Inserts (IsOfGroups phase children) goals.old.items goals.new.items) }
+    ensures ok { OnOk result (InsertsGoals (IsOfGroups phase children) goals.old.items goals.new.items) }
 {
     match children {
         Children::Zero => Ok(()),
@@ -125,7 +125,7 @@ fn insert_rules(
     requires packed { IsPacked e }
     requires listed { All IsInRange goals.old.items }
     ensures ok { OnOk result
-        (Inserts (IsRuleAt query.now (does_explore phase) e) goals.old.items goals.new.items) }
+        (InsertsGoals (IsRuleAt query.now (does_explore phase) e) goals.old.items goals.new.items) }
 {
     let rules = Rule::all();
     for rule in &rules {
@@ -145,7 +145,7 @@ fn insert_rule(
     requires packed { IsPacked e }
     requires listed { All IsInRange goals.old.items }
     ensures ok { OnOk result
-        (Inserts (IsOfRule query.now (does_explore phase) e rule) goals.old.items goals.new.items) }
+        (InsertsGoals (IsOfRule query.now (does_explore phase) e rule) goals.old.items goals.new.items) }
 {
     if applies_in(query, phase, e, rule) {
         insert_goal(GoalKind::Xf(e, rule), goals)
@@ -159,7 +159,7 @@ pub fn insert_left(e: ExprParts, rule: Rule, goals: &mut Vec<GoalKind>) -> Resul
     requires children { AreInRange (children_of e.operator) }
     requires listed { All IsInRange goals.old.items }
     ensures ok { OnOk result
-        (Inserts (IsOfLeft e rule (children_of e.operator)) goals.old.items goals.new.items) }
+        (InsertsGoals (IsOfLeft e rule (children_of e.operator)) goals.old.items goals.new.items) }
 {
     if associates(rule) {
         insert_left_group(e.children(), goals)
@@ -172,7 +172,7 @@ pub fn insert_left(e: ExprParts, rule: Rule, goals: &mut Vec<GoalKind>) -> Resul
 fn insert_left_group(children: Children, goals: &mut Vec<GoalKind>) -> Result<(), AllocError>
     requires children { AreInRange children }
     requires listed { All IsInRange goals.old.items }
-    ensures ok { OnOk result (Inserts (IsOfLeftGroup children) goals.old.items goals.new.items) }
+    ensures ok { OnOk result (InsertsGoals (IsOfLeftGroup children) goals.old.items goals.new.items) }
 {
     match children {
         Children::Zero => Ok(()),

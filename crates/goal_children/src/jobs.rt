@@ -2,7 +2,7 @@
 #![tactic(auto)]
 
 ghost use Rattle.std.specs.Prelude.{◌≡◌};
-ghost use Rattle.goal_children.specs.Finding.{does_explore, expr_goal, group_goal};
+ghost use Rattle.goal_children.specs.Finding.{does_explore, phase_goal_of_expr, phase_goal_of_group};
 
 use goal_space::GoalKind;
 use query_core::{ExprParts, KeyParts};
@@ -27,7 +27,7 @@ pub enum MemberJob {
 impl Phase {
     /// The goal of a group.
     pub fn of_group(self, group: KeyParts) -> GoalKind
-        ensures { result ≡ group_goal self group }
+        ensures { result ≡ phase_goal_of_group self group }
     {
         match self {
             Phase::Exploration => GoalKind::Exp(group),
@@ -37,7 +37,7 @@ impl Phase {
 
     /// The goal of an expression.
     pub fn of_expr(self, e: ExprParts) -> GoalKind
-        ensures { result ≡ expr_goal self e }
+        ensures { result ≡ phase_goal_of_expr self e }
     {
         match self {
             Phase::Exploration => GoalKind::ExpE(e),

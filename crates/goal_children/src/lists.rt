@@ -11,7 +11,7 @@ ghost use Rattle.goal_space.specs.Words.{IsInRange};
 ghost use Rattle.goal_space.specs.declared.goals.GoalKind.{GoalKind as AnyGoal};
 ghost use Rattle.goal_children.specs.Over.{IsGoalOver, IsNumberedRequest};
 ghost use Rattle.goal_children.specs.Children.{AreChildren, IsChildIn};
-ghost use Rattle.goal_children.specs.Finding.{Appends};
+ghost use Rattle.goal_children.specs.Finding.{AppendsGoals};
 
 use crate::asked::{insert_asked, insert_enforced};
 use crate::expressions::{insert_left, insert_transformed};
@@ -55,7 +55,7 @@ fn add_children(
     requires goal { IsGoalOver query.now goal }
     requires listed { All IsInRange goals.old.items }
     ensures ok { OnOk result
-        (Appends (IsChildIn query.now members.now goal) goals.old.items goals.new.items) }
+        (AppendsGoals (IsChildIn query.now members.now goal) goals.old.items goals.new.items) }
 {
     // For the proof: the words of candidates fit.
     candidates_are_known();
@@ -86,7 +86,7 @@ fn add_implemented(
     requires ascending { IsStrictlyIncreasing members.now }
     requires known { IsGroup query.now group }
     ensures ok { OnOk result
-        (Appends (IsChildIn query.now members.now (AnyGoal.Imp group)) goals.old.items goals.new.items) }
+        (AppendsGoals (IsChildIn query.now members.now (AnyGoal.Imp group)) goals.old.items goals.new.items) }
 {
     // For the proof: groups have keys, and words fit.
     groups_are_known();
@@ -114,7 +114,7 @@ fn add_chosen(
     requires numbered { IsNumberedRequest query.now wanted }
     requires listed { All IsInRange goals.old.items }
     ensures ok { OnOk result
-        (Appends (IsChildIn query.now members.now (AnyGoal.Opt group wanted)) goals.old.items
+        (AppendsGoals (IsChildIn query.now members.now (AnyGoal.Opt group wanted)) goals.old.items
         goals.new.items) }
 {
     // For the proof: groups have keys, and children have words that fit.

@@ -10,7 +10,7 @@ ghost use Rattle.query_core.specs.Keys.{IsGroup};
 ghost use Rattle.query_core.specs.Expressions.{expr_of, IsCandidate, IsCandidateWord};
 ghost use Rattle.request_props.specs.Numbered.{IsProps, IsNumbered};
 ghost use Rattle.plan_tree.specs.Alternatives.{HasAlternative};
-ghost use Rattle.goal_children.specs.Finding.{Appends, FindsFrom, IsOfMembers};
+ghost use Rattle.goal_children.specs.Finding.{AppendsGoals, FindsFrom, IsOfMembers};
 ghost use Rattle.goal_space.specs.declared.goals.GoalKind.{GoalKind as AnyGoal};
 ghost use Rattle.goal_children.specs.MemberJobs.{word_at, HasNumberedJob, HaveNoGoals, IsFirstGoal, IsGoalAmong, IsGoalOf, IsGoalOfWord, IsJobInRange, IsServed, IsTransformed};
 
@@ -65,7 +65,7 @@ pub fn push_member_goals(
     requires known { IsGroup query.now group }
     requires numbered { HasNumberedJob query.now job }
     ensures ok { OnOk result
-        (Appends (IsOfMembers query.now members.now group job) goals.old.items goals.new.items) }
+        (AppendsGoals (IsOfMembers query.now members.now group job) goals.old.items goals.new.items) }
 {
     // For the proof: the words of candidates fit, and groups have keys.
     candidates_are_known();
@@ -86,7 +86,7 @@ fn push_goals_of(
     requires ascending { IsStrictlyIncreasing words.now }
     requires numbered { HasNumberedJob query.now job }
     ensures ok { OnOk result
-        (Appends (IsGoalAmong query.now job words.now) goals.old.items goals.new.items) }
+        (AppendsGoals (IsGoalAmong query.now job words.now) goals.old.items goals.new.items) }
 {
     for word in words {
         push_goal_of(query, props, job, *word, goals)?;
@@ -106,7 +106,7 @@ fn push_goal_of(
     requires candidate { IsCandidateWord query.now word }
     requires numbered { HasNumberedJob query.now job }
     ensures ok { OnOk result
-        (Appends (IsGoalOfWord query.now job word) goals.old.items goals.new.items) }
+        (AppendsGoals (IsGoalOfWord query.now job word) goals.old.items goals.new.items) }
 {
     // For the proof: the words of candidates fit.
     candidates_are_known();

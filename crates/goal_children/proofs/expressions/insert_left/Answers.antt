@@ -2,7 +2,7 @@ use Rattle.std.proofs.Common.{◌≡◌, true, false, subst}
 use Rattle.std.proofs.lemmas.Result.{on_ok_weaker}
 use Rattle.query_core.specs.Expressions.{children_of}
 use Rattle.query_core.specs.declared.expressions.Children.{Children}
-use Rattle.goal_children.specs.Finding.{Inserts, IsOfLeft, IsOfLeftGroup}
+use Rattle.goal_children.specs.Finding.{InsertsGoals, IsOfLeft, IsOfLeftGroup}
 use Rattle.goal_children.proofs.Inserting.{inserts_as, inserts_nothing}
 use Rattle.goal_children.proofs.expressions.insert_left.Goals as goal
 
@@ -16,7 +16,7 @@ returns-then-associates c =
     record {
       ok = on_ok_weaker c.insert_left_group.result
           (λ inserts. inserts_as (IsOfLeftGroup children) (IsOfLeft c.args.e c.args.rule children) old new (λ k (group, left, same). (group, is_it, left, same))
-          (λ k (group, again, left, same). (group, left, same)) (subst (λ (x : Children). Inserts (IsOfLeftGroup x) old new) c.children.ensures inserts))
+          (λ k (group, again, left, same). (group, left, same)) (subst (λ (x : Children). InsertsGoals (IsOfLeftGroup x) old new) c.children.ensures inserts))
           c.insert_left_group.ensures.ok;
     }
 

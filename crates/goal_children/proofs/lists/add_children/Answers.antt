@@ -4,7 +4,7 @@ use Rattle.goal_space.specs.Laws.{IsOfCandidate}
 use Rattle.goal_space.specs.declared.goals.GoalKind.{GoalKind}
 use Rattle.goal_space.specs.declared.goals.GoalKind.TheVariants.{ExpE, Xf, ImpE, OptE}
 use Rattle.goal_children.specs.Children.{IsChildIn}
-use Rattle.goal_children.specs.Finding.{Appends}
+use Rattle.goal_children.specs.Finding.{AppendsGoals}
 use Rattle.goal_children.proofs.Appending.{appends_inserted}
 use Rattle.goal_children.proofs.lists.add_children.Goals as goal
 
@@ -30,7 +30,7 @@ returns-in-Exp c =
     let old = c.args.goals.now.items in
     let new = c.push_member_goals.new.goals.items in
     record {
-      ok = on_ok_weaker c.push_member_goals.result (λ appends. subst (λ (g : GoalKind). Appends (IsChildIn q words g) old new) (sym c.in-Exp.is) appends) c.push_member_goals.ensures.ok;
+      ok = on_ok_weaker c.push_member_goals.result (λ appends. subst (λ (g : GoalKind). AppendsGoals (IsChildIn q words g) old new) (sym c.in-Exp.is) appends) c.push_member_goals.ensures.ok;
     }
 
 pub returns-in-ExpE : goal.returns-in-ExpE
@@ -41,7 +41,7 @@ returns-in-ExpE c =
     let new = c.insert_transformed.new.goals.items in
     record {
       ok = on_ok_weaker c.insert_transformed.result
-          (λ inserts. subst (λ (g : GoalKind). Appends (IsChildIn q words g) old new) (sym c.in-ExpE.is)
+          (λ inserts. subst (λ (g : GoalKind). AppendsGoals (IsChildIn q words g) old new) (sym c.in-ExpE.is)
           (appends_inserted (IsChildIn q words (ExpE c.in-ExpE.e)) old new inserts))
           c.insert_transformed.ensures.ok;
     }
@@ -54,7 +54,7 @@ returns-in-Xf c =
     let new = c.insert_left.new.goals.items in
     record {
       ok = on_ok_weaker c.insert_left.result
-          (λ inserts. subst (λ (g : GoalKind). Appends (IsChildIn q words g) old new) (sym c.in-Xf.is)
+          (λ inserts. subst (λ (g : GoalKind). AppendsGoals (IsChildIn q words g) old new) (sym c.in-Xf.is)
           (appends_inserted (IsChildIn q words (Xf c.in-Xf.e c.in-Xf.rule)) old new inserts))
           c.insert_left.ensures.ok;
     }
@@ -67,7 +67,7 @@ returns-in-ImpE c =
     let new = c.insert_transformed-in-ImpE.new.goals.items in
     record {
       ok = on_ok_weaker c.insert_transformed-in-ImpE.result
-          (λ inserts. subst (λ (g : GoalKind). Appends (IsChildIn q words g) old new) (sym c.in-ImpE.is)
+          (λ inserts. subst (λ (g : GoalKind). AppendsGoals (IsChildIn q words g) old new) (sym c.in-ImpE.is)
           (appends_inserted (IsChildIn q words (ImpE c.in-ImpE.e)) old new inserts))
           c.insert_transformed-in-ImpE.ensures.ok;
     }
@@ -80,7 +80,7 @@ returns-in-OptE c =
     let new = c.insert_asked.new.goals.items in
     record {
       ok = on_ok_weaker c.insert_asked.result
-          (λ inserts. subst (λ (g : GoalKind). Appends (IsChildIn q words g) old new) (sym c.in-OptE.is)
+          (λ inserts. subst (λ (g : GoalKind). AppendsGoals (IsChildIn q words g) old new) (sym c.in-OptE.is)
           (appends_inserted (IsChildIn q words (OptE c.in-OptE.e c.in-OptE.wanted)) old new inserts))
           c.insert_asked.ensures.ok;
     }

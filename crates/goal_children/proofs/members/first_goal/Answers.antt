@@ -1,5 +1,7 @@
-use Rattle.std.proofs.Common.{get_or}
-use Rattle.goal_children.proofs.First.{known_word, candidate_of_word, none_more}
+use Rattle.std.proofs.Common.{get_or, subst}
+use Rattle.std.proofs.lemmas.List.{take_all}
+use Rattle.goal_children.specs.MemberJobs.{HaveNoGoals}
+use Rattle.goal_children.proofs.First.{known_word, candidate_of_word, none_first, none_more}
 use Rattle.goal_children.proofs.members.first_goal.Goals as goal
 
 -- each word is that of a candidate
@@ -29,4 +31,10 @@ returns-in-Some c = record {
 pub loop-word-preserved : goal.loop-word-preserved
 loop-word-preserved c =
     none_more c.args.query.now (c.candidates_are_known.ensures.packed c.args.query.now) c.args.job c.args.words.now c.loop-word.word-index c.known_parts.result
-    c.known_parts.ensures.only c.loop-word.invariant c.in-None.ensures
+    c.loop-word-test.true c.known_parts.ensures.only c.loop-word.invariant c.in-None.ensures
+
+pub loop-word-init : goal.loop-word-init
+loop-word-init c = none_first c.args.query.now c.args.job
+
+pub returns : goal.returns
+returns c = subst (HaveNoGoals c.args.query.now c.args.job) (take_all c.loop-word.word-index c.args.words.now c.loop-word-test.false) c.loop-word.invariant

@@ -1,6 +1,7 @@
-use Rattle.goal_children.specs.MemberJobs.{HaveNoGoalsBelow}
+use Rattle.std.proofs.Common.{take}
+use Rattle.goal_children.specs.MemberJobs.{HaveNoGoals}
 use Rattle.goal_children.proofs.members.first_goal.Given as goal
 
 -- none before this word has a goal
 abbrev pub invariant-loop-word : goal.invariant-loop-word
-invariant-loop-word l = HaveNoGoalsBelow l.query l.job l.words l.word-index
+invariant-loop-word l = HaveNoGoals l.query l.job (take l.word-index l.words)

@@ -1,6 +1,6 @@
 use Rattle.std.proofs.Common.{subst}
 use Rattle.std.proofs.lemmas.List.{take_all}
-use Rattle.goal_children.specs.Finding.{Appends}
+use Rattle.goal_children.specs.Finding.{AppendsGoals}
 use Rattle.goal_children.specs.MemberJobs.{IsGoalAmong}
 use Rattle.goal_children.proofs.MemberGoals.{none_among, more_among}
 use Rattle.goal_children.proofs.members.push_goals_of.Goals as goal
@@ -16,6 +16,6 @@ loop-word-preserved c =
 
 pub returns : goal.returns
 returns c = record {
-  ok = subst (λ ws. Appends (IsGoalAmong c.args.query.now c.args.job ws) c.args.goals.now.items c.loop-word.goals.items)
+  ok = subst (λ ws. AppendsGoals (IsGoalAmong c.args.query.now c.args.job ws) c.args.goals.now.items c.loop-word.goals.items)
       (take_all c.loop-word.word-index c.args.words.now c.loop-word-test.false) c.loop-word.invariant;
 }
