@@ -7,7 +7,7 @@ use Rattle.std.proofs.KnownBytes.{Appends-trans}
 use Rattle.std.specs.Io.KnownBytes.{Appends}
 use Rattle.std.specs.declared.alloc.Global.{Global}
 use Rattle.orca_io.specs.Sink.{TakesPrefix}
-use Rattle.orca_cli.specs.Views.{joined}
+use Rattle.orca_cli.specs.Views.{bytes_of_texts}
 
 -- the first bytes of a text are all of its front and the first bytes of what is behind
 take-front : (front piece back : List ℕ) (n : ℕ) → n ≤ length piece → take (length front + n) (front ++ (piece ++ back)) ≡ front ++ take n piece
@@ -36,12 +36,12 @@ module _ (old mid new : Option (List ℕ)) (text front rest : List ℕ) (parts :
 
 -- those before the one at a place, this one, and those behind it
 joined_around : (texts : List (Vec ℕ Global)) (at : ℕ) (d : Vec ℕ Global) → at < length texts
-    → joined texts ≡ joined (take at texts) ++ ((get_or texts at d).items ++ joined (drop (suc at) texts))
+    → bytes_of_texts texts ≡ bytes_of_texts (take at texts) ++ ((get_or texts at d).items ++ bytes_of_texts (drop (suc at) texts))
 joined_around texts at d within =
-    ap joined (split_at texts at d within) ∙ flat_map-append (λ (text : Vec ℕ Global). text.items) (take at texts) (get_or texts at d ∷ drop (suc at) texts)
+    ap bytes_of_texts (split_at texts at d within) ∙ flat_map-append (λ (text : Vec ℕ Global). text.items) (take at texts) (get_or texts at d ∷ drop (suc at) texts)
 
 -- after the texts before the one at a place were taken, a prefix of this one makes a prefix of all
-pub text_cut : (old mid new : Option (List ℕ)) (texts : List (Vec ℕ Global)) (at : ℕ) (d : Vec ℕ Global) → at < length texts → Appends old mid (joined (take at texts)) → TakesPrefix mid new (get_or texts at d).items → TakesPrefix old new (joined texts)
+pub text_cut : (old mid new : Option (List ℕ)) (texts : List (Vec ℕ Global)) (at : ℕ) (d : Vec ℕ Global) → at < length texts → Appends old mid (bytes_of_texts (take at texts)) → TakesPrefix mid new (get_or texts at d).items → TakesPrefix old new (bytes_of_texts texts)
 text_cut old mid new texts at d within before this =
     subst (TakesPrefix old new) (sym (joined_around texts at d within))
-    (prefix_after old mid new (joined (take at texts)) (get_or texts at d).items (joined (drop (suc at) texts)) before this)
+    (prefix_after old mid new (bytes_of_texts (take at texts)) (get_or texts at d).items (bytes_of_texts (drop (suc at) texts)) before this)

@@ -5,12 +5,12 @@ use Rattle.orca_cli.specs.declared.status.Status.{Status}
 use Rattle.orca_cli.specs.declared.ending.Ending.{Ending}
 
 -- the bytes of texts, one behind the other
-abbrev pub joined : List (Vec ℕ Global) → List ℕ
-joined texts = flat_map (λ (text : Vec ℕ Global). text.items) texts
+abbrev pub bytes_of_texts : List (Vec ℕ Global) → List ℕ
+bytes_of_texts texts = flat_map (λ (text : Vec ℕ Global). text.items) texts
 
 -- the text of an ending
 abbrev pub text_of : Ending → List ℕ
-text_of ending = joined ending.texts.items
+text_of ending = bytes_of_texts ending.texts.items
 
 -- the ending has this status and this text
 pub record EndsAs (ending : Ending) (ending_status : Status) (ending_text : List ℕ) : Type 0 where

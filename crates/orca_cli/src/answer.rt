@@ -12,7 +12,7 @@ ghost use Rattle.orca_cli.specs.Stages.{IsDone};
 ghost use Rattle.orca_cli.specs.Views.{text_of};
 
 use crate::ending::{Ending, too_many_entries};
-use crate::lines::first_lines;
+use crate::lines::with_first_lines;
 use crate::planning::{PlanLines, planned};
 use crate::search::{Search, search_alone, search_by_crew};
 use crate::sections::with_sections;
@@ -144,7 +144,7 @@ fn told(
         plan.lines.items (text_of made)) }
 {
     match generated {
-        Some(input) => first_lines(alloc, input, choices, search, plan),
+        Some(input) => with_first_lines(alloc, input, choices, search, plan),
         None => with_sections(alloc, choices, search, plan),
     }
 }

@@ -14,7 +14,7 @@ use query_generator::GenShape;
 use std::alloc::{AllocError, Global};
 
 /// What was generated, and the first lines of the plan, of the memo and of the trace.
-pub fn first_lines(
+pub fn with_first_lines(
     alloc: Global,
     input: GenInput,
     choices: Choices,

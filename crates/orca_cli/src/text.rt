@@ -3,7 +3,7 @@ ghost use Rattle.std.specs.Prelude.{◌≡◌, ◌≤◌, ◌<◌, length, OnOk,
 ghost use Rattle.std.specs.Io.KnownBytes.{Appends};
 ghost use Rattle.orca_base.specs.Causes.{Rose};
 ghost use Rattle.orca_io.specs.Sink.{TakesPrefix};
-ghost use Rattle.orca_cli.specs.Views.{joined};
+ghost use Rattle.orca_cli.specs.Views.{bytes_of_texts};
 
 use memchr::memchr;
 use orca_io::{Sink, SinkError};
@@ -11,11 +11,11 @@ use orca_io::{Sink, SinkError};
 /// Puts the lines of the texts, one text behind the other.
 pub fn put_texts<K: Sink>(out: &mut K, texts: &[Vec<u8>]) -> Result<(), SinkError>
     ensures ok { OnOk result
-        (Appends (K.taken out.old) (K.taken out.new) (joined texts.now)) }
+        (Appends (K.taken out.old) (K.taken out.new) (bytes_of_texts texts.now)) }
 
     ensures failed { OnErr result (Rose (K.faults out.old) (K.faults out.new)) }
     ensures err { OnErr result
-        (TakesPrefix (K.taken out.old) (K.taken out.new) (joined texts.now)) }
+        (TakesPrefix (K.taken out.old) (K.taken out.new) (bytes_of_texts texts.now)) }
 {
     for text in texts {
         put_lines(out, text)?;
