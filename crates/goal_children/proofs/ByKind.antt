@@ -12,7 +12,7 @@ use Rattle.goal_space.specs.declared.goals.GoalKind.TheVariants.{Exp, Imp, Opt}
 use Rattle.goal_children.specs.declared.jobs.MemberJob.TheVariants.{Serve, Transform}
 use Rattle.goal_children.specs.declared.jobs.Phase.TheVariants.{Implementation}
 use Rattle.goal_children.specs.Children.{IsChildIn}
-use Rattle.goal_children.specs.Choices.{IsOfEnforcer}
+use Rattle.goal_children.specs.Choices.{IsBesideMembers, IsOfEnforcer}
 use Rattle.goal_children.specs.Finding.{AppendsGoals, FindsFrom, InsertsGoals, IsLeastFrom, IsOfMembers}
 use Rattle.goal_children.proofs.Appending.{appends_both, appends_inserted, appends_more}
 use Rattle.goal_children.proofs.Finds.{finds_as, finds_left, finds_right}
@@ -93,18 +93,14 @@ module _ (q : Query) (words : List ℕ) (group : KeyParts) where
       (λ k cases. cases) (λ k cases. cases) first second
 
   module _ (wanted : Request) (fits : (k : GoalKind) → IsChildIn q words (Opt group wanted) k → FitsGoal (parts_of k)) where
-    -- the implementation of a group, what enforcers ask for, and the members that serve
-    pub chosen_added : (old first second new : List GoalKind) → AppendsGoals (λ k. k ≡ Imp group) old first → InsertsGoals (IsOfEnforcer q group wanted) first second
-        → AppendsGoals (IsOfMembers q words group (Serve wanted)) second new → AppendsGoals (IsChildIn q words (Opt group wanted)) old new
-    chosen_added old first second new imp enforced served =
+    -- what stands beside the members, and the members that serve
+    pub chosen_added : (old middle new : List GoalKind) → AppendsGoals (IsBesideMembers q group wanted) old middle
+        → AppendsGoals (IsOfMembers q words group (Serve wanted)) middle new → AppendsGoals (IsChildIn q words (Opt group wanted)) old new
+    chosen_added old middle new beside served =
         let Child = IsChildIn q words (Opt group wanted) in
         let Served = IsOfMembers q words group (Serve wanted) in
-        let Enforced = IsOfEnforcer q group wanted in
-        let both : AppendsGoals (λ (k : GoalKind). (k ≡ Imp group) ⊎ Enforced k) old second =
-        appends_both (λ k. k ≡ Imp group) Enforced old first second
-        (λ k l is (e, can, also). kind_before k l (fits k (inl is)) (omega (arith, ap kind_number is, ap kind_number also)))
-        imp (appends_inserted Enforced first second enforced) in
-        appends_more (λ k. (k ≡ Imp group) ⊎ Enforced k) Served Child old second new
+        let Beside = IsBesideMembers q group wanted in
+        appends_more Beside Served Child old middle new
         (λ k l early (e, can, also). elim early [
           | inl is ↦ kind_before k l (fits k (inl is)) (omega (arith, ap kind_number is, ap kind_number also))
           | inr (f, may, is) ↦ kind_before k l (fits k (inr (inr (f, may, is)))) (omega (arith, ap kind_number is, ap kind_number also))
@@ -113,8 +109,16 @@ module _ (q : Query) (words : List ℕ) (group : KeyParts) where
           | inl early ↦ elim early as (λ _. Child k) [ inl is ↦ inl is | inr asked ↦ inr (inr asked) ]
           | inr serves ↦ inr (inl serves)
         ])
-        (λ k is. elim is as (λ _. ((k ≡ Imp group) ⊎ Enforced k) ⊎ Served k) [
+        (λ k is. elim is as (λ _. Beside k ⊎ Served k) [
           | inl same ↦ inl (inl same)
-          | inr later ↦ elim later as (λ _. ((k ≡ Imp group) ⊎ Enforced k) ⊎ Served k) [ inl serves ↦ inr serves | inr asked ↦ inl (inr asked) ]
+          | inr later ↦ elim later as (λ _. Beside k ⊎ Served k) [ inl serves ↦ inr serves | inr asked ↦ inl (inr asked) ]
         ])
-        both served
+        beside served
+
+-- the implementation of a group, and what enforcers ask for
+pub beside_added : (q : Query) (group : KeyParts) (wanted : Request) (old middle new : List GoalKind) → FitsGoal (parts_of (Imp group)) → AppendsGoals (λ k. k ≡ Imp group) old middle
+    → InsertsGoals (IsOfEnforcer q group wanted) middle new → AppendsGoals (IsBesideMembers q group wanted) old new
+beside_added q group wanted old middle new fits imp enforced =
+    appends_both (λ k. k ≡ Imp group) (IsOfEnforcer q group wanted) old middle new
+    (λ k l is (e, can, also). kind_before k l (subst (λ (g : GoalKind). FitsGoal (parts_of g)) (sym is) fits) (omega (arith, ap kind_number is, ap kind_number also)))
+    imp (appends_inserted (IsOfEnforcer q group wanted) middle new enforced)

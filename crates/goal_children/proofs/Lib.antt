@@ -19,3 +19,4 @@ pub mod Inserting
 pub mod Places
 pub mod Appending
 pub mod GoalLists
+pub mod HeldMembers

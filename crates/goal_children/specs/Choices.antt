@@ -15,11 +15,15 @@ use Rattle.plan_space.specs.Enforcers.{EnforcedBy}
 use Rattle.plan_tree.specs.declared.alternatives.Alt.{Alt}
 use Rattle.goal_space.specs.Children.{IsAsked, AsksOf, CanEnforce}
 use Rattle.goal_space.specs.declared.goals.GoalKind.{GoalKind}
-use Rattle.goal_space.specs.declared.goals.GoalKind.TheVariants.{Opt}
+use Rattle.goal_space.specs.declared.goals.GoalKind.TheVariants.{Imp, Opt}
 
 -- the goal of the group for what an enforcer asks of it
 abbrev pub IsOfEnforcer : Query → KeyParts → Request → GoalKind → Type 0
 IsOfEnforcer q group wanted goal = (e : EnforcedBy) × CanEnforce q group wanted e × (goal ≡ Opt group e.below)
+
+-- the goal is one that a group for a request waits for beside its members
+abbrev pub IsBesideMembers : Query → KeyParts → Request → GoalKind → Type 0
+IsBesideMembers q group wanted goal = (goal ≡ Imp group) ⊎ IsOfEnforcer q group wanted goal
 
 -- the goal of a group for what the expression asks of it
 abbrev pub IsOfAlternatives : Query → PhysicalExpr → Request → GoalKind → Type 0

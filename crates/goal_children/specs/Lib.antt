@@ -6,3 +6,4 @@ pub mod Choices
 pub mod Laws
 pub mod Listed
 pub mod GoalLists
+pub mod GroupMembers

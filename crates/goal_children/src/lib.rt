@@ -6,6 +6,7 @@ mod children;
 mod choice;
 mod expressions;
 mod finding;
+mod group_members;
 mod jobs;
 mod laws;
 mod lists;
@@ -14,8 +15,9 @@ mod words;
 
 pub use children::{child, next_child};
 pub use finding::known_goal;
+pub use group_members::GroupMembers;
 pub use laws::{
     children_are_one, children_are_over_the_query, goal_lists_are_known, goals_are_over_the_query,
 };
-pub use lists::list_children;
+pub use lists::{list_children, list_children_by_group};
 pub use words::put_goals;

@@ -11,15 +11,18 @@ ghost use Rattle.goal_space.specs.Words.{IsInRange};
 ghost use Rattle.goal_space.specs.declared.goals.GoalKind.{GoalKind as AnyGoal};
 ghost use Rattle.goal_children.specs.Over.{IsGoalOver, IsNumberedRequest};
 ghost use Rattle.goal_children.specs.Children.{AreChildren, IsChildIn};
+ghost use Rattle.goal_children.specs.Choices.{IsBesideMembers};
 ghost use Rattle.goal_children.specs.Finding.{AppendsGoals};
+ghost use Rattle.goal_children.specs.GroupMembers.{AreHeld, AreMembersOf};
 
 use crate::asked::{insert_asked, insert_enforced};
 use crate::expressions::{insert_left, insert_transformed};
+use crate::group_members::{GroupMembers, hold_members};
 use crate::jobs::{MemberJob, Phase};
 use crate::laws::children_are_over_the_query;
-use crate::members::push_member_goals;
+use crate::members::{push_member_goals, push_serving};
 use goal_space::{GoalKind, goal_kinds_are_one};
-use query_core::{KeyParts, Query, candidates_are_known, groups_are_known};
+use query_core::{ExprParts, KeyParts, Query, candidates_are_known, groups_are_known};
 use request_props::{Props, Request};
 use std::alloc::AllocError;
 
@@ -39,6 +42,59 @@ pub fn list_children(
 {
     list.clear();
     add_children(query, props, members, goal, list)
+}
+
+/// The same. The members of a group are held for its next goal, since goals of one group for its requests come one after
+/// the other.
+pub fn list_children_by_group(
+    query: &Query,
+    props: &Props,
+    members: &[u64],
+    goal: GoalKind,
+    held: &mut GroupMembers,
+    list: &mut Vec<GoalKind>,
+) -> Result<(), AllocError>
+    requires props { IsProps query.now props.now }
+    requires candidates { All (IsCandidateWord query.now) members.now }
+    requires ascending { IsStrictlyIncreasing members.now }
+    requires goal { IsGoalOver query.now goal }
+    requires held { AreHeld query.now members.now held.old }
+    ensures ok { OnOk result (AreChildren query.now members.now goal list.new.items) }
+    ensures held { OnOk result (AreHeld query.now members.now held.new) }
+{
+    match goal {
+        GoalKind::Opt(group, wanted) => {
+            hold_members(query, members, group, held)?;
+            let own = held.members.as_slice();
+            list_chosen(query, props, members, group, wanted, own, list)?;
+            Ok(())
+        }
+        _ => {
+            list_children(query, props, members, goal, list)?;
+            Ok(())
+        }
+    }
+}
+
+// Puts the children of a group for a request into the list, in place of what it held.
+fn list_chosen(
+    query: &Query,
+    props: &Props,
+    _words: &[u64],
+    group: KeyParts,
+    wanted: Request,
+    members: &[ExprParts],
+    list: &mut Vec<GoalKind>,
+) -> Result<(), AllocError>
+    requires props { IsProps query.now props.now }
+    requires known { IsGroup query.now group }
+    requires numbered { IsNumberedRequest query.now wanted }
+    requires members { AreMembersOf query.now _words.now group members.now }
+    ensures ok { OnOk result
+        (AreChildren query.now _words.now (AnyGoal.Opt group wanted) list.new.items) }
+{
+    list.clear();
+    add_chosen_of(query, props, _words, group, wanted, members, list)
 }
 
 // Adds the children of the goal: the table of children, one row a kind of goal.
@@ -121,10 +177,60 @@ fn add_chosen(
     groups_are_known();
     goal_kinds_are_one();
     children_are_over_the_query();
-    // Words go by kind: the group's implementation, its other requests, and then its members.
-    goals.push(GoalKind::Imp(group))?;
-    insert_enforced(query, props, group, wanted, goals)?;
+    // Words go by kind: those beside the group's members, and then these.
+    add_beside(query, props, group, wanted, goals)?;
     let job = MemberJob::Serve(wanted);
     push_member_goals(query, props, members, group, job, goals)?;
+    Ok(())
+}
+
+// The same, over these members of the group.
+fn add_chosen_of(
+    query: &Query,
+    props: &Props,
+    _words: &[u64],
+    group: KeyParts,
+    wanted: Request,
+    members: &[ExprParts],
+    goals: &mut Vec<GoalKind>,
+) -> Result<(), AllocError>
+    requires props { IsProps query.now props.now }
+    requires known { IsGroup query.now group }
+    requires numbered { IsNumberedRequest query.now wanted }
+    requires members { AreMembersOf query.now _words.now group members.now }
+    requires listed { All IsInRange goals.old.items }
+    ensures ok { OnOk result
+        (AppendsGoals (IsChildIn query.now _words.now (AnyGoal.Opt group wanted)) goals.old.items
+        goals.new.items) }
+{
+    // For the proof: groups have keys, and children have words that fit.
+    groups_are_known();
+    goal_kinds_are_one();
+    children_are_over_the_query();
+    add_beside(query, props, group, wanted, goals)?;
+    push_serving(query, props, _words, group, members, wanted, goals)?;
+    Ok(())
+}
+
+// Adds what a group waits for beside its members: its implementation, and its other requests.
+fn add_beside(
+    query: &Query,
+    props: &Props,
+    group: KeyParts,
+    wanted: Request,
+    goals: &mut Vec<GoalKind>,
+) -> Result<(), AllocError>
+    requires props { IsProps query.now props.now }
+    requires known { IsGroup query.now group }
+    requires numbered { IsNumberedRequest query.now wanted }
+    requires listed { All IsInRange goals.old.items }
+    ensures ok { OnOk result
+        (AppendsGoals (IsBesideMembers query.now group wanted) goals.old.items goals.new.items) }
+{
+    // For the proof: groups have keys, and words fit.
+    groups_are_known();
+    goal_kinds_are_one();
+    goals.push(GoalKind::Imp(group))?;
+    insert_enforced(query, props, group, wanted, goals)?;
     Ok(())
 }

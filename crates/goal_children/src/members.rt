@@ -1,16 +1,18 @@
 //! The goals of the members of a group, in the order of words.
 #![tactic(auto)]
 
-ghost use Rattle.std.specs.Prelude.{◌≡◌, ◌<◌, ◌≤◌, ◌^◌, ◌↔◌, ℕ, IsTrue, MatchOption, OnOk, length, slice_index};
+ghost use Rattle.std.specs.Prelude.{◌≡◌, ◌<◌, ◌≤◌, ◌^◌, ◌↔◌, ℕ, IsTrue, MatchOption, OnOk, length, map, slice_index};
 ghost use Rattle.std.specs.List.{All};
 ghost use Rattle.std.specs.List.Sorted.{IsStrictlyIncreasing};
 ghost use Rattle.query_core.specs.declared.expressions.ExprParts.{ExprParts as AnyExpr};
 ghost use Rattle.query_core.specs.declared.expressions.PhysicalExpr.{PhysicalExpr as AnyPhysical};
 ghost use Rattle.query_core.specs.Keys.{IsGroup};
-ghost use Rattle.query_core.specs.Expressions.{expr_of, IsCandidate, IsCandidateWord};
+ghost use Rattle.query_core.specs.Expressions.{expr_of, word_of, IsCandidate, IsCandidateWord};
 ghost use Rattle.request_props.specs.Numbered.{IsProps, IsNumbered};
 ghost use Rattle.plan_tree.specs.Alternatives.{HasAlternative};
 ghost use Rattle.goal_children.specs.Finding.{AppendsGoals, FindsFrom, IsOfMembers};
+ghost use Rattle.goal_children.specs.GroupMembers.{AreMembersOf};
+ghost use Rattle.goal_children.specs.Over.{IsNumberedRequest};
 ghost use Rattle.goal_space.specs.declared.goals.GoalKind.{GoalKind as AnyGoal};
 ghost use Rattle.goal_children.specs.MemberJobs.{word_at, HasNumberedJob, HaveNoGoals, IsFirstGoal, IsGoalAmong, IsGoalOf, IsGoalOfWord, IsJobInRange, IsServed, IsTransformed};
 
@@ -71,6 +73,75 @@ pub fn push_member_goals(
     candidates_are_known();
     groups_are_known();
     push_goals_of(query, props, job, words_of(members, group), goals)
+}
+
+/// Adds the goals of those members of the group that may serve the request.
+pub fn push_serving(
+    query: &Query,
+    props: &Props,
+    _words: &[u64],
+    _group: KeyParts,
+    members: &[ExprParts],
+    wanted: Request,
+    goals: &mut Vec<GoalKind>,
+) -> Result<(), AllocError>
+    requires props { IsProps query.now props.now }
+    requires members { AreMembersOf query.now _words.now _group members.now }
+    requires numbered { IsNumberedRequest query.now wanted }
+    ensures ok { OnOk result (AppendsGoals
+        (IsOfMembers query.now _words.now _group (MemberJob.Serve wanted)) goals.old.items goals.new.items) }
+{
+    // For the proof: the words of candidates fit.
+    candidates_are_known();
+    push_serving_among(query, props, members, wanted, goals)
+}
+
+// Adds the goals of those expressions that may serve the request.
+fn push_serving_among(
+    query: &Query,
+    props: &Props,
+    exprs: &[ExprParts],
+    wanted: Request,
+    goals: &mut Vec<GoalKind>,
+) -> Result<(), AllocError>
+    requires props { IsProps query.now props.now }
+    requires candidates { All (IsCandidate query.now) exprs.now }
+    requires ascending { IsStrictlyIncreasing (map word_of exprs.now) }
+    requires numbered { IsNumberedRequest query.now wanted }
+    ensures ok { OnOk result (AppendsGoals
+        (IsGoalAmong query.now (MemberJob.Serve wanted) (map word_of exprs.now)) goals.old.items
+        goals.new.items) }
+{
+    for e in exprs {
+        push_if_serving(query, props, *e, wanted, goals)?;
+    }
+    Ok(())
+}
+
+// Adds the goal of the expression, if it may serve the request.
+fn push_if_serving(
+    query: &Query,
+    props: &Props,
+    e: ExprParts,
+    wanted: Request,
+    goals: &mut Vec<GoalKind>,
+) -> Result<(), AllocError>
+    requires props { IsProps query.now props.now }
+    requires candidate { IsCandidate query.now e }
+    requires numbered { IsNumberedRequest query.now wanted }
+    ensures ok { OnOk result (AppendsGoals
+        (IsGoalOfWord query.now (MemberJob.Serve wanted) (word_of e)) goals.old.items goals.new.items) }
+{
+    // For the proof: the words of candidates fit, and a word is that of one expression.
+    candidates_are_known();
+    expressions_are_one();
+    match serve(query, props, e, wanted) {
+        Some(goal) => {
+            goals.push(goal)?;
+            Ok(())
+        }
+        None => Ok(()),
+    }
 }
 
 // Adds the goals that the candidates of the words have for the job.

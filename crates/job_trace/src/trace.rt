@@ -20,7 +20,7 @@ ghost use Rattle.job_trace.specs.GoalLines.{AddsTraced};
 use crate::counts::push_count;
 use crate::goals::{push_child_line, push_goal_line};
 use crate::pieces::Pieces;
-use goal_children::{children_are_over_the_query, list_children, put_goals};
+use goal_children::{GroupMembers, children_are_over_the_query, list_children_by_group, put_goals};
 use goal_space::{GoalKind, goal_kinds_are_one};
 use query_core::Query;
 use request_props::Props;
@@ -154,11 +154,11 @@ fn push_all_traced(
     ensures ok { OnOk result (AddsTraced query.now members.now goals.now
         (string_bytes text.old) (string_bytes text.new)) }
 {
-    let mut children = Vec::new(alloc);
+    let (mut children, mut held) = (Vec::new(alloc), GroupMembers::none(alloc));
     let mut pieces = Pieces::new(alloc, goals.len())?;
     for goal in goals {
         push_goal_line(alloc, query, props, *goal, &mut pieces, text)?;
-        list_children(query, props, members, *goal, &mut children)?;
+        list_children_by_group(query, props, members, *goal, &mut held, &mut children)?;
         push_child_lines(alloc, query, props, children.as_slice(), &mut pieces, text)?;
     }
     Ok(())
