@@ -1,47 +1,10 @@
-use orca_base::{List, Text};
-use query_core::{Catalog, ColumnInfo, Operand, Options, Placing, Query, RootDist, TableInfo};
+use crate::catalog_tests::{TWO_TABLES, numbered};
+use catalog_json::read_catalog;
+use query_core::{Catalog, Item, Link, Operand, Options, OrderKey, OutItem, Pred, Query, RootDist};
 use sql_bind::{BindFault, bind};
 use sql_reader::{SqlFault, read_sql};
 use std::alloc::{AllocError, Global};
 use std::test::Fail;
-
-// ---- the catalogue
-
-fn text(alloc: Global, part: &str) -> Result<Text, AllocError> {
-    Ok(Text::of(String::from_str(alloc, part)?))
-}
-
-// Columns with their numbers of distinct values.
-fn columns(alloc: Global, named: &[(&str, u64)]) -> Result<List<ColumnInfo>, AllocError> {
-    let mut columns = List::new(alloc);
-    for (name, ndv) in named {
-        columns.push(ColumnInfo {
-            name: text(alloc, name)?,
-            ndv: *ndv,
-        })?;
-    }
-    Ok(columns)
-}
-
-// A table of 1,000 rows that are hashed on its first column.
-fn table(alloc: Global, name: &str, columns: List<ColumnInfo>) -> Result<TableInfo, AllocError> {
-    Ok(TableInfo {
-        name: text(alloc, name)?,
-        rows: 1_000,
-        placing: Placing::Hashed(List::of(vec![in alloc; 0]?)),
-        columns,
-        indexes: List::new(alloc),
-    })
-}
-
-fn two_tables(alloc: Global) -> Result<Catalog, AllocError> {
-    let one = table(alloc, "T1", columns(alloc, &[("a", 1_000)])?)?;
-    let other = table(alloc, "T2", columns(alloc, &[("a", 1_000), ("b", 500)])?)?;
-    Ok(Catalog {
-        segments: 4,
-        tables: List::of(vec![in alloc; one, other]?),
-    })
-}
 
 // ---- the line that is told
 
@@ -73,44 +36,77 @@ fn told_of_text(alloc: Global, fault: SqlFault) -> Result<String, AllocError> {
     }
 }
 
-// The items, predicates, links, groups, aggregates, output and order of a query.
-fn shown(alloc: Global, query: &Query) -> Result<String, AllocError> {
-    let mut text = String::new(alloc);
-    for item in query.items.as_slice() {
+fn push_items(alloc: Global, text: &mut String, items: &[Item]) -> Result<(), AllocError> {
+    for item in items {
         let name = item.name.as_str();
         text.push_str(format!(in alloc; "{}.{name}/{} ", item.table, item.ndv)?.as_str())?;
     }
-    text.push_str("where ")?;
-    for pred in query.preds.as_slice() {
-        match &pred.right {
-            Operand::Item(right) => {
-                text.push_str(format!(in alloc; "{}:i{right} ", pred.left)?.as_str())?;
-            }
-            Operand::Int(_) => text.push_str(format!(in alloc; "{}:n ", pred.left)?.as_str())?,
-            Operand::Str(_) => text.push_str(format!(in alloc; "{}:s ", pred.left)?.as_str())?,
-        }
+    Ok(())
+}
+
+fn push_preds(alloc: Global, text: &mut String, preds: &[Pred]) -> Result<(), AllocError> {
+    for pred in preds {
+        let word = match &pred.right {
+            Operand::Item(right) => format!(in alloc; "{}:i{right} ", pred.left)?,
+            Operand::Int(_) => format!(in alloc; "{}:n ", pred.left)?,
+            Operand::Str(_) => format!(in alloc; "{}:s ", pred.left)?,
+        };
+        text.push_str(word.as_str())?;
     }
-    text.push_str("links ")?;
-    for link in query.links.as_slice() {
+    Ok(())
+}
+
+fn push_links(alloc: Global, text: &mut String, links: &[Link]) -> Result<(), AllocError> {
+    for link in links {
         text.push_str(format!(in alloc; "{}-{} ", link.a, link.b)?.as_str())?;
     }
-    text.push_str("group ")?;
-    for column in query.group_by.as_slice() {
+    Ok(())
+}
+
+fn push_groups(alloc: Global, text: &mut String, columns: &[u32]) -> Result<(), AllocError> {
+    for column in columns {
         text.push_str(format!(in alloc; "{column} ")?.as_str())?;
     }
-    text.push_str("output ")?;
-    for output in query.output.as_slice() {
-        text.push_str(format!(in alloc; "{} ", output.item)?.as_str())?;
+    Ok(())
+}
+
+fn push_output(alloc: Global, text: &mut String, output: &[OutItem]) -> Result<(), AllocError> {
+    for item in output {
+        text.push_str(format!(in alloc; "{} ", item.item)?.as_str())?;
     }
-    text.push_str("order")?;
-    for key in query.order.as_slice() {
+    Ok(())
+}
+
+fn push_order(alloc: Global, text: &mut String, order: &[OrderKey]) -> Result<(), AllocError> {
+    for key in order {
         let down = if key.desc { "-" } else { "+" };
         text.push_str(format!(in alloc; " {}{down}", key.item)?.as_str())?;
     }
+    Ok(())
+}
+
+// The items, predicates, links, groups and aggregates, output and order of a query.
+fn push_query(alloc: Global, text: &mut String, query: &Query) -> Result<(), AllocError> {
+    push_items(alloc, text, query.items.as_slice())?;
+    text.push_str("where ")?;
+    push_preds(alloc, text, query.preds.as_slice())?;
+    text.push_str("links ")?;
+    push_links(alloc, text, query.links.as_slice())?;
+    text.push_str("group ")?;
+    push_groups(alloc, text, query.group_by.as_slice())?;
+    text.push_str("output ")?;
+    push_output(alloc, text, query.output.as_slice())?;
+    text.push_str("order")?;
+    push_order(alloc, text, query.order.as_slice())
+}
+
+fn shown(alloc: Global, query: &Query) -> Result<String, AllocError> {
+    let mut text = String::new(alloc);
+    push_query(alloc, &mut text, query)?;
     Ok(text)
 }
 
-fn said(alloc: Global, catalog: &Catalog, text: &str) -> Result<String, AllocError> {
+fn said_over(alloc: Global, catalog: &Catalog, text: &str) -> Result<String, AllocError> {
     if !catalog.keeps_limits() {
         return String::from_str(alloc, "no catalogue");
     }
@@ -123,38 +119,44 @@ fn said(alloc: Global, catalog: &Catalog, text: &str) -> Result<String, AllocErr
     }
 }
 
+// What is said of the text of a query over the text of a catalogue.
+fn said(alloc: Global, catalog: &str, text: &str) -> Result<String, AllocError> {
+    match read_catalog(alloc, catalog.as_bytes()) {
+        Err(_) => String::from_str(alloc, "no catalogue"),
+        Ok(catalog) => said_over(alloc, &catalog, text),
+    }
+}
+
+// In each line a query over the two tables, and what is said of it.
+const REFUSED: &str = "SELECT T1.z FROM T1 | unknown column at 7
+SELECT a FROM T1, T2 | ambiguous column at 7
+SELECT T2.b FROM T2 GROUP BY T2.a | not grouped at 7
+SELECT T1.a FROM T1, T2 AS T1 | name twice at 27
+SELECT x FROM T9 | unknown table at 14
+SELECT a FROM T1 WHERE a = 'x | token at 27
+SELECT a FROM t,t,t,t,t,t,t,t,t,t,t | too many at 34
+ | grammar at 0
+; | grammar at 0
+SELECT a FROM T1, T1 u, T2 u | name twice at 27
+SELECT T3.a FROM T2 | unknown column at 7
+SELECT T2.a FROM T2 WHERE b = c | unknown column at 30
+SELECT a AS x, b AS x FROM T2 | name twice at 20
+SELECT a, COUNT(*) FROM T2 | not grouped at 7
+SELECT COUNT(*) AS n FROM T2 GROUP BY a ORDER BY b | not grouped at 49
+";
+
 #[test]
 fn refused_queries_are_told_the_first_fault(rt: HostRuntime) -> Result<(), Fail> {
-    let catalog = two_tables(rt.alloc())?;
-    for (text, want) in [
-        ("SELECT T1.z FROM T1", "unknown column at 7"),
-        ("SELECT a FROM T1, T2", "ambiguous column at 7"),
-        ("SELECT T2.b FROM T2 GROUP BY T2.a", "not grouped at 7"),
-        ("SELECT T1.a FROM T1, T2 AS T1", "name twice at 27"),
-        ("SELECT x FROM T9", "unknown table at 14"),
-        ("SELECT a FROM T1 WHERE a = 'x", "token at 27"),
-        ("SELECT a FROM t,t,t,t,t,t,t,t,t,t,t", "too many at 34"),
-        ("", "grammar at 0"),
-        (";", "grammar at 0"),
-        ("SELECT a FROM T1, T1 u, T2 u", "name twice at 27"),
-        ("SELECT T3.a FROM T2", "unknown column at 7"),
-        ("SELECT T2.a FROM T2 WHERE b = c", "unknown column at 30"),
-        ("SELECT a AS x, b AS x FROM T2", "name twice at 20"),
-        ("SELECT a, COUNT(*) FROM T2", "not grouped at 7"),
-        (
-            "SELECT COUNT(*) AS n FROM T2 GROUP BY a ORDER BY b",
-            "not grouped at 49",
-        ),
-    ] {
-        let line = said(rt.alloc(), &catalog, text)?;
-        assert_eq!(rt; line.as_str(), want, "of {text}");
+    for line in REFUSED.lines() {
+        let (text, want) = line.split_once(" | ").ok_or("a line has two parts")?;
+        let told = said(rt.alloc(), TWO_TABLES, text)?;
+        assert_eq!(rt; told.as_str(), want, "of {text}");
     }
     Ok(())
 }
 
 #[test]
 fn queries_are_bound(rt: HostRuntime) -> Result<(), Fail> {
-    let catalog = two_tables(rt.alloc())?;
     for (text, want) in [
         (
             "SELECT T1.a FROM T1, T2",
@@ -169,45 +171,28 @@ fn queries_are_bound(rt: HostRuntime) -> Result<(), Fail> {
             "0.a/1000 0.b/500 1.a/1000 where 1:n 2:i0 links 1-0 group 1 output 1 3 4 order 4- 1+",
         ),
     ] {
-        let line = said(rt.alloc(), &catalog, text)?;
+        let line = said(rt.alloc(), TWO_TABLES, text)?;
         assert_eq!(rt; line.as_str(), want, "of {text}");
     }
     Ok(())
 }
 
-// `c0`, `c1` and so on.
-fn numbered(alloc: Global, count: u64) -> Result<String, AllocError> {
-    let mut text = String::new(alloc);
-    for i in 0..count {
-        let comma = if i == 0 { "" } else { "," };
-        text.push_str(format!(in alloc; "{comma}c{i}")?.as_str())?;
-    }
-    Ok(text)
-}
-
-fn wide_table(alloc: Global, count: u64) -> Result<Catalog, AllocError> {
-    let mut columns = List::new(alloc);
-    for i in 0..count {
-        let name = Text::of(format!(in alloc; "c{i}")?);
-        columns.push(ColumnInfo { name, ndv: 1 })?;
-    }
-    let wide = table(alloc, "t", columns)?;
-    Ok(Catalog {
-        segments: 1,
-        tables: List::of(vec![in alloc; wide]?),
-    })
+// What is said of a query of so many columns and this end, over a table of 61 columns, c0 and so on.
+fn said_of_columns(alloc: Global, count: u64, end: &str) -> Result<String, AllocError> {
+    let columns = numbered(alloc, "{\"name\":\"c", "\",\"ndv\":1}", 61)?;
+    let catalog = format!(in alloc;
+        "{{\"version\":1,\"segments\":1,\"tables\":[{{\"name\":\"t\",\"rows\":1000,\"distribution\":[\"c0\"],\"columns\":[{columns}]}}]}}"
+    )?;
+    let items = numbered(alloc, "c", "", count)?;
+    let text = format!(in alloc; "SELECT {items} FROM t{end}")?;
+    said(alloc, catalog.as_str(), text.as_str())
 }
 
 #[test]
 fn sixty_items_are_the_most(rt: HostRuntime) -> Result<(), Fail> {
-    let alloc = rt.alloc();
-    let catalog = wide_table(alloc, 61)?;
-    let items = numbered(alloc, 60)?;
-    let most = format!(in alloc; "SELECT {items} FROM t")?;
-    let over = format!(in alloc; "SELECT {items} FROM t WHERE c60 = 1")?;
-    let bound = said(alloc, &catalog, most.as_str())?;
+    let bound = said_of_columns(rt.alloc(), 60, "")?;
     assert!(rt; bound.as_str().starts_with("0.c0/1 0.c1/1 "));
-    let refused = said(alloc, &catalog, over.as_str())?;
+    let refused = said_of_columns(rt.alloc(), 60, " WHERE c60 = 1")?;
     assert_eq!(rt; refused.as_str(), "too many columns: 61");
     Ok(())
 }

@@ -15,108 +15,123 @@ fn words_of(alloc: Global, line: &str) -> Result<Vec<String>, AllocError> {
     Ok(words)
 }
 
+fn has_each_option(command: &PlanCommand) -> bool {
+    let choices = command.choices;
+    let options = Options {
+        root: RootDist::Spread,
+        off: 4100,
+    };
+    command.files.catalog == "c.json"
+        && command.files.query == "q.sql"
+        && choices.options == options
+        && choices.workers == 64
+        && choices.capacity == 1_048_576
+        && choices.memo
+        && choices.trace
+        && choices.by_worker
+}
+
 #[test]
 fn each_option_is_read(rt: HostRuntime) -> Result<(), Fail> {
     let words = words_of(
         rt.alloc(),
         "plan c.json --root spread --workers 64 q.sql --off JoinCommute+AggToHash --memo --capacity 1048576 --trace --by-worker",
     )?;
-    let Some(Command::Plan(command)) = read_command(&words) else {
-        assert!(rt; false);
-        return Ok(());
-    };
-    let choices = command.choices;
-    assert_eq!(rt; command.files.catalog, "c.json");
-    assert_eq!(rt; command.files.query, "q.sql");
-    assert_eq!(rt;
-        choices.options,
-        Options {
-            root: RootDist::Spread,
-            off: 4100
-        }
+    assert!(rt;
+        matches!(read_command(&words), Some(Command::Plan(command)) if has_each_option(&command))
     );
-    assert_eq!(rt; choices.workers, 64);
-    assert_eq!(rt; choices.capacity, 1_048_576);
-    assert!(rt; choices.memo && choices.trace && choices.by_worker);
     Ok(())
+}
+
+fn has_usual_options(command: &PlanCommand) -> bool {
+    let choices = command.choices;
+    let options = Options {
+        root: RootDist::One,
+        off: 0,
+    };
+    choices.options == options
+        && choices.workers == 1
+        && choices.capacity == 131_072
+        && !choices.memo
+        && !choices.trace
+        && !choices.by_worker
 }
 
 #[test]
 fn what_is_not_given_is_usual(rt: HostRuntime) -> Result<(), Fail> {
     let words = words_of(rt.alloc(), "plan c.json q.sql")?;
-    let Some(Command::Plan(command)) = read_command(&words) else {
-        assert!(rt; false);
-        return Ok(());
-    };
-    let choices = command.choices;
-    assert_eq!(rt;
-        choices.options,
-        Options {
-            root: RootDist::One,
-            off: 0
-        }
+    assert!(rt;
+        matches!(read_command(&words), Some(Command::Plan(command)) if has_usual_options(&command))
     );
-    assert_eq!(rt; choices.workers, 1);
-    assert_eq!(rt; choices.capacity, 131_072);
-    assert!(rt; !choices.memo && !choices.trace && !choices.by_worker);
     Ok(())
+}
+
+// Whether the greatest number and eight tables in a clique are made, by two workers with room for 64.
+fn has_its_numbers(command: &GenCommand) -> bool {
+    command.input.number == u64::MAX
+        && command.input.tables == 8
+        && matches!(command.input.shape, GenShape::Clique)
+        && command.workers == 2
+        && command.capacity == 64
 }
 
 #[test]
 fn a_number_tables_and_a_shape_are_generated(rt: HostRuntime) -> Result<(), Fail> {
     let line = "gen 18446744073709551615 --capacity 64 8 clique --workers 2";
     let words = words_of(rt.alloc(), line)?;
-    let Some(Command::Gen(command)) = read_command(&words) else {
-        assert!(rt; false);
-        return Ok(());
-    };
-    assert_eq!(rt; command.input.number, u64::MAX);
-    assert_eq!(rt; command.input.tables, 8);
-    assert!(rt; matches!(command.input.shape, GenShape::Clique));
-    assert_eq!(rt; command.workers, 2);
-    assert_eq!(rt; command.capacity, 64);
+    assert!(rt;
+        matches!(read_command(&words), Some(Command::Gen(command)) if has_its_numbers(&command))
+    );
     Ok(())
+}
+
+// The first line is empty.
+const OTHERS: &str = "
+plan c.json
+plan c.json q.sql more
+plan c.json q.sql --workers
+plan c.json q.sql --workers 0
+plan c.json q.sql --workers 65
+plan c.json q.sql --workers=4
+plan c.json q.sql --workers 04
+plan c.json q.sql --workers +4
+plan c.json q.sql --workers 4 --workers 4
+plan c.json q.sql --workers 18446744073709551620
+plan c.json q.sql --capacity 63
+plan c.json q.sql --capacity 064
+plan c.json q.sql --capacity 1048577
+plan c.json q.sql --by-worker --by-worker
+plan c.json q.sql --root
+plan c.json q.sql --root=one
+plan c.json q.sql --off ExpandNAry
+plan c.json q.sql --off JoinCommute+JoinCommute
+plan c.json q.sql --root two
+plan c.json q.sql --memo --memo
+plan c.json q.sql --help
+plan c.json q.sql --
+plan c.json  q.sql
+Plan c.json q.sql
+gen 1 9 chain
+gen 1 0 chain
+gen 01 1 chain
+gen 18446744073709551616 1 chain
+gen 1 1 ring
+gen 1 1
+gen 1 1 chain more
+gen 1 1 chain --memo
+gen 1 1 chain --workers 2 --workers 2
+";
+
+// Whether the words of the line are no command.
+fn is_none(alloc: Global, line: &str) -> Result<bool, AllocError> {
+    let words = words_of(alloc, line)?;
+    Ok(read_command(&words).is_none())
 }
 
 #[test]
 fn other_words_are_no_command(rt: HostRuntime) -> Result<(), Fail> {
-    for line in [
-        "",
-        "plan c.json",
-        "plan c.json q.sql more",
-        "plan c.json q.sql --workers",
-        "plan c.json q.sql --workers 0",
-        "plan c.json q.sql --workers 65",
-        "plan c.json q.sql --workers=4",
-        "plan c.json q.sql --workers 04",
-        "plan c.json q.sql --workers +4",
-        "plan c.json q.sql --workers 4 --workers 4",
-        "plan c.json q.sql --workers 18446744073709551620",
-        "plan c.json q.sql --capacity 63",
-        "plan c.json q.sql --capacity 064",
-        "plan c.json q.sql --capacity 1048577",
-        "plan c.json q.sql --by-worker --by-worker",
-        "plan c.json q.sql --root",
-        "plan c.json q.sql --root=one",
-        "plan c.json q.sql --off ExpandNAry",
-        "plan c.json q.sql --off JoinCommute+JoinCommute",
-        "plan c.json q.sql --root two",
-        "plan c.json q.sql --memo --memo",
-        "plan c.json q.sql --help",
-        "plan c.json q.sql --",
-        "plan c.json  q.sql",
-        "Plan c.json q.sql",
-        "gen 1 9 chain",
-        "gen 1 0 chain",
-        "gen 01 1 chain",
-        "gen 18446744073709551616 1 chain",
-        "gen 1 1 ring",
-        "gen 1 1",
-        "gen 1 1 chain more",
-        "gen 1 1 chain --memo",
-        "gen 1 1 chain --workers 2 --workers 2",
-    ] {
-        assert!(rt; read_command(&words_of(rt.alloc(), line)?).is_none());
+    for line in OTHERS.lines() {
+        assert!(rt; is_none(rt.alloc(), line)?, "{line}");
     }
     Ok(())
 }

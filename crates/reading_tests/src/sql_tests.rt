@@ -1,5 +1,5 @@
 use sql_reader::*;
-use std::alloc::Global;
+use std::alloc::{AllocError, Global};
 use std::test::Fail;
 
 /// The fault of a text, if it has one.
@@ -85,13 +85,25 @@ fn edge(
     more: &[u8],
     count: usize,
     last: &[u8],
-) -> Result<Vec<u8>, Fail> {
+) -> Result<Vec<u8>, AllocError> {
     let mut text = Vec::from_slice(alloc, first)?;
     for _ in 0..count {
         text.extend_from_slice(more)?;
     }
     text.extend_from_slice(last)?;
     Ok(text)
+}
+
+/// The fault of such a text, if it has one.
+fn fault_at_edge(
+    alloc: Global,
+    first: &[u8],
+    more: &[u8],
+    count: usize,
+    last: &[u8],
+) -> Result<Option<SqlFault>, AllocError> {
+    let text = edge(alloc, first, more, count, last)?;
+    Ok(fault(alloc, text.as_slice()))
 }
 
 #[test]
@@ -150,10 +162,10 @@ fn keeps_each_limit_to_its_edge(rt: HostRuntime) -> Result<(), Fail> {
         (b"SELECT a FROM t", b" ", 65_521, b"", SqlFault::TooLong),
     ];
     for (first, more, count, last, one_more) in &cases {
-        let full = edge(rt.alloc(), first, more, *count, last)?;
-        assert_eq!(rt; fault(rt.alloc(), full.as_slice()), None);
-        let over = edge(rt.alloc(), first, more, *count + 1, last)?;
-        assert_eq!(rt; fault(rt.alloc(), over.as_slice()), Some(*one_more));
+        let full = fault_at_edge(rt.alloc(), first, more, *count, last)?;
+        assert_eq!(rt; full, None);
+        let over = fault_at_edge(rt.alloc(), first, more, *count + 1, last)?;
+        assert_eq!(rt; over, Some(*one_more));
     }
     Ok(())
 }
