@@ -1,30 +1,33 @@
 //! How many members worked examples have.
 
+use orca_base::List;
 use plan_search::plain_closure;
+use query_core::Query;
+use std::alloc::Global;
 use std::test::Fail;
 use worked_queries::{chain_of_four, star_of_four, two_tables};
 
+fn members_of(alloc: Global, query: Query) -> Result<List<u64>, Fail> {
+    Ok(plain_closure(alloc, &query)?)
+}
+
 #[test]
 fn a_chain_of_four_tables_has_94_members(rt: HostRuntime) -> Result<(), Fail> {
-    let alloc = rt.alloc();
-    let query = chain_of_four(alloc)?;
-    assert_eq!(rt; plain_closure(alloc, &query)?.len(), 94);
+    let members = members_of(rt.alloc(), chain_of_four(rt.alloc())?)?;
+    assert_eq!(rt; members.len(), 94);
     Ok(())
 }
 
 #[test]
 fn a_star_of_four_tables_has_111_members(rt: HostRuntime) -> Result<(), Fail> {
-    let alloc = rt.alloc();
-    let query = star_of_four(alloc)?;
-    assert_eq!(rt; plain_closure(alloc, &query)?.len(), 111);
+    let members = members_of(rt.alloc(), star_of_four(rt.alloc())?)?;
+    assert_eq!(rt; members.len(), 111);
     Ok(())
 }
 
 #[test]
 fn a_join_of_two_tables_has_13_members(rt: HostRuntime) -> Result<(), Fail> {
-    let alloc = rt.alloc();
-    let query = two_tables(alloc)?;
-    let members = plain_closure(alloc, &query)?;
+    let members = members_of(rt.alloc(), two_tables(rt.alloc())?)?;
     assert_eq!(rt; members.len(), 13);
     assert!(rt; members.as_slice().contains(&70_594_229_968_898));
     Ok(())

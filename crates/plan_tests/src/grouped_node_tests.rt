@@ -4,12 +4,12 @@ ghost use Rattle.std.specs.Prelude.{IfSome};
 ghost use Rattle.query_core.specs.Expressions.{IsCandidate, expr_of};
 ghost use Rattle.request_props.specs.Numbered.{IsProps};
 
-use crate::node_tests::{ask, made, origin, step};
+use crate::node_tests::{ask, implied, made, origin, step};
 use plan_tree::*;
 use query_core::*;
 use request_props::{Dist, Props, Request};
 use std::test::Fail;
-use worked_queries::{per_group, props_of};
+use worked_queries::per_group;
 use xform_rules::Rule;
 
 const TABLE: u32 = 0;
@@ -113,159 +113,156 @@ fn made_serving(
     )
 }
 
+// Whether the aggregation by the rule asks so of its child, and costs so much over rows and over partial groups.
+fn is_aggregated(
+    query: &Query,
+    props: &Props,
+    rule: Rule,
+    request: Request,
+    mode: u32,
+    wanted: Option<(Dist, u32, u64, u64)>,
+) -> bool
+    requires { IsProps query.now props.now }
+{
+    let of_rows = aggregation_serving(query, props, rule, false, request, mode);
+    let of_partial = aggregation_serving(query, props, rule, true, request, mode);
+    match wanted {
+        Some((dist, order, cost, partial_cost)) => {
+            let asked = Some(ask(dist, order));
+            of_rows == Some((asked, cost)) && of_partial == Some((asked, partial_cost))
+        }
+        None => of_rows.is_none() && of_partial.is_none(),
+    }
+}
+
+// The distribution by the hash of the GROUP BY columns.
+const HASHED: Dist = Dist::Hashed(BY_B_C);
+
+// A distribution, an order and a mode; and what is then asked for, and the costs over rows and partial groups.
+const HASH_AGGREGATIONS: [(Dist, u32, u32, Option<(Dist, u32, u64, u64)>); 10] = [
+    // On one segment, and by the hash of the GROUP BY columns.
+    (Dist::One, 0, 0, Some((Dist::One, 0, 709, 361))),
+    (Dist::Spread, 0, 129, Some((HASHED, 0, 179, 91))),
+    (HASHED, 0, 129, Some((HASHED, 0, 179, 91))),
+    // Not for another distribution, and in no order.
+    (Dist::Spread, 0, 0, None),
+    (Dist::One, 0, 129, None),
+    (Dist::Copies, 0, 0, None),
+    (Dist::One, WANTED, 0, None),
+    // Not by a list that isn't in GROUP BY, or that isn't there.
+    (Dist::Spread, 0, 128, None),
+    (Dist::Spread, 0, 130, None),
+    (Dist::Spread, 0, 64, None),
+];
+
+// Over rows in the order of GROUP BY, and for each order with which that begins.
+const STREAM_AGGREGATIONS: [(Dist, u32, u32, Option<(Dist, u32, u64, u64)>); 6] = [
+    (Dist::One, 0, 0, Some((Dist::One, GROUPS, 335, 161))),
+    (Dist::One, WANTED, 0, Some((Dist::One, GROUPS, 335, 161))),
+    (Dist::One, GROUPS, 0, Some((Dist::One, GROUPS, 335, 161))),
+    (Dist::Spread, GROUPS, 129, Some((HASHED, GROUPS, 85, 41))),
+    (HASHED, WANTED, 129, Some((HASHED, GROUPS, 85, 41))),
+    (Dist::Spread, GROUPS, 128, None),
+];
+
 #[test]
 fn aggregations_are_as_by_hand(rt: HostRuntime) -> Result<(), Fail> {
-    let query = per_group(rt.alloc(), "b")?;
-    let props = props_of(rt.alloc(), &query)?;
-    let hashed = Dist::Hashed(BY_B_C);
-    let rows = [
-        // On one segment, and by the hash of the GROUP BY columns.
-        (
+    let (query, props) = implied(rt.alloc(), per_group(rt.alloc(), "b")?)?;
+    for (dist, order, mode, wanted) in HASH_AGGREGATIONS {
+        let is_so = is_aggregated(
+            &query,
+            &props,
             Rule::AggToHash,
-            ask(Dist::One, 0),
-            0,
-            Some((ask(Dist::One, 0), 709, 361)),
-        ),
-        (
-            Rule::AggToHash,
-            ask(Dist::Spread, 0),
-            129,
-            Some((ask(hashed, 0), 179, 91)),
-        ),
-        (
-            Rule::AggToHash,
-            ask(hashed, 0),
-            129,
-            Some((ask(hashed, 0), 179, 91)),
-        ),
-        // Not for another distribution, and in no order.
-        (Rule::AggToHash, ask(Dist::Spread, 0), 0, None),
-        (Rule::AggToHash, ask(Dist::One, 0), 129, None),
-        (Rule::AggToHash, ask(Dist::Copies, 0), 0, None),
-        (Rule::AggToHash, ask(Dist::One, WANTED), 0, None),
-        // Not by a list that isn't in GROUP BY, or that isn't there.
-        (Rule::AggToHash, ask(Dist::Spread, 0), 128, None),
-        (Rule::AggToHash, ask(Dist::Spread, 0), 130, None),
-        (Rule::AggToHash, ask(Dist::Spread, 0), 64, None),
-        // Over rows in the order of GROUP BY, and for each order with which that begins.
-        (
-            Rule::AggToStream,
-            ask(Dist::One, 0),
-            0,
-            Some((ask(Dist::One, GROUPS), 335, 161)),
-        ),
-        (
-            Rule::AggToStream,
-            ask(Dist::One, WANTED),
-            0,
-            Some((ask(Dist::One, GROUPS), 335, 161)),
-        ),
-        (
-            Rule::AggToStream,
-            ask(Dist::One, GROUPS),
-            0,
-            Some((ask(Dist::One, GROUPS), 335, 161)),
-        ),
-        (
-            Rule::AggToStream,
-            ask(Dist::Spread, GROUPS),
-            129,
-            Some((ask(hashed, GROUPS), 85, 41)),
-        ),
-        (
-            Rule::AggToStream,
-            ask(hashed, WANTED),
-            129,
-            Some((ask(hashed, GROUPS), 85, 41)),
-        ),
-        (Rule::AggToStream, ask(Dist::Spread, GROUPS), 128, None),
-    ];
-    for (rule, request, mode, wanted) in rows {
-        let (of_rows, of_partial) = match wanted {
-            Some((asked, cost, partial_cost)) => {
-                (Some((Some(asked), cost)), Some((Some(asked), partial_cost)))
-            }
-            None => (None, None),
-        };
-        assert_eq!(rt;
-            aggregation_serving(&query, &props, rule, false, request, mode),
-            of_rows
+            ask(dist, order),
+            mode,
+            wanted,
         );
-        assert_eq!(rt;
-            aggregation_serving(&query, &props, rule, true, request, mode),
-            of_partial
+        assert!(rt; is_so, "{dist:?} {order} {mode}");
+    }
+    for (dist, order, mode, wanted) in STREAM_AGGREGATIONS {
+        let is_so = is_aggregated(
+            &query,
+            &props,
+            Rule::AggToStream,
+            ask(dist, order),
+            mode,
+            wanted,
         );
+        assert!(rt; is_so, "{dist:?} {order} {mode}");
     }
     Ok(())
 }
 
 #[test]
 fn partial_groups_stay_where_spread_rows_lie(rt: HostRuntime) -> Result<(), Fail> {
-    let query = per_group(rt.alloc(), "b")?;
-    let props = props_of(rt.alloc(), &query)?;
-    let hashed = Dist::Hashed(BY_B_C);
-    let rows = [
-        (
-            ask(Dist::Spread, 0),
-            Some((Some(ask(Dist::Spread, 0)), 169)),
-        ),
-        (ask(hashed, 0), Some((Some(ask(hashed, 0)), 169))),
-        (ask(Dist::One, 0), None),
-        (ask(Dist::Copies, 0), None),
-        (ask(Dist::Spread, WANTED), None),
-    ];
-    for (request, wanted) in rows {
-        assert_eq!(rt;
-            made_serving(&query, &props, PARTIAL, Rule::PartialToHash, request),
-            wanted
-        );
+    let (query, props) = implied(rt.alloc(), per_group(rt.alloc(), "b")?)?;
+    for (dist, order, stays) in [
+        (Dist::Spread, 0, true),
+        (HASHED, 0, true),
+        (Dist::One, 0, false),
+        (Dist::Copies, 0, false),
+        (Dist::Spread, WANTED, false),
+    ] {
+        let request = ask(dist, order);
+        let wanted = if stays {
+            Some((Some(request), 169))
+        } else {
+            None
+        };
+        let serving = made_serving(&query, &props, PARTIAL, Rule::PartialToHash, request);
+        assert!(rt; serving == wanted, "{dist:?} {order}");
     }
     Ok(())
 }
 
+// Whether a scan and a seek by the index serve the request, or neither does.
+fn serve_by_index(query: &Query, props: &Props, request: Request, served: bool) -> bool
+    requires { IsProps query.now props.now }
+{
+    let (scan, seek) = if served {
+        (Some((None, 501)), Some((None, 253)))
+    } else {
+        (None, None)
+    };
+    made_serving(query, props, TABLE, Rule::GetToIndexScan, request) == scan
+        && made_serving(query, props, FILTERED, Rule::SelectToIndexSeek, request) == seek
+}
+
+// Whether the index, whose columns begin with b, serves what it can, and an order as told.
+fn gives_orders(query: &Query, props: &Props, begins: bool) -> bool
+    requires { IsProps query.now props.now }
+{
+    for (dist, order, served) in [
+        (Dist::Spread, 0, true),
+        (Dist::Spread, WANTED, begins),
+        (Dist::Spread, GROUPS, true),
+        (Dist::Hashed(BY_A), GROUPS, true),
+        (Dist::Hashed(BY_B_C), 0, false),
+        (Dist::One, 0, false),
+    ] {
+        if !serve_by_index(query, props, ask(dist, order), served) {
+            return false;
+        }
+    }
+    true
+}
+
 #[test]
 fn an_index_gives_each_order_with_which_its_columns_begin(rt: HostRuntime) -> Result<(), Fail> {
-    let by_b = per_group(rt.alloc(), "b")?;
-    let by_c = per_group(rt.alloc(), "c")?;
-    for (query, begins) in [(&by_b, true), (&by_c, false)] {
-        let props = props_of(rt.alloc(), query)?;
-        let rows = [
-            (ask(Dist::Spread, 0), true),
-            (ask(Dist::Spread, WANTED), begins),
-            (ask(Dist::Spread, GROUPS), true),
-            (ask(Dist::Hashed(BY_A), GROUPS), true),
-            (ask(Dist::Hashed(BY_B_C), 0), false),
-            (ask(Dist::One, 0), false),
-        ];
-        for (request, served) in rows {
-            let (scan, seek) = if served {
-                (Some((None, 501)), Some((None, 253)))
-            } else {
-                (None, None)
-            };
-            assert_eq!(rt;
-                made_serving(query, &props, TABLE, Rule::GetToIndexScan, request),
-                scan
-            );
-            assert_eq!(rt;
-                made_serving(query, &props, FILTERED, Rule::SelectToIndexSeek, request),
-                seek
-            );
-        }
+    for (ordered_by, begins) in [("b", true), ("c", false)] {
+        let (query, props) = implied(rt.alloc(), per_group(rt.alloc(), ordered_by)?)?;
+        assert!(rt; gives_orders(&query, &props, begins), "{ordered_by}");
     }
     Ok(())
 }
 
 #[test]
 fn a_stream_aggregation_gives_the_order_of_its_groups_alone(rt: HostRuntime) -> Result<(), Fail> {
-    let query = per_group(rt.alloc(), "c")?;
-    let props = props_of(rt.alloc(), &query)?;
-    let rule = Rule::AggToStream;
-    assert!(rt;
-        aggregation_serving(&query, &props, rule, false, ask(Dist::One, WANTED), 0).is_none()
-    );
-    assert!(rt;
-        aggregation_serving(&query, &props, rule, false, ask(Dist::One, GROUPS), 0).is_some()
-    );
+    let (query, props) = implied(rt.alloc(), per_group(rt.alloc(), "c")?)?;
+    for (order, served) in [(WANTED, false), (GROUPS, true)] {
+        let request = ask(Dist::One, order);
+        let serving = aggregation_serving(&query, &props, Rule::AggToStream, false, request, 0);
+        assert!(rt; serving.is_some() == served, "{order}");
+    }
     Ok(())
 }

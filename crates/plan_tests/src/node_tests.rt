@@ -1,6 +1,6 @@
 //! Two tables that are joined by an equality, worked by hand.
 
-ghost use Rattle.std.specs.Prelude.{IfSome};
+ghost use Rattle.std.specs.Prelude.{IfOk, IfSome};
 ghost use Rattle.query_core.specs.Keys.{IsGroup};
 ghost use Rattle.query_core.specs.Expressions.{IsCandidate, expr_of};
 ghost use Rattle.request_props.specs.Numbered.{IsProps};
@@ -9,6 +9,7 @@ use plan_space::{Enforcer, NodeKind};
 use plan_tree::*;
 use query_core::*;
 use request_props::{Dist, Props, Request};
+use std::alloc::Global;
 use std::test::Fail;
 use worked_queries::{compared_tables, props_of};
 use xform_rules::{Rule, result_at, results_are_candidates};
@@ -50,6 +51,15 @@ fn join_by(query: &Query, rule: Rule) -> Option<PhysicalExpr>
     made(query, rule, join)
 }
 
+/// A query and what it implies, in boxes: a test that ends drops two values, and not two dozen lists.
+pub fn implied(alloc: Global, query: Query) -> Result<(Box<Query>, Box<Props>), Fail>
+    ensures { IfOk result (λ made. IsProps made.0.value made.1.value) }
+{
+    let query = Box::new(alloc, query)?;
+    let props = props_of(alloc, &query)?;
+    Ok((query, props))
+}
+
 pub fn ask(dist: Dist, order: u32) -> Request {
     Request { dist, order }
 }
@@ -80,179 +90,196 @@ fn mode_at(query: &Query, props: &Props, rule: Rule, request: Request, n: u32) -
     }
 }
 
-fn enforced(query: &Query, props: &Props, request: Request, n: u32) -> Option<Enforced>
+// The number of the enforcer at the place, and what it asks for.
+fn enforced(query: &Query, props: &Props, request: Request, n: u32) -> Option<(u64, Dist, u32)>
     requires { IsProps query.now props.now }
 {
-    enforcer(query, props, query.root(), request, n)
+    let found = enforcer(query, props, query.root(), request, n)?;
+    Some((found.node.0, found.below.dist, found.below.order))
+}
+
+// The first mode with a line from this one on.
+fn next_mode(query: &Query, props: &Props, join: PhysicalExpr, from: u32) -> Option<u32>
+    requires props { IsProps query.now props.now }
+    requires candidate { IsCandidate query.now (expr_of join) }
+{
+    match next_line(query, props, join, from) {
+        Some((mode, _)) => Some(mode),
+        None => None,
+    }
+}
+
+// Whether the modes with a line are 0, 64 and 128, and are found one after another.
+fn has_three_modes(query: &Query, props: &Props, join: PhysicalExpr) -> bool
+    requires props { IsProps query.now props.now }
+    requires candidate { IsCandidate query.now (expr_of join) }
+{
+    for mode in 0..256 {
+        let is_one = mode == 0 || mode == 64 || mode == 128;
+        if line_of(query, props, join, mode).is_some() != is_one {
+            return false;
+        }
+    }
+    next_mode(query, props, join, 0) == Some(0)
+        && next_mode(query, props, join, 1) == Some(64)
+        && next_mode(query, props, join, 65) == Some(128)
+        && next_mode(query, props, join, 129).is_none()
 }
 
 #[test]
 fn a_hash_join_with_one_crossing_equality_has_three_modes(rt: HostRuntime) -> Result<(), Fail> {
-    let query = compared_tables(rt.alloc(), CmpOp::Eq, 0)?;
-    let props = props_of(rt.alloc(), &query)?;
+    let (query, props) = implied(rt.alloc(), compared_tables(rt.alloc(), CmpOp::Eq, 0)?)?;
     for rule in [Rule::JoinToHash, Rule::JoinToMerge] {
-        let join = join_by(&query, rule);
-        assert!(rt; join.is_some());
-        if let Some(join) = join {
-            for mode in 0..256 {
-                assert_eq!(rt;
-                    line_of(&query, &props, join, mode).is_some(),
-                    mode == 0 || mode == 64 || mode == 128
-                );
-            }
-            for (from, mode) in [(0, Some(0)), (1, Some(64)), (65, Some(128)), (129, None)] {
-                let next = match next_line(&query, &props, join, from) {
-                    Some((mode, _)) => Some(mode),
-                    None => None,
-                };
-                assert_eq!(rt; next, mode);
-            }
-        }
+        let join = join_by(&query, rule).ok_or("the rule makes a join")?;
+        assert!(rt; has_three_modes(&query, &props, join));
     }
     Ok(())
 }
 
 #[test]
 fn a_join_without_an_equality_has_two_modes(rt: HostRuntime) -> Result<(), Fail> {
-    let query = compared_tables(rt.alloc(), CmpOp::Lt, 0)?;
-    let props = props_of(rt.alloc(), &query)?;
-    let one = ask(Dist::One, 0);
-    let spread = ask(Dist::Spread, 0);
-    assert!(rt; join_in(&query, &props, Rule::JoinToLoop, one, 0).is_some());
-    assert!(rt; join_in(&query, &props, Rule::JoinToLoop, one, 64).is_none());
-    assert!(rt; join_in(&query, &props, Rule::JoinToLoop, spread, 64).is_some());
-    assert!(rt; join_in(&query, &props, Rule::JoinToLoop, spread, 128).is_none());
+    let (query, props) = implied(rt.alloc(), compared_tables(rt.alloc(), CmpOp::Lt, 0)?)?;
+    for (dist, mode, is_one) in [
+        (Dist::One, 0, true),
+        (Dist::One, 64, false),
+        (Dist::Spread, 64, true),
+        (Dist::Spread, 128, false),
+    ] {
+        let alt = join_in(&query, &props, Rule::JoinToLoop, ask(dist, 0), mode);
+        assert!(rt; alt.is_some() == is_one, "{mode}");
+    }
     Ok(())
+}
+
+// Whether the first two alternatives are in these modes, and there is no third one.
+fn has_modes(
+    query: &Query,
+    props: &Props,
+    rule: Rule,
+    request: Request,
+    first: Option<u32>,
+    second: Option<u32>,
+) -> bool
+    requires { IsProps query.now props.now }
+{
+    mode_at(query, props, rule, request, 0) == first
+        && mode_at(query, props, rule, request, 1) == second
+        && mode_at(query, props, rule, request, 2).is_none()
 }
 
 #[test]
 fn alternatives_are_as_by_hand(rt: HostRuntime) -> Result<(), Fail> {
-    let query = compared_tables(rt.alloc(), CmpOp::Eq, 0)?;
-    let props = props_of(rt.alloc(), &query)?;
-    let rows = [
-        (Rule::JoinToHash, ask(Dist::One, 0), Some(0), None),
-        (Rule::JoinToHash, ask(Dist::One, 1), None, None),
-        (Rule::JoinToHash, ask(Dist::Spread, 0), Some(64), Some(128)),
-        (
-            Rule::JoinToHash,
-            ask(Dist::Hashed(0), 0),
-            Some(64),
-            Some(128),
-        ),
-        (Rule::JoinToHash, ask(Dist::Hashed(1), 0), None, None),
-        (Rule::JoinToHash, ask(Dist::Copies, 0), None, None),
-        (Rule::JoinToMerge, ask(Dist::One, 1), Some(0), None),
-        (Rule::JoinToMerge, ask(Dist::Spread, 1), Some(64), Some(128)),
-        (Rule::JoinToMerge, ask(Dist::Spread, 2), None, None),
-        (Rule::JoinToLoop, ask(Dist::One, 1), Some(0), None),
-        (Rule::JoinToLoop, ask(Dist::Spread, 2), None, None),
-    ];
-    for (rule, request, first, second) in rows {
-        assert_eq!(rt; mode_at(&query, &props, rule, request, 0), first);
-        assert_eq!(rt; mode_at(&query, &props, rule, request, 1), second);
-        assert_eq!(rt; mode_at(&query, &props, rule, request, 2), None);
+    let (query, props) = implied(rt.alloc(), compared_tables(rt.alloc(), CmpOp::Eq, 0)?)?;
+    for (rule, dist, order, first, second) in [
+        (Rule::JoinToHash, Dist::One, 0, Some(0), None),
+        (Rule::JoinToHash, Dist::One, 1, None, None),
+        (Rule::JoinToHash, Dist::Spread, 0, Some(64), Some(128)),
+        (Rule::JoinToHash, Dist::Hashed(0), 0, Some(64), Some(128)),
+        (Rule::JoinToHash, Dist::Hashed(1), 0, None, None),
+        (Rule::JoinToHash, Dist::Copies, 0, None, None),
+        (Rule::JoinToMerge, Dist::One, 1, Some(0), None),
+        (Rule::JoinToMerge, Dist::Spread, 1, Some(64), Some(128)),
+        (Rule::JoinToMerge, Dist::Spread, 2, None, None),
+        (Rule::JoinToLoop, Dist::One, 1, Some(0), None),
+        (Rule::JoinToLoop, Dist::Spread, 2, None, None),
+    ] {
+        let as_by_hand = has_modes(&query, &props, rule, ask(dist, order), first, second);
+        assert!(rt; as_by_hand, "{rule:?} {dist:?} {order}");
     }
     Ok(())
 }
 
 #[test]
 fn joins_ask_as_by_hand(rt: HostRuntime) -> Result<(), Fail> {
-    let query = compared_tables(rt.alloc(), CmpOp::Eq, 0)?;
-    let props = props_of(rt.alloc(), &query)?;
-    assert_eq!(rt;
-        join_in(&query, &props, Rule::JoinToMerge, ask(Dist::Spread, 1), 128),
-        Some(Alt {
-            node: Node((1 << 56) + (70_594_229_968_898 + (1 << 31)) * 256 + 128),
-            left: Some((Key(0), ask(Dist::Hashed(0), 1))),
-            right: Some((Key(1), ask(Dist::Hashed(1), 2)))
-        })
-    );
-    assert_eq!(rt;
-        join_in(&query, &props, Rule::JoinToLoop, ask(Dist::One, 1), 0),
-        Some(Alt {
-            node: Node((1 << 56) + (70_594_229_968_898 + (2 << 31)) * 256),
-            left: Some((Key(0), ask(Dist::One, 1))),
-            right: Some((Key(1), ask(Dist::One, 0)))
-        })
-    );
+    let (query, props) = implied(rt.alloc(), compared_tables(rt.alloc(), CmpOp::Eq, 0)?)?;
+    let merged = Alt {
+        node: Node((1 << 56) + (70_594_229_968_898 + (1 << 31)) * 256 + 128),
+        left: Some((Key(0), ask(Dist::Hashed(0), 1))),
+        right: Some((Key(1), ask(Dist::Hashed(1), 2))),
+    };
+    let looped = Alt {
+        node: Node((1 << 56) + (70_594_229_968_898 + (2 << 31)) * 256),
+        left: Some((Key(0), ask(Dist::One, 1))),
+        right: Some((Key(1), ask(Dist::One, 0))),
+    };
+    for (rule, request, mode, alt) in [
+        (Rule::JoinToMerge, ask(Dist::Spread, 1), 128, merged),
+        (Rule::JoinToLoop, ask(Dist::One, 1), 0, looped),
+    ] {
+        assert_eq!(rt; join_in(&query, &props, rule, request, mode), Some(alt));
+    }
     Ok(())
+}
+
+// Whether a scan of the table and each enforcer over its rows cost what they do in worked examples.
+fn table_costs(query: &Query, props: &Props, table: KeyParts) -> bool
+    requires props { IsProps query.now props.now }
+    requires group { IsGroup query.now table }
+{
+    let spread = ask(Dist::Spread, 0);
+    for (enforcer, cost) in [
+        (Enforcer::Sort(1), 2001),
+        (Enforcer::Broadcast, 4001),
+        (Enforcer::Gather, 2001),
+        (Enforcer::GatherMerge(1), 3001),
+        (Enforcer::Redistribute(0), 1001),
+    ] {
+        if enforcer_cost(query, props, enforcer, table, spread) != cost {
+            return false;
+        }
+    }
+    match made(query, Rule::GetToScan, origin(query, table)) {
+        Some(scan) => native_cost(query, props, scan, 0, spread) == 251,
+        None => false,
+    }
+}
+
+// Whether the hash join in each of its modes does.
+fn join_costs(query: &Query, props: &Props) -> bool
+    requires { IsProps query.now props.now }
+{
+    let spread = ask(Dist::Spread, 0);
+    match join_by(query, Rule::JoinToHash) {
+        Some(join) => {
+            native_cost(query, props, join, 128, spread) == 1001
+                && native_cost(query, props, join, 64, spread) == 2501
+                && native_cost(query, props, join, 0, ask(Dist::One, 0)) == 4001
+        }
+        None => false,
+    }
 }
 
 #[test]
 fn costs_are_those_of_worked_examples(rt: HostRuntime) -> Result<(), Fail> {
-    let query = compared_tables(rt.alloc(), CmpOp::Eq, 0)?;
-    let props = props_of(rt.alloc(), &query)?;
-    let spread = ask(Dist::Spread, 0);
-    if query.is_key(Key(0)) {
-        let table = query.group(Key(0));
-        let scan = made(&query, Rule::GetToScan, origin(&query, table));
-        assert!(rt; scan.is_some());
-        if let Some(scan) = scan {
-            assert_eq!(rt; native_cost(&query, &props, scan, 0, spread), 251);
-        }
-        assert_eq!(rt;
-            enforcer_cost(&query, &props, Enforcer::Sort(1), table, spread),
-            2001
-        );
-        assert_eq!(rt;
-            enforcer_cost(&query, &props, Enforcer::Broadcast, table, spread),
-            4001
-        );
-        assert_eq!(rt;
-            enforcer_cost(&query, &props, Enforcer::Gather, table, spread),
-            2001
-        );
-        assert_eq!(rt;
-            enforcer_cost(&query, &props, Enforcer::GatherMerge(1), table, spread),
-            3001
-        );
-        assert_eq!(rt;
-            enforcer_cost(&query, &props, Enforcer::Redistribute(0), table, spread),
-            1001
-        );
-    }
-    if let Some(join) = join_by(&query, Rule::JoinToHash) {
-        assert_eq!(rt; native_cost(&query, &props, join, 128, spread), 1001);
-        assert_eq!(rt; native_cost(&query, &props, join, 64, spread), 2501);
-        assert_eq!(rt;
-            native_cost(&query, &props, join, 0, ask(Dist::One, 0)),
-            4001
-        );
-    }
+    let (query, props) = implied(rt.alloc(), compared_tables(rt.alloc(), CmpOp::Eq, 0)?)?;
+    assert!(rt; query.is_key(Key(0)) && table_costs(&query, &props, query.group(Key(0))));
+    assert!(rt; join_costs(&query, &props));
     Ok(())
 }
 
 #[test]
 fn a_sort_comes_before_a_merge(rt: HostRuntime) -> Result<(), Fail> {
-    let query = compared_tables(rt.alloc(), CmpOp::Eq, 0)?;
-    let props = props_of(rt.alloc(), &query)?;
-    let rows = [
-        (ask(Dist::One, 1), 0, Some((65, ask(Dist::One, 0)))),
-        (ask(Dist::One, 1), 1, Some((129, ask(Dist::Spread, 1)))),
-        (ask(Dist::One, 1), 2, None),
-        (ask(Dist::One, 0), 0, Some((1, ask(Dist::Spread, 0)))),
-        (ask(Dist::One, 0), 1, None),
-        (ask(Dist::Spread, 0), 0, None),
-        (ask(Dist::Copies, 0), 0, Some((2, ask(Dist::Spread, 0)))),
-        (ask(Dist::Copies, 2), 0, Some((66, ask(Dist::Copies, 0)))),
-        (ask(Dist::Copies, 2), 1, None),
-        (
-            ask(Dist::Hashed(1), 0),
-            0,
-            Some((193, ask(Dist::Spread, 0))),
-        ),
-        (ask(Dist::Hashed(2), 0), 0, None),
-        (ask(Dist::One, 3), 0, None),
-    ];
-    for (request, n, wanted) in rows {
-        let wanted = match wanted {
-            Some((number, below)) => Some(Enforced {
-                node: Node(number),
-                below,
-            }),
-            None => None,
-        };
-        assert_eq!(rt; enforced(&query, &props, request, n), wanted);
+    let (query, props) = implied(rt.alloc(), compared_tables(rt.alloc(), CmpOp::Eq, 0)?)?;
+    // What is asked for, the place of the enforcer, its number, and what it asks for.
+    for (dist, order, n, wanted) in [
+        (Dist::One, 1, 0, Some((65, Dist::One, 0))),
+        (Dist::One, 1, 1, Some((129, Dist::Spread, 1))),
+        (Dist::One, 1, 2, None),
+        (Dist::One, 0, 0, Some((1, Dist::Spread, 0))),
+        (Dist::One, 0, 1, None),
+        (Dist::Spread, 0, 0, None),
+        (Dist::Copies, 0, 0, Some((2, Dist::Spread, 0))),
+        (Dist::Copies, 2, 0, Some((66, Dist::Copies, 0))),
+        (Dist::Copies, 2, 1, None),
+        (Dist::Hashed(1), 0, 0, Some((193, Dist::Spread, 0))),
+        (Dist::Hashed(2), 0, 0, None),
+        (Dist::One, 3, 0, None),
+    ] {
+        assert_eq!(rt;
+            enforced(&query, &props, ask(dist, order), n),
+            wanted,
+            "{dist:?} {order} {n}"
+        );
     }
     Ok(())
 }
