@@ -87,25 +87,51 @@ fn all_as_searched(
 }
 
 // Whether all answers of the query are.
-fn are_as_searched(alloc: Global, query: &Query) -> Result<bool, Fail> {
-    let props = props_of(alloc, query)?;
-    let answers = answers_of(alloc, query, &props)?;
-    Ok(all_as_searched(alloc, query, &props, answers.list.as_slice())?)
+fn are_as_searched(alloc: Global, query: Query) -> Result<bool, Fail> {
+    let props = props_of(alloc, &query)?;
+    Ok(has_answers_as_searched(alloc, &query, &props)?)
 }
 
-// The plan's text by the answers, and by the plain search.
-fn texts_of(alloc: Global, query: &Query) -> Result<(Vec<u8>, Vec<u8>), Fail> {
-    let props = props_of(alloc, query)?;
-    let answers = answers_of(alloc, query, &props)?;
-    let extracted = extract(alloc, query, &props, &answers)?;
-    let searched = plain_least(alloc, query, &props)?;
-    Ok((
-        plan_text(alloc, query, &props, &extracted)?,
-        plan_text(alloc, query, &props, &searched)?,
-    ))
+fn has_answers_as_searched(alloc: Global, query: &Query, props: &Props) -> Result<bool, AllocError>
+    requires { IsProps query.now props.now }
+{
+    let answers = answers_of(alloc, query, props)?;
+    all_as_searched(alloc, query, props, answers.list.as_slice())
 }
 
-fn extracts_what_is_searched(alloc: Global, query: &Query) -> Result<bool, Fail> {
+// The plan's text by the answers.
+fn extracted_text(alloc: Global, query: &Query, props: &Props) -> Result<Vec<u8>, AllocError>
+    requires { IsProps query.now props.now }
+{
+    let answers = answers_of(alloc, query, props)?;
+    let extracted = extract(alloc, query, props, &answers)?;
+    plan_text(alloc, query, props, &extracted)
+}
+
+// The plan's text by the plain search.
+fn searched_text(alloc: Global, query: &Query, props: &Props) -> Result<Vec<u8>, AllocError>
+    requires { IsProps query.now props.now }
+{
+    let searched = plain_least(alloc, query, props)?;
+    plan_text(alloc, query, props, &searched)
+}
+
+// Both.
+fn both_texts(alloc: Global, query: &Query, props: &Props) -> Result<(Vec<u8>, Vec<u8>), AllocError>
+    requires { IsProps query.now props.now }
+{
+    let extracted = extracted_text(alloc, query, props)?;
+    let searched = searched_text(alloc, query, props)?;
+    Ok((extracted, searched))
+}
+
+// Both of a query.
+fn texts_of(alloc: Global, query: Query) -> Result<(Vec<u8>, Vec<u8>), Fail> {
+    let props = props_of(alloc, &query)?;
+    Ok(both_texts(alloc, &query, &props)?)
+}
+
+fn extracts_what_is_searched(alloc: Global, query: Query) -> Result<bool, Fail> {
     let (extracted, searched) = texts_of(alloc, query)?;
     Ok(extracted == searched)
 }
@@ -113,22 +139,22 @@ fn extracts_what_is_searched(alloc: Global, query: &Query) -> Result<bool, Fail>
 #[test]
 fn best_pairs_are_those_of_the_plain_search(rt: HostRuntime) -> Result<(), Fail> {
     let alloc = rt.alloc();
-    assert!(rt; are_as_searched(alloc, &one_table(alloc, 100)?)?);
-    assert!(rt; are_as_searched(alloc, &large_and_small(alloc)?)?);
-    assert!(rt; are_as_searched(alloc, &two_tables(alloc)?)?);
-    assert!(rt; are_as_searched(alloc, &chain(alloc)?)?);
-    assert!(rt; are_as_searched(alloc, &grouped(alloc)?)?);
-    assert!(rt; are_as_searched(alloc, &without_a_plan(alloc)?)?);
+    assert!(rt; are_as_searched(alloc, one_table(alloc, 100)?)?);
+    assert!(rt; are_as_searched(alloc, large_and_small(alloc)?)?);
+    assert!(rt; are_as_searched(alloc, two_tables(alloc)?)?);
+    assert!(rt; are_as_searched(alloc, chain(alloc)?)?);
+    assert!(rt; are_as_searched(alloc, grouped(alloc)?)?);
+    assert!(rt; are_as_searched(alloc, without_a_plan(alloc)?)?);
     Ok(())
 }
 
 #[test]
 fn the_least_plan_is_made_of_the_answers(rt: HostRuntime) -> Result<(), Fail> {
     let alloc = rt.alloc();
-    assert!(rt; extracts_what_is_searched(alloc, &one_table(alloc, 100)?)?);
-    assert!(rt; extracts_what_is_searched(alloc, &large_and_small(alloc)?)?);
-    assert!(rt; extracts_what_is_searched(alloc, &chain(alloc)?)?);
-    assert!(rt; extracts_what_is_searched(alloc, &grouped(alloc)?)?);
+    assert!(rt; extracts_what_is_searched(alloc, one_table(alloc, 100)?)?);
+    assert!(rt; extracts_what_is_searched(alloc, large_and_small(alloc)?)?);
+    assert!(rt; extracts_what_is_searched(alloc, chain(alloc)?)?);
+    assert!(rt; extracts_what_is_searched(alloc, grouped(alloc)?)?);
     Ok(())
 }
 
@@ -136,7 +162,7 @@ fn the_least_plan_is_made_of_the_answers(rt: HostRuntime) -> Result<(), Fail> {
 #[test]
 fn an_order_is_made_on_each_segment_and_kept_by_the_merge(rt: HostRuntime) -> Result<(), Fail> {
     let alloc = rt.alloc();
-    let (extracted, searched) = texts_of(alloc, &two_tables(alloc)?)?;
+    let (extracted, searched) = texts_of(alloc, two_tables(alloc)?)?;
     assert!(rt; extracted == searched);
     assert!(rt; extracted.starts_with("cost 7506\n".as_bytes()));
     Ok(())
@@ -145,7 +171,7 @@ fn an_order_is_made_on_each_segment_and_kept_by_the_merge(rt: HostRuntime) -> Re
 #[test]
 fn no_plan_is_made_where_there_is_none(rt: HostRuntime) -> Result<(), Fail> {
     let alloc = rt.alloc();
-    let (extracted, searched) = texts_of(alloc, &without_a_plan(alloc)?)?;
+    let (extracted, searched) = texts_of(alloc, without_a_plan(alloc)?)?;
     assert_eq!(rt; extracted.as_slice(), "no plan\n".as_bytes());
     assert_eq!(rt; searched.as_slice(), "no plan\n".as_bytes());
     Ok(())

@@ -14,7 +14,12 @@ use worked_queries::{one_table, props_of, two_tables};
 use xform_rules::members_are_known;
 
 // The trace over all members and goals of the query.
-fn trace_of(alloc: Global, query: &Query, props: &Props) -> Result<Vec<u8>, AllocError>
+fn trace_of(alloc: Global, query: Query) -> Result<Vec<u8>, Fail> {
+    let props = props_of(alloc, &query)?;
+    Ok(trace_over(alloc, &query, &props)?)
+}
+
+fn trace_over(alloc: Global, query: &Query, props: &Props) -> Result<Vec<u8>, AllocError>
     requires { IsProps query.now props.now }
 {
     // For the proof: members are words of candidates, and goals those of goals over the query.
@@ -26,7 +31,12 @@ fn trace_of(alloc: Global, query: &Query, props: &Props) -> Result<Vec<u8>, Allo
 }
 
 // The goals by worker, where one worker finished them all.
-fn crew_of_one(alloc: Global, query: &Query, props: &Props) -> Result<Vec<u8>, AllocError>
+fn crew_of_one(alloc: Global, query: Query) -> Result<Vec<u8>, Fail> {
+    let props = props_of(alloc, &query)?;
+    Ok(crew_over(alloc, &query, &props)?)
+}
+
+fn crew_over(alloc: Global, query: &Query, props: &Props) -> Result<Vec<u8>, AllocError>
     requires { IsProps query.now props.now }
 {
     // For the proof: goals of the query are goals over it.
@@ -40,10 +50,9 @@ fn crew_of_one(alloc: Global, query: &Query, props: &Props) -> Result<Vec<u8>, A
 #[test]
 fn a_table_that_is_read_has_eight_goals(rt: HostRuntime) -> Result<(), Fail> {
     let alloc = rt.alloc();
-    let query = one_table(alloc, 0)?;
-    let props = props_of(alloc, &query)?;
+    let trace = trace_of(alloc, one_table(alloc, 0)?)?;
     assert_eq!(rt;
-        trace_of(alloc, &query, &props)?.as_slice(),
+        trace.as_slice(),
         "trace goals=8 exp=1 expe=1 xf=1 imp=1 impe=1 opt=2 opte=1
 Exp Get(t)
   ExpE Get(t)
@@ -64,8 +73,9 @@ OptE Scan(t) [Spread]
 "
             .as_bytes()
     );
+    let crew = crew_of_one(alloc, one_table(alloc, 0)?)?;
     assert_eq!(rt;
-        crew_of_one(alloc, &query, &props)?.as_slice(),
+        crew.as_slice(),
         "by-worker
 0 Exp Get(t)
 0 ExpE Get(t)
@@ -84,9 +94,7 @@ OptE Scan(t) [Spread]
 #[test]
 fn a_sorted_join_has_66_goals(rt: HostRuntime) -> Result<(), Fail> {
     let alloc = rt.alloc();
-    let query = two_tables(alloc)?;
-    let props = props_of(alloc, &query)?;
-    let trace = trace_of(alloc, &query, &props)?;
+    let trace = trace_of(alloc, two_tables(alloc)?)?;
     let first = "trace goals=66 exp=3 expe=5 xf=11 imp=3 impe=5 opt=20 opte=19\n";
     assert!(rt; trace.starts_with(first.as_bytes()));
     let root = "

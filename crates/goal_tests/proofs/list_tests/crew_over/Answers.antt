@@ -1,6 +1,6 @@
 use Rattle.std.proofs.Common.{List, ℕ, subst, sym}
 use Rattle.goal_children.specs.Over.{AreGoalWords}
-use Rattle.goal_tests.proofs.list_tests.crew_of_one.Goals as goal
+use Rattle.goal_tests.proofs.list_tests.crew_over.Goals as goal
 
 -- the words are those of all goals
 pub crew_text-requires-clause-goals : goal.crew_text-requires-clause-goals

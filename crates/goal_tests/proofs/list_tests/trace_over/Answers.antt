@@ -1,6 +1,6 @@
 use Rattle.std.proofs.Common.{List, ℕ, subst, sym}
 use Rattle.goal_children.specs.Over.{AreGoalWords}
-use Rattle.goal_tests.proofs.list_tests.trace_of.Goals as goal
+use Rattle.goal_tests.proofs.list_tests.trace_over.Goals as goal
 
 -- the words are those of all goals
 pub trace_text-requires-clause-goals : goal.trace_text-requires-clause-goals
