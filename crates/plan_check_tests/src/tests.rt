@@ -99,7 +99,25 @@ fn last_of(plans: &mut Vec<Plan>) -> Plan {
     }
 }
 
-fn check_each(
+fn check_case(
+    rt: &impl Abort,
+    alloc: Global,
+    query: &Query,
+    props: &Props,
+    case: &Case,
+) -> Result<(), AllocError>
+    requires { IsProps query.now props.now }
+{
+    let plan = plan_of(alloc, case.nodes)?;
+    let wanted = Request {
+        dist: case.dist,
+        order: case.order,
+    };
+    assert_eq!(rt; check_plan(query, props, &plan, wanted), case.says);
+    Ok(())
+}
+
+fn check_cases(
     rt: &impl Abort,
     alloc: Global,
     query: &Query,
@@ -109,14 +127,14 @@ fn check_each(
     requires { IsProps query.now props.now }
 {
     for case in cases {
-        let plan = plan_of(alloc, case.nodes)?;
-        let wanted = Request {
-            dist: case.dist,
-            order: case.order,
-        };
-        assert_eq!(rt; check_plan(query, props, &plan, wanted), case.says);
+        check_case(rt, alloc, query, props, case)?;
     }
     Ok(())
+}
+
+fn check_each(rt: &impl Abort, alloc: Global, query: Query, cases: &[Case]) -> Result<(), Fail> {
+    let props = props_of(alloc, &query)?;
+    check_cases(rt, alloc, &query, &props, cases)
 }
 
 // ---- two tables
@@ -133,8 +151,6 @@ const LEAST: [(u64, u32); 6] = [
 
 #[test]
 fn a_plan_costs_what_the_table_says(rt: HostRuntime) -> Result<(), Fail> {
-    let query = two_tables(rt.alloc())?;
-    let props = props_of(rt.alloc(), &query)?;
     // 4,001 for the copies, and 250 + 2 * 1,000 + 250 + 1 for the join
     let copied = Case {
         nodes: &[(HASH + COPIED, 2), (SCAN_1, 0), (BROADCAST, 1), (SCAN_2, 0)],
@@ -169,13 +185,16 @@ fn a_plan_costs_what_the_table_says(rt: HostRuntime) -> Result<(), Fail> {
         order: 0,
         says: Ok(251 + 251 + 2001 + 2001 + 1_000_001),
     };
-    check_each(&rt, rt.alloc(), &query, &props, &[copied, merged, looped])
+    check_each(
+        &rt,
+        rt.alloc(),
+        two_tables(rt.alloc())?,
+        &[copied, merged, looped],
+    )
 }
 
 #[test]
 fn the_least_plan_has_its_cost(rt: HostRuntime) -> Result<(), Fail> {
-    let query = two_tables(rt.alloc())?;
-    let props = props_of(rt.alloc(), &query)?;
     for order in [0, 1] {
         let least = Case {
             nodes: &LEAST,
@@ -183,7 +202,7 @@ fn the_least_plan_has_its_cost(rt: HostRuntime) -> Result<(), Fail> {
             order,
             says: Ok(7506),
         };
-        check_each(&rt, rt.alloc(), &query, &props, &[least])?;
+        check_each(&rt, rt.alloc(), two_tables(rt.alloc())?, &[least])?;
     }
     // a sort at 2,001 and a motion at 1,001 that change nothing
     let redundant = Case {
@@ -201,13 +220,11 @@ fn the_least_plan_has_its_cost(rt: HostRuntime) -> Result<(), Fail> {
         order: 1,
         says: Ok(7506 + 2001 + 1001),
     };
-    check_each(&rt, rt.alloc(), &query, &props, &[redundant])
+    check_each(&rt, rt.alloc(), two_tables(rt.alloc())?, &[redundant])
 }
 
 #[test]
 fn copies_of_a_small_table_cost_little(rt: HostRuntime) -> Result<(), Fail> {
-    let query = large_and_small(rt.alloc())?;
-    let props = props_of(rt.alloc(), &query)?;
     let copied = Case {
         nodes: &[
             (GATHER, 1),
@@ -220,7 +237,7 @@ fn copies_of_a_small_table_cost_little(rt: HostRuntime) -> Result<(), Fail> {
         order: 0,
         says: Ok(52318),
     };
-    check_each(&rt, rt.alloc(), &query, &props, &[copied])
+    check_each(&rt, rt.alloc(), large_and_small(rt.alloc())?, &[copied])
 }
 
 // So many sorts over a scan.
@@ -232,28 +249,31 @@ fn sorts(alloc: Global, many: u32) -> Result<Plan, AllocError> {
     Ok(plan)
 }
 
+// What a check of so many sorts over a scan says.
+fn checked_sorts(alloc: Global, many: u32, query: Query) -> Result<Result<u64, PlanFault>, Fail> {
+    let props = props_of(alloc, &query)?;
+    let plan = sorts(alloc, many)?;
+    let wanted = Request {
+        dist: Dist::Spread,
+        order: 1,
+    };
+    Ok(check_plan(&query, &props, &plan, wanted))
+}
+
 #[test]
 fn a_thousand_nodes_are_few_enough(rt: HostRuntime) -> Result<(), Fail> {
-    let query = two_tables(rt.alloc())?;
-    let props = props_of(rt.alloc(), &query)?;
     for (many, says) in [
         (999, Ok(999 * 2001 + 251)),
         (1000, Err(PlanFault::TooLarge { nodes: 1001 })),
     ] {
-        let plan = sorts(rt.alloc(), many)?;
-        let wanted = Request {
-            dist: Dist::Spread,
-            order: 1,
-        };
-        assert_eq!(rt; check_plan(&query, &props, &plan, wanted), says);
+        let told = checked_sorts(rt.alloc(), many, two_tables(rt.alloc())?)?;
+        assert_eq!(rt; told, says);
     }
     Ok(())
 }
 
 #[test]
 fn a_number_that_no_node_of_the_query_has_is_told(rt: HostRuntime) -> Result<(), Fail> {
-    let query = two_tables(rt.alloc())?;
-    let props = props_of(rt.alloc(), &query)?;
     // nothing; a sort by no order and by a third; a fourth list; a mode without a line; a table read
     // by an index that it hasn't; and the logical expression of the table
     for number in [
@@ -277,15 +297,13 @@ fn a_number_that_no_node_of_the_query_has_is_told(rt: HostRuntime) -> Result<(),
             order: 1,
             says: Err(PlanFault::Shape { node: 3 }),
         };
-        check_each(&rt, rt.alloc(), &query, &props, &[unknown])?;
+        check_each(&rt, rt.alloc(), two_tables(rt.alloc())?, &[unknown])?;
     }
     Ok(())
 }
 
 #[test]
 fn the_last_node_with_wrong_kids_is_told(rt: HostRuntime) -> Result<(), Fail> {
-    let query = two_tables(rt.alloc())?;
-    let props = props_of(rt.alloc(), &query)?;
     let turned = Case {
         nodes: &[
             (SORT_A, 1),
@@ -313,16 +331,13 @@ fn the_last_node_with_wrong_kids_is_told(rt: HostRuntime) -> Result<(), Fail> {
     check_each(
         &rt,
         rt.alloc(),
-        &query,
-        &props,
+        two_tables(rt.alloc())?,
         &[turned, of_two_over_nothing, of_two],
     )
 }
 
 #[test]
 fn the_first_node_whose_needs_are_not_met_is_told(rt: HostRuntime) -> Result<(), Fail> {
-    let query = two_tables(rt.alloc())?;
-    let props = props_of(rt.alloc(), &query)?;
     let by_another_column = Case {
         nodes: &[(SORT_A, 1), (HASH + COLOCATED, 2), (SCAN_1, 0), (SCAN_2, 0)],
         dist: Dist::Spread,
@@ -338,8 +353,7 @@ fn the_first_node_whose_needs_are_not_met_is_told(rt: HostRuntime) -> Result<(),
     check_each(
         &rt,
         rt.alloc(),
-        &query,
-        &props,
+        two_tables(rt.alloc())?,
         &[by_another_column, gathered_thrice],
     )?;
     // an order and a list that aren't in the table, and a merge of rows in no order
@@ -350,15 +364,13 @@ fn the_first_node_whose_needs_are_not_met_is_told(rt: HostRuntime) -> Result<(),
             order: 0,
             says: Err(PlanFault::Needs { node: 0 }),
         };
-        check_each(&rt, rt.alloc(), &query, &props, &[apart])?;
+        check_each(&rt, rt.alloc(), two_tables(rt.alloc())?, &[apart])?;
     }
     Ok(())
 }
 
 #[test]
 fn a_valid_plan_may_not_be_what_is_asked_for(rt: HostRuntime) -> Result<(), Fail> {
-    let query = two_tables(rt.alloc())?;
-    let props = props_of(rt.alloc(), &query)?;
     for (dist, order) in [(Dist::Spread, 1), (Dist::One, 2), (Dist::Copies, 0)] {
         let other = Case {
             nodes: &LEAST,
@@ -366,15 +378,13 @@ fn a_valid_plan_may_not_be_what_is_asked_for(rt: HostRuntime) -> Result<(), Fail
             order,
             says: Err(PlanFault::Unsatisfied),
         };
-        check_each(&rt, rt.alloc(), &query, &props, &[other])?;
+        check_each(&rt, rt.alloc(), two_tables(rt.alloc())?, &[other])?;
     }
     Ok(())
 }
 
 #[test]
 fn the_whole_plan_is_looked_through_for_one_fault_first(rt: HostRuntime) -> Result<(), Fail> {
-    let query = two_tables(rt.alloc())?;
-    let props = props_of(rt.alloc(), &query)?;
     // needs that aren't met stand above wrong kids, and these above a number of no node
     let wrong_kids = Case {
         nodes: &[(REDISTRIBUTE_B, 1), (SORT_A, 2), (SCAN_1, 0), (SCAN_1, 0)],
@@ -388,7 +398,12 @@ fn the_whole_plan_is_looked_through_for_one_fault_first(rt: HostRuntime) -> Resu
         order: 0,
         says: Err(PlanFault::Shape { node: 3 }),
     };
-    check_each(&rt, rt.alloc(), &query, &props, &[wrong_kids, unknown])
+    check_each(
+        &rt,
+        rt.alloc(),
+        two_tables(rt.alloc())?,
+        &[wrong_kids, unknown],
+    )
 }
 
 // ---- one table
@@ -418,8 +433,6 @@ fn stream_agg(mode: u32) -> u64
 
 #[test]
 fn aggregations_cost_what_the_table_says(rt: HostRuntime) -> Result<(), Fail> {
-    let query = hashed_count(rt.alloc())?;
-    let props = props_of(rt.alloc(), &query)?;
     // 1,000 rows on one segment: a gather at 2,001, and 2 * 1,000 + 10 + 1
     let gathered = Case {
         nodes: &[(hash_agg(KeyParts::Get(0), 0), 1), (GATHER, 1), (SCAN_1, 0)],
@@ -455,8 +468,7 @@ fn aggregations_cost_what_the_table_says(rt: HostRuntime) -> Result<(), Fail> {
     check_each(
         &rt,
         rt.alloc(),
-        &query,
-        &props,
+        hashed_count(rt.alloc())?,
         &[gathered, in_two_steps, streamed],
     )
 }
@@ -465,8 +477,6 @@ fn aggregations_cost_what_the_table_says(rt: HostRuntime) -> Result<(), Fail> {
 fn an_aggregation_by_a_list_outside_group_by_lacks_what_it_needs(
     rt: HostRuntime,
 ) -> Result<(), Fail> {
-    let query = hashed_count(rt.alloc())?;
-    let props = props_of(rt.alloc(), &query)?;
     let by_another_list = hash_agg(KeyParts::Get(0), 128);
     let over_a_scan = Case {
         nodes: &[(by_another_list, 1), (SCAN_1, 0)],
@@ -483,16 +493,13 @@ fn an_aggregation_by_a_list_outside_group_by_lacks_what_it_needs(
     check_each(
         &rt,
         rt.alloc(),
-        &query,
-        &props,
+        hashed_count(rt.alloc())?,
         &[over_a_scan, over_wrong_kids],
     )
 }
 
 #[test]
 fn a_filter_and_an_index_cost_what_the_table_says(rt: HostRuntime) -> Result<(), Fail> {
-    let query = filtered_table(rt.alloc())?;
-    let props = props_of(rt.alloc(), &query)?;
     let filter = native(KeyParts::Filter(0), Physical::Filter(KeyParts::Get(0)), 0);
     let over_a_scan = Case {
         nodes: &[(filter, 1), (SCAN_1, 0)],
@@ -518,8 +525,7 @@ fn a_filter_and_an_index_cost_what_the_table_says(rt: HostRuntime) -> Result<(),
     check_each(
         &rt,
         rt.alloc(),
-        &query,
-        &props,
+        filtered_table(rt.alloc())?,
         &[over_a_scan, over_an_index, sought],
     )
 }
