@@ -40,6 +40,11 @@ fn text_of_memo(alloc: Global, query: &Query, words: &[u64]) -> Result<Vec<u8>, 
     Ok(Vec::new(alloc))
 }
 
+// The same of a query that nothing else needs.
+fn memo_of(alloc: Global, query: Query, words: &[u64]) -> Result<Vec<u8>, Fail> {
+    Ok(text_of_memo(alloc, &query, words)?)
+}
+
 // A word has the key from bit 36 on, the operator from bit 31, the index from bit 26, the children.
 #[test]
 fn a_memo_is_shown_group_by_group(rt: HostRuntime) -> Result<(), Fail> {
@@ -58,9 +63,9 @@ fn a_memo_is_shown_group_by_group(rt: HostRuntime) -> Result<(), Fail> {
         0x403580002002,
         0x403580004001,
     ];
-    let query = two_tables(rt.alloc())?;
+    let text = memo_of(rt.alloc(), two_tables(rt.alloc())?, &words)?;
     assert_eq!(rt;
-        text_of_memo(rt.alloc(), &query, &words)?.as_slice(),
+        text.as_slice(),
         "memo groups=3 members=13
 group Get(T1) rows=1000
   Get(T1)
@@ -104,9 +109,9 @@ fn indexes_and_aggregations_are_shown(rt: HostRuntime) -> Result<(), Fail> {
         0x801700022000,
         0x801701002000,
     ];
-    let query = filtered_count(rt.alloc())?;
+    let text = memo_of(rt.alloc(), filtered_count(rt.alloc())?, &words)?;
     assert_eq!(rt;
-        text_of_memo(rt.alloc(), &query, &words)?.as_slice(),
+        text.as_slice(),
         "memo groups=4 members=16
 group Get(t) rows=100000
   Get(t)
@@ -142,9 +147,9 @@ fn sides_of_several_tables_are_shown_in_order(rt: HostRuntime) -> Result<(), Fai
         0x407400808003,
         0x407500004406,
     ];
-    let query = cycle(rt.alloc())?;
+    let text = memo_of(rt.alloc(), cycle(rt.alloc())?, &words)?;
     assert_eq!(rt;
-        text_of_memo(rt.alloc(), &query, &words)?.as_slice(),
+        text.as_slice(),
         "memo groups=1 members=4
 group Join(A, B, C) rows=1000
   NJoin(A, B, C)

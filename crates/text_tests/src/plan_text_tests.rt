@@ -59,26 +59,37 @@ fn stream_agg(mode: u32) -> Node
     )
 }
 
+fn over(alloc: Global, node: Node, kid: Plan) -> Result<Plan, AllocError> {
+    Ok(Plan::Over(node, Box::new(alloc, kid)?))
+}
+
+fn two(alloc: Global, node: Node, left: Plan, right: Plan) -> Result<Plan, AllocError> {
+    let right = Box::new(alloc, right)?;
+    Ok(Plan::Two(node, Box::new(alloc, left)?, right))
+}
+
 // The rows of T1 where they lie, those of T2 moved to where the hash of T2.b says, and their join,
 // sorted on each segment and then merged.
 fn two_table_plan(alloc: Global) -> Result<Plan, AllocError> {
-    let moved = Plan::Over(
+    let moved = over(
+        alloc,
         enforcer(Enforcer::Redistribute(2)),
-        Box::new(alloc, Plan::Leaf(scan(1)))?,
-    );
-    let joined = Plan::Two(
-        hash_join(128),
-        Box::new(alloc, Plan::Leaf(scan(0)))?,
-        Box::new(alloc, moved)?,
-    );
-    let sorted = Plan::Over(enforcer(Enforcer::Sort(2)), Box::new(alloc, joined)?);
-    Ok(Plan::Over(enforcer(Enforcer::GatherMerge(2)), Box::new(alloc, sorted)?))
+        Plan::Leaf(scan(1)),
+    )?;
+    let joined = two(alloc, hash_join(128), Plan::Leaf(scan(0)), moved)?;
+    let sorted = over(alloc, enforcer(Enforcer::Sort(2)), joined)?;
+    over(alloc, enforcer(Enforcer::GatherMerge(2)), sorted)
 }
 
-// Whether the text of what was found begins so.
-fn begins(alloc: Global, query: &Query, found: &Found, wanted: &str) -> Result<bool, Fail> {
+// The text of what was found.
+fn text_of(alloc: Global, query: &Query, found: &Found) -> Result<Vec<u8>, Fail> {
     let props = props_of(alloc, query)?;
-    let text = plan_text(alloc, query, &props, found)?;
+    Ok(plan_text(alloc, query, &props, found)?)
+}
+
+// Whether it begins so.
+fn begins(alloc: Global, query: &Query, found: &Found, wanted: &str) -> Result<bool, Fail> {
+    let text = text_of(alloc, query, found)?;
     Ok(text.starts_with(wanted.as_bytes()))
 }
 
@@ -101,13 +112,12 @@ fn is_line_of(
 #[test]
 fn a_plan_is_printed_a_node_a_line(rt: HostRuntime) -> Result<(), Fail> {
     let alloc = rt.alloc();
-    let query = two_tables_descending(alloc)?;
+    let query = Box::new(alloc, two_tables_descending(alloc)?)?;
     let found = Found::Least {
         plan: two_table_plan(alloc)?,
         cost: 7506,
     };
-    let props = props_of(alloc, &query)?;
-    let text = plan_text(alloc, &query, &props, &found)?;
+    let text = text_of(alloc, &query, &found)?;
     let expected =
         "cost 7506\noutput T1.a, T2.b AS c\nGatherMerge(T1.a DESC) rows=1000 cost=3001\n  \
         Sort(T1.a DESC) rows=1000 cost=2001\n    HashJoin(colocated p0) rows=1000 cost=1001\n      \
@@ -120,7 +130,7 @@ fn a_plan_is_printed_a_node_a_line(rt: HostRuntime) -> Result<(), Fail> {
 #[test]
 fn a_node_is_printed_with_its_mode(rt: HostRuntime) -> Result<(), Fail> {
     let alloc = rt.alloc();
-    let query = two_tables_descending(alloc)?;
+    let query = Box::new(alloc, two_tables_descending(alloc)?)?;
     let index_scan = native(KeyParts::Get(1), Physical::IndexScan(0), 0);
     let cases = [
         (hash_join(0), "HashJoin(one) rows=1000 "),
@@ -140,9 +150,8 @@ fn a_node_is_printed_with_its_mode(rt: HostRuntime) -> Result<(), Fail> {
 #[test]
 fn no_plan_is_one_line(rt: HostRuntime) -> Result<(), Fail> {
     let alloc = rt.alloc();
-    let query = two_tables_descending(alloc)?;
-    let props = props_of(alloc, &query)?;
-    let text = plan_text(alloc, &query, &props, &Found::NoPlan)?;
+    let query = Box::new(alloc, two_tables_descending(alloc)?)?;
+    let text = text_of(alloc, &query, &Found::NoPlan)?;
     assert_eq!(rt; text.as_slice(), "no plan\n".as_bytes());
     Ok(())
 }
@@ -150,12 +159,9 @@ fn no_plan_is_one_line(rt: HostRuntime) -> Result<(), Fail> {
 #[test]
 fn an_order_names_an_aggregate_by_its_output_name(rt: HostRuntime) -> Result<(), Fail> {
     let alloc = rt.alloc();
-    let query = totals(alloc)?;
+    let query = Box::new(alloc, totals(alloc)?)?;
     let found = Found::Least {
-        plan: Plan::Over(
-            enforcer(Enforcer::Sort(2)),
-            Box::new(alloc, Plan::Leaf(scan(0)))?,
-        ),
+        plan: over(alloc, enforcer(Enforcer::Sort(2)), Plan::Leaf(scan(0)))?,
         cost: 1,
     };
     let wanted =
@@ -167,7 +173,7 @@ fn an_order_names_an_aggregate_by_its_output_name(rt: HostRuntime) -> Result<(),
 #[test]
 fn an_aggregation_is_printed_with_where_it_groups(rt: HostRuntime) -> Result<(), Fail> {
     let alloc = rt.alloc();
-    let query = totals(alloc)?;
+    let query = Box::new(alloc, totals(alloc)?)?;
     let index_seek = native(KeyParts::Filter(0), Physical::IndexSeek(0), 0);
     let partial_agg = native(
         KeyParts::Partial,
