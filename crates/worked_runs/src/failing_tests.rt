@@ -1,6 +1,6 @@
 //! The running example over files that can't be read, and over output that can't be written.
 use crate::join_tests::JOINED;
-use crate::runs::{JOIN, TWO_TABLES, run_over, shelf_of};
+use crate::runs::{JOIN, TWO_TABLES, run_over, shelf_of, text_at};
 use orca_cli::Status;
 use orca_io::MemSink;
 use std::alloc::{AllocError, AllocGlobal};
@@ -26,33 +26,51 @@ fn run_failing<R: Threads + Wait + Sync + AllocGlobal>(
     Ok((status, sink))
 }
 
+// What the sink took so, where the run ends with the status; else a line that no run prints.
+fn taken_failing<R: Threads + Wait + Sync + AllocGlobal>(
+    rt: &R,
+    read: Option<u64>,
+    put: Option<(u64, u64)>,
+    wanted: Status,
+) -> Result<String, Fail> {
+    let (status, sink) = run_failing(rt, read, put)?;
+    text_at(rt.alloc(), status, wanted, &sink)
+}
+
 #[test]
 fn a_file_that_fails_is_named(rt: HostRuntime) -> Result<(), Fail> {
     for (call, line) in [(0, "read fault: c.json\n"), (1, "read fault: q.sql\n")] {
-        let (status, sink) = run_failing(&rt, Some(call), None)?;
-        assert_eq!(rt; status, Status::ReadFault, "{line}");
-        assert_eq!(rt; sink.taken(), line.as_bytes());
+        let told = taken_failing(&rt, Some(call), None, Status::ReadFault)?;
+        assert_eq!(rt; told.as_str(), line);
         for (kept, taken) in [(0, ""), (3, "rea")] {
-            let (status, sink) = run_failing(&rt, Some(call), Some((0, kept)))?;
-            assert_eq!(rt; status, Status::WriteFault, "{line}");
-            assert_eq!(rt; sink.taken(), taken.as_bytes(), "{line}");
+            let told = taken_failing(&rt, Some(call), Some((0, kept)), Status::WriteFault)?;
+            assert_eq!(rt; told.as_str(), taken, "{line}");
         }
     }
     Ok(())
 }
 
+// Whether a run whose put fails after so many bytes of the line leaves the lines before and these.
+fn leaves<R: Threads + Wait + Sync + AllocGlobal>(
+    rt: &R,
+    put: u64,
+    kept: u64,
+    before: usize,
+) -> Result<bool, Fail> {
+    let told = taken_failing(rt, None, Some((put, kept)), Status::WriteFault)?;
+    let length = before.saturating_add(kept as usize);
+    Ok(JOINED.starts_with(told.as_str()) && told.len() == length)
+}
+
 #[test]
 fn a_sink_that_fails_has_the_lines_before_and_a_part_of_one(rt: HostRuntime) -> Result<(), Fail> {
     for kept in [0u64, 3] {
-        let mut before = String::new(rt.alloc());
+        let mut before = 0usize;
         for (put, line) in JOINED.split_inclusive('\n').enumerate() {
-            let (status, sink) = run_failing(&rt, None, Some((put as u64, kept)))?;
-            assert_eq!(rt; status, Status::WriteFault);
-            assert!(rt; JOINED.as_bytes().starts_with(sink.taken()));
-            assert_eq!(rt; sink.taken().len() as u64, before.len() as u64 + kept);
-            before.push_str(line)?;
+            assert!(rt; leaves(&rt, put as u64, kept, before)?, "{line}");
+            before = before.saturating_add(line.len());
         }
-        assert_eq!(rt; before.as_str(), JOINED);
+        assert_eq!(rt; before, JOINED.len());
     }
     Ok(())
 }

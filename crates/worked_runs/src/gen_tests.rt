@@ -1,5 +1,5 @@
 //! What the program prints for queries that it makes itself.
-use crate::runs::{answered, noted};
+use crate::runs::{noted, printed};
 use orca_cli::Status;
 use std::test::Fail;
 
@@ -8,9 +8,8 @@ fn a_generated_query_is_planned(rt: HostRuntime) -> Result<(), Fail> {
     let words = ["gen", "1", "1", "chain"];
     let text =
         "gen number=1 tables=1 shape=chain\ncost 93128\nmemo groups=1 members=2\ntrace goals=10 exp=1 expe=1 xf=1 imp=1 impe=1 opt=4 opte=1\n";
-    let (status, sink) = answered(&rt, &words, b"", b"")?;
-    assert_eq!(rt; status, Status::Planned);
-    assert_eq!(rt; sink.taken(), text.as_bytes());
+    let told = printed(&rt, &words, b"", b"", Status::Planned)?;
+    assert_eq!(rt; told.as_str(), text);
     let (_, note) = noted(&rt, &words, b"", b"")?;
     assert_eq!(rt; note, Some((131_072, 1, 10)));
     Ok(())
@@ -18,7 +17,7 @@ fn a_generated_query_is_planned(rt: HostRuntime) -> Result<(), Fail> {
 
 #[test]
 fn a_generated_query_takes_workers_and_a_capacity(rt: HostRuntime) -> Result<(), Fail> {
-    let (_, alone) = answered(&rt, &["gen", "7", "3", "star"], b"", b"")?;
+    let alone = printed(&rt, &["gen", "7", "3", "star"], b"", b"", Status::Planned)?;
     let words = [
         "gen",
         "--workers",
@@ -29,12 +28,10 @@ fn a_generated_query_takes_workers_and_a_capacity(rt: HostRuntime) -> Result<(),
         "--capacity",
         "8192",
     ];
-    let (status, sink) = answered(&rt, &words, b"", b"")?;
-    assert_eq!(rt; status, Status::Planned);
-    assert_eq!(rt; sink.taken(), alone.taken());
+    let told = printed(&rt, &words, b"", b"", Status::Planned)?;
+    assert_eq!(rt; told.as_str(), alone.as_str());
     let words = ["gen", "7", "3", "star", "--capacity", "64"];
-    let (status, sink) = answered(&rt, &words, b"", b"")?;
-    assert_eq!(rt; status, Status::TooManyEntries);
-    assert_eq!(rt; sink.taken(), "too many entries: capacity 64\n".as_bytes());
+    let told = printed(&rt, &words, b"", b"", Status::TooManyEntries)?;
+    assert_eq!(rt; told.as_str(), "too many entries: capacity 64\n");
     Ok(())
 }

@@ -1,5 +1,5 @@
 //! What the program prints for grouped queries.
-use crate::runs::{answered, planned};
+use crate::runs::{PLAN_WORDS, printed};
 use orca_cli::Status;
 use std::test::Fail;
 
@@ -33,9 +33,14 @@ fn prints_the_least_plan_of_each_grouping(rt: HostRuntime) -> Result<(), Fail> {
             "cost 1204\noutput t.a, SUM(t.b) AS s\nGatherMerge(s) rows=100 cost=301\n  Sort(s) rows=100 cost=126\n    HashAgg(hashed t.a) rows=100 cost=526\n      Scan(t) rows=1000 cost=251\n",
         ),
     ] {
-        let (status, sink) = planned(&rt, catalog.as_bytes(), query.as_bytes())?;
-        assert_eq!(rt; sink.taken(), text.as_bytes(), "{query}");
-        assert_eq!(rt; status, Status::Planned, "{query}");
+        let told = printed(
+            &rt,
+            &PLAN_WORDS,
+            catalog.as_bytes(),
+            query.as_bytes(),
+            Status::Planned,
+        )?;
+        assert_eq!(rt; told.as_str(), text, "{query}");
     }
     Ok(())
 }
@@ -43,8 +48,13 @@ fn prints_the_least_plan_of_each_grouping(rt: HostRuntime) -> Result<(), Fail> {
 #[test]
 fn the_one_row_of_an_aggregate_is_never_spread(rt: HostRuntime) -> Result<(), Fail> {
     let words = ["plan", "c.json", "q.sql", "--root", "spread"];
-    let (status, sink) = answered(&rt, &words, RANDOM.as_bytes(), b"SELECT COUNT(*) FROM t")?;
-    assert_eq!(rt; sink.taken(), b"no plan\n".as_slice());
-    assert_eq!(rt; status, Status::NoPlan);
+    let told = printed(
+        &rt,
+        &words,
+        RANDOM.as_bytes(),
+        b"SELECT COUNT(*) FROM t",
+        Status::NoPlan,
+    )?;
+    assert_eq!(rt; told.as_str(), "no plan\n");
     Ok(())
 }

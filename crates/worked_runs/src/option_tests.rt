@@ -1,5 +1,5 @@
 //! What the program prints where options are given.
-use crate::runs::{TWO_TABLES, answered, planned};
+use crate::runs::{PLAN_WORDS, answered, printed};
 use orca_cli::Status;
 use std::alloc::AllocGlobal;
 use std::sync::Wait;
@@ -43,14 +43,33 @@ fn an_index_gives_the_order_of_its_columns(rt: HostRuntime) -> Result<(), Fail> 
             "cost 5253\noutput t.a\nGatherMerge(t.a DESC, t.b) rows=1000 cost=3001\n  Sort(t.a DESC, t.b) rows=1000 cost=2001\n    Scan(t) rows=1000 cost=251\n",
         ),
     ] {
-        let (status, sink) = planned(&rt, INDEXED.as_bytes(), query.as_bytes())?;
-        assert_eq!(rt; sink.taken(), text.as_bytes(), "{query}");
-        assert_eq!(rt; status, Status::Planned, "{query}");
+        let told = printed(
+            &rt,
+            &PLAN_WORDS,
+            INDEXED.as_bytes(),
+            query.as_bytes(),
+            Status::Planned,
+        )?;
+        assert_eq!(rt; told.as_str(), text, "{query}");
     }
     Ok(())
 }
 
-// Checks the status and the text of a query where these options stand behind the two names.
+// What is printed of a query where these options stand behind the two names.
+fn printed_with<R: Threads + Wait + Sync + AllocGlobal>(
+    rt: &R,
+    options: &[&str],
+    catalog: &str,
+    query: &str,
+    wanted: Status,
+) -> Result<String, Fail> {
+    let mut words = Vec::new(rt.alloc());
+    words.extend_from_slice(&PLAN_WORDS)?;
+    words.extend_from_slice(options)?;
+    printed(rt, &words, catalog.as_bytes(), query.as_bytes(), wanted)
+}
+
+// Whether this is printed of a query where these options stand behind the two names.
 fn expect<R: Threads + Wait + Sync + AllocGlobal>(
     rt: &R,
     options: &[&str],
@@ -59,11 +78,8 @@ fn expect<R: Threads + Wait + Sync + AllocGlobal>(
     status: Status,
     text: &str,
 ) -> Result<bool, Fail> {
-    let mut words = Vec::new(rt.alloc());
-    words.extend_from_slice(&["plan", "c.json", "q.sql"])?;
-    words.extend_from_slice(options)?;
-    let (answer, sink) = answered(rt, &words, catalog.as_bytes(), query.as_bytes())?;
-    Ok(answer == status && sink.taken() == text.as_bytes())
+    let told = printed_with(rt, options, catalog, query, status)?;
+    Ok(told.as_str() == text)
 }
 
 #[test]
@@ -141,9 +157,14 @@ fn options_stand_before_between_and_behind_the_names(rt: HostRuntime) -> Result<
         &["plan", "--root", "spread", "c.json", "--memo", "q.sql"],
     ];
     for words in commands {
-        let (status, sink) = answered(&rt, words, PLAIN.as_bytes(), b"SELECT a FROM t")?;
-        assert_eq!(rt; sink.taken(), text.as_bytes());
-        assert_eq!(rt; status, Status::Planned);
+        let told = printed(
+            &rt,
+            words,
+            PLAIN.as_bytes(),
+            b"SELECT a FROM t",
+            Status::Planned,
+        )?;
+        assert_eq!(rt; told.as_str(), text.as_str());
     }
     Ok(())
 }
@@ -178,12 +199,8 @@ fn options_of_another_form_get_the_usage_line(rt: HostRuntime) -> Result<(), Fai
         &["one"],
     ];
     for options in others {
-        let mut words = Vec::new(rt.alloc());
-        words.extend_from_slice(&["plan", "c.json", "q.sql"])?;
-        words.extend_from_slice(options)?;
-        let (status, sink) = answered(&rt, &words, PLAIN.as_bytes(), b"SELECT a FROM t")?;
-        assert_eq!(rt; status, Status::Usage);
-        assert!(rt; sink.taken().starts_with(b"usage: orca plan CATALOG QUERY"));
+        let told = printed_with(&rt, options, PLAIN, "SELECT a FROM t", Status::Usage)?;
+        assert!(rt; told.starts_with("usage: orca plan CATALOG QUERY"));
     }
     Ok(())
 }
@@ -226,41 +243,54 @@ const RULES: [&str; 13] = [
     "PartialToHash",
 ];
 
+// Whether the query costs no less without these two rules, which may be one.
+fn costs_no_less_without<R: Threads + Wait + Sync + AllocGlobal>(
+    rt: &R,
+    query: &str,
+    first: &str,
+    second: &str,
+    least: u64,
+) -> Result<bool, Fail> {
+    let both = format!(in rt.alloc(); "{first}+{second}")?;
+    let off = if first == second {
+        first
+    } else {
+        both.as_str()
+    };
+    let words = [
+        "plan",
+        "c.json",
+        "q.sql",
+        "--capacity",
+        "4096",
+        "--off",
+        off,
+    ];
+    let (status, sink) = answered(rt, &words, JOINED_WITH_INDEXES.as_bytes(), query.as_bytes())?;
+    costs_no_less(status, sink.taken(), least)
+}
+
+// The cost of the least plan with all rules.
+fn least_cost<R: Threads + Wait + Sync + AllocGlobal>(rt: &R, query: &str) -> Result<u64, Fail> {
+    let catalog = JOINED_WITH_INDEXES.as_bytes();
+    let told = printed(rt, &PLAN_WORDS, catalog, query.as_bytes(), Status::Planned)?;
+    cost_of(told.as_bytes())
+}
+
 #[test]
 fn no_plan_costs_less_with_rules_off(rt: HostRuntime) -> Result<(), Fail> {
-    let alloc = rt.alloc();
-    let catalog = JOINED_WITH_INDEXES.as_bytes();
     for query in [
         "SELECT a FROM t ORDER BY b, a",
         "SELECT a FROM t WHERE a = 5 ORDER BY b",
         "SELECT a FROM t, u WHERE a = c ORDER BY a",
         "SELECT a FROM t, u WHERE a = d AND b < 3",
     ] {
-        let (status, sink) = planned(&rt, catalog, query.as_bytes())?;
-        let least = cost_of(sink.taken())?;
-        assert_eq!(rt; status, Status::Planned, "{query}");
+        let least = least_cost(&rt, query)?;
         assert!(rt; least > 0, "{query}");
         for (place, first) in RULES.iter().enumerate() {
             for second in &RULES[place..] {
-                let off = if first == second {
-                    String::from_str(alloc, first)?
-                } else {
-                    format!(in alloc; "{first}+{second}")?
-                };
-                let words = [
-                    "plan",
-                    "c.json",
-                    "q.sql",
-                    "--capacity",
-                    "4096",
-                    "--off",
-                    off.as_str(),
-                ];
-                let (status, sink) = answered(&rt, &words, catalog, query.as_bytes())?;
-                assert!(rt;
-                    costs_no_less(status, sink.taken(), least)?,
-                    "{query} {off}"
-                );
+                let no_less = costs_no_less_without(&rt, query, first, second, least)?;
+                assert!(rt; no_less, "{query} {first} {second}");
             }
         }
     }

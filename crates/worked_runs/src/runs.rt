@@ -27,14 +27,8 @@ pub fn shelf_of(alloc: Global, catalog: &[u8], query: &[u8]) -> Result<MemShelf,
     Ok(shelf)
 }
 
-// The status and the text of `plan c.json q.sql` over these two files.
-pub fn planned<R: Threads + Wait + Sync + AllocGlobal>(
-    rt: &R,
-    catalog: &[u8],
-    query: &[u8],
-) -> Result<(Status, MemSink), AllocError> {
-    answered(rt, &["plan", "c.json", "q.sql"], catalog, query)
-}
+/// The words of a plan of `q.sql` over `c.json`.
+pub const PLAN_WORDS: [&str; 3] = ["plan", "c.json", "q.sql"];
 
 // The status and the text of these words over the two files `c.json` and `q.sql`.
 pub fn answered<R: Threads + Wait + Sync + AllocGlobal>(
@@ -47,6 +41,31 @@ pub fn answered<R: Threads + Wait + Sync + AllocGlobal>(
     let mut sink = MemSink::with_room(rt.alloc(), 1 << 20)?;
     let (status, _) = run_over(rt, texts, &mut shelf, &mut sink)?;
     Ok((status, sink))
+}
+
+/// What the sink took, where the status is the one that is wanted; else a line that no run prints.
+pub fn text_at(
+    alloc: Global,
+    status: Status,
+    wanted: Status,
+    sink: &MemSink,
+) -> Result<String, Fail> {
+    if status != wanted {
+        return Ok(String::from_str(alloc, "another status")?);
+    }
+    Ok(String::from_str(alloc, str::from_utf8(sink.taken())?)?)
+}
+
+/// The text of these words over the two files, where they end with the status; else a line that no run prints.
+pub fn printed<R: Threads + Wait + Sync + AllocGlobal>(
+    rt: &R,
+    texts: &[&str],
+    catalog: &[u8],
+    query: &[u8],
+    wanted: Status,
+) -> Result<String, Fail> {
+    let (status, sink) = answered(rt, texts, catalog, query)?;
+    text_at(rt.alloc(), status, wanted, &sink)
 }
 
 // The status and the note of these words over a shelf and a sink.
@@ -62,19 +81,32 @@ pub fn run_over<R: Threads + Wait + Sync + AllocGlobal>(
     Ok((status, note.last()))
 }
 
-// The text after `query refused: ` or `catalog refused: `, over these two files.
-pub fn cause<R: Threads + Wait + Sync + AllocGlobal>(
-    rt: &R,
-    front: &str,
-    catalog: &[u8],
-    query: &[u8],
-) -> Result<(Status, String), Fail> {
-    let (status, sink) = planned(rt, catalog, query)?;
-    let line = str::from_utf8(sink.taken())?;
+// The line without this front and its end; the whole line, where it has another front.
+fn cause(alloc: Global, line: &str, front: &str) -> Result<String, AllocError> {
     let told = line
         .strip_prefix(front)
         .and_then(|rest| rest.strip_suffix("\n"));
-    Ok((status, String::from_str(rt.alloc(), told.unwrap_or(line))?))
+    String::from_str(alloc, told.unwrap_or(line))
+}
+
+/// Why the query of these two files is refused.
+pub fn query_fault<R: Threads + Wait + Sync + AllocGlobal>(
+    rt: &R,
+    catalog: &[u8],
+    query: &[u8],
+) -> Result<String, Fail> {
+    let line = printed(rt, &PLAN_WORDS, catalog, query, Status::QueryRefused)?;
+    Ok(cause(rt.alloc(), line.as_str(), "query refused: ")?)
+}
+
+/// Why the catalogue of these two files is refused.
+pub fn catalog_fault<R: Threads + Wait + Sync + AllocGlobal>(
+    rt: &R,
+    catalog: &[u8],
+    query: &[u8],
+) -> Result<String, Fail> {
+    let line = printed(rt, &PLAN_WORDS, catalog, query, Status::CatalogRefused)?;
+    Ok(cause(rt.alloc(), line.as_str(), "catalog refused: ")?)
 }
 
 // The status and the note of these words, over the two files `c.json` and `q.sql`.

@@ -1,5 +1,7 @@
 //! Plans of one table, refusals with their causes and places, and the greatest lengths of texts.
-use crate::runs::{JOIN, TWO_TABLES, answered, cause, planned, shelf_of, words_of};
+use crate::runs::{
+    PLAN_WORDS, TWO_TABLES, catalog_fault, printed, query_fault, shelf_of, words_of,
+};
 use command_line::{Command, read_command};
 use orca_cli::{RunNote, Status, orca_alone};
 use orca_io::{MemShelf, MemSink};
@@ -11,23 +13,23 @@ const CATALOG: &str =
 
 const QUERY: &str = "SELECT a FROM t ORDER BY a";
 
-const PLAN: [&str; 5] = [
-    "cost 5253\n",
-    "output t.a\n",
-    "GatherMerge(t.a) rows=1000 cost=3001\n",
-    "  Sort(t.a) rows=1000 cost=2001\n",
-    "    Scan(t) rows=1000 cost=251\n",
-];
+const SORTED: &str = "cost 5253
+output t.a
+GatherMerge(t.a) rows=1000 cost=3001
+  Sort(t.a) rows=1000 cost=2001
+    Scan(t) rows=1000 cost=251
+";
 
 #[test]
 fn prints_the_least_plan_of_one_table(rt: HostRuntime) -> Result<(), Fail> {
-    let (status, sink) = planned(&rt, CATALOG.as_bytes(), QUERY.as_bytes())?;
-    let mut text = String::new(rt.alloc());
-    for line in PLAN {
-        text.push_str(line)?;
-    }
-    assert_eq!(rt; status, Status::Planned);
-    assert_eq!(rt; sink.taken(), text.as_bytes());
+    let told = printed(
+        &rt,
+        &PLAN_WORDS,
+        CATALOG.as_bytes(),
+        QUERY.as_bytes(),
+        Status::Planned,
+    )?;
+    assert_eq!(rt; told.as_str(), SORTED);
     Ok(())
 }
 
@@ -64,9 +66,14 @@ fn prints_the_least_plan_of_each_query(rt: HostRuntime) -> Result<(), Fail> {
             "cost 505\noutput t.a\nGather rows=1 cost=3\n  Filter(t) rows=1 cost=251\n    Scan(t) rows=1000 cost=251\n",
         ),
     ] {
-        let (status, sink) = planned(&rt, catalog.as_bytes(), query.as_bytes())?;
-        assert_eq!(rt; status, Status::Planned, "{query}");
-        assert_eq!(rt; sink.taken(), text.as_bytes(), "{query}");
+        let told = printed(
+            &rt,
+            &PLAN_WORDS,
+            catalog.as_bytes(),
+            query.as_bytes(),
+            Status::Planned,
+        )?;
+        assert_eq!(rt; told.as_str(), text, "{query}");
     }
     Ok(())
 }
@@ -83,9 +90,14 @@ fn prints_the_memo_where_it_is_asked_for(rt: HostRuntime) -> Result<(), Fail> {
         &["plan", "c.json", "q.sql", "--memo"],
     ];
     for words in commands {
-        let (status, sink) = answered(&rt, words, empty.as_bytes(), b"SELECT a FROM t")?;
-        assert_eq!(rt; status, Status::Planned);
-        assert_eq!(rt; sink.taken(), text.as_bytes());
+        let told = printed(
+            &rt,
+            words,
+            empty.as_bytes(),
+            b"SELECT a FROM t",
+            Status::Planned,
+        )?;
+        assert_eq!(rt; told.as_str(), text);
     }
     Ok(())
 }
@@ -97,84 +109,69 @@ fn prints_the_trace_behind_the_memo(rt: HostRuntime) -> Result<(), Fail> {
     let text =
         "cost 2\noutput t.a\nGather rows=0 cost=1\n  Scan(t) rows=0 cost=1\nmemo groups=1 members=2\ngroup Get(t) rows=0\n  Get(t)\n  Scan(t)\ntrace goals=8 exp=1 expe=1 xf=1 imp=1 impe=1 opt=2 opte=1\nExp Get(t)\n  ExpE Get(t)\nExpE Get(t)\nXf GetToScan Get(t)\nImp Get(t)\n  Exp Get(t)\n  ImpE Get(t)\nImpE Get(t)\n  Xf GetToScan Get(t)\nOpt Get(t) [One]\n  Imp Get(t)\n  Opt Get(t) [Spread]\nOpt Get(t) [Spread]\n  Imp Get(t)\n  OptE Scan(t) [Spread]\nOptE Scan(t) [Spread]\n";
     let words = ["plan", "--trace", "c.json", "q.sql", "--memo"];
-    let (status, sink) = answered(&rt, &words, empty.as_bytes(), b"SELECT a FROM t")?;
-    assert_eq!(rt; status, Status::Planned);
-    assert_eq!(rt; sink.taken(), text.as_bytes());
+    let told = printed(
+        &rt,
+        &words,
+        empty.as_bytes(),
+        b"SELECT a FROM t",
+        Status::Planned,
+    )?;
+    assert_eq!(rt; told.as_str(), text);
     Ok(())
 }
+
+// In each line a query over the two tables, and why it is refused.
+const REFUSED_OVER_TWO: &str = "SELECT T1.z FROM T1 | unknown column at 7
+SELECT a FROM T1, T2 | ambiguous column at 7
+SELECT T2.b FROM T2 GROUP BY T2.a | not grouped at 7
+SELECT T1.a FROM T1, T2 AS T1 | name twice at 27
+SELECT x FROM T9 | unknown table at 14
+SELECT a FROM T1 WHERE a = 'x | token at 27
+SELECT a FROM t,t,t,t,t,t,t,t,t,t,t | too many tables at 34
+ | grammar at 0
+; | grammar at 0
+";
+
+// The same over the one table.
+const REFUSED_OVER_ONE: &str = "SELECT a FROM t, t u | ambiguous column at 7
+SELECT a FROM t WHERE a = 9223372036854775808 | token at 26
+SELECT a FROM t WHERE a = -9223372036854775808 | token at 26
+SELECT a FROM t WHERE a = 5x | token at 26
+SELECT \u{c3} FROM t | not ASCII at 7
+SELECT a\0 FROM t | token at 8
+SELECT a FROM t;; | grammar at 16
+SELECT a FROM t GROUP | grammar at 21
+SELECT COUNT(*) FROM t WHERE | grammar at 28
+SELECT a FROM t WHERE 5 = a | grammar at 22
+SELECT a b FROM t | grammar at 9
+SELECT a FROM t ORDER BY a, a, a, a, a, a, a, a, a | too many order keys at 49
+SELECT a FROM t GROUP BY a, a, a, a, a, a, a, a, a | too many group columns at 49
+";
+
+// The same over no table.
+const REFUSED_OVER_NONE: &str = "SELECT a FROM t | unknown table at 14
+";
 
 #[test]
 fn a_refused_query_is_told_with_its_cause(rt: HostRuntime) -> Result<(), Fail> {
     let none = r#"{"version":1,"segments":4,"tables":[]}"#;
-    for (catalog, query, told) in [
-        (TWO_TABLES, "SELECT T1.z FROM T1", "unknown column at 7"),
-        (TWO_TABLES, "SELECT a FROM T1, T2", "ambiguous column at 7"),
-        (
-            TWO_TABLES,
-            "SELECT T2.b FROM T2 GROUP BY T2.a",
-            "not grouped at 7",
-        ),
-        (
-            TWO_TABLES,
-            "SELECT T1.a FROM T1, T2 AS T1",
-            "name twice at 27",
-        ),
-        (TWO_TABLES, "SELECT x FROM T9", "unknown table at 14"),
-        (TWO_TABLES, "SELECT a FROM T1 WHERE a = 'x", "token at 27"),
-        (
-            TWO_TABLES,
-            "SELECT a FROM t,t,t,t,t,t,t,t,t,t,t",
-            "too many tables at 34",
-        ),
-        (TWO_TABLES, "", "grammar at 0"),
-        (TWO_TABLES, ";", "grammar at 0"),
-        (CATALOG, "SELECT a FROM t, t u", "ambiguous column at 7"),
-        (
-            CATALOG,
-            "SELECT a FROM t WHERE a = 9223372036854775808",
-            "token at 26",
-        ),
-        (
-            CATALOG,
-            "SELECT a FROM t WHERE a = -9223372036854775808",
-            "token at 26",
-        ),
-        (CATALOG, "SELECT a FROM t WHERE a = 5x", "token at 26"),
-        (CATALOG, "SELECT \u{c3} FROM t", "not ASCII at 7"),
-        (CATALOG, "SELECT a\0 FROM t", "token at 8"),
-        (CATALOG, "SELECT a FROM t;;", "grammar at 16"),
-        (CATALOG, "SELECT a FROM t GROUP", "grammar at 21"),
-        (CATALOG, "SELECT COUNT(*) FROM t WHERE", "grammar at 28"),
-        (CATALOG, "SELECT a FROM t WHERE 5 = a", "grammar at 22"),
-        (CATALOG, "SELECT a b FROM t", "grammar at 9"),
-        (
-            CATALOG,
-            "SELECT a FROM t ORDER BY a, a, a, a, a, a, a, a, a",
-            "too many order keys at 49",
-        ),
-        (
-            CATALOG,
-            "SELECT a FROM t GROUP BY a, a, a, a, a, a, a, a, a",
-            "too many group columns at 49",
-        ),
-        (none, "SELECT a FROM t", "unknown table at 14"),
+    for (catalog, lines) in [
+        (TWO_TABLES, REFUSED_OVER_TWO),
+        (CATALOG, REFUSED_OVER_ONE),
+        (none, REFUSED_OVER_NONE),
     ] {
-        let (status, line) = cause(&rt, "query refused: ", catalog.as_bytes(), query.as_bytes())?;
-        assert_eq!(rt; status, Status::QueryRefused, "{query}");
-        assert_eq!(rt; line.as_str(), told, "{query}");
+        for line in lines.lines() {
+            let (query, want) = line.split_once(" | ").ok_or("a line has two parts")?;
+            let told = query_fault(&rt, catalog.as_bytes(), query.as_bytes())?;
+            assert_eq!(rt; told.as_str(), want, "{query}");
+        }
     }
     Ok(())
 }
 
 #[test]
 fn a_query_that_is_no_text_is_refused_at_its_byte(rt: HostRuntime) -> Result<(), Fail> {
-    let (status, line) = cause(
-        &rt,
-        "query refused: ",
-        CATALOG.as_bytes(),
-        b"SELECT \xc3 FROM t",
-    )?;
-    assert_eq!(rt; status, Status::QueryRefused);
+    let line = query_fault(&rt, CATALOG.as_bytes(), b"SELECT \xc3 FROM t")?;
     assert_eq!(rt; line.as_str(), "not ASCII at 7");
     Ok(())
 }
@@ -194,9 +191,8 @@ fn a_refused_catalog_is_told_with_its_cause(rt: HostRuntime) -> Result<(), Fail>
         ),
     ];
     for (catalog, told) in cases {
-        let (status, line) = cause(&rt, "catalog refused: ", catalog, QUERY.as_bytes())?;
-        assert_eq!(rt; status, Status::CatalogRefused, "{told}");
-        assert_eq!(rt; line.as_str(), told);
+        let line = catalog_fault(&rt, catalog, QUERY.as_bytes())?;
+        assert_eq!(rt; line.as_str(), told, "{told}");
     }
     Ok(())
 }
@@ -210,8 +206,7 @@ fn a_catalog_nests_at_most_127_levels(rt: HostRuntime) -> Result<(), Fail> {
     deep.extend_from_slice(&closed)?;
     deep.extend_from_slice(b",\"version\":1,\"segments\":4,\"tables\":[]}")?;
     for catalog in [opened, deep] {
-        let (status, line) = cause(&rt, "catalog refused: ", &catalog, QUERY.as_bytes())?;
-        assert_eq!(rt; status, Status::CatalogRefused);
+        let line = catalog_fault(&rt, &catalog, QUERY.as_bytes())?;
         assert_eq!(rt; line.as_str(), "not JSON");
     }
     Ok(())
@@ -220,13 +215,12 @@ fn a_catalog_nests_at_most_127_levels(rt: HostRuntime) -> Result<(), Fail> {
 #[test]
 fn a_catalog_has_at_most_a_mebibyte(rt: HostRuntime) -> Result<(), Fail> {
     let over = vec![in rt.alloc(); b' '; 1_048_577]?;
-    let (status, line) = cause(&rt, "catalog refused: ", &over, QUERY.as_bytes())?;
-    assert_eq!(rt; status, Status::CatalogRefused);
+    let line = catalog_fault(&rt, &over, QUERY.as_bytes())?;
     assert_eq!(rt; line.as_str(), "too long");
     let mut most = vec![in rt.alloc(); b' '; 1_048_576 - CATALOG.len()]?;
     most.extend_from_slice(CATALOG.as_bytes())?;
-    let (status, _) = planned(&rt, &most, QUERY.as_bytes())?;
-    assert_eq!(rt; status, Status::Planned);
+    let told = printed(&rt, &PLAN_WORDS, &most, QUERY.as_bytes(), Status::Planned)?;
+    assert_eq!(rt; told.as_str(), SORTED);
     Ok(())
 }
 
@@ -260,14 +254,8 @@ fn one_change_of_a_catalog_is_told_at_its_place(rt: HostRuntime) -> Result<(), F
         ),
     ] {
         let catalog = TWO_TABLES.replacen(rt.alloc(), old, new, 1)?;
-        let (status, line) = cause(
-            &rt,
-            "catalog refused: ",
-            catalog.as_bytes(),
-            QUERY.as_bytes(),
-        )?;
-        assert_eq!(rt; status, Status::CatalogRefused, "{new}");
-        assert_eq!(rt; line.as_str(), told);
+        let line = catalog_fault(&rt, catalog.as_bytes(), QUERY.as_bytes())?;
+        assert_eq!(rt; line.as_str(), told, "{new}");
     }
     Ok(())
 }
@@ -275,13 +263,7 @@ fn one_change_of_a_catalog_is_told_at_its_place(rt: HostRuntime) -> Result<(), F
 #[test]
 fn each_proper_prefix_of_a_catalog_is_refused(rt: HostRuntime) -> Result<(), Fail> {
     for length in 0..TWO_TABLES.len() {
-        let (status, line) = cause(
-            &rt,
-            "catalog refused: ",
-            &TWO_TABLES.as_bytes()[..length],
-            QUERY.as_bytes(),
-        )?;
-        assert_eq!(rt; status, Status::CatalogRefused);
+        let line = catalog_fault(&rt, &TWO_TABLES.as_bytes()[..length], QUERY.as_bytes())?;
         assert_eq!(rt; line.as_str(), "not JSON");
     }
     Ok(())
@@ -290,13 +272,12 @@ fn each_proper_prefix_of_a_catalog_is_refused(rt: HostRuntime) -> Result<(), Fai
 #[test]
 fn a_query_has_at_most_64_kibibytes(rt: HostRuntime) -> Result<(), Fail> {
     let over = vec![in rt.alloc(); b' '; 65_537]?;
-    let (status, line) = cause(&rt, "query refused: ", CATALOG.as_bytes(), &over)?;
-    assert_eq!(rt; status, Status::QueryRefused);
+    let line = query_fault(&rt, CATALOG.as_bytes(), &over)?;
     assert_eq!(rt; line.as_str(), "too long");
     let mut most = vec![in rt.alloc(); b' '; 65_536 - QUERY.len()]?;
     most.extend_from_slice(QUERY.as_bytes())?;
-    let (status, _) = planned(&rt, CATALOG.as_bytes(), &most)?;
-    assert_eq!(rt; status, Status::Planned);
+    let told = printed(&rt, &PLAN_WORDS, CATALOG.as_bytes(), &most, Status::Planned)?;
+    assert_eq!(rt; told.as_str(), SORTED);
     Ok(())
 }
 
@@ -313,12 +294,14 @@ fn other_words_get_the_usage_line(rt: HostRuntime) -> Result<(), Fail> {
         &["plan", "c.json", "q.sql", "--workers", "0"],
     ];
     for texts in others {
-        let (status, sink) = answered(&rt, texts, CATALOG.as_bytes(), QUERY.as_bytes())?;
-        assert_eq!(rt; status, Status::Usage);
-        assert!(rt;
-            sink.taken()
-                .starts_with(b"usage: orca plan CATALOG QUERY [--workers N]")
-        );
+        let told = printed(
+            &rt,
+            texts,
+            CATALOG.as_bytes(),
+            QUERY.as_bytes(),
+            Status::Usage,
+        )?;
+        assert!(rt; told.starts_with("usage: orca plan CATALOG QUERY [--workers N]"));
     }
     Ok(())
 }
