@@ -1,5 +1,6 @@
 // What no clause says: that calls succeed where memory is there, and what the host's calls answer.
 use super::*;
+use std::alloc::{AllocError, Global};
 use std::fmt::Display;
 use std::io::ErrorKind;
 use std::test::Fail;
@@ -9,6 +10,18 @@ const FOLDER: &str = "orca_io_test";
 
 const FILE: &str = "orca_io_test/file";
 
+// Whether a read of the file is answered so, and leaves these bytes.
+fn reads<S: Shelf>(
+    shelf: &mut S,
+    name: &str,
+    limit: u64,
+    into: &mut Vec<u8>,
+    want: Result<(), ShelfError>,
+    bytes: &str,
+) -> bool {
+    shelf.read_all(name, limit, into) == want && into.as_slice() == bytes.as_bytes()
+}
+
 #[test]
 fn a_file_is_read_whole_or_refused(rt: HostRuntime) -> Result<(), Fail> {
     // What a run that was stopped may have left.
@@ -17,22 +30,16 @@ fn a_file_is_read_whole_or_refused(rt: HostRuntime) -> Result<(), Fail> {
     fs::write(&rt, FILE, "three")?;
     let mut shelf = FileShelf::new(&rt);
     let mut into = b"old ".as_slice().to_vec(rt.alloc())?;
-    for (name, limit, want) in [
-        (FILE, 4, Err(ShelfError::TooLong { seen: 5 })),
-        (FILE, 0, Err(ShelfError::TooLong { seen: 1 })),
-        ("orca_io_test/missing", 9, Err(ShelfError::Failed)),
-        (FOLDER, 9, Err(ShelfError::Failed)),
+    for (name, limit, want, bytes) in [
+        (FILE, 4, Err(ShelfError::TooLong { seen: 5 }), "old "),
+        (FILE, 0, Err(ShelfError::TooLong { seen: 1 }), "old "),
+        ("orca_io_test/missing", 9, Err(ShelfError::Failed), "old "),
+        (FOLDER, 9, Err(ShelfError::Failed), "old "),
+        (FILE, 5, Ok(()), "old three"),
+        (FILE, u64::MAX, Ok(()), "old threethree"),
     ] {
-        assert_eq!(rt;
-            shelf.read_all(name, limit, &mut into),
-            want,
-            "{name} {limit}"
-        );
-        assert_eq!(rt; into.as_slice(), b"old ".as_slice(), "{name} {limit}");
-    }
-    for (limit, want) in [(5, "old three"), (u64::MAX, "old threethree")] {
-        assert_eq!(rt; shelf.read_all(FILE, limit, &mut into), Ok(()), "{limit}");
-        assert_eq!(rt; into.as_slice(), want.as_bytes(), "{limit}");
+        let told = reads(&mut shelf, name, limit, &mut into, want, bytes);
+        assert!(rt; told, "{name} {limit}");
     }
     fs::remove_dir_all(&rt, FOLDER)?;
     Ok(())
@@ -71,14 +78,20 @@ fn standard_output_takes_lines_unless_it_is_closed(rt: HostRuntime) {
     assert_eq!(rt; closed.put(&[b'.'; 8193]), Err(SinkError::Failed));
 }
 
-#[test]
-fn the_shelf_in_memory_answers_as_told(rt: HostRuntime) -> Result<(), Fail> {
-    let alloc = rt.alloc();
+// A full file and an empty one, where the second call fails.
+fn shelf_of_two(alloc: Global) -> Result<MemShelf, AllocError> {
     let mut shelf = MemShelf::new(alloc);
     shelf.put_file("full", b"old")?;
     shelf.put_file("full", b"abc")?;
     shelf.put_file("empty", b"")?;
     shelf.fail_at(1)?;
+    Ok(shelf)
+}
+
+#[test]
+fn the_shelf_in_memory_answers_as_told(rt: HostRuntime) -> Result<(), Fail> {
+    let alloc = rt.alloc();
+    let mut shelf = shelf_of_two(alloc)?;
     let mut into = Vec::new(alloc);
     for (name, limit, want, bytes) in [
         ("full", 3, Ok(()), "abc"),
@@ -88,21 +101,28 @@ fn the_shelf_in_memory_answers_as_told(rt: HostRuntime) -> Result<(), Fail> {
         ("empty", 0, Ok(()), "abc"),
         ("full", 4, Ok(()), "abcabc"),
     ] {
-        assert_eq!(rt;
-            shelf.read_all(name, limit, &mut into),
-            want,
-            "{name} {limit}"
-        );
-        assert_eq!(rt; into.as_slice(), bytes.as_bytes(), "{name} {limit}");
+        let told = reads(&mut shelf, name, limit, &mut into, want, bytes);
+        assert!(rt; told, "{name} {limit}");
     }
     Ok(())
 }
 
-#[test]
-fn the_sink_in_memory_answers_as_told(rt: HostRuntime) -> Result<(), Fail> {
-    let mut sink = MemSink::with_room(rt.alloc(), 5)?;
+// A sink with room for five bytes, whose second call takes two bytes and fails, and whose fourth takes all and fails.
+fn failing_sink(alloc: Global) -> Result<MemSink, AllocError> {
+    let mut sink = MemSink::with_room(alloc, 5)?;
     sink.fail_at(1, 2)?;
     sink.fail_at(3, 9)?;
+    Ok(sink)
+}
+
+// Whether a put of the piece is answered so, and the sink then has taken these bytes.
+fn puts(sink: &mut MemSink, piece: &str, want: Result<(), SinkError>, taken: &str) -> bool {
+    sink.put(piece.as_bytes()) == want && sink.taken() == taken.as_bytes()
+}
+
+#[test]
+fn the_sink_in_memory_answers_as_told(rt: HostRuntime) -> Result<(), Fail> {
+    let mut sink = failing_sink(rt.alloc())?;
     for (piece, want, taken) in [
         ("ab", Ok(()), "ab"),
         ("cde", Err(SinkError::Failed), "abcd"),
@@ -110,8 +130,7 @@ fn the_sink_in_memory_answers_as_told(rt: HostRuntime) -> Result<(), Fail> {
         ("e", Err(SinkError::Failed), "abcde"),
         ("", Ok(()), "abcde"),
     ] {
-        assert_eq!(rt; sink.put(piece.as_bytes()), want, "{piece}");
-        assert_eq!(rt; sink.taken(), taken.as_bytes(), "{piece}");
+        assert!(rt; puts(&mut sink, piece, want, taken), "{piece}");
     }
     Ok(())
 }
