@@ -126,6 +126,20 @@ fn put_by_two<R: GoalRules>(
     )
 }
 
+// Whether the cells in ascending order are the members and then the goals.
+fn are_those(
+    alloc: Global,
+    cells: &[u64],
+    members: &[u64],
+    goals: &[u64],
+) -> Result<bool, AllocError> {
+    let mut cells = Vec::from_slice(alloc, cells)?;
+    cells.sort()?;
+    let mut entries = Vec::from_slice(alloc, members)?;
+    entries.extend_from_slice(goals)?;
+    Ok(cells.as_slice() == entries.as_slice())
+}
+
 #[test]
 fn two_threads_put_each_entry_of_a_query_once(rt: HostRuntime) -> Result<(), Fail> {
     let alloc = rt.alloc();
@@ -143,10 +157,7 @@ fn two_threads_put_each_entry_of_a_query_once(rt: HostRuntime) -> Result<(), Fai
     assert_eq!(rt; new_members, 13);
     assert_eq!(rt; new_goals, 66);
     let closed = board.close(alloc, seat)?;
-    let mut cells = Vec::from_slice(alloc, closed.cells.as_slice())?;
-    cells.sort()?;
-    let mut entries = Vec::from_slice(alloc, members.as_slice())?;
-    entries.extend_from_slice(goals.as_slice())?;
-    assert_eq!(rt; cells.as_slice(), entries.as_slice());
+    let cells = closed.cells.as_slice();
+    assert!(rt; are_those(alloc, cells, members.as_slice(), goals.as_slice())?);
     Ok(())
 }

@@ -159,36 +159,76 @@ fn step_until_end<'q>(engine: &Engine<'q>, worker: &mut Worker<Rules<'q>>, most:
     told
 }
 
+// What one worker finds, with room for so many entries.
+fn find_alone(alloc: Global, query: &Query, props: &Props, cap: u32) -> Result<Outcome, AllocError>
+    requires props { IsProps query.now props.now }
+    requires capacity { (1 ≤ cap) × (cap ≤ 2 ^ 20) }
+{
+    let (engine, worker) = Engine::start(alloc, query, props, cap)?;
+    run_alone(alloc, engine, worker, &mut RunNote::new())
+}
+
+// Whether three workers agree, and find in 79 cells what one worker finds.
+fn ends_as_alone(
+    alloc: Global,
+    query: &Query,
+    props: &Props,
+    alone: &Outcome,
+    number: u64,
+) -> Result<bool, AllocError>
+    requires { IsProps query.now props.now }
+{
+    let (agree, outcome) = search_by_draws(alloc, query, props, 79, number)?;
+    Ok(agree && found_alike(alone, &outcome))
+}
+
+// Whether three workers agree that 78 cells are full.
+fn ends_full(alloc: Global, query: &Query, props: &Props, number: u64) -> Result<bool, AllocError>
+    requires { IsProps query.now props.now }
+{
+    let (agree, outcome) = search_by_draws(alloc, query, props, 78, number)?;
+    Ok(agree && matches!(&outcome, Outcome::Full { cap: 78 }))
+}
+
 #[test]
 fn a_hundred_orders_of_three_workers_end_alike(rt: HostRuntime) -> Result<(), Fail> {
-    let alloc = rt.alloc();
-    let query = two_tables(alloc)?;
-    let props = props_of(alloc, &query)?;
-    let (engine, worker) = Engine::start(alloc, &query, &props, 131_072)?;
-    let alone = run_alone(alloc, engine, worker, &mut RunNote::new())?;
+    let query = Box::new(rt.alloc(), two_tables(rt.alloc())?)?;
+    let props = props_of(rt.alloc(), &query)?;
+    let alone = find_alone(rt.alloc(), &query, &props, 131_072)?;
     for number in 0..100 {
-        let (agree, outcome) = search_by_draws(alloc, &query, &props, 79, number)?;
-        assert!(rt; agree && found_alike(&alone, &outcome), "{number}");
-        let (agree, outcome) = search_by_draws(alloc, &query, &props, 78, number)?;
         assert!(rt;
-            agree && matches!(outcome, Outcome::Full { cap: 78 }),
+            ends_as_alone(rt.alloc(), &query, &props, &alone, number)?,
             "{number}"
         );
+        assert!(rt; ends_full(rt.alloc(), &query, &props, number)?, "{number}");
     }
     Ok(())
 }
 
+// Whether the first worker comes to the end and finds what it finds alone, where the second stops so.
+fn ends_past_one_step(
+    alloc: Global,
+    query: &Query,
+    props: &Props,
+    alone: &Outcome,
+    before: u32,
+) -> Result<bool, AllocError>
+    requires { IsProps query.now props.now }
+{
+    let (told, outcome) = search_past_one_step(alloc, query, props, before)?;
+    Ok(told == Stepped::Done && found_alike(alone, &outcome))
+}
+
 #[test]
 fn a_worker_that_stops_keeps_nobody_waiting(rt: HostRuntime) -> Result<(), Fail> {
-    let alloc = rt.alloc();
-    let query = two_tables(alloc)?;
-    let props = props_of(alloc, &query)?;
-    let (engine, worker) = Engine::start(alloc, &query, &props, 79)?;
-    let alone = run_alone(alloc, engine, worker, &mut RunNote::new())?;
+    let query = Box::new(rt.alloc(), two_tables(rt.alloc())?)?;
+    let props = props_of(rt.alloc(), &query)?;
+    let alone = find_alone(rt.alloc(), &query, &props, 79)?;
     for before in 0..150 {
-        let (told, outcome) = search_past_one_step(alloc, &query, &props, before)?;
-        assert_eq!(rt; told, Stepped::Done, "{before}");
-        assert!(rt; found_alike(&alone, &outcome), "{before}");
+        assert!(rt;
+            ends_past_one_step(rt.alloc(), &query, &props, &alone, before)?,
+            "{before}"
+        );
     }
     Ok(())
 }
