@@ -116,6 +116,31 @@ fn both_least(
     }
 }
 
+// The same of a query that nothing else needs.
+fn both_least_of(
+    alloc: Global,
+    query: Query,
+    most: usize,
+) -> Result<(Option<Ranked>, Option<Ranked>), Fail> {
+    let props = Box::new(alloc, Props::collect(alloc, &query)?)?;
+    both_least(alloc, &query, &props, most)
+}
+
+// The same of a text over tables.
+fn both_of(
+    alloc: Global,
+    segments: u32,
+    tables: &str,
+    text: &str,
+    options: Options,
+    most: usize,
+) -> Result<(Option<Ranked>, Option<Ranked>), Fail> {
+    match query_of(alloc, segments, tables, text, options)? {
+        Some(query) => both_least_of(alloc, query, most),
+        None => Err(Fail::new("the query is refused")),
+    }
+}
+
 fn cost_of(least: &Option<Ranked>) -> Option<u64> {
     match least {
         Some(ranked) => Some(ranked.cost),
@@ -258,16 +283,12 @@ fn the_least_plan_is_the_least_of_all(rt: HostRuntime) -> Result<(), Fail> {
     ];
     for segments in [1u32, 4] {
         for (tables, text, options, most, costs) in cases {
-            match query_of(rt.alloc(), segments, tables, text, options)? {
-                Some(query) => {
-                    let props = Props::collect(rt.alloc(), &query)?;
-                    let (least, of_all) = both_least(rt.alloc(), &query, &props, most)?;
-                    let cost = if segments == 1 { costs.0 } else { costs.1 };
-                    assert_eq!(rt; cost_of(&least), cost, "{segments} {text}");
-                    assert!(rt; least == of_all, "{segments} {text}");
-                }
-                None => assert!(rt; false, "{text}"),
-            }
+            let cost = if segments == 1 { costs.0 } else { costs.1 };
+            let (least, of_all) = both_of(rt.alloc(), segments, tables, text, options, most)?;
+            assert!(rt;
+                cost_of(&least) == cost && least == of_all,
+                "{segments} {text}"
+            );
         }
     }
     Ok(())
@@ -286,18 +307,12 @@ fn agrees_without(
         root: RootDist::One,
         off,
     };
-    match query_of(alloc, 4, tables, text, options)? {
-        Some(query) => {
-            let props = Props::collect(alloc, &query)?;
-            let (found, listed) = both_least(alloc, &query, &props, most)?;
-            let costs_no_less = match &found {
-                Some(ranked) => ranked.cost >= least,
-                None => true,
-            };
-            Ok(costs_no_less && found == listed)
-        }
-        None => Ok(false),
-    }
+    let (found, listed) = both_of(alloc, 4, tables, text, options, most)?;
+    let costs_no_less = match &found {
+        Some(ranked) => ranked.cost >= least,
+        None => true,
+    };
+    Ok(costs_no_less && found == listed)
 }
 
 // Each case has the greatest number of nodes that are listed, and the cost with all rules on.
