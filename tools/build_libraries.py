@@ -9,8 +9,10 @@ that is wrong, as after a change of the toolchain, the build of the crate itself
 """
 
 import os
+import shutil
 import subprocess
 import sys
+import tempfile
 from concurrent.futures import FIRST_COMPLETED, ThreadPoolExecutor, wait
 
 TOP = os.path.dirname(os.path.dirname(os.path.abspath(__file__)))
@@ -55,12 +57,48 @@ def is_current(crate, below):
     return all(newest_source(it) <= built for it in {crate, *below})
 
 
-def build(crate, jobs):
-    """The status of the library's build, and what it said."""
-    print(f"building {crate}", flush=True)
-    folder = os.path.join(TOP, "crates", crate)
-    done = subprocess.run(["rt", "lib", "--jobs", str(jobs)], cwd=folder, stdin=subprocess.DEVNULL,
-                          stdout=subprocess.PIPE, stderr=subprocess.STDOUT, text=True, errors="replace")
+def link(one, other):
+    """Another name for the file, or a copy of it on another file system."""
+    try:
+        os.link(one, other)
+    except OSError:
+        shutil.copy2(one, other)
+
+
+def take(crate, parts, copy):
+    """Gives the copy of the repository these folders of a crate."""
+    for part in parts:
+        whole = os.path.join(TOP, "crates", crate, part)
+        if os.path.isdir(whole):
+            shutil.copytree(whole, os.path.join(copy, "crates", crate, part), copy_function=link)
+
+
+def lines_of(crates):
+    """The lines of crates.txt for these crates."""
+    with open(os.path.join(TOP, "crates.txt")) as file:
+        return [line for line in file if line.partition("#")[0].partition(":")[0].split()[:1] in [[it] for it in crates]]
+
+
+def build(crate, below, jobs, yields):
+    """The status of the library's build, and what it said; whether it yields to builds that don't. It is built in a copy of the crates that it stands on: `rt lib`
+    holds the folders of all of them while it works, so two builds in one folder would wait for each other."""
+    print(f"building {crate}\n", end="", flush=True)
+    with tempfile.TemporaryDirectory(prefix="orca-build-") as copy:
+        with open(os.path.join(copy, "crates.txt"), "w") as file:
+            file.writelines(lines_of([*below, crate]))
+        for it in below:
+            take(it, ["src", "specs", "proofs", "out/rlib"], copy)
+        folder = os.path.join(copy, "crates", crate)
+        os.makedirs(folder)
+        take(crate, ["src", "specs", "proofs", "out/incremental"], copy)
+        done = subprocess.run([*["nice"] * yields, "rt", "lib", "--jobs", str(jobs)], cwd=folder, text=True,
+                              stdin=subprocess.DEVNULL, stdout=subprocess.PIPE, stderr=subprocess.STDOUT,
+                              errors="replace")
+        for part in ["out/rlib", "out/incremental"] if done.returncode == 0 else []:
+            made, kept = os.path.join(folder, part), os.path.join(TOP, "crates", crate, part)
+            if os.path.isdir(made):
+                shutil.rmtree(kept, ignore_errors=True)
+                shutil.move(made, kept)
     return done.returncode, done.stdout
 
 
@@ -68,16 +106,17 @@ def build_all(below):
     """Whether all were built. Of those that can begin, the one that most others stand on comes first."""
     above = {crate: sum(crate in others for others in below.values()) for crate in below}
     built, running, failed = {crate for crate in below if is_current(crate, below[crate])}, {}, False
-    at_once = max(PROCESSORS // 2, 1)
-    with ThreadPoolExecutor(at_once) as pool:
+    with ThreadPoolExecutor(PROCESSORS) as pool:
         while running or (not failed and len(built) < len(below)):
             begun = built.union(running.values())
             ready = [crate for crate in below if crate not in begun and below[crate] <= built]
             ready.sort(key=above.get, reverse=True)
-            for crate in [] if failed else ready[:at_once - len(running)]:
-                # (a library that nothing can be built beside gets all processors)
+            for crate in [] if failed else ready[:PROCESSORS - len(running)]:
+                # (a build with two jobs is rarely at work with both; one that nothing can be built beside gets more)
                 alone = len(ready) == 1 and not running
-                running[pool.submit(build, crate, PROCESSORS if alone else min(PROCESSORS, 2))] = crate
+                jobs = PROCESSORS if alone else min(PROCESSORS, 2)
+                yields = any(above[it] > above[crate] for it in running.values())
+                running[pool.submit(build, crate, below[crate], jobs, yields)] = crate
             for future in wait(running, return_when=FIRST_COMPLETED).done:
                 crate = running.pop(future)
                 status, said = future.result()

@@ -38,7 +38,7 @@ expect() {
 make_checkout 'echo "a proof is open"; exit 1'
 expect "a build that fails at a crate starts no stale program" 125 "" "a proof is open"
 
-make_checkout 'pwd | sed "s,.*/,," >> ../../order; [ "$1" = lib ] && exit 0; echo built: $(cat ../../order); exit 1'
+make_checkout 'at=${0%/bin/rt}; pwd | sed "s,.*/,," >> "$at/order"; [ "$1" = lib ] && exit 0; echo built: $(cat "$at/order"); exit 1'
 expect "the libraries below the program are built in order before it, and no other" 125 "" "built: low high orca"
 
 make_checkout 'case $PWD in */low) exit 0;; */high) echo "high has an open proof"; exit 1;; esac; echo "went on"; exit 0'
