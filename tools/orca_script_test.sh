@@ -41,6 +41,19 @@ expect "a build that fails at a crate starts no stale program" 125 "" "a proof i
 make_checkout 'at=${0%/bin/rt}; pwd | sed "s,.*/,," >> "$at/order"; [ "$1" = lib ] && exit 0; echo built: $(cat "$at/order"); exit 1'
 expect "the libraries below the program are built in order before it, and no other" 125 "" "built: low high orca"
 
+# (as the real command, it holds the folder of the crate below; each of the two waits for the other to begin)
+make_checkout 'at=${0%/bin/rt}; here=$(basename "$PWD")
+case "$1 $here" in
+  "lib low") exit 0;;
+  lib*) exec 9< ../low/src; flock 9; touch "$at/$here"
+    for i in 1 2 3 4 5 6 7 8 9 10; do [ -e "$at/high" ] && [ -e "$at/beside" ] && exit 0; sleep 0.3; done
+    echo "$here was built alone"; exit 1;;
+esac
+echo "the two were built side by side"; exit 1'
+printf '%s\n' "orca: high beside" "low:" "high: low" "beside: low" > "$checkout/crates.txt"
+mkdir "$checkout/crates/low/src"
+expect "libraries that stand on one, and not on each other, are built side by side" 125 "" "the two were built side by side"
+
 make_checkout 'case $PWD in */low) exit 0;; */high) echo "high has an open proof"; exit 1;; esac; echo "went on"; exit 0'
 expect "a library that fails ends the build" 125 "" "high has an open proof"
 
