@@ -1,7 +1,8 @@
 -- Laws of group expressions and their words.
 use Rattle.std.proofs.Common.{◌≡◌, ℕ, ◌*◌, ◌/◌, ◌%◌, ◌≤◌, ◌<◌, ◌^◌, refl, ap, sym, ◌∙◌, ◌↔◌, arith}
 use Rattle.query_core.specs.Keys.{key_number, IsInRange}
-use Rattle.query_core.specs.Expressions.{expr_of, fields, logical_fields, physical_fields, fields_of, left_number, right_number, packed, word_of, AreInRange, IsPacked}
+use Rattle.query_core.specs.Expressions.{expr_of, fields, key_field, logical_fields, physical_fields, fields_of, left_number, right_number, packed, word_of, AreInRange, HasWord, IsPacked}
+use Rattle.query_core.specs.Goals.{FitsExpr}
 use Rattle.query_core.specs.declared.words.KeyParts.{KeyParts}
 use Rattle.query_core.specs.declared.expressions.Logical.{Logical}
 use Rattle.query_core.specs.declared.expressions.Logical.TheVariants as logical
@@ -146,8 +147,16 @@ word_fields e word f in_e is in_f number index left right =
     let small = fields_small e in_e in
     fields_same (fields_of e.operator) f (omega arith) (omega arith) (children_one _ _ in_e.children in_f (omega arith) (omega arith))
 
+-- a word has its group's key
+pub key_read : (e : ExprParts) (word : ℕ) → HasWord word e → key_field word ≡ key_number e.group
+key_read e word has = let small = fields_small e has.packed in let is = has.number in omega arith
+
+-- and its operator's number
+pub number_read : (e : ExprParts) (word : ℕ) → HasWord word e → (fields_of e.operator).number ≡ word / 2 ^ 31 % 2 ^ 5
+number_read e word has = let small = fields_small e has.packed in let is = has.number in omega arith
+
 -- and takes at most 48 bits
-pub word_small : (e : ExprParts) → IsPacked e → word_of e < 2 ^ 48
+pub word_small : (e : ExprParts) → IsPacked e → FitsExpr (word_of e)
 word_small e in_e = let small = fields_small e in_e in omega (arith, key_small e.group in_e.group)
 
 -- the words of a key and of those after it stand from its power on

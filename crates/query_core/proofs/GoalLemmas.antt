@@ -1,18 +1,19 @@
--- Which goals are about groups.
-use Rattle.std.specs.Prelude.{ℕ, ◌≡◌, ◌<◌, ◌^◌}
-use Rattle.std.proofs.Common.{arith, ◌⊎◌}
-use Rattle.query_core.specs.declared.words.Key.{Key}
+-- Goals and the fields of their words.
+use Rattle.std.proofs.Common.{◌≡◌, ap, sym, ◌∙◌, arith}
 use Rattle.query_core.specs.declared.words.GoalParts.{GoalParts}
 use Rattle.query_core.specs.declared.words.GoalParts.TheVariants as goals
-use Rattle.query_core.specs.Goals.{FitsGoal, AreFields}
+use Rattle.query_core.specs.Goals.{goal_fields, goal_number, FitsGoal}
 
--- the fields are no goal's where the kind is one of those that are about a group, and the subject is no key
-pub no_key_no_goal : (kind subject detail : ℕ) → (kind ≡ 0) ⊎ ((kind ≡ 3) ⊎ (kind ≡ 5)) → ((key : Key) → key.0 < 2 ^ 12 → key.0 ≡ subject → ⊥)
-    → (parts : GoalParts) → FitsGoal parts → AreFields kind subject detail parts → ⊥
-no_key_no_goal k s d about none (goals.Exp key) fits are = none key fits are.subject
-no_key_no_goal k s d about none (goals.ExpE expr) fits are = omega (arith, about, are.kind)
-no_key_no_goal k s d about none (goals.Xf expr rule) fits are = omega (arith, about, are.kind)
-no_key_no_goal k s d about none (goals.Imp key) fits are = none key fits are.subject
-no_key_no_goal k s d about none (goals.ImpE expr) fits are = omega (arith, about, are.kind)
-no_key_no_goal k s d about none (goals.Opt key request) fits are = none key fits.0 are.subject
-no_key_no_goal k s d about none (goals.OptE expr request) fits are = omega (arith, about, are.kind)
+-- a goal has the fields of its word
+pub fields_read : (parts : GoalParts) → FitsGoal parts → goal_fields (goal_number parts) ≡ parts
+fields_read (goals.Exp key) fits = grind arith
+fields_read (goals.ExpE expr) fits = grind arith
+fields_read (goals.Xf expr rule) fits = grind arith
+fields_read (goals.Imp key) fits = grind arith
+fields_read (goals.ImpE expr) fits = grind arith
+fields_read (goals.Opt key request) fits = grind arith
+fields_read (goals.OptE expr request) fits = grind arith
+
+-- a number is the word of one goal at most
+pub goal_one : (first second : GoalParts) → FitsGoal first → FitsGoal second → goal_number first ≡ goal_number second → first ≡ second
+goal_one first second fits also same = sym (fields_read first fits) ∙ ap goal_fields same ∙ fields_read second also

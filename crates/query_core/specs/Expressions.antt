@@ -1,5 +1,5 @@
 -- Group expressions: their words, those that a group can hold, and the one with which a group begins.
-use Rattle.std.specs.Prelude.{ℕ, Bool, true, false, Option, None, ◌≡◌, ◌⊎◌, ◌<◌, ◌+◌, ◌*◌, ◌^◌, length, slice_get, Some, IsTrue, bit_or, bit_and}
+use Rattle.std.specs.Prelude.{ℕ, Bool, true, false, Option, None, ◌≡◌, ◌⊎◌, ◌<◌, ◌+◌, ◌*◌, ◌/◌, ◌%◌, ◌^◌, length, slice_get, Some, IsTrue, bit_or, bit_and}
 use Rattle.query_core.specs.Connected.{IsConnected}
 use Rattle.query_core.specs.Keys.{key_number, IsInRange, IsGroup, top_of, input_of}
 use Rattle.query_core.specs.declared.table.QueryTable.{QueryTable}
@@ -87,6 +87,18 @@ packed key f = key * 2 ^ 36 + f.number * 2 ^ 31 + f.index * 2 ^ 26 + left_number
 -- the word of a group expression
 abbrev pub word_of : ExprParts → ℕ
 word_of e = packed (key_number e.group) (fields_of e.operator)
+
+-- what a word has in the place of its group's key
+abbrev pub key_field : ℕ → ℕ
+key_field word = word / 2 ^ 36
+
+-- how many numbers the operator's number, the index and the left child have place for
+abbrev pub MIDDLES : ℕ
+MIDDLES = 2 ^ 23
+
+-- what a word has in the places of these three; it tells the candidates of a group apart
+abbrev pub middle_field : ℕ → ℕ
+middle_field word = word / 2 ^ 13 % MIDDLES
 
 -- the children are groups that some query can have
 abbrev pub AreInRange : Children → Type 0

@@ -6,9 +6,10 @@ ghost use Rattle.std.specs.Option.{option_map};
 ghost use Rattle.query_core.specs.declared.expressions.ExprParts.{ExprParts};
 ghost use Rattle.query_core.specs.declared.words.KeyParts.{KeyParts};
 ghost use Rattle.query_core.specs.Keys.{key_number, IsInRange};
-ghost use Rattle.query_core.specs.Expressions.{children_of, left_number, right_number, word_of, is_logical, left_key, right_key, AreInRange, IsPacked, HasWord, IsWord};
+ghost use Rattle.query_core.specs.Goals.{FitsExpr};
+ghost use Rattle.query_core.specs.Expressions.{children_of, key_field, left_number, right_number, word_of, is_logical, left_key, right_key, AreInRange, IsPacked, HasWord, IsWord};
 
-use crate::expressions::{Children, ExprParts, Fields, Operator};
+use crate::expressions::{Children, ExprParts, Fields, Operator, is_logical_number};
 use crate::keys::KEYS;
 use crate::words::{Expr, Key, KeyParts};
 
@@ -17,7 +18,7 @@ impl Expr {
     pub fn make(parts: ExprParts) -> Expr
         requires { IsPacked parts }
         ensures number { result.0 ≡ word_of parts }
-        ensures small { result.0 < 2 ^ 48 }
+        ensures small { FitsExpr result.0 }
     {
         let key = Key::make(parts.group).0 as u64;
         let fields = parts.operator.fields();
@@ -32,9 +33,9 @@ impl Expr {
             ((e : ExprParts) → IsPacked e → word_of e ≡ self.0 → ⊥)
             (λ e. IsPacked e × (word_of e ≡ self.0)) }
     {
-        let group = Key((self.0 >> 36) as u32).parts()?;
+        let group = self.key_field().parts()?;
         let children = Children::of(field(self.0, 13, 13), field(self.0, 0, 13))?;
-        let fields = Fields::new(field(self.0, 31, 5), field(self.0, 26, 5), children);
+        let fields = Fields::new(self.number_field(), field(self.0, 26, 5), children);
         let operator = Operator::of(fields)?;
         Some(ExprParts { group, operator })
     }
@@ -56,7 +57,14 @@ impl Expr {
         requires { IsWord self.0 }
         ensures { (e : ExprParts) → HasWord self.0 e → result.0 ≡ key_number e.group }
     {
-        Key::make(self.known_parts().group)
+        self.key_field()
+    }
+
+    /// What the word has in the place of its group's key.
+    pub fn key_field(self) -> Key
+        ensures { result.0 ≡ key_field self.0 }
+    {
+        Key((self.0 >> 36) as u32)
     }
 
     /// Whether it says what is wanted, and not how it is made.
@@ -64,7 +72,13 @@ impl Expr {
         requires { IsWord self.0 }
         ensures { (e : ExprParts) → HasWord self.0 e → result ≡ is_logical e.operator }
     {
-        self.known_parts().operator.is_logical()
+        is_logical_number(self.number_field())
+    }
+
+    fn number_field(self) -> u32
+        ensures { result ≡ self.0 / 2 ^ 31 % 2 ^ 5 }
+    {
+        field(self.0, 31, 5)
     }
 
     /// The keys of its children, the left one first.
@@ -96,7 +110,7 @@ pub fn expressions_are_one()
         word_of e ≡ word_of f → e ≡ f }
     ensures groups { (p g : KeyParts) → IsInRange p → IsInRange g →
         key_number p ≡ key_number g → p ≡ g }
-    ensures small { (e : ExprParts) → IsPacked e → word_of e < 2 ^ 48 }
+    ensures small { (e : ExprParts) → IsPacked e → FitsExpr (word_of e) }
 
     // The words of a group stand together, and groups stand in the order of their keys.
     ensures ordered { (e f : ExprParts) → IsPacked e → IsPacked f →

@@ -194,6 +194,13 @@ impl Operator {
     }
 }
 
+/// Whether the operator of this number says what is wanted, and not how it is made.
+pub(crate) fn is_logical_number(number: u32) -> bool
+    ensures { (o : Operator) → (fields_of o).number ≡ number → result ≡ is_logical_operator o }
+{
+    matches!(number, 1 | 4 | 7 | 8 | 12 | 15)
+}
+
 impl Logical {
     fn fields(self) -> Fields
         ensures { result ≡ logical_fields self }

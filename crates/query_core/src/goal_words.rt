@@ -1,12 +1,14 @@
 //! Goals of the search as numbers. Nothing else packs or unpacks a goal.
 #![tactic(auto)]
 
-ghost use Rattle.std.specs.Prelude.{◌≡◌, ◌<◌, ◌≤◌, ◌+◌, ◌*◌, ◌^◌, MatchOption};
-ghost use Rattle.query_core.specs.declared.words.Key.{Key};
+ghost use Rattle.std.specs.Prelude.{ℕ, ◌≡◌, ◌<◌, ◌≤◌, ◌+◌, ◌*◌, ◌^◌, ◌↔◌, IsTrue, MatchOption};
 ghost use Rattle.query_core.specs.declared.words.GoalParts.{GoalParts};
-ghost use Rattle.query_core.specs.Goals.{goal_number, AreFields, FitsGoal, HasGoalWord};
+ghost use Rattle.query_core.specs.Goals.{goal_bit, goal_fields, goal_number, has_goal_bit, FitsCode, FitsExpr, FitsGoal, FitsKey, HasGoalWord};
 
 use crate::words::{Expr, Goal, GoalParts, Key};
+
+// The bit that words of goals have and words of expressions lack.
+const GOAL_BIT: u64 = 1 << 63;
 
 // The numbers of the kinds of goals.
 const EXP: u64 = 0;
@@ -46,57 +48,83 @@ impl Goal {
             ((parts : GoalParts) → HasGoalWord self.now.0 parts → ⊥)
             (HasGoalWord self.now.0) }
     {
-        if self.0 < 1 << 63 {
-            return None;
+        let parts = self.fields();
+        if fits(parts) && Goal::make(parts).0 == self.0 {
+            Some(parts)
+        } else {
+            None
         }
-        let (kind, subject) = ((self.0 >> 60) % 8, (self.0 >> 12) % (1 << 48));
-        goal_of(kind, subject, (self.0 % (1 << 12)) as u32)
+    }
+
+    /// The goal whose fields the word has, which is its own goal where it is the word of one.
+    pub fn fields(self) -> GoalParts
+        ensures { result ≡ goal_fields self.0 }
+    {
+        let key = Key(((self.0 >> 12) % (1 << 12)) as u32);
+        let expr = Expr((self.0 >> 12) % (1 << 48));
+        let detail = (self.0 % (1 << 12)) as u32;
+        match (self.0 >> 60) % 8 {
+            EXP => GoalParts::Exp(key),
+            EXP_E => GoalParts::ExpE(expr),
+            XF => GoalParts::Xf(expr, detail),
+            IMP => GoalParts::Imp(key),
+            IMP_E => GoalParts::ImpE(expr),
+            OPT => GoalParts::Opt(key, detail),
+            _ => GoalParts::OptE(expr, detail),
+        }
+    }
+
+    /// Whether a word of a goal or of an expression is that of a goal.
+    pub fn is_word(word: u64) -> bool
+        ensures { result ≡ has_goal_bit word }
+    {
+        word >= GOAL_BIT
     }
 }
 
-/// A number is the word of one goal at most.
+/// A number is the word of one goal at most, which its fields tell.
 pub fn goals_are_one()
-    ensures { (first second : GoalParts) → FitsGoal first → FitsGoal second →
+    ensures one { (first second : GoalParts) → FitsGoal first → FitsGoal second →
         goal_number first ≡ goal_number second → first ≡ second }
+    ensures fields { (parts : GoalParts) → FitsGoal parts → goal_fields (goal_number parts) ≡ parts }
+
+    // The bit tells words of goals from words of expressions.
+    ensures high { (parts : GoalParts) → goal_bit ≤ goal_number parts }
+    ensures low { (word : ℕ) → FitsExpr word → word < goal_bit }
 {}
 
 fn packed(kind: u64, subject: u64, detail: u32) -> Goal
     requires kind { kind < 8 }
-    requires subject { subject < 2 ^ 48 }
-    requires detail { detail < 2 ^ 12 }
-    ensures { result.0 ≡ 2 ^ 63 + kind * 2 ^ 60 + subject * 2 ^ 12 + detail }
+    requires subject { FitsExpr subject }
+    requires detail { FitsCode detail }
+    ensures { result.0 ≡ goal_bit + kind * 2 ^ 60 + subject * 2 ^ 12 + detail }
 {
-    Goal((1 << 63) + (kind << 60) + (subject << 12) + detail as u64)
+    Goal(GOAL_BIT + (kind << 60) + (subject << 12) + detail as u64)
 }
 
-// The goal with these fields.
-fn goal_of(kind: u64, subject: u64, detail: u32) -> Option<GoalParts>
-    requires subject { subject < 2 ^ 48 }
-    requires detail { detail < 2 ^ 12 }
-    ensures { MatchOption result
-        ((parts : GoalParts) → FitsGoal parts → AreFields kind subject detail parts → ⊥)
-        (λ parts. FitsGoal parts × AreFields kind subject detail parts) }
+// Whether each part fits its field.
+fn fits(parts: GoalParts) -> bool
+    ensures { IsTrue result ↔ FitsGoal parts }
 {
-    match kind {
-        EXP if detail == 0 => Some(GoalParts::Exp(key_of(subject)?)),
-        EXP_E if detail == 0 => Some(GoalParts::ExpE(Expr(subject))),
-        XF if 1 <= detail && detail <= 14 => Some(GoalParts::Xf(Expr(subject), detail)),
-        IMP if detail == 0 => Some(GoalParts::Imp(key_of(subject)?)),
-        IMP_E if detail == 0 => Some(GoalParts::ImpE(Expr(subject))),
-        OPT => Some(GoalParts::Opt(key_of(subject)?, detail)),
-        OPT_E => Some(GoalParts::OptE(Expr(subject), detail)),
-        _ => None,
+    match parts {
+        GoalParts::Exp(key) => fits_key(key),
+        GoalParts::ExpE(expr) => fits_expr(expr),
+        GoalParts::Xf(expr, rule) => fits_expr(expr) && 1 <= rule && rule <= 14,
+        GoalParts::Imp(key) => fits_key(key),
+        GoalParts::ImpE(expr) => fits_expr(expr),
+        GoalParts::Opt(key, request) => fits_key(key) && request < 1 << 12,
+        GoalParts::OptE(expr, request) => fits_expr(expr) && request < 1 << 12,
     }
 }
 
-fn key_of(subject: u64) -> Option<Key>
-    ensures { MatchOption result
-        ((key : Key) → key.0 < 2 ^ 12 → key.0 ≡ subject → ⊥)
-        (λ key. (key.0 < 2 ^ 12) × (key.0 ≡ subject)) }
+fn fits_key(key: Key) -> bool
+    ensures { IsTrue result ↔ FitsKey key.0 }
 {
-    if subject < 1 << 12 {
-        Some(Key(subject as u32))
-    } else {
-        None
-    }
+    key.0 < 1 << 12
+}
+
+fn fits_expr(expr: Expr) -> bool
+    ensures { IsTrue result ↔ FitsExpr expr.0 }
+{
+    expr.0 < 1 << 48
 }
