@@ -1,6 +1,7 @@
 -- What words of entries stand for.
-use Rattle.std.proofs.Common.{◌≡◌, ℕ, ◌<◌, ◌^◌, sym, subst, inl, inr, arith}
+use Rattle.std.proofs.Common.{◌≡◌, ℕ, sym, subst, inl, inr, arith}
 use Rattle.query_core.specs.Expressions.{word_of, IsCandidate, IsPacked}
+use Rattle.query_core.specs.Goals.{FitsExpr}
 use Rattle.query_core.specs.declared.query.Query.{Query}
 use Rattle.query_core.specs.declared.expressions.ExprParts.{ExprParts}
 use Rattle.xform_rules.specs.Closure.{IsMember}
@@ -15,11 +16,11 @@ use Rattle.goal_rules.specs.EntryLaws.{goal_high}
 use Rattle.goal_rules.specs.Known.{EntriesAreMembers, IsKnownWord}
 
 -- an expression's word is none of a goal
-apart : (goal : GoalKind) (word : ℕ) → word < 2 ^ 48 → goal_word goal ≡ word → ⊥
+apart : (goal : GoalKind) (word : ℕ) → FitsExpr word → goal_word goal ≡ word → ⊥
 apart goal word small same = let high = goal_high goal in absurd (omega (arith, small, same, high))
 
 -- where words are those of one expression
-pub entries_members : (q : Query) → ((e f : ExprParts) → IsPacked e → IsPacked f → word_of e ≡ word_of f → e ≡ f) → ((e : ExprParts) → IsPacked e → word_of e < 2 ^ 48)
+pub entries_members : (q : Query) → ((e f : ExprParts) → IsPacked e → IsPacked f → word_of e ≡ word_of f → e ≡ f) → ((e : ExprParts) → IsPacked e → FitsExpr (word_of e))
     → ((e : ExprParts) → IsCandidate q e → IsPacked e) → ((e : ExprParts) → IsMember q e → IsCandidate q e) → EntriesAreMembers q
 entries_members q one_expr small packed candidates e known (inl (other, member, is)) =
     subst (IsMember q) (one_expr other e (packed other (candidates other member)) (packed e known) is) member
@@ -31,7 +32,7 @@ module _ (q : Query) (
     ) (
     in_range : (goal : GoalKind) → IsGoal q goal → IsInRange goal
     ) (
-    small_member : (e : ExprParts) → IsMember q e → word_of e < 2 ^ 48
+    small_member : (e : ExprParts) → IsMember q e → FitsExpr (word_of e)
     ) (goal : GoalKind) (known : IsInRange goal) where
   named : (other : GoalKind) → NamesGoal q (goal_word goal) other → other ≡ goal
   named other names = one_goal other goal (in_range other names.is_goal) known names.number

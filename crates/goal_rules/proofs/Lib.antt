@@ -1,8 +1,6 @@
 pub mod Growing
-pub mod WordFields
 pub mod Ranked
 pub mod Falling
 pub mod OneAnswer
 pub mod KnownWords
 pub mod Exploring
-pub mod Candidates

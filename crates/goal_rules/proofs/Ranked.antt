@@ -1,14 +1,15 @@
 -- The rank by a goal's word is the goal's rank.
-use Rattle.std.proofs.Common.{◌≡◌, ℕ, suc, ◌+◌, ◌-◌, ◌*◌, ◌/◌, ◌%◌, ◌^◌, ◌<◌, refl, ap, ◌∙◌, arith}
+use Rattle.std.proofs.Common.{◌≡◌, ℕ, suc, ◌+◌, ◌-◌, ◌*◌, ◌/◌, ◌%◌, refl, ap, ◌∙◌, arith}
 use Rattle.std.proofs.lemmas.Bool.{lt-ltb, le-ltb}
 use Rattle.query_core.specs.Keys as keys
 use Rattle.query_core.specs.Keys.{key_number}
 use Rattle.query_core.specs.Expressions.{expr_of, word_of, IsPacked}
-use Rattle.query_core.specs.Goals.{FitsGoal}
+use Rattle.query_core.specs.Goals.{goal_fields, goal_number, FitsGoal}
+use Rattle.query_core.specs.declared.words.GoalParts.{GoalParts}
 use Rattle.query_core.specs.declared.words.KeyParts.{KeyParts}
 use Rattle.query_core.specs.declared.words.KeyParts.TheVariants as groups
 use Rattle.query_core.specs.declared.expressions.ExprParts.{ExprParts}
-use Rattle.query_core.proofs.ExpressionLemmas.{key_small}
+use Rattle.query_core.proofs.ExpressionLemmas.{key_read}
 use Rattle.request_props.specs.Requests as requests
 use Rattle.request_props.specs.Requests.{dist_code, code_of}
 use Rattle.request_props.specs.declared.request.Dist.{Dist}
@@ -19,8 +20,7 @@ use Rattle.goal_space.specs.Words.{parts_of, goal_word, IsInRange}
 use Rattle.goal_space.specs.Ranks.{level_of, dist_rank, order_rank, request_rank, rank_of}
 use Rattle.goal_space.specs.declared.goals.GoalKind.{GoalKind}
 use Rattle.goal_space.specs.declared.goals.GoalKind.TheVariants.{Exp, ExpE, Xf, Imp, ImpE, Opt, OptE}
-use Rattle.goal_rules.specs.WordRanks.{level_by, expr_level_by, dist_rank_by, rank_by, rank_of_word}
-use Rattle.goal_rules.proofs.WordFields.{has_fields, key_field, AreGoalFields, goal_fields}
+use Rattle.goal_rules.specs.WordRanks.{level_by, expr_level_by, dist_rank_by, rank_of_parts, rank_of_word}
 
 -- ---- groups
 
@@ -40,7 +40,7 @@ level_ranked groups.Agg known = refl
 
 -- and so for an expression
 expr_ranked : (e : ExprParts) → IsPacked e → expr_level_by (word_of e) ≡ level_of e.group
-expr_ranked e packed = ap level_by (key_field e (has_fields e packed)) ∙ level_ranked e.group packed.group
+expr_ranked e packed = ap level_by (key_read e (word_of e) (record { packed = packed; number = refl })) ∙ level_ranked e.group packed.group
 
 -- ---- requests
 
@@ -67,30 +67,17 @@ request_ranked wanted in_range =
 
 -- ---- goals
 
--- a rank by the fields of a word is that by the word
-by_fields : (word kind subject detail : ℕ) → AreGoalFields word kind subject detail → rank_of_word word ≡ rank_by kind subject detail
-by_fields word kind subject detail are =
-    ap (λ (k : ℕ). rank_by k (word / 2 ^ 12 % 2 ^ 48) (word % 2 ^ 12)) are.kind_is
-    ∙ ap (λ (s : ℕ). rank_by kind s (word % 2 ^ 12)) are.subject_is
-    ∙ ap (λ (d : ℕ). rank_by kind subject d) are.detail_is
-
-module _ (small_expr : (e : ExprParts) → IsPacked e → word_of e < 2 ^ 48) (fits : (k : GoalKind) → IsInRange k → FitsGoal (parts_of k)) where
-  of_group : (kind : ℕ) → kind < 8 → (g : KeyParts) → keys.IsInRange g → (detail : ℕ) → detail < 2 ^ 12
-      → rank_of_word (2 ^ 63 + kind * 2 ^ 60 + key_number g * 2 ^ 12 + detail) ≡ rank_by kind (key_number g) detail
-  of_group kind few g known detail less = by_fields _ kind (key_number g) detail (goal_fields kind (key_number g) detail few (omega (arith, key_small g known)) less)
-
-  of_expr : (kind : ℕ) → kind < 8 → (e : ExprParts) → IsPacked e → (detail : ℕ) → detail < 2 ^ 12
-      → rank_of_word (2 ^ 63 + kind * 2 ^ 60 + word_of e * 2 ^ 12 + detail) ≡ rank_by kind (word_of e) detail
-  of_expr kind few e packed detail less = by_fields _ kind (word_of e) detail (goal_fields kind (word_of e) detail few (small_expr e packed) less)
+-- where a goal has the fields of its word
+module _ (fields : (p : GoalParts) → FitsGoal p → goal_fields (goal_number p) ≡ p) (fits : (k : GoalKind) → IsInRange k → FitsGoal (parts_of k)) where
+  by_parts : (k : GoalKind) → IsInRange k → rank_of_word (goal_word k) ≡ rank_of_parts (parts_of k)
+  by_parts k known = ap rank_of_parts (fields (parts_of k) (fits k known))
 
   pub word_ranked : (k : GoalKind) → IsInRange k → rank_of_word (goal_word k) ≡ rank_of k
-  word_ranked (Exp group) known = of_group 0 (omega arith) group known 0 (omega arith) ∙ omega (arith, level_ranked group known)
-  word_ranked (ExpE e) known = of_expr 1 (omega arith) e known 0 (omega arith) ∙ omega (arith, expr_ranked e known)
-  word_ranked (Xf e rule) known = of_expr 2 (omega arith) e known _ (omega (arith, (fits (Xf e rule) known).2)) ∙ omega (arith, expr_ranked e known)
-  word_ranked (Imp group) known = of_group 3 (omega arith) group known 0 (omega arith) ∙ omega (arith, level_ranked group known)
-  word_ranked (ImpE e) known = of_expr 4 (omega arith) e known 0 (omega arith) ∙ omega (arith, expr_ranked e known)
+  word_ranked (Exp group) known = by_parts (Exp group) known ∙ omega (arith, level_ranked group known)
+  word_ranked (ExpE e) known = by_parts (ExpE e) known ∙ omega (arith, expr_ranked e known)
+  word_ranked (Xf e rule) known = by_parts (Xf e rule) known ∙ omega (arith, expr_ranked e known)
+  word_ranked (Imp group) known = by_parts (Imp group) known ∙ omega (arith, level_ranked group known)
+  word_ranked (ImpE e) known = by_parts (ImpE e) known ∙ omega (arith, expr_ranked e known)
   word_ranked (Opt group wanted) known =
-      of_group 5 (omega arith) group known.0 (code_of wanted) (fits (Opt group wanted) known).1
-      ∙ omega (arith, level_ranked group known.0, request_ranked wanted known.1)
-  word_ranked (OptE e wanted) known =
-      of_expr 6 (omega arith) (expr_of e) known.0 (code_of wanted) (fits (OptE e wanted) known).1 ∙ omega (arith, expr_ranked (expr_of e) known.0)
+      by_parts (Opt group wanted) known ∙ omega (arith, level_ranked group known.0, request_ranked wanted known.1)
+  word_ranked (OptE e wanted) known = by_parts (OptE e wanted) known ∙ omega (arith, expr_ranked (expr_of e) known.0)

@@ -1,6 +1,6 @@
 -- The logical members of a group, as exploration finds them.
-use Rattle.std.specs.Prelude.{ℕ, true, ◌≡◌, ◌<◌, ◌/◌, ◌%◌, ◌^◌, IsTrue}
-use Rattle.query_core.specs.Expressions.{is_logical, origin_of, word_of, IsCandidate}
+use Rattle.std.specs.Prelude.{true, ◌≡◌, IsTrue}
+use Rattle.query_core.specs.Expressions.{is_logical, origin_of}
 use Rattle.query_core.specs.declared.query.Query.{Query}
 use Rattle.query_core.specs.declared.words.KeyParts.{KeyParts}
 use Rattle.query_core.specs.declared.expressions.ExprParts.{ExprParts}
@@ -25,16 +25,3 @@ pub data Grown (q : Query) (group : KeyParts) : ExprParts → Type 0 where
 -- each logical member of a group is one of these
 abbrev pub MembersAreGrown : Query → Type 0
 MembersAreGrown q = (e : ExprParts) → IsMember q e → IsTrue (is_logical e.operator) → Grown q e.group e
-
--- what tells logical candidates of a group apart: operator, index and left child, without key and right child
-abbrev pub index_of : ExprParts → ℕ
-index_of e = word_of e / 2 ^ 13 % 2 ^ 23
-
--- these numbers ascend with the words
-abbrev pub IndexesRise : Query → Type 0
-IndexesRise q = (e other : ExprParts) → IsCandidate q e → IsCandidate q other → e.group ≡ other.group → word_of e < word_of other → index_of e < index_of other
-
--- in a group logical candidates come before physical ones
-abbrev pub LogicalComeFirst : Query → Type 0
-LogicalComeFirst q = (e other : ExprParts) → IsCandidate q e → IsCandidate q other → e.group ≡ other.group → IsTrue (is_logical e.operator)
-    → (IsTrue (is_logical other.operator) → ⊥) → word_of e < word_of other

@@ -1,7 +1,11 @@
 -- The rank of a goal by its word, as a function of any number.
-use Rattle.std.specs.Prelude.{ℕ, zero, suc, ◌≡◌, ◌+◌, ◌-◌, ◌*◌, ◌/◌, ◌%◌, ◌^◌, ◌<◌, nat_lt, if◌then◌else◌}
+use Rattle.std.specs.Prelude.{ℕ, zero, suc, ◌≡◌, ◌+◌, ◌-◌, ◌*◌, ◌/◌, ◌%◌, ◌<◌, nat_lt, if◌then◌else◌}
 use Rattle.query_core.specs.Keys.{key_number}
+use Rattle.query_core.specs.Expressions.{key_field}
+use Rattle.query_core.specs.Goals.{goal_fields}
 use Rattle.query_core.specs.declared.query.Query.{Query}
+use Rattle.query_core.specs.declared.words.GoalParts.{GoalParts}
+use Rattle.query_core.specs.declared.words.GoalParts.TheVariants as goals
 use Rattle.query_core.specs.declared.words.KeyParts.TheVariants.{Filter, Join, Partial}
 use Rattle.xform_rules.specs.Counts.{table_count}
 use Rattle.goal_space.specs.Words.{goal_word, IsInRange}
@@ -17,9 +21,9 @@ level_by key =
     else if nat_lt key (key_number Partial) then 1 + table_count (key - key_number (Join 0))
     else 12 + (key - key_number Partial)
 
--- the level of the group of the expression with this word, which begins with the key
+-- the level of the group of the expression with this word
 abbrev pub expr_level_by : ℕ → ℕ
-expr_level_by word = level_by (word / 2 ^ 36)
+expr_level_by word = level_by (key_field word)
 
 -- the distribution of code 1 may lie on any segments
 abbrev pub dist_rank_by : ℕ → ℕ
@@ -27,18 +31,19 @@ dist_rank_by zero = 1
 dist_rank_by (suc zero) = 0
 dist_rank_by (suc (suc list)) = 1
 
--- by the number of the goal's kind, the number of the group's key or the expression's word, and the request's code
-abbrev pub rank_by : ℕ → ℕ → ℕ → ℕ
-rank_by zero subject detail = 100 * level_by subject + 20
-rank_by (suc zero) subject detail = 100 * expr_level_by subject + 10
-rank_by (suc (suc zero)) subject detail = 100 * expr_level_by subject
-rank_by (suc (suc (suc zero))) subject detail = 100 * level_by subject + 40
-rank_by (suc (suc (suc (suc zero)))) subject detail = 100 * expr_level_by subject + 30
-rank_by (suc (suc (suc (suc (suc zero))))) subject detail = 100 * level_by subject + 60 + (dist_rank_by (detail / 64) + order_rank (detail % 64))
-rank_by (suc (suc (suc (suc (suc (suc kind)))))) subject detail = 100 * expr_level_by subject + 50
+-- the rank of a goal by the key of its group, the word of its expression, and the code of its request
+abbrev pub rank_of_parts : GoalParts → ℕ
+rank_of_parts (goals.Exp key) = 100 * level_by key.0 + 20
+rank_of_parts (goals.ExpE expr) = 100 * expr_level_by expr.0 + 10
+rank_of_parts (goals.Xf expr rule) = 100 * expr_level_by expr.0
+rank_of_parts (goals.Imp key) = 100 * level_by key.0 + 40
+rank_of_parts (goals.ImpE expr) = 100 * expr_level_by expr.0 + 30
+rank_of_parts (goals.Opt key request) = 100 * level_by key.0 + 60 + (dist_rank_by (request / 64) + order_rank (request % 64))
+rank_of_parts (goals.OptE expr request) = 100 * expr_level_by expr.0 + 50
 
+-- the rank of the goal whose fields the number has
 abbrev pub rank_of_word : ℕ → ℕ
-rank_of_word word = rank_by (word / 2 ^ 60 % 8) (word / 2 ^ 12 % 2 ^ 48) (word % 2 ^ 12)
+rank_of_word word = rank_of_parts (goal_fields word)
 
 -- a child has a smaller rank
 abbrev pub WordRanksFall : Query → Type 0

@@ -6,7 +6,7 @@ mod ranks;
 mod rules;
 
 pub use laws::{
-    candidates_are_in_order, entries_are_known, explorations_are_known, members_are_explored,
+    entries_are_known, explorations_are_known, members_are_explored,
     ranks_are_known,
 };
 pub use rules::Rules;

@@ -12,7 +12,7 @@ use crate::ranks::rank_of_word;
 use best_answers::answers_are_best;
 use board_rule::GoalRules;
 use goal_space::{goal_kinds_are_one, goals_are_known, ranks_fall};
-use query_core::Query;
+use query_core::{Goal, Query};
 use request_props::Props;
 
 /// The members of a query's groups and the goals of its search, as the rules of a board.
@@ -56,7 +56,7 @@ impl<'q> GoalRules for Rules<'q> {
     ghost answers_are_one = { λ r. r.answers };
 
     fn is_goal(&self, word: u64) -> bool {
-        word >= 1 << 63
+        Goal::is_word(word)
     }
 
     fn rank(&self, goal: u64) -> u64 {

@@ -1,6 +1,7 @@
 -- No two goals have one word.
 use Rattle.std.proofs.Common.{◌≡◌, ℕ, ◌-◌, ◌<◌, ◌≤◌, ◌^◌, Some, refl, ap, sym, ◌∙◌, arith}
 use Rattle.std.specs.Prelude.{slice_get}
+use Rattle.query_core.specs.Goals.{FitsCode}
 use Rattle.xform_rules.specs.Rules.{rule_number, all_rules}
 use Rattle.xform_rules.specs.declared.rules.Rule.{Rule}
 use Rattle.xform_rules.specs.declared.rules.Rule.TheVariants as rules
@@ -92,7 +93,7 @@ dist_one (dists.Hashed list) dists.Spread same = absurd (omega arith)
 dist_one (dists.Hashed list) dists.Copies same = absurd (omega arith)
 dist_one (dists.Hashed list) (dists.Hashed other) same = ap dists.Hashed (omega arith)
 
-pub code_small : (wanted : Request) → requests.IsInRange wanted → code_of wanted < 2 ^ 12
+pub code_small : (wanted : Request) → requests.IsInRange wanted → FitsCode (code_of wanted)
 code_small wanted in_range = omega (arith, dist_small wanted.dist in_range.list, in_range.numbered)
 
 pub request_one : (wanted other : Request) → requests.IsInRange wanted → requests.IsInRange other → code_of wanted ≡ code_of other → wanted ≡ other

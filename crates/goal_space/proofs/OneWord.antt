@@ -3,7 +3,7 @@ use Rattle.std.proofs.Common.{◌≡◌, ◌<◌, ◌^◌, ap, arith}
 use Rattle.query_core.specs.Keys as keys
 use Rattle.query_core.specs.Keys.{key_number}
 use Rattle.query_core.specs.Expressions.{word_of, expr_of, IsPacked}
-use Rattle.query_core.specs.Goals.{goal_number, FitsGoal}
+use Rattle.query_core.specs.Goals.{goal_number, FitsExpr, FitsGoal}
 use Rattle.query_core.specs.declared.words.Key.{Key}
 use Rattle.query_core.specs.declared.words.Expr.{Expr}
 use Rattle.query_core.specs.declared.words.KeyParts.{KeyParts}
@@ -18,22 +18,12 @@ use Rattle.goal_space.specs.declared.goals.GoalKind.{GoalKind}
 use Rattle.goal_space.specs.declared.goals.GoalKind.TheVariants.{Exp, ExpE, Xf, Imp, ImpE, Opt, OptE}
 use Rattle.goal_space.proofs.GoalNumbers.{rule_one, rule_some, rule_few, code_small, request_one}
 
--- the word of parts that fit is one of 64 bits
-pub parts_small : (p : GoalParts) → FitsGoal p → goal_number p < 2 ^ 64
-parts_small (parts.Exp key) fits = omega (arith, fits)
-parts_small (parts.ExpE expr) fits = omega (arith, fits)
-parts_small (parts.Xf expr rule) fits = omega (arith, fits.0, fits.2)
-parts_small (parts.Imp key) fits = omega (arith, fits)
-parts_small (parts.ImpE expr) fits = omega (arith, fits)
-parts_small (parts.Opt key request) fits = omega (arith, fits.0, fits.1)
-parts_small (parts.OptE expr request) fits = omega (arith, fits.0, fits.1)
-
 module _ (
     one_expr : (e f : ExprParts) → IsPacked e → IsPacked f → word_of e ≡ word_of f → e ≡ f
     ) (
     one_group : (p g : KeyParts) → keys.IsInRange p → keys.IsInRange g → key_number p ≡ key_number g → p ≡ g
     ) (
-    small_expr : (e : ExprParts) → IsPacked e → word_of e < 2 ^ 48
+    small_expr : (e : ExprParts) → IsPacked e → FitsExpr (word_of e)
     ) (
     small_group : (g : KeyParts) → keys.IsInRange g → key_number g < 2050
     ) where

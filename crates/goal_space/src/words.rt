@@ -3,7 +3,7 @@
 
 ghost use Rattle.std.specs.Prelude.{◌≡◌, ◌↔◌, ◌<◌, ◌≤◌, ◌^◌, Some, MatchOption};
 ghost use Rattle.query_core.specs.declared.words.GoalParts.{GoalParts};
-ghost use Rattle.query_core.specs.Goals.{goal_number, FitsGoal};
+ghost use Rattle.query_core.specs.Goals.{goal_bit, goal_number, FitsGoal};
 ghost use Rattle.goal_space.specs.declared.goals.GoalKind.{GoalKind};
 ghost use Rattle.goal_space.specs.Words.{goal_word, parts_of, HasWord, IsInRange};
 
@@ -19,7 +19,7 @@ impl GoalKind {
     pub fn word(self) -> Goal
         requires { IsInRange self }
         ensures number { result.0 ≡ goal_word self }
-        ensures high { 2 ^ 63 ≤ result.0 }
+        ensures high { goal_bit ≤ result.0 }
     {
         Goal::make(self.parts())
     }
@@ -58,7 +58,7 @@ pub fn goal_kinds_are_one()
     ensures one { (k l : GoalKind) → IsInRange k → IsInRange l → goal_word k ≡ goal_word l →
         k ≡ l }
     ensures fits { (k : GoalKind) → IsInRange k → FitsGoal (parts_of k) }
-    ensures high { (k : GoalKind) → 2 ^ 63 ≤ goal_word k }
+    ensures high { (k : GoalKind) → goal_bit ≤ goal_word k }
     ensures small { (k : GoalKind) → IsInRange k → goal_word k < 2 ^ 64 }
 {
     expressions_are_one();

@@ -163,6 +163,14 @@ word_small e in_e = let small = fields_small e in_e in omega (arith, key_small e
 pub word_from : (e : ExprParts) (key : ℕ) → IsPacked e → (key * 2 ^ 36 ≤ word_of e) ↔ (key ≤ key_number e.group)
 word_from e key in_e = let small = fields_small e in_e in (λ from. omega arith, λ less. omega arith)
 
+-- operators have numbers from 1 on
+operator_some : (o : Operator) → 1 ≤ (fields_of o).number
+operator_some o = grind arith
+
+-- no expression has the word 0
+pub word_some : (e : ExprParts) → 0 < word_of e
+word_some e = let some = operator_some e.operator in omega arith
+
 -- groups stand in the order of their keys
 pub word_ordered : (e f : ExprParts) → IsPacked e → IsPacked f → key_number e.group < key_number f.group → word_of e < word_of f
 word_ordered e f in_e in_f less = let small = fields_small e in_e in omega arith

@@ -15,3 +15,4 @@ pub mod Apart
 pub mod GoalLemmas
 pub mod Rising
 pub mod Contained
+pub mod CandidateOrder

@@ -49,9 +49,13 @@ goal_number parts = goal_bit + kind_of parts * 2 ^ 60 + subject_of parts * 2 ^ 1
 abbrev pub FitsKey : ℕ → Type 0
 FitsKey key = key < 2 ^ 12
 
+-- words of expressions are below this number
+abbrev pub EXPRS : ℕ
+EXPRS = 2 ^ 48
+
 -- the word of an expression fits its field
 abbrev pub FitsExpr : ℕ → Type 0
-FitsExpr word = word < 2 ^ 48
+FitsExpr word = word < EXPRS
 
 -- the code of a request fits its field
 abbrev pub FitsCode : ℕ → Type 0

@@ -7,7 +7,8 @@ ghost use Rattle.query_core.specs.declared.query.Query.{Query};
 ghost use Rattle.query_core.specs.declared.words.KeyParts.{KeyParts};
 ghost use Rattle.query_core.specs.Connected.{IsConnected};
 ghost use Rattle.query_core.specs.Keys.{key_number, IsInRange, IsGroup, IsKey, Names, top_of, input_of, root_of};
-ghost use Rattle.query_core.specs.Expressions.{word_of, children_of, origin_of, origin_operator, IsChild, IsPacked, IsCandidate, IsCandidateWord};
+ghost use Rattle.query_core.specs.Candidates.{LogicalComeFirst, MiddlesRise};
+ghost use Rattle.query_core.specs.Expressions.{word_of, children_of, middle_field, MIDDLES, origin_of, origin_operator, IsChild, IsPacked, IsCandidate, IsCandidateWord};
 
 use crate::expressions::{ExprParts, Logical};
 use crate::keys::KEYS;
@@ -50,6 +51,14 @@ pub fn candidates_are_known()
     ensures children { (q : Query) (e : ExprParts) (g : KeyParts) → IsCandidate q e →
         IsChild (children_of e.operator) g → IsGroup q g }
     ensures origins { (q : Query) (g : KeyParts) → IsGroup q g → IsCandidate q (origin_of q g) }
+{}
+
+/// The order of the candidates of a group.
+pub fn candidates_are_in_order()
+    ensures rise { (q : Query) → MiddlesRise q }
+    ensures few { (e : ExprParts) → middle_field (word_of e) < MIDDLES }
+    ensures logical_first { (q : Query) → LogicalComeFirst q }
+    ensures some { (e : ExprParts) → 0 < word_of e }
 {}
 
 /// What all groups of a query have in common, and which groups each query has.

@@ -3,7 +3,7 @@
 
 ghost use Rattle.std.specs.Prelude.{ℕ, ◌≡◌, ◌<◌, ◌≤◌, ◌+◌, ◌*◌, ◌^◌, ◌↔◌, IsTrue, MatchOption};
 ghost use Rattle.query_core.specs.declared.words.GoalParts.{GoalParts};
-ghost use Rattle.query_core.specs.Goals.{goal_bit, goal_fields, goal_number, has_goal_bit, FitsCode, FitsExpr, FitsGoal, FitsKey, HasGoalWord};
+ghost use Rattle.query_core.specs.Goals.{goal_bit, goal_fields, goal_number, has_goal_bit, kind_of, FitsCode, FitsExpr, FitsGoal, FitsKey, HasGoalWord};
 
 use crate::words::{Expr, Goal, GoalParts, Key};
 
@@ -87,6 +87,9 @@ pub fn goals_are_one()
     ensures one { (first second : GoalParts) → FitsGoal first → FitsGoal second →
         goal_number first ≡ goal_number second → first ≡ second }
     ensures fields { (parts : GoalParts) → FitsGoal parts → goal_fields (goal_number parts) ≡ parts }
+    ensures small { (parts : GoalParts) → FitsGoal parts → goal_number parts < 2 ^ 64 }
+    ensures kinds { (first second : GoalParts) → FitsGoal first →
+        kind_of first < kind_of second → goal_number first < goal_number second }
 
     // The bit tells words of goals from words of expressions.
     ensures high { (parts : GoalParts) → goal_bit ≤ goal_number parts }

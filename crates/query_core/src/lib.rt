@@ -27,7 +27,7 @@ mod words;
 
 pub use aggregate::{Agg, AggFunc};
 pub use ascending::count_below;
-pub use candidates::{candidates_are_known, groups_are_known};
+pub use candidates::{candidates_are_in_order, candidates_are_known, groups_are_known};
 pub use catalog::{Catalog, ColumnInfo, Placing, TableInfo};
 pub use expression_words::expressions_are_one;
 pub use expressions::{Children, ExprParts, Logical, Operator, Physical, PhysicalExpr};

@@ -1,12 +1,13 @@
 //! The words of the members of a query's groups.
 #![tactic(auto)]
 
-ghost use Rattle.std.specs.Prelude.{ℕ, List, ◌≡◌, ◌<◌, ◌^◌};
+ghost use Rattle.std.specs.Prelude.{ℕ, List, ◌≡◌};
 ghost use Rattle.std.specs.List.{All, Contains};
 ghost use Rattle.std.specs.List.Sorted.{IsStrictlyIncreasing};
 ghost use Rattle.query_core.specs.declared.query.Query.{Query};
 ghost use Rattle.query_core.specs.declared.expressions.ExprParts.{ExprParts};
 ghost use Rattle.query_core.specs.Keys.{IsInRange};
+ghost use Rattle.query_core.specs.Goals.{FitsExpr};
 ghost use Rattle.query_core.specs.Expressions.{word_of, origin_of, IsPacked, IsCandidateWord};
 ghost use Rattle.xform_rules.specs.Closure.{IsMember, IsClosureOf, AreMembersOf};
 
@@ -48,7 +49,7 @@ pub fn members_are_known()
     ensures origins { (q : Query) (e : ExprParts) → IsMember q e →
         IsMember q (origin_of q e.group) }
     ensures packed { (q : Query) (e : ExprParts) → IsMember q e → IsPacked e }
-    ensures small { (q : Query) (e : ExprParts) → IsMember q e → word_of e < 2 ^ 48 }
+    ensures small { (q : Query) (e : ExprParts) → IsMember q e → FitsExpr (word_of e) }
 
     // The list of their words depends on the query alone.
     ensures closure_is_one { (q : Query) (words others : List ℕ) →

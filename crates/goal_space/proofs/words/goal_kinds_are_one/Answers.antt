@@ -1,7 +1,7 @@
 use Rattle.std.proofs.Common.{arith}
 use Rattle.goal_space.specs.Words.{parts_of, IsInRange}
 use Rattle.goal_space.specs.declared.goals.GoalKind.{GoalKind}
-use Rattle.goal_space.proofs.OneWord.{goal_fits, parts_small, word_one}
+use Rattle.goal_space.proofs.OneWord.{goal_fits, word_one}
 use Rattle.goal_space.proofs.words.goal_kinds_are_one.Goals as goal
 
 pub returns : goal.returns
@@ -10,8 +10,8 @@ returns c =
     let near = c.groups_are_known.ensures.small in
     let fits = goal_fits exprs.expressions exprs.groups exprs.small near in
     record {
-      one = word_one exprs.expressions exprs.groups exprs.small near c.goals_are_one.ensures;
+      one = word_one exprs.expressions exprs.groups exprs.small near c.goals_are_one.ensures.one;
       fits = fits;
       high = λ (k : GoalKind). omega arith;
-      small = λ (k : GoalKind) (in_range : IsInRange k). parts_small (parts_of k) (fits k in_range);
+      small = λ (k : GoalKind) (in_range : IsInRange k). c.goals_are_one.ensures.small (parts_of k) (fits k in_range);
     }
