@@ -1,6 +1,6 @@
 -- The rank by a goal's word is the goal's rank.
-use Rattle.std.proofs.Common.{◌≡◌, ℕ, suc, ◌+◌, ◌-◌, ◌*◌, ◌/◌, ◌%◌, refl, ap, ◌∙◌, arith}
-use Rattle.std.proofs.lemmas.Bool.{lt-ltb, le-ltb}
+use Rattle.std.proofs.Common.{◌≡◌, ℕ, ◌+◌, ◌-◌, ◌/◌, ◌%◌, refl, ap, ◌∙◌, arith}
+use Rattle.std.proofs.lemmas.Bool.{lt-ltb, le-ltb, ne_eqb}
 use Rattle.query_core.specs.Keys as keys
 use Rattle.query_core.specs.Keys.{key_number}
 use Rattle.query_core.specs.Expressions.{expr_of, word_of, IsPacked}
@@ -44,16 +44,12 @@ expr_ranked e packed = ap level_by (key_read e (word_of e) (record { packed = pa
 
 -- ---- requests
 
--- the third successor is three more
-three_more : (list : ℕ) → 3 + list ≡ suc (suc (suc list))
-three_more list = omega arith
-
 -- the rank by a distribution's code is that of the distribution
 dist_ranked : (dist : Dist) → dist_rank_by (dist_code dist) ≡ dist_rank dist
 dist_ranked dists.One = refl
 dist_ranked dists.Spread = refl
 dist_ranked dists.Copies = refl
-dist_ranked (dists.Hashed list) = rw three_more refl
+dist_ranked (dists.Hashed list) = rw (ne_eqb (3 + list) 1 (λ same. omega (arith, same))) refl
 
 -- the rank by a request's code is that of the request
 request_ranked : (wanted : Request) → requests.IsInRange wanted → dist_rank_by (code_of wanted / 64) + order_rank (code_of wanted % 64) ≡ request_rank wanted

@@ -1,5 +1,5 @@
 -- The rank of a goal by its word, as a function of any number.
-use Rattle.std.specs.Prelude.{ℕ, zero, suc, ◌≡◌, ◌+◌, ◌-◌, ◌*◌, ◌/◌, ◌%◌, ◌<◌, nat_lt, if◌then◌else◌}
+use Rattle.std.specs.Prelude.{ℕ, ◌≡◌, ◌==◌, ◌+◌, ◌-◌, ◌*◌, ◌/◌, ◌%◌, ◌<◌, nat_lt, if◌then◌else◌}
 use Rattle.query_core.specs.Keys.{key_number}
 use Rattle.query_core.specs.Expressions.{key_field}
 use Rattle.query_core.specs.Goals.{goal_fields}
@@ -27,9 +27,7 @@ expr_level_by word = level_by (key_field word)
 
 -- the distribution of code 1 may lie on any segments
 abbrev pub dist_rank_by : ℕ → ℕ
-dist_rank_by zero = 1
-dist_rank_by (suc zero) = 0
-dist_rank_by (suc (suc list)) = 1
+dist_rank_by dist = if dist == 1 then 0 else 1
 
 -- the rank of a goal by the key of its group, the word of its expression, and the code of its request
 abbrev pub rank_of_parts : GoalParts → ℕ

@@ -5,8 +5,5 @@ mod laws;
 mod ranks;
 mod rules;
 
-pub use laws::{
-    entries_are_known, explorations_are_known, members_are_explored,
-    ranks_are_known,
-};
+pub use laws::{entries_are_known, explorations_are_known, members_are_explored, ranks_are_known};
 pub use rules::Rules;
