@@ -60,6 +60,15 @@ appends_more S T U old middle new less to from first second = appends_as (λ k. 
 pub appends_inserted : (Kind : GoalKind → Type 0) (old new : List GoalKind) → InsertsGoals Kind old new → AppendsGoals Kind old new
 appends_inserted Kind old new inserts = record { collects = inserts.collects; rises = λ rises behind. inserts.rises rises }
 
+-- children of a goal are those of the goal that it is, whether they came to the end or to their places
+pub appended_children : (q : Query) (words : List ℕ) (goal is : GoalKind) (old new : List GoalKind) → goal ≡ is → AppendsGoals (IsChildIn q words is) old new
+    → AppendsGoals (IsChildIn q words goal) old new
+appended_children q words goal is old new same appends = subst (λ (g : GoalKind). AppendsGoals (IsChildIn q words g) old new) (sym same) appends
+
+pub inserted_children : (q : Query) (words : List ℕ) (goal is : GoalKind) (old new : List GoalKind) → goal ≡ is → InsertsGoals (IsChildIn q words is) old new
+    → AppendsGoals (IsChildIn q words goal) old new
+inserted_children q words goal is old new same inserts = appended_children q words goal is old new same (appends_inserted (IsChildIn q words is) old new inserts)
+
 -- children that came to an empty list are all
 pub are_children : (q : Query) (words : List ℕ) (goal : GoalKind) (old new : List GoalKind) → old ≡ [] → AppendsGoals (IsChildIn q words goal) old new → AreChildren q words goal new
 are_children q words goal old new none appends =

@@ -51,15 +51,18 @@ expr_goal_in_range : (phase : Phase) (e : ExprParts) → IsPacked e → IsInRang
 expr_goal_in_range Exploration e packed = packed
 expr_goal_in_range Implementation e packed = packed
 
--- what holds of each word holds of each behind some
+-- what holds of each word holds of each that is among them
+pub all_among : (P : ℕ → Type 0) (words own : List ℕ) → All P words → ((word : ℕ) → Contains own word → Contains words word) → All P own
+all_among P words own all part k d within = All-contains P words (get_or own k d) all (part (get_or own k d) (Contains-get_or own k d within))
+
+-- and of each behind some
 pub all_behind : (P : ℕ → Type 0) (words : List ℕ) (n : ℕ) → All P words → All P (drop n words)
 all_behind P words n all k d within = subst P (sym (get_or-drop n words k d)) (all (n + k) d (omega (arith, within, length-drop n words)))
 
 module _ (q : Query) where
   -- words that are among those of candidates are those of candidates
   pub own_candidates : (words own : List ℕ) → All (IsCandidateWord q) words → ((word : ℕ) → Contains own word → Contains words word) → All (IsCandidateWord q) own
-  own_candidates words own candidates part k d within =
-      All-contains (IsCandidateWord q) words (get_or own k d) candidates (part (get_or own k d) (Contains-get_or own k d within))
+  own_candidates words own = all_among (IsCandidateWord q) words own
 
   -- and have 48 bits
   pub small_words : ((e : ExprParts) → IsCandidate q e → IsPacked e) → ((e : ExprParts) → IsPacked e → word_of e < 2 ^ 48) → (words : List ℕ)

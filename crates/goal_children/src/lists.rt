@@ -13,16 +13,16 @@ ghost use Rattle.goal_children.specs.Over.{IsGoalOver, IsNumberedRequest};
 ghost use Rattle.goal_children.specs.Children.{AreChildren, IsChildIn};
 ghost use Rattle.goal_children.specs.Choices.{IsBesideMembers};
 ghost use Rattle.goal_children.specs.Finding.{AppendsGoals};
-ghost use Rattle.goal_children.specs.GroupMembers.{AreHeld, AreMembersOf};
+ghost use Rattle.goal_children.specs.GroupMembers.{AreHeldFor};
 
 use crate::asked::{insert_asked, insert_enforced};
 use crate::expressions::{insert_left, insert_transformed};
-use crate::group_members::{GroupMembers, hold_members};
+use crate::group_members::GroupMembers;
 use crate::jobs::{MemberJob, Phase};
 use crate::laws::children_are_over_the_query;
-use crate::members::{push_member_goals, push_serving};
+use crate::members::push_member_goals;
 use goal_space::{GoalKind, goal_kinds_are_one};
-use query_core::{ExprParts, KeyParts, Query, candidates_are_known, groups_are_known};
+use query_core::{KeyParts, Query, candidates_are_known, groups_are_known};
 use request_props::{Props, Request};
 use std::alloc::AllocError;
 
@@ -40,8 +40,9 @@ pub fn list_children(
     requires goal { IsGoalOver query.now goal }
     ensures ok { OnOk result (AreChildren query.now members.now goal list.new.items) }
 {
-    list.clear();
-    add_children(query, props, members, goal, list)
+    let mut held = GroupMembers::none(*list.allocator());
+    list_children_by_group(query, props, members, goal, &mut held, list)?;
+    Ok(())
 }
 
 /// The same. The members of a group are held for its next goal, since goals of one group for its requests come one after
@@ -58,43 +59,12 @@ pub fn list_children_by_group(
     requires candidates { All (IsCandidateWord query.now) members.now }
     requires ascending { IsStrictlyIncreasing members.now }
     requires goal { IsGoalOver query.now goal }
-    requires held { AreHeld query.now members.now held.old }
+    requires held { AreHeldFor members.now held.old }
     ensures ok { OnOk result (AreChildren query.now members.now goal list.new.items) }
-    ensures held { OnOk result (AreHeld query.now members.now held.new) }
-{
-    match goal {
-        GoalKind::Opt(group, wanted) => {
-            hold_members(query, members, group, held)?;
-            let own = held.members.as_slice();
-            list_chosen(query, props, members, group, wanted, own, list)?;
-            Ok(())
-        }
-        _ => {
-            list_children(query, props, members, goal, list)?;
-            Ok(())
-        }
-    }
-}
-
-// Puts the children of a group for a request into the list, in place of what it held.
-fn list_chosen(
-    query: &Query,
-    props: &Props,
-    _words: &[u64],
-    group: KeyParts,
-    wanted: Request,
-    members: &[ExprParts],
-    list: &mut Vec<GoalKind>,
-) -> Result<(), AllocError>
-    requires props { IsProps query.now props.now }
-    requires known { IsGroup query.now group }
-    requires numbered { IsNumberedRequest query.now wanted }
-    requires members { AreMembersOf query.now _words.now group members.now }
-    ensures ok { OnOk result
-        (AreChildren query.now _words.now (AnyGoal.Opt group wanted) list.new.items) }
+    ensures held { OnOk result (AreHeldFor members.now held.new) }
 {
     list.clear();
-    add_chosen_of(query, props, _words, group, wanted, members, list)
+    add_children(query, props, members, goal, held, list)
 }
 
 // Adds the children of the goal: the table of children, one row a kind of goal.
@@ -103,28 +73,33 @@ fn add_children(
     props: &Props,
     members: &[u64],
     goal: GoalKind,
+    held: &mut GroupMembers,
     goals: &mut Vec<GoalKind>,
 ) -> Result<(), AllocError>
     requires props { IsProps query.now props.now }
     requires candidates { All (IsCandidateWord query.now) members.now }
     requires ascending { IsStrictlyIncreasing members.now }
     requires goal { IsGoalOver query.now goal }
+    requires held { AreHeldFor members.now held.old }
     requires listed { All IsInRange goals.old.items }
     ensures ok { OnOk result
         (AppendsGoals (IsChildIn query.now members.now goal) goals.old.items goals.new.items) }
+    ensures held { OnOk result (AreHeldFor members.now held.new) }
 {
     // For the proof: the words of candidates fit.
     candidates_are_known();
     match goal {
         GoalKind::Exp(group) => {
             let job = MemberJob::Transform(Phase::Exploration);
-            push_member_goals(query, props, members, group, job, goals)
+            push_member_goals(query, props, members, group, job, held, goals)
         }
         GoalKind::ExpE(e) => insert_transformed(query, e, Phase::Exploration, goals),
         GoalKind::Xf(e, rule) => insert_left(e, rule, goals),
-        GoalKind::Imp(group) => add_implemented(query, props, members, group, goals),
+        GoalKind::Imp(group) => add_implemented(query, props, members, group, held, goals),
         GoalKind::ImpE(e) => insert_transformed(query, e, Phase::Implementation, goals),
-        GoalKind::Opt(group, wanted) => add_chosen(query, props, members, group, wanted, goals),
+        GoalKind::Opt(group, wanted) => {
+            add_chosen(query, props, members, group, wanted, held, goals)
+        }
         GoalKind::OptE(e, wanted) => insert_asked(query, props, e, wanted, goals),
     }
 }
@@ -135,14 +110,17 @@ fn add_implemented(
     props: &Props,
     members: &[u64],
     group: KeyParts,
+    held: &mut GroupMembers,
     goals: &mut Vec<GoalKind>,
 ) -> Result<(), AllocError>
     requires props { IsProps query.now props.now }
     requires candidates { All (IsCandidateWord query.now) members.now }
     requires ascending { IsStrictlyIncreasing members.now }
     requires known { IsGroup query.now group }
+    requires held { AreHeldFor members.now held.old }
     ensures ok { OnOk result
         (AppendsGoals (IsChildIn query.now members.now (AnyGoal.Imp group)) goals.old.items goals.new.items) }
+    ensures held { OnOk result (AreHeldFor members.now held.new) }
 {
     // For the proof: groups have keys, and words fit.
     groups_are_known();
@@ -150,7 +128,7 @@ fn add_implemented(
     // Words go by kind: the group's exploration, and then its members.
     goals.push(GoalKind::Exp(group))?;
     let job = MemberJob::Transform(Phase::Implementation);
-    push_member_goals(query, props, members, group, job, goals)?;
+    push_member_goals(query, props, members, group, job, held, goals)?;
     Ok(())
 }
 
@@ -161,6 +139,7 @@ fn add_chosen(
     members: &[u64],
     group: KeyParts,
     wanted: Request,
+    held: &mut GroupMembers,
     goals: &mut Vec<GoalKind>,
 ) -> Result<(), AllocError>
     requires props { IsProps query.now props.now }
@@ -168,10 +147,12 @@ fn add_chosen(
     requires ascending { IsStrictlyIncreasing members.now }
     requires known { IsGroup query.now group }
     requires numbered { IsNumberedRequest query.now wanted }
+    requires held { AreHeldFor members.now held.old }
     requires listed { All IsInRange goals.old.items }
     ensures ok { OnOk result
         (AppendsGoals (IsChildIn query.now members.now (AnyGoal.Opt group wanted)) goals.old.items
         goals.new.items) }
+    ensures held { OnOk result (AreHeldFor members.now held.new) }
 {
     // For the proof: groups have keys, and children have words that fit.
     groups_are_known();
@@ -180,35 +161,7 @@ fn add_chosen(
     // Words go by kind: those beside the group's members, and then these.
     add_beside(query, props, group, wanted, goals)?;
     let job = MemberJob::Serve(wanted);
-    push_member_goals(query, props, members, group, job, goals)?;
-    Ok(())
-}
-
-// The same, over these members of the group.
-fn add_chosen_of(
-    query: &Query,
-    props: &Props,
-    _words: &[u64],
-    group: KeyParts,
-    wanted: Request,
-    members: &[ExprParts],
-    goals: &mut Vec<GoalKind>,
-) -> Result<(), AllocError>
-    requires props { IsProps query.now props.now }
-    requires known { IsGroup query.now group }
-    requires numbered { IsNumberedRequest query.now wanted }
-    requires members { AreMembersOf query.now _words.now group members.now }
-    requires listed { All IsInRange goals.old.items }
-    ensures ok { OnOk result
-        (AppendsGoals (IsChildIn query.now _words.now (AnyGoal.Opt group wanted)) goals.old.items
-        goals.new.items) }
-{
-    // For the proof: groups have keys, and children have words that fit.
-    groups_are_known();
-    goal_kinds_are_one();
-    children_are_over_the_query();
-    add_beside(query, props, group, wanted, goals)?;
-    push_serving(query, props, _words, group, members, wanted, goals)?;
+    push_member_goals(query, props, members, group, job, held, goals)?;
     Ok(())
 }
 

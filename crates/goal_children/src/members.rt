@@ -11,11 +11,11 @@ ghost use Rattle.query_core.specs.Expressions.{expr_of, word_of, IsCandidate, Is
 ghost use Rattle.request_props.specs.Numbered.{IsProps, IsNumbered};
 ghost use Rattle.plan_tree.specs.Alternatives.{HasAlternative};
 ghost use Rattle.goal_children.specs.Finding.{AppendsGoals, FindsFrom, IsOfMembers};
-ghost use Rattle.goal_children.specs.GroupMembers.{AreMembersOf};
-ghost use Rattle.goal_children.specs.Over.{IsNumberedRequest};
+ghost use Rattle.goal_children.specs.GroupMembers.{AreHeldFor};
 ghost use Rattle.goal_space.specs.declared.goals.GoalKind.{GoalKind as AnyGoal};
 ghost use Rattle.goal_children.specs.MemberJobs.{word_at, HasNumberedJob, HaveNoGoals, IsFirstGoal, IsGoalAmong, IsGoalOf, IsGoalOfWord, IsJobInRange, IsServed, IsTransformed};
 
+use crate::group_members::{GroupMembers, hold_members};
 use crate::jobs::{MemberJob, Phase};
 use goal_space::GoalKind;
 use plan_tree::may_serve;
@@ -52,13 +52,14 @@ pub fn member_goal_from(
     first_goal(query, props, job, &own[from..])
 }
 
-/// Adds the goals that the members of the group have for the job.
+/// Adds the goals that the members of the group have for the job. Its members are held for the next call.
 pub fn push_member_goals(
     query: &Query,
     props: &Props,
     members: &[u64],
     group: KeyParts,
     job: MemberJob,
+    held: &mut GroupMembers,
     goals: &mut Vec<GoalKind>,
 ) -> Result<(), AllocError>
     requires props { IsProps query.now props.now }
@@ -66,122 +67,59 @@ pub fn push_member_goals(
     requires ascending { IsStrictlyIncreasing members.now }
     requires known { IsGroup query.now group }
     requires numbered { HasNumberedJob query.now job }
+    requires held { AreHeldFor members.now held.old }
     ensures ok { OnOk result
         (AppendsGoals (IsOfMembers query.now members.now group job) goals.old.items goals.new.items) }
+    ensures held { OnOk result (AreHeldFor members.now held.new) }
 {
-    // For the proof: the words of candidates fit, and groups have keys.
+    // For the proof: the words of candidates fit, a word is that of one expression, and groups have keys.
     candidates_are_known();
+    expressions_are_one();
     groups_are_known();
-    push_goals_of(query, props, job, words_of(members, group), goals)
+    hold_members(members, group, held)?;
+    push_goals_of(query, props, job, held.members.as_slice(), goals)?;
+    Ok(())
 }
 
-/// Adds the goals of those members of the group that may serve the request.
-pub fn push_serving(
+// Adds the goals that the expressions have for the job.
+fn push_goals_of(
     query: &Query,
     props: &Props,
-    _words: &[u64],
-    _group: KeyParts,
-    members: &[ExprParts],
-    wanted: Request,
-    goals: &mut Vec<GoalKind>,
-) -> Result<(), AllocError>
-    requires props { IsProps query.now props.now }
-    requires members { AreMembersOf query.now _words.now _group members.now }
-    requires numbered { IsNumberedRequest query.now wanted }
-    ensures ok { OnOk result (AppendsGoals
-        (IsOfMembers query.now _words.now _group (MemberJob.Serve wanted)) goals.old.items goals.new.items) }
-{
-    // For the proof: the words of candidates fit.
-    candidates_are_known();
-    push_serving_among(query, props, members, wanted, goals)
-}
-
-// Adds the goals of those expressions that may serve the request.
-fn push_serving_among(
-    query: &Query,
-    props: &Props,
+    job: MemberJob,
     exprs: &[ExprParts],
-    wanted: Request,
     goals: &mut Vec<GoalKind>,
 ) -> Result<(), AllocError>
     requires props { IsProps query.now props.now }
     requires candidates { All (IsCandidate query.now) exprs.now }
     requires ascending { IsStrictlyIncreasing (map word_of exprs.now) }
-    requires numbered { IsNumberedRequest query.now wanted }
-    ensures ok { OnOk result (AppendsGoals
-        (IsGoalAmong query.now (MemberJob.Serve wanted) (map word_of exprs.now)) goals.old.items
-        goals.new.items) }
-{
-    for e in exprs {
-        push_if_serving(query, props, *e, wanted, goals)?;
-    }
-    Ok(())
-}
-
-// Adds the goal of the expression, if it may serve the request.
-fn push_if_serving(
-    query: &Query,
-    props: &Props,
-    e: ExprParts,
-    wanted: Request,
-    goals: &mut Vec<GoalKind>,
-) -> Result<(), AllocError>
-    requires props { IsProps query.now props.now }
-    requires candidate { IsCandidate query.now e }
-    requires numbered { IsNumberedRequest query.now wanted }
-    ensures ok { OnOk result (AppendsGoals
-        (IsGoalOfWord query.now (MemberJob.Serve wanted) (word_of e)) goals.old.items goals.new.items) }
-{
-    // For the proof: the words of candidates fit, and a word is that of one expression.
-    candidates_are_known();
-    expressions_are_one();
-    match serve(query, props, e, wanted) {
-        Some(goal) => {
-            goals.push(goal)?;
-            Ok(())
-        }
-        None => Ok(()),
-    }
-}
-
-// Adds the goals that the candidates of the words have for the job.
-fn push_goals_of(
-    query: &Query,
-    props: &Props,
-    job: MemberJob,
-    words: &[u64],
-    goals: &mut Vec<GoalKind>,
-) -> Result<(), AllocError>
-    requires props { IsProps query.now props.now }
-    requires candidates { All (IsCandidateWord query.now) words.now }
-    requires ascending { IsStrictlyIncreasing words.now }
     requires numbered { HasNumberedJob query.now job }
     ensures ok { OnOk result
-        (AppendsGoals (IsGoalAmong query.now job words.now) goals.old.items goals.new.items) }
+        (AppendsGoals (IsGoalAmong query.now job (map word_of exprs.now)) goals.old.items goals.new.items) }
 {
-    for word in words {
-        push_goal_of(query, props, job, *word, goals)?;
+    for e in exprs {
+        push_goal_of(query, props, job, *e, goals)?;
     }
     Ok(())
 }
 
-// Adds the goal that the candidate of the word has for the job, if it has one.
+// Adds the goal that the expression has for the job, if it has one.
 fn push_goal_of(
     query: &Query,
     props: &Props,
     job: MemberJob,
-    word: u64,
+    e: ExprParts,
     goals: &mut Vec<GoalKind>,
 ) -> Result<(), AllocError>
     requires props { IsProps query.now props.now }
-    requires candidate { IsCandidateWord query.now word }
+    requires candidate { IsCandidate query.now e }
     requires numbered { HasNumberedJob query.now job }
     ensures ok { OnOk result
-        (AppendsGoals (IsGoalOfWord query.now job word) goals.old.items goals.new.items) }
+        (AppendsGoals (IsGoalOfWord query.now job (word_of e)) goals.old.items goals.new.items) }
 {
-    // For the proof: the words of candidates fit.
+    // For the proof: the words of candidates fit, and a word is that of one expression.
     candidates_are_known();
-    match job.goal_of(query, props, Expr(word).known_parts()) {
+    expressions_are_one();
+    match job.goal_of(query, props, e) {
         Some(goal) => {
             goals.push(goal)?;
             Ok(())

@@ -14,4 +14,5 @@ returns c =
           (λ k is. c.goal_kinds_are_one.ensures.fits k (c.children_are_over_the_query.ensures.words q c.requires.props.few_lists c.requires.props.few_orders k
           (c.children_are_over_the_query.ensures.children q words (Opt group wanted) k (record { of_candidate = c.requires.known; numbered = c.requires.numbered }) is)))
           c.args.goals.now.items c.add_beside.new.goals.items c.push_member_goals.new.goals.items c.in_ok-add_beside.ensures.ok c.in_ok-push_member_goals.ensures.ok;
+      held = c.in_ok-push_member_goals.ensures.held;
     }

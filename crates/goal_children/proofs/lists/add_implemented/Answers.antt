@@ -15,4 +15,5 @@ returns c =
           (c.goal_kinds_are_one.ensures.fits (Exp group) in_range)
           (appends_one (λ k. k ≡ Exp group) c.args.goals.now.items c.push.new.self.items (Exp group) (λ k. (λ same. same, λ same. same)) in_range c.in_ok-push.ensures.items)
           c.in_ok-push_member_goals.ensures.ok;
+      held = c.in_ok-push_member_goals.ensures.held;
     }
