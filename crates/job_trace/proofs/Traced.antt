@@ -1,48 +1,42 @@
 -- Goals by their words, and the lines of goals with their children.
-use Rattle.std.proofs.Common.{◌≡◌, ℕ, ◌+◌, ◌<◌, List, [], ◌∷◌, ◌++◌, All, append_assoc, flat_map, map, length, get_or, take, refl, sym, ap, ◌∙◌, arith}
+use Rattle.std.proofs.Common.{◌≡◌, ℕ, ◌+◌, ◌<◌, List, [], ◌∷◌, ◌++◌, All, append_assoc, flat_map, map, length, get_or, take, refl, sym, subst, ap, ◌∙◌, arith}
 use Rattle.std.specs.List.{concat}
-use Rattle.std.specs.List.Sorted.{IsStrictlyIncreasing}
 use Rattle.std.proofs.lemmas.List.{append-nil, get_or-map, length-map, map-append, take_more}
 use Rattle.std.proofs.lemmas.List.Concat.{flat_map-append}
 use Rattle.std.proofs.lemmas.List.Folds.{concat-append}
-use Rattle.std.proofs.lemmas.List.Elements.{All-cons, All-head, All-push, All-tail}
+use Rattle.std.proofs.lemmas.List.Elements.{All-push}
 use Rattle.query_core.specs.declared.query.Query.{Query}
 use Rattle.goal_space.specs.Words.{goal_word, IsInRange}
 use Rattle.goal_space.specs.declared.goals.GoalKind.{GoalKind}
-use Rattle.goal_children.specs.Over.{IsGoalOver, IsGoalWordOver}
+use Rattle.goal_children.specs.Over.{AreGoalWords, IsGoalOver}
 use Rattle.goal_children.specs.Children.{AreChildren}
 use Rattle.goal_children.specs.GoalLists.{HaveGoalWords, IsWordOfGoal}
 use Rattle.query_text.specs.Added.{Adds}
-use Rattle.goal_children.proofs.Listing.{some_goal}
 use Rattle.job_trace.specs.Goals.{child_line, goal_line}
 use Rattle.job_trace.specs.Trace.{AreGoals, Traced, traced_lines}
 use Rattle.job_trace.specs.GoalLines.{AddsTraced}
 use Rattle.job_trace.proofs.Adding.{adds_more}
 
--- each word has its goal
-there : (q : Query) (words : List ℕ) → All (IsGoalWordOver q) words → (goals : List GoalKind) × (map goal_word goals ≡ words) × All (IsGoalOver q) goals
-there q [] all = ([], refl, λ k d within. absurd (omega (arith, within)))
-there q (word ∷ words) all =
-    let (goal, over, number) = All-head (IsGoalWordOver q) word words all in
-    let (goals, numbers, overs) = there q words (All-tail (IsGoalWordOver q) word words all) in
-    (goal ∷ goals, cc, All-cons (IsGoalOver q) goal goals over overs)
+-- goals over the query that have these words
+pub have_words : (q : Query) (words : List ℕ) (goals : List GoalKind) → ((goal : GoalKind) → IsGoalOver q goal → IsInRange goal) → AreGoals q words goals → HaveGoalWords words goals
+have_words q words goals in_range are = record { numbers = are.numbers; in_range = λ k d within. in_range _ (are.over k d within) }
 
--- so ascending words of goals over the query are those of a list of them
-pub goals_there : (q : Query) (words : List ℕ) → All (IsGoalWordOver q) words → IsStrictlyIncreasing words → (goals : List GoalKind) × AreGoals q words goals
-goals_there q words all ascending =
-    let found = there q words all in
-    (found.0, record { numbers = found.1; over = found.2; ascending = ascending })
+module _ (q : Query) (words : List ℕ) (in_range : (goal : GoalKind) → IsGoalOver q goal → IsInRange goal) (words_over : AreGoalWords q words) where
+  -- words of goals over the query are words of goals
+  pub words_of_goals : All IsWordOfGoal words
+  words_of_goals k d within = let (goal, over, number) = words_over.over k d within in (goal, record { in_range = in_range goal over; number = number })
 
--- whose parts fit
-pub have_goals : (q : Query) (words : List ℕ) (goals : List GoalKind) → ((goal : GoalKind) → IsGoalOver q goal → IsInRange goal) → AreGoals q words goals → HaveGoalWords words goals
-have_goals q words goals in_range are = record { numbers = are.numbers; in_range = λ k d within. in_range _ (are.over k d within) }
-
--- each of the words is that of the goal at its place
-pub words_of_goals : (words : List ℕ) (goals : List GoalKind) → HaveGoalWords words goals → All IsWordOfGoal words
-words_of_goals words goals have k d within =
-    let inside : k < length goals = omega (arith, within, ap length (sym have.numbers), length-map goals goal_word) in
-    let goal = get_or goals k some_goal in
-    (goal, record { in_range = have.in_range k some_goal inside; number = sym (get_or-map goal_word goals k some_goal d inside) ∙ ap (λ ws. get_or ws k d) have.numbers })
+  -- where a word is that of one goal, the goals of such words are goals over the query
+  pub are_goals : ((k l : GoalKind) → IsInRange k → IsInRange l → goal_word k ≡ goal_word l → k ≡ l) → (goals : List GoalKind) → HaveGoalWords words goals → AreGoals q words goals
+  are_goals one goals have = record {
+    numbers = have.numbers;
+    over = λ k d within.
+        let inside : k < length words = omega (arith, within, ap length (sym have.numbers), length-map goals goal_word) in
+        let (goal, over, number) = words_over.over k 0 inside in
+        let same : goal_word goal ≡ goal_word (get_or goals k d) = number ∙ ap (λ ws. get_or ws k 0) (sym have.numbers) ∙ get_or-map goal_word goals k d 0 within in
+        subst (IsGoalOver q) (one goal (get_or goals k d) (in_range goal over) (have.in_range k d within) same) over;
+    ascending = words_over.ascending;
+  }
 
 -- ---- lines
 

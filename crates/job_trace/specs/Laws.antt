@@ -8,10 +8,6 @@ use Rattle.job_trace.specs.Trace.{IsTraceLine, IsTraceText}
 abbrev pub TracesAreOne : Query → Type 0
 TracesAreOne q = length (lists_of q) ≤ 60 → length (orders_of q) ≤ 60 → (members goals text other : List ℕ) → IsTraceText q members goals text → IsTraceText q members goals other → text ≡ other
 
--- and one first line of it
-abbrev pub TraceLinesAreOne : Query → Type 0
-TraceLinesAreOne q = length (lists_of q) ≤ 60 → length (orders_of q) ≤ 60 → (goals line other : List ℕ) → IsTraceLine q goals line → IsTraceLine q goals other → line ≡ other
-
--- with which the trace begins
+-- which begins with the first line of its goals
 abbrev pub TracesBegin : Query → Type 0
-TracesBegin q = length (lists_of q) ≤ 60 → length (orders_of q) ≤ 60 → (members goals text line : List ℕ) → IsTraceText q members goals text → IsTraceLine q goals line → (rest : List ℕ) × (text ≡ line ++ rest)
+TracesBegin q = length (lists_of q) ≤ 60 → length (orders_of q) ≤ 60 → (members goals text line : List ℕ) → IsTraceText q members goals text → IsTraceLine goals line → (rest : List ℕ) × (text ≡ line ++ rest)

@@ -6,6 +6,7 @@ use Rattle.query_core.specs.Goals.{kind_of}
 use Rattle.query_core.specs.declared.query.Query.{Query}
 use Rattle.goal_space.specs.Words.{goal_word, parts_of}
 use Rattle.goal_space.specs.declared.goals.GoalKind.{GoalKind}
+use Rattle.goal_children.specs.GoalLists.{HaveGoalWords}
 use Rattle.goal_children.specs.Over.{IsGoalOver}
 use Rattle.goal_children.specs.Children.{AreChildren}
 use Rattle.job_trace.specs.Counts.{counted}
@@ -61,9 +62,9 @@ pub record IsTraceText (q : Query) (members goals text : List ℕ) : Type 0 wher
   pub lines : text ≡ concat (trace_section q traced)
 
 -- the line is the first one of the trace whose goals have these words
-pub record IsTraceLine (q : Query) (goals line : List ℕ) : Type 0 where
+pub record IsTraceLine (goals line : List ℕ) : Type 0 where
   pub kinds : List GoalKind
-  pub are : AreGoals q goals kinds
+  pub have : HaveGoalWords goals kinds
   pub is_line : line ≡ trace_line kinds
 
 -- ---- by worker

@@ -8,12 +8,13 @@ ghost use Rattle.query_core.specs.Expressions.{IsCandidateWord};
 ghost use Rattle.query_core.specs.Goals.{kind_of};
 ghost use Rattle.request_props.specs.Numbered.{IsProps};
 ghost use Rattle.goal_space.specs.Words.{parts_of};
+ghost use Rattle.goal_children.specs.GoalLists.{HaveGoalWords, IsWordOfGoal};
 ghost use Rattle.goal_children.specs.Over.{AreGoalWords, IsGoalOver};
 ghost use Rattle.query_text.specs.Added.{Adds};
 ghost use Rattle.job_trace.specs.Counts.{counted};
 ghost use Rattle.job_trace.specs.Goals.{child_line};
 ghost use Rattle.job_trace.specs.Trace as texts;
-ghost use Rattle.job_trace.specs.Trace.{AreGoals, count_of, IsTraceLine, IsTraceText};
+ghost use Rattle.job_trace.specs.Trace.{count_of, IsTraceLine, IsTraceText};
 ghost use Rattle.job_trace.specs.Pieces.{AreKept};
 ghost use Rattle.job_trace.specs.GoalLines.{AddsTraced};
 
@@ -40,7 +41,10 @@ pub fn trace_text(
     requires goals { AreGoalWords query.now goals.now }
     ensures { IfOk result (λ text. IsTraceText query.now members.now goals.now text.items) }
 {
-    let goals = goals_of(alloc, query, props, goals)?;
+    // For the proof: goals over the query have words, and a word is that of one goal.
+    children_are_over_the_query();
+    goal_kinds_are_one();
+    let goals = goals_of(alloc, goals)?;
     let mut text = String::new(alloc);
     push_trace_line(goals.as_slice(), &mut text)?;
     push_all_traced(alloc, query, props, members, goals.as_slice(), &mut text)?;
@@ -48,37 +52,22 @@ pub fn trace_text(
 }
 
 /// The bytes of the first line of the trace's text: how many goals there are, and how many of each kind. `goals` are
-/// words, ascending.
-pub fn trace_line(
-    alloc: Global,
-    query: &Query,
-    props: &Props,
-    goals: &[u64],
-) -> Result<Vec<u8>, AllocError>
-    requires props { IsProps query.now props.now }
-    requires goals { AreGoalWords query.now goals.now }
-    ensures { IfOk result (λ line. IsTraceLine query.now goals.now line.items) }
+/// words.
+pub fn trace_line(alloc: Global, goals: &[u64]) -> Result<Vec<u8>, AllocError>
+    requires { All IsWordOfGoal goals.now }
+    ensures { IfOk result (λ line. IsTraceLine goals.now line.items) }
 {
-    let goals = goals_of(alloc, query, props, goals)?;
+    let goals = goals_of(alloc, goals)?;
     let mut line = String::new(alloc);
     push_trace_line(goals.as_slice(), &mut line)?;
     Ok(line.into_bytes())
 }
 
-/// The goals over the query that have these words.
-pub fn goals_of(
-    alloc: Global,
-    _query: &Query,
-    _props: &Props,
-    words: &[u64],
-) -> Result<Vec<GoalKind>, AllocError>
-    requires props { IsProps _query.now _props.now }
-    requires words { AreGoalWords _query.now words.now }
-    ensures { IfOk result (λ made. AreGoals _query.now words.now made.items) }
+/// The goals that have these words.
+pub fn goals_of(alloc: Global, words: &[u64]) -> Result<Vec<GoalKind>, AllocError>
+    requires { All IsWordOfGoal words.now }
+    ensures { IfOk result (λ made. HaveGoalWords words.now made.items) }
 {
-    // For the proof: goals over the query have words, and a word is that of one goal.
-    children_are_over_the_query();
-    goal_kinds_are_one();
     let mut made = Vec::with_capacity(alloc, words.len())?;
     put_goals(words, &mut made)?;
     Ok(made)

@@ -108,11 +108,11 @@ same_known one bytes choices workers more asked first second text other (without
 module _ (one : OneOf) (input : GenInput) (capacity : ℕ) (choices others : Choices) (q : Query) (within : IsWithinLimits q) (first second : Status) (text other : List ℕ) where
   same_lines : IsSearchEnd (Tells (Some input) choices q) capacity q first text → IsSearchEnd (Tells (Some input) others q) capacity q second other → (first ≡ second) × (text ≡ other)
   same_lines (planned a room plan is lines) (planned b room_too plan_too is_too lines_too) =
-      (a ∙ sym b, first_lines_one one.sections input q plan plan_too text other within (one_text one.least q q plan plan_too within refl is is_too) lines lines_too)
+      (a ∙ sym b, first_lines_one one.sections input q plan plan_too text other (one_text one.least q q plan plan_too within refl is is_too) lines lines_too)
   same_lines (planned a room plan is lines) (unplanned b room_too none lines_too) = absurd (none is.plan is.least.serves)
   same_lines (planned a room plan is lines) (too_many b many line) = absurd (room_or_more one.answer q capacity room many)
   same_lines (unplanned a room none lines) (planned b room_too plan is lines_too) = absurd (none is.plan is.least.serves)
-  same_lines (unplanned a room none lines) (unplanned b room_too none_too lines_too) = (a ∙ sym b, first_lines_one one.sections input q texts.no_plan texts.no_plan text other within refl lines lines_too)
+  same_lines (unplanned a room none lines) (unplanned b room_too none_too lines_too) = (a ∙ sym b, first_lines_one one.sections input q texts.no_plan texts.no_plan text other refl lines lines_too)
   same_lines (unplanned a room none lines) (too_many b many line) = absurd (room_or_more one.answer q capacity room many)
   same_lines (too_many a many line) (planned b room plan is lines) = absurd (room_or_more one.answer q capacity room many)
   same_lines (too_many a many line) (unplanned b room none lines) = absurd (room_or_more one.answer q capacity room many)

@@ -22,7 +22,7 @@ pub record OneSections : Type 0 where
   pub memo : (q : Query) (words text other : List ℕ) → memos.IsMemoText q words text → memos.IsMemoText q words other → text ≡ other
   pub trace : (q : Query) (members goals text other : List ℕ) → IsWithinLimits q → IsTraceText q members goals text → IsTraceText q members goals other → text ≡ other
   pub memo_line : (q : Query) (words line other : List ℕ) → memos.IsMemoLine q words line → memos.IsMemoLine q words other → line ≡ other
-  pub trace_line : (q : Query) (goals line other : List ℕ) → IsWithinLimits q → traces.IsTraceLine q goals line → traces.IsTraceLine q goals other → line ≡ other
+  pub trace_line : (goals line other : List ℕ) → traces.IsTraceLine goals line → traces.IsTraceLine goals other → line ≡ other
 
 -- a query has one memo's text
 pub memo_one : OneSections → (q : Query) (text other : List ℕ) → IsMemo q text → IsMemo q other → text ≡ other
@@ -93,16 +93,16 @@ memo_line_one one q line other is again =
     one.memo_line q is.words line other is.is_line (subst (λ ws. memos.IsMemoLine q ws other) (sym words) again.is_line)
 
 -- and one of the trace
-trace_line_one : OneSections → (q : Query) (line other : List ℕ) → IsWithinLimits q → StartsTrace q line → StartsTrace q other → line ≡ other
-trace_line_one one q line other within is again =
+trace_line_one : OneSections → (q : Query) (line other : List ℕ) → StartsTrace q line → StartsTrace q other → line ≡ other
+trace_line_one one q line other is again =
     let goals : is.goals ≡ again.goals = one.goals q is.goals again.goals is.all_goals again.all_goals in
-    one.trace_line q is.goals line other within is.is_line (subst (λ gs. traces.IsTraceLine q gs other) (sym goals) again.is_line)
+    one.trace_line is.goals line other is.is_line (subst (λ gs. traces.IsTraceLine gs other) (sym goals) again.is_line)
 
 -- first lines of one query are one text
-pub first_lines_one : OneSections → (input : GenInput) (q : Query) (plan fore text other : List ℕ) → IsWithinLimits q → plan ≡ fore → HasFirstLines input q plan text → HasFirstLines input q fore other → text ≡ other
-first_lines_one one input q plan fore text other within same is again =
+pub first_lines_one : OneSections → (input : GenInput) (q : Query) (plan fore text other : List ℕ) → plan ≡ fore → HasFirstLines input q plan text → HasFirstLines input q fore other → text ≡ other
+first_lines_one one input q plan fore text other same is again =
     is.lines
     ∙ ap (λ p. gen_line input ++ first_line p ++ is.memo ++ is.trace) same
     ∙ ap (λ m. gen_line input ++ first_line fore ++ m ++ is.trace) (memo_line_one one q is.memo again.memo is.is_memo again.is_memo)
-    ∙ ap (λ t. gen_line input ++ first_line fore ++ again.memo ++ t) (trace_line_one one q is.trace again.trace within is.is_trace again.is_trace)
+    ∙ ap (λ t. gen_line input ++ first_line fore ++ again.memo ++ t) (trace_line_one one q is.trace again.trace is.is_trace again.is_trace)
     ∙ sym again.lines

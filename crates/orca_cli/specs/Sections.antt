@@ -45,7 +45,7 @@ pub record StartsMemo (query : Query) (line : List ℕ) : Type 0 where
 pub record StartsTrace (query : Query) (line : List ℕ) : Type 0 where
   pub goals : List ℕ
   pub all_goals : AreGoalsOf query goals
-  pub is_line : traces.IsTraceLine query goals line
+  pub is_line : traces.IsTraceLine goals line
 
 -- ---- the sections behind the plan
 

@@ -8,7 +8,7 @@ use crate::ending::Ending;
 use crate::planning::PlanLines;
 use crate::search::Search;
 use command_line::Choices;
-use goal_children::goal_lists_are_known;
+use goal_children::{children_are_over_the_query, goal_lists_are_known};
 use job_trace::{crew_text, memo_line, memo_text, trace_line, trace_text};
 use std::alloc::{AllocError, Global};
 use xform_rules::members_are_known;
@@ -156,9 +156,10 @@ pub fn trace_first_line(
     requires { IsSearch search choices.workers }
     ensures { IfOk result (λ line. StartsTrace search.entry.query.now line.items) }
 {
-    // The words of goals are those of goals over the query.
+    // The words of goals are those of goals over the query, which have words.
     goal_lists_are_known();
-    trace_line(alloc, search.query, search.props, search.goals)
+    children_are_over_the_query();
+    trace_line(alloc, search.goals)
 }
 
 // The ending with one more text behind its own.

@@ -11,6 +11,6 @@ returns c = record {
       c.goal_kinds_are_one.ensures.one
       (λ goal children others over are also. c.children_are_one.ensures q few_lists few_orders members goal children others over are also)
       goals text other is again;
-  line = λ q few_lists few_orders. one_line q (c.children_are_over_the_query.ensures.words q few_lists few_orders) c.goal_kinds_are_one.ensures.one;
-  begins = λ q few_lists few_orders. begins q (c.children_are_over_the_query.ensures.words q few_lists few_orders) c.goal_kinds_are_one.ensures.one;
+  line = one_line c.goal_kinds_are_one.ensures.one;
+  begins = λ q few_lists few_orders. begins c.goal_kinds_are_one.ensures.one q (c.children_are_over_the_query.ensures.words q few_lists few_orders);
 }

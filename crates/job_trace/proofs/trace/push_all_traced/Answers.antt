@@ -12,7 +12,7 @@ pub loop-goal-init : goal.loop-goal-init
 loop-goal-init c = record {
   added = traced_none c.args.query.now c.args.members.now (string_bytes c.args.text.now);
   kept = c.in_ok-pieces.ensures.kept c.args.query.now;
-  held = c.none-held.ensures c.args.query.now c.args.members.now;
+  held = c.none-held.ensures c.args.members.now;
 }
 
 -- one more goal with its children

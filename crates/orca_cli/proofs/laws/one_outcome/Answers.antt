@@ -15,7 +15,7 @@ returns c =
       memo = c.memos_are_known.ensures.text;
       trace = λ q members goals text other within. c.traces_are_known.ensures.text q within.few_lists within.few_orders members goals text other;
       memo_line = c.memos_are_known.ensures.line;
-      trace_line = λ q goals line other within. c.traces_are_known.ensures.line q within.few_lists within.few_orders goals line other;
+      trace_line = c.traces_are_known.ensures.line;
     } in
     record {
       outcome = one_outcome_of answer sections (λ q s t within one other. c.least_is_one.ensures q within.few_lists within.few_orders (root_of q) (root_request q) t s other one);
