@@ -1,5 +1,5 @@
 -- What alternatives ask for, as the program finds it.
-use Rattle.std.proofs.Common.{◌≡◌, ℕ, ◌+◌, ◌<◌, ◌≤◌, List, [], ◌∷◌, Option, None, Some, length, refl, sym, subst, ap, ◌∙◌, ◌⊎◌, inl, inr, arith}
+use Rattle.std.proofs.Common.{◌≡◌, ℕ, ◌+◌, ◌<◌, ◌≤◌, List, [], ◌∷◌, Option, None, Some, length, refl, sym, subst, ap, ◌∙◌, ◌↔◌, ◌⊎◌, inl, inr, arith}
 use Rattle.std.specs.Prelude.{IfSome}
 use Rattle.std.proofs.lemmas.Bool.{cases_lt}
 use Rattle.std.specs.Option.{option_map}
@@ -13,7 +13,7 @@ use Rattle.query_core.specs.declared.expressions.PhysicalExpr.{PhysicalExpr}
 use Rattle.request_props.specs.Numbered.{lists_of, orders_of}
 use Rattle.request_props.specs.Requests.{IsInRange}
 use Rattle.request_props.specs.declared.request.Request.{Request}
-use Rattle.plan_space.specs.Alternatives.{asked_of}
+use Rattle.plan_space.specs.Alternatives.{asked_of, IsAlternative}
 use Rattle.plan_space.specs.Choices.{groups_of}
 use Rattle.plan_space.specs.declared.lines.Line.{Line}
 use Rattle.plan_space.specs.Laws.{AsksWhatFits}
@@ -24,17 +24,17 @@ use Rattle.goal_space.specs.Children.{IsAsked}
 use Rattle.goal_space.specs.declared.goals.GoalKind.{GoalKind}
 use Rattle.goal_space.specs.declared.goals.GoalKind.TheVariants.{Opt}
 use Rattle.goal_children.specs.Over.{IsNumberedRequest}
-use Rattle.goal_children.specs.Choices.{IsOfAlt, IsOfAlternatives, IsOfMode, IsOfModesBelow, IsOfRequest, IsOfWishes}
-use Rattle.goal_children.specs.Finding.{FindsFrom, InsertsGoals, sooner_of}
+use Rattle.goal_children.specs.Choices.{IsOfAlternatives, IsOfAsked, IsOfMode, IsOfModesBelow, IsOfRequest, IsOfWishes}
+use Rattle.goal_children.specs.Finding.{FindsFrom, sooner_of}
 use Rattle.goal_children.proofs.Asking.{asks_numbered}
-use Rattle.goal_children.proofs.Inserting.{inserts_as}
 use Rattle.goal_children.proofs.Finds.{finds_as, sooner_is}
 use Rattle.goal_children.proofs.OverChildren.{request_in_range}
 
--- what is there has a fact that holds of each such value
-pub if_some : {T : Type 0} (P : T → Type 0) (found : Option T) → ((x : T) → found ≡ Some x → P x) → IfSome found P
-if_some P None each = tt
-if_some P (Some x) each = each x refl
+-- what is asked has a code, if each such request has one
+asked_in_range : (asked : Option (Key × Request)) (found : Option Request) → found ≡ option_map (λ a. a.1) asked → ((ask : Key × Request) → asked ≡ Some ask → IsInRange ask.1)
+    → IfSome found IsInRange
+asked_in_range None found is each = subst (λ (r : Option Request). IfSome r IsInRange) (sym is) tt
+asked_in_range (Some ask) found is each = subst (λ (r : Option Request). IfSome r IsInRange) (sym is) (each ask refl)
 
 module _ (q : Query) where
   -- the goal for what is asked of a group
@@ -49,7 +49,11 @@ module _ (q : Query) where
   as_asks (Some ask) group wanted goal asks is = (wanted, ap Some asks.1, is)
 
   module _ (alt : Alt) where
-    alt_as : (children : Children) (wishes : List Request) → AreAsked q alt (groups_of children) wishes → (goal : GoalKind) → IsOfAlt children alt goal
+    -- the goal of a child for what the alternative asks of it
+    abbrev IsOfAlt : Children → GoalKind → Type 0
+    IsOfAlt children goal = IsOfAsked children (option_map (λ a. a.1) alt.left) (option_map (λ a. a.1) alt.right) goal
+
+    alt_as : (children : Children) (wishes : List Request) → AreAsked q alt (groups_of children) wishes → (goal : GoalKind) → IsOfAlt children goal
         → IsOfWishes (groups_of children) wishes goal
     alt_as arities.Zero wishes are goal is = absurd is
     alt_as (arities.One child) [] are goal is = absurd are
@@ -62,7 +66,7 @@ module _ (q : Query) where
     alt_as (arities.Two left right) (wanted ∷ other ∷ third ∷ wishes) are goal is = absurd are
 
     as_alt : (children : Children) (wishes : List Request) → AreAsked q alt (groups_of children) wishes → (goal : GoalKind) → IsOfWishes (groups_of children) wishes goal
-        → IsOfAlt children alt goal
+        → IsOfAlt children goal
     as_alt arities.Zero wishes are goal (group, below, asked, is) = absurd asked
     as_alt (arities.One child) [] are goal (group, below, asked, is) = absurd asked
     as_alt (arities.One child) (wanted ∷ []) are goal (group, below, inl (at, same), is) =
@@ -105,10 +109,10 @@ module _ (q : Query) where
     right_is_asked (arities.Two left right) (wanted ∷ other ∷ third ∷ wishes) are ask is = absurd are
 
     module _ (e : PhysicalExpr) (wanted : Request) (mode : ℕ) (line : Line) (by : IsAltBy q e wanted mode alt line) where
-      pub mode_as : (goal : GoalKind) → IsOfAlt (physical_children e.operator) alt goal → IsOfMode q e wanted mode goal
+      mode_as : (goal : GoalKind) → IsOfAlt (physical_children e.operator) goal → IsOfMode q e wanted mode goal
       mode_as goal is = (line, by.is_alternative, alt_as (physical_children e.operator) (asked_of line wanted) by.asks goal is)
 
-      pub as_mode : (goal : GoalKind) → IsOfMode q e wanted mode goal → IsOfAlt (physical_children e.operator) alt goal
+      as_mode : (goal : GoalKind) → IsOfMode q e wanted mode goal → IsOfAlt (physical_children e.operator) goal
       as_mode goal (other, is_other, of_wishes) =
           let ours = by.is_alternative.is_line in
           let theirs = is_other.is_line in
@@ -116,21 +120,15 @@ module _ (q : Query) where
           as_alt (physical_children e.operator) (asked_of line wanted) by.asks goal
           (subst (λ (l : Line). IsOfWishes (groups_of (physical_children e.operator)) (asked_of l wanted) goal) same of_wishes)
 
-      -- what is found of the alternative is found of the mode
-      pub mode_finds : (children : Children) (bound : ℕ) (found : Option GoalKind) → children ≡ physical_children e.operator → FindsFrom (IsOfAlt children alt) bound found
-          → FindsFrom (IsOfMode q e wanted mode) bound found
-      mode_finds children bound found are finds =
-          finds_as (IsOfAlt (physical_children e.operator) alt) (IsOfMode q e wanted mode) bound found mode_as as_mode
-          (subst (λ (x : Children). FindsFrom (IsOfAlt x alt) bound found) are finds)
+      -- the mode asks for what the alternative asks for
+      pub mode_exact : (first second : Option Request) → first ≡ option_map (λ a. a.1) alt.left → second ≡ option_map (λ a. a.1) alt.right → (goal : GoalKind)
+          → IsOfMode q e wanted mode goal ↔ IsOfAsked (physical_children e.operator) first second goal
+      mode_exact first second is_first is_second goal =
+          subst (λ (r : Option Request). IsOfMode q e wanted mode goal ↔ IsOfAsked (physical_children e.operator) r second goal) (sym is_first)
+          (subst (λ (r : Option Request). IsOfMode q e wanted mode goal ↔ IsOfAsked (physical_children e.operator) (option_map (λ a. a.1) alt.left) r goal) (sym is_second)
+          (as_mode goal, mode_as goal))
 
-      -- and what came of the alternative came of the mode
-      pub mode_inserted : (children : Children) (old new : List GoalKind) → children ≡ physical_children e.operator → InsertsGoals (IsOfAlt children alt) old new
-          → InsertsGoals (IsOfMode q e wanted mode) old new
-      mode_inserted children old new are inserts =
-          inserts_as (IsOfAlt (physical_children e.operator) alt) (IsOfMode q e wanted mode) old new mode_as as_mode
-          (subst (λ (x : Children). InsertsGoals (IsOfAlt x alt) old new) are inserts)
-
-      -- what the alternative asks for has a code
+      -- which has a code
       module _ (few_lists : length (lists_of q) ≤ 60) (few_orders : length (orders_of q) ≤ 60) (asks_what_fits : AsksWhatFits q) (candidate : IsCandidate q (expr_of e))
           (numbered : IsNumberedRequest q wanted) where
         ask_in_range : (group : KeyParts) (below : Request) → IsAsked (groups_of (physical_children e.operator)) (asked_of line wanted) group below → IsInRange below
@@ -142,23 +140,33 @@ module _ (q : Query) where
               is_asked = is_asked;
             }))
 
-        pub left_in_range : IfSome alt.left (λ a. IsInRange a.1)
-        left_in_range = if_some (λ (a : Key × Request). IsInRange a.1) alt.left (λ ask is.
+        pub first_in_range : (first : Option Request) → first ≡ option_map (λ a. a.1) alt.left → IfSome first IsInRange
+        first_in_range first is_first = asked_in_range alt.left first is_first (λ ask is.
             let (group, is_asked) = left_is_asked (physical_children e.operator) (asked_of line wanted) by.asks ask is in ask_in_range group ask.1 is_asked)
 
-        pub right_in_range : IfSome alt.right (λ a. IsInRange a.1)
-        right_in_range = if_some (λ (a : Key × Request). IsInRange a.1) alt.right (λ ask is.
+        pub second_in_range : (second : Option Request) → second ≡ option_map (λ a. a.1) alt.right → IfSome second IsInRange
+        second_in_range second is_second = asked_in_range alt.right second is_second (λ ask is.
             let (group, is_asked) = right_is_asked (physical_children e.operator) (asked_of line wanted) by.asks ask is in ask_in_range group ask.1 is_asked)
 
+  -- where nothing is asked, children have no goals
+  nothing_asked : (children : Children) (goal : GoalKind) → IsOfAsked children None None goal → ⊥
+  nothing_asked arities.Zero goal is = is
+  nothing_asked (arities.One child) goal (below, same, is) = absurd (cc)
+  nothing_asked (arities.Two left right) goal (inl (below, same, is)) = absurd (cc)
+  nothing_asked (arities.Two left right) goal (inr (below, same, is)) = absurd (cc)
+
+  -- nor has a mode in which no alternative is there
+  pub no_mode_exact : (e : PhysicalExpr) (wanted : Request) (mode : ℕ) → ((line : Line) → IsAlternative q e wanted mode line → ⊥) → (goal : GoalKind)
+      → IsOfMode q e wanted mode goal ↔ IsOfAsked (physical_children e.operator) None None goal
+  no_mode_exact e wanted mode none goal =
+      (λ (line, alternative, wishes). absurd (none line alternative), λ is. absurd (nothing_asked (physical_children e.operator) goal is))
+
 -- of two children it is the sooner one
-pub two_asked : (children : Children) (alt : Alt) (left right : KeyParts) (bound : ℕ) (a b found : Option GoalKind) (first second : Option Request) → children ≡ arities.Two left right
-    → first ≡ option_map (λ a. a.1) alt.left → second ≡ option_map (λ a. a.1) alt.right → found ≡ sooner_of a b
-    → FindsFrom (IsOfRequest left first) bound a → FindsFrom (IsOfRequest right second) bound b → FindsFrom (IsOfAlt children alt) bound found
-two_asked children alt left right bound a b found first second are is_first is_second is at_left at_right =
-    subst (λ (x : Children). FindsFrom (IsOfAlt x alt) bound found) (sym are)
-    (sooner_is (IsOfRequest left (option_map (λ (a : Key × Request). a.1) alt.left)) (IsOfRequest right (option_map (λ (a : Key × Request). a.1) alt.right)) bound a b found is
-    (subst (λ (r : Option Request). FindsFrom (IsOfRequest left r) bound a) is_first at_left)
-    (subst (λ (r : Option Request). FindsFrom (IsOfRequest right r) bound b) is_second at_right))
+pub two_asked : (children : Children) (first second : Option Request) (left right : KeyParts) (bound : ℕ) (a b found : Option GoalKind) → children ≡ arities.Two left right
+    → found ≡ sooner_of a b → FindsFrom (IsOfRequest left first) bound a → FindsFrom (IsOfRequest right second) bound b → FindsFrom (IsOfAsked children first second) bound found
+two_asked children first second left right bound a b found are is at_left at_right =
+    subst (λ (x : Children). FindsFrom (IsOfAsked x first second) bound found) (sym are)
+    (sooner_is (IsOfRequest left first) (IsOfRequest right second) bound a b found is at_left at_right)
 
 -- ---- one mode after the other
 

@@ -2,22 +2,19 @@
 use Rattle.std.proofs.Common.{◌≡◌, ◌≢◌, ℕ, zero, suc, ◌+◌, ◌<◌, ◌≤◌, List, [], ◌∷◌, Option, None, Some, ◌⊎◌, inl, inr, map, length, get_or, refl, sym, subst, ap, ◌∙◌, arith}
 use Rattle.std.specs.List.{Contains, insert}
 use Rattle.std.specs.List.Sorted.{IsPermutation, IsStrictlyIncreasing}
-use Rattle.std.specs.Option.{option_map}
 use Rattle.std.proofs.lemmas.Bool.{cases_eq, cases_lt}
 use Rattle.std.proofs.lemmas.List.{length-map}
 use Rattle.std.proofs.lemmas.List.Edits.{get_or-insert_above, get_or-insert_at, get_or-insert_below, length-insert}
 use Rattle.std.proofs.lemmas.List.Elements.{All-cons}
 use Rattle.std.proofs.lemmas.List.Sorted.{All-permutation, Contains-permutation, IsPermutation-insert, IsPermutation-sym}
-use Rattle.query_core.specs.declared.words.Key.{Key}
 use Rattle.query_core.specs.declared.words.KeyParts.{KeyParts}
 use Rattle.query_core.specs.declared.expressions.Children.{Children}
 use Rattle.query_core.specs.declared.expressions.Children.TheVariants as arities
 use Rattle.request_props.specs.declared.request.Request.{Request}
-use Rattle.plan_tree.specs.declared.alternatives.Alt.{Alt}
 use Rattle.goal_space.specs.Words.{goal_word, IsInRange}
 use Rattle.goal_space.specs.declared.goals.GoalKind.TheVariants.{Opt}
 use Rattle.goal_space.specs.declared.goals.GoalKind.{GoalKind}
-use Rattle.goal_children.specs.Choices.{IsOfAlt, IsOfRequest}
+use Rattle.goal_children.specs.Choices.{IsOfAsked, IsOfRequest}
 use Rattle.goal_children.specs.Finding.{InsertsGoals}
 use Rattle.goal_children.specs.GoalLists.{IsPlaceFor}
 use Rattle.goal_children.proofs.Collecting.{collects_as, collects_both, collects_nothing}
@@ -127,28 +124,25 @@ pub inserts_more : (S T U : GoalKind → Type 0) (old middle new : List GoalKind
     → InsertsGoals S old middle → InsertsGoals T middle new → InsertsGoals U old new
 inserts_more S T U old middle new to from first second = inserts_as (λ k. S k ⊎ T k) U old new to from (inserts_both S T old middle new first second)
 
--- ---- what an alternative asks for
+-- ---- what is asked of children
 
--- of two children
-pub two_inserted : (children : Children) (alt : Alt) (left right : KeyParts) (old middle new : List GoalKind) (first second : Option Request) → children ≡ arities.Two left right
-    → first ≡ option_map (λ a. a.1) alt.left → second ≡ option_map (λ a. a.1) alt.right → InsertsGoals (IsOfRequest left first) old middle
-    → InsertsGoals (IsOfRequest right second) middle new → InsertsGoals (IsOfAlt children alt) old new
-two_inserted children alt left right old middle new first second are is_first is_second of_left of_right =
-    subst (λ (x : Children). InsertsGoals (IsOfAlt x alt) old new) (sym are)
-    (inserts_both (IsOfRequest left (option_map (λ (a : Key × Request). a.1) alt.left)) (IsOfRequest right (option_map (λ (a : Key × Request). a.1) alt.right)) old middle new
-    (subst (λ (r : Option Request). InsertsGoals (IsOfRequest left r) old middle) is_first of_left)
-    (subst (λ (r : Option Request). InsertsGoals (IsOfRequest right r) middle new) is_second of_right))
+module _ (children : Children) (first second : Option Request) where
+  -- of two
+  pub two_inserted : (left right : KeyParts) (old middle new : List GoalKind) → children ≡ arities.Two left right → InsertsGoals (IsOfRequest left first) old middle
+      → InsertsGoals (IsOfRequest right second) middle new → InsertsGoals (IsOfAsked children first second) old new
+  two_inserted left right old middle new are of_left of_right =
+      subst (λ (x : Children). InsertsGoals (IsOfAsked x first second) old new) (sym are)
+      (inserts_both (IsOfRequest left first) (IsOfRequest right second) old middle new of_left of_right)
 
--- of one child
-pub one_inserted : (children : Children) (alt : Alt) (child : KeyParts) (old new : List GoalKind) (asked : Option Request) → children ≡ arities.One child
-    → asked ≡ option_map (λ a. a.1) alt.left → InsertsGoals (IsOfRequest child asked) old new → InsertsGoals (IsOfAlt children alt) old new
-one_inserted children alt child old new asked are is inserts =
-    subst (λ (x : Children). InsertsGoals (IsOfAlt x alt) old new) (sym are) (subst (λ (r : Option Request). InsertsGoals (IsOfRequest child r) old new) is inserts)
+  -- of one
+  pub one_inserted : (child : KeyParts) (old new : List GoalKind) → children ≡ arities.One child → InsertsGoals (IsOfRequest child first) old new
+      → InsertsGoals (IsOfAsked children first second) old new
+  one_inserted child old new are inserts = subst (λ (x : Children). InsertsGoals (IsOfAsked x first second) old new) (sym are) inserts
 
--- of no child nothing
-pub none_inserted : (children : Children) (alt : Alt) (goals : List GoalKind) → children ≡ arities.Zero → InsertsGoals (IsOfAlt children alt) goals goals
-none_inserted children alt goals are =
-    subst (λ (x : Children). InsertsGoals (IsOfAlt x alt) goals goals) (sym are) (inserts_nothing (IsOfAlt arities.Zero alt) goals (λ k is. is))
+  -- of no child nothing
+  pub none_inserted : (goals : List GoalKind) → children ≡ arities.Zero → InsertsGoals (IsOfAsked children first second) goals goals
+  none_inserted goals are =
+      subst (λ (x : Children). InsertsGoals (IsOfAsked x first second) goals goals) (sym are) (inserts_nothing (IsOfAsked arities.Zero first second) goals (λ k is. is))
 
 -- the goal for what is asked
 pub request_inserted : (group : KeyParts) (asked : Option Request) (wanted : Request) (old new : List GoalKind) → asked ≡ Some wanted

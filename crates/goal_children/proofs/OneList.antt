@@ -10,18 +10,23 @@ use Rattle.goal_space.specs.declared.goals.GoalKind.{GoalKind}
 use Rattle.goal_children.specs.Children.{IsChildIn, AreChildren}
 use Rattle.goal_children.proofs.Listing.{some_goal}
 
--- where a word is that of one goal, a list of words is that of one list
+-- where a number is that of one thing, a list of numbers is that of one list
+pub one_list : {A : Type 0} (number : A → ℕ) (Fits : A → Type 0) → ((k l : A) → Fits k → Fits l → number k ≡ number l → k ≡ l) → (ks ls : List A) → All Fits ks → All Fits ls
+    → map number ks ≡ map number ls → ks ≡ ls
+one_list number Fits one [] [] first second same = refl
+one_list number Fits one [] (l ∷ ls) first second same = absurd (cc)
+one_list number Fits one (k ∷ ks) [] first second same = absurd (cc)
+one_list number Fits one (k ∷ ks) (l ∷ ls) first second same =
+    let this : number k ≡ number l = cc in
+    let others : map number ks ≡ map number ls = cc in
+    let head : k ≡ l = one k l (All-head Fits k ks first) (All-head Fits l ls second) this in
+    let tail : ks ≡ ls = one_list number Fits one ks ls (All-tail Fits k ks first) (All-tail Fits l ls second) others in
+    cc
+
+-- so words are those of one list of goals
 pub goals_one : ((k l : GoalKind) → IsInRange k → IsInRange l → goal_word k ≡ goal_word l → k ≡ l) → (goals others : List GoalKind) → All IsInRange goals → All IsInRange others
     → map goal_word goals ≡ map goal_word others → goals ≡ others
-goals_one one [] [] first second same = refl
-goals_one one [] (l ∷ ls) first second same = absurd (cc)
-goals_one one (k ∷ ks) [] first second same = absurd (cc)
-goals_one one (k ∷ ks) (l ∷ ls) first second same =
-    let number : goal_word k ≡ goal_word l = cc in
-    let numbers : map goal_word ks ≡ map goal_word ls = cc in
-    let head : k ≡ l = one k l (All-head IsInRange k ks first) (All-head IsInRange l ls second) number in
-    let tail : ks ≡ ls = goals_one one ks ls (All-tail IsInRange k ks first) (All-tail IsInRange l ls second) numbers in
-    cc
+goals_one = one_list goal_word IsInRange
 
 -- a word of some goals is that of one of them
 pub goal_of_word : (goals : List GoalKind) (word : ℕ) → Contains (map goal_word goals) word → (goal : GoalKind) × Contains goals goal × (goal_word goal ≡ word)

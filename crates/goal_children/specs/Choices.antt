@@ -1,6 +1,5 @@
 -- What a choice of plans asks for: of its own group by enforcers, of other groups by alternatives.
 use Rattle.std.specs.Prelude.{ℕ, ◌≡◌, ◌<◌, ◌⊎◌, List, Option, Some}
-use Rattle.std.specs.Option.{option_map}
 use Rattle.query_core.specs.declared.query.Query.{Query}
 use Rattle.query_core.specs.declared.words.KeyParts.{KeyParts}
 use Rattle.query_core.specs.Expressions.{physical_children}
@@ -12,7 +11,6 @@ use Rattle.plan_space.specs.declared.lines.Line.{Line}
 use Rattle.plan_space.specs.Alternatives.{IsAlternative, asked_of}
 use Rattle.plan_space.specs.Choices.{groups_of}
 use Rattle.plan_space.specs.Enforcers.{EnforcedBy}
-use Rattle.plan_tree.specs.declared.alternatives.Alt.{Alt}
 use Rattle.goal_space.specs.Children.{IsAsked, AsksOf, CanEnforce}
 use Rattle.goal_space.specs.declared.goals.GoalKind.{GoalKind}
 use Rattle.goal_space.specs.declared.goals.GoalKind.TheVariants.{Imp, Opt}
@@ -37,11 +35,11 @@ IsOfWishes groups wishes goal = (group : KeyParts) × (below : Request) × IsAsk
 abbrev pub IsOfRequest : KeyParts → Option Request → GoalKind → Type 0
 IsOfRequest group wanted goal = (below : Request) × (wanted ≡ Some below) × (goal ≡ Opt group below)
 
--- the goal of a child for what the alternative asks of it
-abbrev pub IsOfAlt : Children → Alt → GoalKind → Type 0
-IsOfAlt arities.Zero alt goal = ⊥
-IsOfAlt (arities.One child) alt goal = IsOfRequest child (option_map (λ a. a.1) alt.left) goal
-IsOfAlt (arities.Two left right) alt goal = IsOfRequest left (option_map (λ a. a.1) alt.left) goal ⊎ IsOfRequest right (option_map (λ a. a.1) alt.right) goal
+-- the goal of a child for what is asked of it: of the one child or of the left, and of the right
+abbrev pub IsOfAsked : Children → Option Request → Option Request → GoalKind → Type 0
+IsOfAsked arities.Zero first second goal = ⊥
+IsOfAsked (arities.One child) first second goal = IsOfRequest child first goal
+IsOfAsked (arities.Two left right) first second goal = IsOfRequest left first goal ⊎ IsOfRequest right second goal
 
 -- the goal of a group for what the expression asks of it in this mode
 abbrev pub IsOfMode : Query → PhysicalExpr → Request → ℕ → GoalKind → Type 0

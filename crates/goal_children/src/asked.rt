@@ -11,14 +11,14 @@ ghost use Rattle.request_props.specs.Requests as requests;
 ghost use Rattle.plan_space.specs.Lines.{line_of as line_by_table};
 ghost use Rattle.goal_space.specs.Words.{IsInRange};
 ghost use Rattle.goal_children.specs.Over.{IsNumberedRequest};
-ghost use Rattle.goal_children.specs.Choices.{IsOfAlt, IsOfAlternatives, IsOfEnforcer, IsOfMode, IsOfRequest};
+ghost use Rattle.goal_children.specs.Choices.{IsOfAlternatives, IsOfAsked, IsOfEnforcer, IsOfMode, IsOfRequest};
 ghost use Rattle.goal_children.specs.Finding.{InsertsGoals};
 
-use crate::choice::{asked_of, enforced_by};
+use crate::choice::{asked_in_mode, enforced_by};
 use crate::words::insert_goal;
 use goal_space::GoalKind;
-use plan_space::{Line, what_is_asked_fits};
-use plan_tree::{Alt, alternative_by, modes_to_try, next_serving};
+use plan_space::Line;
+use plan_tree::{modes_to_try, next_serving};
 use query_core::{Children, KeyParts, PhysicalExpr, Query, candidates_are_known, groups_are_known};
 use request_props::{Props, Request};
 use std::alloc::AllocError;
@@ -66,30 +66,33 @@ fn insert_in_mode(
     ensures ok { OnOk result
         (InsertsGoals (IsOfMode query.now e wanted mode) goals.old.items goals.new.items) }
 {
-    // For the proof: children are groups with keys, and what is asked of them has numbers.
+    // For the proof: children are groups with keys.
     candidates_are_known();
     groups_are_known();
-    what_is_asked_fits();
-    match alternative_by(query, props, e, wanted, mode, line) {
-        Some(alt) => insert_wished(e.children(), alt, goals),
-        None => Ok(()),
-    }
+    let (first, second) = asked_in_mode(query, props, e, wanted, mode, line);
+    insert_wished(e.children(), first, second, goals)
 }
 
-// Adds the goals of the children for what the alternative asks of them.
-fn insert_wished(children: Children, alt: Alt, goals: &mut Vec<GoalKind>) -> Result<(), AllocError>
+// Adds the goals of the children for what is asked of them.
+fn insert_wished(
+    children: Children,
+    first: Option<Request>,
+    second: Option<Request>,
+    goals: &mut Vec<GoalKind>,
+) -> Result<(), AllocError>
     requires children { AreInRange children }
-    requires left { IfSome alt.left (λ asked. requests.IsInRange asked.1) }
-    requires right { IfSome alt.right (λ asked. requests.IsInRange asked.1) }
+    requires first { IfSome first requests.IsInRange }
+    requires second { IfSome second requests.IsInRange }
     requires listed { All IsInRange goals.old.items }
-    ensures ok { OnOk result (InsertsGoals (IsOfAlt children alt) goals.old.items goals.new.items) }
+    ensures ok { OnOk result
+        (InsertsGoals (IsOfAsked children first second) goals.old.items goals.new.items) }
 {
     match children {
         Children::Zero => Ok(()),
-        Children::One(child) => insert_request(child, asked_of(alt.left), goals),
+        Children::One(child) => insert_request(child, first, goals),
         Children::Two(left, right) => {
-            insert_request(left, asked_of(alt.left), goals)?;
-            insert_request(right, asked_of(alt.right), goals)?;
+            insert_request(left, first, goals)?;
+            insert_request(right, second, goals)?;
             Ok(())
         }
     }

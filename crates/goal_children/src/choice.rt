@@ -5,19 +5,19 @@ ghost use Rattle.std.specs.Prelude.{◌≡◌, ◌<◌, ◌↔◌, ◌⊎◌, If
 ghost use Rattle.std.specs.Option.{option_map};
 ghost use Rattle.query_core.specs.Keys as keys;
 ghost use Rattle.query_core.specs.Keys.{IsGroup};
-ghost use Rattle.query_core.specs.Expressions.{expr_of, AreInRange, IsCandidate};
+ghost use Rattle.query_core.specs.Expressions.{expr_of, physical_children, AreInRange, IsCandidate};
 ghost use Rattle.request_props.specs.Numbered.{IsProps};
 ghost use Rattle.request_props.specs.Requests.{IsInRange};
 ghost use Rattle.plan_space.specs.Lines.{line_of as line_by_table};
 ghost use Rattle.goal_space.specs.declared.goals.GoalKind.{GoalKind as AnyGoal};
 ghost use Rattle.goal_children.specs.Over.{IsNumberedRequest};
-ghost use Rattle.goal_children.specs.Choices.{IsOfAlt, IsOfAlternatives, IsOfEnforcer, IsOfMode, IsOfRequest};
+ghost use Rattle.goal_children.specs.Choices.{IsOfAlternatives, IsOfAsked, IsOfEnforcer, IsOfMode, IsOfRequest};
 ghost use Rattle.goal_children.specs.Finding.{FindsFrom};
 
 use crate::finding::{goal_from, sooner};
 use goal_space::GoalKind;
 use plan_space::{Line, what_is_asked_fits};
-use plan_tree::{Alt, Enforced, alternative_by, enforcer, modes_to_try, next_serving};
+use plan_tree::{Enforced, alternative_by, enforcer, modes_to_try, next_serving};
 use query_core::{
     Children, Key, KeyParts, PhysicalExpr, Query, candidates_are_known, groups_are_known,
 };
@@ -121,40 +121,69 @@ fn goal_in_mode(
     requires line { line_by_table query.now e mode ≡ Some line }
     ensures { FindsFrom (IsOfMode query.now e wanted mode) bound result }
 {
-    // For the proof: children are groups with keys, and what is asked of them has numbers.
+    // For the proof: children are groups with keys.
     candidates_are_known();
     groups_are_known();
+    let (first, second) = asked_in_mode(query, props, e, wanted, mode, line);
+    wished_goal_from(e.children(), first, second, bound)
+}
+
+/// What the expression asks of its children in one mode: of the one child or of the left, and of the right.
+pub fn asked_in_mode(
+    query: &Query,
+    props: &Props,
+    e: PhysicalExpr,
+    wanted: Request,
+    mode: u32,
+    line: Line,
+) -> (Option<Request>, Option<Request>)
+    requires props { IsProps query.now props.now }
+    requires candidate { IsCandidate query.now (expr_of e) }
+    requires numbered { IsNumberedRequest query.now wanted }
+    requires few { mode < 256 }
+    requires line { line_by_table query.now e mode ≡ Some line }
+    ensures exact { (goal : AnyGoal) → IsOfMode query.now e wanted mode goal
+        ↔ IsOfAsked (physical_children e.operator) result.0 result.1 goal }
+    ensures first { IfSome result.0 IsInRange }
+    ensures second { IfSome result.1 IsInRange }
+{
+    // For the proof: what is asked of children has numbers.
     what_is_asked_fits();
     match alternative_by(query, props, e, wanted, mode, line) {
-        Some(alt) => wished_goal_from(e.children(), alt, bound),
-        None => None,
+        Some(alt) => (asked_of(alt.left), asked_of(alt.right)),
+        None => (None, None),
     }
 }
 
-// The first goal of the children for what the alternative asks of them.
-fn wished_goal_from(children: Children, alt: Alt, bound: u64) -> Option<GoalKind>
-    requires children { AreInRange children }
-    requires left { IfSome alt.left (λ asked. IsInRange asked.1) }
-    requires right { IfSome alt.right (λ asked. IsInRange asked.1) }
-    ensures { FindsFrom (IsOfAlt children alt) bound result }
-{
-    match children {
-        Children::Zero => None,
-        Children::One(child) => asked_of_group(child, asked_of(alt.left), bound),
-        Children::Two(left, right) => sooner(
-            asked_of_group(left, asked_of(alt.left), bound),
-            asked_of_group(right, asked_of(alt.right), bound),
-        ),
-    }
-}
-
-/// What is asked of a child.
-pub fn asked_of(asked: Option<(Key, Request)>) -> Option<Request>
+// What is asked of a child.
+fn asked_of(asked: Option<(Key, Request)>) -> Option<Request>
     ensures { result ≡ option_map (λ a. a.1) asked }
 {
     match asked {
         Some((_, wanted)) => Some(wanted),
         None => None,
+    }
+}
+
+// The first goal of the children for what is asked of them.
+fn wished_goal_from(
+    children: Children,
+    first: Option<Request>,
+    second: Option<Request>,
+    bound: u64,
+) -> Option<GoalKind>
+    requires children { AreInRange children }
+    requires first { IfSome first IsInRange }
+    requires second { IfSome second IsInRange }
+    ensures { FindsFrom (IsOfAsked children first second) bound result }
+{
+    match children {
+        Children::Zero => None,
+        Children::One(child) => asked_of_group(child, first, bound),
+        Children::Two(left, right) => sooner(
+            asked_of_group(left, first, bound),
+            asked_of_group(right, second, bound),
+        ),
     }
 }
 

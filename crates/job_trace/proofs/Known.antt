@@ -7,6 +7,7 @@ use Rattle.query_core.specs.Keys.{key_number}
 use Rattle.query_core.specs.Expressions.{word_of, IsPacked, IsCandidate, IsCandidateWord}
 use Rattle.query_core.specs.declared.query.Query.{Query}
 use Rattle.query_core.specs.declared.expressions.ExprParts.{ExprParts}
+use Rattle.goal_children.proofs.OneList.{one_list}
 use Rattle.job_trace.specs.Memo.{AreMembers, groups_of, memo_section}
 use Rattle.job_trace.proofs.ByGroup.{key_of, AreFrom, others, lines_from, count_from, each_once, count_all, all_by_group}
 
@@ -27,15 +28,7 @@ members_there q words all ascending =
 -- where a word is that of one expression, a list of words is that of one list
 pub members_one : ((e f : ExprParts) → IsPacked e → IsPacked f → word_of e ≡ word_of f → e ≡ f) → (es fs : List ExprParts) → All IsPacked es → All IsPacked fs
     → map word_of es ≡ map word_of fs → es ≡ fs
-members_one one [] [] first second same = refl
-members_one one [] (f ∷ fs) first second same = absurd (cc)
-members_one one (e ∷ es) [] first second same = absurd (cc)
-members_one one (e ∷ es) (f ∷ fs) first second same =
-    let number : word_of e ≡ word_of f = cc in
-    let numbers : map word_of es ≡ map word_of fs = cc in
-    let head : e ≡ f = one e f (All-head IsPacked e es first) (All-head IsPacked f fs second) number in
-    let tail : es ≡ fs = members_one one es fs (All-tail IsPacked e es first) (All-tail IsPacked f fs second) numbers in
-    cc
+members_one = one_list word_of IsPacked
 
 -- a lesser number may come first
 rises_more : (first second : ℕ) (numbers : List ℕ) → first < second → IsStrictlyIncreasing (second ∷ numbers) → IsStrictlyIncreasing (first ∷ (second ∷ numbers))

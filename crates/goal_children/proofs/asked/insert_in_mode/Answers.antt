@@ -1,35 +1,27 @@
+use Rattle.std.proofs.Common.{sym, subst}
 use Rattle.std.proofs.lemmas.Result.{on_ok_weaker}
-use Rattle.goal_children.specs.Choices.{IsOfMode}
-use Rattle.goal_children.proofs.Alternatives.{left_in_range, right_in_range, mode_inserted}
-use Rattle.goal_children.proofs.Inserting.{inserts_nothing}
+use Rattle.query_core.specs.Expressions.{expr_of, physical_children, AreInRange}
+use Rattle.query_core.specs.declared.expressions.Children.{Children}
+use Rattle.goal_children.specs.Choices.{IsOfAsked, IsOfMode}
+use Rattle.goal_children.specs.Finding.{InsertsGoals}
+use Rattle.goal_children.proofs.Inserting.{inserts_as}
 use Rattle.goal_children.proofs.asked.insert_in_mode.Goals as goal
 
--- what is asked has numbers, and so codes
-pub insert_wished-requires-clause-left : goal.insert_wished-requires-clause-left
-insert_wished-requires-clause-left c =
-    let q = c.args.query.now in
-    let (line, by) = c.in-Some.ensures in
-    left_in_range q c.in-Some.alt c.args.e c.args.wanted c.args.mode line by c.requires.props.few_lists c.requires.props.few_orders
-    (c.what_is_asked_fits.ensures.children q) c.requires.candidate c.requires.numbered
+-- children are groups with keys
+pub insert_wished-requires-clause-children : goal.insert_wished-requires-clause-children
+insert_wished-requires-clause-children c =
+    subst AreInRange (sym c.children.ensures) (c.candidates_are_known.ensures.packed c.args.query.now (expr_of c.args.e) c.requires.candidate).children
 
-pub insert_wished-requires-clause-right : goal.insert_wished-requires-clause-right
-insert_wished-requires-clause-right c =
-    let q = c.args.query.now in
-    let (line, by) = c.in-Some.ensures in
-    right_in_range q c.in-Some.alt c.args.e c.args.wanted c.args.mode line by c.requires.props.few_lists c.requires.props.few_orders
-    (c.what_is_asked_fits.ensures.children q) c.requires.candidate c.requires.numbered
-
-pub returns-in-Some : goal.returns-in-Some
-returns-in-Some c =
-    let (line, by) = c.in-Some.ensures in
+-- what came of the children came of the mode
+pub returns : goal.returns
+returns c =
+    let Asked = λ (x : Children). IsOfAsked x c.asked_in_mode-first.result.0 c.asked_in_mode-first.result.1 in
+    let old = c.args.goals.now.items in
+    let new = c.insert_wished.new.goals.items in
     record {
       ok = on_ok_weaker c.insert_wished.result
-          (mode_inserted c.args.query.now c.in-Some.alt c.args.e c.args.wanted c.args.mode line by c.children.result c.args.goals.now.items c.insert_wished.new.goals.items c.children.ensures)
+          (λ inserts. inserts_as (Asked (physical_children c.args.e.operator)) (IsOfMode c.args.query.now c.args.e c.args.wanted c.args.mode) old new
+          (λ k. (c.asked_in_mode-first.ensures.exact k).1) (λ k. (c.asked_in_mode-first.ensures.exact k).0)
+          (subst (λ (x : Children). InsertsGoals (Asked x) old new) c.children.ensures inserts))
           c.insert_wished.ensures.ok;
     }
-
--- no alternative is there in this mode
-pub returns-in-None : goal.returns-in-None
-returns-in-None c = record {
-  ok = inserts_nothing (IsOfMode c.args.query.now c.args.e c.args.wanted c.args.mode) c.args.goals.now.items (λ k (line, alternative, wishes). c.in-None.ensures line alternative);
-}

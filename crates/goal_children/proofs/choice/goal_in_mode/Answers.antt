@@ -1,22 +1,21 @@
-use Rattle.goal_children.proofs.Alternatives.{left_in_range, right_in_range, mode_finds}
+use Rattle.std.proofs.Common.{sym, subst}
+use Rattle.query_core.specs.Expressions.{expr_of, physical_children, AreInRange}
+use Rattle.query_core.specs.declared.expressions.Children.{Children}
+use Rattle.goal_children.specs.Choices.{IsOfAsked, IsOfMode}
+use Rattle.goal_children.specs.Finding.{FindsFrom}
+use Rattle.goal_children.proofs.Finds.{finds_as}
 use Rattle.goal_children.proofs.choice.goal_in_mode.Goals as goal
 
--- what is asked has numbers, and so codes
-pub wished_goal_from-requires-clause-left : goal.wished_goal_from-requires-clause-left
-wished_goal_from-requires-clause-left c =
-    let q = c.args.query.now in
-    let (line, by) = c.in-Some.ensures in
-    left_in_range q c.in-Some.alt c.args.e c.args.wanted c.args.mode line by c.requires.props.few_lists c.requires.props.few_orders
-    (c.what_is_asked_fits.ensures.children q) c.requires.candidate c.requires.numbered
+-- children are groups with keys
+pub wished_goal_from-requires-clause-children : goal.wished_goal_from-requires-clause-children
+wished_goal_from-requires-clause-children c =
+    subst AreInRange (sym c.children.ensures) (c.candidates_are_known.ensures.packed c.args.query.now (expr_of c.args.e) c.requires.candidate).children
 
-pub wished_goal_from-requires-clause-right : goal.wished_goal_from-requires-clause-right
-wished_goal_from-requires-clause-right c =
-    let q = c.args.query.now in
-    let (line, by) = c.in-Some.ensures in
-    right_in_range q c.in-Some.alt c.args.e c.args.wanted c.args.mode line by c.requires.props.few_lists c.requires.props.few_orders
-    (c.what_is_asked_fits.ensures.children q) c.requires.candidate c.requires.numbered
-
-pub returns-in-Some : goal.returns-in-Some
-returns-in-Some c =
-    let (line, by) = c.in-Some.ensures in
-    mode_finds c.args.query.now c.in-Some.alt c.args.e c.args.wanted c.args.mode line by c.children.result c.args.bound c.wished_goal_from.result c.children.ensures c.wished_goal_from.ensures
+-- what is found of the children is found of the mode
+pub returns : goal.returns
+returns c =
+    let Asked = λ (x : Children). IsOfAsked x c.asked_in_mode-first.result.0 c.asked_in_mode-first.result.1 in
+    let found = c.wished_goal_from.result in
+    finds_as (Asked (physical_children c.args.e.operator)) (IsOfMode c.args.query.now c.args.e c.args.wanted c.args.mode) c.args.bound found
+    (λ k. (c.asked_in_mode-first.ensures.exact k).1) (λ k. (c.asked_in_mode-first.ensures.exact k).0)
+    (subst (λ (x : Children). FindsFrom (Asked x) c.args.bound found) c.children.ensures c.wished_goal_from.ensures)
