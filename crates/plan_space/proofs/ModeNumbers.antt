@@ -1,8 +1,8 @@
 -- The modes by their numbers.
 use Rattle.std.proofs.Common.{◌≡◌, ℕ, ◌-◌, ◌<◌, ◌≤◌, ◌⊎◌, inl, inr, refl, subst, arith, lt-ltb}
 use Rattle.std.proofs.lemmas.Bool.{cases_lt, le-ltb}
-use Rattle.plan_space.specs.Modes.{mode_at, HasMode}
-use Rattle.request_props.specs.NumberSets.{HasNumber}
+use Rattle.plan_space.specs.Modes.{mode_at, HasModeIn}
+use Rattle.request_props.specs.NumberSets.{IsInSet}
 use Rattle.plan_space.specs.declared.modes.Mode.TheVariants.{One, Copied, Hashed}
 use Rattle.plan_space.specs.declared.modes.ModeSets.{ModeSets}
 
@@ -19,12 +19,12 @@ pub hashed_at : (number : ℕ) → 128 ≤ number → mode_at number ≡ Hashed 
 hashed_at number far = rw (le-ltb number 64 (omega (arith, far)), le-ltb number 128 far) refl
 
 -- of each kind those by the numbers of a set
-pub has_cases : (sets : ModeSets) (number : ℕ) → HasMode sets (mode_at number)
-    → ((number < 64) × HasNumber sets.one number) ⊎ ((64 ≤ number) × (number < 128) × HasNumber sets.copied (number - 64)) ⊎ ((128 ≤ number) × HasNumber sets.hashed (number - 128))
+pub has_cases : (sets : ModeSets) (number : ℕ) → HasModeIn sets (mode_at number)
+    → ((number < 64) × IsInSet sets.one number) ⊎ ((64 ≤ number) × (number < 128) × IsInSet sets.copied (number - 64)) ⊎ ((128 ≤ number) × IsInSet sets.hashed (number - 128))
 has_cases sets number is = elim (cases_lt number 64) [
-  | inl near ↦ inl (near, subst (HasMode sets) (one_at number near) is)
+  | inl near ↦ inl (near, subst (HasModeIn sets) (one_at number near) is)
   | inr far ↦ elim (cases_lt number 128) [
-    | inl less ↦ inr (inl (far, less, subst (HasMode sets) (copied_at number far less) is))
-    | inr more ↦ inr (inr (more, subst (HasMode sets) (hashed_at number more) is))
+    | inl less ↦ inr (inl (far, less, subst (HasModeIn sets) (copied_at number far less) is))
+    | inr more ↦ inr (inr (more, subst (HasModeIn sets) (hashed_at number more) is))
   ]
 ]

@@ -3,7 +3,7 @@ use Rattle.std.specs.Prelude.{ℕ, ◌-◌, nat_lt, if◌then◌else◌, ⊤}
 use Rattle.plan_space.specs.declared.modes.Mode.{Mode}
 use Rattle.plan_space.specs.declared.modes.Mode.TheVariants.{One, Copied, Hashed}
 use Rattle.plan_space.specs.declared.modes.ModeSets.{ModeSets}
-use Rattle.request_props.specs.NumberSets.{HasNumber}
+use Rattle.request_props.specs.NumberSets.{IsInSet}
 
 -- the mode of a number
 abbrev pub mode_at : ℕ → Mode
@@ -25,7 +25,7 @@ IsSpread (Copied number) = ⊤
 IsSpread (Hashed number) = ⊤
 
 -- the mode is by a number of the set of its kind
-abbrev pub HasMode : ModeSets → Mode → Type 0
-HasMode sets (One number) = HasNumber sets.one number
-HasMode sets (Copied number) = HasNumber sets.copied number
-HasMode sets (Hashed number) = HasNumber sets.hashed number
+abbrev pub HasModeIn : ModeSets → Mode → Type 0
+HasModeIn sets (One number) = IsInSet sets.one number
+HasModeIn sets (Copied number) = IsInSet sets.copied number
+HasModeIn sets (Hashed number) = IsInSet sets.hashed number

@@ -2,7 +2,7 @@
 #![tactic(auto)]
 
 ghost use Rattle.std.specs.Prelude.{ℕ, ◌≡◌, ◌<◌, ◌≤◌};
-ghost use Rattle.plan_space.specs.Modes.{mode_at, HasMode, IsOnOne, IsSpread};
+ghost use Rattle.plan_space.specs.Modes.{mode_at, HasModeIn, IsOnOne, IsSpread};
 ghost use Rattle.plan_space.specs.declared.modes.Mode.{Mode as AnyMode};
 
 use request_props::NumberSet;
@@ -60,7 +60,7 @@ impl ModeSets {
 
     /// Those in which all rows are on one segment.
     pub fn on_one(self) -> ModeSets
-        ensures { (mode : AnyMode) → HasMode self mode → IsOnOne mode → HasMode result mode }
+        ensures { (mode : AnyMode) → HasModeIn self mode → IsOnOne mode → HasModeIn result mode }
     {
         ModeSets {
             one: self.one,
@@ -71,7 +71,7 @@ impl ModeSets {
 
     /// The others.
     pub fn spread(self) -> ModeSets
-        ensures { (mode : AnyMode) → HasMode self mode → IsSpread mode → HasMode result mode }
+        ensures { (mode : AnyMode) → HasModeIn self mode → IsSpread mode → HasModeIn result mode }
     {
         ModeSets {
             one: NumberSet::none(),
@@ -84,7 +84,7 @@ impl ModeSets {
     pub fn next(self, from: u32) -> u32
         ensures from { from ≤ result }
         ensures none { (number : ℕ) → from ≤ number → number < result →
-            HasMode self (mode_at number) → ⊥ }
+            HasModeIn self (mode_at number) → ⊥ }
     {
         let one = self.one.next(from);
         if one < COPIED {

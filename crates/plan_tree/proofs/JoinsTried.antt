@@ -11,7 +11,7 @@ use Rattle.query_core.specs.declared.expressions.Physical.TheVariants as physica
 use Rattle.query_core.specs.declared.expressions.PhysicalExpr.{PhysicalExpr}
 use Rattle.query_core.specs.declared.query.Query.{Query}
 use Rattle.query_core.specs.declared.words.KeyParts.{KeyParts}
-use Rattle.request_props.specs.NumberSets.{HasBelow, HasNumber}
+use Rattle.request_props.specs.NumberSets.{HasBelow, IsInSet}
 use Rattle.request_props.specs.Numbered.{column_list, column_order, order_of}
 use Rattle.request_props.specs.Satisfied.{BeginsWith, Meets}
 use Rattle.request_props.specs.declared.given.GivenDist.TheVariants as given
@@ -21,7 +21,7 @@ use Rattle.request_props.specs.declared.request.Dist.TheVariants.{One, Copies, H
 use Rattle.request_props.specs.declared.request.Request.{Request}
 use Rattle.plan_space.specs.Alternatives.{LineServes}
 use Rattle.plan_space.specs.Lines.{on_one, on_hashed, hash_colocated, hash_line, merge_with, merge_colocated, merge_line, operator_line}
-use Rattle.plan_space.specs.Modes.{mode_at, HasMode}
+use Rattle.plan_space.specs.Modes.{mode_at, HasModeIn}
 use Rattle.plan_space.specs.declared.lines.LeftDist.{LeftDist}
 use Rattle.plan_space.specs.declared.lines.LeftDist.TheVariants as left_dists
 use Rattle.plan_space.specs.declared.lines.Line.{Line}
@@ -38,7 +38,7 @@ MergesIn q wanted column = BeginsWith (order_of q (column_order q column)) (orde
 
 -- all predicates that equate such a column across the groups are among these
 abbrev pub AreMergingIn : Query → KeyParts → KeyParts → ℕ → NumberSet → Type 0
-AreMergingIn q left right wanted preds = (pred a b : ℕ) → crossing_of q left right pred ≡ Some (a, b) → MergesIn q wanted a → HasNumber preds pred
+AreMergingIn q left right wanted preds = (pred a b : ℕ) → crossing_of q left right pred ≡ Some (a, b) → MergesIn q wanted a → IsInSet preds pred
 
 with_merges : (q : Query) (dist : LeftDist) (asked : Dist) (sides : ℕ × ℕ) (children : Children) (wanted : Request)
     → LineServes q (merge_with q dist asked sides) children wanted → MergesIn q wanted.order sides.0
@@ -52,7 +52,7 @@ HashesTo q wanted column = Meets (given.Hashed (column_list q column)) wanted
 
 -- all predicates that equate such a column across the groups are among these
 abbrev pub AreHashingTo : Query → KeyParts → KeyParts → Dist → NumberSet → Type 0
-AreHashingTo q left right wanted preds = (pred a b : ℕ) → crossing_of q left right pred ≡ Some (a, b) → HashesTo q wanted a → HasNumber preds pred
+AreHashingTo q left right wanted preds = (pred a b : ℕ) → crossing_of q left right pred ≡ Some (a, b) → HashesTo q wanted a → IsInSet preds pred
 
 hash_serves : (q : Query) (sides : ℕ × ℕ) (children : Children) (wanted : Request) → LineServes q (hash_colocated q sides) children wanted → HashesTo q wanted.dist sides.0
 hash_serves q sides arities.Zero wanted serves = absurd serves
@@ -66,10 +66,10 @@ merge_hashes q sides (arities.Two left right) wanted serves = serves.serves.dist
 
 module _ (q : Query) (line : Line) (children : Children) (wanted : Request) (left right : KeyParts) where
   -- a line made of a crossing that serves is by a predicate of which holds what serving says
-  found_serves : (Serves : ℕ → Type 0) (preds : NumberSet) → ((pred a b : ℕ) → crossing_of q left right pred ≡ Some (a, b) → Serves a → HasNumber preds pred)
+  found_serves : (Serves : ℕ → Type 0) (preds : NumberSet) → ((pred a b : ℕ) → crossing_of q left right pred ≡ Some (a, b) → Serves a → IsInSet preds pred)
       → (line_with : (ℕ × ℕ) → Line) → ((sides : ℕ × ℕ) → LineServes q (line_with sides) children wanted → Serves sides.0)
       → (pred : ℕ) (found : Option (ℕ × ℕ)) → crossing_of q left right pred ≡ found → option_map line_with found ≡ Some line → LineServes q line children wanted
-      → HasNumber preds pred
+      → IsInSet preds pred
   found_serves Serves preds all line_with each pred None at is serves = let wrong : ⊥ = cc in absurd wrong
   found_serves Serves preds all line_with each pred (Some (a, b)) at is serves =
       let same : line ≡ line_with (a, b) = cc in
@@ -77,23 +77,23 @@ module _ (q : Query) (line : Line) (children : Children) (wanted : Request) (lef
 
   module _ (hashing : NumberSet) (hashes : AreHashingTo q left right wanted.dist hashing) where
     hash_mode : (modes : ModeSets) → HasBelow modes.one 1 → HasBelow modes.copied 1 → modes.hashed ≡ hashing
-        → (mode : Mode) → hash_line q left right mode ≡ Some line → LineServes q line children wanted → HasMode modes mode
+        → (mode : Mode) → hash_line q left right mode ≡ Some line → LineServes q line children wanted → HasModeIn modes mode
     hash_mode modes one copied hashed (kinds.One number) is serves = one number (only_first _ line number is)
     hash_mode modes one copied hashed (kinds.Copied number) is serves = copied number (only_first _ line number is)
     hash_mode modes one copied hashed (kinds.Hashed number) is serves =
-        subst (λ preds. HasNumber preds number) (sym hashed)
+        subst (λ preds. IsInSet preds number) (sym hashed)
         (found_serves (HashesTo q wanted.dist) hashing hashes (hash_colocated q) (λ sides. hash_serves q sides children wanted) number (crossing_of q left right number) refl is serves)
 
     module _ (merging both : NumberSet) (merges : AreMergingIn q left right wanted.order merging)
-        (in_both : (pred : ℕ) → HasNumber merging pred → HasNumber hashing pred → HasNumber both pred) where
+        (in_both : (pred : ℕ) → IsInSet merging pred → IsInSet hashing pred → IsInSet both pred) where
       merge_mode : (modes : ModeSets) → modes.one ≡ merging → modes.copied ≡ merging → modes.hashed ≡ both
-          → (mode : Mode) → merge_line q left right mode ≡ Some line → LineServes q line children wanted → HasMode modes mode
+          → (mode : Mode) → merge_line q left right mode ≡ Some line → LineServes q line children wanted → HasModeIn modes mode
       merge_mode modes one copied hashed (kinds.One number) is serves =
-          subst (λ preds. HasNumber preds number) (sym one)
+          subst (λ preds. IsInSet preds number) (sym one)
           (found_serves (MergesIn q wanted.order) merging merges (merge_with q on_one One) (λ sides. with_merges q on_one One sides children wanted)
           number (crossing_of q left right number) refl is serves)
       merge_mode modes one copied hashed (kinds.Copied number) is serves =
-          subst (λ preds. HasNumber preds number) (sym copied)
+          subst (λ preds. IsInSet preds number) (sym copied)
           (found_serves (MergesIn q wanted.order) merging merges (merge_with q left_dists.SameSpread Copies) (λ sides. with_merges q left_dists.SameSpread Copies sides children wanted)
           number (crossing_of q left right number) refl is serves)
       merge_mode modes one copied hashed (kinds.Hashed number) is serves =
@@ -101,7 +101,7 @@ module _ (q : Query) (line : Line) (children : Children) (wanted : Request) (lef
           let in_order = found_serves (MergesIn q wanted.order) merging merges (merge_colocated q)
           (λ sides. with_merges q (on_hashed (column_list q sides.0)) (Hashed (column_list q sides.1)) sides children wanted) number found refl is serves in
           let in_place = found_serves (HashesTo q wanted.dist) hashing hashes (merge_colocated q) (λ sides. merge_hashes q sides children wanted) number found refl is serves in
-          subst (λ preds. HasNumber preds number) (sym hashed) (in_both number in_order in_place)
+          subst (λ preds. IsInSet preds number) (sym hashed) (in_both number in_order in_place)
 
 module _ (q : Query) (e : PhysicalExpr) (left right : KeyParts) (wanted : Request) (modes : ModeSets) (hashing : NumberSet) (hashes : AreHashingTo q left right wanted.dist hashing) where
   -- a hash join serves a request in its first modes, and hashed by such a predicate
@@ -111,7 +111,7 @@ module _ (q : Query) (e : PhysicalExpr) (left right : KeyParts) (wanted : Reques
       hash_mode q line (physical_children e.operator) wanted left right hashing hashes modes one copied hashed (mode_at mode) found is.serves
 
   -- a merge join only by one whose left column gives the order, and hashed only by one that is both
-  pub merge_join_tried : (merging both : NumberSet) → AreMergingIn q left right wanted.order merging → ((pred : ℕ) → HasNumber merging pred → HasNumber hashing pred → HasNumber both pred)
+  pub merge_join_tried : (merging both : NumberSet) → AreMergingIn q left right wanted.order merging → ((pred : ℕ) → IsInSet merging pred → IsInSet hashing pred → IsInSet both pred)
       → e.operator ≡ physical.MergeJoin left right → modes.one ≡ merging → modes.copied ≡ merging → modes.hashed ≡ both → AreServing q e wanted modes
   merge_join_tried merging both merges in_both joins one copied hashed mode (line, is) =
       let found = subst (λ (o : Physical). operator_line q e.group o (mode_at mode) ≡ Some line) joins is.is_line in

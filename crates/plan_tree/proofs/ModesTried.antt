@@ -9,7 +9,7 @@ use Rattle.plan_space.specs.Alternatives.{LineServes}
 use Rattle.plan_space.specs.Lines.{line_of}
 use Rattle.plan_space.specs.declared.lines.Line.{Line}
 use Rattle.plan_tree.specs.Alternatives.{HasAlternative}
-use Rattle.plan_space.specs.Modes.{mode_at, HasMode}
+use Rattle.plan_space.specs.Modes.{mode_at, HasModeIn}
 use Rattle.plan_space.specs.declared.modes.ModeSets.{ModeSets}
 use Rattle.plan_tree.specs.ServingModes.{AreServing, IsNextServing, NoneServes}
 use Rattle.plan_tree.specs.Walks.{IsNextTried}
@@ -52,7 +52,7 @@ module _ (q : Query) (e : PhysicalExpr) (wanted : Request) where
   all_below from after mode has = elim (cases_lt mode from) [ inl less ↦ less | inr most ↦ absurd (after mode most has) ]
 
   module _ (modes : ModeSets) (are : AreServing q e wanted modes) where
-    untried : (mode : ℕ) → (HasMode modes (mode_at mode) → line_of q e mode ≡ None) → HasAlternative q e wanted mode → ⊥
+    untried : (mode : ℕ) → (HasModeIn modes (mode_at mode) → line_of q e mode ≡ None) → HasAlternative q e wanted mode → ⊥
     untried mode none has = no_line mode (none (are mode has)) has
 
     -- none before the next of these with a line serves, and where there is no next one, none at all

@@ -12,7 +12,7 @@ use Rattle.query_core.specs.declared.expressions.PhysicalExpr.{PhysicalExpr}
 use Rattle.request_props.specs.Numbered.{lists_of, group_order}
 use Rattle.request_props.specs.NumberSets.{HasBelow}
 use Rattle.plan_space.specs.Lines.{only_line, single_line, loop_line, agg_line, operator_line, line_of}
-use Rattle.plan_space.specs.Modes.{mode_at, HasMode}
+use Rattle.plan_space.specs.Modes.{mode_at, HasModeIn}
 use Rattle.plan_space.specs.declared.lines.Line.{Line}
 use Rattle.plan_space.specs.declared.modes.Mode.{Mode}
 use Rattle.plan_space.specs.declared.modes.Mode.TheVariants.{One, Copied, Hashed}
@@ -30,12 +30,12 @@ only_first own line number =
     cond_both (number == 0) (Some own) None (λ found. found ≡ Some line → number < 1) (λ first is. omega (arith, eqb-true number 0 first)) (λ other never. cc)
 
 module _ (q : Query) (modes : ModeSets) (line : Line) where
-  single_tried : HasBelow modes.one 1 → (own : Line) (mode : Mode) → single_line own mode ≡ Some line → HasMode modes mode
+  single_tried : HasBelow modes.one 1 → (own : Line) (mode : Mode) → single_line own mode ≡ Some line → HasModeIn modes mode
   single_tried first own (One number) is = first number (only_first own line number is)
   single_tried first own (Copied number) is = let wrong : ⊥ = cc in absurd wrong
   single_tried first own (Hashed number) is = let wrong : ⊥ = cc in absurd wrong
 
-  loop_tried : HasBelow modes.one 1 → HasBelow modes.copied 1 → (mode : Mode) → loop_line mode ≡ Some line → HasMode modes mode
+  loop_tried : HasBelow modes.one 1 → HasBelow modes.copied 1 → (mode : Mode) → loop_line mode ≡ Some line → HasModeIn modes mode
   loop_tried first copied (One number) is = first number (only_first _ line number is)
   loop_tried first copied (Copied number) is = copied number (only_first _ line number is)
   loop_tried first copied (Hashed number) is = let wrong : ⊥ = cc in absurd wrong
@@ -45,12 +45,12 @@ module _ (q : Query) (modes : ModeSets) (line : Line) where
       cond_both (nat_lt list (length (lists_of q))) _ None (λ found. found ≡ Some line → list < length (lists_of q))
       (λ numbered is. ltb-true list (length (lists_of q)) numbered) (λ other never. cc)
 
-  agg_tried : HasBelow modes.one 1 → HasBelow modes.hashed (length (lists_of q)) → (order : ℕ) (mode : Mode) → agg_line q order mode ≡ Some line → HasMode modes mode
+  agg_tried : HasBelow modes.one 1 → HasBelow modes.hashed (length (lists_of q)) → (order : ℕ) (mode : Mode) → agg_line q order mode ≡ Some line → HasModeIn modes mode
   agg_tried first lists order (One number) is = first number (only_first _ line number is)
   agg_tried first lists order (Copied number) is = let wrong : ⊥ = cc in absurd wrong
   agg_tried first lists order (Hashed list) is = lists list (list_numbered order list is)
 
-  pub operator_tried : (group : KeyParts) (operator : Physical) (mode : Mode) → AreTriedOf q operator modes → operator_line q group operator mode ≡ Some line → HasMode modes mode
+  pub operator_tried : (group : KeyParts) (operator : Physical) (mode : Mode) → AreTriedOf q operator modes → operator_line q group operator mode ≡ Some line → HasModeIn modes mode
   operator_tried group physical.Scan mode are is = single_tried are _ mode is
   operator_tried group (physical.IndexScan index) mode are is = single_tried are _ mode is
   operator_tried group (physical.Filter child) mode are is = single_tried are _ mode is
@@ -68,12 +68,12 @@ module _ (q : Query) (modes : ModeSets) (line : Line) where
 
 module _ (q : Query) (e : PhysicalExpr) (modes : ModeSets) where
   -- numbers that are passed have no line among these
-  pub none_passed : (from below : ℕ) → ((mode : ℕ) → from ≤ mode → mode < below → HasMode modes (mode_at mode) → ⊥) → AreNoneTried q e modes from below
+  pub none_passed : (from below : ℕ) → ((mode : ℕ) → from ≤ mode → mode < below → HasModeIn modes (mode_at mode) → ⊥) → AreNoneTried q e modes from below
   none_passed from below passed mode above within has = absurd (passed mode above within has)
 
   -- those before a mode without a line, and those behind it that are passed
   pub none_after : (from mode next : ℕ) → AreNoneTried q e modes from mode → line_of q e mode ≡ None
-      → ((m : ℕ) → mode + 1 ≤ m → m < next → HasMode modes (mode_at m) → ⊥) → AreNoneTried q e modes from next
+      → ((m : ℕ) → mode + 1 ≤ m → m < next → HasModeIn modes (mode_at m) → ⊥) → AreNoneTried q e modes from next
   none_after from mode next before here passed m above within has = elim (cases_lt m mode) [
     | inl earlier ↦ before m above earlier has
     | inr later ↦ elim (cases_lt mode m) [
@@ -84,7 +84,7 @@ module _ (q : Query) (e : PhysicalExpr) (modes : ModeSets) where
 
   -- and all of them, where those with a line are few
   pub none_from : (from mode : ℕ) → AreNoneTried q e modes from mode → 192 ≤ mode → ((m : ℕ) (line : Line) → line_of q e m ≡ Some line → m < 192)
-      → (m : ℕ) → from ≤ m → HasMode modes (mode_at m) → line_of q e m ≡ None
+      → (m : ℕ) → from ≤ m → HasModeIn modes (mode_at m) → line_of q e m ≡ None
   none_from from mode before far few m above has =
       elim (line_of q e m) as (λ (found : Option Line). line_of q e m ≡ found → found ≡ None) [
         | None ↦ λ is. refl
@@ -97,14 +97,14 @@ module _ (q : Query) (e : PhysicalExpr) (modes : ModeSets) where
 
   module _ (are : AreTriedOf q e.operator modes) where
     -- a mode that would have a line, and isn't tried, has none
-    untried : (mode : ℕ) (found : Option Line) → line_of q e mode ≡ found → (HasMode modes (mode_at mode) → line_of q e mode ≡ None) → found ≡ None
+    untried : (mode : ℕ) (found : Option Line) → line_of q e mode ≡ found → (HasModeIn modes (mode_at mode) → line_of q e mode ≡ None) → found ≡ None
     untried mode None is none = refl
     untried mode (Some line) is none =
         let never = none (operator_tried q modes line e.group e.operator (mode_at mode) are is) in
         let wrong : ⊥ = cc in
         absurd wrong
 
-    all_tried : (mode : ℕ) → (HasMode modes (mode_at mode) → line_of q e mode ≡ None) → line_of q e mode ≡ None
+    all_tried : (mode : ℕ) → (HasModeIn modes (mode_at mode) → line_of q e mode ≡ None) → line_of q e mode ≡ None
     all_tried mode none = untried mode (line_of q e mode) refl none
 
     none_tried : (from below : ℕ) → AreNoneTried q e modes from below → AreNone q e from below

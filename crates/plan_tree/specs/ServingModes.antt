@@ -10,7 +10,7 @@ use Rattle.request_props.specs.declared.request.Dist.{Dist}
 use Rattle.request_props.specs.declared.request.Dist.TheVariants.{One, Spread, Copies, Hashed}
 use Rattle.request_props.specs.declared.request.Request.{Request}
 use Rattle.plan_space.specs.Lines.{line_of}
-use Rattle.plan_space.specs.Modes.{mode_at, HasMode}
+use Rattle.plan_space.specs.Modes.{mode_at, HasModeIn}
 use Rattle.plan_space.specs.declared.lines.Line.{Line}
 use Rattle.plan_space.specs.declared.modes.ModeSets.{ModeSets}
 use Rattle.plan_tree.specs.Alternatives.{HasAlternative}
@@ -50,7 +50,7 @@ NoneServes q e wanted from below = (mode : ℕ) → from ≤ mode → mode < bel
 
 -- all modes that are there for the request are among these
 abbrev pub AreServing : Query → PhysicalExpr → Request → ModeSets → Type 0
-AreServing q e wanted modes = (mode : ℕ) → HasAlternative q e wanted mode → HasMode modes (mode_at mode)
+AreServing q e wanted modes = (mode : ℕ) → HasAlternative q e wanted mode → HasModeIn modes (mode_at mode)
 
 -- a mode from the number on, with its line, before which none is there for the request; or none is at all
 abbrev pub IsNextServing : Query → PhysicalExpr → Request → ℕ → Option (ℕ × Line) → Type 0

@@ -7,10 +7,10 @@ use Rattle.query_core.specs.declared.query.Query.{Query}
 use Rattle.query_core.specs.Crossing.{crossing_of}
 use Rattle.query_core.specs.declared.words.KeyParts.{KeyParts}
 use Rattle.request_props.specs.Numbered.{lists_of}
-use Rattle.request_props.specs.NumberSets.{HasBelow, HasNumber}
+use Rattle.request_props.specs.NumberSets.{HasBelow, IsInSet}
 use Rattle.request_props.specs.declared.number_set.NumberSet.{NumberSet}
 use Rattle.plan_space.specs.Lines.{line_of}
-use Rattle.plan_space.specs.Modes.{mode_at, HasMode}
+use Rattle.plan_space.specs.Modes.{mode_at, HasModeIn}
 use Rattle.plan_space.specs.declared.lines.Line.{Line}
 use Rattle.plan_space.specs.declared.modes.ModeSets.{ModeSets}
 
@@ -25,16 +25,16 @@ IsNextLine q e from (Some found) = (from ≤ found.0) × (found.0 < 192) × AreN
 
 -- none of these modes from the number on and below the other has a line
 abbrev pub AreNoneTried : Query → PhysicalExpr → ModeSets → ℕ → ℕ → Type 0
-AreNoneTried q e modes from below = (mode : ℕ) → from ≤ mode → mode < below → HasMode modes (mode_at mode) → line_of q e mode ≡ None
+AreNoneTried q e modes from below = (mode : ℕ) → from ≤ mode → mode < below → HasModeIn modes (mode_at mode) → line_of q e mode ≡ None
 
 -- a mode from the number on that has a line, with its line, before which none of these has; or none of these has one
 abbrev pub IsNextTried : Query → PhysicalExpr → ModeSets → ℕ → Option (ℕ × Line) → Type 0
-IsNextTried q e modes from None = (mode : ℕ) → from ≤ mode → HasMode modes (mode_at mode) → line_of q e mode ≡ None
+IsNextTried q e modes from None = (mode : ℕ) → from ≤ mode → HasModeIn modes (mode_at mode) → line_of q e mode ≡ None
 IsNextTried q e modes from (Some found) = (from ≤ found.0) × (found.0 < 192) × AreNoneTried q e modes from found.0 × (line_of q e found.0 ≡ Some found.1)
 
 -- each predicate that equates columns across the groups is among these
 abbrev pub AreCrossingsBetween : Query → KeyParts → KeyParts → NumberSet → Type 0
-AreCrossingsBetween q left right preds = (pred : ℕ) → (crossing_of q left right pred ≡ None → ⊥) → HasNumber preds pred
+AreCrossingsBetween q left right preds = (pred : ℕ) → (crossing_of q left right pred ≡ None → ⊥) → IsInSet preds pred
 
 -- each mode in which the operator can work is among these: the first of a kind, or those by equalities or lists
 abbrev pub AreTriedOf : Query → Physical → ModeSets → Type 0

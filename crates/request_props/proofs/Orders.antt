@@ -1,12 +1,12 @@
 -- The numbered orders of a query, and orders that begin with others.
-use Rattle.std.proofs.Common.{◌≡◌, ℕ, zero, suc, ◌*◌, ◌<◌, ◌≤◌, ◌⊎◌, List, [], ◌∷◌, ◌++◌, length, map, inl, inr, refl, sym, ap, subst, ◌∙◌, arith, bytes_eq}
+use Rattle.std.proofs.Common.{◌≡◌, ℕ, zero, suc, ◌*◌, ◌<◌, ◌≤◌, ◌⊎◌, List, [], ◌∷◌, ◌++◌, length, map, inl, inr, refl, sym, ap, subst, ◌∙◌, arith, false, bytes_eq}
 use Rattle.std.specs.Prelude.{slice_index_or}
 use Rattle.std.specs.List.{Contains, position_or_len}
-use Rattle.std.proofs.lemmas.Bool.{cases_lt}
-use Rattle.std.proofs.lemmas.List.Sums.{passes_at_first}
+use Rattle.std.proofs.lemmas.Bool.{cases_lt, false≢true}
+use Rattle.std.proofs.lemmas.List.Sums.{fails_before_first, passes_at_first}
 use Rattle.std.proofs.lemmas.Slice.Eq.{bytes_eq-Decides}
 use Rattle.std.proofs.Math.ListN.{get_or-eq_default}
-use Rattle.std.proofs.lemmas.List.Elements.{Contains-append_left}
+use Rattle.std.proofs.lemmas.List.Elements.{Contains-append_left, Contains-get_or}
 use Rattle.query_core.specs.declared.query.Query.{Query}
 use Rattle.query_core.specs.declared.output.OrderKey.{OrderKey}
 use Rattle.request_props.specs.declared.props.Props.{Props}
@@ -80,3 +80,39 @@ begins_given q column wanted begins = elim (itself_or_empty (orders_of q) ((2 * 
   | inl is ↦ begins_alone column wanted (subst (λ (order : List ℕ). BeginsWith order wanted) is begins)
   | inr is ↦ inl (begins_empty (order_of q (column_order q column)) wanted is begins)
 ]
+
+-- what is there has its first place below the end
+place_below : (lists : List (List ℕ)) (list : List ℕ) → Contains lists list → position_or_len (bytes_eq list) lists < length lists
+place_below lists list (k, within, here) =
+    let place = position_or_len (bytes_eq list) lists in
+    elim (cases_lt place (length lists)) [
+      | inl less ↦ less
+      | inr beyond ↦
+          let fails : bytes_eq list (slice_index_or lists k list) ≡ false = fails_before_first (bytes_eq list) lists k list (omega (arith, within, beyond)) in
+          absurd (false≢true (sym fails ∙ (bytes_eq-Decides list (slice_index_or lists k list)).1 (sym here)))
+    ]
+
+-- a list that is not empty, and has a number, is one of the lists
+number_there : (lists : List (List ℕ)) (number first : ℕ) (others : List ℕ) → order_among lists number ≡ first ∷ others → Contains lists (first ∷ others)
+number_there lists zero first others is = cc
+number_there lists (suc place) first others is = elim (cases_lt place (length lists)) [
+  | inl below ↦ subst (Contains lists) is (Contains-get_or lists place [] below)
+  | inr beyond ↦
+      let empty : slice_index_or lists place [] ≡ [] = get_or-eq_default lists [] beyond in
+      let wrong : ⊥ = cc in
+      absurd wrong
+]
+
+-- where a column gives an order, that of the column begins with it
+pub given_begins : (q : Query) (column number : ℕ) → IsGivenBy (order_of q number) column → BeginsWith (order_of q (column_order q column)) (order_of q number)
+given_begins q column number (inl empty) = subst (BeginsWith (order_of q (column_order q column))) (sym empty) tt
+given_begins q column number (inr alone) =
+    let order = (2 * column) ∷ [] in
+    let there = number_there (orders_of q) number (2 * column) [] alone in
+    let own : order_of q (column_order q column) ≡ order = list_at (orders_of q) order (position_or_len (bytes_eq order) (orders_of q)) refl (place_below (orders_of q) order there) in
+    subst (λ (given : List ℕ). BeginsWith given (order_of q number)) (sym own) (subst (BeginsWith order) (sym alone) (refl, tt))
+
+-- no number beyond those that there are is that of an order
+pub no_order : (q : Query) (number : ℕ) → length (orders_of q) < number → order_of q number ≡ []
+no_order q zero beyond = refl
+no_order q (suc place) beyond = get_or-eq_default (orders_of q) [] (omega (arith, beyond))

@@ -9,6 +9,7 @@ pub mod Ends
 pub mod Joins
 pub mod Lying
 pub mod Numbered
+pub mod Counted
 pub mod Fitting
 pub mod Satisfied
 pub mod Classes

@@ -1,5 +1,5 @@
 -- The numbered lists and orders of a query, what is asked of its whole plan, and what else a query implies.
-use Rattle.std.specs.Prelude.{ℕ, zero, suc, Bool, ◌≡◌, ◌≤◌, ◌<◌, ◌*◌, ◌&&◌, List, [], ◌∷◌, Option, None, Some, map, length, nat_lt, bytes_eq, slice_get, slice_index_or, ⊤}
+use Rattle.std.specs.Prelude.{ℕ, zero, suc, Bool, ◌≡◌, ◌≤◌, ◌<◌, ◌+◌, ◌*◌, ◌&&◌, List, [], ◌∷◌, Option, None, Some, map, length, nat_lt, bytes_eq, slice_get, slice_index_or, ⊤}
 use Rattle.std.specs.List.{list_all, position_or_len}
 use Rattle.std.specs.Option.{option_map_or}
 use Rattle.query_core.specs.Crossing.{equal_item}
@@ -50,9 +50,9 @@ order_among orders (suc place) = slice_index_or orders place []
 abbrev pub order_of : Query → ℕ → List ℕ
 order_of q number = order_among (orders_of q) number
 
--- the sets of each order, by its number
+-- the sets of each order, by its number, the empty one's first
 abbrev pub AreOrderEnds : Query → List EqualityEnds → Type 0
-AreOrderEnds q list = AreEnds q (λ number. IsGivenBy (order_of q number)) list
+AreOrderEnds q list = AreEnds q (λ number. IsGivenBy (order_of q number)) (length (orders_of q) + 1) list
 
 -- the distribution that the root option asks for
 abbrev pub root_dist : RootDist → Dist
@@ -90,9 +90,9 @@ column_list q column = list_number q (column ∷ [])
 abbrev pub column_order : Query → ℕ → ℕ
 column_order q column = order_number q ((2 * column) ∷ [])
 
--- the sets of each hashed list, by its number
+-- the sets of each hashed list, by its number, and of the columns that have none
 abbrev pub AreListEnds : Query → List EqualityEnds → Type 0
-AreListEnds q list = AreEnds q (λ number column. column_list q column ≡ number) list
+AreListEnds q list = AreEnds q (λ number column. column_list q column ≡ number) (length (lists_of q) + 1) list
 
 -- a column that an equality compares, with the numbers of its list and of its ascending order
 abbrev pub side_of : Query → ℕ → Side

@@ -2,17 +2,17 @@
 //! numbers of predicates.
 #![tactic(auto)]
 
-ghost use Rattle.std.specs.Prelude.{ℕ, ◌≡◌, ◌<◌, ◌↔◌, [], ◌∷◌, IfOk, IsTrue, map};
+ghost use Rattle.std.specs.Prelude.{ℕ, ◌≡◌, ◌≤◌, ◌<◌, ◌⊎◌, ◌↔◌, IfOk, IsTrue, length, map};
 ghost use Rattle.query_core.specs.declared.query.Query.{Query as AnyQuery};
-ghost use Rattle.request_props.specs.NumberSets.{HasNumber};
-ghost use Rattle.request_props.specs.Numbered.{AreListEnds, AreOrderEnds, equality_of, lists_of, orders_of};
-ghost use Rattle.request_props.specs.Ends.{AreEndsOf, AreSetEnds, AreTableEnds, HasAcross};
-ghost use Rattle.request_props.specs.Ends.{HasEndsAt, IsAmong, IsGivenBy};
+ghost use Rattle.request_props.specs.NumberSets.{IsInSet};
+ghost use Rattle.request_props.specs.Numbered.{equality_of, order_among, orders_of, side_of};
+ghost use Rattle.request_props.specs.Ends.{AreEnds, AreEndsOf, HasAcross, HasAcrossBy, IsGivenBy};
+ghost use Rattle.request_props.specs.Counted.{HaveNumbers, IsAmong, IsByLeft, IsByRight, IsColumnBy};
 
 use crate::number_set::NumberSet;
-use crate::sides::Equality;
+use crate::sides::{Equality, Side};
 use orca_base::List;
-use query_core::{KeyParts, Query, sets};
+use query_core::{KeyParts, Query};
 use std::alloc::{AllocError, Global};
 
 /// The equalities whose first column is one of some, as those of a group, and those whose second is.
@@ -23,154 +23,127 @@ pub struct EqualityEnds {
 }
 
 impl EqualityEnds {
-    /// The equalities that are in both, by the same column.
-    pub fn and(self, other: EqualityEnds) -> EqualityEnds
-        ensures first { (pred : ℕ) → HasNumber self.first pred → HasNumber other.first pred →
-            HasNumber result.first pred }
-        ensures second { (pred : ℕ) → HasNumber self.second pred →
-            HasNumber other.second pred → HasNumber result.second pred }
-    {
-        EqualityEnds {
-            first: self.first.and(other.first),
-            second: self.second.and(other.second),
-        }
-    }
-
     /// Those of which each has one column.
     pub fn across(self, other: EqualityEnds) -> NumberSet
-        ensures { (pred : ℕ) → HasAcross self other pred → HasNumber result pred }
+        ensures { (pred : ℕ) → IsInSet result pred ↔ HasAcross self other pred }
     {
         self.first
             .and(other.second)
             .or(self.second.and(other.first))
     }
+
+    /// Those of which each has one column, this one's also among some; where both can be this one's, its first.
+    pub fn across_by(self, other: EqualityEnds, among: EqualityEnds) -> NumberSet
+        ensures { (pred : ℕ) → IsInSet result pred ↔ HasAcrossBy self other among pred }
+    {
+        let first = self.first.and(other.second);
+        let second = self.second.and(other.first).without(first);
+        first.and(among.first).or(second.and(among.second))
+    }
 }
 
-// Some columns.
+/// By what columns count: those of each table, of each set of tables, of each order or of each hashed list.
 #[derive(Clone, Copy)]
-enum Columns {
-    // Those that the group has.
+pub enum ColumnsBy {
+    Tables,
+    Sets,
+    Orders,
+    Lists,
+}
+
+/// The columns that count.
+#[derive(Clone, Copy)]
+pub enum CountedColumns {
+    /// Those that the group has.
     Of(KeyParts),
     All,
     One(u32),
+    /// Those whose hashed list has the number, or that have none.
+    Listed(u32),
     None,
 }
 
-impl Columns {
-    // Those of which each gives the order.
-    fn giving(order: &[u32]) -> Columns
-        ensures { (q : AnyQuery) (column : ℕ) → IsGivenBy order.now column → IsAmong q result column }
+impl CountedColumns {
+    // Those by the number of what they are by.
+    fn get(by: ColumnsBy, orders: &[List<u32>], number: u32) -> CountedColumns
+        ensures { (q : AnyQuery) → orders.now ≡ orders_of q → (column : ℕ) →
+            IsAmong q result column ↔ IsColumnBy q by number column }
     {
-        match order {
-            [] => Columns::All,
-            [element] if element % 2 == 0 => Columns::One(element / 2),
-            _ => Columns::None,
+        match by {
+            ColumnsBy::Tables => CountedColumns::Of(KeyParts::Get(number)),
+            ColumnsBy::Sets => CountedColumns::Of(KeyParts::Join(number)),
+            ColumnsBy::Orders => CountedColumns::giving(order_at(orders, number)),
+            ColumnsBy::Lists => CountedColumns::Listed(number),
         }
     }
 
-    // That which is all of the list.
-    fn alone_in(list: &[u32]) -> Columns
-        ensures { (q : AnyQuery) (column : ℕ) → list.now ≡ column ∷ [] → IsAmong q result column }
+    // Those of which each gives the order.
+    fn giving(order: &[u32]) -> CountedColumns
+        ensures { (q : AnyQuery) (column : ℕ) →
+            IsAmong q result column ↔ IsGivenBy order.now column }
     {
-        match list {
-            [column] => Columns::One(*column),
-            _ => Columns::None,
+        match order {
+            [] => CountedColumns::All,
+            [element] if element % 2 == 0 => CountedColumns::One(element / 2),
+            _ => CountedColumns::None,
         }
     }
 
     // Whether this is one of them.
-    fn have(self, query: &Query, column: u32) -> bool
-        ensures { IsTrue result ↔ IsAmong query.now self column }
+    fn have(self, query: &Query, side: Side) -> bool
+        requires { side ≡ side_of query.now side.column }
+        ensures { IsTrue result ↔ IsAmong query.now self side.column }
     {
         match self {
-            Columns::Of(group) => query.group_has_item(group, column),
-            Columns::All => true,
-            Columns::One(one) => column == one,
-            Columns::None => false,
+            CountedColumns::Of(group) => query.group_has_item(group, side.column),
+            CountedColumns::All => true,
+            CountedColumns::One(column) => side.column == column,
+            CountedColumns::Listed(list) => side.list == list,
+            CountedColumns::None => false,
         }
     }
 }
 
-/// The equalities of which each table has a column.
-pub fn table_ends(
-    alloc: Global,
-    query: &Query,
-    equalities: &[Option<Equality>],
-) -> Result<Vec<EqualityEnds>, AllocError>
-    requires { equalities.now ≡ map (equality_of query.now) query.now.preds }
-    ensures { IfOk result (λ found. AreTableEnds query.now found.items) }
-{
-    let mut found = Vec::new(alloc);
-    for table in 0..query.tables.len() {
-        found.push(ends_of(query, equalities, Columns::Of(KeyParts::Get(table as u32))))?;
-    }
-    Ok(found)
-}
-
-/// The equalities of which each set of tables has a column, but for that of all tables.
-pub fn set_ends(
-    alloc: Global,
-    query: &Query,
-    equalities: &[Option<Equality>],
-) -> Result<Vec<EqualityEnds>, AllocError>
-    requires { equalities.now ≡ map (equality_of query.now) query.now.preds }
-    ensures { IfOk result (λ found. AreSetEnds query.now found.items) }
-{
-    let mut found = Vec::new(alloc);
-    for set in 0..sets::first(query.tables.len() as u32) {
-        found.push(ends_of(query, equalities, Columns::Of(KeyParts::Join(set))))?;
-    }
-    Ok(found)
-}
-
-/// For each order, by its number, the equalities of which a column gives it.
-pub fn order_ends(
+/// For so many numbers the equalities that have a column by the number.
+pub fn ends_by(
     alloc: Global,
     query: &Query,
     equalities: &[Option<Equality>],
     orders: &[List<u32>],
+    by: ColumnsBy,
+    count: u32,
 ) -> Result<Vec<EqualityEnds>, AllocError>
     requires equalities { equalities.now ≡ map (equality_of query.now) query.now.preds }
     requires orders { orders.now ≡ orders_of query.now }
-    ensures { IfOk result (λ found. AreOrderEnds query.now found.items) }
+    ensures { IfOk result (λ found. AreEnds query.now (IsColumnBy query.now by) count found.items) }
 {
     let mut found = Vec::new(alloc);
-    found.push(ends_giving(query, equalities, &[]))?;
-    for place in 0..orders.len() {
-        found.push(ends_giving(query, equalities, orders[place].as_slice()))?;
-    }
-    Ok(found)
-}
-
-/// For each hashed list, by its number, the equalities of which a column is all of it.
-pub fn list_ends(
-    alloc: Global,
-    query: &Query,
-    equalities: &[Option<Equality>],
-    lists: &[List<u32>],
-) -> Result<Vec<EqualityEnds>, AllocError>
-    requires equalities { equalities.now ≡ map (equality_of query.now) query.now.preds }
-    requires lists { lists.now ≡ lists_of query.now }
-    ensures { IfOk result (λ found. AreListEnds query.now found.items) }
-{
-    let mut found = Vec::new(alloc);
-    for place in 0..lists.len() {
-        let columns = Columns::alone_in(lists[place].as_slice());
+    for number in 0..count {
+        let columns = CountedColumns::get(by, orders, number);
         found.push(ends_of(query, equalities, columns))?;
     }
     Ok(found)
 }
 
-// The equalities of which a column gives the order.
-fn ends_giving(query: &Query, equalities: &[Option<Equality>], order: &[u32]) -> EqualityEnds
-    requires { equalities.now ≡ map (equality_of query.now) query.now.preds }
-    ensures { AreEndsOf query.now (IsGivenBy order.now) result }
+// The order of this number; the empty one where none has it.
+fn order_at(orders: &[List<u32>], number: u32) -> &[u32]
+    ensures { result.now ≡ order_among orders.now number }
 {
-    ends_of(query, equalities, Columns::giving(order))
+    match number.checked_sub(1) {
+        Some(place) => match orders.get(place as usize) {
+            Some(order) => order.as_slice(),
+            None => &[],
+        },
+        None => &[],
+    }
 }
 
-// The equalities that have one of the columns.
-fn ends_of(query: &Query, equalities: &[Option<Equality>], columns: Columns) -> EqualityEnds
+/// The equalities that have one of the columns.
+pub fn ends_of(
+    query: &Query,
+    equalities: &[Option<Equality>],
+    columns: CountedColumns,
+) -> EqualityEnds
     requires { equalities.now ≡ map (equality_of query.now) query.now.preds }
     ensures { AreEndsOf query.now (IsAmong query.now columns) result }
 {
@@ -187,20 +160,22 @@ fn ends_of(query: &Query, equalities: &[Option<Equality>], columns: Columns) -> 
 // These, and those of the predicate of this number.
 fn with_ends(
     query: &Query,
-    columns: Columns,
+    columns: CountedColumns,
     equality: Option<Equality>,
     pred: u32,
     ends: EqualityEnds,
 ) -> EqualityEnds
-    requires { pred < 64 }
-    ensures this { HasEndsAt (IsAmong query.now columns) equality pred result }
-    ensures first { (other : ℕ) → HasNumber ends.first other → HasNumber result.first other }
-    ensures second { (other : ℕ) → HasNumber ends.second other → HasNumber result.second other }
+    requires few { pred < 64 }
+    requires numbers { HaveNumbers query.now equality }
+    ensures first { (other : ℕ) → IsInSet result.first other ↔ (IsInSet ends.first other
+        ⊎ ((other ≡ pred) × IsByLeft (IsAmong query.now columns) equality)) }
+    ensures second { (other : ℕ) → IsInSet result.second other ↔ (IsInSet ends.second other
+        ⊎ ((other ≡ pred) × IsByRight (IsAmong query.now columns) equality)) }
 {
     match equality {
         Some(Equality { left, right }) => EqualityEnds {
-            first: ends.first.with(pred, columns.have(query, left.column)),
-            second: ends.second.with(pred, columns.have(query, right.column)),
+            first: ends.first.with(pred, columns.have(query, left)),
+            second: ends.second.with(pred, columns.have(query, right)),
         },
         None => ends,
     }

@@ -2,8 +2,8 @@
 //! shifts or masks these.
 #![tactic(auto)]
 
-ghost use Rattle.std.specs.Prelude.{ℕ, ◌<◌, ◌≤◌, ◌⊎◌, IsTrue, max};
-ghost use Rattle.request_props.specs.NumberSets.{HasBelow, HasNumber};
+ghost use Rattle.std.specs.Prelude.{ℕ, ◌≡◌, ◌<◌, ◌≤◌, ◌⊎◌, ◌↔◌, IsTrue, false, max};
+ghost use Rattle.request_props.specs.NumberSets.{HasBelow, IsInSet, NoneBetween};
 
 /// A set of numbers below 64.
 #[derive(Clone, Copy, Debug, PartialEq, Eq)]
@@ -13,13 +13,16 @@ pub struct NumberSet {
 
 impl NumberSet {
     /// No number.
-    pub fn none() -> NumberSet {
+    pub fn none() -> NumberSet
+        ensures { (number : ℕ) → IsInSet result number → ⊥ }
+    {
         NumberSet { mask: 0 }
     }
 
     /// The numbers below this one; all where it is 64 or more.
     pub fn below(bound: u32) -> NumberSet
-        ensures { bound ≤ 64 → HasBelow result bound }
+        ensures all { bound ≤ 64 → HasBelow result bound }
+        ensures only { (number : ℕ) → IsInSet result number → number < bound }
     {
         if bound < 64 {
             NumberSet {
@@ -30,11 +33,19 @@ impl NumberSet {
         }
     }
 
+    /// Whether there is none.
+    pub fn is_empty(self) -> bool
+        ensures none { IsTrue result → (number : ℕ) → IsInSet self number → ⊥ }
+        ensures some { result ≡ false → (number : ℕ) × IsInSet self number }
+    {
+        self.mask == 0
+    }
+
     /// These numbers, and this one where it is to be one of them.
     pub fn with(self, number: u32, is_one: bool) -> NumberSet
         requires { number < 64 }
-        ensures this { IsTrue is_one → HasNumber result number }
-        ensures others { (other : ℕ) → HasNumber self other → HasNumber result other }
+        ensures { (other : ℕ) → IsInSet result other ↔
+            (IsInSet self other ⊎ ((other ≡ number) × IsTrue is_one)) }
     {
         if is_one {
             NumberSet {
@@ -47,8 +58,8 @@ impl NumberSet {
 
     /// The numbers that are in both.
     pub fn and(self, other: NumberSet) -> NumberSet
-        ensures { (number : ℕ) → HasNumber self number → HasNumber other number →
-            HasNumber result number }
+        ensures { (number : ℕ) → IsInSet result number ↔
+            (IsInSet self number × IsInSet other number) }
     {
         NumberSet {
             mask: self.mask & other.mask,
@@ -57,11 +68,21 @@ impl NumberSet {
 
     /// The numbers that are in one or in both.
     pub fn or(self, other: NumberSet) -> NumberSet
-        ensures { (number : ℕ) → HasNumber self number ⊎ HasNumber other number →
-            HasNumber result number }
+        ensures { (number : ℕ) → IsInSet result number ↔
+            (IsInSet self number ⊎ IsInSet other number) }
     {
         NumberSet {
             mask: self.mask | other.mask,
+        }
+    }
+
+    /// The numbers that are in this one and not in the other.
+    pub fn without(self, other: NumberSet) -> NumberSet
+        ensures { (number : ℕ) → IsInSet result number ↔
+            (IsInSet self number × (IsInSet other number → ⊥)) }
+    {
+        NumberSet {
+            mask: self.mask ^ (self.mask & other.mask),
         }
     }
 
@@ -69,7 +90,8 @@ impl NumberSet {
     pub fn next(self, from: u32) -> u32
         ensures from { from ≤ result }
         ensures near { result ≤ max from 64 }
-        ensures none { (number : ℕ) → from ≤ number → number < result → HasNumber self number → ⊥ }
+        ensures found { result < 64 → IsInSet self result }
+        ensures none { NoneBetween (IsInSet self) from result }
     {
         if from >= 64 {
             return from;

@@ -6,7 +6,7 @@ ghost use Rattle.request_props.specs.Numbered.{lists_of, orders_of};
 ghost use Rattle.request_props.specs.Numbered.{AreGroupTables, AreEqualityTables, ArePlacementTables};
 
 use crate::candidates::group_candidates;
-use crate::ends::{EqualityEnds, list_ends, order_ends, set_ends, table_ends};
+use crate::ends::{ColumnsBy, EqualityEnds, ends_by};
 use crate::given::GivenDist;
 use crate::groups::{group_rows, query_keys};
 use crate::lying::{items_of_orders, tables_of_lists};
@@ -14,7 +14,7 @@ use crate::numbers::{equalities, group_order, grouped, placings};
 use crate::physical::{PhysicalCandidate, group_physical};
 use crate::sides::Equality;
 use orca_base::List;
-use query_core::Query;
+use query_core::{Query, sets};
 use std::alloc::{AllocError, Global};
 
 /// What each group can hold, by the number of its key.
@@ -41,7 +41,8 @@ pub struct EqualityTables {
     pub of_sets: List<EqualityEnds>,
     /// For each order, by its number, the equalities of which a column gives it.
     pub of_orders: List<EqualityEnds>,
-    /// For each hashed list, by its number, the equalities of which a column is all of it.
+    /// For each hashed list, by its number, the equalities of which a column is all of it; then those of which one has
+    /// no list.
     pub of_lists: List<EqualityEnds>,
 }
 
@@ -94,10 +95,15 @@ impl EqualityTables {
         ensures { IfOk result (λ tables. AreEqualityTables query.now tables.value) }
     {
         let sides = equalities(alloc, query, lists, orders)?;
-        let of_tables = table_ends(alloc, query, sides.as_slice())?;
-        let of_sets = set_ends(alloc, query, sides.as_slice())?;
-        let of_orders = order_ends(alloc, query, sides.as_slice(), orders)?;
-        let of_lists = list_ends(alloc, query, sides.as_slice(), lists)?;
+        let found = sides.as_slice();
+        let tables = query.tables.len() as u32;
+        let sets = sets::first(tables);
+        // With the empty order, and with the columns that have no list.
+        let (all_orders, all_lists) = (orders.len() as u32 + 1, lists.len() as u32 + 1);
+        let of_tables = ends_by(alloc, query, found, orders, ColumnsBy::Tables, tables)?;
+        let of_sets = ends_by(alloc, query, found, orders, ColumnsBy::Sets, sets)?;
+        let of_orders = ends_by(alloc, query, found, orders, ColumnsBy::Orders, all_orders)?;
+        let of_lists = ends_by(alloc, query, found, orders, ColumnsBy::Lists, all_lists)?;
         let tables = EqualityTables {
             sides: List::of(sides),
             of_tables: List::of(of_tables),

@@ -9,8 +9,9 @@ ghost use Rattle.query_core.specs.Keys.{IsGroup, IsKey, Names};
 ghost use Rattle.query_core.specs.declared.words.KeyParts.{KeyParts as Group};
 ghost use Rattle.cardinality.specs.Rows.{rows_of};
 ghost use Rattle.request_props.specs.Candidates.{AreCandidatesOf, ArePhysicalOf, FindsNext};
-ghost use Rattle.request_props.specs.Ends.{AreEndsOf, HasColumn};
-ghost use Rattle.request_props.specs.NumberSets.{HasBelow, HasNumber};
+ghost use Rattle.request_props.specs.Counted.{IsAmong};
+ghost use Rattle.request_props.specs.Ends.{AreCrossingBy, AreEndsOf, HasColumn, IsGivenBy};
+ghost use Rattle.request_props.specs.NumberSets.{IsInSet};
 ghost use Rattle.request_props.specs.declared.given.GivenDist.TheVariants.{Hashed};
 ghost use Rattle.request_props.specs.declared.ends.EqualityEnds.{EqualityEnds as AnyEnds};
 ghost use Rattle.request_props.specs.Numbered.{IsProps, side_of, both_sides, equality_of};
@@ -18,7 +19,7 @@ ghost use Rattle.request_props.specs.Numbered.{table_dist as dist_of_table, grou
 ghost use Rattle.request_props.specs.Numbered.{is_grouped_list as is_list_grouped, order_of, column_list, column_order};
 ghost use Rattle.request_props.specs.Satisfied.{BeginsWith, Meets};
 
-use crate::ends::EqualityEnds;
+use crate::ends::{CountedColumns, EqualityEnds, ends_of};
 use crate::given::GivenDist;
 use crate::groups::is_key;
 use crate::number_set::NumberSet;
@@ -125,41 +126,33 @@ impl Props {
         }
     }
 
-    /// Predicates among which all are that equate columns across the groups.
+    /// The predicates that equate columns across the groups.
     pub fn crossings(&self, query: &Query, left: KeyParts, right: KeyParts) -> NumberSet
         requires { IsProps query.now self.now }
-        ensures { (pred : ℕ) → (crossing_of query.now left right pred ≡ None → ⊥) →
-            HasNumber result pred }
+        ensures { (pred : ℕ) → IsInSet result pred ↔
+            (crossing_of query.now left right pred ≡ None → ⊥) }
     {
-        match (self.ends(query, left), self.ends(query, right)) {
-            (Some(left), Some(right)) => left.across(right),
-            _ => any_preds(),
-        }
+        self.ends(query, left).across(self.ends(query, right))
     }
 
-    /// Predicates among which all are that equate columns across the groups, that of the left group giving the order.
+    /// The predicates that equate columns across the groups, that of the left group giving the order.
     pub fn merging(&self, query: &Query, left: KeyParts, right: KeyParts, order: u32) -> NumberSet
         requires { IsProps query.now self.now }
-        ensures { (pred a b : ℕ) → crossing_of query.now left right pred ≡ Some (a, b) →
-            BeginsWith (order_of query.now (column_order query.now a)) (order_of query.now order) →
-            HasNumber result pred }
+        ensures { AreCrossingBy query.now left right
+            (λ a. BeginsWith (order_of query.now (column_order query.now a)) (order_of query.now order))
+            result }
     {
-        match (
-            self.ends(query, left),
-            self.ends(query, right),
-            ends_at(self.equalities.of_orders.as_slice(), order),
-        ) {
-            (Some(left), Some(right), Some(giving)) => left.and(giving).across(right),
-            _ => any_preds(),
-        }
+        let giving = self.ends_giving(query, order);
+        self.ends(query, left)
+            .across_by(self.ends(query, right), giving)
     }
 
-    /// Predicates among which all are that equate columns across the groups, so that rows hashed by that of the left
-    /// group are distributed as asked.
+    /// The predicates that equate columns across the groups, so that rows hashed by that of the left group are
+    /// distributed as asked.
     pub fn hashing(&self, query: &Query, left: KeyParts, right: KeyParts, wanted: Dist) -> NumberSet
         requires { IsProps query.now self.now }
-        ensures { (pred a b : ℕ) → crossing_of query.now left right pred ≡ Some (a, b) →
-            Meets (Hashed (column_list query.now a)) wanted → HasNumber result pred }
+        ensures { AreCrossingBy query.now left right
+            (λ a. Meets (Hashed (column_list query.now a)) wanted) result }
     {
         match wanted {
             Dist::One => NumberSet::none(),
@@ -172,21 +165,26 @@ impl Props {
     // The same for this list.
     fn hashing_by(&self, query: &Query, left: KeyParts, right: KeyParts, list: u32) -> NumberSet
         requires { IsProps query.now self.now }
-        ensures { (pred a b : ℕ) → crossing_of query.now left right pred ≡ Some (a, b) →
-            column_list query.now a ≡ list → HasNumber result pred }
+        ensures { AreCrossingBy query.now left right (λ a. column_list query.now a ≡ list) result }
     {
-        match (
-            self.ends(query, left),
-            self.ends(query, right),
-            ends_at(self.equalities.of_lists.as_slice(), list),
-        ) {
-            (Some(left), Some(right), Some(hashed)) => left.and(hashed).across(right),
-            _ => any_preds(),
+        let listed = self.ends_listed(query, list);
+        self.ends(query, left)
+            .across_by(self.ends(query, right), listed)
+    }
+
+    // The equalities of which the group has a column.
+    fn ends(&self, query: &Query, group: KeyParts) -> EqualityEnds
+        requires { IsProps query.now self.now }
+        ensures { AreEndsOf query.now (HasColumn query.now group) result }
+    {
+        match self.known_ends(query, group) {
+            Some(ends) => ends,
+            None => self.found_ends(query, CountedColumns::Of(group)),
         }
     }
 
-    // The equalities of which the group has a column, where they are known.
-    fn ends(&self, query: &Query, group: KeyParts) -> Option<EqualityEnds>
+    // The same, where they were found before.
+    fn known_ends(&self, query: &Query, group: KeyParts) -> Option<EqualityEnds>
         requires { IsProps query.now self.now }
         ensures { IfSome result (AreEndsOf query.now (HasColumn query.now group)) }
     {
@@ -197,6 +195,36 @@ impl Props {
             KeyParts::Partial => None,
             KeyParts::Agg => None,
         }
+    }
+
+    // The equalities of which a column gives the order. Without a number it is the empty one.
+    fn ends_giving(&self, query: &Query, order: u32) -> EqualityEnds
+        requires { IsProps query.now self.now }
+        ensures { AreEndsOf query.now (IsGivenBy (order_of query.now order)) result }
+    {
+        match ends_at(self.equalities.of_orders.as_slice(), order) {
+            Some(ends) => ends,
+            None => self.found_ends(query, CountedColumns::All),
+        }
+    }
+
+    // The equalities of which a column's list has the number.
+    fn ends_listed(&self, query: &Query, list: u32) -> EqualityEnds
+        requires { IsProps query.now self.now }
+        ensures { AreEndsOf query.now (λ column. column_list query.now column ≡ list) result }
+    {
+        match ends_at(self.equalities.of_lists.as_slice(), list) {
+            Some(ends) => ends,
+            None => self.found_ends(query, CountedColumns::Listed(list)),
+        }
+    }
+
+    // The equalities that have one of the columns.
+    fn found_ends(&self, query: &Query, columns: CountedColumns) -> EqualityEnds
+        requires { IsProps query.now self.now }
+        ensures { AreEndsOf query.now (IsAmong query.now columns) result }
+    {
+        ends_of(query, self.equalities.sides.as_slice(), columns)
     }
 
     // Both sides of the predicate, where it is an equality of two items.
@@ -242,17 +270,11 @@ impl Props {
     }
 }
 
-// The numbers of all predicates.
-fn any_preds() -> NumberSet
-    ensures { HasBelow result 64 }
-{
-    NumberSet::below(64)
-}
-
 // What stands at this place of the list, if it has so many.
 fn ends_at(list: &[EqualityEnds], place: u32) -> Option<EqualityEnds>
-    ensures { IfSome result (λ ends. (d : AnyEnds) → (place < length list.now) ×
+    ensures found { IfSome result (λ ends. (d : AnyEnds) → (place < length list.now) ×
         (slice_index_or list.now place d ≡ ends)) }
+    ensures none { result ≡ None → length list.now ≤ place }
 {
     match list.get(place as usize) {
         Some(ends) => Some(*ends),

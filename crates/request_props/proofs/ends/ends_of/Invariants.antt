@@ -1,5 +1,6 @@
--- The masks have the predicates before this one.
-use Rattle.request_props.specs.Ends.{AreEndsBelow, IsAmong}
+-- The sets have the predicates before this one.
+use Rattle.request_props.specs.Counted.{IsAmong}
+use Rattle.request_props.specs.Ends.{AreEndsBelow}
 use Rattle.request_props.proofs.ends.ends_of.Given as goal
 
 abbrev pub invariant-loop-pred : goal.invariant-loop-pred

@@ -1,8 +1,5 @@
-use Rattle.request_props.proofs.NumberSets.{in_first, set_has}
+use Rattle.request_props.proofs.NumberSets.{one_more}
 use Rattle.request_props.proofs.number_set.NumberSet.with.Goals as goal
 
-pub returns-then-is_one-clause-this : goal.returns-then-is_one-clause-this
-returns-then-is_one-clause-this c is = set_has c.args.self.mask c.args.number c.requires
-
-pub returns-then-is_one-clause-others : goal.returns-then-is_one-clause-others
-returns-then-is_one-clause-others c other = in_first c.args.self.mask _ other
+pub returns-then-is_one : goal.returns-then-is_one
+returns-then-is_one c other = one_more c.args.self.mask c.args.number other c.args.is_one c.requires c.if-is_one.true

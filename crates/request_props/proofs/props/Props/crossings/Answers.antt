@@ -1,7 +1,8 @@
+-- The predicates that cross are those that the sets of the groups have across.
 use Rattle.request_props.proofs.EqualityEnds.{crossing_in}
 use Rattle.request_props.proofs.props.Props.crossings.Goals as goal
 
--- a predicate that crosses is in the sets of both groups
-pub returns-in-Some-Some : goal.returns-in-Some-Some
-returns-in-Some-Some c pred some =
-    c.across.ensures pred (crossing_in c.args.query.now c.args.left c.args.right pred c.in-Some-Some.left c.in-Some-Some.right c.in-Some-Some.ensures c.in-Some-Some.ensures' some)
+pub returns : goal.returns
+returns c pred =
+    let in_sets = crossing_in c.args.query.now c.args.left c.args.right pred c.ends.result c.ends-2.result c.ends.ensures c.ends-2.ensures in
+    (λ has. in_sets.1 ((c.across.ensures pred).0 has), λ some. (c.across.ensures pred).1 (in_sets.0 some))
