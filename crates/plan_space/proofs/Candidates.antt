@@ -9,7 +9,7 @@ use Rattle.query_core.specs.declared.words.KeyParts.TheVariants as groups
 use Rattle.query_core.specs.declared.expressions.Physical.{Physical}
 use Rattle.query_core.specs.declared.expressions.Physical.TheVariants as physical
 use Rattle.query_core.specs.declared.expressions.PhysicalExpr.{PhysicalExpr}
-use Rattle.query_core.specs.declared.expressions.Children.TheVariants.{Zero, One}
+use Rattle.query_core.specs.declared.expressions.Children.TheVariants.{Zero, One, Two}
 use Rattle.request_props.specs.declared.given.GivenOrder.{GivenOrder}
 use Rattle.request_props.specs.declared.given.GivenOrder.TheVariants.{Listed, Index}
 use Rattle.plan_space.specs.Gives.{gives_so}
@@ -21,11 +21,11 @@ use Rattle.plan_space.specs.declared.lines.Line.{Line}
 use Rattle.plan_space.specs.declared.lines.Line.TheVariants as lines
 use Rattle.plan_space.specs.declared.modes.Mode.{Mode}
 use Rattle.plan_space.specs.declared.modes.Mode.TheVariants as modes
-use Rattle.plan_space.specs.Laws.{GivenFits}
+use Rattle.plan_space.specs.Laws.{CrossingsFit, GivenFits}
 use Rattle.plan_space.specs.Modes.{mode_at}
 use Rattle.plan_space.proofs.Numbers.{ListingIsOne}
 use Rattle.plan_space.proofs.Items.{JoinsGroups, sets_join}
-use Rattle.plan_space.proofs.Fitting.{DistsFit, top_dists_fit, IsFitting, no_order_fits, dist_passes, dist_asked_kept}
+use Rattle.plan_space.proofs.Fitting.{DistsFit, top_dists_fit, IsFitting, column_hash_fits, column_order_fits, no_order_fits, dist_passes, dist_asked_kept}
 use Rattle.plan_space.proofs.Grouped.{HasGrouped, input_has_grouped, group_order_fits, agg_line_fits, partial_fits}
 use Rattle.plan_space.proofs.Joins.{hash_line_fits, merge_line_fits, loop_line_fits}
 use Rattle.plan_space.proofs.Leaves.{scan_fits, index_scan_fits}
@@ -95,6 +95,36 @@ module _ (one : ListingIsOne) (q : Query) where
   -- and its left child's rows lie by its items
   join_lists : (group left right : KeyParts) → IsJoin q group left right → DistsFit q left
   join_lists group left right (set, a, b, of_set, falls, is_left, is_right) = subst (DistsFit q) (sym is_left) (top_dists_fit q a)
+
+  -- an operator over two children joins them
+  joins_by : (group left right : KeyParts) (operator : Physical) → HasPhysical q group operator → physical_children operator ≡ Two left right → IsJoin q group left right
+  joins_by group left right physical.Scan shape is = cc
+  joins_by group left right (physical.IndexScan index) shape is = cc
+  joins_by group left right (physical.Filter child) shape is = cc
+  joins_by group left right (physical.IndexSeek index) shape is = cc
+  joins_by group left right (physical.HashJoin first second) shape is =
+      let one_left : first ≡ left = cc in
+      let one_right : second ≡ right = cc in
+      subst (λ l. IsJoin q group l right) one_left (subst (IsJoin q group first) one_right shape)
+  joins_by group left right (physical.MergeJoin first second) shape is =
+      let one_left : first ≡ left = cc in
+      let one_right : second ≡ right = cc in
+      subst (λ l. IsJoin q group l right) one_left (subst (IsJoin q group first) one_right shape)
+  joins_by group left right (physical.LoopJoin first second) shape is =
+      let one_left : first ≡ left = cc in
+      let one_right : second ≡ right = cc in
+      subst (λ l. IsJoin q group l right) one_left (subst (IsJoin q group first) one_right shape)
+  joins_by group left right (physical.HashAgg child) shape is = cc
+  joins_by group left right (physical.StreamAgg child) shape is = cc
+  joins_by group left right (physical.PartialAgg child) shape is = cc
+
+  -- the hash and the order of the left one of the columns that a predicate equates across the children fit the left child
+  pub crossings_fit : CrossingsFit q
+  crossings_fit e left right pred a b candidate over crosses =
+      let joins = join_shape e.group left right (joins_by e.group left right e.operator candidate.shape over) in
+      let sides = joins.sides pred (a, b) crosses in
+      let order = column_order_fits one q left a sides.in_left sides.left_joined in
+      (column_hash_fits one q left a sides.in_left sides.left_joined, record { numbered = order.0; lies_in = order.1 })
 
   -- the lines of an operator that a group of the query can have
   line_fits : (group : KeyParts) (operator : Physical) (mode : Mode) (line : Line) → HasPhysical q group operator

@@ -1,13 +1,15 @@
 -- What holds of all plans of a query.
 use Rattle.std.specs.Prelude.{ℕ, ◌≡◌, ◌<◌, ◌≤◌, List, [], ◌∷◌, length, Option, Some, ⊤}
+use Rattle.query_core.specs.Crossing.{crossing_of}
 use Rattle.query_core.specs.Keys.{root_of, key_number}
 use Rattle.query_core.specs.Expressions.{expr_of, physical_children, IsCandidate, IsChild}
 use Rattle.query_core.specs.declared.query.Query.{Query}
+use Rattle.query_core.specs.declared.expressions.Children.TheVariants.{Two}
 use Rattle.query_core.specs.declared.words.KeyParts.{KeyParts}
 use Rattle.query_core.specs.declared.words.KeyParts.TheVariants as groups
 use Rattle.query_core.specs.declared.expressions.PhysicalExpr.{PhysicalExpr}
 use Rattle.xform_rules.specs.Closure.{IsMember}
-use Rattle.request_props.specs.Numbered.{lists_of, orders_of, IsProps, root_request}
+use Rattle.request_props.specs.Numbered.{column_list, column_order, lists_of, orders_of, IsProps, root_request}
 use Rattle.request_props.specs.declared.props.Props.{Props}
 use Rattle.request_props.specs.Satisfied.{given_order, Satisfies}
 use Rattle.request_props.specs.declared.given.Given.{Given}
@@ -15,7 +17,7 @@ use Rattle.request_props.specs.declared.given.GivenDist.{GivenDist}
 use Rattle.request_props.specs.declared.given.GivenDist.TheVariants.{One, Hashed, Random, Copies}
 use Rattle.request_props.specs.declared.request.Request.{Request}
 use Rattle.request_props.specs.Lying.{OrderLiesIn}
-use Rattle.request_props.specs.Fitting.{HashFits, Fits}
+use Rattle.request_props.specs.Fitting.{HashFits, OrderFits, Fits}
 use Rattle.plan_space.specs.Nodes.{Tree}
 use Rattle.plan_space.specs.Lines.{line_of}
 use Rattle.plan_space.specs.declared.lines.Line.{Line}
@@ -89,6 +91,12 @@ abbrev pub AsksWhatFits : Query → Type 0
 AsksWhatFits q =
     (e : PhysicalExpr) (mode : ℕ) (line : Line) (wanted : Request) → IsCandidate q (expr_of e) → Fits q e.group wanted
     → IsAlternative q e wanted mode line → RequestsFit q (groups_of (physical_children e.operator)) (asked_of line wanted)
+
+-- where a predicate equates columns across the children of a join, the hash and the order of the left one fit the left child
+abbrev pub CrossingsFit : Query → Type 0
+CrossingsFit q =
+    (e : PhysicalExpr) (left right : KeyParts) (pred a b : ℕ) → IsCandidate q (expr_of e) → physical_children e.operator ≡ Two left right
+    → crossing_of q left right pred ≡ Some (a, b) → HashFits q left (column_list q a) × OrderFits q left (column_order q a)
 
 -- so does what an enforcer asks
 abbrev pub EnforcersAskWhatFits : Query → Type 0

@@ -5,7 +5,7 @@ ghost use Rattle.query_core.specs.declared.query.Query.{Query};
 ghost use Rattle.plan_space.specs.Nodes.{Tree};
 ghost use Rattle.plan_space.specs.Order.{IsAtMost};
 ghost use Rattle.plan_space.specs.Laws.{GivesWhatFits, SatisfactionSplits, SatisfactionJoins, AsksWhatFits, ChoicesServe, SettledIsLeast, LeastIsOne};
-ghost use Rattle.plan_space.specs.Laws.{RootRequestFits, RootRequestIsCollected, ModesAreFew};
+ghost use Rattle.plan_space.specs.Laws.{CrossingsFit, RootRequestFits, RootRequestIsCollected, ModesAreFew};
 ghost use Rattle.plan_space.specs.Laws.{ChoiceCostsFit, EnforcersAskWhatFits, KeysFall, LeastCostsFit};
 
 use query_core::{candidates_are_known, expressions_are_one};
@@ -29,9 +29,11 @@ pub fn satisfaction_splits()
     listing_is_one();
 }
 
-/// What is asked of a child fits its group, and so does what an enforcer asks.
+/// What is asked of a child fits its group, and so do the hash and the order of a left column by which a join may ask,
+/// and what an enforcer asks.
 pub fn what_is_asked_fits()
     ensures children { (q : Query) → AsksWhatFits q }
+    ensures crossings { (q : Query) → CrossingsFit q }
     ensures enforcers { (q : Query) → EnforcersAskWhatFits q }
 {
     listing_is_one();

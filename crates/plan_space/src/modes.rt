@@ -1,7 +1,8 @@
 //! What the number of a mode means. Nothing else knows how modes are numbered.
 #![tactic(auto)]
 
-ghost use Rattle.std.specs.Prelude.{ℕ, ◌≡◌, ◌<◌, ◌≤◌};
+ghost use Rattle.std.specs.Prelude.{ℕ, ◌≡◌, ◌<◌, ◌≤◌, ◌↔◌};
+ghost use Rattle.request_props.specs.NumberSets.{NoneBetween};
 ghost use Rattle.plan_space.specs.Modes.{mode_at, HasModeIn, IsOnOne, IsSpread};
 ghost use Rattle.plan_space.specs.declared.modes.Mode.{Mode as AnyMode};
 
@@ -50,7 +51,9 @@ impl Mode {
 
 impl ModeSets {
     /// No modes.
-    pub fn none() -> ModeSets {
+    pub fn none() -> ModeSets
+        ensures { (mode : AnyMode) → HasModeIn result mode → ⊥ }
+    {
         ModeSets {
             one: NumberSet::none(),
             copied: NumberSet::none(),
@@ -60,7 +63,7 @@ impl ModeSets {
 
     /// Those in which all rows are on one segment.
     pub fn on_one(self) -> ModeSets
-        ensures { (mode : AnyMode) → HasModeIn self mode → IsOnOne mode → HasModeIn result mode }
+        ensures { (mode : AnyMode) → HasModeIn result mode ↔ (HasModeIn self mode × IsOnOne mode) }
     {
         ModeSets {
             one: self.one,
@@ -71,7 +74,7 @@ impl ModeSets {
 
     /// The others.
     pub fn spread(self) -> ModeSets
-        ensures { (mode : AnyMode) → HasModeIn self mode → IsSpread mode → HasModeIn result mode }
+        ensures { (mode : AnyMode) → HasModeIn result mode ↔ (HasModeIn self mode × IsSpread mode) }
     {
         ModeSets {
             one: NumberSet::none(),
@@ -83,8 +86,8 @@ impl ModeSets {
     /// The first number from this one on whose mode is one of these, or one that no mode with a line has.
     pub fn next(self, from: u32) -> u32
         ensures from { from ≤ result }
-        ensures none { (number : ℕ) → from ≤ number → number < result →
-            HasModeIn self (mode_at number) → ⊥ }
+        ensures found { result < END → HasModeIn self (mode_at result) }
+        ensures none { NoneBetween (λ number. HasModeIn self (mode_at number)) from result }
     {
         let one = self.one.next(from);
         if one < COPIED {
