@@ -12,23 +12,16 @@ use crate::note::RunNote;
 use crate::runs::{run_alone, run_crew};
 use job_outcome::Outcome;
 use orca_io::Gate;
-use query_core::{Operand, Pred, Query};
+use query_core::{KEYS, Key, Query};
 use request_props::Props;
 use std::alloc::{AllocError, Global};
 use std::sync::Wait;
 use std::thread::Threads;
 
-// For each expression that the groups can hold a board has so many cells, one more for each comparison of two columns,
-// though of these no more than one and a half for each hashed list, and one more for each column of GROUP BY. With too
-// few cells the search is made again, and each cell too many is filled and read. Measured: of some 8,000 queries over 2
-// to 8 tables (chains, stars, snowflakes, other trees and cliques, with several equalities of two tables, filters,
-// groupings, orders, hashed tables and indexes) none would fill more than 95 of 100 cells, and the star of eight, which
-// fills 77, is no faster where it fills 90.
-const CELLS_FOR_EACH: usize = 4;
-
-// A board has at least so many cells more, since two or three tables with many equalities have few expressions and many
-// requests.
-const LEAST_ROOM: usize = 512;
+// A board has a quarter more cells than members and goals are expected, and at least so many more. With too few cells the
+// search is made again; each cell too many is filled and read, and with few free ones a word is looked for in many
+// places.
+const LEAST_FREE: usize = 128;
 
 /// Searches by one worker on a board of at most `cap` cells. It returns.
 pub fn search_alone(
@@ -85,19 +78,14 @@ pub fn search_by_crew<W: Threads + Wait + Sync, G: Gate>(
 
 // How many cells a search of such a query usually wants.
 fn usual_room(query: &Query, props: &Props, cap: u32) -> u32
-    requires { 1 ≤ cap }
+    requires props { IsProps query.now props.now }
+    requires some { 1 ≤ cap }
     ensures { (1 ≤ result) × (result ≤ cap) }
 {
-    let lists = props.hashed.len();
-    let most = lists.saturating_add(lists / 2);
-    let cells = column_pairs(query.preds.as_slice())
-        .min(most)
-        .saturating_add(query.group_by.len())
-        .saturating_add(CELLS_FOR_EACH);
-    let usual = props
-        .candidate_count()
-        .saturating_mul(cells)
-        .saturating_add(LEAST_ROOM);
+    let entries = expected_entries(query, props);
+    let usual = entries
+        .saturating_add(entries / 4)
+        .saturating_add(LEAST_FREE);
     if usual < cap as usize {
         usual as u32
     } else {
@@ -105,16 +93,39 @@ fn usual_room(query: &Query, props: &Props, cap: u32) -> u32
     }
 }
 
-// How many of the predicates compare two columns.
-fn column_pairs(preds: &[Pred]) -> usize {
-    preds.iter().filter(|pred| compares_columns(pred)).count()
+// How many members and goals are expected of such a query.
+fn expected_entries(query: &Query, props: &Props) -> usize
+    requires { IsProps query.now props.now }
+{
+    let mut entries = 0usize;
+    for number in 0..KEYS {
+        entries = entries.saturating_add(expected_in(query, props, Key(number)));
+    }
+    entries
 }
 
-fn compares_columns(pred: &Pred) -> bool {
-    match pred.right {
-        Operand::Item(_) => true,
-        _ => false,
+// The same of the group of this key, if there is one: where h of its columns are equated with columns outside it, each
+// of its expressions has four goals, three more for every two of these columns, and one for every two columns of GROUP
+// BY, and the group has one for each of 1 + h orders in each of 3 + h distributions. Measured: of some 2,000 queries
+// over 2 to 8 tables (chains, stars, snowflakes, other trees, cycles and cliques, with several equalities of two
+// tables, filters, groupings, orders, hashed tables and indexes) none had 7 of 100 more than this.
+fn expected_in(query: &Query, props: &Props, key: Key) -> usize
+    requires { IsProps query.now props.now }
+{
+    if !props.is_key(query, key) {
+        return 0;
     }
+    let group = query.group(key);
+    let expressions = props.candidates_of(query, group).len();
+    let outer = props.outer_columns(query, group);
+    let halves = outer
+        .saturating_mul(3)
+        .saturating_add(query.group_by.len())
+        .saturating_add(8);
+    let requests = outer
+        .saturating_add(3)
+        .saturating_mul(outer.saturating_add(1));
+    (expressions.saturating_mul(halves) / 2).saturating_add(requests)
 }
 
 // Searches by one worker on a board with fewer cells than the capacity. None where these were too few.

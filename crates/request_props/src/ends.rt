@@ -23,6 +23,19 @@ pub struct EqualityEnds {
 }
 
 impl EqualityEnds {
+    /// Those of which one column is this one's, and the other isn't.
+    pub fn leaving(self) -> EqualityEnds {
+        EqualityEnds {
+            first: self.first.without(self.second),
+            second: self.second.without(self.first),
+        }
+    }
+
+    /// Whether both have some equality by the same column.
+    pub fn meets(self, other: EqualityEnds) -> bool {
+        !self.first.and(other.first).is_empty() || !self.second.and(other.second).is_empty()
+    }
+
     /// Those of which each has one column.
     pub fn across(self, other: EqualityEnds) -> NumberSet
         ensures { (pred : ℕ) → IsInSet result pred ↔ HasAcross self other pred }

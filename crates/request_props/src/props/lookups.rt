@@ -74,13 +74,20 @@ impl Props {
         self.groups.physical.as_slice()[Key::make(group).0 as usize].as_slice()
     }
 
-    /// How many expressions the groups can hold together.
-    pub fn candidate_count(&self) -> usize {
+    /// How many columns of the group are equated with columns that it lacks, as far as each column has an order of its
+    /// own.
+    pub fn outer_columns(&self, query: &Query, group: KeyParts) -> usize
+        requires { IsProps query.now self.now }
+    {
+        let leaving = self.ends(query, group).leaving();
         let mut count = 0usize;
-        for words in self.groups.candidates.as_slice() {
-            count = count.saturating_add(words.len());
+        for giving in self.equalities.of_orders.as_slice() {
+            if leaving.meets(*giving) {
+                count = count.saturating_add(1);
+            }
         }
-        count
+        // The empty order is given by all columns.
+        count.saturating_sub(1)
     }
 
     /// The estimated rows of the group that the key names; 0 where the query has no such group.
