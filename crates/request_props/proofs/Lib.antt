@@ -7,8 +7,8 @@ pub mod Ordered
 pub mod Orders
 pub mod Ranges
 pub mod SideLemmas
-pub mod LeftRanges
-pub mod KindOrder
+pub mod SideLists
+pub mod JoinWords
 pub mod CandidateLists
 pub mod NumberSets
 pub mod EqualityEnds

@@ -1,5 +1,5 @@
 -- Laws of the sides of a join: a left child has one set of tables, and with it one right child.
-use Rattle.std.proofs.Common.{◌≡◌, ℕ, ◌+◌, ◌-◌, ◌<◌, ◌≤◌, ◌^◌, Some, None, length, refl, ap, sym, subst, ◌∙◌, arith}
+use Rattle.std.proofs.Common.{◌≡◌, ℕ, ◌-◌, ◌<◌, ◌≤◌, ◌^◌, Some, None, length, refl, ap, sym, subst, ◌∙◌, arith}
 use Rattle.std.specs.Prelude.{◌==◌, bit_or}
 use Rattle.std.specs.Int.{trailing_zeros, w32}
 use Rattle.std.proofs.Math.Nat.{pow-le-pow_right}
@@ -11,7 +11,8 @@ use Rattle.query_core.specs.Expressions.{FallsInto}
 use Rattle.query_core.specs.declared.query.Query.{Query}
 use Rattle.query_core.specs.declared.words.KeyParts.{KeyParts}
 use Rattle.query_core.proofs.Splitting.{tables_top, number_top, right_one, rest_disjoint, left_within}
-use Rattle.request_props.specs.Joins.{IsSide, HasSides, AreSides}
+use Rattle.request_props.specs.Joins.{IsSide, HasSides, AreSidesAt}
+use Rattle.request_props.specs.declared.candidates.sides.Sides.{Sides}
 
 -- a set of the query's tables is one of the first ten tables
 pub of_tables_small : (q : Query) (tables : ℕ) → tables < 2 ^ length q.tables → tables < 1024
@@ -34,8 +35,13 @@ only_table tables t is =
     (λ differs found. absurd (some_none t found))
     is
 
-module _ (q : Query) (set left : ℕ) (group : KeyParts) (tables others : ℕ) (small : set < 1024) (in_range : IsInRange group) (number : key_number group + 1 ≡ left) (joined : tables ≡ tables_of group) (rest : (t : ℕ) → bit others t ≡ bit set t - bit tables t) where
-  -- sides with a left child of this number are these tables and the others, and the group joins these
+-- sides are the same where both groups are
+same_sides : (left other right rest : KeyParts) → left ≡ other → right ≡ rest → (let x : Sides = record { left = left; right = right } in x) ≡ (let y : Sides = record { left = other; right = rest } in y)
+same_sides left other right rest first second =
+    ap (λ (g : KeyParts). let x : Sides = record { left = g; right = right } in x) first ∙ ap (λ (g : KeyParts). let x : Sides = record { left = other; right = g } in x) second
+
+module _ (q : Query) (set left : ℕ) (group : KeyParts) (tables others : ℕ) (small : set < 1024) (in_range : IsInRange group) (number : key_number group ≡ left) (joined : tables ≡ tables_of group) (rest : (t : ℕ) → bit others t ≡ bit set t - bit tables t) where
+  -- sides with a left key of this number are these tables and the others, and the group joins these
   pub own_sides : HasSides q set left → FallsInto q set tables others × (group ≡ top_of q tables)
   own_sides (a, b, falls, is) =
       let named : group ≡ top_of q a = number_top q a (key_number group) group in_range refl (omega (arith, left_within q set a b falls, small)) (omega (arith, is, number)) in
@@ -46,21 +52,22 @@ module _ (q : Query) (set left : ℕ) (group : KeyParts) (tables others : ℕ) (
 
   -- where both are sides and make the set, it falls into them
   pub sides_found : (first second : KeyParts) → bit_or tables others ≡ set → IsSide q tables → IsSide q others → first ≡ top_of q tables → first ≡ group
-      → second ≡ top_of q others → AreSides q set left first second
+      → second ≡ top_of q others → AreSidesAt q set left (record { left = first; right = second })
   sides_found first second whole one other is same second_is = (
-    tables,
-    others,
-    record {
-      whole = whole;
-      disjoint = rest_disjoint set tables others rest;
-      left = one.1;
-      right = other.1;
-      some_left = one.0;
-      some_right = other.0;
-    },
-    is,
-    second_is,
-    ap (λ g. key_number g + 1) (sym is ∙ same) ∙ number,
+    (
+      tables,
+      others,
+      record {
+        whole = whole;
+        disjoint = rest_disjoint set tables others rest;
+        left = one.1;
+        right = other.1;
+        some_left = one.0;
+        some_right = other.0;
+      },
+      same_sides first (top_of q tables) second (top_of q others) is second_is,
+    ),
+    ap key_number same ∙ number,
   )
 
 -- each of two sets has its tables in their union

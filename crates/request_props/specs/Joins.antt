@@ -1,27 +1,73 @@
--- How the next join of a set of tables is found: the kinds of joins, their sides, and the joins over a range of left children.
-use Rattle.std.specs.Prelude.{ℕ, ◌≡◌, ◌<◌, ◌≤◌, ◌+◌}
+-- The pairs of sides into which a set of tables falls, and the words of the joins over them: cited by private functions alone.
+use Rattle.std.specs.Prelude.{ℕ, ◌≡◌, ◌<◌, List, [], ◌∷◌, ◌++◌, map}
+use Rattle.std.specs.List.{All, Contains}
+use Rattle.std.specs.List.Sorted.{IsStrictlyIncreasing}
 use Rattle.query_core.specs.Connected.{IsConnected}
-use Rattle.query_core.specs.Keys.{key_number, top_of}
-use Rattle.query_core.specs.Expressions.{FallsInto}
-use Rattle.query_core.specs.ByKind.{IsJoinAt}
+use Rattle.query_core.specs.Keys.{key_number, IsInRange, top_of}
+use Rattle.query_core.specs.Expressions.{word_of, FallsInto}
+use Rattle.query_core.specs.ByKind.{expr, join_by}
 use Rattle.query_core.specs.declared.query.Query.{Query}
-use Rattle.query_core.specs.declared.words.KeyParts.{KeyParts}
-use Rattle.query_core.specs.declared.expressions.ExprParts.{ExprParts}
+use Rattle.query_core.specs.declared.words.KeyParts.TheVariants.{Join}
+use Rattle.query_core.specs.declared.expressions.Logical.TheVariants.{NJoin}
+use Rattle.query_core.specs.declared.expressions.Operator.TheVariants as operators
 use Rattle.query_core.specs.declared.kinds.JoinKind.{JoinKind}
+use Rattle.query_core.specs.declared.kinds.JoinKind.TheVariants as joins
+use Rattle.request_props.specs.declared.candidates.sides.Sides.{Sides}
 
 -- the tables can be a side of a join: they are connected, and not none
 abbrev pub IsSide : Query → ℕ → Type 0
 IsSide q tables = (0 < tables) × IsConnected q.links tables
 
--- the set falls into two sides, the left one with a key of this number and 1
+-- the set falls into two sides, the left one with a key of this number
 abbrev pub HasSides : Query → ℕ → ℕ → Type 0
-HasSides q set left = (a b : ℕ) × FallsInto q set a b × (key_number (top_of q a) + 1 ≡ left)
+HasSides q set left = (a b : ℕ) × FallsInto q set a b × (key_number (top_of q a) ≡ left)
 
--- the groups are those of the two sides into which the set falls, the left one with a key of this number and 1
-abbrev pub AreSides : Query → ℕ → ℕ → KeyParts → KeyParts → Type 0
-AreSides q set left first second =
-    (a b : ℕ) × FallsInto q set a b × (first ≡ top_of q a) × (second ≡ top_of q b) × (key_number (top_of q a) + 1 ≡ left)
+-- the groups that join the tables of two sets
+abbrev pub tops_of : Query → ℕ → ℕ → Sides
+tops_of q a b = record { left = top_of q a; right = top_of q b }
 
--- a join of the set whose left child has a number from the first one on, and below the last
-abbrev pub IsJoinBetween : Query → ℕ → JoinKind → ℕ → ℕ → ExprParts → Type 0
-IsJoinBetween q set kind first after e = (left : ℕ) × (first ≤ left) × (left < after) × IsJoinAt q set kind left e
+-- the groups are those of two sides into which the set falls
+abbrev pub AreSides : Query → ℕ → Sides → Type 0
+AreSides q set sides = (a b : ℕ) × FallsInto q set a b × (sides ≡ tops_of q a b)
+
+-- the same, the left one with a key of this number
+abbrev pub AreSidesAt : Query → ℕ → ℕ → Sides → Type 0
+AreSidesAt q set left sides = AreSides q set sides × (key_number sides.left ≡ left)
+
+-- the key of the left side
+abbrev pub left_of : Sides → ℕ
+left_of sides = key_number sides.left
+
+-- all sides into which the set falls, and no others, strictly ascending by the left one's key
+pub record AreAllSides (q : Query) (set : ℕ) (found : List Sides) : Type 0 where
+  pub ascending : IsStrictlyIncreasing (map left_of found)
+  pub sound : All (AreSides q set) found
+  pub complete : (a b : ℕ) → FallsInto q set a b → Contains found (tops_of q a b)
+
+-- the same of those whose left one has a key below the bound
+pub record AreSidesBelow (q : Query) (set bound : ℕ) (found : List Sides) : Type 0 where
+  pub ascending : IsStrictlyIncreasing (map left_of found)
+  pub sound : All (AreSides q set) found
+  pub below : All (λ sides. left_of sides < bound) found
+  pub complete : (a b : ℕ) → FallsInto q set a b → key_number (top_of q a) < bound → Contains found (tops_of q a b)
+
+-- both groups are some that a query can have
+abbrev pub AreBothInRange : Sides → Type 0
+AreBothInRange sides = IsInRange sides.left × IsInRange sides.right
+
+-- the word of the join of a set over its sides
+abbrev pub join_word : ℕ → JoinKind → Sides → ℕ
+join_word set kind sides = word_of (expr (Join set) (join_by kind sides.left sides.right))
+
+-- the words of these joins
+abbrev pub join_words : ℕ → JoinKind → List Sides → List ℕ
+join_words set kind found = map (join_word set kind) found
+
+-- the word of the join of all tables of a set
+abbrev pub many_word : ℕ → ℕ
+many_word set = word_of (expr (Join set) (operators.Logical NJoin))
+
+-- behind it the words of the joins over these sides, kind by kind
+abbrev pub words_over : ℕ → List Sides → List ℕ
+words_over set found =
+    ((((many_word set ∷ []) ++ join_words set joins.Logical found) ++ join_words set joins.Hash found) ++ join_words set joins.Merge found) ++ join_words set joins.Loop found

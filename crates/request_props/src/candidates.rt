@@ -8,10 +8,9 @@ ghost use Rattle.request_props.specs.Groups.{AreKeys, key_of};
 ghost use Rattle.request_props.specs.Candidates.{AreCandidates, AreCandidatesOf};
 
 mod joins;
-mod next;
 mod sides;
 
-use next::next_candidate;
+use joins::words_of_joins;
 use orca_base::List;
 use query_core::{KEYS, Key, KeyParts, Query, groups_are_known};
 use std::alloc::{AllocError, Global};
@@ -51,7 +50,7 @@ fn candidates_at(
     }
 }
 
-// The words of the group.
+// The words of the group, by look-ups where it joins tables.
 fn candidates_of(
     alloc: Global,
     query: &Query,
@@ -62,9 +61,22 @@ fn candidates_of(
     requires known { IsGroup query.now group }
     ensures { IfOk result (AreCandidatesOf query.now group) }
 {
+    match group {
+        KeyParts::Join(set) => words_of_joins(alloc, query, keys, set),
+        _ => words_of_few(alloc, query, group),
+    }
+}
+
+// The words of the group, one after the other.
+fn words_of_few(alloc: Global, query: &Query, group: KeyParts) -> Result<List<u64>, AllocError>
+    requires { IsGroup query.now group }
+    ensures { IfOk result (AreCandidatesOf query.now group) }
+{
+    // For the proof: a group of the query has a key.
+    groups_are_known();
     let mut words = List::new(alloc);
     let mut before = None;
-    'words: while let Some(next) = next_candidate(query, keys, group, before) {
+    'words: while let Some(next) = query.next_candidate(Key::make(group), before) {
         words.push(next.0)?;
         before = Some(next);
     }

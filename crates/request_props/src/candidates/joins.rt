@@ -1,119 +1,73 @@
-//! The next join of a set of tables. No call here takes memory.
+//! The words of what a group of several tables can hold.
 #![tactic(auto)]
 
-ghost use Rattle.std.specs.Prelude.{◌≡◌, ℕ, ◌+◌, ◌<◌, ◌≤◌};
-ghost use Rattle.query_core.specs.declared.words.KeyParts.{KeyParts as Group};
-ghost use Rattle.query_core.specs.Keys.{key_number, IsInRange, IsGroup};
-ghost use Rattle.query_core.specs.Expressions.{word_of};
-ghost use Rattle.query_core.specs.ByKind.{expr, join_by, IsJoinBy, IsJoinAt, IsOf, FindsFrom};
+ghost use Rattle.std.specs.Prelude.{◌≡◌, ◌<◌, ◌++◌, IfOk, OnOk};
+ghost use Rattle.std.specs.List.{All};
+ghost use Rattle.query_core.specs.Keys.{IsGroup};
+ghost use Rattle.query_core.specs.Expressions.{word_of, IsPacked};
+ghost use Rattle.query_core.specs.ByKind.{expr};
 ghost use Rattle.request_props.specs.Groups.{AreKeys};
-ghost use Rattle.request_props.specs.Joins.{IsJoinBetween};
+ghost use Rattle.request_props.specs.Candidates.{AreCandidatesOf};
+ghost use Rattle.request_props.specs.Joins.{join_words, words_over, AreBothInRange};
 
-use crate::candidates::sides::sides;
-use query_core::{Expr, JoinKind, KeyParts, Logical, Operator, Query, first_left, sets, word_from};
+use crate::candidates::sides::{Sides, all_sides};
+use orca_base::List;
+use query_core::{Expr, ExprParts, JoinKind, KeyParts, Logical, Operator, Query};
+use std::alloc::{AllocError, Global};
 
-// The numbers of left children that are one table are below this one.
-const AFTER_ONE: u64 = 27;
-
-// The numbers of left children that are several tables are from this one on: it is that of the empty set.
-const FIRST_OF_SEVERAL: u64 = 1025;
-
-/// The least word from the bound on of what a group of several tables can hold. Words of one kind come before those of
-/// the next.
-pub(crate) fn next_of_join(query: &Query, keys: &[bool], set: u32, bound: u64) -> Option<Expr>
-    requires keys { AreKeys query.now keys.now }
-    requires known { IsGroup query.now (KeyParts.Join set) }
-    ensures { FindsFrom (IsOf query.now (KeyParts.Join set)) bound result }
-{
-    let many = Operator::Logical(Logical::NJoin);
-    if let Some(found) = word_from(bound, KeyParts::Join(set), many) {
-        return Some(found);
-    }
-    if let Some(found) = next_join(query, keys, set, JoinKind::Logical, bound) {
-        return Some(found);
-    }
-    if let Some(found) = next_join(query, keys, set, JoinKind::Hash, bound) {
-        return Some(found);
-    }
-    if let Some(found) = next_join(query, keys, set, JoinKind::Merge, bound) {
-        return Some(found);
-    }
-    next_join(query, keys, set, JoinKind::Loop, bound)
-}
-
-// The next join of one kind: no key between that of one table and that of several is a left child's.
-fn next_join(query: &Query, keys: &[bool], set: u32, kind: JoinKind, bound: u64) -> Option<Expr>
-    requires keys { AreKeys query.now keys.now }
-    requires known { IsGroup query.now (KeyParts.Join set) }
-    ensures { FindsFrom (IsJoinBy query.now set kind) bound result }
-{
-    let first = first_left(set, kind, bound);
-    if let Some(found) = next_of_one(query, keys, set, kind, bound, first) {
-        return Some(found);
-    }
-    let first_set = first.saturating_sub(FIRST_OF_SEVERAL);
-    next_of_several(query, keys, set, kind, bound, first_set)
-}
-
-// The next join whose left child is one table, from this number on.
-fn next_of_one(
+/// The words of a group of several tables. Those of one kind of joins come before those of the next.
+pub(crate) fn words_of_joins(
+    alloc: Global,
     query: &Query,
     keys: &[bool],
     set: u32,
-    kind: JoinKind,
-    bound: u64,
-    first: u64,
-) -> Option<Expr>
+) -> Result<List<u64>, AllocError>
     requires keys { AreKeys query.now keys.now }
     requires known { IsGroup query.now (KeyParts.Join set) }
-    ensures { FindsFrom (IsJoinBetween query.now set kind first 27) bound result }
+    ensures { IfOk result (AreCandidatesOf query.now (KeyParts.Join set)) }
 {
-    for left in first..AFTER_ONE {
-        if let Some(found) = join_at(query, keys, set, kind, bound, left as u32) {
-            return Some(found);
-        }
-    }
-    None
+    let sides = all_sides(alloc, query, keys, set)?;
+    words_by_sides(alloc, set, sides.as_slice())
 }
 
-// The next join whose left child is several tables, from this set on.
-fn next_of_several(
-    query: &Query,
-    keys: &[bool],
-    set: u32,
-    kind: JoinKind,
-    bound: u64,
-    first: u64,
-) -> Option<Expr>
-    requires keys { AreKeys query.now keys.now }
-    requires known { IsGroup query.now (KeyParts.Join set) }
-    ensures { FindsFrom (IsJoinBetween query.now set kind (1025 + first) (1025 + set)) bound result }
+// The word of the join of all tables, and behind it those of the joins over these sides.
+fn words_by_sides(alloc: Global, set: u32, sides: &[Sides]) -> Result<List<u64>, AllocError>
+    requires small { set < 1024 }
+    requires in_range { All AreBothInRange sides.now }
+    ensures { IfOk result (λ words. words ≡ words_over set sides.now) }
 {
-    for tables in first..set as u64 {
-        // Most numbers have other tables too, so this is looked at first.
-        if sets::union(tables as u32, set) == set {
-            let left = FIRST_OF_SEVERAL + tables;
-            if let Some(found) = join_at(query, keys, set, kind, bound, left as u32) {
-                return Some(found);
-            }
-        }
-    }
-    None
+    let mut words = List::new(alloc);
+    words.push(word(set, Operator::Logical(Logical::NJoin)))?;
+    push_joins(&mut words, set, JoinKind::Logical, sides)?;
+    push_joins(&mut words, set, JoinKind::Hash, sides)?;
+    push_joins(&mut words, set, JoinKind::Merge, sides)?;
+    push_joins(&mut words, set, JoinKind::Loop, sides)?;
+    Ok(words)
 }
 
-// The join whose left child has this number.
-fn join_at(
-    query: &Query,
-    keys: &[bool],
+// Adds the words of the joins of one kind over these sides.
+fn push_joins(
+    words: &mut List<u64>,
     set: u32,
     kind: JoinKind,
-    bound: u64,
-    left: u32,
-) -> Option<Expr>
-    requires keys { AreKeys query.now keys.now }
-    requires known { IsGroup query.now (KeyParts.Join set) }
-    ensures { FindsFrom (IsJoinAt query.now set kind left) bound result }
+    sides: &[Sides],
+) -> Result<(), AllocError>
+    requires small { set < 1024 }
+    requires in_range { All AreBothInRange sides.now }
+    ensures { OnOk result (words.new ≡ words.old ++ join_words set kind sides.now) }
 {
-    let (first, second) = sides(query, keys, set, left)?;
-    word_from(bound, KeyParts::Join(set), kind.of(first, second))
+    for place in 0..sides.len() {
+        let Sides { left, right } = sides[place];
+        words.push(word(set, kind.of(left, right)))?;
+    }
+    Ok(())
+}
+
+// The word of the set's group and the operator.
+fn word(set: u32, operator: Operator) -> u64
+    requires { IsPacked (expr (KeyParts.Join set) operator) }
+    ensures { result ≡ word_of (expr (KeyParts.Join set) operator) }
+{
+    let group = KeyParts::Join(set);
+    Expr::make(ExprParts { group, operator }).0
 }

@@ -1,38 +1,127 @@
-//! The groups of the two sides of a join, by look-ups.
+//! The pairs of sides into which a set of tables falls, by look-ups, found once for each set.
 #![tactic(auto)]
 
-ghost use Rattle.std.specs.Prelude.{ℕ, ◌≡◌, ◌<◌, ◌^◌, length, MatchOption};
+ghost use Rattle.std.specs.Prelude.{ℕ, ◌≡◌, ◌<◌, ◌≤◌, ◌+◌, ◌^◌, length, MatchOption, IfOk, OnOk};
 ghost use Rattle.query_core.specs.Connected.{IsConnected};
 ghost use Rattle.query_core.specs.Keys.{alone as group_of_table, top_of, IsGroup};
 ghost use Rattle.request_props.specs.Groups.{AreKeys};
-ghost use Rattle.request_props.specs.Joins.{IsSide, AreSides, HasSides};
+ghost use Rattle.request_props.specs.Joins.{IsSide, HasSides, AreSidesAt, AreSidesBelow, AreAllSides};
 
 use crate::groups::is_key;
+use orca_base::List;
 use query_core::{Key, KeyParts, Query, groups_are_known, sets};
+use std::alloc::{AllocError, Global};
 
-/// The groups of the sides of a join of these tables whose left child has this number in the word.
-pub(crate) fn sides(
+/// The groups of the two sides of a join.
+#[derive(Clone, Copy)]
+pub struct Sides {
+    pub left: KeyParts,
+    pub right: KeyParts,
+}
+
+// The keys of groups of one table have numbers below this one.
+const AFTER_ONE: u32 = 26;
+
+// The keys of groups of several tables have numbers from this one on: it is that of the empty set.
+const FIRST_OF_SEVERAL: u32 = 1024;
+
+/// All sides into which the set falls, by the key of the left one.
+pub(crate) fn all_sides(
+    alloc: Global,
+    query: &Query,
+    keys: &[bool],
+    set: u32,
+) -> Result<List<Sides>, AllocError>
+    requires keys { AreKeys query.now keys.now }
+    requires known { IsGroup query.now (KeyParts.Join set) }
+    ensures { IfOk result (AreAllSides query.now set) }
+{
+    let mut found = List::new(alloc);
+    push_of_one(&mut found, query, keys, set)?;
+    push_of_several(&mut found, query, keys, set)?;
+    Ok(found)
+}
+
+// Adds those whose left side is one table.
+fn push_of_one(
+    found: &mut List<Sides>,
+    query: &Query,
+    keys: &[bool],
+    set: u32,
+) -> Result<(), AllocError>
+    requires keys { AreKeys query.now keys.now }
+    requires known { IsGroup query.now (KeyParts.Join set) }
+    requires none { AreSidesBelow query.now set 0 found.old }
+    ensures { OnOk result (AreSidesBelow query.now set 26 found.new) }
+{
+    for left in 0..AFTER_ONE {
+        push_at(found, query, keys, set, left)?;
+    }
+    Ok(())
+}
+
+// Adds those whose left side is several tables: no key between is that of tables.
+fn push_of_several(
+    found: &mut List<Sides>,
+    query: &Query,
+    keys: &[bool],
+    set: u32,
+) -> Result<(), AllocError>
+    requires keys { AreKeys query.now keys.now }
+    requires known { IsGroup query.now (KeyParts.Join set) }
+    requires of_one { AreSidesBelow query.now set 26 found.old }
+    ensures { OnOk result (AreAllSides query.now set found.new) }
+{
+    for tables in 0..set {
+        // Most numbers have other tables too, so this is looked at first.
+        if sets::union(tables, set) == set {
+            push_at(found, query, keys, set, FIRST_OF_SEVERAL + tables)?;
+        }
+    }
+    Ok(())
+}
+
+// Adds the sides whose left group has this key, if the set falls into such.
+fn push_at(
+    found: &mut List<Sides>,
     query: &Query,
     keys: &[bool],
     set: u32,
     left: u32,
-) -> Option<(KeyParts, KeyParts)>
+) -> Result<(), AllocError>
     requires keys { AreKeys query.now keys.now }
     requires known { IsGroup query.now (KeyParts.Join set) }
-    ensures { MatchOption result (HasSides query.now set left → ⊥)
-        (λ sides. AreSides query.now set left sides.0 sides.1) }
+    requires before { AreSidesBelow query.now set left found.old }
+    ensures { OnOk result (AreSidesBelow query.now set (left + 1) found.new) }
 {
-    let group = Key(left.checked_sub(1)?).parts()?;
+    match sides_at(query, keys, set, Key(left)) {
+        Some(sides) => found.push(sides),
+        None => Ok(()),
+    }
+}
+
+// The sides whose left group has this key.
+fn sides_at(query: &Query, keys: &[bool], set: u32, key: Key) -> Option<Sides>
+    requires keys { AreKeys query.now keys.now }
+    requires known { IsGroup query.now (KeyParts.Join set) }
+    ensures { MatchOption result (HasSides query.now set key.0 → ⊥)
+        (AreSidesAt query.now set key.0) }
+{
+    if !is_key(query, keys, key) {
+        return None;
+    }
+    let group = query.group(key);
     let tables = group.tables();
     let others = sets::difference(set, tables);
     if sets::union(tables, others) != set {
         return None;
     }
-    let first = side(query, keys, tables)?;
-    if first != group {
+    let left = side(query, keys, tables)?;
+    if left != group {
         return None;
     }
-    Some((first, side(query, keys, others)?))
+    let right = side(query, keys, others)?;
+    Some(Sides { left, right })
 }
 
 // The group that joins the tables, if these are connected and not none.

@@ -1,6 +1,6 @@
 -- The words so far are all up to the one before.
 use Rattle.request_props.proofs.CandidateLists.{left_after, AreUpTo}
-use Rattle.request_props.proofs.candidates.candidates_of.Given as goal
+use Rattle.request_props.proofs.candidates.words_of_few.Given as goal
 
 abbrev pub invariant-words : goal.invariant-words
 invariant-words l = AreUpTo l.query l.group l.before l.words
