@@ -1,6 +1,6 @@
 -- By which equalities across its groups a join serves a request: a merge join by those whose left column gives the order,
 -- and one of rows that are hashed alike by those whose left column gives the hash.
-use Rattle.std.proofs.Common.{◌≡◌, ℕ, Option, Some, None, refl, sym, subst}
+use Rattle.std.proofs.Common.{◌≡◌, ◌↔◌, ℕ, Option, Some, None, refl, sym, subst}
 use Rattle.std.specs.Option.{option_map}
 use Rattle.query_core.specs.Crossing.{crossing_of}
 use Rattle.query_core.specs.Expressions.{physical_children}
@@ -11,6 +11,7 @@ use Rattle.query_core.specs.declared.expressions.Physical.TheVariants as physica
 use Rattle.query_core.specs.declared.expressions.PhysicalExpr.{PhysicalExpr}
 use Rattle.query_core.specs.declared.query.Query.{Query}
 use Rattle.query_core.specs.declared.words.KeyParts.{KeyParts}
+use Rattle.request_props.specs.Ends.{AreCrossingBy}
 use Rattle.request_props.specs.NumberSets.{HasBelow, IsInSet}
 use Rattle.request_props.specs.Numbered.{column_list, column_order, order_of}
 use Rattle.request_props.specs.Satisfied.{BeginsWith, Meets}
@@ -28,7 +29,7 @@ use Rattle.plan_space.specs.declared.lines.Line.{Line}
 use Rattle.plan_space.specs.declared.modes.Mode.{Mode}
 use Rattle.plan_space.specs.declared.modes.Mode.TheVariants as kinds
 use Rattle.plan_space.specs.declared.modes.ModeSets.{ModeSets}
-use Rattle.plan_tree.specs.ServingModes.{AreServing}
+use Rattle.plan_tree.specs.ServingModes.{AreServing, MayServe}
 use Rattle.plan_tree.specs.Walks.{AreTriedOf}
 use Rattle.plan_tree.proofs.TriedOfOperators.{only_first, operator_tried}
 
@@ -36,9 +37,9 @@ use Rattle.plan_tree.proofs.TriedOfOperators.{only_first, operator_tried}
 abbrev pub MergesIn : Query → ℕ → ℕ → Type 0
 MergesIn q wanted column = BeginsWith (order_of q (column_order q column)) (order_of q wanted)
 
--- all predicates that equate such a column across the groups are among these
+-- these are the predicates that equate such a column across the groups
 abbrev pub AreMergingIn : Query → KeyParts → KeyParts → ℕ → NumberSet → Type 0
-AreMergingIn q left right wanted preds = (pred a b : ℕ) → crossing_of q left right pred ≡ Some (a, b) → MergesIn q wanted a → IsInSet preds pred
+AreMergingIn q left right wanted preds = AreCrossingBy q left right (MergesIn q wanted) preds
 
 with_merges : (q : Query) (dist : LeftDist) (asked : Dist) (sides : ℕ × ℕ) (children : Children) (wanted : Request)
     → LineServes q (merge_with q dist asked sides) children wanted → MergesIn q wanted.order sides.0
@@ -50,9 +51,9 @@ with_merges q dist asked sides (arities.Two left right) wanted serves = serves.s
 abbrev pub HashesTo : Query → Dist → ℕ → Type 0
 HashesTo q wanted column = Meets (given.Hashed (column_list q column)) wanted
 
--- all predicates that equate such a column across the groups are among these
+-- these are the predicates that equate such a column across the groups
 abbrev pub AreHashingTo : Query → KeyParts → KeyParts → Dist → NumberSet → Type 0
-AreHashingTo q left right wanted preds = (pred a b : ℕ) → crossing_of q left right pred ≡ Some (a, b) → HashesTo q wanted a → IsInSet preds pred
+AreHashingTo q left right wanted preds = AreCrossingBy q left right (HashesTo q wanted) preds
 
 hash_serves : (q : Query) (sides : ℕ × ℕ) (children : Children) (wanted : Request) → LineServes q (hash_colocated q sides) children wanted → HashesTo q wanted.dist sides.0
 hash_serves q sides arities.Zero wanted serves = absurd serves
@@ -66,14 +67,14 @@ merge_hashes q sides (arities.Two left right) wanted serves = serves.serves.dist
 
 module _ (q : Query) (line : Line) (children : Children) (wanted : Request) (left right : KeyParts) where
   -- a line made of a crossing that serves is by a predicate of which holds what serving says
-  found_serves : (Serves : ℕ → Type 0) (preds : NumberSet) → ((pred a b : ℕ) → crossing_of q left right pred ≡ Some (a, b) → Serves a → IsInSet preds pred)
+  found_serves : (Serves : ℕ → Type 0) (preds : NumberSet) → AreCrossingBy q left right Serves preds
       → (line_with : (ℕ × ℕ) → Line) → ((sides : ℕ × ℕ) → LineServes q (line_with sides) children wanted → Serves sides.0)
       → (pred : ℕ) (found : Option (ℕ × ℕ)) → crossing_of q left right pred ≡ found → option_map line_with found ≡ Some line → LineServes q line children wanted
       → IsInSet preds pred
   found_serves Serves preds all line_with each pred None at is serves = let wrong : ⊥ = cc in absurd wrong
   found_serves Serves preds all line_with each pred (Some (a, b)) at is serves =
       let same : line ≡ line_with (a, b) = cc in
-      all pred a b at (each (a, b) (subst (λ (l : Line). LineServes q l children wanted) same serves))
+      (all pred).1 (a, b, at, each (a, b) (subst (λ (l : Line). LineServes q l children wanted) same serves))
 
   module _ (hashing : NumberSet) (hashes : AreHashingTo q left right wanted.dist hashing) where
     hash_mode : (modes : ModeSets) → HasBelow modes.one 1 → HasBelow modes.copied 1 → modes.hashed ≡ hashing
@@ -85,7 +86,7 @@ module _ (q : Query) (line : Line) (children : Children) (wanted : Request) (lef
         (found_serves (HashesTo q wanted.dist) hashing hashes (hash_colocated q) (λ sides. hash_serves q sides children wanted) number (crossing_of q left right number) refl is serves)
 
     module _ (merging both : NumberSet) (merges : AreMergingIn q left right wanted.order merging)
-        (in_both : (pred : ℕ) → IsInSet merging pred → IsInSet hashing pred → IsInSet both pred) where
+        (in_both : (pred : ℕ) → IsInSet both pred ↔ (IsInSet merging pred × IsInSet hashing pred)) where
       merge_mode : (modes : ModeSets) → modes.one ≡ merging → modes.copied ≡ merging → modes.hashed ≡ both
           → (mode : Mode) → merge_line q left right mode ≡ Some line → LineServes q line children wanted → HasModeIn modes mode
       merge_mode modes one copied hashed (kinds.One number) is serves =
@@ -101,7 +102,7 @@ module _ (q : Query) (line : Line) (children : Children) (wanted : Request) (lef
           let in_order = found_serves (MergesIn q wanted.order) merging merges (merge_colocated q)
           (λ sides. with_merges q (on_hashed (column_list q sides.0)) (Hashed (column_list q sides.1)) sides children wanted) number found refl is serves in
           let in_place = found_serves (HashesTo q wanted.dist) hashing hashes (merge_colocated q) (λ sides. merge_hashes q sides children wanted) number found refl is serves in
-          subst (λ preds. IsInSet preds number) (sym hashed) (in_both number in_order in_place)
+          subst (λ preds. IsInSet preds number) (sym hashed) ((in_both number).1 (in_order, in_place))
 
 module _ (q : Query) (e : PhysicalExpr) (left right : KeyParts) (wanted : Request) (modes : ModeSets) (hashing : NumberSet) (hashes : AreHashingTo q left right wanted.dist hashing) where
   -- a hash join serves a request in its first modes, and hashed by such a predicate
@@ -111,11 +112,35 @@ module _ (q : Query) (e : PhysicalExpr) (left right : KeyParts) (wanted : Reques
       hash_mode q line (physical_children e.operator) wanted left right hashing hashes modes one copied hashed (mode_at mode) found is.serves
 
   -- a merge join only by one whose left column gives the order, and hashed only by one that is both
-  pub merge_join_tried : (merging both : NumberSet) → AreMergingIn q left right wanted.order merging → ((pred : ℕ) → IsInSet merging pred → IsInSet hashing pred → IsInSet both pred)
+  pub merge_join_tried : (merging both : NumberSet) → AreMergingIn q left right wanted.order merging → ((pred : ℕ) → IsInSet both pred ↔ (IsInSet merging pred × IsInSet hashing pred))
       → e.operator ≡ physical.MergeJoin left right → modes.one ≡ merging → modes.copied ≡ merging → modes.hashed ≡ both → AreServing q e wanted modes
   merge_join_tried merging both merges in_both joins one copied hashed mode (line, is) =
       let found = subst (λ (o : Physical). operator_line q e.group o (mode_at mode) ≡ Some line) joins is.is_line in
       merge_mode q line (physical_children e.operator) wanted left right hashing hashes merging both merges in_both modes one copied hashed (mode_at mode) found is.serves
+
+module _ (q : Query) (e : PhysicalExpr) (left right : KeyParts) (wanted : Request) (merging : NumberSet) (merges : AreMergingIn q left right wanted.order merging) where
+  -- a merge join that serves a request in a mode merges by such a predicate
+  merges_by : (line : Line) (children : Children) (mode : Mode) → merge_line q left right mode ≡ Some line → LineServes q line children wanted → (pred : ℕ) × IsInSet merging pred
+  merges_by line children (kinds.One number) is serves = (
+    number,
+    found_serves q line children wanted left right (MergesIn q wanted.order) merging merges (merge_with q on_one One) (λ sides. with_merges q on_one One sides children wanted)
+        number (crossing_of q left right number) refl is serves,
+  )
+  merges_by line children (kinds.Copied number) is serves = (
+    number,
+    found_serves q line children wanted left right (MergesIn q wanted.order) merging merges (merge_with q left_dists.SameSpread Copies)
+        (λ sides. with_merges q left_dists.SameSpread Copies sides children wanted) number (crossing_of q left right number) refl is serves,
+  )
+  merges_by line children (kinds.Hashed number) is serves = (
+    number,
+    found_serves q line children wanted left right (MergesIn q wanted.order) merging merges (merge_colocated q)
+        (λ sides. with_merges q (on_hashed (column_list q sides.0)) (Hashed (column_list q sides.1)) sides children wanted) number (crossing_of q left right number) refl is serves,
+  )
+
+  pub merge_join_merges : e.operator ≡ physical.MergeJoin left right → MayServe q e wanted → (pred : ℕ) × IsInSet merging pred
+  merge_join_merges joins (mode, (line, is)) =
+      let found = subst (λ (o : Physical). operator_line q e.group o (mode_at mode) ≡ Some line) joins is.is_line in
+      merges_by line (physical_children e.operator) (mode_at mode) found is.serves
 
 -- of any operator, a mode that is there for a request is tried
 pub alternatives_tried : (q : Query) (e : PhysicalExpr) (wanted : Request) (modes : ModeSets) → AreTriedOf q e.operator modes → AreServing q e wanted modes

@@ -11,7 +11,7 @@ use Rattle.query_core.specs.declared.expressions.Physical.TheVariants as physica
 use Rattle.query_core.specs.declared.expressions.PhysicalExpr.{PhysicalExpr}
 use Rattle.query_core.specs.declared.query.Query.{Query}
 use Rattle.query_core.specs.declared.words.KeyParts.{KeyParts}
-use Rattle.request_props.specs.Fitting.{DistFits, Fits}
+use Rattle.request_props.specs.Fitting.{DistFits, Fits, OrderFits}
 use Rattle.request_props.specs.Lying.{OrderLiesIn}
 use Rattle.request_props.specs.Numbered.{IsNumbered, order_of}
 use Rattle.request_props.specs.Satisfied.{BeginsWith, given_order}
@@ -30,7 +30,7 @@ use Rattle.plan_space.specs.declared.lines.Line.TheVariants.{Alone, Above, Besid
 use Rattle.plan_space.specs.Modes.{mode_at, IsOnOne, IsSpread}
 use Rattle.plan_space.specs.declared.modes.Mode.{Mode}
 use Rattle.plan_tree.specs.Alternatives.{HasAlternative}
-use Rattle.plan_tree.specs.ServingModes.{MayServe, SuitsJoin, WantsCopies, has_spread_modes}
+use Rattle.plan_tree.specs.ServingModes.{DistSuits, MayServe, has_spread_modes}
 use Rattle.plan_tree.proofs.LineModes.{IsDistIn, IsOrderOfLeft, IsLineIn, line_in}
 
 -- ---- modes
@@ -156,19 +156,20 @@ alternative_mode q e wanted dist mode both asked (line, is) =
     (mode_for q line (physical_children e.operator) (mode_at mode) wanted
     (line_in q line e.group e.operator (mode_at mode) both is.is_line) is.serves)
 
-copies_asked : (dist : Dist) → WantsCopies dist → dist ≡ Copies
-copies_asked One wants = absurd wants
-copies_asked Spread wants = absurd wants
-copies_asked Copies wants = refl
-copies_asked (Hashed list) wants = absurd wants
+suits_by : (q : Query) (left : KeyParts) (dist : Dist) → (dist ≡ Copies → ⊥) → DistFits q left dist → DistSuits q left dist
+suits_by q left One never fits = tt
+suits_by q left Spread never fits = tt
+suits_by q left Copies never fits = never refl
+suits_by q left (Hashed list) never fits = fits
 
--- a join serves only requests that suit it
-pub join_suits : (q : Query) (e : PhysicalExpr) (left right : KeyParts) (wanted : Request)
-    → physical_children e.operator ≡ arities.Two left right → IsNumbered q wanted.order
-    → MayServe q e wanted → SuitsJoin q left wanted
-join_suits q e left right wanted over numbered serves = record {
-  no_copies = λ copies.
-      alternative_mode q e wanted Copies serves.0 (join_has_spread e.operator left right over)
-      (copies_asked wanted.dist copies) serves.1;
-  fits = left_fits q e left right wanted over numbered serves;
-}
+module _ (q : Query) (e : PhysicalExpr) (left right : KeyParts) (wanted : Request) (over : physical_children e.operator ≡ arities.Two left right)
+    (numbered : IsNumbered q wanted.order) (serves : MayServe q e wanted) where
+  -- a join serves only requests for distributions that it can give
+  pub dist_suits : DistSuits q left wanted.dist
+  dist_suits =
+      suits_by q left wanted.dist (λ copies. alternative_mode q e wanted Copies serves.0 (join_has_spread e.operator left right over) copies serves.1)
+      (left_fits q e left right wanted over numbered serves).dist
+
+  -- and for orders that fit its left child
+  pub order_suits : OrderFits q left wanted.order
+  order_suits = record { numbered = numbered; lies_in = (left_fits q e left right wanted over numbered serves).order }

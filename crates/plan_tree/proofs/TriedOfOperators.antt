@@ -10,7 +10,7 @@ use Rattle.query_core.specs.declared.expressions.Physical.{Physical}
 use Rattle.query_core.specs.declared.expressions.Physical.TheVariants as physical
 use Rattle.query_core.specs.declared.expressions.PhysicalExpr.{PhysicalExpr}
 use Rattle.request_props.specs.Numbered.{lists_of, group_order}
-use Rattle.request_props.specs.NumberSets.{HasBelow}
+use Rattle.request_props.specs.NumberSets.{HasBelow, NoneBetween}
 use Rattle.plan_space.specs.Lines.{only_line, single_line, loop_line, agg_line, operator_line, line_of}
 use Rattle.plan_space.specs.Modes.{mode_at, HasModeIn}
 use Rattle.plan_space.specs.declared.lines.Line.{Line}
@@ -68,12 +68,12 @@ module _ (q : Query) (modes : ModeSets) (line : Line) where
 
 module _ (q : Query) (e : PhysicalExpr) (modes : ModeSets) where
   -- numbers that are passed have no line among these
-  pub none_passed : (from below : ℕ) → ((mode : ℕ) → from ≤ mode → mode < below → HasModeIn modes (mode_at mode) → ⊥) → AreNoneTried q e modes from below
+  pub none_passed : (from below : ℕ) → NoneBetween (λ mode. HasModeIn modes (mode_at mode)) from below → AreNoneTried q e modes from below
   none_passed from below passed mode above within has = absurd (passed mode above within has)
 
   -- those before a mode without a line, and those behind it that are passed
   pub none_after : (from mode next : ℕ) → AreNoneTried q e modes from mode → line_of q e mode ≡ None
-      → ((m : ℕ) → mode + 1 ≤ m → m < next → HasModeIn modes (mode_at m) → ⊥) → AreNoneTried q e modes from next
+      → NoneBetween (λ m. HasModeIn modes (mode_at m)) (mode + 1) next → AreNoneTried q e modes from next
   none_after from mode next before here passed m above within has = elim (cases_lt m mode) [
     | inl earlier ↦ before m above earlier has
     | inr later ↦ elim (cases_lt mode m) [

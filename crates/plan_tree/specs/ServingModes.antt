@@ -5,7 +5,8 @@ use Rattle.query_core.specs.declared.expressions.Physical.TheVariants as physica
 use Rattle.query_core.specs.declared.expressions.PhysicalExpr.{PhysicalExpr}
 use Rattle.query_core.specs.declared.query.Query.{Query}
 use Rattle.query_core.specs.declared.words.KeyParts.{KeyParts}
-use Rattle.request_props.specs.Fitting.{Fits}
+use Rattle.request_props.specs.Fitting.{HashFits}
+use Rattle.request_props.specs.NumberSets.{NoneBetween}
 use Rattle.request_props.specs.declared.request.Dist.{Dist}
 use Rattle.request_props.specs.declared.request.Dist.TheVariants.{One, Spread, Copies, Hashed}
 use Rattle.request_props.specs.declared.request.Request.{Request}
@@ -28,17 +29,12 @@ has_spread_modes (physical.HashAgg child) = true
 has_spread_modes (physical.StreamAgg child) = true
 has_spread_modes (physical.PartialAgg child) = false
 
--- rows are asked for on each segment
-abbrev pub WantsCopies : Dist → Type 0
-WantsCopies One = ⊥
-WantsCopies Spread = ⊥
-WantsCopies Copies = ⊤
-WantsCopies (Hashed list) = ⊥
-
--- the request suits a join over this left child: it isn't for copies, and lies in that
-pub record SuitsJoin (q : Query) (left : KeyParts) (wanted : Request) : Type 0 where
-  pub no_copies : WantsCopies wanted.dist → ⊥
-  pub fits : Fits q left wanted
+-- a join over this left child can give the distribution: no copies, and a hash only by what lies in the child
+abbrev pub DistSuits : Query → KeyParts → Dist → Type 0
+DistSuits q left One = ⊤
+DistSuits q left Spread = ⊤
+DistSuits q left Copies = ⊥
+DistSuits q left (Hashed list) = HashFits q left list
 
 -- the expression may serve the request in some mode
 abbrev pub MayServe : Query → PhysicalExpr → Request → Type 0
@@ -46,7 +42,7 @@ MayServe q e wanted = (mode : ℕ) × HasAlternative q e wanted mode
 
 -- no mode from the number on and below the other is there for the request
 abbrev pub NoneServes : Query → PhysicalExpr → Request → ℕ → ℕ → Type 0
-NoneServes q e wanted from below = (mode : ℕ) → from ≤ mode → mode < below → HasAlternative q e wanted mode → ⊥
+NoneServes q e wanted from below = NoneBetween (HasAlternative q e wanted) from below
 
 -- all modes that are there for the request are among these
 abbrev pub AreServing : Query → PhysicalExpr → Request → ModeSets → Type 0

@@ -1,21 +1,22 @@
 //! The modes in which an expression may serve a request, one after the other, and whether there are any. Of most operators
-//! the first mode or the request itself tells that, and only merge joins and aggregations are looked at mode by mode.
+//! the first mode or the request itself tells that, of a merge join the predicates whose left column gives the order, and
+//! only aggregations are looked at mode by mode.
 #![tactic(auto)]
 
-ghost use Rattle.std.specs.Prelude.{◌≡◌, ◌↔◌, IsTrue};
+ghost use Rattle.std.specs.Prelude.{[], ◌≡◌, ◌↔◌, IsTrue};
 ghost use Rattle.query_core.specs.Expressions.{expr_of, IsCandidate};
 ghost use Rattle.request_props.specs.Numbered.{IsProps, IsNumbered, order_of};
 ghost use Rattle.request_props.specs.Satisfied.{BeginsWith};
 ghost use Rattle.plan_tree.specs.Alternatives.{HasAlternative};
 ghost use Rattle.plan_tree.specs.ServingModes.{has_spread_modes as spread_modes};
-ghost use Rattle.plan_tree.specs.ServingModes.{AreServing, IsNextServing, MayServe, SuitsJoin, WantsCopies};
+ghost use Rattle.plan_tree.specs.ServingModes.{AreServing, DistSuits, IsNextServing, MayServe};
 
 use crate::lines::line_of;
-use crate::serving::{gives, serves};
+use crate::serving::serves;
 use crate::walks::{next_tried, tried, tried_modes};
-use plan_space::{Line, ModeSets};
+use plan_space::{Line, ModeSets, what_is_asked_fits};
 use query_core::{KeyParts, Physical, PhysicalExpr, Query};
-use request_props::{Dist, GivenDist, GivenOrder, NumberSet, Props, Request};
+use request_props::{Dist, NumberSet, Props, Request};
 
 /// Whether the expression may serve the request in some mode.
 pub fn may_serve(query: &Query, props: &Props, expr: PhysicalExpr, wanted: Request) -> bool
@@ -24,61 +25,52 @@ pub fn may_serve(query: &Query, props: &Props, expr: PhysicalExpr, wanted: Reque
     requires numbered { IsNumbered query.now wanted.order }
     ensures { IsTrue result ↔ MayServe query.now expr wanted }
 {
+    // For the proof: the columns of a join have orders that fit its left child.
+    what_is_asked_fits();
     match expr.operator {
         Physical::Scan => serves_in_first(query, props, expr, wanted),
         Physical::IndexScan(_) => serves_in_first(query, props, expr, wanted),
         Physical::Filter(_) => serves_in_first(query, props, expr, wanted),
         Physical::IndexSeek(_) => serves_in_first(query, props, expr, wanted),
         Physical::HashJoin(left, _) => {
-            begins_with(query, props, 0, wanted.order) && suits_join(query, props, left, wanted)
+            wants_no_order(query, props, wanted.order)
+                && dist_suits(query, props, left, wanted.dist)
         }
-        Physical::MergeJoin(left, _) => {
-            suits_join(query, props, left, wanted) && serves_in_some(query, props, expr, wanted)
+        Physical::MergeJoin(left, right) => {
+            dist_suits(query, props, left, wanted.dist)
+                && !props.merging(query, left, right, wanted.order).is_empty()
         }
-        Physical::LoopJoin(left, _) => suits_join(query, props, left, wanted),
+        Physical::LoopJoin(left, _) => {
+            dist_suits(query, props, left, wanted.dist)
+                && props.order_fits(query, left, wanted.order)
+        }
         Physical::HashAgg(_) => {
-            begins_with(query, props, 0, wanted.order) && serves_in_some(query, props, expr, wanted)
+            wants_no_order(query, props, wanted.order) && serves_in_some(query, props, expr, wanted)
         }
         Physical::StreamAgg(_) => serves_in_some(query, props, expr, wanted),
         Physical::PartialAgg(_) => serves_in_first(query, props, expr, wanted),
     }
 }
 
-// Whether the order of the first number begins with that of the second.
-fn begins_with(query: &Query, props: &Props, order: u32, wanted: u32) -> bool
+// Whether the order is empty, so that rows in no order are in it.
+fn wants_no_order(query: &Query, props: &Props, order: u32) -> bool
     requires props { IsProps query.now props.now }
-    requires numbered { IsNumbered query.now wanted }
-    ensures { IsTrue result ↔ BeginsWith (order_of query.now order) (order_of query.now wanted) }
+    requires numbered { IsNumbered query.now order }
+    ensures { IsTrue result ↔ BeginsWith [] (order_of query.now order) }
 {
-    let anywhere = Request {
-        dist: Dist::One,
-        order: wanted,
-    };
-    gives(
-        query,
-        props,
-        GivenDist::One,
-        GivenOrder::Listed(order),
-        anywhere,
-    )
+    props.order(order).is_empty()
 }
 
-// Whether the request suits a join over this left child. A join gives only what lies in that, and no copies.
-fn suits_join(query: &Query, props: &Props, left: KeyParts, wanted: Request) -> bool
-    requires props { IsProps query.now props.now }
-    ensures { IsTrue result ↔ SuitsJoin query.now left wanted }
-{
-    !wants_copies(wanted.dist) && props.fits(query, left, wanted)
-}
-
-fn wants_copies(dist: Dist) -> bool
-    ensures { IsTrue result ↔ WantsCopies dist }
+// Whether a join over this left child can give the distribution.
+fn dist_suits(query: &Query, props: &Props, left: KeyParts, dist: Dist) -> bool
+    requires { IsProps query.now props.now }
+    ensures { IsTrue result ↔ DistSuits query.now left dist }
 {
     match dist {
-        Dist::One => false,
-        Dist::Spread => false,
-        Dist::Copies => true,
-        Dist::Hashed(_) => false,
+        Dist::One => true,
+        Dist::Spread => true,
+        Dist::Copies => false,
+        Dist::Hashed(list) => props.hash_fits(query, left, list),
     }
 }
 

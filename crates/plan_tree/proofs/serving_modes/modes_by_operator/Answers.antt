@@ -13,7 +13,7 @@ returns-in-HashJoin c =
     let modes : ModeSets = record { one = first.result; copied = first.result; hashed = c.hashing.result } in
     subst (AreServing q c.args.expr c.args.wanted) (sym c.tried.ensures)
     (hash_join_tried q c.args.expr join.left join.right c.args.wanted modes c.hashing.result c.hashing.ensures join.is
-    (first.ensures (omega arith)) (first.ensures (omega arith)) refl)
+    (first.ensures.all (omega arith)) (first.ensures.all (omega arith)) refl)
 
 pub returns-in-MergeJoin : goal.returns-in-MergeJoin
 returns-in-MergeJoin c =

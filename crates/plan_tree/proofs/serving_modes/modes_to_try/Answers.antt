@@ -9,13 +9,13 @@ pub returns-in-One : goal.returns-in-One
 returns-in-One c mode serves =
     let both = sym c.has_spread_modes.ensures ∙ c.if-not-has_spread_modes.false in
     let of = alternative_mode c.args.query.now c.args.expr c.args.wanted One mode both c.in-One.is serves in
-    c.on_one.ensures (mode_at mode) (c.modes_by_operator-modes.ensures mode serves) of
+    (c.on_one.ensures (mode_at mode)).1 (c.modes_by_operator-modes.ensures mode serves, of)
 
 pub returns-in-Spread : goal.returns-in-Spread
 returns-in-Spread c mode serves =
     let both = sym c.has_spread_modes.ensures ∙ c.if-not-has_spread_modes.false in
     let of = alternative_mode c.args.query.now c.args.expr c.args.wanted Spread mode both c.in-Spread.is serves in
-    c.spread.ensures (mode_at mode) (c.modes_by_operator-modes.ensures mode serves) of
+    (c.spread.ensures (mode_at mode)).1 (c.modes_by_operator-modes.ensures mode serves, of)
 
 pub returns-in-Copies : goal.returns-in-Copies
 returns-in-Copies c mode serves =
@@ -27,4 +27,4 @@ pub returns-in-Hashed : goal.returns-in-Hashed
 returns-in-Hashed c mode serves =
     let both = sym c.has_spread_modes.ensures ∙ c.if-not-has_spread_modes.false in
     let of = alternative_mode c.args.query.now c.args.expr c.args.wanted _ mode both c.in-Hashed.is serves in
-    c.spread-in-Hashed.ensures (mode_at mode) (c.modes_by_operator-modes.ensures mode serves) of
+    (c.spread-in-Hashed.ensures (mode_at mode)).1 (c.modes_by_operator-modes.ensures mode serves, of)
