@@ -1,5 +1,6 @@
 -- The goals of words, and those of a group's members.
-use Rattle.std.proofs.Common.{◌≡◌, ℕ, ◌+◌, ◌<◌, ◌↔◌, List, [], ◌∷◌, ◌++◌, get_or, length, take, refl, sym, subst, ap, ◌∙◌, inl, inr, arith}
+use Rattle.std.proofs.Common.{◌≡◌, ℕ, ◌+◌, ◌<◌, ◌↔◌, List, [], ◌∷◌, ◌++◌, Option, None, Some, get_or, length, take, refl, sym, subst, ap, ◌∙◌, inl, inr, arith}
+use Rattle.std.specs.Prelude.{IfSome, MatchOption}
 use Rattle.std.specs.List.{Contains}
 use Rattle.std.specs.List.Sorted.{IsStrictlyIncreasing}
 use Rattle.std.proofs.lemmas.List.{get_or_default, get_or-take, length-take, take_more}
@@ -11,15 +12,15 @@ use Rattle.query_core.specs.declared.words.KeyParts.{KeyParts}
 use Rattle.query_core.specs.declared.expressions.ExprParts.{ExprParts}
 use Rattle.query_core.specs.declared.expressions.PhysicalExpr.{PhysicalExpr}
 use Rattle.query_core.proofs.ExpressionLemmas.{expr_of_one}
-use Rattle.goal_space.specs.Words.{goal_word}
+use Rattle.goal_space.specs.Words.{goal_word, IsInRange}
 use Rattle.goal_space.specs.declared.goals.GoalKind.{GoalKind}
 use Rattle.goal_space.specs.declared.goals.GoalKind.TheVariants.{OptE}
 use Rattle.goal_children.specs.declared.jobs.MemberJob.{MemberJob}
 use Rattle.goal_children.specs.declared.jobs.MemberJob.TheVariants.{Transform, Serve}
 use Rattle.goal_children.specs.Finding.{AppendsGoals, IsOfMembers}
-use Rattle.goal_children.specs.MemberJobs.{IsGoalAmong, IsGoalOf, IsGoalOfWord}
-use Rattle.goal_children.proofs.Appending.{appends_more, appends_nothing}
-use Rattle.goal_children.proofs.OfMembers.{goal_at, has_member, of_member, word_less}
+use Rattle.goal_children.specs.MemberJobs.{IsGoalAmong, IsGoalOf, IsGoalOfWord, IsJobInRange}
+use Rattle.goal_children.proofs.Appending.{appends_as, appends_more, appends_nothing}
+use Rattle.goal_children.proofs.OfMembers.{goal_at, goal_in_range, has_member, of_member, word_less}
 
 -- an expression has one goal for a job
 goal_one : (q : Query) (job : MemberJob) (e : ExprParts) (k l : GoalKind) → IsGoalOf q job e k → IsGoalOf q job e l → k ≡ l
@@ -43,6 +44,26 @@ module _ (q : Query) (packed : (e : ExprParts) → IsCandidate q e → IsPacked 
         λ of_word. goal_one q job known k goal (goal_of_known job word known only k of_word) is,
         λ also. (e, candidate, number, subst (λ (x : ExprParts). IsGoalOf q job x k) (sym same) (subst (IsGoalOf q job known) (sym also) is)),
       )
+
+  -- ---- what was found of an expression
+
+  module _ (one : (e f : ExprParts) → IsPacked e → IsPacked f → word_of e ≡ word_of f → e ≡ f) (job : MemberJob) (e : ExprParts) (candidate : IsCandidate q e) where
+    only : (f : ExprParts) → HasWord (word_of e) f → f ≡ e
+    only f has = one f e has.packed (packed e candidate) has.number
+
+    -- is the goal of its word
+    pub found_of_word : (found : Option GoalKind) → MatchOption found ((goal : GoalKind) → IsGoalOf q job e goal → ⊥) (IsGoalOf q job e) → (old new : List GoalKind)
+        → AppendsGoals (λ k. found ≡ Some k) old new → AppendsGoals (IsGoalOfWord q job (word_of e)) old new
+    found_of_word None none old new = appends_as (λ k. None ≡ Some k) (IsGoalOfWord q job (word_of e)) old new
+        (λ k same. absurd (cc)) (λ k is. absurd (none k (goal_of_known job (word_of e) e only k is)))
+    found_of_word (Some goal) is old new = appends_as (λ k. Some goal ≡ Some k) (IsGoalOfWord q job (word_of e)) old new
+        (λ k same. (one_goal job (word_of e) e only (e, candidate, refl) goal is k).1 (let at : goal ≡ k = cc in sym at))
+        (λ k of_word. ap Some (sym ((one_goal job (word_of e) e only (e, candidate, refl) goal is k).0 of_word)))
+
+    -- which fits
+    pub found_fits : IsJobInRange job → (found : Option GoalKind) → MatchOption found ((goal : GoalKind) → IsGoalOf q job e goal → ⊥) (IsGoalOf q job e) → IfSome found IsInRange
+    found_fits in_range None none = tt
+    found_fits in_range (Some goal) is = goal_in_range q job e goal in_range (packed e candidate) is
 
   module _ (words own : List ℕ) (group : KeyParts) (job : MemberJob) where
     -- the goals of the group's words are those of its members

@@ -1,7 +1,7 @@
 //! The goals of the members of a group, in the order of words.
 #![tactic(auto)]
 
-ghost use Rattle.std.specs.Prelude.{◌≡◌, ◌<◌, ◌≤◌, ◌^◌, ◌↔◌, ℕ, IsTrue, MatchOption, OnOk, length, map, slice_index};
+ghost use Rattle.std.specs.Prelude.{◌≡◌, ◌<◌, ◌≤◌, ◌^◌, ◌↔◌, ℕ, IfSome, IsTrue, MatchOption, OnOk, Some, length, map, slice_index};
 ghost use Rattle.std.specs.List.{All};
 ghost use Rattle.std.specs.List.Sorted.{IsStrictlyIncreasing};
 ghost use Rattle.query_core.specs.declared.expressions.ExprParts.{ExprParts as AnyExpr};
@@ -12,6 +12,7 @@ ghost use Rattle.request_props.specs.Numbered.{IsProps, IsNumbered};
 ghost use Rattle.plan_tree.specs.Alternatives.{HasAlternative};
 ghost use Rattle.goal_children.specs.Finding.{AppendsGoals, FindsFrom, IsOfMembers};
 ghost use Rattle.goal_children.specs.GroupMembers.{AreHeldFor};
+ghost use Rattle.goal_space.specs.Words.{IsInRange};
 ghost use Rattle.goal_space.specs.declared.goals.GoalKind.{GoalKind as AnyGoal};
 ghost use Rattle.goal_children.specs.MemberJobs.{word_at, HasNumberedJob, HaveNoGoals, IsFirstGoal, IsGoalAmong, IsGoalOf, IsGoalOfWord, IsJobInRange, IsServed, IsTransformed};
 
@@ -119,7 +120,20 @@ fn push_goal_of(
     // For the proof: the words of candidates fit, and a word is that of one expression.
     candidates_are_known();
     expressions_are_one();
-    match job.goal_of(query, props, e) {
+    // Either job has a call of its own, so that no goal is moved from one place to another before it is added.
+    match job {
+        MemberJob::Transform(phase) => push_found(transform(phase, e), goals),
+        MemberJob::Serve(wanted) => push_found(serve(query, props, e, wanted), goals),
+    }
+}
+
+// Adds the goal that was found, if one was.
+fn push_found(found: Option<GoalKind>, goals: &mut Vec<GoalKind>) -> Result<(), AllocError>
+    requires { IfSome found IsInRange }
+    ensures ok { OnOk result
+        (AppendsGoals (λ k. found ≡ Some k) goals.old.items goals.new.items) }
+{
+    match found {
         Some(goal) => {
             goals.push(goal)?;
             Ok(())
