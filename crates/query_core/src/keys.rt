@@ -10,6 +10,12 @@ use crate::words::{Key, KeyParts};
 /// Keys of groups are numbers below this one.
 pub const KEYS: u32 = 2050;
 
+/// Keys of groups of one table are numbers below this one.
+pub const ONE_TABLE_KEYS: u32 = 26;
+
+/// Keys of groups of several tables are numbers from this one on, which would be that of no table.
+pub const FIRST_SET_KEY: u32 = 1024;
+
 impl Key {
     /// The key of a group.
     pub fn make(parts: KeyParts) -> Key
@@ -20,7 +26,7 @@ impl Key {
         match parts {
             KeyParts::Get(table) => Key(table),
             KeyParts::Filter(table) => Key(16 + table),
-            KeyParts::Join(set) => Key(1024 + set),
+            KeyParts::Join(set) => Key(FIRST_SET_KEY + set),
             KeyParts::Partial => Key(2048),
             KeyParts::Agg => Key(2049),
         }

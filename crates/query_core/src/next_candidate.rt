@@ -149,9 +149,9 @@ impl Query {
     }
 }
 
-/// The number of the first left child with which a join of the set may have a word from the bound on. A left child's
-/// number is that of its key, and 1.
-pub fn first_left(set: u32, kind: JoinKind, bound: u64) -> u64
+// The number of the first left child with which a join of the set may have a word from the bound on. A left child's
+// number is that of its key, and 1.
+fn first_left(set: u32, kind: JoinKind, bound: u64) -> u64
     requires { set < 1024 }
     ensures { (left right : KeyParts) → key_number left + 1 < result → IsInRange right →
         word_of (expr (KeyParts.Join set) (join_by kind left right)) < bound }
@@ -162,8 +162,8 @@ pub fn first_left(set: u32, kind: JoinKind, bound: u64) -> u64
     bound.saturating_sub(least) >> 13
 }
 
-/// The expression, if its word isn't below the bound.
-pub fn word_from(bound: u64, group: KeyParts, operator: Operator) -> Option<Expr>
+// The expression, if its word isn't below the bound.
+fn word_from(bound: u64, group: KeyParts, operator: Operator) -> Option<Expr>
     requires { IsPacked (expr group operator) }
     ensures { FindsFrom (λ e. e ≡ expr group operator) bound result }
 {

@@ -9,7 +9,7 @@ ghost use Rattle.request_props.specs.Joins.{IsSide, HasSides, AreSidesAt, AreSid
 
 use crate::groups::is_key;
 use orca_base::List;
-use query_core::{Key, KeyParts, Query, groups_are_known, sets};
+use query_core::{FIRST_SET_KEY, Key, KeyParts, ONE_TABLE_KEYS, Query, groups_are_known, sets};
 use std::alloc::{AllocError, Global};
 
 /// The groups of the two sides of a join.
@@ -18,12 +18,6 @@ pub struct Sides {
     pub left: KeyParts,
     pub right: KeyParts,
 }
-
-// The keys of groups of one table have numbers below this one.
-const AFTER_ONE: u32 = 26;
-
-// The keys of groups of several tables have numbers from this one on: it is that of the empty set.
-const FIRST_OF_SEVERAL: u32 = 1024;
 
 /// All sides into which the set falls, by the key of the left one.
 pub(crate) fn all_sides(
@@ -52,9 +46,9 @@ fn push_of_one(
     requires keys { AreKeys query.now keys.now }
     requires known { IsGroup query.now (KeyParts.Join set) }
     requires none { AreSidesBelow query.now set 0 found.old }
-    ensures { OnOk result (AreSidesBelow query.now set 26 found.new) }
+    ensures { OnOk result (AreSidesBelow query.now set ONE_TABLE_KEYS found.new) }
 {
-    for left in 0..AFTER_ONE {
+    for left in 0..ONE_TABLE_KEYS {
         push_at(found, query, keys, set, left)?;
     }
     Ok(())
@@ -69,13 +63,13 @@ fn push_of_several(
 ) -> Result<(), AllocError>
     requires keys { AreKeys query.now keys.now }
     requires known { IsGroup query.now (KeyParts.Join set) }
-    requires of_one { AreSidesBelow query.now set 26 found.old }
+    requires of_one { AreSidesBelow query.now set ONE_TABLE_KEYS found.old }
     ensures { OnOk result (AreAllSides query.now set found.new) }
 {
     for tables in 0..set {
         // Most numbers have other tables too, so this is looked at first.
         if sets::union(tables, set) == set {
-            push_at(found, query, keys, set, FIRST_OF_SEVERAL + tables)?;
+            push_at(found, query, keys, set, FIRST_SET_KEY + tables)?;
         }
     }
     Ok(())
