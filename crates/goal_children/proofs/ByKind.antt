@@ -1,6 +1,7 @@
 -- Words go by kind, so a goal of a lesser kind comes first.
 use Rattle.std.proofs.Common.{◌≡◌, ℕ, ◌+◌, ◌*◌, ◌^◌, ◌<◌, ◌≤◌, List, Option, None, Some, ◌⊎◌, inl, inr, sym, subst, ap, arith}
-use Rattle.query_core.specs.Goals.{kind_of, subject_of, detail_of, FitsGoal}
+use Rattle.query_core.specs.Goals.{kind_of, FitsGoal}
+use Rattle.query_core.proofs.GoalLemmas.{kinds_rise}
 use Rattle.query_core.specs.declared.query.Query.{Query}
 use Rattle.query_core.specs.declared.words.GoalParts.{GoalParts}
 use Rattle.query_core.specs.declared.words.GoalParts.TheVariants as parts
@@ -21,19 +22,9 @@ use Rattle.goal_children.proofs.Finds.{finds_as, finds_left, finds_right}
 abbrev kind_number : GoalKind → ℕ
 kind_number goal = kind_of (parts_of goal)
 
--- what a word has beside its kind has 60 bits
-fields_small : (p : GoalParts) → FitsGoal p → subject_of p * 2 ^ 12 + detail_of p < 2 ^ 60
-fields_small (parts.Exp key) fits = omega (arith, fits)
-fields_small (parts.ExpE expr) fits = omega (arith, fits)
-fields_small (parts.Xf expr rule) fits = omega (arith, fits.0, fits.2)
-fields_small (parts.Imp key) fits = omega (arith, fits)
-fields_small (parts.ImpE expr) fits = omega (arith, fits)
-fields_small (parts.Opt key request) fits = omega (arith, fits.0, fits.1)
-fields_small (parts.OptE expr request) fits = omega (arith, fits.0, fits.1)
-
--- so a lesser kind has a lesser word
+-- a lesser kind has a lesser word
 kind_before : (k l : GoalKind) → FitsGoal (parts_of k) → kind_number k < kind_number l → goal_word k < goal_word l
-kind_before k l fits less = omega (arith, fields_small (parts_of k) fits, less)
+kind_before k l fits less = kinds_rise (parts_of k) (parts_of l) fits less
 
 kind_first : (k l : GoalKind) → FitsGoal (parts_of k) → kind_number k < kind_number l → goal_word k ≤ goal_word l
 kind_first k l fits less = omega (arith, kind_before k l fits less)

@@ -8,6 +8,7 @@ use Rattle.std.proofs.lemmas.List.{get_or_default, get_or-drop, get_or-take, len
 use Rattle.std.proofs.lemmas.List.Elements.{All-contains, Contains-get_or}
 use Rattle.std.proofs.lemmas.List.Kept.{AllPairs-from_increasing}
 use Rattle.query_core.specs.Expressions.{expr_of, word_of, IsCandidate, IsCandidateWord, IsPacked}
+use Rattle.query_core.specs.Goals.{FitsExpr}
 use Rattle.query_core.specs.declared.query.Query.{Query}
 use Rattle.query_core.specs.declared.words.KeyParts.{KeyParts}
 use Rattle.query_core.specs.declared.expressions.ExprParts.{ExprParts}
@@ -64,12 +65,12 @@ module _ (q : Query) where
   pub own_candidates : (words own : List ℕ) → All (IsCandidateWord q) words → ((word : ℕ) → Contains own word → Contains words word) → All (IsCandidateWord q) own
   own_candidates words own = all_among (IsCandidateWord q) words own
 
-  -- and have 48 bits
-  pub small_words : ((e : ExprParts) → IsCandidate q e → IsPacked e) → ((e : ExprParts) → IsPacked e → word_of e < 2 ^ 48) → (words : List ℕ)
-      → All (IsCandidateWord q) words → All (λ word. word < 2 ^ 48) words
+  -- and fit
+  pub small_words : ((e : ExprParts) → IsCandidate q e → IsPacked e) → ((e : ExprParts) → IsPacked e → FitsExpr (word_of e)) → (words : List ℕ)
+      → All (IsCandidateWord q) words → All FitsExpr words
   small_words packed small words candidates k d within =
       let (e, candidate, number) = candidates k d within in
-      subst (λ word. word < 2 ^ 48) number (small e (packed e candidate))
+      subst FitsExpr number (small e (packed e candidate))
 
   -- a job's request that has numbers has a code
   pub job_in_range : length (lists_of q) ≤ 60 → length (orders_of q) ≤ 60 → (job : MemberJob) → HasNumberedJob q job → IsJobInRange job

@@ -7,6 +7,7 @@ ghost use Rattle.std.specs.List.Sorted.{IsStrictlyIncreasing};
 ghost use Rattle.query_core.specs.declared.expressions.ExprParts.{ExprParts as AnyExpr};
 ghost use Rattle.query_core.specs.declared.expressions.PhysicalExpr.{PhysicalExpr as AnyPhysical};
 ghost use Rattle.query_core.specs.Keys.{IsGroup};
+ghost use Rattle.query_core.specs.Goals.{FitsExpr};
 ghost use Rattle.query_core.specs.Expressions.{expr_of, word_of, IsCandidate, IsCandidateWord};
 ghost use Rattle.request_props.specs.Numbered.{IsProps, IsNumbered};
 ghost use Rattle.plan_tree.specs.Alternatives.{HasAlternative};
@@ -164,7 +165,7 @@ fn first_goal(query: &Query, props: &Props, job: MemberJob, words: &[u64]) -> Op
 
 // The place of the first of the words whose goal isn't below the bound.
 fn first_from(job: MemberJob, words: &[u64], bound: u64) -> usize
-    requires small { All (λ word. word < 2 ^ 48) words.now }
+    requires small { All FitsExpr words.now }
     requires ascending { IsStrictlyIncreasing words.now }
     requires in_range { IsJobInRange job }
     ensures within { result ≤ length words.now }
@@ -187,7 +188,7 @@ fn first_from(job: MemberJob, words: &[u64], bound: u64) -> usize
 impl MemberJob {
     // The word of the goal that the expression of this word would have.
     fn word_of(self, expr: Expr) -> Goal
-        requires small { expr.0 < 2 ^ 48 }
+        requires small { FitsExpr expr.0 }
         requires in_range { IsJobInRange self }
         ensures { result.0 ≡ word_at self expr.0 }
     {

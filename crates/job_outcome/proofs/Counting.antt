@@ -1,5 +1,5 @@
 -- How many members and goals there are, and that a query has not more entries than fit.
-use Rattle.std.proofs.Common.{◌≡◌, ◌≢◌, ℕ, zero, suc, ◌+◌, ◌^◌, ◌<◌, ◌≤◌, nat_eq, Bool, true, false, cond, List, [], ◌∷◌, ◌++◌, length, All, Contains, filter, refl, sym, subst, ap, ◌∙◌, arith, inl, inr, le-ltb, eqb-true}
+use Rattle.std.proofs.Common.{◌≡◌, ◌≢◌, ℕ, zero, suc, ◌+◌, ◌^◌, ◌<◌, ◌≤◌, nat_eq, Bool, true, false, cond, List, [], ◌∷◌, ◌++◌, length, All, Contains, filter, refl, sym, subst, ap, ◌∙◌, arith, inl, inr, le-leb, eqb-true, not}
 use Rattle.std.specs.List.{list_any}
 use Rattle.std.proofs.lemmas.List.{length-append}
 use Rattle.std.proofs.lemmas.List.Elements.{filter-append, Contains-append_left, Contains-append_right}
@@ -7,6 +7,7 @@ use Rattle.std.proofs.lemmas.List.Folds.{Any-from_list_any}
 use Rattle.std.proofs.lemmas.Map.Made.{length-le_from_is_member}
 use Rattle.std.proofs.lemmas.Map.Views.{list_any-from_Contains}
 use Rattle.std.proofs.lemmas.Cmp.{nat_eq_equiv}
+use Rattle.query_core.specs.Goals.{goal_bit}
 use Rattle.query_core.specs.declared.query.Query.{Query}
 use Rattle.xform_rules.specs.Closure.{IsClosureOf}
 use Rattle.goal_space.specs.Entries.{IsEntry}
@@ -31,14 +32,14 @@ one_more cells word =
     omega (arith, counted, one_by (is_member_word word) word)
 
 -- and none where it is not below the words of goals
-none_more : (cells : List ℕ) (word : ℕ) → 2 ^ 63 ≤ word → members_in (cells ++ word ∷ []) ≤ members_in cells
+none_more : (cells : List ℕ) (word : ℕ) → goal_bit ≤ word → members_in (cells ++ word ∷ []) ≤ members_in cells
 none_more cells word high =
     let counted = ap length (filter-append is_member_word cells (word ∷ [])) ∙ length-append (filter is_member_word cells) (filter is_member_word (word ∷ [])) in
-    let none : length (filter is_member_word (word ∷ [])) ≡ 0 = ap (λ (b : Bool). length (cond b (word ∷ []) [])) (le-ltb word (2 ^ 63) high) in
+    let none : length (filter is_member_word (word ∷ [])) ≡ 0 = ap (λ (b : Bool). length (cond b (word ∷ []) [])) (ap not (le-leb goal_bit word high)) in
     omega (arith, counted, none)
 
 -- members and finished goals stand in different cells
-pub few_below : (m : Mem) (room : ℕ) → ((p : ℕ) → p < room → 2 ^ 63 ≤ m.head p → 2 ^ 63 ≤ m.cell p) → (n : ℕ) → n ≤ room
+pub few_below : (m : Mem) (room : ℕ) → ((p : ℕ) → p < room → 2 ^ 63 ≤ m.head p → goal_bit ≤ m.cell p) → (n : ℕ) → n ≤ room
     → members_in (cells_below m n) + length (finished_below m n) ≤ n
 few_below m room high zero few = omega arith
 few_below m room high (suc n) few =

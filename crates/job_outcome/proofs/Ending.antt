@@ -1,5 +1,6 @@
 -- Where the root's goal is finished, the lists in the order of words are those of all members, goals, answers and workers.
-use Rattle.std.proofs.Common.{◌≡◌, ℕ, ◌+◌, ◌-◌, ◌^◌, ◌<◌, ◌≤◌, nat_eq, List, [], ◌∷◌, map, length, All, Contains, filter, refl, sym, subst, ap, ◌∙◌, arith, IsPermutation, ltb-true, lt-ltb}
+use Rattle.std.proofs.Common.{◌≡◌, ℕ, ◌+◌, ◌-◌, ◌^◌, ◌<◌, ◌≤◌, nat_eq, List, [], ◌∷◌, map, length, All, Contains, filter, refl, sym, subst, ap, ◌∙◌, arith, IsPermutation, leb-false, not}
+use Rattle.std.proofs.lemmas.Bool.{lt-leb, not-true}
 use Rattle.std.specs.List.{AllZip, IsDistinct}
 use Rattle.std.specs.List.Sorted.{IsNonDecreasing, IsNonDecreasingBy, IsStrictlyIncreasing}
 use Rattle.std.proofs.lemmas.List.{get_or-map, length-map}
@@ -8,6 +9,7 @@ use Rattle.std.proofs.lemmas.List.Sorted.{All-permutation, Contains-permutation,
 use Rattle.std.proofs.lemmas.Map.Keys.{IsDistinct-IsPermutation, IsStrictlyIncreasing-from_distinct}
 use Rattle.std.proofs.lemmas.Cmp.{nat_eq_equiv}
 use Rattle.query_core.specs.Expressions.{word_of}
+use Rattle.query_core.specs.Goals.{goal_bit, FitsExpr}
 use Rattle.query_core.specs.declared.query.Query.{Query}
 use Rattle.query_core.specs.declared.expressions.ExprParts.{ExprParts}
 use Rattle.xform_rules.specs.Closure.{IsMember, IsMemberWord, IsClosureOf}
@@ -95,14 +97,14 @@ module _ (q : Query) (cap place : ℕ) (m : Mem) (done : List Ended) (closed : C
 
   -- ---- the members
 
-  module _ (small : (e : ExprParts) → IsMember q e → word_of e < 2 ^ 48) (members : List ℕ) (same : IsPermutation (filter is_member_word closed.cells) members) where
+  module _ (small : (e : ExprParts) → IsMember q e → FitsExpr (word_of e)) (members : List ℕ) (same : IsPermutation (filter is_member_word closed.cells) members) where
     sorted : IsPermutation (filter is_member_word (cells_below m cap)) members
     sorted = subst (λ (l : List ℕ). IsPermutation (filter is_member_word l) members) its.cells same
 
     members_sound : All (IsMemberWord q) (filter is_member_word (cells_below m cap))
     members_sound k d within =
         let enters = All-filter is_member_word (IsEntry q) (cells_below m cap) (all_cells m (IsEntry q) cap its.searched.cells.enter) k d within in
-        member_entry q _ enters (ltb-true _ (2 ^ 63) (filter_passes is_member_word (cells_below m cap) k d within))
+        member_entry q _ enters (leb-false goal_bit _ (not-true _ (filter_passes is_member_word (cells_below m cap) k d within)))
 
     closure : MembersAreAsked q → IsNonDecreasing members → IsClosureOf q members
     closure asked rise = record {
@@ -114,12 +116,12 @@ module _ (q : Query) (cap place : ℕ) (m : Mem) (done : List Ended) (closed : C
           let low = small e member in
           let there = subst (Contains (cells_below m cap)) at (contains_cell m cap p near (λ empty. some (sym at ∙ empty))) in
           Contains-permutation (filter is_member_word (cells_below m cap)) members (word_of e) sorted
-          (contains_filter is_member_word (word_of e) (cells_below m cap) (lt-ltb (word_of e) (2 ^ 63) (omega (arith, low))) there);
+          (contains_filter is_member_word (word_of e) (cells_below m cap) (ap not (lt-leb goal_bit (word_of e) (omega (arith, low)))) there);
     }
 
   -- ---- all of it
 
-  pub is_done : BestsFit q → GoalRequestsFit q → MembersAreAsked q → ((e : ExprParts) → IsMember q e → word_of e < 2 ^ 48)
+  pub is_done : BestsFit q → GoalRequestsFit q → MembersAreAsked q → ((e : ExprParts) → IsMember q e → FitsExpr (word_of e))
       → (members goals : List ℕ) (answers : List Answered) (who : List ℕ) → IsOrdered closed members goals answers who → IsDone q cap m.cell done members goals answers who
   is_done fit requests asked small members goals answers who ordered =
       let finished = ordered.finished in

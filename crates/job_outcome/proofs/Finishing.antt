@@ -1,6 +1,7 @@
 -- Where the root's goal is finished, all goals are, and all members stand in cells.
 use Rattle.std.proofs.Common.{◌≢◌, ℕ, ◌^◌, ◌<◌, ◌≤◌, refl, sym, subst, arith, inl, inr}
 use Rattle.query_core.specs.Expressions.{word_of}
+use Rattle.query_core.specs.Goals.{goal_bit, FitsExpr}
 use Rattle.query_core.specs.declared.query.Query.{Query}
 use Rattle.query_core.specs.declared.expressions.ExprParts.{ExprParts}
 use Rattle.xform_rules.specs.Closure.{IsMember, IsMemberWord}
@@ -15,8 +16,8 @@ use Rattle.board_rule.specs.Words.{Mem}
 use Rattle.board_rule.specs.Rule.{AreCells, IsFinished, KeepsPromises, Stands}
 
 -- the word of a goal is not below those of goals
-pub goal_word_high : (q : Query) (word : ℕ) → IsGoalWord q word → 2 ^ 63 ≤ word
-goal_word_high q word (goal, names) = subst (λ (x : ℕ). 2 ^ 63 ≤ x) names.number (goal_high goal)
+pub goal_word_high : (q : Query) (word : ℕ) → IsGoalWord q word → goal_bit ≤ word
+goal_word_high q word (goal, names) = subst (λ (x : ℕ). goal_bit ≤ x) names.number (goal_high goal)
 
 module _ (q : Query) (room : ℕ) (m : Mem) where
   -- the words of the query's search
@@ -48,18 +49,18 @@ module _ (q : Query) (room : ℕ) (m : Mem) (its : Searched q room m) where
   pub goal_at : (p : ℕ) → p < room → 2 ^ 63 ≤ m.head p → IsGoalWord q (m.cell p)
   goal_at p near closed = let answer = its.promises.answer p near closed in (answer.goal, answer.names)
 
-  pub high_at : (p : ℕ) → p < room → 2 ^ 63 ≤ m.head p → 2 ^ 63 ≤ m.cell p
+  pub high_at : (p : ℕ) → p < room → 2 ^ 63 ≤ m.head p → goal_bit ≤ m.cell p
   high_at p near closed = goal_word_high q (m.cell p) (goal_at p near closed)
 
   pub taken_at : (p : ℕ) → p < room → 2 ^ 63 ≤ m.head p → m.cell p ≢ 0
   taken_at p near closed empty = absurd (omega (arith, empty, high_at p near closed))
 
 -- an entry below the words of goals is a member's
-pub member_entry : (q : Query) (word : ℕ) → IsEntry q word → word < 2 ^ 63 → IsMemberWord q word
+pub member_entry : (q : Query) (word : ℕ) → IsEntry q word → word < goal_bit → IsMemberWord q word
 member_entry q word (inl member) low = member
 member_entry q word (inr goal) low = absurd (omega (arith, low, goal_word_high q word goal))
 
 -- and from there on a goal's, as members have smaller words
-pub goal_entry : (q : Query) (word : ℕ) → ((e : ExprParts) → IsMember q e → word_of e < 2 ^ 48) → IsEntry q word → 2 ^ 63 ≤ word → IsGoalWord q word
+pub goal_entry : (q : Query) (word : ℕ) → ((e : ExprParts) → IsMember q e → FitsExpr (word_of e)) → IsEntry q word → goal_bit ≤ word → IsGoalWord q word
 goal_entry q word small (inl (e, member, is)) high = absurd (omega (arith, high, is, small e member))
 goal_entry q word small (inr goal) high = goal

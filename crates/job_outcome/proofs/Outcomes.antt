@@ -1,9 +1,10 @@
 -- The outcome by its three cases.
-use Rattle.std.proofs.Common.{◌≡◌, ℕ, ◌^◌, ◌<◌, nat_eq, true, false, List, ◌∷◌, Some, refl, sym, subst, arith, leb-true, ne_eqb, map, Contains, ◌∙◌}
+use Rattle.std.proofs.Common.{◌≡◌, ℕ, nat_eq, true, false, List, ◌∷◌, Some, refl, sym, subst, arith, leb-true, ne_eqb, map, Contains, ◌∙◌}
 use Rattle.std.proofs.lemmas.Bool.{false_from_ne_true}
 use Rattle.std.proofs.lemmas.List.Elements.{All-cons, recursion_from_All}
 use Rattle.std.proofs.lemmas.Map.Keys.{IsDistinct-cons}
 use Rattle.query_core.specs.Expressions.{word_of}
+use Rattle.query_core.specs.Goals.{goal_bit, FitsExpr}
 use Rattle.query_core.specs.declared.query.Query.{Query}
 use Rattle.query_core.specs.declared.expressions.ExprParts.{ExprParts}
 use Rattle.xform_rules.specs.Closure.{IsMember}
@@ -49,7 +50,7 @@ module _ (q : Query) (cap place : ℕ) (m : Mem) (done : List Ended) (closed : C
   is_full open_root full = record { open_root = open_root; full = full; capacity = refl; more = more_entries full }
 
   -- the goal that is ready stands in a cell, so it is an entry
-  pub is_unfinished : ((e : ExprParts) → IsMember q e → word_of e < 2 ^ 48) → (HasFinishedRoot q closed → ⊥) → closed.full ≡ false → (goal : ℕ) → closed.ready ≡ Some goal
+  pub is_unfinished : ((e : ExprParts) → IsMember q e → FitsExpr (word_of e)) → (HasFinishedRoot q closed → ⊥) → closed.full ≡ false → (goal : ℕ) → closed.ready ≡ Some goal
       → IsUnfinished q closed goal
   is_unfinished small open_root some_room goal ready =
       let (p, near, at, is_ready, first) = subst (IsFirstReady (meaning_of q) m cap) ready its.ready in
@@ -57,7 +58,7 @@ module _ (q : Query) (cap place : ℕ) (m : Mem) (done : List Ended) (closed : C
         open_root = open_root;
         some_room = some_room;
         is_ready = ready;
-        is_goal = subst (IsGoalWord q) at (goal_entry q (m.cell p) small (its.searched.cells.enter p near is_ready.some_goal) (leb-true (2 ^ 63) (m.cell p) is_ready.is_goal));
+        is_goal = subst (IsGoalWord q) at (goal_entry q (m.cell p) small (its.searched.cells.enter p near is_ready.some_goal) (leb-true goal_bit (m.cell p) is_ready.is_goal));
       }
 
   -- entries that fit are not more than the cells
@@ -68,7 +69,7 @@ module _ (q : Query) (cap place : ℕ) (m : Mem) (done : List Ended) (closed : C
   }
 
   -- what was put in order is the outcome where the root's goal is finished
-  pub done_outcome : HasFinishedRoot q closed → BestsFit q → GoalRequestsFit q → MembersAreAsked q → ((e : ExprParts) → IsMember q e → word_of e < 2 ^ 48)
+  pub done_outcome : HasFinishedRoot q closed → BestsFit q → GoalRequestsFit q → MembersAreAsked q → ((e : ExprParts) → IsMember q e → FitsExpr (word_of e))
       → (outcome : Outcome) → Orders closed outcome → IsOutcome q cap m.cell done closed outcome
   done_outcome has fit requests asked small (Done members goals answers who) ordered =
       let is = is_done q cap place m done closed its has fit requests asked small members goals answers.list who ordered in

@@ -1,5 +1,6 @@
 -- What was read of the closed board of a query's search, and the words that it was read of.
-use Rattle.std.proofs.Common.{◌≡◌, ◌≢◌, ℕ, ◌^◌, ◌<◌, ◌≤◌, true, List, map, length, Contains, None, refl, sym, subst, ap, ◌∙◌, arith, inl, inr, nat_le, IsTrue, le-leb}
+use Rattle.std.proofs.Common.{◌≡◌, ◌≢◌, ℕ, ◌^◌, ◌<◌, ◌≤◌, true, List, map, length, Contains, None, refl, sym, subst, ap, ◌∙◌, arith, inl, inr, IsTrue, le-leb}
+use Rattle.query_core.specs.Goals.{goal_bit, has_goal_bit}
 use Rattle.query_core.specs.declared.query.Query.{Query}
 use Rattle.goal_space.specs.Words.{goal_word}
 use Rattle.goal_space.specs.Goals.{root_goal_of}
@@ -104,4 +105,4 @@ module _ (q : Query) (cap place : ℕ) (m : Mem) (done : List Ended) (closed : C
   pub none_left : closed.ready ≡ None → HasFinishedRoot q closed
   none_left none =
       let high = goal_high (root_goal_of q) in
-      finished_root (its.none_ready none place its.near (λ empty. absurd (goal_some q (sym its.root ∙ empty)), subst (λ (x : ℕ). IsTrue (nat_le (2 ^ 63) x)) (sym its.root) (le-leb (2 ^ 63) (goal_word (root_goal_of q)) high)))
+      finished_root (its.none_ready none place its.near (λ empty. absurd (goal_some q (sym its.root ∙ empty)), subst (λ (x : ℕ). IsTrue (has_goal_bit x)) (sym its.root) (le-leb goal_bit (goal_word (root_goal_of q)) high)))

@@ -1,7 +1,8 @@
 -- What a closed board held, in the order of words: cited by private functions alone.
-use Rattle.std.specs.Prelude.{◌≡◌, ◌==◌, ℕ, ◌-◌, ◌^◌, nat_lt, Bool, List, [], ◌∷◌, map, cond, Option, None, Some}
+use Rattle.std.specs.Prelude.{◌≡◌, ◌==◌, ℕ, ◌-◌, ◌^◌, Bool, not, List, [], ◌∷◌, map, cond, Option, None, Some}
 use Rattle.std.specs.List.{filter}
 use Rattle.std.specs.List.Sorted.{IsPermutation, IsNonDecreasing, IsNonDecreasingBy}
+use Rattle.query_core.specs.Goals.{has_goal_bit}
 use Rattle.plan_tree.specs.declared.answers.Answered.{Answered}
 use Rattle.goal_board.specs.declared.answers.Answer.{Answer}
 use Rattle.goal_board.specs.declared.answers.Closed.{Closed}
@@ -9,9 +10,9 @@ use Rattle.job_outcome.specs.declared.finished.Finished.{Finished}
 use Rattle.job_outcome.specs.declared.outcome.Outcome.{Outcome}
 use Rattle.job_outcome.specs.declared.outcome.Outcome.TheVariants.{Done, Full, Unfinished}
 
--- members have words below those of goals
+-- words of members lack the bit of goals
 abbrev pub is_member_word : ℕ → Bool
-is_member_word word = nat_lt word (2 ^ 63)
+is_member_word word = not (has_goal_bit word)
 
 -- goals and their answers with their workers
 abbrev pub pairs_of : List (ℕ × Answer) → List ℕ → List Finished

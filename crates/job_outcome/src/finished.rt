@@ -13,9 +13,6 @@ use plan_tree::{Answered, Answers, Node};
 use query_core::Goal;
 use std::alloc::{AllocError, Global};
 
-// The words of goals are those from here on.
-const FIRST_GOAL: u64 = 1 << 63;
-
 /// A goal, with its answer and the worker that finished it.
 #[derive(Clone, Copy)]
 pub struct Finished {
@@ -31,7 +28,7 @@ pub fn members_of(alloc: Global, cells: &[u64]) -> Result<List<u64>, AllocError>
 {
     let mut members = Vec::new(alloc);
     for word in cells {
-        if *word < FIRST_GOAL {
+        if !Goal::is_word(*word) {
             members.push(*word)?;
         }
     }

@@ -1,6 +1,7 @@
 -- A goal that is an entry is a goal of the query.
-use Rattle.std.proofs.Common.{◌≡◌, ◌↔◌, ℕ, ◌^◌, ◌<◌, ◌≤◌, Option, None, Some, subst, inl, inr, arith}
+use Rattle.std.proofs.Common.{◌≡◌, ◌↔◌, ℕ, ◌≤◌, Option, None, Some, subst, inl, inr, arith}
 use Rattle.query_core.specs.Expressions.{word_of}
+use Rattle.query_core.specs.Goals.{goal_bit, FitsExpr}
 use Rattle.query_core.specs.declared.query.Query.{Query}
 use Rattle.query_core.specs.declared.expressions.ExprParts.{ExprParts}
 use Rattle.xform_rules.specs.Closure.{IsMember}
@@ -11,8 +12,8 @@ use Rattle.goal_space.specs.declared.goals.GoalKind.{GoalKind}
 use Rattle.job_turns.specs.Laws.{IsSmall}
 
 module _ (q : Query) where
-  -- the word of a member has 48 bits, and that of a goal 63 at least
-  pub held_goal : ((e : ExprParts) → IsMember q e → word_of e < 2 ^ 48) → (word : ℕ) → IsEntry q word → 2 ^ 63 ≤ word → IsGoalWord q word
+  -- the word of a member lacks the bit of goals
+  pub held_goal : ((e : ExprParts) → IsMember q e → FitsExpr (word_of e)) → (word : ℕ) → IsEntry q word → goal_bit ≤ word → IsGoalWord q word
   held_goal small word (inl (e, member, is)) high = let low = small e member in absurd (omega arith)
   held_goal small word (inr named) high = named
 

@@ -3,11 +3,11 @@ use Rattle.std.proofs.Common.{◌≡◌, ◌≢◌, ℕ, refl, sym, inl, inr, �
 use Rattle.query_core.specs.Expressions.{origin_of}
 use Rattle.query_core.specs.declared.query.Query.{Query}
 use Rattle.query_core.specs.declared.words.KeyParts.{KeyParts}
+use Rattle.query_core.proofs.ExpressionLemmas.{word_some}
 use Rattle.goal_space.specs.Words.{goal_word}
 use Rattle.goal_space.specs.Entries.{NamesGoal, IsChildWord}
 use Rattle.goal_space.specs.declared.goals.GoalKind.TheVariants.{Exp}
 use Rattle.goal_rules.specs.Explored.{explored, origin_word, IsLogicalWord, IsExploredWord, origin_found, asked_found, IsExplorationOf}
-use Rattle.goal_rules.specs.EntryLaws.{word_some}
 use Rattle.goal_rules.specs.Meaning.{meaning_of}
 use Rattle.board_moves.specs.Collects.{IsReached, from_origin, from_child, IsExploration, ExplorationAdds}
 use Rattle.job_turns.specs.Laws.{IsSmall, ChildrenAreKnown}

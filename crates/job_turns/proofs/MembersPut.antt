@@ -6,6 +6,7 @@ use Rattle.query_core.specs.Expressions.{children_of, origin_of, word_of, IsChil
 use Rattle.query_core.specs.declared.query.Query.{Query}
 use Rattle.query_core.specs.declared.words.KeyParts.{KeyParts}
 use Rattle.query_core.specs.declared.expressions.ExprParts.{ExprParts}
+use Rattle.query_core.proofs.ExpressionLemmas.{word_some}
 use Rattle.board_rule.specs.Looks.{ShowsEntry}
 use Rattle.board_rule.specs.declared.hands.Hands.{Hands}
 use Rattle.goal_board.specs.declared.board.Right.{Right}
@@ -18,7 +19,6 @@ use Rattle.board_moves.proofs.Working.{proceeds_put, runs_out_at, put_shown}
 use Rattle.goal_space.specs.Entries.{IsEntry, IsAskedWord}
 use Rattle.goal_space.specs.Asked.{IsBroughtBy}
 use Rattle.goal_space.specs.OfMembers.{asked_are_members}
-use Rattle.goal_rules.specs.EntryLaws.{word_some}
 use Rattle.goal_rules.specs.Meaning.{meaning_of}
 use Rattle.goal_rules.specs.declared.rules.Rules.{Rules}
 use Rattle.job_turns.specs.Works.{HasPut, PutsMembers, IsAskedOf, IsOneOfGroups, IsOriginOf}

@@ -1,13 +1,12 @@
 -- The next logical expression of a group: logical candidates come before physical ones.
 use Rattle.std.proofs.Common.{◌≡◌, ℕ, IsTrue, Option, None, Some, refl, sym, ◌∙◌, arith}
-use Rattle.query_core.specs.Candidates.{IsAfter, IsNext, IsLast}
+use Rattle.query_core.specs.Candidates.{IsAfter, IsNext, IsLast, LogicalComeFirst}
 use Rattle.query_core.specs.Expressions.{is_logical, word_of, IsCandidate, IsCandidateOf}
 use Rattle.query_core.specs.declared.query.Query.{Query}
 use Rattle.query_core.specs.declared.words.Expr.{Expr}
 use Rattle.query_core.specs.declared.words.KeyParts.{KeyParts}
 use Rattle.query_core.specs.declared.expressions.ExprParts.{ExprParts}
 use Rattle.goal_rules.specs.Explored.{IsLogicalWord}
-use Rattle.goal_rules.specs.Grown.{LogicalComeFirst}
 use Rattle.job_turns.specs.Groups.{as_expr}
 use Rattle.board_moves.specs.Words.{IsAbove, IsNextOf}
 

@@ -11,9 +11,9 @@ ghost use Rattle.board_moves.specs.Words.{IsNextOf};
 ghost use Rattle.job_turns.specs.Groups.{implemented, as_expr};
 
 use board_moves::{Group, Members, Words};
-use goal_rules::candidates_are_in_order;
 use query_core::{
-    Expr, Goal, GoalParts, KeyParts, Query, candidates_are_known, expressions_are_one,
+    Expr, Goal, GoalParts, KeyParts, Query, candidates_are_in_order, candidates_are_known,
+    expressions_are_one,
 };
 use request_props::Props;
 

@@ -3,6 +3,7 @@
 
 ghost use Rattle.std.specs.Prelude.{◌≡◌, ◌<◌, ◌^◌};
 ghost use Rattle.query_core.specs.Keys.{key_number};
+ghost use Rattle.query_core.specs.Goals.{FitsExpr, FitsKey};
 ghost use Rattle.query_core.specs.Expressions.{expr_of, word_of};
 ghost use Rattle.query_core.specs.declared.expressions.PhysicalExpr.{PhysicalExpr};
 ghost use Rattle.query_core.specs.declared.words.KeyParts.{KeyParts};
@@ -15,7 +16,7 @@ use request_props::{Request, code};
 
 /// The word of the goal of the group of this key for the request.
 pub(crate) fn group_goal(key: Key, wanted: Request) -> Goal
-    requires key { key.0 < 2 ^ 12 }
+    requires key { FitsKey key.0 }
     requires wanted { IsInRange wanted }
     ensures { (group : KeyParts) → key.0 ≡ key_number group →
         goal_word (Opt group wanted) ≡ result.0 }
@@ -25,7 +26,7 @@ pub(crate) fn group_goal(key: Key, wanted: Request) -> Goal
 
 /// The word of the goal of the expression of this word for the request.
 pub(crate) fn member_goal(expr: Expr, wanted: Request) -> Goal
-    requires expr { expr.0 < 2 ^ 48 }
+    requires expr { FitsExpr expr.0 }
     requires wanted { IsInRange wanted }
     ensures word { (e : PhysicalExpr) → word_of (expr_of e) ≡ expr.0 →
         goal_word (OptE e wanted) ≡ result.0 }

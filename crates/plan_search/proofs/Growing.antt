@@ -8,6 +8,7 @@ use Rattle.std.proofs.lemmas.Bool.{cases_eq}
 use Rattle.std.proofs.lemmas.List.{get_or_default}
 use Rattle.std.proofs.lemmas.List.Elements.{All-contains, Contains-get_or}
 use Rattle.query_core.specs.Keys.{root_of}
+use Rattle.query_core.specs.Goals.{FitsExpr}
 use Rattle.query_core.specs.Expressions.{word_of, children_of, origin_of, IsChild}
 use Rattle.query_core.specs.declared.words.KeyParts.{KeyParts}
 use Rattle.query_core.specs.declared.expressions.Children.TheVariants.{Two}
@@ -202,11 +203,11 @@ all_steps q e words xs ys zs first second origins results bound_results = record
 -- ---- the end
 
 -- words of members are small
-pub all_small : (q : Query) → ((r : Query) → (e : ExprParts) → IsMember r e → word_of e < 2 ^ 48) → (xs : List ℕ) → All (IsMemberWord q) xs
-    → All (λ w. w < 2 ^ 48) xs
+pub all_small : (q : Query) → ((r : Query) → (e : ExprParts) → IsMember r e → FitsExpr (word_of e)) → (xs : List ℕ) → All (IsMemberWord q) xs
+    → All FitsExpr xs
 all_small q small xs members k d within =
     let (e, member, is) = members k d within in
-    subst (λ w. w < 2 ^ 48) is (small q e member)
+    subst FitsExpr is (small q e member)
 
 -- where a pass over the words found adds none, they are those of all members
 pub closed : (q : Query) (words old new : List ℕ) → words ≡ old → Grows q old new → length new ≡ length old → All (IsMemberWord q) old

@@ -6,6 +6,7 @@ use Rattle.std.proofs.lemmas.Bool.{cases_eq, cases_lt}
 use Rattle.std.specs.List.{Contains}
 use Rattle.std.specs.List.Sorted.{IsStrictlyIncreasing}
 use Rattle.std.proofs.lemmas.List.{append-nil, append_assoc, get_or_default}
+use Rattle.query_core.specs.Goals.{EXPRS, FitsExpr}
 use Rattle.query_core.specs.declared.query.Query.{Query}
 use Rattle.query_core.specs.declared.words.KeyParts.{KeyParts}
 use Rattle.query_core.specs.declared.expressions.PhysicalExpr.{PhysicalExpr}
@@ -122,7 +123,7 @@ module _ (q : Query) (group : KeyParts) where
   }
 
   -- an expression's modes come behind lesser ones
-  module _ (e : PhysicalExpr) (member : IsMember q (expr_of e)) (of_group : e.group ≡ group) (small : word_of (expr_of e) < 2 ^ 48) where
+  module _ (e : PhysicalExpr) (member : IsMember q (expr_of e)) (of_group : e.group ≡ group) (small : FitsExpr (word_of (expr_of e))) where
     is_native_in : (p : Native) → IsInMode q e 192 p → IsNative q group p
     is_native_in p is =
         let number : word_of (expr_of p.expr) ≡ word_of (expr_of e) = ap (λ x. word_of (expr_of x)) is.expr in
@@ -148,7 +149,7 @@ module _ (q : Query) (group : KeyParts) where
 
   -- the members with the first so many words, in all modes in which they have a line
   pub record AreMade (words : List ℕ) (i : ℕ) (list : List Native) : Type 0 where
-    pub up_to : AreUpTo (2 ^ 56 + slice_index_or words i (2 ^ 48) * 2 ^ 8) list
+    pub up_to : AreUpTo (2 ^ 56 + slice_index_or words i EXPRS * 2 ^ 8) list
     pub complete : (k : ℕ) → k < i → (e : PhysicalExpr) (mode : ℕ) (line : Line) → IsMember q (expr_of e) → word_of (expr_of e) ≡ slice_index words k → line_of q e mode ≡ Some line
         → HasMode e mode list
 
@@ -156,21 +157,21 @@ module _ (q : Query) (group : KeyParts) where
   made_none words = record { up_to = record { are = tt; rises = tt; below = tt }; complete = λ k less. absurd (omega (arith, less)) }
 
   module _ (words : List ℕ) (ascending : IsStrictlyIncreasing words) where
-    next_base : (i : ℕ) → i < length words → slice_index words i < 2 ^ 48 → slice_index words i + 1 ≤ slice_index_or words (i + 1) (2 ^ 48)
+    next_base : (i : ℕ) → i < length words → FitsExpr (slice_index words i) → slice_index words i + 1 ≤ slice_index_or words (i + 1) EXPRS
     next_base i within small = elim (cases_lt (i + 1) (length words)) [
-      | inl more ↦ let same = get_or_default words (i + 1) 0 (2 ^ 48) more in omega (arith, ascending i more, same)
-      | inr end ↦ let last = get_or-eq_default words (2 ^ 48) end in omega (arith, small, last)
+      | inl more ↦ let same = get_or_default words (i + 1) 0 EXPRS more in omega (arith, ascending i more, same)
+      | inr end ↦ let last = get_or-eq_default words EXPRS end in omega (arith, small, last)
     ]
 
-    pub made_more : HasFewModes q → (i : ℕ) (e : PhysicalExpr) (list new : List Native) → i < length words → IsMember q (expr_of e) → e.group ≡ group → word_of (expr_of e) < 2 ^ 48
+    pub made_more : HasFewModes q → (i : ℕ) (e : PhysicalExpr) (list new : List Native) → i < length words → IsMember q (expr_of e) → e.group ≡ group → FitsExpr (word_of (expr_of e))
         → word_of (expr_of e) ≡ slice_index words i → ((f : PhysicalExpr) → IsMember q (expr_of f) → word_of (expr_of f) ≡ word_of (expr_of e) → f ≡ e) → AreMade words i list → AddsModes q e list new → AreMade words (i + 1) new
     made_more few i e list new within member of_group small is one made (modes, of_expr, added) =
-        let here : slice_index_or words i (2 ^ 48) ≡ word_of (expr_of e) = get_or_default words i (2 ^ 48) 0 within ∙ sym is in
+        let here : slice_index_or words i EXPRS ≡ word_of (expr_of e) = get_or_default words i EXPRS 0 within ∙ sym is in
         let before = subst (λ w. AreUpTo (2 ^ 56 + w * 2 ^ 8) list) here made.up_to in
         let rises : RisesFrom (2 ^ 56 + word_of (expr_of e) * 2 ^ 8) modes = rises_less (2 ^ 56 + word_of (expr_of e) * 2 ^ 8 + 0) (2 ^ 56 + word_of (expr_of e) * 2 ^ 8) modes (omega arith) of_expr.rises in
         let up_to = up_to_modes e member of_group small (2 ^ 56 + word_of (expr_of e) * 2 ^ 8) list modes (omega arith) (omega arith) before of_expr.are rises in
         subst (AreMade words (i + 1)) (sym added) (record {
-          up_to = up_to_more (2 ^ 56 + word_of (expr_of e) * 2 ^ 8 + 192) (2 ^ 56 + slice_index_or words (i + 1) (2 ^ 48) * 2 ^ 8) (list ++ modes)
+          up_to = up_to_more (2 ^ 56 + word_of (expr_of e) * 2 ^ 8 + 192) (2 ^ 56 + slice_index_or words (i + 1) EXPRS * 2 ^ 8) (list ++ modes)
               (omega (arith, next_base i within (omega (arith, is, small)), is)) up_to;
           complete = λ k less f mode line is_member of_word has. elim (cases_eq k i) [
             | inl same ↦
@@ -184,11 +185,11 @@ module _ (q : Query) (group : KeyParts) where
         })
 
     -- a logical expression adds nothing
-    pub made_past : (i : ℕ) (e : ExprParts) (list : List Native) → i < length words → word_of e < 2 ^ 48 → word_of e ≡ slice_index words i
+    pub made_past : (i : ℕ) (e : ExprParts) (list : List Native) → i < length words → FitsExpr (word_of e) → word_of e ≡ slice_index words i
         → ((f : PhysicalExpr) → IsMember q (expr_of f) → word_of (expr_of f) ≡ word_of e → ⊥) → AreMade words i list → AreMade words (i + 1) list
     made_past i e list within small is never made = record {
-      up_to = up_to_more (2 ^ 56 + slice_index_or words i (2 ^ 48) * 2 ^ 8) (2 ^ 56 + slice_index_or words (i + 1) (2 ^ 48) * 2 ^ 8) list
-          (omega (arith, next_base i within (omega (arith, is, small)), get_or_default words i (2 ^ 48) 0 within)) made.up_to;
+      up_to = up_to_more (2 ^ 56 + slice_index_or words i EXPRS * 2 ^ 8) (2 ^ 56 + slice_index_or words (i + 1) EXPRS * 2 ^ 8) list
+          (omega (arith, next_base i within (omega (arith, is, small)), get_or_default words i EXPRS 0 within)) made.up_to;
       complete = λ k less f mode line is_member of_word has. elim (cases_eq k i) [
         | inl same ↦ absurd (never f is_member (of_word ∙ ap (λ n. slice_index words n) same ∙ sym is))
         | inr other ↦ made.complete k (omega (arith, less, other)) f mode line is_member of_word has

@@ -1,9 +1,11 @@
 -- A goal that is held is that of a member that may serve. A candidate that is held is a member, and one that isn't is
 -- none: the looks would show it.
-use Rattle.std.proofs.Common.{◌≢◌, ◌<◌, ◌^◌, ℕ, Bool, refl, sym, subst, ◌∙◌, arith}
+use Rattle.std.proofs.Common.{◌≢◌, Bool, refl, sym, subst, ◌∙◌, arith}
 use Rattle.std.proofs.lemmas.Bool.{false≢true}
 use Rattle.query_core.specs.Expressions.{expr_of}
+use Rattle.query_core.specs.Goals.{FitsExpr}
 use Rattle.query_core.specs.declared.query.Query.{Query}
+use Rattle.query_core.proofs.ExpressionLemmas.{word_some}
 use Rattle.board_rule.specs.Looks.{ShowsEntry}
 use Rattle.goal_board.specs.Calls.{FindsWhether}
 use Rattle.goal_board.specs.Seats.{hands}
@@ -12,7 +14,6 @@ use Rattle.board_moves.proofs.Putting.{held_at, only_looks_held, found_enters}
 use Rattle.goal_space.specs.Entries.{IsEntry}
 use Rattle.goal_space.specs.Words.{IsInRange}
 use Rattle.goal_space.specs.declared.goals.GoalKind.TheVariants.{OptE}
-use Rattle.goal_rules.specs.EntryLaws.{word_some}
 use Rattle.goal_rules.specs.Meaning.{meaning_of}
 use Rattle.job_turns.specs.Searches.{rules_mean}
 use Rattle.job_turns.proofs.Held.{member_shown}
@@ -22,7 +23,7 @@ pub member_goal-goal-requires-clause-expr : goal.member_goal-goal-requires-claus
 member_goal-goal-requires-clause-expr c =
     let candidate = c.requires.candidate in
     let small = c.expressions_are_one.ensures.small (expr_of c.args.candidate.expr) (c.candidates_are_known.ensures.packed c.args.query.now (expr_of c.args.candidate.expr) candidate.candidate) in
-    subst (λ (word : ℕ). word < 2 ^ 48) candidate.number small
+    subst FitsExpr candidate.number small
 
 -- one that can't serve isn't looked for
 pub returns-then-not-may_serve-clause-looks : goal.returns-then-not-may_serve-clause-looks

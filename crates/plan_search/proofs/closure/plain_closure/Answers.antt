@@ -3,6 +3,7 @@ use Rattle.std.specs.List.{All}
 use Rattle.std.specs.List.Sorted.{IsStrictlyIncreasing}
 use Rattle.std.proofs.lemmas.List.Elements.{All-nil}
 use Rattle.xform_rules.specs.Closure.{IsMemberWord, IsClosureOf}
+use Rattle.query_core.specs.Goals.{EXPRS}
 use Rattle.plan_search.specs.Steps.{AreSteps}
 use Rattle.plan_search.proofs.WordLists.{few_words}
 use Rattle.plan_search.proofs.Growing.{members_on, all_small, closed, none_done, longer_smaller}
@@ -43,18 +44,18 @@ returns-then-len c =
     (closed q words old new c.in_ok-words.ensures.value c.in_ok-add_new_steps.ensures.grows no_longer c.loop-done.invariant.members
     c.len.ensures.ascending c.loop-done.invariant.root steps)
 
--- words have come, and there are at most 2 ^ 48
+-- words have come, and there are at most EXPRS
 pub loop-done-smaller : goal.loop-done-smaller
 loop-done-smaller c =
     let q = c.args.query.now in
     let old = c.loop-done.found in
     let new = c.add_new_steps.new.found in
     let members = members_on q old new c.in_ok-add_new_steps.ensures.grows c.loop-done.invariant.members in
-    let few : length new ≤ 2 ^ 48 = few_words new (2 ^ 48) c.len.ensures.ascending (all_small q c.members_are_known.ensures.small new members) in
+    let few : length new ≤ EXPRS = few_words new (EXPRS) c.len.ensures.ascending (all_small q c.members_are_known.ensures.small new members) in
     let count : length c.deref.result.now ≡ length old = ap length (c.deref.ensures.value ∙ c.in_ok-words.ensures.value) in
     let same_count : c.len-in-loop-done.result ≡ length old = c.len-in-loop-done.ensures ∙ sym c.deref.ensures.len ∙ count in
     let differs : length new ≡ length old → ⊥ = λ same. c.if-len.false (c.len.ensures.value ∙ same ∙ sym same_count) in
-    longer_smaller (length old) (length new) (2 ^ 48) few c.in_ok-add_new_steps.ensures.grows.longer differs
+    longer_smaller (length old) (length new) (EXPRS) few c.in_ok-add_new_steps.ensures.grows.longer differs
 
 pub loop-done-preserved : goal.loop-done-preserved
 loop-done-preserved c =

@@ -1,5 +1,6 @@
 use Rattle.std.proofs.Common.{◌+◌, ◌-◌, ◌^◌, length}
 use Rattle.std.specs.List.{All}
+use Rattle.query_core.specs.Goals.{EXPRS}
 use Rattle.query_core.specs.Keys.{root_of}
 use Rattle.query_core.specs.Expressions.{origin_of}
 use Rattle.xform_rules.specs.Closure.{IsMemberWord}
@@ -14,6 +15,6 @@ invariant-loop-done l = record {
   done : AreSteps l.query l.done.items l.done.items l.found;
 }
 
--- there are no more words than numbers of 48 bits
+-- there are no more words than words of expressions
 abbrev pub decreases-loop-done : goal.decreases-loop-done
-decreases-loop-done l = 2 ^ 48 + 1 - length l.found
+decreases-loop-done l = EXPRS + 1 - length l.found
