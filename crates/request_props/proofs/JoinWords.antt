@@ -120,11 +120,12 @@ many_of set = expr (Join set) (operators.Logical NJoin)
 many_below : (set : ℕ) → AreBelow (λ e. e ≡ many_of set) (words_from set 8)
 many_below set e same = omega (arith, ap word_of same)
 
--- the sides that stand at no place
-abbrev none : Sides
-none = record { left = Agg; right = Agg }
+-- what stands past the end of a list of sides
+abbrev past_end : Sides
+past_end = record { left = Agg; right = Agg }
 
 module _ (q : Query) (set : ℕ) (small : set < 1024) where
+  -- the words of the joins of a kind lie between where those of its operator begin and where those of the next do
   joins_below : (kind : JoinKind) (limit : ℕ) → words_from set (operator_number kind + 1) ≤ limit → AreBelow (IsJoinBy q set kind) limit
   joins_below Logical limit least e (a, b, falls, same) = let range = sides_in_range q set small Logical a b falls in omega (arith, least, ap word_of same, key_small (top_of q a) range.0, key_small (top_of q b) range.1)
   joins_below Hash limit least e (a, b, falls, same) = let range = sides_in_range q set small Hash a b falls in omega (arith, least, ap word_of same, key_small (top_of q a) range.0, key_small (top_of q b) range.1)
@@ -152,12 +153,12 @@ module _ (q : Query) (set : ℕ) (small : set < 1024) where
           let next : k + 1 < length found = omega (arith, length-map found (join_word set kind), within) in
           let here : k < length found = omega (arith, next) in
           let inside : k + 1 < length (map left_of found) = omega (arith, length-map found left_of, next) in
-          let one = get_or found k none in
-          let other = get_or found (k + 1) none in
+          let one = get_or found k past_end in
+          let other = get_or found (k + 1) past_end in
           let less : left_of one < left_of other =
-          omega (arith, all.ascending k inside, get_or-map left_of found k none 0 here, get_or-map left_of found (k + 1) none 0 next) in
-          let later = join_ordered set kind one.left one.right other.left other.right (in_range one (all.sound k none here)).1 less in
-          omega (arith, later, get_or-map (join_word set kind) found k none 0 here, get_or-map (join_word set kind) found (k + 1) none 0 next);
+          omega (arith, all.ascending k inside, get_or-map left_of found k past_end 0 here, get_or-map left_of found (k + 1) past_end 0 next) in
+          let later = join_ordered set kind one.left one.right other.left other.right (in_range one (all.sound k past_end here)).1 less in
+          omega (arith, later, get_or-map (join_word set kind) found k past_end 0 here, get_or-map (join_word set kind) found (k + 1) past_end 0 next);
       sound = All-map (IsWordOf (IsJoinBy q set kind)) (join_word set kind) found
           (λ k d within. let (a, b, falls, is) = all.sound k d within in (join q set kind a b, (a, b, falls, refl), ap (join_word set kind) (sym is)));
       complete = λ e (a, b, falls, same).

@@ -24,7 +24,7 @@ pub fn group_candidates(
     requires { AreKeys query.now keys.now }
     ensures { IfOk result (λ lists. AreCandidates query.now lists.items) }
 {
-    let mut lists = Vec::new(alloc);
+    let mut lists = Vec::with_capacity(alloc, KEYS as usize)?;
     for number in 0..KEYS {
         lists.push(candidates_at(alloc, query, keys, number)?)?;
     }

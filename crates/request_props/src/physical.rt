@@ -34,7 +34,7 @@ pub fn group_physical(
     requires candidates { AreCandidates query.now candidates.now }
     ensures { IfOk result (λ lists. ArePhysical query.now lists.items) }
 {
-    let mut lists = Vec::new(alloc);
+    let mut lists = Vec::with_capacity(alloc, KEYS as usize)?;
     for number in 0..KEYS {
         lists.push(physical_at(alloc, query, keys, candidates, number)?)?;
     }
@@ -76,7 +76,7 @@ fn physical_among(
     // For the proof: a candidate has a word, which is that of no other.
     candidates_are_known();
     expressions_are_one();
-    let mut found = List::new(alloc);
+    let mut found = List::of(Vec::with_capacity(alloc, words.len())?);
     for place in 0..words.len() {
         push_physical(&mut found, words[place])?;
     }

@@ -36,7 +36,7 @@ fn words_by_sides(alloc: Global, set: u32, sides: &[Sides]) -> Result<List<u64>,
     requires in_range { All AreBothInRange sides.now }
     ensures { IfOk result (λ words. words ≡ words_over set sides.now) }
 {
-    let mut words = List::new(alloc);
+    let mut words = List::of(Vec::with_capacity(alloc, 4 * sides.len() + 1)?);
     words.push(word(set, Operator::Logical(Logical::NJoin)))?;
     push_joins(&mut words, set, JoinKind::Logical, sides)?;
     push_joins(&mut words, set, JoinKind::Hash, sides)?;

@@ -1,11 +1,12 @@
-use Rattle.std.proofs.Common.{subst, sym, arith}
+use Rattle.std.proofs.Common.{rules, ◌≡◌, [], subst, sym, arith}
 use Rattle.request_props.proofs.PhysicalLists.{AreFoundBelow, none_found, found_more, all_physical}
 use Rattle.request_props.proofs.physical.physical_among.Goals as goal
 
 pub loop-place-init : goal.loop-place-init
 loop-place-init c =
     let q = c.args.query.now in
-    subst (AreFoundBelow q c.args.group c.args.words.now 0) (sym c.new-found.ensures) (none_found q c.args.group c.args.words.now)
+    let empty : c.of-found.result ≡ [] = search rules in
+    subst (AreFoundBelow q c.args.group c.args.words.now 0) (sym empty) (none_found q c.args.group c.args.words.now)
 
 -- each word is that of a candidate
 pub push_physical-requires : goal.push_physical-requires
