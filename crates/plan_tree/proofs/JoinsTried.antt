@@ -41,7 +41,7 @@ MergesIn q wanted column = BeginsWith (order_of q (column_order q column)) (orde
 abbrev pub AreMergingIn : Query → KeyParts → KeyParts → ℕ → NumberSet → Type 0
 AreMergingIn q left right wanted preds = AreCrossingBy q left right (MergesIn q wanted) preds
 
-with_merges : (q : Query) (dist : LeftDist) (asked : Dist) (sides : ℕ × ℕ) (children : Children) (wanted : Request)
+pub with_merges : (q : Query) (dist : LeftDist) (asked : Dist) (sides : ℕ × ℕ) (children : Children) (wanted : Request)
     → LineServes q (merge_with q dist asked sides) children wanted → MergesIn q wanted.order sides.0
 with_merges q dist asked sides arities.Zero wanted serves = absurd serves
 with_merges q dist asked sides (arities.One child) wanted serves = absurd serves
@@ -55,19 +55,19 @@ HashesTo q wanted column = Meets (given.Hashed (column_list q column)) wanted
 abbrev pub AreHashingTo : Query → KeyParts → KeyParts → Dist → NumberSet → Type 0
 AreHashingTo q left right wanted preds = AreCrossingBy q left right (HashesTo q wanted) preds
 
-hash_serves : (q : Query) (sides : ℕ × ℕ) (children : Children) (wanted : Request) → LineServes q (hash_colocated q sides) children wanted → HashesTo q wanted.dist sides.0
+pub hash_serves : (q : Query) (sides : ℕ × ℕ) (children : Children) (wanted : Request) → LineServes q (hash_colocated q sides) children wanted → HashesTo q wanted.dist sides.0
 hash_serves q sides arities.Zero wanted serves = absurd serves
 hash_serves q sides (arities.One child) wanted serves = absurd serves
 hash_serves q sides (arities.Two left right) wanted serves = serves.serves.dist_served
 
-merge_hashes : (q : Query) (sides : ℕ × ℕ) (children : Children) (wanted : Request) → LineServes q (merge_colocated q sides) children wanted → HashesTo q wanted.dist sides.0
+pub merge_hashes : (q : Query) (sides : ℕ × ℕ) (children : Children) (wanted : Request) → LineServes q (merge_colocated q sides) children wanted → HashesTo q wanted.dist sides.0
 merge_hashes q sides arities.Zero wanted serves = absurd serves
 merge_hashes q sides (arities.One child) wanted serves = absurd serves
 merge_hashes q sides (arities.Two left right) wanted serves = serves.serves.dist_served
 
 module _ (q : Query) (line : Line) (children : Children) (wanted : Request) (left right : KeyParts) where
   -- a line made of a crossing that serves is by a predicate of which holds what serving says
-  found_serves : (Serves : ℕ → Type 0) (preds : NumberSet) → AreCrossingBy q left right Serves preds
+  pub found_serves : (Serves : ℕ → Type 0) (preds : NumberSet) → AreCrossingBy q left right Serves preds
       → (line_with : (ℕ × ℕ) → Line) → ((sides : ℕ × ℕ) → LineServes q (line_with sides) children wanted → Serves sides.0)
       → (pred : ℕ) (found : Option (ℕ × ℕ)) → crossing_of q left right pred ≡ found → option_map line_with found ≡ Some line → LineServes q line children wanted
       → IsInSet preds pred

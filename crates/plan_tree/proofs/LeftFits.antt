@@ -27,20 +27,13 @@ use Rattle.plan_space.specs.declared.lines.LeftOrder.{LeftOrder}
 use Rattle.plan_space.specs.declared.lines.LeftOrder.TheVariants as left_orders
 use Rattle.plan_space.specs.declared.lines.Line.{Line}
 use Rattle.plan_space.specs.declared.lines.Line.TheVariants.{Alone, Above, Beside}
-use Rattle.plan_space.specs.Modes.{mode_at, IsOnOne, IsSpread}
+use Rattle.plan_space.specs.Modes.{mode_at}
 use Rattle.plan_space.specs.declared.modes.Mode.{Mode}
 use Rattle.plan_tree.specs.Alternatives.{HasAlternative}
-use Rattle.plan_tree.specs.ServingModes.{DistSuits, MayServe, has_spread_modes}
+use Rattle.plan_tree.specs.ServingModes.{DistSuits, IsModeFor, MayServe, has_spread_modes}
 use Rattle.plan_tree.proofs.LineModes.{IsDistIn, IsOrderOfLeft, IsLineIn, line_in}
 
 -- ---- modes
-
--- the modes that serve the distribution
-abbrev pub IsModeFor : Dist → Mode → Type 0
-IsModeFor One mode = IsOnOne mode
-IsModeFor Spread mode = IsSpread mode
-IsModeFor Copies mode = ⊥
-IsModeFor (Hashed list) mode = IsSpread mode
 
 dist_mode : (q : Query) (dist : LeftDist) (mode : Mode) (wanted : Dist) → IsDistIn dist mode → DistServes q dist wanted
     → IsModeFor wanted mode

@@ -10,6 +10,7 @@ pub mod LineModes
 pub mod LeftFits
 pub mod Unordered
 pub mod JoinsTried
+pub mod ExactModes
 pub mod TriedOfOperators
 pub mod JoinsServe
 pub mod FoundEnforcers

@@ -1,5 +1,6 @@
 -- In which modes an expression may serve a request, as its operator and the distribution that is asked for say.
-use Rattle.std.specs.Prelude.{ℕ, ◌≡◌, ◌≤◌, ◌<◌, Bool, true, false, Option, None, Some, ⊤}
+use Rattle.std.specs.Prelude.{ℕ, ◌≤◌, ◌<◌, IsTrue, Bool, true, false, Option, None, Some, ⊤}
+use Rattle.query_core.specs.Expressions.{IsCandidate, expr_of}
 use Rattle.query_core.specs.declared.expressions.Physical.{Physical}
 use Rattle.query_core.specs.declared.expressions.Physical.TheVariants as physical
 use Rattle.query_core.specs.declared.expressions.PhysicalExpr.{PhysicalExpr}
@@ -10,8 +11,9 @@ use Rattle.request_props.specs.NumberSets.{NoneBetween}
 use Rattle.request_props.specs.declared.request.Dist.{Dist}
 use Rattle.request_props.specs.declared.request.Dist.TheVariants.{One, Spread, Copies, Hashed}
 use Rattle.request_props.specs.declared.request.Request.{Request}
-use Rattle.plan_space.specs.Lines.{line_of}
-use Rattle.plan_space.specs.Modes.{mode_at, HasModeIn}
+use Rattle.plan_space.specs.Alternatives.{IsAlternative}
+use Rattle.plan_space.specs.Modes.{mode_at, HasModeIn, IsOnOne, IsSpread}
+use Rattle.plan_space.specs.declared.modes.Mode.{Mode}
 use Rattle.plan_space.specs.declared.lines.Line.{Line}
 use Rattle.plan_space.specs.declared.modes.ModeSets.{ModeSets}
 use Rattle.plan_tree.specs.Alternatives.{HasAlternative}
@@ -36,6 +38,26 @@ DistSuits q left Spread = ⊤
 DistSuits q left Copies = ⊥
 DistSuits q left (Hashed list) = HashFits q left list
 
+-- the mode is of the kind that serves the distribution
+abbrev pub IsModeFor : Dist → Mode → Type 0
+IsModeFor One mode = IsOnOne mode
+IsModeFor Spread mode = IsSpread mode
+IsModeFor Copies mode = ⊥
+IsModeFor (Hashed list) mode = IsSpread mode
+
+-- the operator joins two children
+abbrev pub is_join : Physical → Bool
+is_join physical.Scan = false
+is_join (physical.IndexScan index) = false
+is_join (physical.Filter child) = false
+is_join (physical.IndexSeek index) = false
+is_join (physical.HashJoin left right) = true
+is_join (physical.MergeJoin left right) = true
+is_join (physical.LoopJoin left right) = true
+is_join (physical.HashAgg child) = false
+is_join (physical.StreamAgg child) = false
+is_join (physical.PartialAgg child) = false
+
 -- the expression may serve the request in some mode
 abbrev pub MayServe : Query → PhysicalExpr → Request → Type 0
 MayServe q e wanted = (mode : ℕ) × HasAlternative q e wanted mode
@@ -48,7 +70,19 @@ NoneServes q e wanted from below = NoneBetween (HasAlternative q e wanted) from 
 abbrev pub AreServing : Query → PhysicalExpr → Request → ModeSets → Type 0
 AreServing q e wanted modes = (mode : ℕ) → HasAlternative q e wanted mode → HasModeIn modes (mode_at mode)
 
--- a mode from the number on, with its line, before which none is there for the request; or none is at all
+-- all modes that are there for the request are among these, and of a join that a group can hold no others are of the kind
+-- that serves the distribution
+pub record AreServingByKind (q : Query) (e : PhysicalExpr) (wanted : Request) (modes : ModeSets) : Type 0 where
+  pub all : AreServing q e wanted modes
+  pub only : IsCandidate q (expr_of e) → IsTrue (is_join e.operator)
+      → (mode : ℕ) → HasModeIn modes (mode_at mode) → IsModeFor wanted.dist (mode_at mode) → HasAlternative q e wanted mode
+
+-- all modes that are there for the request are among these, and of a join that a group can hold no others
+pub record AreToTry (q : Query) (e : PhysicalExpr) (wanted : Request) (modes : ModeSets) : Type 0 where
+  pub all : AreServing q e wanted modes
+  pub only : IsCandidate q (expr_of e) → IsTrue (is_join e.operator) → (mode : ℕ) → HasModeIn modes (mode_at mode) → HasAlternative q e wanted mode
+
+-- the first mode from the number on that is there for the request, with its line; or none is
 abbrev pub IsNextServing : Query → PhysicalExpr → Request → ℕ → Option (ℕ × Line) → Type 0
 IsNextServing q e wanted from None = (mode : ℕ) → from ≤ mode → HasAlternative q e wanted mode → ⊥
-IsNextServing q e wanted from (Some found) = (from ≤ found.0) × (found.0 < 192) × NoneServes q e wanted from found.0 × (line_of q e found.0 ≡ Some found.1)
+IsNextServing q e wanted from (Some found) = (from ≤ found.0) × (found.0 < 192) × NoneServes q e wanted from found.0 × IsAlternative q e wanted found.0 found.1

@@ -27,10 +27,11 @@ IsNextLine q e from (Some found) = (from ≤ found.0) × (found.0 < 192) × AreN
 abbrev pub AreNoneTried : Query → PhysicalExpr → ModeSets → ℕ → ℕ → Type 0
 AreNoneTried q e modes from below = (mode : ℕ) → from ≤ mode → mode < below → HasModeIn modes (mode_at mode) → line_of q e mode ≡ None
 
--- a mode from the number on that has a line, with its line, before which none of these has; or none of these has one
+-- one of these modes from the number on that has a line, with its line, before which none of these has; or none of these has one
 abbrev pub IsNextTried : Query → PhysicalExpr → ModeSets → ℕ → Option (ℕ × Line) → Type 0
 IsNextTried q e modes from None = (mode : ℕ) → from ≤ mode → HasModeIn modes (mode_at mode) → line_of q e mode ≡ None
-IsNextTried q e modes from (Some found) = (from ≤ found.0) × (found.0 < 192) × AreNoneTried q e modes from found.0 × (line_of q e found.0 ≡ Some found.1)
+IsNextTried q e modes from (Some found) =
+    (from ≤ found.0) × (found.0 < 192) × AreNoneTried q e modes from found.0 × (line_of q e found.0 ≡ Some found.1) × HasModeIn modes (mode_at found.0)
 
 -- each predicate that equates columns across the groups is among these
 abbrev pub AreCrossingsBetween : Query → KeyParts → KeyParts → NumberSet → Type 0

@@ -9,10 +9,10 @@ ghost use Rattle.query_core.specs.Keys.{IsGroup};
 ghost use Rattle.query_core.specs.declared.words.KeyParts.{KeyParts as Group};
 ghost use Rattle.query_core.specs.Expressions.{IsCandidate, IsChild, expr_of};
 ghost use Rattle.request_props.specs.Numbered.{IsProps, IsNumbered};
-ghost use Rattle.plan_space.specs.Alternatives.{LineServes, asked_of};
+ghost use Rattle.plan_space.specs.Alternatives.{IsAlternative, LineServes, asked_of};
 ghost use Rattle.plan_space.specs.Lines.{line_of as line_by_table};
 ghost use Rattle.plan_space.specs.Choices.{groups_of};
-ghost use Rattle.plan_tree.specs.Alternatives.{AreAsked, AreModes, IsAltAt, IsAltIn, IsAsk};
+ghost use Rattle.plan_tree.specs.Alternatives.{AreAsked, AreModes, IsAltAt, IsAltBy, IsAltIn, IsAsk};
 
 use crate::lines::line_of;
 use crate::node::Node;
@@ -66,12 +66,29 @@ pub fn alternative_by(
     requires line { line_by_table query.now expr mode ≡ Some line }
     ensures { IsAltIn query.now expr request mode result }
 {
-    candidates_are_known();
-    if !serves(query, props, line, expr.children(), request) {
-        return None;
+    if serves(query, props, line, expr.children(), request) {
+        Some(alternative_at(query, expr, request, mode, line))
+    } else {
+        None
     }
+}
+
+/// The expression in a mode that is there for the request, by its line.
+pub fn alternative_at(
+    query: &Query,
+    expr: PhysicalExpr,
+    request: Request,
+    mode: u32,
+    line: Line,
+) -> Alt
+    requires candidate { IsCandidate query.now (expr_of expr) }
+    requires few { mode < 256 }
+    requires alternative { IsAlternative query.now expr request mode line }
+    ensures { IsAltBy query.now expr request mode result line }
+{
+    candidates_are_known();
     let node = Node::make(NodeKind::Native(expr, mode));
-    Some(alt_over(query, node, line, expr.children(), request))
+    alt_over(query, node, line, expr.children(), request)
 }
 
 /// The alternative at this place, of those for the request, ascending by their modes.

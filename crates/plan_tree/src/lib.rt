@@ -14,7 +14,9 @@ mod serving;
 mod serving_modes;
 mod walks;
 
-pub use alternatives::{Alt, alternative, alternative_by, alternative_in, modes_are_one};
+pub use alternatives::{
+    Alt, alternative, alternative_at, alternative_by, alternative_in, modes_are_one,
+};
 pub use answers::{Answered, Answers};
 pub use cost::{
     ExprRows, asked_by, enforcer_cost, enforcer_cost_by, expr_rows, native_cost, native_cost_by,
@@ -26,5 +28,5 @@ pub use plan::{Found, Plan};
 pub use seen::{Below, Seen, given_satisfies, plan_seen, seen_above, seen_below};
 pub use seen_cost::{cost_above, cost_above_any, rows_above};
 pub use serving::may_give;
-pub use serving_modes::{may_serve, modes_to_try, next_serving};
+pub use serving_modes::{may_serve, modes_to_try, next_alternative};
 pub use walks::next_line;

@@ -3,13 +3,15 @@
 //! only aggregations are looked at mode by mode.
 #![tactic(auto)]
 
-ghost use Rattle.std.specs.Prelude.{[], ◌≡◌, ◌↔◌, IsTrue};
+ghost use Rattle.std.specs.Prelude.{ℕ, [], ◌≡◌, ◌↔◌, IsTrue};
+ghost use Rattle.request_props.specs.NumberSets.{IsInSet};
 ghost use Rattle.query_core.specs.Expressions.{expr_of, IsCandidate};
 ghost use Rattle.request_props.specs.Numbered.{IsProps, IsNumbered, order_of};
 ghost use Rattle.request_props.specs.Satisfied.{BeginsWith};
 ghost use Rattle.plan_tree.specs.Alternatives.{HasAlternative};
 ghost use Rattle.plan_tree.specs.ServingModes.{has_spread_modes as spread_modes};
-ghost use Rattle.plan_tree.specs.ServingModes.{AreServing, DistSuits, IsNextServing, MayServe};
+ghost use Rattle.plan_tree.specs.ServingModes.{is_join as is_join_by_kind};
+ghost use Rattle.plan_tree.specs.ServingModes.{AreServing, AreServingByKind, AreToTry, DistSuits, IsNextServing, MayServe};
 
 use crate::lines::line_of;
 use crate::serving::serves;
@@ -52,13 +54,12 @@ pub fn may_serve(query: &Query, props: &Props, expr: PhysicalExpr, wanted: Reque
     }
 }
 
-// Whether the order is empty, so that rows in no order are in it.
+// Whether the order is empty, so that rows in no order are in it. Without a number it is.
 fn wants_no_order(query: &Query, props: &Props, order: u32) -> bool
-    requires props { IsProps query.now props.now }
-    requires numbered { IsNumbered query.now order }
+    requires { IsProps query.now props.now }
     ensures { IsTrue result ↔ BeginsWith [] (order_of query.now order) }
 {
-    props.order(order).is_empty()
+    order as usize > props.orders.len() || props.order(order).is_empty()
 }
 
 // Whether a join over this left child can give the distribution.
@@ -86,7 +87,7 @@ fn serves_in_first(query: &Query, props: &Props, expr: PhysicalExpr, wanted: Req
     }
 }
 
-// Whether it may in some mode, by a look at those that are tried.
+// Whether it may in some mode, by a look at those to try.
 fn serves_in_some(query: &Query, props: &Props, expr: PhysicalExpr, wanted: Request) -> bool
     requires props { IsProps query.now props.now }
     requires candidate { IsCandidate query.now (expr_of expr) }
@@ -94,20 +95,14 @@ fn serves_in_some(query: &Query, props: &Props, expr: PhysicalExpr, wanted: Requ
     ensures { IsTrue result ↔ MayServe query.now expr wanted }
 {
     let modes = modes_to_try(query, props, expr, wanted);
-    let mut from = 0;
-    'modes: while let Some((mode, line)) = next_serving(query, props, expr, wanted, modes, from) {
-        if serves(query, props, line, expr.children(), wanted) {
-            return true;
-        }
-        from = mode + 1;
-    }
-    false
+    next_alternative(query, props, expr, wanted, modes, 0).is_some()
 }
 
-/// The modes to try of an expression for a request: all are among them in which it may serve that.
+/// The modes to try of an expression for a request: all are among them in which it may serve that, and of a join that a
+/// group can hold no others.
 pub fn modes_to_try(query: &Query, props: &Props, expr: PhysicalExpr, wanted: Request) -> ModeSets
     requires { IsProps query.now props.now }
-    ensures { AreServing query.now expr wanted result }
+    ensures { AreToTry query.now expr wanted result }
 {
     let modes = modes_by_operator(query, props, expr, wanted);
     if !has_spread_modes(expr.operator) {
@@ -121,39 +116,122 @@ pub fn modes_to_try(query: &Query, props: &Props, expr: PhysicalExpr, wanted: Re
     }
 }
 
-/// The first of the modes to try from this number on, with its line. None before it serves the request.
-pub fn next_serving(
+/// The first of the modes to try from this number on in which the expression serves the request, with its line. Of a join
+/// each of them is one.
+pub fn next_alternative(
     query: &Query,
     props: &Props,
     expr: PhysicalExpr,
-    _wanted: Request,
+    wanted: Request,
     modes: ModeSets,
     from: u32,
 ) -> Option<(u32, Line)>
     requires props { IsProps query.now props.now }
-    requires modes { AreServing query.now expr _wanted modes }
-    ensures { IsNextServing query.now expr _wanted from result }
+    requires candidate { IsCandidate query.now (expr_of expr) }
+    requires numbered { IsNumbered query.now wanted.order }
+    requires modes { AreToTry query.now expr wanted modes }
+    ensures { IsNextServing query.now expr wanted from result }
 {
-    next_tried(query, props, expr, modes, from)
+    if is_join(expr.operator) {
+        next_tried(query, props, expr, modes, from)
+    } else {
+        next_by_lines(query, props, expr, wanted, modes, from)
+    }
 }
 
-// The same without a look at the kinds of modes: of a join those by predicates whose left column gives the order or the
-// hash that is asked for.
+// The same by a look at the lines.
+fn next_by_lines(
+    query: &Query,
+    props: &Props,
+    expr: PhysicalExpr,
+    wanted: Request,
+    modes: ModeSets,
+    from: u32,
+) -> Option<(u32, Line)>
+    requires props { IsProps query.now props.now }
+    requires numbered { IsNumbered query.now wanted.order }
+    requires modes { AreServing query.now expr wanted modes }
+    ensures { IsNextServing query.now expr wanted from result }
+{
+    let mut at = from;
+    'modes: while let Some((mode, line)) = next_tried(query, props, expr, modes, at) {
+        if serves(query, props, line, expr.children(), wanted) {
+            return Some((mode, line));
+        }
+        at = mode + 1;
+    }
+    None
+}
+
+// The same without a look at the kinds of modes: of a hash join only where no order is asked for, of a merge join those by
+// predicates whose left column gives the order, of a loop join only where the order fits the left child; and hashed those
+// whose left column gives the hash that is asked for.
 fn modes_by_operator(query: &Query, props: &Props, expr: PhysicalExpr, wanted: Request) -> ModeSets
     requires { IsProps query.now props.now }
-    ensures { AreServing query.now expr wanted result }
+    ensures { AreServingByKind query.now expr wanted result }
 {
+    // For the proof: the columns of a join have lists and orders that fit its left child.
+    what_is_asked_fits();
     match expr.operator {
-        Physical::HashJoin(left, right) => {
+        Physical::HashJoin(left, right) if wants_no_order(query, props, wanted.order) => {
             let first = NumberSet::below(1);
-            tried(first, first, props.hashing(query, left, right, wanted.dist))
+            let copied = where_suits(query, props, left, wanted.dist, first);
+            tried(
+                first,
+                copied,
+                props.hashing(query, left, right, wanted.dist),
+            )
         }
+        Physical::HashJoin(_, _) => ModeSets::none(),
         Physical::MergeJoin(left, right) => {
             let merging = props.merging(query, left, right, wanted.order);
             let hashing = props.hashing(query, left, right, wanted.dist);
-            tried(merging, merging, merging.and(hashing))
+            let copied = where_suits(query, props, left, wanted.dist, merging);
+            tried(merging, copied, merging.and(hashing))
         }
+        Physical::LoopJoin(left, _) if props.order_fits(query, left, wanted.order) => {
+            let first = NumberSet::below(1);
+            let copied = where_suits(query, props, left, wanted.dist, first);
+            tried(first, copied, NumberSet::none())
+        }
+        Physical::LoopJoin(_, _) => ModeSets::none(),
         _ => tried_modes(query, props, expr.operator),
+    }
+}
+
+// These numbers, where a join over the left child can give the distribution, else none.
+fn where_suits(
+    query: &Query,
+    props: &Props,
+    left: KeyParts,
+    dist: Dist,
+    numbers: NumberSet,
+) -> NumberSet
+    requires { IsProps query.now props.now }
+    ensures { (number : ℕ) → IsInSet result number ↔
+        (IsInSet numbers number × DistSuits query.now left dist) }
+{
+    if dist_suits(query, props, left, dist) {
+        numbers
+    } else {
+        NumberSet::none()
+    }
+}
+
+fn is_join(operator: Physical) -> bool
+    ensures { result ≡ is_join_by_kind operator }
+{
+    match operator {
+        Physical::Scan => false,
+        Physical::IndexScan(_) => false,
+        Physical::Filter(_) => false,
+        Physical::IndexSeek(_) => false,
+        Physical::HashJoin(_, _) => true,
+        Physical::MergeJoin(_, _) => true,
+        Physical::LoopJoin(_, _) => true,
+        Physical::HashAgg(_) => false,
+        Physical::StreamAgg(_) => false,
+        Physical::PartialAgg(_) => false,
     }
 }
 

@@ -6,6 +6,7 @@ pub loop-mode-init : goal.loop-mode-init
 loop-mode-init c = record {
   after = c.next-mode.ensures.from;
   none = none_passed c.args.query.now c.args.expr c.args.modes c.args.from c.next-mode.result c.next-mode.ensures.none;
+  found = c.next-mode.ensures.found;
 }
 
 pub loop-mode-preserved : goal.loop-mode-preserved
@@ -14,6 +15,7 @@ loop-mode-preserved c =
     record {
       after = omega (arith, c.loop-mode.invariant.after, next.ensures.from);
       none = none_after c.args.query.now c.args.expr c.args.modes c.args.from c.loop-mode.mode next.result c.loop-mode.invariant.none (sym c.in-None.ensures) next.ensures.none;
+      found = next.ensures.found;
     }
 
 -- from 192 on no mode has a line

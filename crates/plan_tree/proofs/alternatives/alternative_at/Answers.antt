@@ -1,5 +1,5 @@
 use Rattle.query_core.specs.Expressions.{expr_of}
-use Rattle.plan_tree.proofs.alternatives.alternative_by.Goals as goal
+use Rattle.plan_tree.proofs.alternatives.alternative_at.Goals as goal
 
 -- a candidate has a word
 pub make-node-requires : goal.make-node-requires
@@ -11,5 +11,5 @@ make-node-requires c = record {
 -- and its children are groups of the query
 pub alt_over-requires-clause-known : goal.alt_over-requires-clause-known
 alt_over-requires-clause-known c =
-    rw c.children-2.ensures
+    rw c.children.ensures
     (λ g is. c.candidates_are_known.ensures.children c.args.query.now (expr_of c.args.expr) g c.requires.candidate is)
