@@ -48,15 +48,15 @@ pub fn hold_members(
     match before {
         Some(known) if known == group => Ok(()),
         _ => {
-            put_members(words_of(words, group), &mut held.members)?;
+            put_expressions(words_of(words, group), &mut held.members)?;
             held.group = Some(group);
             Ok(())
         }
     }
 }
 
-// Puts the expressions of the words into the list, in place of what it held.
-fn put_members(words: &[u64], list: &mut Vec<ExprParts>) -> Result<(), AllocError>
+/// Puts the expressions of the words into the list, in place of what it held.
+pub fn put_expressions(words: &[u64], list: &mut Vec<ExprParts>) -> Result<(), AllocError>
     requires { All IsWord words.now }
     ensures ok { OnOk result (AreOfWords words.now list.new.items) }
 {

@@ -15,7 +15,7 @@ mod words;
 
 pub use children::{child, next_child};
 pub use finding::known_goal;
-pub use group_members::GroupMembers;
+pub use group_members::{GroupMembers, put_expressions};
 pub use laws::{
     children_are_one, children_are_over_the_query, goal_lists_are_known, goals_are_over_the_query,
 };

@@ -11,7 +11,7 @@ use Rattle.query_core.specs.declared.expressions.Operator.TheVariants as operato
 use Rattle.query_core.specs.declared.expressions.ExprParts.{ExprParts}
 use Rattle.query_core.specs.declared.query.Query.{Query}
 use Rattle.job_trace.specs.Memo.{AreMembers}
-use Rattle.job_trace.specs.Lines.{HaveWords}
+use Rattle.goal_children.specs.GroupMembers.{AreOfWords}
 use Rattle.job_trace.proofs.ByGroup.{key_of}
 
 -- the words of groups stand in the order of their keys
@@ -26,10 +26,10 @@ key_rises ordered e f in_e in_f less = elim (cases_lt (key_of f) (key_of e)) [
 ]
 
 -- where the parts of candidates fit, members have their words
-pub have_words : (q : Query) (words : List ℕ) (es : List ExprParts) → ((e : ExprParts) → IsCandidate q e → IsPacked e) → AreMembers q words es → HaveWords words es
+pub have_words : (q : Query) (words : List ℕ) (es : List ExprParts) → ((e : ExprParts) → IsCandidate q e → IsPacked e) → AreMembers q words es → AreOfWords words es
 have_words q words es packed are = record { numbers = are.numbers; packed = λ k d within. packed _ (are.candidates k d within) }
 
-module _ (words : List ℕ) (es : List ExprParts) (have : HaveWords words es) where
+module _ (words : List ℕ) (es : List ExprParts) (have : AreOfWords words es) where
   -- as many words as expressions
   pub as_many : length words ≡ length es
   as_many = ap length (sym have.numbers) ∙ length-map es word_of

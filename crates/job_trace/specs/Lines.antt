@@ -1,17 +1,12 @@
 -- The lines of the memo's text as the program makes them.
-use Rattle.std.specs.Prelude.{ℕ, Bool, true, not, ◌≡◌, ◌==◌, List, [], ◌∷◌, Option, None, Some, All, map, if◌then◌else◌}
+use Rattle.std.specs.Prelude.{ℕ, Bool, true, not, ◌==◌, List, [], ◌∷◌, Option, None, Some, All, if◌then◌else◌}
 use Rattle.std.specs.List.Sorted.{IsNonDecreasingBy}
 use Rattle.query_core.specs.Keys.{key_number}
-use Rattle.query_core.specs.Expressions.{word_of, IsPacked, IsCandidate}
+use Rattle.query_core.specs.Expressions.{IsCandidate}
 use Rattle.query_core.specs.declared.query.Query.{Query}
 use Rattle.query_core.specs.declared.words.KeyParts.{KeyParts}
 use Rattle.query_core.specs.declared.expressions.ExprParts.{ExprParts}
 use Rattle.job_trace.specs.Groups.{group_line}
-
--- the words are those of these expressions, whose parts fit
-pub record HaveWords (words : List ℕ) (es : List ExprParts) : Type 0 where
-  pub numbers : map word_of es ≡ words
-  pub packed : All IsPacked es
 
 -- groups of the query can hold the expressions, which stand group by group
 pub record StandByGroup (q : Query) (es : List ExprParts) : Type 0 where

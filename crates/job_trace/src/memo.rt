@@ -5,20 +5,21 @@ ghost use Rattle.std.specs.Prelude.{◌≡◌, ◌+◌, ◌++◌, ℕ, List, All
 ghost use Rattle.std.specs.List.{concat};
 ghost use Rattle.std.specs.List.Sorted.{IsStrictlyIncreasing};
 ghost use Rattle.query_core.specs.Keys.{key_number, IsInRange, IsGroup};
-ghost use Rattle.query_core.specs.Expressions.{IsCandidateWord};
+ghost use Rattle.query_core.specs.Expressions.{IsCandidateWord, IsWord};
 ghost use Rattle.query_core.specs.declared.query.Query.{Query};
 ghost use Rattle.query_core.specs.declared.expressions.ExprParts.{ExprParts};
+ghost use Rattle.goal_children.specs.GroupMembers.{AreOfWords};
 ghost use Rattle.query_text.specs.Added.{Adds};
 ghost use Rattle.job_trace.specs.Memo as texts;
 ghost use Rattle.job_trace.specs.Memo.{AreMembers, IsMemoLine, IsMemoText, groups_of, group_lines, memo_section};
-ghost use Rattle.job_trace.specs.Lines.{HaveWords, StandByGroup, begins as does_begin, heading};
+ghost use Rattle.job_trace.specs.Lines.{StandByGroup, begins as does_begin, heading};
 
 use crate::counts::push_count;
 use crate::groups::push_group_line;
 use crate::members::push_member_line;
+use goal_children::put_expressions;
 use query_core::{
-    Expr, ExprParts, Key, KeyParts, Query, candidates_are_known, expressions_are_one,
-    groups_are_known,
+    ExprParts, Key, KeyParts, Query, candidates_are_known, expressions_are_one, groups_are_known,
 };
 use std::alloc::{AllocError, Global};
 
@@ -90,14 +91,11 @@ fn members_by_group(
 
 // The expressions of the words.
 fn expressions(alloc: Global, words: &[u64]) -> Result<Vec<ExprParts>, AllocError>
-    requires { (es : List ExprParts) × HaveWords words.now es }
-    ensures { IfOk result (λ made. (es : List ExprParts) → HaveWords words.now es
-        → made.items ≡ es) }
+    requires { All IsWord words.now }
+    ensures { IfOk result (λ made. AreOfWords words.now made.items) }
 {
     let mut made = Vec::new(alloc);
-    for word in words {
-        made.push(Expr(*word).known_parts())?;
-    }
+    put_expressions(words, &mut made)?;
     Ok(made)
 }
 

@@ -3,14 +3,14 @@ use Rattle.std.specs.List.{concat}
 use Rattle.query_core.specs.declared.query.Query.{Query}
 use Rattle.query_core.specs.declared.expressions.ExprParts.{ExprParts}
 use Rattle.job_trace.specs.Memo.{AreMembers, groups_of, group_lines, memo_line, memo_section}
-use Rattle.job_trace.specs.Lines.{HaveWords}
+use Rattle.goal_children.specs.GroupMembers.{AreOfWords}
 use Rattle.job_trace.proofs.ByGroup.{AreFrom, are_from}
 use Rattle.job_trace.proofs.Order.{keys_ascend, have_words}
 use Rattle.job_trace.proofs.Known.{members_there, members_one, groups_rise, lines_each}
 use Rattle.job_trace.proofs.memo.memos_are_known.Goals as goal
 
 -- candidates fit their words
-have : (c : goal.After-expressions_are_one) → (q : Query) (words : List ℕ) (es : List ExprParts) → AreMembers q words es → HaveWords words es
+have : (c : goal.After-expressions_are_one) → (q : Query) (words : List ℕ) (es : List ExprParts) → AreMembers q words es → AreOfWords words es
 have c q words es are = have_words q words es (c.candidates_are_known.ensures.packed q) are
 
 -- which therefore are those of one list

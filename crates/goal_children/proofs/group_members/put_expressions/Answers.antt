@@ -2,7 +2,7 @@ use Rattle.std.proofs.Common.{List, sym, subst}
 use Rattle.query_core.specs.declared.expressions.ExprParts.{ExprParts}
 use Rattle.goal_children.specs.GroupMembers.{AreOfWords}
 use Rattle.goal_children.proofs.HeldMembers.{no_members, one_more_member}
-use Rattle.goal_children.proofs.group_members.put_members.Goals as goal
+use Rattle.goal_children.proofs.group_members.put_expressions.Goals as goal
 
 pub loop-word-init : goal.loop-word-init
 loop-word-init c = subst (AreOfWords _) (sym c.clear.ensures.items) no_members
