@@ -39,8 +39,10 @@ pub fn memo_line(alloc: Global, query: &Query, members: &[u64]) -> Result<Vec<u8
     requires ascending { IsStrictlyIncreasing members.now }
     ensures { IfOk result (λ line. IsMemoLine query.now members.now line.items) }
 {
+    // For the proof: groups have keys.
+    groups_are_known();
     let members = members_by_group(alloc, query, members)?;
-    Ok(line_of(alloc, query, members.as_slice())?)
+    Ok(line_of(alloc, members.as_slice())?)
 }
 
 /// What all memos have in common.
@@ -110,12 +112,11 @@ fn text_of(alloc: Global, query: &Query, members: &[ExprParts]) -> Result<Vec<u8
     Ok(text.into_bytes())
 }
 
-fn line_of(alloc: Global, _query: &Query, members: &[ExprParts]) -> Result<Vec<u8>, AllocError>
-    requires { StandByGroup _query.now members.now }
+fn line_of(alloc: Global, members: &[ExprParts]) -> Result<Vec<u8>, AllocError>
+    requires { All (λ e. IsInRange e.group) members.now }
     ensures { IfOk result (λ line.
         line.items ≡ texts.memo_line (length (groups_of members.now)) (length members.now)) }
 {
-    groups_are_known();
     let mut line = String::new(alloc);
     push_memo_line(group_count(members), members.len(), &mut line)?;
     Ok(line.into_bytes())

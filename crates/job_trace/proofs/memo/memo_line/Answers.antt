@@ -1,11 +1,14 @@
-use Rattle.std.proofs.Common.{◌∙◌, length, sym, subst, ap}
+use Rattle.std.proofs.Common.{◌∙◌, All, length, sym, subst, ap}
+use Rattle.query_core.specs.Keys.{IsInRange}
+use Rattle.query_core.specs.declared.expressions.ExprParts.{ExprParts}
 use Rattle.job_trace.specs.Memo.{groups_of, memo_line}
-use Rattle.job_trace.specs.Lines.{StandByGroup}
 use Rattle.job_trace.proofs.memo.memo_line.Goals as goal
 
--- they stand group by group
+-- they are of groups with keys
 pub line_of-requires : goal.line_of-requires
-line_of-requires c = subst (StandByGroup c.args.query.now) (sym c.as_slice.ensures.value) c.in_ok-members.ensures.by_group
+line_of-requires c =
+    subst (All (λ (e : ExprParts). IsInRange e.group)) (sym c.as_slice.ensures.value)
+    (λ k d within. (let candidate = c.in_ok-members.ensures.by_group.candidates k d within in c.groups_are_known.ensures.in_range c.args.query.now _ candidate.known))
 
 -- the line counts them and their groups
 pub returns : goal.returns
