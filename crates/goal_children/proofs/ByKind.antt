@@ -1,10 +1,8 @@
 -- Words go by kind, so a goal of a lesser kind comes first.
-use Rattle.std.proofs.Common.{◌≡◌, ℕ, ◌+◌, ◌*◌, ◌^◌, ◌<◌, ◌≤◌, List, Option, None, Some, ◌⊎◌, inl, inr, sym, subst, ap, arith}
+use Rattle.std.proofs.Common.{◌≡◌, ℕ, ◌<◌, ◌≤◌, List, Option, None, Some, ◌⊎◌, inl, inr, sym, subst, ap, arith}
 use Rattle.query_core.specs.Goals.{kind_of, FitsGoal}
 use Rattle.query_core.proofs.GoalLemmas.{kinds_rise}
 use Rattle.query_core.specs.declared.query.Query.{Query}
-use Rattle.query_core.specs.declared.words.GoalParts.{GoalParts}
-use Rattle.query_core.specs.declared.words.GoalParts.TheVariants as parts
 use Rattle.query_core.specs.declared.words.KeyParts.{KeyParts}
 use Rattle.request_props.specs.declared.request.Request.{Request}
 use Rattle.goal_space.specs.Words.{goal_word, parts_of}

@@ -1,6 +1,7 @@
 -- A turn over a wider measure of what it may put into cells.
 use Rattle.std.proofs.Common.{◌≢◌, ℕ, inl, inr, arith}
 use Rattle.query_core.specs.declared.query.Query.{Query}
+use Rattle.query_core.proofs.ExpressionLemmas.{word_some}
 use Rattle.board_rule.specs.declared.hands.Hands.{Hands}
 use Rattle.goal_board.specs.declared.board.Right.{Right}
 use Rattle.board_moves.specs.Turns.{Turns}
@@ -8,7 +9,7 @@ use Rattle.board_moves.specs.declared.progress.Turned.{Turned}
 use Rattle.board_moves.specs.declared.progress.Turned.TheVariants as turned
 use Rattle.board_moves.proofs.MovesLemmas.{proceeds_wider, runs_out_wider}
 use Rattle.goal_space.specs.declared.goals.GoalKind.{GoalKind}
-use Rattle.goal_rules.specs.EntryLaws.{word_some, goal_high}
+use Rattle.goal_rules.specs.EntryLaws.{goal_high}
 use Rattle.job_turns.specs.Works.{Adds}
 
 -- what may be put in by one measure may be by a wider one

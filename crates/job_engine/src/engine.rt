@@ -3,6 +3,7 @@
 
 ghost use Rattle.std.specs.Prelude.{◌≡◌, ◌<◌, ◌≤◌, ◌^◌, IfOk, OnErr};
 ghost use Rattle.std.specs.Coded.{Coded-set};
+ghost use Rattle.query_core.specs.Goals.{goal_bit};
 ghost use Rattle.request_props.specs.Numbered.{IsProps};
 ghost use Rattle.board_rule.specs.Looks.{ShowsFull};
 ghost use Rattle.board_rule.specs.Seats.{parted, part, joined};
@@ -143,7 +144,7 @@ impl<'q> Engine<'q> {
 fn root_word(query: &Query, props: &Props) -> Goal
     requires { IsProps query.now props.now }
     ensures number { result.0 ≡ goal_word (root_goal_of query.now) }
-    ensures high { 2 ^ 63 ≤ result.0 }
+    ensures high { goal_bit ≤ result.0 }
 {
     // For the proof: what was collected for the whole query is what is asked of it, and its goals have words.
     root_request_is_collected();

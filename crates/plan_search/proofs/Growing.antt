@@ -1,6 +1,6 @@
 -- What comes to a list of words, and that at the end nothing is left to come.
 use Rattle.std.proofs.Common.{◌≡◌, ℕ, ◌<◌, ◌≤◌, List, [], length, get_or, refl, sym, subst, ◌∙◌, arith, inl, inr}
-use Rattle.std.specs.Prelude.{slice_index, slice_index_or, Option, None, Some, IfSome, Result, Ok, Err, OnOk, ◌+◌, ◌-◌, ◌^◌}
+use Rattle.std.specs.Prelude.{slice_index, slice_index_or, Option, None, Some, IfSome, Result, Ok, Err, OnOk, ◌+◌, ◌-◌}
 use Rattle.std.specs.List.{All, Contains}
 use Rattle.std.specs.BTreeSet.{insert_key}
 use Rattle.std.specs.Ordering.{nat_cmp}

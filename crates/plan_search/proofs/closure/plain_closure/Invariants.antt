@@ -1,4 +1,4 @@
-use Rattle.std.proofs.Common.{◌+◌, ◌-◌, ◌^◌, length}
+use Rattle.std.proofs.Common.{◌+◌, ◌-◌, length}
 use Rattle.std.specs.List.{All}
 use Rattle.query_core.specs.Goals.{EXPRS}
 use Rattle.query_core.specs.Keys.{root_of}
