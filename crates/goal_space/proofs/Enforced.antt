@@ -1,5 +1,5 @@
 -- The enforcers for a request that fits a group.
-use Rattle.std.proofs.Common.{◌≡◌, ℕ, zero, suc, sym, subst, inl, inr}
+use Rattle.std.proofs.Common.{ℕ, zero, suc, sym, subst, inl, inr}
 use Rattle.query_core.specs.declared.query.Query.{Query}
 use Rattle.query_core.specs.declared.words.KeyParts.{KeyParts}
 use Rattle.request_props.specs.Fitting.{Fits}

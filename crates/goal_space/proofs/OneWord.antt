@@ -1,5 +1,5 @@
 -- Goals by their words, where expressions and groups are told apart by theirs.
-use Rattle.std.proofs.Common.{◌≡◌, ◌<◌, ◌^◌, ap, arith}
+use Rattle.std.proofs.Common.{◌≡◌, ◌<◌, ap, arith}
 use Rattle.query_core.specs.Keys as keys
 use Rattle.query_core.specs.Keys.{key_number}
 use Rattle.query_core.specs.Expressions.{word_of, expr_of, IsPacked}
@@ -8,7 +8,6 @@ use Rattle.query_core.specs.declared.words.Key.{Key}
 use Rattle.query_core.specs.declared.words.Expr.{Expr}
 use Rattle.query_core.specs.declared.words.KeyParts.{KeyParts}
 use Rattle.query_core.specs.declared.words.GoalParts.{GoalParts}
-use Rattle.query_core.specs.declared.words.GoalParts.TheVariants as parts
 use Rattle.query_core.specs.declared.expressions.ExprParts.{ExprParts}
 use Rattle.query_core.proofs.ExpressionLemmas.{expr_of_one}
 use Rattle.xform_rules.specs.Rules.{rule_number}
