@@ -148,19 +148,6 @@ module _ (q : Query) where
         second_in_range second is_second = asked_in_range alt.right second is_second (λ ask is.
             let (group, is_asked) = right_is_asked (physical_children e.operator) (asked_of line wanted) by.asks ask is in ask_in_range group ask.1 is_asked)
 
-  -- where nothing is asked, children have no goals
-  nothing_asked : (children : Children) (goal : GoalKind) → IsOfAsked children None None goal → ⊥
-  nothing_asked arities.Zero goal is = is
-  nothing_asked (arities.One child) goal (below, same, is) = absurd (cc)
-  nothing_asked (arities.Two left right) goal (inl (below, same, is)) = absurd (cc)
-  nothing_asked (arities.Two left right) goal (inr (below, same, is)) = absurd (cc)
-
-  -- nor has a mode in which no alternative is there
-  pub no_mode_exact : (e : PhysicalExpr) (wanted : Request) (mode : ℕ) → ((line : Line) → IsAlternative q e wanted mode line → ⊥) → (goal : GoalKind)
-      → IsOfMode q e wanted mode goal ↔ IsOfAsked (physical_children e.operator) None None goal
-  no_mode_exact e wanted mode none goal =
-      (λ (line, alternative, wishes). absurd (none line alternative), λ is. absurd (nothing_asked (physical_children e.operator) goal is))
-
 -- of two children it is the sooner one
 pub two_asked : (children : Children) (first second : Option Request) (left right : KeyParts) (bound : ℕ) (a b found : Option GoalKind) → children ≡ arities.Two left right
     → found ≡ sooner_of a b → FindsFrom (IsOfRequest left first) bound a → FindsFrom (IsOfRequest right second) bound b → FindsFrom (IsOfAsked children first second) bound found

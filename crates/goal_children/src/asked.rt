@@ -8,7 +8,7 @@ ghost use Rattle.query_core.specs.Keys.{IsGroup};
 ghost use Rattle.query_core.specs.Expressions.{expr_of, AreInRange, IsCandidate};
 ghost use Rattle.request_props.specs.Numbered.{IsProps};
 ghost use Rattle.request_props.specs.Requests as requests;
-ghost use Rattle.plan_space.specs.Lines.{line_of as line_by_table};
+ghost use Rattle.plan_space.specs.Alternatives.{IsAlternative};
 ghost use Rattle.goal_space.specs.Words.{IsInRange};
 ghost use Rattle.goal_children.specs.Over.{IsNumberedRequest};
 ghost use Rattle.goal_children.specs.Choices.{IsOfAlternatives, IsOfAsked, IsOfEnforcer, IsOfMode, IsOfRequest};
@@ -18,7 +18,7 @@ use crate::choice::{asked_in_mode, enforced_by};
 use crate::words::insert_goal;
 use goal_space::GoalKind;
 use plan_space::Line;
-use plan_tree::{modes_to_try, next_serving};
+use plan_tree::{modes_to_try, next_alternative};
 use query_core::{Children, KeyParts, PhysicalExpr, Query, candidates_are_known, groups_are_known};
 use request_props::{Props, Request};
 use std::alloc::AllocError;
@@ -40,7 +40,7 @@ pub fn insert_asked(
 {
     let modes = modes_to_try(query, props, e, wanted);
     let mut from = 0;
-    'modes: while let Some((mode, line)) = next_serving(query, props, e, wanted, modes, from) {
+    'modes: while let Some((mode, line)) = next_alternative(query, props, e, wanted, modes, from) {
         insert_in_mode(query, props, e, wanted, mode, line, goals)?;
         from = mode + 1;
     }
@@ -61,7 +61,7 @@ fn insert_in_mode(
     requires candidate { IsCandidate query.now (expr_of e) }
     requires numbered { IsNumberedRequest query.now wanted }
     requires few { mode < 256 }
-    requires line { line_by_table query.now e mode ≡ Some line }
+    requires alternative { IsAlternative query.now e wanted mode line }
     requires listed { All IsInRange goals.old.items }
     ensures ok { OnOk result
         (InsertsGoals (IsOfMode query.now e wanted mode) goals.old.items goals.new.items) }

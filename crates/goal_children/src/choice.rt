@@ -8,7 +8,7 @@ ghost use Rattle.query_core.specs.Keys.{IsGroup};
 ghost use Rattle.query_core.specs.Expressions.{expr_of, physical_children, AreInRange, IsCandidate};
 ghost use Rattle.request_props.specs.Numbered.{IsProps};
 ghost use Rattle.request_props.specs.Requests.{IsInRange};
-ghost use Rattle.plan_space.specs.Lines.{line_of as line_by_table};
+ghost use Rattle.plan_space.specs.Alternatives.{IsAlternative};
 ghost use Rattle.goal_space.specs.declared.goals.GoalKind.{GoalKind as AnyGoal};
 ghost use Rattle.goal_children.specs.Over.{IsNumberedRequest};
 ghost use Rattle.goal_children.specs.Choices.{IsOfAlternatives, IsOfAsked, IsOfEnforcer, IsOfMode, IsOfRequest};
@@ -17,7 +17,7 @@ ghost use Rattle.goal_children.specs.Finding.{FindsFrom};
 use crate::finding::{goal_from, sooner};
 use goal_space::GoalKind;
 use plan_space::{Line, what_is_asked_fits};
-use plan_tree::{Enforced, alternative_by, enforcer, modes_to_try, next_serving};
+use plan_tree::{Enforced, alternative_at, enforcer, modes_to_try, next_alternative};
 use query_core::{
     Children, Key, KeyParts, PhysicalExpr, Query, candidates_are_known, groups_are_known,
 };
@@ -94,7 +94,7 @@ pub fn asked_goal_from(
 {
     let tried = modes_to_try(query, props, e, wanted);
     let (mut next, mut from) = (None, 0);
-    'modes: while let Some((mode, line)) = next_serving(query, props, e, wanted, tried, from) {
+    'modes: while let Some((mode, line)) = next_alternative(query, props, e, wanted, tried, from) {
         next = sooner(
             next,
             goal_in_mode(query, props, e, wanted, mode, line, bound),
@@ -118,7 +118,7 @@ fn goal_in_mode(
     requires candidate { IsCandidate query.now (expr_of e) }
     requires numbered { IsNumberedRequest query.now wanted }
     requires few { mode < 256 }
-    requires line { line_by_table query.now e mode ≡ Some line }
+    requires alternative { IsAlternative query.now e wanted mode line }
     ensures { FindsFrom (IsOfMode query.now e wanted mode) bound result }
 {
     // For the proof: children are groups with keys.
@@ -131,17 +131,17 @@ fn goal_in_mode(
 /// What the expression asks of its children in one mode: of the one child or of the left, and of the right.
 pub fn asked_in_mode(
     query: &Query,
-    props: &Props,
+    _props: &Props,
     e: PhysicalExpr,
     wanted: Request,
     mode: u32,
     line: Line,
 ) -> (Option<Request>, Option<Request>)
-    requires props { IsProps query.now props.now }
+    requires props { IsProps query.now _props.now }
     requires candidate { IsCandidate query.now (expr_of e) }
     requires numbered { IsNumberedRequest query.now wanted }
     requires few { mode < 256 }
-    requires line { line_by_table query.now e mode ≡ Some line }
+    requires alternative { IsAlternative query.now e wanted mode line }
     ensures exact { (goal : AnyGoal) → IsOfMode query.now e wanted mode goal
         ↔ IsOfAsked (physical_children e.operator) result.0 result.1 goal }
     ensures first { IfSome result.0 IsInRange }
@@ -149,10 +149,8 @@ pub fn asked_in_mode(
 {
     // For the proof: what is asked of children has numbers.
     what_is_asked_fits();
-    match alternative_by(query, props, e, wanted, mode, line) {
-        Some(alt) => (asked_of(alt.left), asked_of(alt.right)),
-        None => (None, None),
-    }
+    let alt = alternative_at(query, e, wanted, mode, line);
+    (asked_of(alt.left), asked_of(alt.right))
 }
 
 // What is asked of a child.
