@@ -16,7 +16,7 @@ use std::alloc::{AllocError, Global};
 use std::test::Fail;
 use std::thread;
 use std::thread::Threads;
-use worked_queries::{props_of, two_tables};
+use worked_queries::{implied, two_tables};
 
 // The words of all members, and those of all goals.
 fn entries_of(
@@ -140,24 +140,51 @@ fn are_those(
     Ok(cells.as_slice() == entries.as_slice())
 }
 
-#[test]
-fn two_threads_put_each_entry_of_a_query_once(rt: HostRuntime) -> Result<(), Fail> {
-    let alloc = rt.alloc();
-    let query = two_tables(alloc)?;
-    let props = props_of(alloc, &query)?;
-    let (members, goals) = entries_of(alloc, &query, &props)?;
-    let (board, seat) = Board::start(alloc, Rules::new(&query, &props), 79)?;
-    let (seat, new_members, new_goals) = put_by_two(
-        &rt,
-        &board,
-        seat,
+// Two threads put these entries of the query into a board. Says how many members were new, how many goals, and whether
+// the cells are just these.
+fn put_into_board(
+    rt: &impl Threads,
+    alloc: Global,
+    query: &Query,
+    props: &Props,
+    members: &[u64],
+    goals: &[u64],
+) -> Result<(usize, usize, bool), AllocError>
+    requires props { IsProps query.now props.now }
+    requires members { All (IsEntry query.now) members.now }
+    requires goals { All (IsEntry query.now) goals.now }
+{
+    let (board, seat) = Board::start(alloc, Rules::new(query, props), 79)?;
+    let (seat, new_members, new_goals) = put_by_two(rt, &board, seat, members, goals);
+    let closed = board.close(alloc, seat)?;
+    let same = are_those(alloc, closed.cells.as_slice(), members, goals)?;
+    Ok((new_members, new_goals, same))
+}
+
+// The same for all entries of the query.
+fn put_entries(
+    rt: &impl Threads,
+    alloc: Global,
+    query: &Query,
+    props: &Props,
+) -> Result<(usize, usize, bool), AllocError>
+    requires { IsProps query.now props.now }
+{
+    let (members, goals) = entries_of(alloc, query, props)?;
+    put_into_board(
+        rt,
+        alloc,
+        query,
+        props,
         members.as_slice(),
         goals.as_slice(),
-    );
-    assert_eq!(rt; new_members, 13);
-    assert_eq!(rt; new_goals, 66);
-    let closed = board.close(alloc, seat)?;
-    let cells = closed.cells.as_slice();
-    assert!(rt; are_those(alloc, cells, members.as_slice(), goals.as_slice())?);
+    )
+}
+
+#[test]
+fn two_threads_put_each_entry_of_a_query_once(rt: HostRuntime) -> Result<(), Fail> {
+    let (query, props) = implied(rt.alloc(), two_tables(rt.alloc())?)?;
+    let told = put_entries(&rt, rt.alloc(), &query, &props)?;
+    assert_eq!(rt; told, (13, 66, true));
     Ok(())
 }

@@ -11,7 +11,10 @@ use std::alloc::{AllocError, Global};
 use std::sync::Wait;
 use std::test::Fail;
 use std::thread::Threads;
-use worked_queries::{one_table, props_of};
+use worked_queries::{implied, one_table};
+
+// What a note has of a search: its capacity, its workers and its goals.
+type Noted = Option<(u32, u32, u32)>;
 
 // The word of the goal Opt Get(t) [One]: kind 5, key 0, request 0.
 const ROOT: u64 = 13 << 60;
@@ -56,22 +59,23 @@ fn ready_at_first(alloc: Global, query: &Query, props: &Props) -> Result<Option<
 
 #[test]
 fn a_search_without_a_step_is_unfinished(rt: HostRuntime) -> Result<(), Fail> {
-    let query = Box::new(rt.alloc(), one_table(rt.alloc(), 0)?)?;
-    let props = props_of(rt.alloc(), &query)?;
+    let (query, props) = implied(rt.alloc(), one_table(rt.alloc(), 0)?)?;
     assert_eq!(rt; ready_at_first(rt.alloc(), &query, &props)?, Some(ROOT));
     Ok(())
 }
 
-// What one worker finds.
-fn find_alone(
+/// What one worker finds, with room for so many entries.
+pub fn find_alone(
     alloc: Global,
     query: &Query,
     props: &Props,
+    cap: u32,
     note: &mut RunNote,
 ) -> Result<Outcome, AllocError>
-    requires { IsProps query.now props.now }
+    requires props { IsProps query.now props.now }
+    requires capacity { (1 ≤ cap) × (cap ≤ 2 ^ 20) }
 {
-    let (engine, worker) = Engine::start(alloc, query, props, 131072)?;
+    let (engine, worker) = Engine::start(alloc, query, props, cap)?;
     run_alone(alloc, engine, worker, note)
 }
 
@@ -109,17 +113,47 @@ fn is_whole(outcome: &Outcome) -> bool {
     }
 }
 
+// Whether two workers find what this outcome has.
+fn finds_by_two<R: Threads + Wait + Sync>(
+    rt: &R,
+    alloc: Global,
+    query: &Query,
+    props: &Props,
+    alone: &Outcome,
+    note: &mut RunNote,
+) -> Result<bool, AllocError>
+    requires { IsProps query.now props.now }
+{
+    let outcome = find_by_two(rt, alloc, query, props, 64, note)?;
+    Ok(found_alike(alone, &outcome))
+}
+
+// The notes of a search by one worker and of a search by two, where both find the whole.
+fn notes_of_both<R: Threads + Wait + Sync>(
+    rt: &R,
+    alloc: Global,
+    query: &Query,
+    props: &Props,
+) -> Result<Option<[Noted; 2]>, AllocError>
+    requires { IsProps query.now props.now }
+{
+    let mut note = RunNote::new();
+    let alone = find_alone(alloc, query, props, 131_072, &mut note)?;
+    let first = note.last();
+    let alike = finds_by_two(rt, alloc, query, props, &alone, &mut note)?;
+    Ok(if alike && is_whole(&alone) {
+        Some([first, note.last()])
+    } else {
+        None
+    })
+}
+
 #[test]
 fn one_worker_and_two_find_the_same(rt: HostRuntime) -> Result<(), Fail> {
-    let query = Box::new(rt.alloc(), one_table(rt.alloc(), 0)?)?;
-    let props = props_of(rt.alloc(), &query)?;
-    let mut note = RunNote::new();
-    assert_eq!(rt; note.last(), None);
-    let first = find_alone(rt.alloc(), &query, &props, &mut note)?;
-    assert_eq!(rt; note.last(), Some((131072, 1, 8)));
-    let second = find_by_two(&rt, rt.alloc(), &query, &props, 64, &mut note)?;
-    assert_eq!(rt; note.last(), Some((64, 2, 8)));
-    assert!(rt; found_alike(&first, &second) && is_whole(&first));
+    let (query, props) = implied(rt.alloc(), one_table(rt.alloc(), 0)?)?;
+    assert!(rt; RunNote::new().last().is_none());
+    let notes = notes_of_both(&rt, rt.alloc(), &query, &props)?;
+    assert_eq!(rt; notes, Some([Some((131_072, 1, 8)), Some((64, 2, 8))]));
     Ok(())
 }
 
@@ -132,14 +166,26 @@ fn is_done_or_full(outcome: &Outcome, fits: bool) -> bool {
     }
 }
 
+// Whether two workers with room for so many entries end so.
+fn ends_by_two<R: Threads + Wait + Sync>(
+    rt: &R,
+    alloc: Global,
+    query: &Query,
+    props: &Props,
+    cap: u32,
+    fits: bool,
+) -> Result<bool, AllocError>
+    requires props { IsProps query.now props.now }
+    requires capacity { (1 ≤ cap) × (cap ≤ 2 ^ 20) }
+{
+    let outcome = find_by_two(rt, alloc, query, props, cap, &mut RunNote::new())?;
+    Ok(is_done_or_full(&outcome, fits))
+}
+
 #[test]
 fn too_few_cells_are_full(rt: HostRuntime) -> Result<(), Fail> {
-    let query = Box::new(rt.alloc(), one_table(rt.alloc(), 0)?)?;
-    let props = props_of(rt.alloc(), &query)?;
-    for (cap, fits) in [(9, false), (10, true)] {
-        let mut note = RunNote::new();
-        let outcome = find_by_two(&rt, rt.alloc(), &query, &props, cap, &mut note)?;
-        assert!(rt; is_done_or_full(&outcome, fits), "{cap}");
-    }
+    let (query, props) = implied(rt.alloc(), one_table(rt.alloc(), 0)?)?;
+    assert!(rt; ends_by_two(&rt, rt.alloc(), &query, &props, 9, false)?);
+    assert!(rt; ends_by_two(&rt, rt.alloc(), &query, &props, 10, true)?);
     Ok(())
 }

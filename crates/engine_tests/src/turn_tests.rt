@@ -5,14 +5,14 @@ ghost use Rattle.request_props.specs.Numbered.{IsProps};
 ghost use Rattle.goal_board.specs.Seats.{hands};
 ghost use Rattle.job_engine.specs.Searching.{IsWorker};
 
-use crate::run_tests::found_alike;
+use crate::run_tests::{find_alone, found_alike};
 use goal_rules::Rules;
-use job_engine::{Engine, Outcome, RunNote, Stepped, Worker, run_alone};
+use job_engine::{Engine, Outcome, RunNote, Stepped, Worker};
 use query_core::Query;
 use request_props::Props;
 use std::alloc::{AllocError, Global};
 use std::test::Fail;
-use worked_queries::{props_of, two_tables};
+use worked_queries::{implied, two_tables};
 
 // Who steps.
 #[derive(Clone, Copy)]
@@ -48,6 +48,15 @@ fn is_end(stepped: Stepped) -> bool {
     }
 }
 
+// A step of a worker, which keeps its parts.
+fn step_of<'q>(engine: &Engine<'q>, worker: &mut Worker<Rules<'q>>) -> Stepped
+    requires { IsWorker engine.now worker.old }
+    ensures worker { IsWorker engine.now worker.new }
+    ensures parts { (hands worker.new.seat).parts ≡ (hands worker.old.seat).parts }
+{
+    engine.step(worker)
+}
+
 // A step of one worker of three.
 fn step_one<'q>(
     engine: &Engine<'q>,
@@ -67,9 +76,9 @@ fn step_one<'q>(
     ensures third_parts { (hands third.new.seat).parts ≡ (hands third.old.seat).parts }
 {
     match turn {
-        Turn::First => engine.step(first),
-        Turn::Second => engine.step(second),
-        Turn::Third => engine.step(third),
+        Turn::First => step_of(engine, first),
+        Turn::Second => step_of(engine, second),
+        Turn::Third => step_of(engine, third),
     }
 }
 
@@ -116,9 +125,9 @@ fn search_by_draws(
     let mut second = engine.split(alloc, &mut first, 1)?;
     let mut third = engine.split(alloc, &mut first, 2)?;
     step_by_draws(&engine, &mut first, &mut second, &mut third, number);
-    let told = engine.step(&mut first);
-    let second_told = engine.step(&mut second);
-    let third_told = engine.step(&mut third);
+    let told = step_of(&engine, &mut first);
+    let second_told = step_of(&engine, &mut second);
+    let third_told = step_of(&engine, &mut third);
     let agree = is_end(told) && told == second_told && told == third_told;
     engine.join(&mut first, second);
     engine.join(&mut first, third);
@@ -131,41 +140,35 @@ fn search_past_one_step(
     query: &Query,
     props: &Props,
     before: u32,
-) -> Result<(Stepped, Outcome), AllocError>
+) -> Result<(Option<Stepped>, Outcome), AllocError>
     requires { IsProps query.now props.now }
 {
     let (engine, mut first) = Engine::start(alloc, query, props, 79)?;
     let mut second = engine.split(alloc, &mut first, 1)?;
     step_until_end(&engine, &mut first, before);
-    engine.step(&mut second);
+    step_of(&engine, &mut second);
     let told = step_until_end(&engine, &mut first, 100_000);
     engine.join(&mut first, second);
     Ok((told, engine.close(alloc, first)?))
 }
 
-// At most so many steps of one worker, and what the last one was told.
-fn step_until_end<'q>(engine: &Engine<'q>, worker: &mut Worker<Rules<'q>>, most: u32) -> Stepped
+// The end that one worker is told within so many steps, if it is told one.
+fn step_until_end<'q>(
+    engine: &Engine<'q>,
+    worker: &mut Worker<Rules<'q>>,
+    most: u32,
+) -> Option<Stepped>
     requires { IsWorker engine.now worker.old }
     ensures worker { IsWorker engine.now worker.new }
     ensures parts { (hands worker.new.seat).parts ≡ (hands worker.old.seat).parts }
 {
-    let mut told = Stepped::Ran;
     for _step in 0..most {
-        told = engine.step(worker);
+        let told = step_of(engine, worker);
         if is_end(told) {
-            break;
+            return Some(told);
         }
     }
-    told
-}
-
-// What one worker finds, with room for so many entries.
-fn find_alone(alloc: Global, query: &Query, props: &Props, cap: u32) -> Result<Outcome, AllocError>
-    requires props { IsProps query.now props.now }
-    requires capacity { (1 ≤ cap) × (cap ≤ 2 ^ 20) }
-{
-    let (engine, worker) = Engine::start(alloc, query, props, cap)?;
-    run_alone(alloc, engine, worker, &mut RunNote::new())
+    None
 }
 
 // Whether three workers agree, and find in 79 cells what one worker finds.
@@ -192,9 +195,8 @@ fn ends_full(alloc: Global, query: &Query, props: &Props, number: u64) -> Result
 
 #[test]
 fn a_hundred_orders_of_three_workers_end_alike(rt: HostRuntime) -> Result<(), Fail> {
-    let query = Box::new(rt.alloc(), two_tables(rt.alloc())?)?;
-    let props = props_of(rt.alloc(), &query)?;
-    let alone = find_alone(rt.alloc(), &query, &props, 131_072)?;
+    let (query, props) = implied(rt.alloc(), two_tables(rt.alloc())?)?;
+    let alone = find_alone(rt.alloc(), &query, &props, 131_072, &mut RunNote::new())?;
     for number in 0..100 {
         assert!(rt;
             ends_as_alone(rt.alloc(), &query, &props, &alone, number)?,
@@ -216,14 +218,13 @@ fn ends_past_one_step(
     requires { IsProps query.now props.now }
 {
     let (told, outcome) = search_past_one_step(alloc, query, props, before)?;
-    Ok(told == Stepped::Done && found_alike(alone, &outcome))
+    Ok(told == Some(Stepped::Done) && found_alike(alone, &outcome))
 }
 
 #[test]
 fn a_worker_that_stops_keeps_nobody_waiting(rt: HostRuntime) -> Result<(), Fail> {
-    let query = Box::new(rt.alloc(), two_tables(rt.alloc())?)?;
-    let props = props_of(rt.alloc(), &query)?;
-    let alone = find_alone(rt.alloc(), &query, &props, 79)?;
+    let (query, props) = implied(rt.alloc(), two_tables(rt.alloc())?)?;
+    let alone = find_alone(rt.alloc(), &query, &props, 79, &mut RunNote::new())?;
     for before in 0..150 {
         assert!(rt;
             ends_past_one_step(rt.alloc(), &query, &props, &alone, before)?,

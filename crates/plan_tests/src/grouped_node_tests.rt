@@ -4,12 +4,12 @@ ghost use Rattle.std.specs.Prelude.{IfSome};
 ghost use Rattle.query_core.specs.Expressions.{IsCandidate, expr_of};
 ghost use Rattle.request_props.specs.Numbered.{IsProps};
 
-use crate::node_tests::{ask, implied, made, origin, step};
+use crate::node_tests::{ask, made, origin, step};
 use plan_tree::*;
 use query_core::*;
 use request_props::{Dist, Props, Request};
 use std::test::Fail;
-use worked_queries::per_group;
+use worked_queries::{implied, per_group};
 use xform_rules::Rule;
 
 const TABLE: u32 = 0;

@@ -1,6 +1,6 @@
 //! Two tables that are joined by an equality, worked by hand.
 
-ghost use Rattle.std.specs.Prelude.{IfOk, IfSome};
+ghost use Rattle.std.specs.Prelude.{IfSome};
 ghost use Rattle.query_core.specs.Keys.{IsGroup};
 ghost use Rattle.query_core.specs.Expressions.{IsCandidate, expr_of};
 ghost use Rattle.request_props.specs.Numbered.{IsProps};
@@ -9,9 +9,8 @@ use plan_space::{Enforcer, NodeKind};
 use plan_tree::*;
 use query_core::*;
 use request_props::{Dist, Props, Request};
-use std::alloc::Global;
 use std::test::Fail;
-use worked_queries::{compared_tables, props_of};
+use worked_queries::{compared_tables, implied};
 use xform_rules::{Rule, result_at, results_are_candidates};
 
 // The result of the rule at the expression.
@@ -49,15 +48,6 @@ fn join_by(query: &Query, rule: Rule) -> Option<PhysicalExpr>
     let whole = origin(query, query.group(query.root()));
     let join = step(query, Rule::ExpandNAry, whole)?;
     made(query, rule, join)
-}
-
-/// A query and what it implies, in boxes: a test that ends drops two values, and not two dozen lists.
-pub fn implied(alloc: Global, query: Query) -> Result<(Box<Query>, Box<Props>), Fail>
-    ensures { IfOk result (λ made. IsProps made.0.value made.1.value) }
-{
-    let query = Box::new(alloc, query)?;
-    let props = props_of(alloc, &query)?;
-    Ok((query, props))
 }
 
 pub fn ask(dist: Dist, order: u32) -> Request {

@@ -13,5 +13,5 @@ pub use joins::{
     hashed_alike, huge_tables, large_and_small, one_linked_pair, star_of_four, two_equalities,
     two_tables, two_tables_descending, without_a_plan,
 };
-pub use props::props_of;
+pub use props::{implied, props_of};
 pub use single::{filtered_table, one_table, sorted_table, three_indexes};
