@@ -5,6 +5,7 @@ ghost use Rattle.std.specs.Prelude.{◌≡◌, ℕ};
 ghost use Rattle.query_core.specs.declared.query.Query.{Query as AnyQuery};
 ghost use Rattle.xform_rules.specs.Closure.{IsMember};
 ghost use Rattle.request_props.specs.Numbered.{IsProps};
+ghost use Rattle.plan_space.specs.Alternatives.{IsAlternative};
 ghost use Rattle.plan_tree.specs.Alternatives.{IsAltBy};
 ghost use Rattle.best_answers.specs.Best.{IsBestAsked};
 ghost use Rattle.goal_board.specs.Seats.{hands};
@@ -25,7 +26,7 @@ use goal_board::{Board, Hints, Seat};
 use goal_rules::Rules;
 use goal_space::{GoalKind, goals_are_known};
 use plan_space::Line;
-use plan_tree::{Alt, ExprRows, alternative_by, expr_rows, modes_to_try, next_serving};
+use plan_tree::{Alt, ExprRows, alternative_at, expr_rows, modes_to_try, next_alternative};
 use query_core::{Key, PhysicalExpr, Query, groups_are_known};
 use request_props::{Props, Request};
 use xform_rules::members_are_candidates;
@@ -104,7 +105,9 @@ fn best_mode<'q, H: Hints>(
     let mut choice = Choice::Known(None);
     let modes = modes_to_try(query, props, expr, wanted);
     let mut from = 0;
-    'modes: while let Some((mode, line)) = next_serving(query, props, expr, wanted, modes, from) {
+    'modes: while let Some((mode, line)) = next_alternative(
+        query, props, expr, wanted, modes, from,
+    ) {
         let native = Native {
             expr,
             wanted,
@@ -112,28 +115,27 @@ fn best_mode<'q, H: Hints>(
             mode,
             line,
         };
-        let other = await_mode(query, props, board, seat, job, native, hints)?;
+        let other = await_mode(query, board, seat, job, native, hints)?;
         choice = choice.or(other);
         from = mode + 1;
     }
     Some(choice)
 }
 
-// The best answer of the expression in the mode, if that is there for the request.
+// The best answer of the expression in the mode, which is there for the request.
 fn await_mode<'q, H: Hints>(
     query: &Query,
-    props: &Props,
     board: &Board<Rules<'q>>,
     seat: &mut Seat<Rules<'q>>,
     job: &mut Job,
     native: Native,
     hints: &mut H,
 ) -> Option<Choice>
-    requires props { IsProps query.now props.now }
     requires board { IsBoardOf query.now board.now }
     requires seat { IsSeat board.now seat.old }
     requires right { HasRight board.now seat.old job.old.right }
     requires native { IsNative query.now native }
+    requires alternative { IsAlternative query.now native.expr native.wanted native.mode native.line }
     requires goal { NamesGoal query.now job.old.right.goal (OptE native.expr native.wanted) }
     requires hints { H.capacity hints.old ≡ board.now.key.room }
     ensures seat { IsSeat board.now seat.new }
@@ -144,20 +146,17 @@ fn await_mode<'q, H: Hints>(
         result (hands seat.new) job.new.right }
     ensures hints { H.capacity hints.new ≡ H.capacity hints.old }
 {
-    // For the proof: members are candidates, and the best of no nodes is none.
+    // For the proof: members are candidates.
     members_are_candidates();
-    answers_are_best();
-    match alternative_by(
-        query,
-        props,
-        native.expr,
-        native.wanted,
-        native.mode,
-        native.line,
-    ) {
-        Some(alt) => await_alternative(query, board, seat, job, native, alt, hints),
-        None => Some(Choice::Known(None)),
-    }
+    let Native {
+        expr,
+        wanted,
+        rows: _,
+        mode,
+        line,
+    } = native;
+    let alt = alternative_at(query, expr, wanted, mode, line);
+    await_alternative(query, board, seat, job, native, alt, hints)
 }
 
 // The best answer of the expression in the mode.

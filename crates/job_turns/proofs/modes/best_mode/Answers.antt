@@ -16,6 +16,12 @@ use Rattle.job_turns.proofs.modes.best_mode.Goals as goal
 pub expr_rows-rows-requires-clause-candidate : goal.expr_rows-rows-requires-clause-candidate
 expr_rows-rows-requires-clause-candidate g c = c.goals_are_known.ensures.candidates c.args.query.now (OptE c.args.expr c.args.wanted) c.requires.goal.is_goal
 
+pub next_alternative-requires-clause-candidate : goal.next_alternative-requires-clause-candidate
+next_alternative-requires-clause-candidate g c = c.goals_are_known.ensures.candidates c.args.query.now (OptE c.args.expr c.args.wanted) c.requires.goal.is_goal
+
+pub next_alternative-requires-clause-numbered : goal.next_alternative-requires-clause-numbered
+next_alternative-requires-clause-numbered g c = (c.goals_are_known.ensures.requests c.args.query.now (OptE c.args.expr c.args.wanted) c.requires.goal.is_goal).numbered
+
 pub modes-init : goal.modes-init
 modes-init g c =
     let q = c.args.query.now in
@@ -38,7 +44,7 @@ await_mode-requires-clause-native g c =
       member = (c.goals_are_known.ensures.members q known c.requires.goal.is_goal).1;
       fits = c.goals_are_known.ensures.requests q known c.requires.goal.is_goal;
       rows = c.expr_rows-rows.ensures;
-      line = next.3;
+      line = next.3.is_line;
       few = omega (arith, next.1);
     }
 
