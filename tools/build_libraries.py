@@ -112,10 +112,9 @@ def build_all(below):
             ready = [crate for crate in below if crate not in begun and below[crate] <= built]
             ready.sort(key=above.get, reverse=True)
             for crate in [] if failed else ready[:PROCESSORS - len(running)]:
-                # (a build with two jobs is rarely at work with both; one that nothing can be built beside gets more)
-                alone = len(ready) == 1 and not running
-                jobs = PROCESSORS if alone else min(PROCESSORS, 2)
+                # (a build with several jobs is rarely at work with all)
                 yields = any(above[it] > above[crate] for it in running.values())
+                jobs = min(PROCESSORS, 2) if yields else PROCESSORS
                 running[pool.submit(build, crate, below[crate], jobs, yields)] = crate
             for future in wait(running, return_when=FIRST_COMPLETED).done:
                 crate = running.pop(future)
