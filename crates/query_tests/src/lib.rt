@@ -6,6 +6,8 @@ mod limits_tests;
 #[cfg(test)]
 mod made_tests;
 #[cfg(test)]
+mod outer_columns_tests;
+#[cfg(test)]
 mod props_tests;
 #[cfg(test)]
 mod query_words_tests;
