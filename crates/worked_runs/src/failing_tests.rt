@@ -1,9 +1,10 @@
 //! The running example over files that can't be read, and over output that can't be written.
 use crate::join_tests::JOINED;
-use crate::runs::{JOIN, TWO_TABLES, run_over, shelf_of, text_at};
+use crate::runs::{JOIN, PLAN, TWO_TABLES, run_over, shelf_of, text_at};
 use orca_cli::Status;
 use orca_io::MemSink;
 use std::alloc::{AllocError, AllocGlobal};
+use std::process::Abort;
 use std::sync::Wait;
 use std::test::Fail;
 use std::thread::Threads;
@@ -22,7 +23,7 @@ fn run_failing<R: Threads + Wait + Sync + AllocGlobal>(
     if let Some((call, kept)) = put {
         sink.fail_at(call, kept)?;
     }
-    let (status, _) = run_over(rt, &["plan", "c.json", "q.sql"], &mut shelf, &mut sink)?;
+    let (status, _) = run_over(rt, PLAN, &mut shelf, &mut sink)?;
     Ok((status, sink))
 }
 
@@ -37,15 +38,25 @@ fn taken_failing<R: Threads + Wait + Sync + AllocGlobal>(
     text_at(rt.alloc(), status, wanted, &sink)
 }
 
+// Asserts that this was taken where this read fails, and the first put after so many bytes.
+fn assert_taken<R: Threads + Wait + Sync + AllocGlobal + Abort>(
+    rt: &R,
+    read: u64,
+    put: Option<(u64, u64)>,
+    wanted: Status,
+    text: &str,
+) -> Result<(), Fail> {
+    let told = taken_failing(rt, Some(read), put, wanted)?;
+    assert_eq!(rt; told.as_str(), text, "{read}");
+    Ok(())
+}
+
 #[test]
 fn a_file_that_fails_is_named(rt: HostRuntime) -> Result<(), Fail> {
-    for (call, line) in [(0, "read fault: c.json\n"), (1, "read fault: q.sql\n")] {
-        let told = taken_failing(&rt, Some(call), None, Status::ReadFault)?;
-        assert_eq!(rt; told.as_str(), line);
-        for (kept, taken) in [(0, ""), (3, "rea")] {
-            let told = taken_failing(&rt, Some(call), Some((0, kept)), Status::WriteFault)?;
-            assert_eq!(rt; told.as_str(), taken, "{line}");
-        }
+    for (read, line) in [(0, "read fault: c.json\n"), (1, "read fault: q.sql\n")] {
+        assert_taken(&rt, read, None, Status::ReadFault, line)?;
+        assert_taken(&rt, read, Some((0, 0)), Status::WriteFault, "")?;
+        assert_taken(&rt, read, Some((0, 3)), Status::WriteFault, "rea")?;
     }
     Ok(())
 }

@@ -1,5 +1,5 @@
 //! How many workers search: each passes a gate before each of its steps.
-use crate::runs::{JOIN, TWO_TABLES, shelf_of, words_of};
+use crate::runs::{JOIN, PLAN, TWO_TABLES, shelf_of, words_of};
 use orca_cli::{RunNote, Status, orca_run};
 use orca_io::{Gate, MemSink};
 use std::alloc::AllocGlobal;
@@ -24,10 +24,8 @@ impl Gate for Counting {
 
 // How many workers pass the gate where the words ask for so many.
 fn passes<R: Threads + Wait + Sync + AllocGlobal>(rt: &R, workers: &str) -> Result<u32, Fail> {
-    let words = words_of(
-        rt.alloc(),
-        &["plan", "c.json", "q.sql", "--workers", workers],
-    )?;
+    let line = format!(in rt.alloc(); "{PLAN} --workers {workers}")?;
+    let words = words_of(rt.alloc(), &line)?;
     let mut shelf = shelf_of(rt.alloc(), TWO_TABLES.as_bytes(), JOIN.as_bytes())?;
     let mut sink = MemSink::with_room(rt.alloc(), 1 << 20)?;
     let gate = Counting {

@@ -1,7 +1,8 @@
 //! What the program prints for queries over several tables.
-use crate::runs::{JOIN, PLAN_WORDS, TWO_TABLES, printed, query_fault};
+use crate::runs::{JOIN, TWO_TABLES, assert_planned, assert_plans, assert_query_fault, printed};
 use orca_cli::Status;
 use std::alloc::{AllocError, AllocGlobal, Global};
+use std::process::Abort;
 use std::sync::Wait;
 use std::test::Fail;
 use std::thread::Threads;
@@ -19,39 +20,55 @@ const VAST: &str =
 pub const JOINED: &str =
     "cost 7506\noutput T1.a\nGatherMerge(T1.a) rows=1000 cost=3001\n  Sort(T1.a) rows=1000 cost=2001\n    HashJoin(colocated p0) rows=1000 cost=1001\n      Scan(T1) rows=1000 cost=251\n      Redistribute(T2.b) rows=1000 cost=1001\n        Scan(T2) rows=1000 cost=251\n";
 
+// A query over the tables of the running example, with its plan below it.
+const OVER_TWO_TABLES: &str = "SELECT T1.a FROM T1, T2 WHERE T1.a = T2.a
+cost 3504
+output T1.a
+Gather rows=1000 cost=2001
+  HashJoin(colocated p0) rows=1000 cost=1001
+    Scan(T1) rows=1000 cost=251
+    Scan(T2) rows=1000 cost=251";
+
+// The same over the large table and the small one.
+const OVER_LARGE_AND_SMALL: &str = "SELECT b.x FROM b, s WHERE b.x = s.y
+cost 52318
+output b.x
+Gather rows=1000 cost=2001
+  HashJoin(copied) rows=1000 cost=25271
+    Scan(b) rows=100000 cost=25001
+    Broadcast rows=10 cost=41
+      Scan(s) rows=10 cost=4";
+
+// The same over the tables without a link.
+const OVER_UNLINKED: &str = "SELECT t.a FROM t, u
+cost 1253
+output t.a
+LoopJoin(one) rows=1000 cost=1001
+  Gather rows=100 cost=201
+    Scan(t) rows=100 cost=26
+  Gather rows=10 cost=21
+    Scan(u) rows=10 cost=4";
+
+// The same over the vast tables.
+const OVER_VAST: &str = "SELECT T1.a FROM T1, T2 WHERE T1.a < T2.b
+cost 1004500000000004
+output T1.a
+LoopJoin(one) rows=333333333334 cost=1000000000000000
+  Gather rows=1000000000000 cost=2000000000001
+    Scan(T1) rows=1000000000000 cost=250000000001
+  Gather rows=1000000000000 cost=2000000000001
+    Scan(T2) rows=1000000000000 cost=250000000001";
+
 #[test]
 fn prints_the_least_plan_of_each_join(rt: HostRuntime) -> Result<(), Fail> {
-    for (catalog, query, text) in [
-        (TWO_TABLES, JOIN, JOINED),
-        (
-            TWO_TABLES,
-            "SELECT T1.a FROM T1, T2 WHERE T1.a = T2.a",
-            "cost 3504\noutput T1.a\nGather rows=1000 cost=2001\n  HashJoin(colocated p0) rows=1000 cost=1001\n    Scan(T1) rows=1000 cost=251\n    Scan(T2) rows=1000 cost=251\n",
-        ),
-        (
-            LARGE_AND_SMALL,
-            "SELECT b.x FROM b, s WHERE b.x = s.y",
-            "cost 52318\noutput b.x\nGather rows=1000 cost=2001\n  HashJoin(copied) rows=1000 cost=25271\n    Scan(b) rows=100000 cost=25001\n    Broadcast rows=10 cost=41\n      Scan(s) rows=10 cost=4\n",
-        ),
-        (
-            UNLINKED,
-            "SELECT t.a FROM t, u",
-            "cost 1253\noutput t.a\nLoopJoin(one) rows=1000 cost=1001\n  Gather rows=100 cost=201\n    Scan(t) rows=100 cost=26\n  Gather rows=10 cost=21\n    Scan(u) rows=10 cost=4\n",
-        ),
-        (
-            VAST,
-            "SELECT T1.a FROM T1, T2 WHERE T1.a < T2.b",
-            "cost 1004500000000004\noutput T1.a\nLoopJoin(one) rows=333333333334 cost=1000000000000000\n  Gather rows=1000000000000 cost=2000000000001\n    Scan(T1) rows=1000000000000 cost=250000000001\n  Gather rows=1000000000000 cost=2000000000001\n    Scan(T2) rows=1000000000000 cost=250000000001\n",
-        ),
+    assert_planned(&rt, TWO_TABLES, JOIN, JOINED)?;
+    for (catalog, plans) in [
+        (TWO_TABLES, OVER_TWO_TABLES),
+        (LARGE_AND_SMALL, OVER_LARGE_AND_SMALL),
+        (UNLINKED, OVER_UNLINKED),
+        (VAST, OVER_VAST),
     ] {
-        let told = printed(
-            &rt,
-            &PLAN_WORDS,
-            catalog.as_bytes(),
-            query.as_bytes(),
-            Status::Planned,
-        )?;
-        assert_eq!(rt; told.as_str(), text, "{query}");
+        assert_plans(&rt, catalog, plans)?;
     }
     Ok(())
 }
@@ -64,25 +81,16 @@ fn a_further_key_of_a_catalog_changes_nothing(rt: HostRuntime) -> Result<(), Fai
         "\"comment\":\"x\",\"segments\"",
         1,
     )?;
-    let told = printed(
-        &rt,
-        &PLAN_WORDS,
-        commented.as_bytes(),
-        JOIN.as_bytes(),
-        Status::Planned,
-    )?;
-    assert_eq!(rt; told.as_str(), JOINED);
-    Ok(())
+    assert_planned(&rt, &commented, JOIN, JOINED)
 }
 
 #[test]
 fn prints_the_plan_and_the_memo_of_a_join(rt: HostRuntime) -> Result<(), Fail> {
     let memo =
         "memo groups=3 members=13\ngroup Get(T1) rows=1000\n  Get(T1)\n  Scan(T1)\ngroup Get(T2) rows=1000\n  Get(T2)\n  Scan(T2)\ngroup Join(T1, T2) rows=1000\n  NJoin(T1, T2)\n  Join(T1 | T2)\n  Join(T2 | T1)\n  HashJoin(T1 | T2)\n  HashJoin(T2 | T1)\n  MergeJoin(T1 | T2)\n  MergeJoin(T2 | T1)\n  LoopJoin(T1 | T2)\n  LoopJoin(T2 | T1)\n";
-    let words = ["plan", "c.json", "q.sql", "--memo"];
     let told = printed(
         &rt,
-        &words,
+        "plan c.json q.sql --memo",
         TWO_TABLES.as_bytes(),
         JOIN.as_bytes(),
         Status::Planned,
@@ -130,15 +138,16 @@ fn wide_query(alloc: Global, end: &str) -> Result<String, AllocError> {
     Ok(text)
 }
 
-// Why the query with this end over tables of which the first is hashed so is refused.
-fn wide_fault<R: Threads + Wait + Sync + AllocGlobal>(
+// Asserts why the query with this end over tables of which the first is hashed so is refused.
+fn assert_wide_fault<R: Threads + Wait + Sync + AllocGlobal + Abort>(
     rt: &R,
     distribution: &str,
     end: &str,
-) -> Result<String, Fail> {
+    told: &str,
+) -> Result<(), Fail> {
     let catalog = wide_catalog(rt.alloc(), distribution)?;
     let query = wide_query(rt.alloc(), end)?;
-    query_fault(rt, catalog.as_bytes(), query.as_bytes())
+    assert_query_fault(rt, catalog.as_bytes(), query.as_bytes(), told)
 }
 
 #[test]
@@ -147,8 +156,7 @@ fn a_query_has_at_most_60_hashed_lists_and_orders(rt: HostRuntime) -> Result<(),
         (r#"["c0","c1"]"#, "", "too many hashed lists: 61"),
         (r#""random""#, " ORDER BY a.c0, a.c1", "too many orders: 61"),
     ] {
-        let line = wide_fault(&rt, distribution, end)?;
-        assert_eq!(rt; line.as_str(), told);
+        assert_wide_fault(&rt, distribution, end, told)?;
     }
     Ok(())
 }

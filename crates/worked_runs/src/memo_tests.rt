@@ -1,62 +1,60 @@
 //! The memos of queries, as the program prints them.
 
-use crate::runs::{JOIN, TWO_TABLES, answered};
+use crate::runs::{JOIN, TWO_TABLES, printed};
+use orca_cli::Status;
 use std::alloc::{AllocError, AllocGlobal, Global};
+use std::process::Abort;
 use std::sync::Wait;
 use std::test::Fail;
 use std::thread::Threads;
 
-// The lines of the memo of a query over a catalogue.
+// The memo of a query over a catalogue, without its first word.
 fn memo_of<R: Threads + Wait + Sync + AllocGlobal>(
     rt: &R,
     catalog: &str,
     query: &str,
-) -> Result<Vec<String>, Fail> {
-    let words = ["plan", "c.json", "q.sql", "--memo"];
-    let (_, sink) = answered(rt, &words, catalog.as_bytes(), query.as_bytes())?;
-    let mut lines = Vec::new(rt.alloc());
-    for line in str::from_utf8(sink.taken())?.split_inclusive('\n') {
-        if !lines.is_empty() || line.starts_with("memo ") {
-            lines.push(String::from_str(rt.alloc(), line)?)?;
-        }
-    }
-    Ok(lines)
+) -> Result<String, Fail> {
+    let words = "plan c.json q.sql --memo";
+    let (catalog, query) = (catalog.as_bytes(), query.as_bytes());
+    let told = printed(rt, words, catalog, query, Status::Planned)?;
+    let (_, memo) = told.split_once("\nmemo ").ok_or("a memo is printed")?;
+    Ok(String::from_str(rt.alloc(), memo)?)
 }
 
-// The first line, or nothing.
-fn first_line(lines: &[String]) -> &str {
-    match lines.first() {
-        Some(line) => line.as_str(),
-        None => "",
-    }
+// Asserts how many groups and members the memo of a query has.
+fn assert_counts<R: Threads + Wait + Sync + AllocGlobal + Abort>(
+    rt: &R,
+    catalog: &str,
+    query: &str,
+    counts: &str,
+) -> Result<(), Fail> {
+    let memo = memo_of(rt, catalog, query)?;
+    assert_eq!(rt; memo.lines().next(), Some(counts));
+    Ok(())
 }
 
 #[test]
 fn a_join_of_two_tables(rt: HostRuntime) -> Result<(), Fail> {
-    let lines = memo_of(&rt, TWO_TABLES, JOIN)?;
-    let wanted = [
-        "memo groups=3 members=13\n",
-        "group Get(T1) rows=1000\n",
-        "  Get(T1)\n",
-        "  Scan(T1)\n",
-        "group Get(T2) rows=1000\n",
-        "  Get(T2)\n",
-        "  Scan(T2)\n",
-        "group Join(T1, T2) rows=1000\n",
-        "  NJoin(T1, T2)\n",
-        "  Join(T1 | T2)\n",
-        "  Join(T2 | T1)\n",
-        "  HashJoin(T1 | T2)\n",
-        "  HashJoin(T2 | T1)\n",
-        "  MergeJoin(T1 | T2)\n",
-        "  MergeJoin(T2 | T1)\n",
-        "  LoopJoin(T1 | T2)\n",
-        "  LoopJoin(T2 | T1)\n",
-    ];
-    assert_eq!(rt; lines.len(), wanted.len());
-    for (line, want) in lines.iter().zip(wanted.iter()) {
-        assert_eq!(rt; line.as_str(), *want);
-    }
+    let memo = memo_of(&rt, TWO_TABLES, JOIN)?;
+    let wanted = "groups=3 members=13
+group Get(T1) rows=1000
+  Get(T1)
+  Scan(T1)
+group Get(T2) rows=1000
+  Get(T2)
+  Scan(T2)
+group Join(T1, T2) rows=1000
+  NJoin(T1, T2)
+  Join(T1 | T2)
+  Join(T2 | T1)
+  HashJoin(T1 | T2)
+  HashJoin(T2 | T1)
+  MergeJoin(T1 | T2)
+  MergeJoin(T2 | T1)
+  LoopJoin(T1 | T2)
+  LoopJoin(T2 | T1)
+";
+    assert_eq!(rt; memo.as_str(), wanted);
     Ok(())
 }
 
@@ -68,15 +66,15 @@ fn three_tables_with_two_equalities_on_a_link(rt: HostRuntime) -> Result<(), Fai
         "{{\"version\":1,\"segments\":4,\"tables\":[{{\"name\":\"A\",\"rows\":100,\"distribution\":\"random\",{columns}}},{{\"name\":\"B\",\"rows\":100,\"distribution\":\"random\",{columns}}},{{\"name\":\"C\",\"rows\":100,\"distribution\":\"random\",{columns}}}]}}"
     )?;
     let query = "SELECT A.x FROM A, B, C WHERE A.x = B.x AND A.y = B.y AND B.z = C.z AND A.w = C.w";
-    let lines = memo_of(&rt, catalog.as_str(), query)?;
-    assert_eq!(rt; first_line(&lines), "memo groups=7 members=58\n");
+    let memo = memo_of(&rt, catalog.as_str(), query)?;
+    assert!(rt; memo.starts_with("groups=7 members=58\n"));
     for want in [
-        "group Join(A, B) rows=100\n",
-        "group Join(A, C) rows=1000\n",
-        "group Join(B, C) rows=1000\n",
-        "group Join(A, B, C) rows=100\n",
+        "\ngroup Join(A, B) rows=100\n",
+        "\ngroup Join(A, C) rows=1000\n",
+        "\ngroup Join(B, C) rows=1000\n",
+        "\ngroup Join(A, B, C) rows=100\n",
     ] {
-        assert!(rt; lines.iter().any(|line| line.as_str() == want), "{want}");
+        assert!(rt; memo.contains(want), "{want}");
     }
     Ok(())
 }
@@ -102,9 +100,7 @@ fn a_star_of_eight_tables_with_grouping(rt: HostRuntime) -> Result<(), Fail> {
     let catalog = star_catalog(rt.alloc())?;
     let query =
         "SELECT d1.a, COUNT(*) AS n FROM sales, d1, d2, d3, d4, d5, d6, d7 WHERE sales.f1 = d1.id AND sales.f2 = d2.id AND sales.f3 = d3.id AND sales.f4 = d4.id AND sales.f5 = d5.id AND sales.f6 = d6.id AND sales.f7 = d7.id AND d2.a = 5 AND d3.a < 10 GROUP BY d1.a ORDER BY n DESC, d1.a";
-    let lines = memo_of(&rt, catalog.as_str(), query)?;
-    assert_eq!(rt; first_line(&lines), "memo groups=139 members=3739\n");
-    Ok(())
+    assert_counts(&rt, catalog.as_str(), query, "groups=139 members=3739")
 }
 
 // ---- the joins of each group, counted without rules
@@ -170,10 +166,10 @@ fn splits_of_sets(alloc: Global, pairs: &[Pair], limit: u32) -> Result<Vec<u32>,
 }
 
 // How many logical joins each group has, in the order of the groups.
-fn joins_of_groups(alloc: Global, lines: &[String]) -> Result<Vec<u32>, AllocError> {
+fn joins_of_groups(alloc: Global, memo: &str) -> Result<Vec<u32>, AllocError> {
     let mut counts = Vec::new(alloc);
     let mut count = 0u32;
-    for line in lines {
+    for line in memo.lines() {
         if line.starts_with("  Join(") {
             count = count.saturating_add(1);
         } else if line.starts_with("  HashJoin(") && count != 0 {
@@ -228,9 +224,9 @@ fn counts<R: Threads + Wait + Sync + AllocGlobal>(
     let (catalog, names) = tables_text(alloc, tables.len())?;
     let (pairs, predicates) = linked(alloc, shape, tables)?;
     let query = format!(in alloc; "SELECT t0.a FROM {names}{predicates}")?;
-    let lines = memo_of(rt, catalog.as_str(), query.as_str())?;
+    let memo = memo_of(rt, catalog.as_str(), query.as_str())?;
     Ok((
-        joins_of_groups(alloc, &lines)?,
+        joins_of_groups(alloc, &memo)?,
         splits_of_sets(alloc, &pairs, limit)?,
     ))
 }
@@ -259,15 +255,14 @@ fn chains_and_stars_of_four_tables(rt: HostRuntime) -> Result<(), Fail> {
     for (query, want) in [
         (
             "SELECT t0.a FROM t0, t1, t2, t3 WHERE t0.a = t1.a AND t1.a = t2.a AND t2.a = t3.a",
-            "memo groups=10 members=94\n",
+            "groups=10 members=94",
         ),
         (
             "SELECT t0.a FROM t0, t1, t2, t3 WHERE t0.a = t1.a AND t0.a = t2.a AND t0.a = t3.a",
-            "memo groups=11 members=111\n",
+            "groups=11 members=111",
         ),
     ] {
-        let lines = memo_of(&rt, catalog.as_str(), query)?;
-        assert_eq!(rt; first_line(&lines), want);
+        assert_counts(&rt, catalog.as_str(), query, want)?;
     }
     Ok(())
 }

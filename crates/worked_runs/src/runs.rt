@@ -2,6 +2,7 @@
 use orca_cli::{RunNote, Status, orca_run};
 use orca_io::{MemShelf, MemSink, NoGate};
 use std::alloc::{AllocError, AllocGlobal, Global};
+use std::process::Abort;
 use std::sync::Wait;
 use std::test::Fail;
 use std::thread::Threads;
@@ -12,10 +13,13 @@ pub const TWO_TABLES: &str =
 /// The running example, over these two tables.
 pub const JOIN: &str = "SELECT T1.a FROM T1, T2 WHERE T1.a = T2.b ORDER BY T1.a";
 
-pub fn words_of(alloc: Global, texts: &[&str]) -> Result<Vec<String>, AllocError> {
+/// The words of a line, between single spaces; an empty line has none.
+pub fn words_of(alloc: Global, line: &str) -> Result<Vec<String>, AllocError> {
     let mut words = Vec::new(alloc);
-    for text in texts {
-        words.push(String::from_str(alloc, text)?)?;
+    if !line.is_empty() {
+        for word in line.split(' ') {
+            words.push(String::from_str(alloc, word)?)?;
+        }
     }
     Ok(words)
 }
@@ -28,18 +32,18 @@ pub fn shelf_of(alloc: Global, catalog: &[u8], query: &[u8]) -> Result<MemShelf,
 }
 
 /// The words of a plan of `q.sql` over `c.json`.
-pub const PLAN_WORDS: [&str; 3] = ["plan", "c.json", "q.sql"];
+pub const PLAN: &str = "plan c.json q.sql";
 
-// The status and the text of these words over the two files `c.json` and `q.sql`.
+/// The status and the text of the words of a line over the two files `c.json` and `q.sql`.
 pub fn answered<R: Threads + Wait + Sync + AllocGlobal>(
     rt: &R,
-    texts: &[&str],
+    line: &str,
     catalog: &[u8],
     query: &[u8],
 ) -> Result<(Status, MemSink), AllocError> {
     let mut shelf = shelf_of(rt.alloc(), catalog, query)?;
     let mut sink = MemSink::with_room(rt.alloc(), 1 << 20)?;
-    let (status, _) = run_over(rt, texts, &mut shelf, &mut sink)?;
+    let (status, _) = run_over(rt, line, &mut shelf, &mut sink)?;
     Ok((status, sink))
 }
 
@@ -56,67 +60,125 @@ pub fn text_at(
     Ok(String::from_str(alloc, str::from_utf8(sink.taken())?)?)
 }
 
-/// The text of these words over the two files, where they end with the status; else a line that no run prints.
+/// The text of the words of a line over the two files, where they end with the status; else a line that no run prints.
 pub fn printed<R: Threads + Wait + Sync + AllocGlobal>(
     rt: &R,
-    texts: &[&str],
+    line: &str,
     catalog: &[u8],
     query: &[u8],
     wanted: Status,
 ) -> Result<String, Fail> {
-    let (status, sink) = answered(rt, texts, catalog, query)?;
+    let (status, sink) = answered(rt, line, catalog, query)?;
     text_at(rt.alloc(), status, wanted, &sink)
 }
 
-// The status and the note of these words over a shelf and a sink.
+/// The text of a plan of the query over the catalogue, where there is one; else a line that no run prints.
+pub fn planned<R: Threads + Wait + Sync + AllocGlobal>(
+    rt: &R,
+    catalog: &str,
+    query: &str,
+) -> Result<String, Fail> {
+    printed(
+        rt,
+        PLAN,
+        catalog.as_bytes(),
+        query.as_bytes(),
+        Status::Planned,
+    )
+}
+
+/// Asserts that the words of a line over the two files end with the status, and print this text.
+pub fn assert_printed<R: Threads + Wait + Sync + AllocGlobal + Abort>(
+    rt: &R,
+    line: &str,
+    catalog: &[u8],
+    query: &[u8],
+    wanted: Status,
+    text: &str,
+) -> Result<(), Fail> {
+    let told = printed(rt, line, catalog, query, wanted)?;
+    assert_eq!(rt; told.as_str(), text, "{line}");
+    Ok(())
+}
+
+/// Asserts that this text is printed for a plan of the query.
+pub fn assert_planned<R: Threads + Wait + Sync + AllocGlobal + Abort>(
+    rt: &R,
+    catalog: &str,
+    query: &str,
+    text: &str,
+) -> Result<(), Fail> {
+    let told = planned(rt, catalog, query)?;
+    assert_eq!(rt; told.as_str(), text, "{query}");
+    Ok(())
+}
+
+/// Asserts that each query has the plan below it; empty lines part the plans from the queries that follow.
+pub fn assert_plans<R: Threads + Wait + Sync + AllocGlobal + Abort>(
+    rt: &R,
+    catalog: &str,
+    plans: &str,
+) -> Result<(), Fail> {
+    for part in plans.split("\n\n") {
+        let (query, plan) = part.split_once('\n').ok_or("a plan is below its query")?;
+        let told = planned(rt, catalog, query)?;
+        assert_eq!(rt; told.strip_suffix("\n"), Some(plan), "{query}");
+    }
+    Ok(())
+}
+
+/// The status and the note of the words of a line over a shelf and a sink.
 pub fn run_over<R: Threads + Wait + Sync + AllocGlobal>(
     rt: &R,
-    texts: &[&str],
+    line: &str,
     shelf: &mut MemShelf,
     sink: &mut MemSink,
 ) -> Result<(Status, Option<(u32, u32, u32)>), AllocError> {
-    let words = words_of(rt.alloc(), texts)?;
+    let words = words_of(rt.alloc(), line)?;
     let mut note = RunNote::new();
     let status = orca_run(rt, rt.alloc(), &words, shelf, sink, &NoGate, &mut note);
     Ok((status, note.last()))
 }
 
 // The line without this front and its end; the whole line, where it has another front.
-fn cause(alloc: Global, line: &str, front: &str) -> Result<String, AllocError> {
-    let told = line
-        .strip_prefix(front)
-        .and_then(|rest| rest.strip_suffix("\n"));
-    String::from_str(alloc, told.unwrap_or(line))
+fn cause<'l>(line: &'l str, front: &str) -> &'l str {
+    line.strip_prefix(front)
+        .and_then(|rest| rest.strip_suffix("\n"))
+        .unwrap_or(line)
 }
 
-/// Why the query of these two files is refused.
-pub fn query_fault<R: Threads + Wait + Sync + AllocGlobal>(
+/// Asserts that the query of these two files is refused for this cause.
+pub fn assert_query_fault<R: Threads + Wait + Sync + AllocGlobal + Abort>(
     rt: &R,
     catalog: &[u8],
     query: &[u8],
-) -> Result<String, Fail> {
-    let line = printed(rt, &PLAN_WORDS, catalog, query, Status::QueryRefused)?;
-    Ok(cause(rt.alloc(), line.as_str(), "query refused: ")?)
+    told: &str,
+) -> Result<(), Fail> {
+    let line = printed(rt, PLAN, catalog, query, Status::QueryRefused)?;
+    assert_eq!(rt; cause(line.as_str(), "query refused: "), told);
+    Ok(())
 }
 
-/// Why the catalogue of these two files is refused.
-pub fn catalog_fault<R: Threads + Wait + Sync + AllocGlobal>(
+/// Asserts that the catalogue of these two files is refused for this cause.
+pub fn assert_catalog_fault<R: Threads + Wait + Sync + AllocGlobal + Abort>(
     rt: &R,
     catalog: &[u8],
     query: &[u8],
-) -> Result<String, Fail> {
-    let line = printed(rt, &PLAN_WORDS, catalog, query, Status::CatalogRefused)?;
-    Ok(cause(rt.alloc(), line.as_str(), "catalog refused: ")?)
+    told: &str,
+) -> Result<(), Fail> {
+    let line = printed(rt, PLAN, catalog, query, Status::CatalogRefused)?;
+    assert_eq!(rt; cause(line.as_str(), "catalog refused: "), told);
+    Ok(())
 }
 
-// The status and the note of these words, over the two files `c.json` and `q.sql`.
+/// The status and the note of the words of a line over the two files `c.json` and `q.sql`.
 pub fn noted<R: Threads + Wait + Sync + AllocGlobal>(
     rt: &R,
-    texts: &[&str],
+    line: &str,
     catalog: &[u8],
     query: &[u8],
 ) -> Result<(Status, Option<(u32, u32, u32)>), AllocError> {
     let mut shelf = shelf_of(rt.alloc(), catalog, query)?;
     let mut sink = MemSink::with_room(rt.alloc(), 1 << 20)?;
-    run_over(rt, texts, &mut shelf, &mut sink)
+    run_over(rt, line, &mut shelf, &mut sink)
 }

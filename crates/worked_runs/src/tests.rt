@@ -1,6 +1,7 @@
 //! Plans of one table, refusals with their causes and places, and the greatest lengths of texts.
 use crate::runs::{
-    PLAN_WORDS, TWO_TABLES, catalog_fault, printed, query_fault, shelf_of, words_of,
+    PLAN, TWO_TABLES, assert_catalog_fault, assert_planned, assert_plans, assert_printed,
+    assert_query_fault, printed, shelf_of, words_of,
 };
 use command_line::{Command, read_command};
 use orca_cli::{RunNote, Status, orca_alone};
@@ -22,102 +23,91 @@ GatherMerge(t.a) rows=1000 cost=3001
 
 #[test]
 fn prints_the_least_plan_of_one_table(rt: HostRuntime) -> Result<(), Fail> {
-    let told = printed(
-        &rt,
-        &PLAN_WORDS,
-        CATALOG.as_bytes(),
-        QUERY.as_bytes(),
-        Status::Planned,
-    )?;
-    assert_eq!(rt; told.as_str(), SORTED);
-    Ok(())
+    assert_planned(&rt, CATALOG, QUERY, SORTED)
 }
+
+const EMPTY: &str =
+    r#"{"version":1,"segments":4,"tables":[{"name":"t","rows":0,"distribution":"random","columns":[{"name":"a","ndv":1000},{"name":"b","ndv":10}]}]}"#;
+
+const ON_ONE_SEGMENT: &str =
+    r#"{"version":1,"segments":1,"tables":[{"name":"t","rows":10,"distribution":"random","columns":[{"name":"a","ndv":1000},{"name":"b","ndv":10}]}]}"#;
+
+// A query over the table without rows, with its plan below it.
+const OVER_EMPTY: &str = "SELECT a FROM t
+cost 2
+output t.a
+Gather rows=0 cost=1
+  Scan(t) rows=0 cost=1";
+
+// The same of a table on one segment.
+const OVER_ONE_SEGMENT: &str = "select a from t -- all
+cost 32
+output t.a
+Gather rows=10 cost=21
+  Scan(t) rows=10 cost=11";
+
+// Queries over the table of 1,000 rows, each with its plan below it.
+const OVER_CATALOG: &str = "SELECT b FROM t ORDER BY a
+cost 5253
+output t.b
+GatherMerge(t.a) rows=1000 cost=3001
+  Sort(t.a) rows=1000 cost=2001
+    Scan(t) rows=1000 cost=251
+
+select u.b as c, a from t as u order by c desc, a, c;
+cost 5253
+output u.b AS c, u.a
+GatherMerge(u.b DESC, u.a) rows=1000 cost=3001
+  Sort(u.b DESC, u.a) rows=1000 cost=2001
+    Scan(u) rows=1000 cost=251
+
+SELECT a FROM t WHERE a = 'it''s'
+cost 505
+output t.a
+Gather rows=1 cost=3
+  Filter(t) rows=1 cost=251
+    Scan(t) rows=1000 cost=251";
 
 #[test]
 fn prints_the_least_plan_of_each_query(rt: HostRuntime) -> Result<(), Fail> {
-    let empty =
-        r#"{"version":1,"segments":4,"tables":[{"name":"t","rows":0,"distribution":"random","columns":[{"name":"a","ndv":1000},{"name":"b","ndv":10}]}]}"#;
-    let alone =
-        r#"{"version":1,"segments":1,"tables":[{"name":"t","rows":10,"distribution":"random","columns":[{"name":"a","ndv":1000},{"name":"b","ndv":10}]}]}"#;
-    for (catalog, query, text) in [
-        (
-            empty,
-            "SELECT a FROM t",
-            "cost 2\noutput t.a\nGather rows=0 cost=1\n  Scan(t) rows=0 cost=1\n",
-        ),
-        (
-            alone,
-            "select a from t -- all",
-            "cost 32\noutput t.a\nGather rows=10 cost=21\n  Scan(t) rows=10 cost=11\n",
-        ),
-        (
-            CATALOG,
-            "SELECT b FROM t ORDER BY a",
-            "cost 5253\noutput t.b\nGatherMerge(t.a) rows=1000 cost=3001\n  Sort(t.a) rows=1000 cost=2001\n    Scan(t) rows=1000 cost=251\n",
-        ),
-        (
-            CATALOG,
-            "select u.b as c, a from t as u order by c desc, a, c;",
-            "cost 5253\noutput u.b AS c, u.a\nGatherMerge(u.b DESC, u.a) rows=1000 cost=3001\n  Sort(u.b DESC, u.a) rows=1000 cost=2001\n    Scan(u) rows=1000 cost=251\n",
-        ),
-        (
-            CATALOG,
-            "SELECT a FROM t WHERE a = 'it''s'",
-            "cost 505\noutput t.a\nGather rows=1 cost=3\n  Filter(t) rows=1 cost=251\n    Scan(t) rows=1000 cost=251\n",
-        ),
-    ] {
-        let told = printed(
-            &rt,
-            &PLAN_WORDS,
-            catalog.as_bytes(),
-            query.as_bytes(),
-            Status::Planned,
-        )?;
-        assert_eq!(rt; told.as_str(), text, "{query}");
-    }
-    Ok(())
+    assert_plans(&rt, EMPTY, OVER_EMPTY)?;
+    assert_plans(&rt, ON_ONE_SEGMENT, OVER_ONE_SEGMENT)?;
+    assert_plans(&rt, CATALOG, OVER_CATALOG)
 }
 
 #[test]
 fn prints_the_memo_where_it_is_asked_for(rt: HostRuntime) -> Result<(), Fail> {
-    let empty =
-        r#"{"version":1,"segments":4,"tables":[{"name":"t","rows":0,"distribution":"random","columns":[{"name":"a","ndv":1000},{"name":"b","ndv":10}]}]}"#;
     let text =
         "cost 2\noutput t.a\nGather rows=0 cost=1\n  Scan(t) rows=0 cost=1\nmemo groups=1 members=2\ngroup Get(t) rows=0\n  Get(t)\n  Scan(t)\n";
-    let commands: [&[&str]; 3] = [
-        &["plan", "--memo", "c.json", "q.sql"],
-        &["plan", "c.json", "--memo", "q.sql"],
-        &["plan", "c.json", "q.sql", "--memo"],
-    ];
-    for words in commands {
-        let told = printed(
+    for words in [
+        "plan --memo c.json q.sql",
+        "plan c.json --memo q.sql",
+        "plan c.json q.sql --memo",
+    ] {
+        assert_printed(
             &rt,
             words,
-            empty.as_bytes(),
+            EMPTY.as_bytes(),
             b"SELECT a FROM t",
             Status::Planned,
+            text,
         )?;
-        assert_eq!(rt; told.as_str(), text);
     }
     Ok(())
 }
 
 #[test]
 fn prints_the_trace_behind_the_memo(rt: HostRuntime) -> Result<(), Fail> {
-    let empty =
-        r#"{"version":1,"segments":4,"tables":[{"name":"t","rows":0,"distribution":"random","columns":[{"name":"a","ndv":1000},{"name":"b","ndv":10}]}]}"#;
     let text =
         "cost 2\noutput t.a\nGather rows=0 cost=1\n  Scan(t) rows=0 cost=1\nmemo groups=1 members=2\ngroup Get(t) rows=0\n  Get(t)\n  Scan(t)\ntrace goals=8 exp=1 expe=1 xf=1 imp=1 impe=1 opt=2 opte=1\nExp Get(t)\n  ExpE Get(t)\nExpE Get(t)\nXf GetToScan Get(t)\nImp Get(t)\n  Exp Get(t)\n  ImpE Get(t)\nImpE Get(t)\n  Xf GetToScan Get(t)\nOpt Get(t) [One]\n  Imp Get(t)\n  Opt Get(t) [Spread]\nOpt Get(t) [Spread]\n  Imp Get(t)\n  OptE Scan(t) [Spread]\nOptE Scan(t) [Spread]\n";
-    let words = ["plan", "--trace", "c.json", "q.sql", "--memo"];
-    let told = printed(
+    assert_printed(
         &rt,
-        &words,
-        empty.as_bytes(),
+        "plan --trace c.json q.sql --memo",
+        EMPTY.as_bytes(),
         b"SELECT a FROM t",
         Status::Planned,
-    )?;
-    assert_eq!(rt; told.as_str(), text);
-    Ok(())
+        text,
+    )
 }
 
 // In each line a query over the two tables, and why it is refused.
@@ -162,8 +152,7 @@ fn a_refused_query_is_told_with_its_cause(rt: HostRuntime) -> Result<(), Fail> {
     ] {
         for line in lines.lines() {
             let (query, want) = line.split_once(" | ").ok_or("a line has two parts")?;
-            let told = query_fault(&rt, catalog.as_bytes(), query.as_bytes())?;
-            assert_eq!(rt; told.as_str(), want, "{query}");
+            assert_query_fault(&rt, catalog.as_bytes(), query.as_bytes(), want)?;
         }
     }
     Ok(())
@@ -171,9 +160,8 @@ fn a_refused_query_is_told_with_its_cause(rt: HostRuntime) -> Result<(), Fail> {
 
 #[test]
 fn a_query_that_is_no_text_is_refused_at_its_byte(rt: HostRuntime) -> Result<(), Fail> {
-    let line = query_fault(&rt, CATALOG.as_bytes(), b"SELECT \xc3 FROM t")?;
-    assert_eq!(rt; line.as_str(), "not ASCII at 7");
-    Ok(())
+    let query = b"SELECT \xc3 FROM t";
+    assert_query_fault(&rt, CATALOG.as_bytes(), query, "not ASCII at 7")
 }
 
 #[test]
@@ -191,8 +179,7 @@ fn a_refused_catalog_is_told_with_its_cause(rt: HostRuntime) -> Result<(), Fail>
         ),
     ];
     for (catalog, told) in cases {
-        let line = catalog_fault(&rt, catalog, QUERY.as_bytes())?;
-        assert_eq!(rt; line.as_str(), told, "{told}");
+        assert_catalog_fault(&rt, catalog, QUERY.as_bytes(), told)?;
     }
     Ok(())
 }
@@ -206,8 +193,7 @@ fn a_catalog_nests_at_most_127_levels(rt: HostRuntime) -> Result<(), Fail> {
     deep.extend_from_slice(&closed)?;
     deep.extend_from_slice(b",\"version\":1,\"segments\":4,\"tables\":[]}")?;
     for catalog in [opened, deep] {
-        let line = catalog_fault(&rt, &catalog, QUERY.as_bytes())?;
-        assert_eq!(rt; line.as_str(), "not JSON");
+        assert_catalog_fault(&rt, &catalog, QUERY.as_bytes(), "not JSON")?;
     }
     Ok(())
 }
@@ -215,13 +201,10 @@ fn a_catalog_nests_at_most_127_levels(rt: HostRuntime) -> Result<(), Fail> {
 #[test]
 fn a_catalog_has_at_most_a_mebibyte(rt: HostRuntime) -> Result<(), Fail> {
     let over = vec![in rt.alloc(); b' '; 1_048_577]?;
-    let line = catalog_fault(&rt, &over, QUERY.as_bytes())?;
-    assert_eq!(rt; line.as_str(), "too long");
+    assert_catalog_fault(&rt, &over, QUERY.as_bytes(), "too long")?;
     let mut most = vec![in rt.alloc(); b' '; 1_048_576 - CATALOG.len()]?;
     most.extend_from_slice(CATALOG.as_bytes())?;
-    let told = printed(&rt, &PLAN_WORDS, &most, QUERY.as_bytes(), Status::Planned)?;
-    assert_eq!(rt; told.as_str(), SORTED);
-    Ok(())
+    assert_printed(&rt, PLAN, &most, QUERY.as_bytes(), Status::Planned, SORTED)
 }
 
 #[test]
@@ -254,8 +237,7 @@ fn one_change_of_a_catalog_is_told_at_its_place(rt: HostRuntime) -> Result<(), F
         ),
     ] {
         let catalog = TWO_TABLES.replacen(rt.alloc(), old, new, 1)?;
-        let line = catalog_fault(&rt, catalog.as_bytes(), QUERY.as_bytes())?;
-        assert_eq!(rt; line.as_str(), told, "{new}");
+        assert_catalog_fault(&rt, catalog.as_bytes(), QUERY.as_bytes(), told)?;
     }
     Ok(())
 }
@@ -263,8 +245,8 @@ fn one_change_of_a_catalog_is_told_at_its_place(rt: HostRuntime) -> Result<(), F
 #[test]
 fn each_proper_prefix_of_a_catalog_is_refused(rt: HostRuntime) -> Result<(), Fail> {
     for length in 0..TWO_TABLES.len() {
-        let line = catalog_fault(&rt, &TWO_TABLES.as_bytes()[..length], QUERY.as_bytes())?;
-        assert_eq!(rt; line.as_str(), "not JSON");
+        let prefix = &TWO_TABLES.as_bytes()[..length];
+        assert_catalog_fault(&rt, prefix, QUERY.as_bytes(), "not JSON")?;
     }
     Ok(())
 }
@@ -272,36 +254,42 @@ fn each_proper_prefix_of_a_catalog_is_refused(rt: HostRuntime) -> Result<(), Fai
 #[test]
 fn a_query_has_at_most_64_kibibytes(rt: HostRuntime) -> Result<(), Fail> {
     let over = vec![in rt.alloc(); b' '; 65_537]?;
-    let line = query_fault(&rt, CATALOG.as_bytes(), &over)?;
-    assert_eq!(rt; line.as_str(), "too long");
+    assert_query_fault(&rt, CATALOG.as_bytes(), &over, "too long")?;
     let mut most = vec![in rt.alloc(); b' '; 65_536 - QUERY.len()]?;
     most.extend_from_slice(QUERY.as_bytes())?;
-    let told = printed(&rt, &PLAN_WORDS, CATALOG.as_bytes(), &most, Status::Planned)?;
-    assert_eq!(rt; told.as_str(), SORTED);
-    Ok(())
+    assert_printed(
+        &rt,
+        PLAN,
+        CATALOG.as_bytes(),
+        &most,
+        Status::Planned,
+        SORTED,
+    )
 }
+
+// The first line has no words, and a space at the end of a line an empty word behind it.
+const OTHERS: &str = "
+plan
+plan c.json
+plan c.json\u{20}
+plan -c.json q.sql
+--memo plan c.json q.sql
+plan c.json q.sql --memo --memo
+plan c.json q.sql --workers 0
+";
 
 #[test]
 fn other_words_get_the_usage_line(rt: HostRuntime) -> Result<(), Fail> {
-    let others: [&[&str]; 8] = [
-        &[],
-        &["plan"],
-        &["plan", "c.json"],
-        &["plan", "c.json", ""],
-        &["plan", "-c.json", "q.sql"],
-        &["--memo", "plan", "c.json", "q.sql"],
-        &["plan", "c.json", "q.sql", "--memo", "--memo"],
-        &["plan", "c.json", "q.sql", "--workers", "0"],
-    ];
-    for texts in others {
+    for words in OTHERS.lines() {
         let told = printed(
             &rt,
-            texts,
+            words,
             CATALOG.as_bytes(),
             QUERY.as_bytes(),
             Status::Usage,
         )?;
-        assert!(rt; told.starts_with("usage: orca plan CATALOG QUERY [--workers N]"));
+        let usage = "usage: orca plan CATALOG QUERY [--workers N]";
+        assert!(rt; told.starts_with(usage), "{words}");
     }
     Ok(())
 }
@@ -324,7 +312,7 @@ fn alone(
 
 #[test]
 fn one_worker_answers_alone(rt: HostRuntime) -> Result<(), Fail> {
-    let words = words_of(rt.alloc(), &["plan", "c.json", "q.sql"])?;
+    let words = words_of(rt.alloc(), PLAN)?;
     let mut shelf = shelf_of(rt.alloc(), CATALOG.as_bytes(), QUERY.as_bytes())?;
     let mut sink = MemSink::with_room(rt.alloc(), 4096)?;
     let status = alone(rt.alloc(), &words, &mut shelf, &mut sink);
