@@ -17,7 +17,7 @@ use request_props::Props;
 use std::alloc::{AllocError, Global};
 use std::test::Fail;
 use worked_queries::{
-    chain, grouped, large_and_small, one_table, props_of, two_tables, without_a_plan,
+    chain, grouped, implied, large_and_small, one_table, two_tables, without_a_plan,
 };
 
 fn answers_of(alloc: Global, query: &Query, props: &Props) -> Result<Answers, AllocError>
@@ -88,7 +88,7 @@ fn all_as_searched(
 
 // Whether all answers of the query are.
 fn are_as_searched(alloc: Global, query: Query) -> Result<bool, Fail> {
-    let props = props_of(alloc, &query)?;
+    let (query, props) = implied(alloc, query)?;
     Ok(has_answers_as_searched(alloc, &query, &props)?)
 }
 
@@ -127,7 +127,7 @@ fn both_texts(alloc: Global, query: &Query, props: &Props) -> Result<(Vec<u8>, V
 
 // Both of a query.
 fn texts_of(alloc: Global, query: Query) -> Result<(Vec<u8>, Vec<u8>), Fail> {
-    let props = props_of(alloc, &query)?;
+    let (query, props) = implied(alloc, query)?;
     Ok(both_texts(alloc, &query, &props)?)
 }
 

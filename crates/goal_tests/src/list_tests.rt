@@ -10,12 +10,12 @@ use query_core::Query;
 use request_props::Props;
 use std::alloc::{AllocError, Global};
 use std::test::Fail;
-use worked_queries::{one_table, props_of, two_tables};
+use worked_queries::{implied, one_table, two_tables};
 use xform_rules::members_are_known;
 
 // The trace over all members and goals of the query.
 fn trace_of(alloc: Global, query: Query) -> Result<Vec<u8>, Fail> {
-    let props = props_of(alloc, &query)?;
+    let (query, props) = implied(alloc, query)?;
     Ok(trace_over(alloc, &query, &props)?)
 }
 
@@ -32,7 +32,7 @@ fn trace_over(alloc: Global, query: &Query, props: &Props) -> Result<Vec<u8>, Al
 
 // The goals by worker, where one worker finished them all.
 fn crew_of_one(alloc: Global, query: Query) -> Result<Vec<u8>, Fail> {
-    let props = props_of(alloc, &query)?;
+    let (query, props) = implied(alloc, query)?;
     Ok(crew_over(alloc, &query, &props)?)
 }
 
