@@ -2,12 +2,14 @@
 
 ghost use Rattle.std.specs.Prelude.{IsTrue};
 ghost use Rattle.request_props.specs.Numbered.{IsProps};
+ghost use Rattle.request_props.specs.Requests.{IsInRange};
 ghost use Rattle.request_props.specs.Satisfied.{IsOrderKnown};
 
 use query_core::*;
 use request_props::*;
+use std::process::Abort;
 use std::test::Fail;
-use worked_queries::{cycle_of_four_predicates, props_of, two_equalities};
+use worked_queries::{cycle_of_four_predicates, implied, two_equalities};
 
 fn key(item: u32, desc: bool) -> OrderKey {
     OrderKey { item, desc }
@@ -29,20 +31,17 @@ fn has_order(props: &Props, place: usize, order: &[OrderKey]) -> bool {
 
 #[test]
 fn lists_are_numbered_by_length_and_then_by_their_elements(rt: HostRuntime) -> Result<(), Fail> {
-    let query = two_equalities(rt.alloc())?;
-    let props = props_of(rt.alloc(), &query)?;
-    let lists: [&[u32]; 3] = [&[0], &[2], &[0, 1]];
-    assert_eq!(rt; props.hashed.len(), lists.len());
-    for (place, list) in lists.into_iter().enumerate() {
-        assert!(rt; has_list(&props, place, list), "{place}");
-    }
+    let (_query, props) = implied(rt.alloc(), two_equalities(rt.alloc())?)?;
+    assert_eq!(rt; props.hashed.len(), 3);
+    assert!(rt; has_list(&props, 0, &[0]));
+    assert!(rt; has_list(&props, 1, &[2]));
+    assert!(rt; has_list(&props, 2, &[0, 1]));
     Ok(())
 }
 
 #[test]
 fn orders_are_numbered_by_their_elements(rt: HostRuntime) -> Result<(), Fail> {
-    let query = two_equalities(rt.alloc())?;
-    let props = props_of(rt.alloc(), &query)?;
+    let (_query, props) = implied(rt.alloc(), two_equalities(rt.alloc())?)?;
     assert!(rt; has_order(&props, 0, &[key(0, false)]));
     assert!(rt; has_order(&props, 1, &[key(0, true)]));
     assert!(rt; has_order(&props, 2, &[key(2, false)]));
@@ -56,37 +55,73 @@ fn lent<T: Send + Sync>(value: &T) -> &T {
 
 #[test]
 fn what_is_collected_can_be_shared(rt: HostRuntime) -> Result<(), Fail> {
-    let query = two_equalities(rt.alloc())?;
-    let props = props_of(rt.alloc(), &query)?;
+    let (_query, props) = implied(rt.alloc(), two_equalities(rt.alloc())?)?;
     assert_eq!(rt; lent(&props).orders.len(), 3);
     Ok(())
 }
 
+// Whether the first predicate crosses the second table and the filtered first one, and the second predicate doesn't.
+fn has_its_crossings(query: &Query, props: &Props) -> bool
+    requires { IsProps query.now props.now }
+{
+    let (second, first) = (KeyParts::Get(1), KeyParts::Filter(0));
+    let sides = Some((side(2, 1, 3), side(0, 0, 1)));
+    props.crossing(query, second, first, 0) == sides
+        && props.crossing(query, second, first, 1).is_none()
+}
+
+fn assert_looked_up(rt: &impl Abort, query: &Query, props: &Props)
+    requires { IsProps query.now props.now }
+{
+    assert!(rt; props.is_key(query, Key(1027)));
+    assert!(rt; !props.is_key(query, Key(17)));
+    // All pairs of 10 and 100 rows, of which a tenth and then a third is left.
+    assert_eq!(rt; props.rows(query, query.root()), 34);
+    assert!(rt; has_its_crossings(query, props));
+    assert!(rt; props.table_dist(query, 0) == GivenDist::Hashed(2));
+    assert!(rt; props.table_dist(query, 1) == GivenDist::Random);
+    assert!(rt; !props.is_grouped_list(query, 0));
+    assert!(rt; props.group_order(query) == 0);
+}
+
 #[test]
 fn what_a_query_implies_is_looked_up(rt: HostRuntime) -> Result<(), Fail> {
-    let query = two_equalities(rt.alloc())?;
-    let props = props_of(rt.alloc(), &query)?;
-    for (number, is_key) in [(1027, true), (17, false)] {
-        assert!(rt; props.is_key(&query, Key(number)) == is_key, "{number}");
-    }
-    // All pairs of 10 and 100 rows, of which a tenth and then a third is left.
-    assert_eq!(rt; props.rows(&query, query.root()), 34);
-    for (predicate, sides) in [(0, Some((side(2, 1, 3), side(0, 0, 1)))), (1, None)] {
-        let crossing = props.crossing(&query, KeyParts::Get(1), KeyParts::Filter(0), predicate);
-        assert!(rt; crossing == sides, "{predicate}");
-    }
-    for (table, dist) in [(0, GivenDist::Hashed(2)), (1, GivenDist::Random)] {
-        assert!(rt; props.table_dist(&query, table) == dist, "{table}");
-    }
-    assert!(rt; !props.is_grouped_list(&query, 0));
-    assert!(rt; props.group_order(&query) == 0);
+    let (query, props) = implied(rt.alloc(), two_equalities(rt.alloc())?)?;
+    assert_looked_up(&rt, &query, &props);
     Ok(())
+}
+
+fn has(numbers: NumberSet, number: u32) -> bool {
+    numbers.next(number) == number
+}
+
+// Whether the set has just these of the first four numbers.
+fn has_just(set: NumberSet, numbers: &[u32]) -> bool {
+    for number in 0..4u32 {
+        if has(set, number) != numbers.contains(&number) {
+            return false;
+        }
+    }
+    true
+}
+
+// Whether the first four predicates are those that cross the two groups where the set of all these has them.
+fn crossings_agree(query: &Query, props: &Props, left: KeyParts, right: KeyParts) -> bool
+    requires { IsProps query.now props.now }
+{
+    let crossings = props.crossings(query, left, right);
+    for pred in 0..4u32 {
+        let crosses = props.crossing(query, left, right, pred).is_some();
+        if has(crossings, pred) != crosses {
+            return false;
+        }
+    }
+    true
 }
 
 #[test]
 fn merges_are_by_a_left_column_that_gives_the_order(rt: HostRuntime) -> Result<(), Fail> {
-    let query = cycle_of_four_predicates(rt.alloc())?;
-    let props = props_of(rt.alloc(), &query)?;
+    let (query, props) = implied(rt.alloc(), cycle_of_four_predicates(rt.alloc())?)?;
     // Two groups, an order and the predicates. The order of a column has the number after the column's.
     let rows: [(KeyParts, KeyParts, u32, &[u32]); 10] = [
         (KeyParts::Join(3), KeyParts::Get(2), 0, &[2, 3]),
@@ -102,24 +137,16 @@ fn merges_are_by_a_left_column_that_gives_the_order(rt: HostRuntime) -> Result<(
         (KeyParts::Filter(1), KeyParts::Get(0), 5, &[1]),
     ];
     for (left, right, order, preds) in rows {
-        let crossings = props.crossings(&query, left, right);
+        assert!(rt; crossings_agree(&query, &props, left, right), "{order}");
         let merging = props.merging(&query, left, right, order);
-        for pred in 0..4u32 {
-            let crosses = props.crossing(&query, left, right, pred).is_some();
-            assert!(rt; has(crossings, pred) == crosses, "{order} {pred}");
-            assert!(rt;
-                has(merging, pred) == preds.contains(&pred),
-                "{order} {pred}"
-            );
-        }
+        assert!(rt; has_just(merging, preds), "{order}");
     }
     Ok(())
 }
 
 #[test]
 fn hashes_are_by_a_left_column_that_is_the_list(rt: HostRuntime) -> Result<(), Fail> {
-    let query = cycle_of_four_predicates(rt.alloc())?;
-    let props = props_of(rt.alloc(), &query)?;
+    let (query, props) = implied(rt.alloc(), cycle_of_four_predicates(rt.alloc())?)?;
     // Two groups, what is asked for and the predicates. The list of a column has the column's number.
     let rows: [(KeyParts, KeyParts, Dist, &[u32]); 7] = [
         (KeyParts::Join(3), KeyParts::Get(2), Dist::Spread, &[2, 3]),
@@ -133,31 +160,20 @@ fn hashes_are_by_a_left_column_that_is_the_list(rt: HostRuntime) -> Result<(), F
     ];
     for (left, right, wanted, preds) in rows {
         let hashing = props.hashing(&query, left, right, wanted);
-        for pred in 0..4u32 {
-            assert!(rt;
-                has(hashing, pred) == preds.contains(&pred),
-                "{wanted:?} {pred}"
-            );
-        }
+        assert!(rt; has_just(hashing, preds), "{wanted:?}");
     }
     Ok(())
 }
 
-fn has(numbers: NumberSet, number: u32) -> bool {
-    numbers.next(number) == number
-}
-
 #[test]
 fn requests_fit_groups(rt: HostRuntime) -> Result<(), Fail> {
-    let query = two_equalities(rt.alloc())?;
-    let props = props_of(rt.alloc(), &query)?;
+    let (query, props) = implied(rt.alloc(), two_equalities(rt.alloc())?)?;
     let wanted = Request {
         dist: Dist::Hashed(1),
         order: 3,
     };
-    for (group, fits) in [(KeyParts::Join(3), true), (KeyParts::Get(0), false)] {
-        assert!(rt; props.fits(&query, group, wanted) == fits);
-    }
+    assert!(rt; props.fits(&query, KeyParts::Join(3), wanted));
+    assert!(rt; !props.fits(&query, KeyParts::Get(0), wanted));
     assert!(rt; props.hash_fits(&query, KeyParts::Filter(0), 2));
     assert!(rt; !props.order_fits(&query, KeyParts::Agg, 3));
     Ok(())
@@ -254,8 +270,7 @@ const ROWS: [(GivenDist, GivenOrder, Dist, u32, bool); 12] = [
 
 #[test]
 fn requests_are_met_as_by_hand(rt: HostRuntime) -> Result<(), Fail> {
-    let query = two_equalities(rt.alloc())?;
-    let props = props_of(rt.alloc(), &query)?;
+    let (query, props) = implied(rt.alloc(), two_equalities(rt.alloc())?)?;
     for (given_dist, given_order, dist, order, met) in ROWS {
         let given = Given {
             dist: given_dist,
@@ -267,16 +282,18 @@ fn requests_are_met_as_by_hand(rt: HostRuntime) -> Result<(), Fail> {
     Ok(())
 }
 
+fn has_code(request: Request, number: u32) -> bool
+    requires { IsInRange request }
+{
+    code(request) == number && request_of(number) == Some(request)
+}
+
 #[test]
 fn requests_have_codes(rt: HostRuntime) {
-    for (number, list, order) in [(386, 3, 2), (4028, 59, 60)] {
-        let request = Request {
-            dist: Dist::Hashed(list),
-            order,
-        };
-        assert_eq!(rt; code(request), number);
-        assert_eq!(rt; request_of(number), Some(request), "{number}");
-    }
+    let dist = Dist::Hashed(3);
+    assert!(rt; has_code(Request { dist, order: 2 }, 386));
+    let dist = Dist::Hashed(59);
+    assert!(rt; has_code(Request { dist, order: 60 }, 4028));
     for number in [61, 4032] {
         assert!(rt; request_of(number).is_none(), "{number}");
     }

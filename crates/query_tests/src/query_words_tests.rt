@@ -39,17 +39,12 @@ fn two_tables_have_their_groups(rt: HostRuntime) -> Result<(), Fail> {
 fn a_true_link_joins_what_no_predicate_does(rt: HostRuntime) -> Result<(), Fail> {
     let query = Box::new(rt.alloc(), one_linked_pair(rt.alloc())?)?;
     assert!(rt; query.links.len() == 2);
-    for (one, other, linked) in [(1, 2, true), (2, 4, true), (1, 4, false)] {
-        assert!(rt; query.linked(one, other) == linked, "{one} {other}");
-    }
-    for (tables, connected) in [(0, true), (7, true), (5, false)] {
-        assert!(rt; query.connected(tables) == connected, "{tables}");
-    }
+    assert!(rt; query.linked(1, 2) && query.linked(2, 4) && !query.linked(1, 4));
+    assert!(rt; query.connected(0) && query.connected(7) && !query.connected(5));
     assert!(rt; !query.is_key(Key(18)));
     assert!(rt; query.is_key(Key(17)));
-    for (item, has) in [(1, true), (2, false), (3, false)] {
-        assert!(rt; query.has_item(Key(17), item) == has, "{item}");
-    }
+    assert!(rt; query.has_item(Key(17), 1));
+    assert!(rt; !query.has_item(Key(17), 2) && !query.has_item(Key(17), 3));
     Ok(())
 }
 
