@@ -56,28 +56,21 @@ const STREAM_AGGREGATIONS: Options = Options {
     off: 1 << 12,
 };
 
-// The query of a text over tables; none where either is refused.
+// The query of a text over tables.
 fn query_of(
     alloc: Global,
     segments: u32,
     tables: &str,
     text: &str,
     options: Options,
-) -> Result<Option<Query>, AllocError> {
+) -> Result<Query, Fail> {
     if options.off >= 32768 || options.off % 4 != 0 {
-        return Ok(None);
+        return Err(Fail::new("a rule may not be off"));
     }
     let json = format!(in alloc; "{{\"version\":1,\"segments\":{segments},\"tables\":{tables}}}")?;
-    let Ok(catalog) = read_catalog(alloc, json.as_bytes()) else {
-        return Ok(None);
-    };
-    let Ok(select) = read_sql(alloc, text.as_bytes()) else {
-        return Ok(None);
-    };
-    match bind(alloc, &select, &catalog, options) {
-        Ok(query) => Ok(Some(query)),
-        Err(_) => Ok(None),
-    }
+    let catalog = read_catalog(alloc, json.as_bytes())?;
+    let select = read_sql(alloc, text.as_bytes())?;
+    Ok(bind(alloc, &select, &catalog, options)?)
 }
 
 // The outcome of the engine with one worker.
@@ -116,16 +109,6 @@ fn both_least(
     }
 }
 
-// The same of a query that nothing else needs.
-fn both_least_of(
-    alloc: Global,
-    query: Query,
-    most: usize,
-) -> Result<(Option<Ranked>, Option<Ranked>), Fail> {
-    let props = Box::new(alloc, Props::collect(alloc, &query)?)?;
-    both_least(alloc, &query, &props, most)
-}
-
 // The same of a text over tables.
 fn both_of(
     alloc: Global,
@@ -135,10 +118,9 @@ fn both_of(
     options: Options,
     most: usize,
 ) -> Result<(Option<Ranked>, Option<Ranked>), Fail> {
-    match query_of(alloc, segments, tables, text, options)? {
-        Some(query) => both_least_of(alloc, query, most),
-        None => Err(Fail::new("the query is refused")),
-    }
+    let query = Box::new(alloc, query_of(alloc, segments, tables, text, options)?)?;
+    let props = Box::new(alloc, Props::collect(alloc, &query)?)?;
+    both_least(alloc, &query, &props, most)
 }
 
 fn cost_of(least: &Option<Ranked>) -> Option<u64> {
