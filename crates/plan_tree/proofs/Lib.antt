@@ -10,7 +10,10 @@ pub mod LineModes
 pub mod LeftFits
 pub mod Unordered
 pub mod JoinsTried
-pub mod ExactModes
+pub mod ServedDists
+pub mod NumberedLines
+pub mod JoinModes
+pub mod ExpressionModes
 pub mod TriedOfOperators
 pub mod JoinsServe
 pub mod FoundEnforcers

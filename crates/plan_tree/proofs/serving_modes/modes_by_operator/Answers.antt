@@ -4,7 +4,8 @@ use Rattle.std.proofs.lemmas.Bool.{false≢true}
 use Rattle.plan_space.specs.declared.modes.ModeSets.{ModeSets}
 use Rattle.query_core.specs.declared.expressions.Physical.TheVariants as physical
 use Rattle.plan_tree.specs.ServingModes.{AreServingByKind}
-use Rattle.plan_tree.proofs.ExactModes.{hash_among, hash_only, loop_among, loop_only, merge_among, merge_only, loop_join_fits, no_join, none_to_try, others_to_try, to_try_by}
+use Rattle.plan_tree.proofs.ExpressionModes.{loop_join_fits, no_join, none_to_try, others_to_try, to_try_by}
+use Rattle.plan_tree.proofs.JoinModes.{hash_among, hash_only, loop_among, loop_only, merge_among, merge_only}
 use Rattle.plan_tree.proofs.JoinsTried.{alternatives_tried}
 use Rattle.plan_tree.proofs.Unordered.{hash_join_none}
 use Rattle.plan_tree.proofs.serving_modes.modes_by_operator.Goals as goal

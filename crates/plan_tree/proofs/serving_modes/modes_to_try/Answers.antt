@@ -4,7 +4,7 @@ use Rattle.plan_space.specs.Modes.{IsOnOne, IsSpread}
 use Rattle.request_props.specs.declared.request.Dist.{Dist}
 use Rattle.request_props.specs.declared.request.Dist.TheVariants.{One, Spread, Copies}
 use Rattle.plan_tree.specs.ServingModes.{IsModeFor}
-use Rattle.plan_tree.proofs.ExactModes.{kind_to_try}
+use Rattle.plan_tree.proofs.ExpressionModes.{kind_to_try}
 use Rattle.plan_tree.proofs.LeftFits.{alternative_mode}
 use Rattle.plan_tree.proofs.serving_modes.modes_to_try.Goals as goal
 

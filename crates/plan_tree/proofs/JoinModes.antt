@@ -1,32 +1,20 @@
 -- Of a join the modes to try are exactly those that serve the request: no line has to be looked at to tell that.
-use Rattle.std.proofs.Common.{◌≡◌, ◌↔◌, ℕ, ◌<◌, ◌/◌, [], Option, None, Some, ap, refl, sym, subst, ◌∙◌, arith, IsTrue}
-use Rattle.std.specs.Prelude.{◌==◌}
+use Rattle.std.proofs.Common.{◌≡◌, ◌↔◌, ℕ, ◌<◌, [], Option, Some, ap, refl, sym, subst, arith}
 use Rattle.std.specs.Option.{option_map}
-use Rattle.std.proofs.lemmas.Bool.{cond_both, eqb-true}
-use Rattle.std.proofs.lemmas.List.Elements.{All-nil}
 use Rattle.query_core.specs.Crossing.{crossing_of}
-use Rattle.query_core.specs.Expressions.{physical_children}
-use Rattle.query_core.specs.Keys.{has_item}
-use Rattle.query_core.specs.declared.expressions.Children.{Children}
 use Rattle.query_core.specs.declared.expressions.Children.TheVariants as arities
-use Rattle.query_core.specs.declared.expressions.Physical.{Physical}
-use Rattle.query_core.specs.declared.expressions.Physical.TheVariants as physical
-use Rattle.query_core.specs.declared.expressions.PhysicalExpr.{PhysicalExpr}
 use Rattle.query_core.specs.declared.query.Query.{Query}
 use Rattle.query_core.specs.declared.words.KeyParts.{KeyParts}
-use Rattle.request_props.specs.Fitting.{DistFits, HashFits, OrderFits}
-use Rattle.request_props.specs.Lying.{OrderLiesIn}
+use Rattle.request_props.specs.Fitting.{HashFits, OrderFits}
 use Rattle.request_props.specs.NumberSets.{IsInSet}
 use Rattle.request_props.specs.Numbered.{column_list, column_order, order_of}
 use Rattle.request_props.specs.Satisfied.{BeginsWith}
 use Rattle.request_props.specs.declared.number_set.NumberSet.{NumberSet}
-use Rattle.request_props.specs.declared.request.Dist.{Dist}
-use Rattle.request_props.specs.declared.request.Dist.TheVariants.{One, Spread, Copies, Hashed}
+use Rattle.request_props.specs.declared.request.Dist.TheVariants.{One, Copies, Hashed}
 use Rattle.request_props.specs.declared.request.Request.{Request}
-use Rattle.plan_space.specs.Alternatives.{DistServes, LineServes, WantsSpread}
-use Rattle.plan_space.specs.Lines.{on_one, on_hashed, in_order, only_line, request, hash_colocated, hash_line, loop_line, merge_with, merge_colocated, merge_line, operator_line}
-use Rattle.plan_space.specs.Laws.{CrossingsFit}
-use Rattle.plan_space.specs.Modes.{HasModeIn, mode_at}
+use Rattle.plan_space.specs.Alternatives.{LineServes}
+use Rattle.plan_space.specs.Lines.{on_one, on_hashed, in_order, request, hash_colocated, hash_line, loop_line, merge_with, merge_colocated, merge_line}
+use Rattle.plan_space.specs.Modes.{HasModeIn}
 use Rattle.plan_space.specs.declared.lines.LeftDist.TheVariants as left_dists
 use Rattle.plan_space.specs.declared.lines.LeftOrder.{LeftOrder}
 use Rattle.plan_space.specs.declared.lines.LeftOrder.TheVariants as left_orders
@@ -35,62 +23,10 @@ use Rattle.plan_space.specs.declared.lines.Line.TheVariants.{Beside}
 use Rattle.plan_space.specs.declared.modes.Mode.{Mode}
 use Rattle.plan_space.specs.declared.modes.Mode.TheVariants as kinds
 use Rattle.plan_space.specs.declared.modes.ModeSets.{ModeSets}
-use Rattle.plan_tree.specs.Alternatives.{HasAlternative}
-use Rattle.plan_tree.specs.ServingModes.{AreServingByKind, AreServing, AreToTry, DistSuits, IsModeFor, is_join}
+use Rattle.plan_tree.specs.ServingModes.{DistSuits, IsModeFor}
 use Rattle.plan_tree.proofs.JoinsTried.{AreHashingTo, AreMergingIn, HashesTo, MergesIn, found_serves, hash_serves, merge_hashes, with_merges}
-
--- ---- what serves a distribution
-
-one_served : (q : Query) (dist : Dist) (number : ℕ) → IsModeFor dist (kinds.One number) → DistServes q on_one dist
-one_served q One number is = tt
-one_served q Spread number is = absurd is
-one_served q Copies number is = absurd is
-one_served q (Hashed list) number is = absurd is
-
-spread_served : (q : Query) (dist : Dist) (number : ℕ) → IsModeFor dist (kinds.Copied number) → DistServes q left_dists.SameSpread dist
-spread_served q One number is = absurd is
-spread_served q Spread number is = tt
-spread_served q Copies number is = absurd is
-spread_served q (Hashed list) number is = tt
-
-suits_fit : (q : Query) (left : KeyParts) (dist : Dist) → DistSuits q left dist → DistFits q left dist
-suits_fit q left One suits = tt
-suits_fit q left Spread suits = tt
-suits_fit q left Copies suits = tt
-suits_fit q left (Hashed list) suits = suits
-
-spread_suits : (q : Query) (left : KeyParts) (dist : Dist) → WantsSpread dist → DistFits q left dist → DistSuits q left dist
-spread_suits q left One wants fits = tt
-spread_suits q left Spread wants fits = tt
-spread_suits q left Copies wants fits = absurd wants
-spread_suits q left (Hashed list) wants fits = fits
-
--- the empty order lies in each group
-none_lies : (q : Query) (group : KeyParts) → OrderLiesIn q group []
-none_lies q group = All-nil (λ element. IsTrue (has_item q group (element / 2)))
-
--- ---- lines by a number
-
--- a line where the number is 0
-only_own : (own line : Line) (number : ℕ) → only_line own number ≡ Some line → (number < 1) × (own ≡ line)
-only_own own line number =
-    cond_both (number == 0) (Some own) None (λ found. found ≡ Some line → (number < 1) × (own ≡ line))
-    (λ first is. (omega (arith, eqb-true number 0 first), cc)) (λ other never. cc)
-
-own_only : (own : Line) (number : ℕ) → number < 1 → only_line own number ≡ Some own
-own_only own number first = let zero : 0 ≡ number = omega (arith, first) in subst (λ (n : ℕ). only_line own n ≡ Some own) zero refl
-
--- a line by a crossing is one by its two columns
-own_crossing : (line_with : (ℕ × ℕ) → Line) (line : Line) (found : Option (ℕ × ℕ)) → option_map line_with found ≡ Some line → (sides : ℕ × ℕ) × (line_with sides ≡ line)
-own_crossing line_with line None is = let wrong : ⊥ = cc in absurd wrong
-own_crossing line_with line (Some sides) is = (sides, cc)
-
--- what crosses has one left column
-same_left : (found : Option (ℕ × ℕ)) (a b c d : ℕ) → found ≡ Some (a, b) → found ≡ Some (c, d) → c ≡ a
-same_left found a b c d one other =
-    let both : Some (c, d) ≡ Some (a, b) = sym other ∙ one in
-    let pair : (c, d) ≡ (a, b) = cc in
-    ap (λ (sides : ℕ × ℕ). sides.0) pair
+use Rattle.plan_tree.proofs.ServedDists.{one_served, spread_served, suits_fit, spread_suits, none_lies}
+use Rattle.plan_tree.proofs.NumberedLines.{only_own, own_only, own_crossing, same_left}
 
 module _ (q : Query) (left right : KeyParts) (wanted : Request) where
   -- the line serves the request over the children
@@ -242,79 +178,3 @@ module _ (q : Query) (left right : KeyParts) (wanted : Request) where
             fits = record { dist = fits.0; numbered = fits.1.numbered; order = fits.1.lies_in };
           },
         )
-
--- ---- expressions
-
-module _ (q : Query) (e : PhysicalExpr) (left right : KeyParts) (wanted : Request) (modes : ModeSets) where
-  -- where the modes of an operator over the children that serve are exactly these of the kind, so are those of the expression
-  pub to_try_by : CrossingsFit q → (operator : Physical) → e.operator ≡ operator → physical_children operator ≡ arities.Two left right
-      → ((mode : Mode) (line : Line) → operator_line q e.group operator mode ≡ Some line → LineServes q line (arities.Two left right) wanted → HasModeIn modes mode)
-      → (((pred a b : ℕ) → crossing_of q left right pred ≡ Some (a, b) → HashFits q left (column_list q a) × OrderFits q left (column_order q a))
-      → (mode : Mode) → HasModeIn modes mode → IsModeFor wanted.dist mode → HasServing q left right wanted (operator_line q e.group operator mode))
-      → AreServingByKind q e wanted modes
-  to_try_by known operator joins over among only =
-      let children : physical_children e.operator ≡ arities.Two left right = ap physical_children joins ∙ over in
-      record {
-        all = λ mode (line, is).
-            among (mode_at mode) line (subst (λ (o : Physical). operator_line q e.group o (mode_at mode) ≡ Some line) joins is.is_line)
-            (subst (λ (c : Children). LineServes q line c wanted) children is.serves);
-        only = λ candidate join mode has kind.
-            let (line, found, serves) = only (λ pred a b crosses. known e left right pred a b candidate children crosses) (mode_at mode) has kind in (
-              line,
-              record {
-                is_line = subst (λ (o : Physical). operator_line q e.group o (mode_at mode) ≡ Some line) (sym joins) found;
-                serves = subst (λ (c : Children). LineServes q line c wanted) (sym children) serves;
-              },
-            );
-      }
-
-module _ (q : Query) (e : PhysicalExpr) (left right : KeyParts) (wanted : Request) where
-  -- a loop join serves only in an order that fits the left child
-  loop_fits : (mode : Mode) (line : Line) → loop_line mode ≡ Some line → LineServes q line (arities.Two left right) wanted → OrderFits q left wanted.order
-  loop_fits (kinds.One number) line is serves =
-      let own = subst (λ (l : Line). LineServes q l (arities.Two left right) wanted) (sym (only_own _ line number is).1) serves in
-      record { numbered = own.fits.numbered; lies_in = own.fits.order }
-  loop_fits (kinds.Copied number) line is serves =
-      let own = subst (λ (l : Line). LineServes q l (arities.Two left right) wanted) (sym (only_own _ line number is).1) serves in
-      record { numbered = own.fits.numbered; lies_in = own.fits.order }
-  loop_fits (kinds.Hashed number) line is serves = cc
-
-  pub loop_join_fits : e.operator ≡ physical.LoopJoin left right → (mode : ℕ) → HasAlternative q e wanted mode → OrderFits q left wanted.order
-  loop_join_fits joins mode (line, is) =
-      loop_fits (mode_at mode) line (subst (λ (o : Physical). operator_line q e.group o (mode_at mode) ≡ Some line) joins is.is_line)
-      (subst (λ (o : Physical). LineServes q line (physical_children o) wanted) joins is.serves)
-
--- what is none of the three joins is no join
-pub no_join : (operator : Physical) → ((left right : KeyParts) → operator ≡ physical.HashJoin left right → ⊥) → ((left right : KeyParts) → operator ≡ physical.MergeJoin left right → ⊥)
-    → ((left right : KeyParts) → operator ≡ physical.LoopJoin left right → ⊥) → IsTrue (is_join operator) → ⊥
-no_join physical.Scan hash merge loop is = cc
-no_join (physical.IndexScan index) hash merge loop is = cc
-no_join (physical.Filter child) hash merge loop is = cc
-no_join (physical.IndexSeek index) hash merge loop is = cc
-no_join (physical.HashJoin left right) hash merge loop is = hash left right refl
-no_join (physical.MergeJoin left right) hash merge loop is = merge left right refl
-no_join (physical.LoopJoin left right) hash merge loop is = loop left right refl
-no_join (physical.HashAgg child) hash merge loop is = cc
-no_join (physical.StreamAgg child) hash merge loop is = cc
-no_join (physical.PartialAgg child) hash merge loop is = cc
-
-module _ (q : Query) (e : PhysicalExpr) (wanted : Request) (modes : ModeSets) where
-  -- where none serves, no modes are those that do
-  pub none_to_try : ((mode : ℕ) → HasAlternative q e wanted mode → ⊥) → ((mode : Mode) → HasModeIn modes mode → ⊥) → AreServingByKind q e wanted modes
-  none_to_try never none = record {
-    all = λ mode serves. absurd (never mode serves);
-    only = λ candidate join mode has kind. absurd (none (mode_at mode) has);
-  }
-
-  -- of no join all that serve are among these
-  pub others_to_try : AreServing q e wanted modes → (IsTrue (is_join e.operator) → ⊥) → AreServingByKind q e wanted modes
-  others_to_try are never = record { all = are; only = λ candidate join mode has kind. absurd (never join) }
-
-module _ (q : Query) (e : PhysicalExpr) (wanted : Request) (modes kind : ModeSets) (IsKind : Mode → Type 0) where
-  -- those of the kind that serves the distribution are those to try
-  pub kind_to_try : AreServingByKind q e wanted modes → ((mode : Mode) → HasModeIn kind mode ↔ (HasModeIn modes mode × IsKind mode))
-      → ((mode : ℕ) → HasAlternative q e wanted mode → IsKind (mode_at mode)) → ((mode : Mode) → IsKind mode → IsModeFor wanted.dist mode) → AreToTry q e wanted kind
-  kind_to_try are exact serving for_dist = record {
-    all = λ mode serves. (exact (mode_at mode)).1 (are.all mode serves, serving mode serves);
-    only = λ candidate join mode has. let (among, is) = (exact (mode_at mode)).0 has in are.only candidate join mode among (for_dist (mode_at mode) is);
-  }
