@@ -1,6 +1,8 @@
 -- In which modes an expression may serve a request, as its operator and the distribution that is asked for say.
 use Rattle.std.specs.Prelude.{ℕ, ◌≤◌, ◌<◌, IsTrue, Bool, true, false, Option, None, Some, ⊤}
-use Rattle.query_core.specs.Expressions.{IsCandidate, expr_of}
+use Rattle.query_core.specs.Expressions.{IsCandidate, expr_of, physical_children}
+use Rattle.query_core.specs.declared.expressions.Children.{Children}
+use Rattle.query_core.specs.declared.expressions.Children.TheVariants as arities
 use Rattle.query_core.specs.declared.expressions.Physical.{Physical}
 use Rattle.query_core.specs.declared.expressions.Physical.TheVariants as physical
 use Rattle.query_core.specs.declared.expressions.PhysicalExpr.{PhysicalExpr}
@@ -45,18 +47,15 @@ IsModeFor Spread mode = IsSpread mode
 IsModeFor Copies mode = ⊥
 IsModeFor (Hashed list) mode = IsSpread mode
 
--- the operator joins two children
+-- there is a left child and a right one
+abbrev pub are_two : Children → Bool
+are_two arities.Zero = false
+are_two (arities.One child) = false
+are_two (arities.Two left right) = true
+
+-- the operator joins two groups
 abbrev pub is_join : Physical → Bool
-is_join physical.Scan = false
-is_join (physical.IndexScan index) = false
-is_join (physical.Filter child) = false
-is_join (physical.IndexSeek index) = false
-is_join (physical.HashJoin left right) = true
-is_join (physical.MergeJoin left right) = true
-is_join (physical.LoopJoin left right) = true
-is_join (physical.HashAgg child) = false
-is_join (physical.StreamAgg child) = false
-is_join (physical.PartialAgg child) = false
+is_join operator = are_two (physical_children operator)
 
 -- the expression may serve the request in some mode
 abbrev pub MayServe : Query → PhysicalExpr → Request → Type 0

@@ -10,14 +10,14 @@ ghost use Rattle.request_props.specs.Numbered.{IsProps, IsNumbered, order_of};
 ghost use Rattle.request_props.specs.Satisfied.{BeginsWith};
 ghost use Rattle.plan_tree.specs.Alternatives.{HasAlternative};
 ghost use Rattle.plan_tree.specs.ServingModes.{has_spread_modes as spread_modes};
-ghost use Rattle.plan_tree.specs.ServingModes.{is_join as is_join_by_kind};
+ghost use Rattle.plan_tree.specs.ServingModes.{is_join as joins_two_groups};
 ghost use Rattle.plan_tree.specs.ServingModes.{AreServing, AreServingByKind, AreToTry, DistSuits, IsNextServing, MayServe};
 
 use crate::lines::line_of;
 use crate::serving::serves;
 use crate::walks::{next_tried, tried, tried_modes};
 use plan_space::{Line, ModeSets, what_is_asked_fits};
-use query_core::{KeyParts, Physical, PhysicalExpr, Query};
+use query_core::{Children, KeyParts, Physical, PhysicalExpr, Query};
 use request_props::{Dist, NumberSet, Props, Request};
 
 /// Whether the expression may serve the request in some mode.
@@ -132,7 +132,7 @@ pub fn next_alternative(
     requires modes { AreToTry query.now expr wanted modes }
     ensures { IsNextServing query.now expr wanted from result }
 {
-    if is_join(expr.operator) {
+    if is_join(expr) {
         next_tried(query, props, expr, modes, from)
     } else {
         next_by_lines(query, props, expr, wanted, modes, from)
@@ -218,20 +218,14 @@ fn where_suits(
     }
 }
 
-fn is_join(operator: Physical) -> bool
-    ensures { result ≡ is_join_by_kind operator }
+// Whether the expression joins two groups.
+fn is_join(expr: PhysicalExpr) -> bool
+    ensures { result ≡ joins_two_groups expr.operator }
 {
-    match operator {
-        Physical::Scan => false,
-        Physical::IndexScan(_) => false,
-        Physical::Filter(_) => false,
-        Physical::IndexSeek(_) => false,
-        Physical::HashJoin(_, _) => true,
-        Physical::MergeJoin(_, _) => true,
-        Physical::LoopJoin(_, _) => true,
-        Physical::HashAgg(_) => false,
-        Physical::StreamAgg(_) => false,
-        Physical::PartialAgg(_) => false,
+    match expr.children() {
+        Children::Zero => false,
+        Children::One(_) => false,
+        Children::Two(_, _) => true,
     }
 }
 
