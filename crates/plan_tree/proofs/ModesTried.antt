@@ -16,17 +16,22 @@ use Rattle.plan_tree.specs.ServingModes.{AreServing, IsNextServing, MayServe, No
 use Rattle.plan_tree.specs.Walks.{IsNextTried}
 
 module _ (q : Query) (e : PhysicalExpr) (wanted : Request) where
-  -- the line of a mode serves, or the mode isn't there
+  -- where the line of a mode serves, the mode is there
   pub line_serves : (mode : ℕ) (line : Line) → line_of q e mode ≡ Some line → LineServes q line (physical_children e.operator) wanted
       → HasAlternative q e wanted mode
   line_serves mode line is serves = (line, record { is_line = is; serves = serves })
 
-  pub line_never : (mode : ℕ) (line : Line) → line_of q e mode ≡ Some line → (LineServes q line (physical_children e.operator) wanted → ⊥)
-      → HasAlternative q e wanted mode → ⊥
-  line_never mode line is never has =
+  -- what serves in a mode serves with the line of that
+  pub own_line : (mode : ℕ) (line : Line) → line_of q e mode ≡ Some line → HasAlternative q e wanted mode → IsAlternative q e wanted mode line
+  own_line mode line is has =
       let both : Some has.0 ≡ Some line = sym has.1.is_line ∙ is in
       let same : has.0 ≡ line = cc in
-      never (subst (λ (l : Line). LineServes q l (physical_children e.operator) wanted) same has.1.serves)
+      subst (IsAlternative q e wanted mode) same has.1
+
+  -- where the line doesn't serve, the mode isn't there
+  pub line_never : (mode : ℕ) (line : Line) → line_of q e mode ≡ Some line → (LineServes q line (physical_children e.operator) wanted → ⊥)
+      → HasAlternative q e wanted mode → ⊥
+  line_never mode line is never has = never (own_line mode line is has).serves
 
   -- a mode without a line isn't there
   pub no_line : (mode : ℕ) → line_of q e mode ≡ None → HasAlternative q e wanted mode → ⊥
@@ -73,13 +78,3 @@ module _ (q : Query) (e : PhysicalExpr) (wanted : Request) where
 
     pub none_from_here : (from : ℕ) → IsNextTried q e modes from None → (mode : ℕ) → from ≤ mode → HasAlternative q e wanted mode → ⊥
     none_from_here from none mode above = untried mode (none mode above)
-
-    -- where each of these serves, the next of them with a line is the next that serves
-    pub next_serves : ((mode : ℕ) → HasModeIn modes (mode_at mode) → HasAlternative q e wanted mode) → (from : ℕ) (found : Option (ℕ × Line)) → IsNextTried q e modes from found
-        → IsNextServing q e wanted from found
-    next_serves only from None none = none_from_here from none
-    next_serves only from (Some (first, line)) next =
-        let has = only first next.4 in
-        let both : Some has.0 ≡ Some line = sym has.1.is_line ∙ next.3 in
-        let same : has.0 ≡ line = cc in
-        (next.0, next.1, none_before_next from first line next, subst (IsAlternative q e wanted first) same has.1)

@@ -11,7 +11,7 @@ ghost use Rattle.request_props.specs.Satisfied.{BeginsWith};
 ghost use Rattle.plan_tree.specs.Alternatives.{HasAlternative};
 ghost use Rattle.plan_tree.specs.ServingModes.{has_spread_modes as spread_modes};
 ghost use Rattle.plan_tree.specs.ServingModes.{is_join as joins_two_groups};
-ghost use Rattle.plan_tree.specs.ServingModes.{AreServing, AreServingByKind, AreToTry, DistSuits, IsNextServing, MayServe};
+ghost use Rattle.plan_tree.specs.ServingModes.{AreServingByKind, AreToTry, DistSuits, IsNextServing, MayServe};
 
 use crate::lines::line_of;
 use crate::serving::serves;
@@ -132,30 +132,10 @@ pub fn next_alternative(
     requires modes { AreToTry query.now expr wanted modes }
     ensures { IsNextServing query.now expr wanted from result }
 {
-    if is_join(expr) {
-        next_tried(query, props, expr, modes, from)
-    } else {
-        next_by_lines(query, props, expr, wanted, modes, from)
-    }
-}
-
-// The same by a look at the lines.
-fn next_by_lines(
-    query: &Query,
-    props: &Props,
-    expr: PhysicalExpr,
-    wanted: Request,
-    modes: ModeSets,
-    from: u32,
-) -> Option<(u32, Line)>
-    requires props { IsProps query.now props.now }
-    requires numbered { IsNumbered query.now wanted.order }
-    requires modes { AreServing query.now expr wanted modes }
-    ensures { IsNextServing query.now expr wanted from result }
-{
+    let joins = is_join(expr);
     let mut at = from;
     'modes: while let Some((mode, line)) = next_tried(query, props, expr, modes, at) {
-        if serves(query, props, line, expr.children(), wanted) {
+        if joins || serves(query, props, line, expr.children(), wanted) {
             return Some((mode, line));
         }
         at = mode + 1;
@@ -163,9 +143,9 @@ fn next_by_lines(
     None
 }
 
-// The same without a look at the kinds of modes: of a hash join only where no order is asked for, of a merge join those by
-// predicates whose left column gives the order, of a loop join only where the order fits the left child; and hashed those
-// whose left column gives the hash that is asked for.
+// The modes to try, without a look at their kinds: of a hash join only where no order is asked for, of a merge join those
+// by predicates whose left column gives the order, of a loop join only where the order fits the left child; and hashed
+// those whose left column gives the hash that is asked for.
 fn modes_by_operator(query: &Query, props: &Props, expr: PhysicalExpr, wanted: Request) -> ModeSets
     requires { IsProps query.now props.now }
     ensures { AreServingByKind query.now expr wanted result }
