@@ -2,7 +2,7 @@
 #![tactic(auto)]
 
 ghost use Rattle.std.specs.Prelude.{◌≡◌, None, slice_get};
-ghost use Rattle.query_core.specs.Keys.{IsKey, Names};
+ghost use Rattle.query_core.specs.Keys.{IsGroup, IsKey, Names};
 ghost use Rattle.query_core.specs.declared.words.KeyParts.{KeyParts as Group};
 ghost use Rattle.request_props.specs.Numbered.{IsProps};
 ghost use Rattle.request_props.specs.Fitting.{Fits};
@@ -13,7 +13,7 @@ ghost use Rattle.plan_tree.specs.Enforcers.{AreBoth, IsEnforced, IsEnforcerAt};
 
 use crate::node::Node;
 use plan_space::{Enforcer, NodeKind};
-use query_core::{Key, KeyParts, Query};
+use query_core::{Key, KeyParts, Query, groups_are_known};
 use request_props::{Dist, Props, Request};
 
 /// An enforcer that may meet a request, and what it asks of a plan of the same group.
@@ -44,6 +44,24 @@ pub fn enforcer(
         1 => second,
         _ => None,
     }
+}
+
+/// The enforcer at this place, of all those for a request that fits the group.
+pub fn enforcer_for(
+    query: &Query,
+    props: &Props,
+    group: KeyParts,
+    wanted: Request,
+    place: u32,
+) -> Option<Enforced>
+    requires props { IsProps query.now props.now }
+    requires known { IsGroup query.now group }
+    requires fits { Fits query.now group wanted }
+    ensures { IsEnforced result (slice_get (enforcers_of wanted) place) }
+{
+    // For the proof: a group has one key.
+    groups_are_known();
+    enforcer(query, props, Key::make(group), wanted, place)
 }
 
 // The two enforcers for the request, where they fit the group.

@@ -21,7 +21,7 @@ pub use answers::{Answered, Answers};
 pub use cost::{
     ExprRows, asked_by, enforcer_cost, enforcer_cost_by, expr_rows, native_cost, native_cost_by,
 };
-pub use enforcers::{Enforced, enforcer};
+pub use enforcers::{Enforced, enforcer, enforcer_for};
 pub use lines::{line_of, table_in};
 pub use node::{Node, nodes_are_one};
 pub use plan::{Found, Plan};
