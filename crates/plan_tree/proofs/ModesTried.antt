@@ -16,11 +16,6 @@ use Rattle.plan_tree.specs.ServingModes.{AreServing, IsNextServing, MayServe, No
 use Rattle.plan_tree.specs.Walks.{IsNextTried}
 
 module _ (q : Query) (e : PhysicalExpr) (wanted : Request) where
-  -- where the line of a mode serves, the mode is there
-  pub line_serves : (mode : ℕ) (line : Line) → line_of q e mode ≡ Some line → LineServes q line (physical_children e.operator) wanted
-      → HasAlternative q e wanted mode
-  line_serves mode line is serves = (line, record { is_line = is; serves = serves })
-
   -- what serves in a mode serves with the line of that
   pub own_line : (mode : ℕ) (line : Line) → line_of q e mode ≡ Some line → HasAlternative q e wanted mode → IsAlternative q e wanted mode line
   own_line mode line is has =
