@@ -1,11 +1,9 @@
 //! The answers to the goals that choose plans, from those to their children.
 #![tactic(auto)]
 
-ghost use Rattle.std.specs.Prelude.{◌<◌, All, IfOk, slice_get};
+ghost use Rattle.std.specs.Prelude.{◌<◌, All, IfOk};
 ghost use Rattle.xform_rules.specs.Closure.{IsMember};
-ghost use Rattle.plan_space.specs.Enforcers.{enforcers_of};
 ghost use Rattle.plan_tree.specs.Costs.{AreRowsOf};
-ghost use Rattle.plan_tree.specs.Enforcers.{IsEnforced};
 ghost use Rattle.best_answers.specs.Best.{IsBest, IsBestAsked};
 ghost use Rattle.best_answers.specs.Nodes.{all_nodes};
 ghost use Rattle.goal_space.specs.Answers.{IsAnswerTo};
@@ -19,8 +17,8 @@ use best_answers::{Best, answers_are_best, best_in_mode, best_of_enforcer, lesse
 use goal_children::{goals_are_over_the_query, list_children};
 use goal_space::{GoalKind, goals_are_known, ranks_fall};
 use plan_space::{MODES_END, modes_are_few};
-use plan_tree::{Enforced, ExprRows, Node, alternative_by, enforcer, expr_rows, line_of};
-use query_core::{Key, KeyParts, PhysicalExpr, groups_are_known};
+use plan_tree::{ExprRows, Node, alternative_by, enforcer_for, expr_rows, line_of};
+use query_core::{Key, KeyParts, PhysicalExpr};
 use request_props::Request;
 use std::alloc::{AllocError, Global};
 use xform_rules::{members_are_candidates, members_are_known};
@@ -76,31 +74,14 @@ fn best_enforcer(source: Source<'_>, group: KeyParts, wanted: Request, place: u3
     goals_are_known();
     ranks_fall();
     answers_are_best();
-    match enforcer_for(source, group, wanted, place) {
+    let Source { query, props, .. } = source;
+    match enforcer_for(query, props, group, wanted, place) {
         Some(enforced) => {
-            let Source { query, props, .. } = source;
             let below = told_to(source, GoalKind::Opt(group, enforced.below));
             best_of_enforcer(query, props, group, wanted, enforced, below)
         }
         None => None,
     }
-}
-
-// The enforcer for the request at this place, if there are so many.
-fn enforcer_for(
-    source: Source<'_>,
-    group: KeyParts,
-    wanted: Request,
-    place: u32,
-) -> Option<Enforced>
-    requires source { AreOf source.query.now source.props.now source.members.now }
-    requires ready { IsReady source.query.now source.known.now (Opt group wanted) }
-    ensures { IsEnforced result (slice_get (enforcers_of wanted) place) }
-{
-    // For the proof: the group has a key, and the request fits it.
-    goals_are_known();
-    groups_are_known();
-    enforcer(source.query, source.props, Key::make(group), wanted, place)
 }
 
 // The best answer of the group's members.

@@ -1,12 +1,8 @@
 //! The enforcers for a request, and the best answer of them.
 #![tactic(auto)]
 
-ghost use Rattle.std.specs.Prelude.{◌≡◌, slice_get};
-ghost use Rattle.query_core.specs.Keys.{IsGroup};
+ghost use Rattle.std.specs.Prelude.{◌≡◌};
 ghost use Rattle.request_props.specs.Numbered.{IsProps};
-ghost use Rattle.request_props.specs.Fitting.{Fits};
-ghost use Rattle.plan_space.specs.Enforcers.{enforcers_of};
-ghost use Rattle.plan_tree.specs.Enforcers.{IsEnforced};
 ghost use Rattle.best_answers.specs.Best.{IsBest};
 ghost use Rattle.goal_board.specs.Seats.{hands};
 ghost use Rattle.goal_space.specs.Entries.{NamesGoal};
@@ -22,8 +18,8 @@ use board_moves::Job;
 use goal_board::{Board, Hints, Seat};
 use goal_rules::Rules;
 use goal_space::{GoalKind, goals_are_known};
-use plan_tree::{Enforced, enforcer};
-use query_core::{Key, KeyParts, Query, groups_are_known};
+use plan_tree::enforcer_for;
+use query_core::{KeyParts, Query};
 use request_props::{Props, Request};
 
 /// The best answer of the enforcers for the request. None where a goal found every cell taken.
@@ -168,22 +164,4 @@ fn await_enforcer<'q, H: Hints>(
         }
         None => Some(Choice::Known(None)),
     }
-}
-
-// The enforcer for the request at this place, if there are so many.
-fn enforcer_for(
-    query: &Query,
-    props: &Props,
-    group: KeyParts,
-    wanted: Request,
-    place: u32,
-) -> Option<Enforced>
-    requires props { IsProps query.now props.now }
-    requires known { IsGroup query.now group }
-    requires fits { Fits query.now group wanted }
-    ensures { IsEnforced result (slice_get (enforcers_of wanted) place) }
-{
-    // For the proof: a group has one key.
-    groups_are_known();
-    enforcer(query, props, Key::make(group), wanted, place)
 }
