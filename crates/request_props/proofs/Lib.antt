@@ -11,5 +11,8 @@ pub mod SideLists
 pub mod JoinWords
 pub mod CandidateLists
 pub mod NumberSets
-pub mod EqualityEnds
+pub mod PredicateEnds
+pub mod GroupCrossings
+pub mod ListsOfEnds
+pub mod CrossingsByAny
 pub mod PhysicalLists

@@ -1,6 +1,7 @@
 -- One more number's sets are found.
 use Rattle.request_props.specs.Counted.{IsAmong, IsColumnBy}
-use Rattle.request_props.proofs.EqualityEnds.{ends_push, ends_same}
+use Rattle.request_props.proofs.ListsOfEnds.{ends_push}
+use Rattle.request_props.proofs.PredicateEnds.{ends_same}
 use Rattle.request_props.proofs.ends.ends_by.Goals as goal
 
 pub loop-number-preserved : goal.loop-number-preserved

@@ -3,7 +3,7 @@ use Rattle.std.proofs.lemmas.List.{length-map}
 use Rattle.request_props.specs.Counted.{IsAmong}
 use Rattle.request_props.specs.Ends.{AreEndsBelow}
 use Rattle.request_props.specs.Numbered.{equality_of}
-use Rattle.request_props.proofs.EqualityEnds.{have_numbers, none_below, ends_more}
+use Rattle.request_props.proofs.PredicateEnds.{have_numbers, none_below, ends_more}
 use Rattle.request_props.proofs.ends.ends_of.Goals as goal
 
 pub loop-pred-init : goal.loop-pred-init

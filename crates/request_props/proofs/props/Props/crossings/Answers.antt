@@ -1,5 +1,5 @@
 -- The predicates that cross are those that the sets of the groups have across.
-use Rattle.request_props.proofs.EqualityEnds.{crossing_in}
+use Rattle.request_props.proofs.GroupCrossings.{crossing_in}
 use Rattle.request_props.proofs.props.Props.crossings.Goals as goal
 
 pub returns : goal.returns

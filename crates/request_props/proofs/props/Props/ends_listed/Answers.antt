@@ -1,7 +1,7 @@
 -- The sets stand in their list by hashed lists.
 use Rattle.std.proofs.Common.{◌≡◌, Some, subst, sym}
 use Rattle.request_props.specs.Numbered.{AreListEnds}
-use Rattle.request_props.proofs.EqualityEnds.{ends_found}
+use Rattle.request_props.proofs.ListsOfEnds.{ends_found}
 use Rattle.request_props.proofs.props.Props.ends_listed.Goals as goal
 
 pub returns-in-Some : goal.returns-in-Some

@@ -4,7 +4,7 @@ use Rattle.request_props.specs.Numbered.{column_list}
 use Rattle.request_props.specs.Satisfied.{Meets}
 use Rattle.request_props.specs.declared.given.GivenDist.TheVariants.{Hashed}
 use Rattle.request_props.specs.declared.request.Dist.{Dist}
-use Rattle.request_props.proofs.EqualityEnds.{crosses_any}
+use Rattle.request_props.proofs.CrossingsByAny.{crosses_any}
 use Rattle.request_props.proofs.props.Props.hashing.Goals as goal
 
 pub returns-in-Spread : goal.returns-in-Spread

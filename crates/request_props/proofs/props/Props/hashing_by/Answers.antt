@@ -1,7 +1,7 @@
 -- The predicates whose left column has the list are those that the sets of the groups and of the list have.
 use Rattle.std.proofs.Common.{◌≡◌, ℕ}
 use Rattle.request_props.specs.Numbered.{column_list}
-use Rattle.request_props.proofs.EqualityEnds.{narrowed_in}
+use Rattle.request_props.proofs.GroupCrossings.{narrowed_in}
 use Rattle.request_props.proofs.props.Props.hashing_by.Goals as goal
 
 pub returns : goal.returns

@@ -2,7 +2,7 @@
 use Rattle.std.proofs.Common.{◌≡◌, subst, sym}
 use Rattle.std.specs.Prelude.{IfSome}
 use Rattle.request_props.specs.Ends.{AreEndsOf, AreSetEnds, AreTableEnds, HasColumn}
-use Rattle.request_props.proofs.EqualityEnds.{ends_found}
+use Rattle.request_props.proofs.ListsOfEnds.{ends_found}
 use Rattle.request_props.proofs.props.Props.known_ends.Goals as goal
 
 pub returns-in-Get : goal.returns-in-Get

@@ -1,7 +1,7 @@
 -- A column gives the order exactly where the order of the column begins with it.
 use Rattle.request_props.specs.Ends.{IsGivenBy}
 use Rattle.request_props.specs.Numbered.{order_of}
-use Rattle.request_props.proofs.EqualityEnds.{narrowed_in}
+use Rattle.request_props.proofs.GroupCrossings.{narrowed_in}
 use Rattle.request_props.proofs.Orders.{begins_given, given_begins}
 use Rattle.request_props.proofs.props.Props.merging.Goals as goal
 

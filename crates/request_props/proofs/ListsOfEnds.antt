@@ -1,0 +1,39 @@
+-- Laws of lists of the sets of equalities that have one of some columns.
+use Rattle.std.proofs.Common.{◌≡◌, inl, inr, ℕ, ◌+◌, ◌<◌, List, [], ◌∷◌, ◌++◌, Option, None, Some, length, length-append, get_or, arith, ap, refl, sym, subst, ◌∙◌}
+use Rattle.std.specs.Prelude.{IfSome}
+use Rattle.std.proofs.lemmas.Bool.{cases_lt}
+use Rattle.std.proofs.lemmas.List.{get_or_append_left}
+use Rattle.std.proofs.Math.Seq.{get_or-append_seam}
+use Rattle.query_core.specs.declared.query.Query.{Query}
+use Rattle.request_props.specs.Ends.{AreEnds, AreEndsOf}
+use Rattle.request_props.specs.declared.ends.EqualityEnds.{EqualityEnds}
+
+module _ (q : Query) (IsOneAt : ℕ → ℕ → Type 0) where
+  -- sets at no place
+  pub no_ends : AreEnds q IsOneAt 0 []
+  no_ends = record { count = refl; each = λ k d within. absurd (omega (arith, within)) }
+
+  -- and of one more
+  pub ends_push : (list new : List EqualityEnds) (n : ℕ) (ends : EqualityEnds) → new ≡ list ++ ends ∷ [] → AreEnds q IsOneAt n list → AreEndsOf q (IsOneAt n) ends
+      → AreEnds q IsOneAt (n + 1) new
+  ends_push list new n ends grown before is =
+      let longer : length new ≡ length list + 1 = ap length grown ∙ length-append list (ends ∷ []) in
+      record {
+        count = omega (arith, longer, before.count);
+        each = λ k d within. elim (cases_lt k n) [
+          | inl below ↦
+              let same : get_or new k d ≡ get_or list k d = rw grown (get_or_append_left list (ends ∷ []) d k (omega (arith, below, before.count))) in
+              subst (AreEndsOf q (IsOneAt k)) (sym same) (before.each k d (omega (arith, below, before.count)))
+          | inr above ↦
+              let last : length list ≡ k = omega (arith, above, within, longer, before.count) in
+              let at_end : get_or new (length list) d ≡ ends = rw grown (get_or-append_seam list ends [] d) in
+              let own : get_or new k d ≡ ends = subst (λ (m : ℕ). get_or new m d ≡ ends) last at_end in
+              subst (AreEndsOf q (IsOneAt k)) (sym own) (subst (λ (m : ℕ). AreEndsOf q (IsOneAt m) ends) (sym before.count ∙ last) is)
+        ];
+      }
+
+  -- what stands at a place of the list is of that place
+  pub ends_found : (count : ℕ) (list : List EqualityEnds) → AreEnds q IsOneAt count list → (place : ℕ) (found : Option EqualityEnds)
+      → IfSome found (λ ends. (d : EqualityEnds) → (place < length list) × (get_or list place d ≡ ends)) → IfSome found (AreEndsOf q (IsOneAt place))
+  ends_found count list are place None at = tt
+  ends_found count list are place (Some ends) at = let (within, same) = at ends in subst (AreEndsOf q (IsOneAt place)) same (are.each place ends within)
