@@ -5,7 +5,8 @@ use Rattle.std.proofs.lemmas.Bool.{cases_lt}
 use Rattle.std.proofs.lemmas.List.{get_or_append_left}
 use Rattle.std.proofs.Math.Seq.{get_or-append_seam}
 use Rattle.query_core.specs.declared.query.Query.{Query}
-use Rattle.request_props.specs.Ends.{AreEnds, AreEndsOf}
+use Rattle.query_core.specs.declared.words.KeyParts.{KeyParts}
+use Rattle.request_props.specs.Ends.{AreEnds, AreEndsOf, HasColumn}
 use Rattle.request_props.specs.declared.ends.EqualityEnds.{EqualityEnds}
 
 module _ (q : Query) (IsOneAt : ℕ → ℕ → Type 0) where
@@ -33,7 +34,16 @@ module _ (q : Query) (IsOneAt : ℕ → ℕ → Type 0) where
       }
 
   -- what stands at a place of the list is of that place
-  pub ends_found : (count : ℕ) (list : List EqualityEnds) → AreEnds q IsOneAt count list → (place : ℕ) (found : Option EqualityEnds)
+  pub ends_found : (count : ℕ) (known list : List EqualityEnds) → list ≡ known → AreEnds q IsOneAt count known → (place : ℕ) (found : Option EqualityEnds)
       → IfSome found (λ ends. (d : EqualityEnds) → (place < length list) × (get_or list place d ≡ ends)) → IfSome found (AreEndsOf q (IsOneAt place))
-  ends_found count list are place None at = tt
-  ends_found count list are place (Some ends) at = let (within, same) = at ends in subst (AreEndsOf q (IsOneAt place)) same (are.each place ends within)
+  ends_found count known list same are place None at = tt
+  ends_found count known list same are place (Some ends) at =
+      let (within, is) = at ends in
+      subst (AreEndsOf q (IsOneAt place)) is ((subst (AreEnds q IsOneAt count) (sym same) are).each place ends within)
+
+-- in a list by the numbers of groups it is of the group
+pub group_found : (q : Query) (GroupAt : ℕ → KeyParts) (group : KeyParts) (place : ℕ) → group ≡ GroupAt place → (count : ℕ) (known list : List EqualityEnds) → list ≡ known
+    → AreEnds q (λ k. HasColumn q (GroupAt k)) count known → (found : Option EqualityEnds)
+    → IfSome found (λ ends. (d : EqualityEnds) → (place < length list) × (get_or list place d ≡ ends)) → IfSome found (AreEndsOf q (HasColumn q group))
+group_found q GroupAt group place is count known list same are found at =
+    subst (λ g. IfSome found (AreEndsOf q (HasColumn q g))) (sym is) (ends_found q (λ k. HasColumn q (GroupAt k)) count known list same are place found at)
