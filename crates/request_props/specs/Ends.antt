@@ -56,6 +56,18 @@ AreTableEnds q list = AreEnds q (λ table. HasColumn q (Get table)) (length q.ta
 abbrev pub AreSetEnds : Query → List EqualityEnds → Type 0
 AreSetEnds q list = AreEnds q (λ set. HasColumn q (Join set)) (2 ^ length q.tables - 1) list
 
+-- the first item of the predicate is one of their columns, and its second is none
+abbrev pub HasFirstAlone : EqualityEnds → ℕ → Type 0
+HasFirstAlone ends number = IsInSet ends.first number × (IsInSet ends.second number → ⊥)
+
+-- the second item is, and the first is none
+abbrev pub HasSecondAlone : EqualityEnds → ℕ → Type 0
+HasSecondAlone ends number = IsInSet ends.second number × (IsInSet ends.first number → ⊥)
+
+-- both have the predicate by its first item, or both by its second
+abbrev pub HaveBoth : EqualityEnds → EqualityEnds → ℕ → Type 0
+HaveBoth one other number = (IsInSet one.first number × IsInSet other.first number) ⊎ (IsInSet one.second number × IsInSet other.second number)
+
 -- the one has the predicate by its first item and the other by its second, or the other way round
 abbrev pub HasAcross : EqualityEnds → EqualityEnds → ℕ → Type 0
 HasAcross one other number = (IsInSet one.first number × IsInSet other.second number) ⊎ (IsInSet one.second number × IsInSet other.first number)

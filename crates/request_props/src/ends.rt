@@ -7,6 +7,7 @@ ghost use Rattle.query_core.specs.declared.query.Query.{Query as AnyQuery};
 ghost use Rattle.request_props.specs.NumberSets.{IsInSet};
 ghost use Rattle.request_props.specs.Numbered.{equality_of, order_among, orders_of, side_of};
 ghost use Rattle.request_props.specs.Ends.{AreEnds, AreEndsOf, HasAcross, HasAcrossBy, IsGivenBy};
+ghost use Rattle.request_props.specs.Ends.{HasFirstAlone, HasSecondAlone, HaveBoth};
 ghost use Rattle.request_props.specs.Counted.{HaveNumbers, IsAmong, IsByLeft, IsByRight, IsColumnBy};
 
 use crate::number_set::NumberSet;
@@ -24,7 +25,10 @@ pub struct EqualityEnds {
 
 impl EqualityEnds {
     /// Those of which one column is this one's, and the other isn't.
-    pub fn leaving(self) -> EqualityEnds {
+    pub fn leaving(self) -> EqualityEnds
+        ensures first { (pred : ℕ) → IsInSet result.first pred ↔ HasFirstAlone self pred }
+        ensures second { (pred : ℕ) → IsInSet result.second pred ↔ HasSecondAlone self pred }
+    {
         EqualityEnds {
             first: self.first.without(self.second),
             second: self.second.without(self.first),
@@ -32,7 +36,9 @@ impl EqualityEnds {
     }
 
     /// Whether both have some equality by the same column.
-    pub fn meets(self, other: EqualityEnds) -> bool {
+    pub fn meets(self, other: EqualityEnds) -> bool
+        ensures { IsTrue result ↔ (pred : ℕ) × HaveBoth self other pred }
+    {
         !self.first.and(other.first).is_empty() || !self.second.and(other.second).is_empty()
     }
 
