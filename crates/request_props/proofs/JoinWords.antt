@@ -1,17 +1,18 @@
 -- The words of all expressions of a kind in order, those of the joins of a set among them.
-use Rattle.std.proofs.Common.{◌≡◌, ℕ, ◌+◌, ◌-◌, ◌*◌, ◌<◌, ◌≤◌, ◌^◌, ◌⊎◌, inl, inr, List, [], ◌∷◌, ◌++◌, length, map, get_or, refl, ap, sym, subst, ◌∙◌, append_assoc, arith}
+use Rattle.std.proofs.Common.{◌≡◌, ℕ, ◌+◌, ◌-◌, ◌<◌, ◌≤◌, ◌⊎◌, inl, inr, List, [], ◌∷◌, ◌++◌, length, map, get_or, refl, ap, sym, subst, ◌∙◌, append_assoc, arith}
 use Rattle.std.specs.List.{All, Contains}
 use Rattle.std.specs.List.Sorted.{IsStrictlyIncreasing}
 use Rattle.std.proofs.lemmas.Bool.{cases_lt}
 use Rattle.std.proofs.lemmas.List.{get_or_append_left, get_or-append_right, get_or-map, get_or_default, length-map, length-append}
 use Rattle.std.proofs.lemmas.List.Elements.{All-map, All-append, Contains-append_left, Contains-append_right}
-use Rattle.query_core.specs.Keys.{IsGroup, top_of}
-use Rattle.query_core.specs.Expressions.{word_of}
+use Rattle.query_core.specs.Keys.{IsGroup, key_number, top_of}
+use Rattle.query_core.specs.Expressions.{fields, packed, word_of}
 use Rattle.query_core.specs.ByKind.{expr, join, IsJoinBy, IsOf}
 use Rattle.query_core.specs.declared.query.Query.{Query}
 use Rattle.query_core.specs.declared.words.KeyParts.TheVariants.{Join, Agg}
 use Rattle.query_core.specs.declared.expressions.Logical.TheVariants.{NJoin}
 use Rattle.query_core.specs.declared.expressions.Operator.TheVariants as operators
+use Rattle.query_core.specs.declared.expressions.Children.TheVariants.{Zero}
 use Rattle.query_core.specs.declared.expressions.ExprParts.{ExprParts}
 use Rattle.query_core.specs.declared.kinds.JoinKind.{JoinKind}
 use Rattle.query_core.specs.declared.kinds.JoinKind.TheVariants.{Logical, Hash, Merge, Loop}
@@ -110,7 +111,7 @@ operator_number Loop = 11
 
 -- where the words of a set's operators of this number begin
 abbrev words_from : ℕ → ℕ → ℕ
-words_from set number = (1024 + set) * 2 ^ 36 + number * 2 ^ 31
+words_from set number = packed (key_number (Join set)) (fields number 0 Zero)
 
 -- the join of all tables of a set
 abbrev many_of : ℕ → ExprParts
