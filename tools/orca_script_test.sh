@@ -67,5 +67,16 @@ make_checkout 'echo "never called"; exit 1'
 touch "$checkout/crates/orca/out/orca"
 expect "a program that is current is started at once" 0 "stale" ""
 
+make_checkout 'echo "never called"; exit 1'
+printf '#!/bin/sh\necho "$GLIBC_TUNABLES"\n' > "$checkout/crates/orca/out/orca"
+unset GLIBC_TUNABLES
+expect "the program is started with large pages" 0 "glibc.malloc.hugetlb=1" ""
+
+make_checkout 'echo "never called"; exit 1'
+printf '#!/bin/sh\necho "$GLIBC_TUNABLES"\n' > "$checkout/crates/orca/out/orca"
+export GLIBC_TUNABLES=glibc.malloc.hugetlb=0
+expect "what the caller set for the C library stays" 0 "glibc.malloc.hugetlb=0" ""
+unset GLIBC_TUNABLES
+
 echo "$passed passed, $failed failed"
 [ "$failed" -eq 0 ]
