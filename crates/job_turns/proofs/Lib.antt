@@ -15,3 +15,4 @@ pub mod Enforced
 pub mod Serving
 pub mod Held
 pub mod GoalsHeld
+pub mod JobHeld

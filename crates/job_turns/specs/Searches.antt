@@ -1,5 +1,5 @@
--- The board of a query's search, its seats and rights.
-use Rattle.std.specs.Prelude.{◌≡◌}
+-- The board of a query's search, its seats, rights and jobs.
+use Rattle.std.specs.Prelude.{◌≡◌, ℕ}
 use Rattle.query_core.specs.declared.query.Query.{Query}
 use Rattle.board_rule.specs.Meaning.{Meaning}
 use Rattle.goal_board.specs.declared.board.Board.{Board}
@@ -7,6 +7,7 @@ use Rattle.goal_board.specs.declared.board.Seat.{Seat}
 use Rattle.goal_board.specs.declared.board.Right.{Right}
 use Rattle.goal_board.specs.Seats.{IsSeatOf, hands}
 use Rattle.goal_board.specs.Calls.{IsRightOf}
+use Rattle.board_moves.specs.declared.job.Job.{Job}
 use Rattle.goal_rules.specs.declared.rules.Rules.{Rules}
 use Rattle.goal_rules.specs.Meaning.{meaning_of}
 use Rattle.job_turns.specs.Laws.{IsSmall}
@@ -27,3 +28,14 @@ IsSeat b s = IsSeatOf rules_mean b s
 -- the seat has the right
 abbrev pub HasRight : Board Rules → Seat Rules → Right → Type 0
 HasRight b s right = IsRightOf (rules_mean b.key.rules) b.key.room (hands s) right
+
+-- the seat is one of the query's board, and has the right of the job
+pub record HasJob (q : Query) (b : Board Rules) (s : Seat Rules) (job : Job) : Type 0 where
+  pub board : IsBoardOf q b
+  pub seat : IsSeat b s
+  pub right : HasRight b s job.right
+
+-- the seat has the job, and the hints have the capacity of the board's room
+pub record IsAtWork (q : Query) (b : Board Rules) (s : Seat Rules) (job : Job) (capacity : ℕ) : Type 0 where
+  pub has_job : HasJob q b s job
+  pub hints : capacity ≡ b.key.room

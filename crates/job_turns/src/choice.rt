@@ -8,7 +8,7 @@ ghost use Rattle.goal_space.specs.Answers.{IsAnswerTo};
 ghost use Rattle.goal_space.specs.Words.{goal_word};
 ghost use Rattle.goal_rules.specs.Answers.{AreWordsOf};
 ghost use Rattle.best_answers.specs.declared.best.Best.{Best as AnyBest};
-ghost use Rattle.job_turns.specs.Searches.{IsBoardOf, IsSeat, HasRight};
+ghost use Rattle.job_turns.specs.Searches.{IsAtWork};
 ghost use Rattle.job_turns.specs.Works.{IsChildOf};
 ghost use Rattle.job_turns.specs.Choices.{choice_of_both, most_word, AnswersAreKnown, Chooses, IsProgressOf, PutsChildren};
 
@@ -54,17 +54,12 @@ pub(crate) fn await_choice<'q, H: Hints>(
     word: Goal,
     hints: &mut H,
 ) -> Option<Choice>
-    requires board { IsBoardOf query.now board.now }
-    requires seat { IsSeat board.now seat.old }
-    requires right { HasRight board.now seat.old job.old.right }
+    requires at_work { IsAtWork query.now board.now seat.old job.old (H.capacity hints.old) }
     requires child { IsChildOf query.now job.old.right.goal child }
     requires word { goal_word child ≡ word.0 }
-    requires hints { H.capacity hints.old ≡ board.now.key.room }
-    ensures seat { IsSeat board.now seat.new }
-    ensures right { HasRight board.now seat.new job.new.right }
+    ensures at_work { IsAtWork query.now board.now seat.new job.new (H.capacity hints.new) }
     ensures chooses { Chooses query.now board.now.key.room (hands seat.old) job.old.right
         (λ goal. goal ≡ child) (IsAnswerTo query.now child) result (hands seat.new) job.new.right }
-    ensures hints { H.capacity hints.new ≡ H.capacity hints.old }
 {
     // For the proof: the words of an answer tell it.
     answers_are_known();
@@ -84,16 +79,11 @@ pub(crate) fn put_child<'q, H: Hints>(
     child: GoalKind,
     hints: &mut H,
 ) -> bool
-    requires board { IsBoardOf query.now board.now }
-    requires seat { IsSeat board.now seat.old }
-    requires right { HasRight board.now seat.old job.now.right }
+    requires at_work { IsAtWork query.now board.now seat.old job.now (H.capacity hints.old) }
     requires child { IsChildOf query.now job.now.right.goal child }
-    requires hints { H.capacity hints.old ≡ board.now.key.room }
-    ensures seat { IsSeat board.now seat.new }
-    ensures right { HasRight board.now seat.new job.now.right }
+    ensures at_work { IsAtWork query.now board.now seat.new job.now (H.capacity hints.new) }
     ensures puts { PutsChildren query.now board.now.key.room (hands seat.old) job.now.right
         result (hands seat.new) }
-    ensures hints { H.capacity hints.new ≡ H.capacity hints.old }
 {
     // For the proof: a child of a goal has a word.
     words_are_known();

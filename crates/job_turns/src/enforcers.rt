@@ -1,13 +1,12 @@
 //! The enforcers for a request, and the best answer of them.
 #![tactic(auto)]
 
-ghost use Rattle.std.specs.Prelude.{◌≡◌};
 ghost use Rattle.request_props.specs.Numbered.{IsProps};
 ghost use Rattle.best_answers.specs.Best.{IsBest};
 ghost use Rattle.goal_board.specs.Seats.{hands};
 ghost use Rattle.goal_space.specs.Entries.{NamesGoal};
 ghost use Rattle.goal_space.specs.declared.goals.GoalKind.TheVariants.{Opt};
-ghost use Rattle.job_turns.specs.Searches.{IsBoardOf, IsSeat, HasRight};
+ghost use Rattle.job_turns.specs.Searches.{IsAtWork};
 ghost use Rattle.job_turns.specs.Choices.{Chooses, PutsChildren};
 ghost use Rattle.job_turns.specs.Requests.{IsEnforcerGoal, IsEnforcerGoalAt, enforcer_at, first_enforcers};
 
@@ -34,18 +33,13 @@ pub(crate) fn best_enforcer<'q, H: Hints>(
     hints: &mut H,
 ) -> Option<Choice>
     requires props { IsProps query.now props.now }
-    requires board { IsBoardOf query.now board.now }
-    requires seat { IsSeat board.now seat.old }
-    requires right { HasRight board.now seat.old job.old.right }
+    requires at_work { IsAtWork query.now board.now seat.old job.old (H.capacity hints.old) }
     requires goal { NamesGoal query.now job.old.right.goal (Opt group wanted) }
-    requires hints { H.capacity hints.old ≡ board.now.key.room }
-    ensures seat { IsSeat board.now seat.new }
-    ensures right { HasRight board.now seat.new job.new.right }
+    ensures at_work { IsAtWork query.now board.now seat.new job.new (H.capacity hints.new) }
     ensures chooses { Chooses query.now board.now.key.room (hands seat.old) job.old.right
         (IsEnforcerGoal query.now group wanted)
         (IsBest query.now group wanted (first_enforcers wanted))
         result (hands seat.new) job.new.right }
-    ensures hints { H.capacity hints.new ≡ H.capacity hints.old }
 {
     // For the proof: the best of two sets is that of both.
     goals_are_known();
@@ -67,16 +61,11 @@ pub(crate) fn put_enforcers<'q, H: Hints>(
     hints: &mut H,
 ) -> bool
     requires props { IsProps query.now props.now }
-    requires board { IsBoardOf query.now board.now }
-    requires seat { IsSeat board.now seat.old }
-    requires right { HasRight board.now seat.old job.now.right }
+    requires at_work { IsAtWork query.now board.now seat.old job.now (H.capacity hints.old) }
     requires goal { NamesGoal query.now job.now.right.goal (Opt group wanted) }
-    requires hints { H.capacity hints.old ≡ board.now.key.room }
-    ensures seat { IsSeat board.now seat.new }
-    ensures right { HasRight board.now seat.new job.now.right }
+    ensures at_work { IsAtWork query.now board.now seat.new job.now (H.capacity hints.new) }
     ensures puts { PutsChildren query.now board.now.key.room (hands seat.old) job.now.right
         result (hands seat.new) }
-    ensures hints { H.capacity hints.new ≡ H.capacity hints.old }
 {
     if !put_enforcer(query, props, board, seat, job, group, wanted, 0, hints) {
         return false;
@@ -97,16 +86,11 @@ fn put_enforcer<'q, H: Hints>(
     hints: &mut H,
 ) -> bool
     requires props { IsProps query.now props.now }
-    requires board { IsBoardOf query.now board.now }
-    requires seat { IsSeat board.now seat.old }
-    requires right { HasRight board.now seat.old job.now.right }
+    requires at_work { IsAtWork query.now board.now seat.old job.now (H.capacity hints.old) }
     requires goal { NamesGoal query.now job.now.right.goal (Opt group wanted) }
-    requires hints { H.capacity hints.old ≡ board.now.key.room }
-    ensures seat { IsSeat board.now seat.new }
-    ensures right { HasRight board.now seat.new job.now.right }
+    ensures at_work { IsAtWork query.now board.now seat.new job.now (H.capacity hints.new) }
     ensures puts { PutsChildren query.now board.now.key.room (hands seat.old) job.now.right
         result (hands seat.new) }
-    ensures hints { H.capacity hints.new ≡ H.capacity hints.old }
 {
     // For the proof: the request fits the group.
     goals_are_known();
@@ -132,18 +116,13 @@ fn await_enforcer<'q, H: Hints>(
     hints: &mut H,
 ) -> Option<Choice>
     requires props { IsProps query.now props.now }
-    requires board { IsBoardOf query.now board.now }
-    requires seat { IsSeat board.now seat.old }
-    requires right { HasRight board.now seat.old job.old.right }
+    requires at_work { IsAtWork query.now board.now seat.old job.old (H.capacity hints.old) }
     requires goal { NamesGoal query.now job.old.right.goal (Opt group wanted) }
-    requires hints { H.capacity hints.old ≡ board.now.key.room }
-    ensures seat { IsSeat board.now seat.new }
-    ensures right { HasRight board.now seat.new job.new.right }
+    ensures at_work { IsAtWork query.now board.now seat.new job.new (H.capacity hints.new) }
     ensures chooses { Chooses query.now board.now.key.room (hands seat.old) job.old.right
         (IsEnforcerGoalAt group wanted place)
         (IsBest query.now group wanted (enforcer_at wanted place))
         result (hands seat.new) job.new.right }
-    ensures hints { H.capacity hints.new ≡ H.capacity hints.old }
 {
     // For the proof: the request fits the group, a child of a goal has a word, and no node has no answer.
     goals_are_known();

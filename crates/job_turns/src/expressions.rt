@@ -6,7 +6,7 @@ ghost use Rattle.goal_space.specs.Children.{IsRuleAt};
 ghost use Rattle.goal_space.specs.Entries.{NamesGoal};
 ghost use Rattle.goal_space.specs.declared.goals.GoalKind.{GoalKind as Kind};
 ghost use Rattle.goal_space.specs.declared.goals.GoalKind.TheVariants.{Exp, ExpE, Imp, ImpE};
-ghost use Rattle.job_turns.specs.Searches.{IsBoardOf, IsSeat, HasRight};
+ghost use Rattle.job_turns.specs.Searches.{IsAtWork};
 ghost use Rattle.job_turns.specs.Works.{IsOneOf, IsOfChild, IsRuleOf};
 ghost use Rattle.job_turns.specs.Seats.{AreChildrenOf, SeatAwaits, SeatWorks};
 
@@ -31,15 +31,10 @@ pub(crate) fn explore_expression<'q, H: Hints>(
     e: ExprParts,
     hints: &mut H,
 ) -> Progress
-    requires board { IsBoardOf query.now board.now }
-    requires seat { IsSeat board.now seat.old }
-    requires right { HasRight board.now seat.old job.old.right }
+    requires at_work { IsAtWork query.now board.now seat.old job.old (H.capacity hints.old) }
     requires goal { NamesGoal query.now job.old.right.goal (ExpE e) }
-    requires hints { H.capacity hints.old ≡ board.now.key.room }
-    ensures seat { IsSeat board.now seat.new }
-    ensures right { HasRight board.now seat.new job.new.right }
+    ensures at_work { IsAtWork query.now board.now seat.new job.new (H.capacity hints.new) }
     ensures works { SeatWorks query.now board.now seat.old job.old (ExpE e) result seat.new job.new }
-    ensures hints { H.capacity hints.new ≡ H.capacity hints.old }
 {
     // For the proof: the goal's word says what its children are.
     words_are_known();
@@ -62,15 +57,10 @@ pub(crate) fn implement_expression<'q, H: Hints>(
     e: ExprParts,
     hints: &mut H,
 ) -> Progress
-    requires board { IsBoardOf query.now board.now }
-    requires seat { IsSeat board.now seat.old }
-    requires right { HasRight board.now seat.old job.old.right }
+    requires at_work { IsAtWork query.now board.now seat.old job.old (H.capacity hints.old) }
     requires goal { NamesGoal query.now job.old.right.goal (ImpE e) }
-    requires hints { H.capacity hints.old ≡ board.now.key.room }
-    ensures seat { IsSeat board.now seat.new }
-    ensures right { HasRight board.now seat.new job.new.right }
+    ensures at_work { IsAtWork query.now board.now seat.new job.new (H.capacity hints.new) }
     ensures works { SeatWorks query.now board.now seat.old job.old (ImpE e) result seat.new job.new }
-    ensures hints { H.capacity hints.new ≡ H.capacity hints.old }
 {
     // For the proof: the goal's word says what its children are.
     words_are_known();
@@ -116,16 +106,11 @@ fn await_rules<'q, H: Hints>(
     exploring: bool,
     hints: &mut H,
 ) -> bool
-    requires board { IsBoardOf query.now board.now }
-    requires seat { IsSeat board.now seat.old }
-    requires right { HasRight board.now seat.old job.old.right }
+    requires at_work { IsAtWork query.now board.now seat.old job.old (H.capacity hints.old) }
     requires children { AreChildrenOf query.now job.old.right.goal (IsRuleAt query.now exploring e) }
-    requires hints { H.capacity hints.old ≡ board.now.key.room }
-    ensures seat { IsSeat board.now seat.new }
-    ensures right { HasRight board.now seat.new job.new.right }
+    ensures at_work { IsAtWork query.now board.now seat.new job.new (H.capacity hints.new) }
     ensures awaits { SeatAwaits query.now board.now seat.old job.old
         (IsRuleAt query.now exploring e) result seat.new job.new }
-    ensures hints { H.capacity hints.new ≡ H.capacity hints.old }
 {
     let rules = Rule::all();
     for rule in &rules {

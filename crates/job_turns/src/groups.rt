@@ -6,7 +6,7 @@ ghost use Rattle.request_props.specs.Numbered.{IsProps};
 ghost use Rattle.goal_space.specs.Goals.{IsGoal};
 ghost use Rattle.goal_space.specs.Entries.{NamesGoal};
 ghost use Rattle.goal_space.specs.declared.goals.GoalKind.TheVariants.{Exp, Imp};
-ghost use Rattle.job_turns.specs.Searches.{IsBoardOf, IsSeat, HasRight};
+ghost use Rattle.job_turns.specs.Searches.{IsBoardOf, IsSeat, IsAtWork};
 ghost use Rattle.job_turns.specs.Seats.{ShowsOrigin, SeatSettles, SeatWorks};
 
 use crate::expressions::NO_CHOICE;
@@ -31,17 +31,12 @@ pub(crate) fn explore_group<'q, H: Hints>(
     group: KeyParts,
     hints: &mut H,
 ) -> Progress
-    requires board { IsBoardOf query.now board.now }
     requires props { IsProps query.now props.now }
-    requires seat { IsSeat board.now seat.old }
-    requires right { HasRight board.now seat.old job.old.right }
+    requires at_work { IsAtWork query.now board.now seat.old job.old (H.capacity hints.old) }
     requires fresh { job.old.right.waits ≡ 0 }
     requires goal { NamesGoal query.now job.old.right.goal (Exp group) }
-    requires hints { H.capacity hints.old ≡ board.now.key.room }
-    ensures seat { IsSeat board.now seat.new }
-    ensures right { HasRight board.now seat.new job.new.right }
+    ensures at_work { IsAtWork query.now board.now seat.new job.new (H.capacity hints.new) }
     ensures works { SeatWorks query.now board.now seat.old job.old (Exp group) result seat.new job.new }
-    ensures hints { H.capacity hints.new ≡ H.capacity hints.old }
 {
     // For the proof: the goal asks for what is found from the group's origin.
     explorations_are_known();
@@ -70,16 +65,11 @@ pub(crate) fn implement_group<'q, H: Hints>(
     group: KeyParts,
     hints: &mut H,
 ) -> Progress
-    requires board { IsBoardOf query.now board.now }
     requires props { IsProps query.now props.now }
-    requires seat { IsSeat board.now seat.old }
-    requires right { HasRight board.now seat.old job.old.right }
+    requires at_work { IsAtWork query.now board.now seat.old job.old (H.capacity hints.old) }
     requires goal { NamesGoal query.now job.old.right.goal (Imp group) }
-    requires hints { H.capacity hints.old ≡ board.now.key.room }
-    ensures seat { IsSeat board.now seat.new }
-    ensures right { HasRight board.now seat.new job.new.right }
+    ensures at_work { IsAtWork query.now board.now seat.new job.new (H.capacity hints.new) }
     ensures works { SeatWorks query.now board.now seat.old job.old (Imp group) result seat.new job.new }
-    ensures hints { H.capacity hints.new ≡ H.capacity hints.old }
 {
     // For the proof: what is found in cells are members, and physical ones are results at logical ones.
     goals_are_known();

@@ -1,7 +1,6 @@
 //! The members of a group that may serve a request, and the best answer of them.
 #![tactic(auto)]
 
-ghost use Rattle.std.specs.Prelude.{◌≡◌};
 ghost use Rattle.xform_rules.specs.Closure.{IsMember};
 ghost use Rattle.request_props.specs.Candidates.{IsPhysicalOf};
 ghost use Rattle.request_props.specs.Numbered.{IsProps, IsNumbered};
@@ -10,7 +9,7 @@ ghost use Rattle.goal_board.specs.Seats.{hands};
 ghost use Rattle.board_moves.specs.Moves.{OnlyLooks};
 ghost use Rattle.goal_space.specs.Entries.{NamesGoal};
 ghost use Rattle.goal_space.specs.declared.goals.GoalKind.TheVariants.{Opt};
-ghost use Rattle.job_turns.specs.Searches.{IsBoardOf, IsSeat, HasRight};
+ghost use Rattle.job_turns.specs.Searches.{IsBoardOf, IsSeat, IsAtWork};
 ghost use Rattle.job_turns.specs.Choices.{Chooses};
 ghost use Rattle.job_turns.specs.Requests.{IsImplemented, IsMemberGoal, IsBestOfMembers};
 ghost use Rattle.job_turns.specs.Requests.{IsGoalOfMember, IsBestOfMember, IsWordOfMember};
@@ -39,18 +38,13 @@ pub(crate) fn best_member<'q, H: Hints>(
     hints: &mut H,
 ) -> Option<Choice>
     requires props { IsProps query.now props.now }
-    requires board { IsBoardOf query.now board.now }
-    requires seat { IsSeat board.now seat.old }
-    requires right { HasRight board.now seat.old job.old.right }
+    requires at_work { IsAtWork query.now board.now seat.old job.old (H.capacity hints.old) }
     requires goal { NamesGoal query.now job.old.right.goal (Opt group wanted) }
     requires implemented { IsImplemented query.now board.now.key.room (hands seat.old).looks group }
-    requires hints { H.capacity hints.old ≡ board.now.key.room }
-    ensures seat { IsSeat board.now seat.new }
-    ensures right { HasRight board.now seat.new job.new.right }
+    ensures at_work { IsAtWork query.now board.now seat.new job.new (H.capacity hints.new) }
     ensures chooses { Chooses query.now board.now.key.room (hands seat.old) job.old.right
         (IsMemberGoal query.now group wanted) (IsBestOfMembers query.now group wanted)
         result (hands seat.new) job.new.right }
-    ensures hints { H.capacity hints.new ≡ H.capacity hints.old }
 {
     // For the proof: members are candidates, and the best of two sets is that of both.
     goals_are_known();
@@ -78,21 +72,16 @@ fn await_candidate<'q, H: Hints>(
     hints: &mut H,
 ) -> Option<Choice>
     requires props { IsProps query.now props.now }
-    requires board { IsBoardOf query.now board.now }
-    requires seat { IsSeat board.now seat.old }
-    requires right { HasRight board.now seat.old job.old.right }
+    requires at_work { IsAtWork query.now board.now seat.old job.old (H.capacity hints.old) }
     requires candidate { IsPhysicalOf query.now candidate.expr.group candidate }
     requires goal { NamesGoal query.now job.old.right.goal (Opt candidate.expr.group wanted) }
     requires implemented { IsImplemented query.now board.now.key.room
         (hands seat.old).looks candidate.expr.group }
-    requires hints { H.capacity hints.old ≡ board.now.key.room }
-    ensures seat { IsSeat board.now seat.new }
-    ensures right { HasRight board.now seat.new job.new.right }
+    ensures at_work { IsAtWork query.now board.now seat.new job.new (H.capacity hints.new) }
     ensures chooses { Chooses query.now board.now.key.room (hands seat.old) job.old.right
         (IsGoalOfMember query.now candidate.expr wanted)
         (IsBestOfMember query.now candidate.expr wanted)
         result (hands seat.new) job.new.right }
-    ensures hints { H.capacity hints.new ≡ H.capacity hints.old }
 {
     // For the proof: the request is one of the query's, and the best of no nodes is none.
     goals_are_known();

@@ -1,7 +1,7 @@
 //! The turn of a goal that chooses a mode of an expression for a request.
 #![tactic(auto)]
 
-ghost use Rattle.std.specs.Prelude.{◌≡◌, ℕ};
+ghost use Rattle.std.specs.Prelude.{ℕ};
 ghost use Rattle.query_core.specs.declared.query.Query.{Query as AnyQuery};
 ghost use Rattle.xform_rules.specs.Closure.{IsMember};
 ghost use Rattle.request_props.specs.Numbered.{IsProps};
@@ -13,7 +13,7 @@ ghost use Rattle.goal_space.specs.Children.{IsChildGoal};
 ghost use Rattle.goal_space.specs.Entries.{NamesGoal};
 ghost use Rattle.goal_space.specs.Answers.{IsAnswerTo};
 ghost use Rattle.goal_space.specs.declared.goals.GoalKind.TheVariants.{OptE};
-ghost use Rattle.job_turns.specs.Searches.{IsBoardOf, IsSeat, HasRight};
+ghost use Rattle.job_turns.specs.Searches.{IsAtWork};
 ghost use Rattle.job_turns.specs.Seats.{SeatWorks};
 ghost use Rattle.job_turns.specs.Choices.{Chooses, IsNative, IsAskedByChild, IsGoalAsked, IsGoalIn, IsBestIn};
 
@@ -54,16 +54,11 @@ pub(crate) fn choose_mode<'q, H: Hints>(
     hints: &mut H,
 ) -> Progress
     requires props { IsProps query.now props.now }
-    requires board { IsBoardOf query.now board.now }
-    requires seat { IsSeat board.now seat.old }
-    requires right { HasRight board.now seat.old job.old.right }
+    requires at_work { IsAtWork query.now board.now seat.old job.old (H.capacity hints.old) }
     requires goal { NamesGoal query.now job.old.right.goal (OptE expr wanted) }
-    requires hints { H.capacity hints.old ≡ board.now.key.room }
-    ensures seat { IsSeat board.now seat.new }
-    ensures right { HasRight board.now seat.new job.new.right }
+    ensures at_work { IsAtWork query.now board.now seat.new job.new (H.capacity hints.new) }
     ensures works { SeatWorks query.now board.now seat.old job.old
         (OptE expr wanted) result seat.new job.new }
-    ensures hints { H.capacity hints.new ≡ H.capacity hints.old }
 {
     // For the proof: the goal's word says what its children are.
     words_are_known();
@@ -83,18 +78,13 @@ fn best_mode<'q, H: Hints>(
     hints: &mut H,
 ) -> Option<Choice>
     requires props { IsProps query.now props.now }
-    requires board { IsBoardOf query.now board.now }
-    requires seat { IsSeat board.now seat.old }
-    requires right { HasRight board.now seat.old job.old.right }
+    requires at_work { IsAtWork query.now board.now seat.old job.old (H.capacity hints.old) }
     requires goal { NamesGoal query.now job.old.right.goal (OptE expr wanted) }
-    requires hints { H.capacity hints.old ≡ board.now.key.room }
-    ensures seat { IsSeat board.now seat.new }
-    ensures right { HasRight board.now seat.new job.new.right }
+    ensures at_work { IsAtWork query.now board.now seat.new job.new (H.capacity hints.new) }
     ensures chooses { Chooses query.now board.now.key.room (hands seat.old) job.old.right
         (IsChildGoal (IsMember query.now) query.now (OptE expr wanted))
         (IsAnswerTo query.now (OptE expr wanted))
         result (hands seat.new) job.new.right }
-    ensures hints { H.capacity hints.new ≡ H.capacity hints.old }
 {
     // For the proof: the expression is a member, the request fits, and the best of two sets is that
     // of both.
@@ -131,20 +121,15 @@ fn await_mode<'q, H: Hints>(
     native: Native,
     hints: &mut H,
 ) -> Option<Choice>
-    requires board { IsBoardOf query.now board.now }
-    requires seat { IsSeat board.now seat.old }
-    requires right { HasRight board.now seat.old job.old.right }
+    requires at_work { IsAtWork query.now board.now seat.old job.old (H.capacity hints.old) }
     requires native { IsNative query.now native }
     requires alternative { IsAlternative query.now native.expr native.wanted native.mode native.line }
     requires goal { NamesGoal query.now job.old.right.goal (OptE native.expr native.wanted) }
-    requires hints { H.capacity hints.old ≡ board.now.key.room }
-    ensures seat { IsSeat board.now seat.new }
-    ensures right { HasRight board.now seat.new job.new.right }
+    ensures at_work { IsAtWork query.now board.now seat.new job.new (H.capacity hints.new) }
     ensures chooses { Chooses query.now board.now.key.room (hands seat.old) job.old.right
         (IsGoalIn query.now native.expr native.wanted native.mode)
         (IsBestIn query.now native.expr native.wanted native.mode)
         result (hands seat.new) job.new.right }
-    ensures hints { H.capacity hints.new ≡ H.capacity hints.old }
 {
     // For the proof: members are candidates.
     members_are_candidates();
@@ -169,20 +154,15 @@ fn await_alternative<'q, H: Hints>(
     alt: Alt,
     hints: &mut H,
 ) -> Option<Choice>
-    requires board { IsBoardOf query.now board.now }
-    requires seat { IsSeat board.now seat.old }
-    requires right { HasRight board.now seat.old job.old.right }
+    requires at_work { IsAtWork query.now board.now seat.old job.old (H.capacity hints.old) }
     requires native { IsNative query.now native }
     requires alternative { IsAltBy query.now native.expr native.wanted native.mode alt native.line }
     requires goal { NamesGoal query.now job.old.right.goal (OptE native.expr native.wanted) }
-    requires hints { H.capacity hints.old ≡ board.now.key.room }
-    ensures seat { IsSeat board.now seat.new }
-    ensures right { HasRight board.now seat.new job.new.right }
+    ensures at_work { IsAtWork query.now board.now seat.new job.new (H.capacity hints.new) }
     ensures chooses { Chooses query.now board.now.key.room (hands seat.old) job.old.right
         (IsGoalIn query.now native.expr native.wanted native.mode)
         (IsBestIn query.now native.expr native.wanted native.mode)
         result (hands seat.new) job.new.right }
-    ensures hints { H.capacity hints.new ≡ H.capacity hints.old }
 {
     let left = await_asked(query, board, seat, job, alt.left, hints)?;
     let right = await_asked(query, board, seat, job, alt.right, hints)?;
@@ -212,17 +192,12 @@ fn await_asked<'q, H: Hints>(
     asked: Option<(Key, Request)>,
     hints: &mut H,
 ) -> Option<Choice>
-    requires board { IsBoardOf query.now board.now }
-    requires seat { IsSeat board.now seat.old }
-    requires right { HasRight board.now seat.old job.old.right }
+    requires at_work { IsAtWork query.now board.now seat.old job.old (H.capacity hints.old) }
     requires asked { IsAskedByChild query.now job.old.right.goal asked }
-    requires hints { H.capacity hints.old ≡ board.now.key.room }
-    ensures seat { IsSeat board.now seat.new }
-    ensures right { HasRight board.now seat.new job.new.right }
+    ensures at_work { IsAtWork query.now board.now seat.new job.new (H.capacity hints.new) }
     ensures chooses { Chooses query.now board.now.key.room (hands seat.old) job.old.right
         (IsGoalAsked query.now asked) (IsBestAsked query.now asked)
         result (hands seat.new) job.new.right }
-    ensures hints { H.capacity hints.new ≡ H.capacity hints.old }
 {
     // For the proof: a group has a small key, and a child of a goal has a word.
     groups_are_known();

@@ -6,7 +6,7 @@ ghost use Rattle.request_props.specs.Numbered.{IsProps};
 ghost use Rattle.goal_board.specs.Seats.{hands};
 ghost use Rattle.goal_space.specs.Entries.{NamesGoal};
 ghost use Rattle.goal_space.specs.declared.goals.GoalKind.{GoalKind as Kind};
-ghost use Rattle.job_turns.specs.Searches.{IsBoardOf, IsSeat, HasRight};
+ghost use Rattle.job_turns.specs.Searches.{IsSeat, HasRight, IsAtWork};
 ghost use Rattle.job_turns.specs.Seats.{SeatWorks};
 ghost use Rattle.job_turns.specs.Turns.{TurnsGoal};
 
@@ -85,16 +85,11 @@ fn work<'q, H: Hints>(
     hints: &mut H,
 ) -> Progress
     requires props { IsProps query.now props.now }
-    requires board { IsBoardOf query.now board.now }
-    requires seat { IsSeat board.now seat.old }
-    requires right { HasRight board.now seat.old job.old.right }
+    requires at_work { IsAtWork query.now board.now seat.old job.old (H.capacity hints.old) }
     requires fresh { job.old.right.waits ≡ 0 }
     requires goal { NamesGoal query.now job.old.right.goal goal }
-    requires hints { H.capacity hints.old ≡ board.now.key.room }
-    ensures seat { IsSeat board.now seat.new }
-    ensures right { HasRight board.now seat.new job.new.right }
+    ensures at_work { IsAtWork query.now board.now seat.new job.new (H.capacity hints.new) }
     ensures works { SeatWorks query.now board.now seat.old job.old goal result seat.new job.new }
-    ensures hints { H.capacity hints.new ≡ H.capacity hints.old }
 {
     match goal {
         GoalKind::Exp(group) => explore_group(query, props, board, seat, job, group, hints),

@@ -2,7 +2,7 @@
 #![tactic(auto)]
 
 ghost use Rattle.std.specs.Prelude.{◌≡◌, ℕ, Some};
-ghost use Rattle.job_turns.specs.Searches.{IsBoardOf, IsSeat, HasRight};
+ghost use Rattle.job_turns.specs.Searches.{IsAtWork};
 ghost use Rattle.job_turns.specs.Works.{IsChildOf, IsOneOf};
 ghost use Rattle.job_turns.specs.Seats.{AreChildrenOf, SeatAwaitsOne, SeatAwaits};
 ghost use Rattle.goal_space.specs.Words.{goal_word};
@@ -24,15 +24,10 @@ pub(crate) fn await_goal<'q, H: Hints>(
     child: GoalKind,
     hints: &mut H,
 ) -> Progress
-    requires board { IsBoardOf query.now board.now }
-    requires seat { IsSeat board.now seat.old }
-    requires right { HasRight board.now seat.old job.old.right }
+    requires at_work { IsAtWork query.now board.now seat.old job.old (H.capacity hints.old) }
     requires child { IsChildOf query.now job.old.right.goal child }
-    requires hints { H.capacity hints.old ≡ board.now.key.room }
-    ensures seat { IsSeat board.now seat.new }
-    ensures right { HasRight board.now seat.new job.new.right }
+    ensures at_work { IsAtWork query.now board.now seat.new job.new (H.capacity hints.new) }
     ensures awaits { SeatAwaitsOne query.now board.now seat.old job.old child result seat.new job.new }
-    ensures hints { H.capacity hints.new ≡ H.capacity hints.old }
 {
     // For the proof: a child of a goal has a word.
     words_are_known();
@@ -49,16 +44,11 @@ pub(crate) fn await_word<'q, H: Hints>(
     word: Goal,
     hints: &mut H,
 ) -> Progress
-    requires board { IsBoardOf _query.now board.now }
-    requires seat { IsSeat board.now seat.old }
-    requires right { HasRight board.now seat.old job.old.right }
+    requires at_work { IsAtWork _query.now board.now seat.old job.old (H.capacity hints.old) }
     requires child { IsChildOf _query.now job.old.right.goal _child }
     requires word { goal_word _child ≡ word.0 }
-    requires hints { H.capacity hints.old ≡ board.now.key.room }
-    ensures seat { IsSeat board.now seat.new }
-    ensures right { HasRight board.now seat.new job.new.right }
+    ensures at_work { IsAtWork _query.now board.now seat.new job.new (H.capacity hints.new) }
     ensures awaits { SeatAwaitsOne _query.now board.now seat.old job.old _child result seat.new job.new }
-    ensures hints { H.capacity hints.new ≡ H.capacity hints.old }
 {
     // For the proof: a child of a goal has a word.
     words_are_known();
@@ -74,16 +64,11 @@ pub(crate) fn await_both<'q, H: Hints>(
     children: (Option<GoalKind>, Option<GoalKind>),
     hints: &mut H,
 ) -> bool
-    requires board { IsBoardOf query.now board.now }
-    requires seat { IsSeat board.now seat.old }
-    requires right { HasRight board.now seat.old job.old.right }
+    requires at_work { IsAtWork query.now board.now seat.old job.old (H.capacity hints.old) }
     requires children { AreChildrenOf query.now job.old.right.goal (IsOneOf children) }
-    requires hints { H.capacity hints.old ≡ board.now.key.room }
-    ensures seat { IsSeat board.now seat.new }
-    ensures right { HasRight board.now seat.new job.new.right }
+    ensures at_work { IsAtWork query.now board.now seat.new job.new (H.capacity hints.new) }
     ensures awaits { SeatAwaits query.now board.now seat.old job.old
         (IsOneOf children) result seat.new job.new }
-    ensures hints { H.capacity hints.new ≡ H.capacity hints.old }
 {
     let (first, second) = children;
     if !await_if(query, board, seat, job, first, hints) {
@@ -101,16 +86,11 @@ pub(crate) fn await_if<'q, H: Hints>(
     child: Option<GoalKind>,
     hints: &mut H,
 ) -> bool
-    requires board { IsBoardOf query.now board.now }
-    requires seat { IsSeat board.now seat.old }
-    requires right { HasRight board.now seat.old job.old.right }
+    requires at_work { IsAtWork query.now board.now seat.old job.old (H.capacity hints.old) }
     requires child { (goal : Kind) → child ≡ Some goal → IsChildOf query.now job.old.right.goal goal }
-    requires hints { H.capacity hints.old ≡ board.now.key.room }
-    ensures seat { IsSeat board.now seat.new }
-    ensures right { HasRight board.now seat.new job.new.right }
+    ensures at_work { IsAtWork query.now board.now seat.new job.new (H.capacity hints.new) }
     ensures awaits { SeatAwaits query.now board.now seat.old job.old
         (λ goal. child ≡ Some goal) result seat.new job.new }
-    ensures hints { H.capacity hints.new ≡ H.capacity hints.old }
 {
     match child {
         Some(goal) => match await_goal(query, board, seat, job, goal, hints) {

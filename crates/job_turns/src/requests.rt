@@ -1,14 +1,13 @@
 //! The turn of a goal that chooses a plan of a group for a request.
 #![tactic(auto)]
 
-ghost use Rattle.std.specs.Prelude.{◌≡◌};
 ghost use Rattle.request_props.specs.Numbered.{IsProps};
 ghost use Rattle.best_answers.specs.Best.{IsBest};
 ghost use Rattle.best_answers.specs.Nodes.{all_nodes};
 ghost use Rattle.goal_board.specs.Seats.{hands};
 ghost use Rattle.goal_space.specs.Entries.{NamesGoal};
 ghost use Rattle.goal_space.specs.declared.goals.GoalKind.TheVariants.{Opt};
-ghost use Rattle.job_turns.specs.Searches.{IsBoardOf, IsSeat, HasRight};
+ghost use Rattle.job_turns.specs.Searches.{IsAtWork};
 ghost use Rattle.job_turns.specs.Seats.{SeatWorks};
 ghost use Rattle.job_turns.specs.Choices.{Chooses};
 ghost use Rattle.job_turns.specs.Requests.{IsImplemented, IsPlanGoal};
@@ -39,16 +38,11 @@ pub(crate) fn choose_plan<'q, H: Hints>(
     hints: &mut H,
 ) -> Progress
     requires props { IsProps query.now props.now }
-    requires board { IsBoardOf query.now board.now }
-    requires seat { IsSeat board.now seat.old }
-    requires right { HasRight board.now seat.old job.old.right }
+    requires at_work { IsAtWork query.now board.now seat.old job.old (H.capacity hints.old) }
     requires goal { NamesGoal query.now job.old.right.goal (Opt group wanted) }
-    requires hints { H.capacity hints.old ≡ board.now.key.room }
-    ensures seat { IsSeat board.now seat.new }
-    ensures right { HasRight board.now seat.new job.new.right }
+    ensures at_work { IsAtWork query.now board.now seat.new job.new (H.capacity hints.new) }
     ensures works { SeatWorks query.now board.now seat.old job.old
         (Opt group wanted) result seat.new job.new }
-    ensures hints { H.capacity hints.new ≡ H.capacity hints.old }
 {
     // For the proof: the goal's word says what its children are.
     words_are_known();
@@ -81,18 +75,13 @@ fn best_plan<'q, H: Hints>(
     hints: &mut H,
 ) -> Option<Choice>
     requires props { IsProps query.now props.now }
-    requires board { IsBoardOf query.now board.now }
-    requires seat { IsSeat board.now seat.old }
-    requires right { HasRight board.now seat.old job.old.right }
+    requires at_work { IsAtWork query.now board.now seat.old job.old (H.capacity hints.old) }
     requires goal { NamesGoal query.now job.old.right.goal (Opt group wanted) }
     requires implemented { IsImplemented query.now board.now.key.room (hands seat.old).looks group }
-    requires hints { H.capacity hints.old ≡ board.now.key.room }
-    ensures seat { IsSeat board.now seat.new }
-    ensures right { HasRight board.now seat.new job.new.right }
+    ensures at_work { IsAtWork query.now board.now seat.new job.new (H.capacity hints.new) }
     ensures chooses { Chooses query.now board.now.key.room (hands seat.old) job.old.right
         (IsPlanGoal query.now group wanted) (IsBest query.now group wanted all_nodes)
         result (hands seat.new) job.new.right }
-    ensures hints { H.capacity hints.new ≡ H.capacity hints.old }
 {
     // For the proof: the best of two sets is that of both, and these are all nodes that may serve.
     goals_are_known();

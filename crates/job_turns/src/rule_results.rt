@@ -15,7 +15,7 @@ ghost use Rattle.goal_space.specs.Children.{IsLogicalIn};
 ghost use Rattle.goal_space.specs.Entries.{NamesGoal};
 ghost use Rattle.goal_space.specs.declared.goals.GoalKind.TheVariants.{Xf};
 ghost use Rattle.goal_rules.specs.Meaning.{meaning_of};
-ghost use Rattle.job_turns.specs.Searches.{IsBoardOf, IsSeat, HasRight};
+ghost use Rattle.job_turns.specs.Searches.{HasJob, IsAtWork};
 ghost use Rattle.job_turns.specs.Results.{IsBroughtAt, IsBroughtWith, IsBroughtFrom, IsLeftOf};
 ghost use Rattle.job_turns.specs.Works.{IsAskedOf, IsOneOfGroups, IsOriginOf};
 ghost use Rattle.job_turns.specs.Seats.{AsksForAll, SeatPuts, SeatWorks};
@@ -43,13 +43,10 @@ pub(crate) fn put_brought<'q>(
     job: &Job,
     e: ExprParts,
 ) -> bool
-    requires board { IsBoardOf query.now board.now }
-    requires seat { IsSeat board.now seat.old }
-    requires right { HasRight board.now seat.old job.now.right }
+    requires has_job { HasJob query.now board.now seat.old job.now }
     requires candidate { IsCandidate query.now e }
     requires asked { AsksForAll query.now job.now.right.goal (IsBroughtBy query.now e) }
-    ensures seat { IsSeat board.now seat.new }
-    ensures right { HasRight board.now seat.new job.now.right }
+    ensures has_job { HasJob query.now board.now seat.new job.now }
     ensures puts { SeatPuts query.now board.now seat.old job.now (IsBroughtBy query.now e) result seat.new }
 {
     // For the proof: a candidate has a word, and so have the origins of its children's groups.
@@ -72,14 +69,11 @@ fn put_origin<'q>(
     job: &Job,
     group: Option<KeyParts>,
 ) -> bool
-    requires board { IsBoardOf query.now board.now }
-    requires seat { IsSeat board.now seat.old }
-    requires right { HasRight board.now seat.old job.now.right }
+    requires has_job { HasJob query.now board.now seat.old job.now }
     requires packed { (key : Key) → group ≡ Some key → IsPacked (origin_of query.now key) }
     requires asked { (key : Key) → group ≡ Some key →
         IsAskedOf query.now job.now.right.goal (origin_of query.now key) }
-    ensures seat { IsSeat board.now seat.new }
-    ensures right { HasRight board.now seat.new job.now.right }
+    ensures has_job { HasJob query.now board.now seat.new job.now }
     ensures puts { SeatPuts query.now board.now seat.old job.now
         (IsOriginOf query.now group) result seat.new }
 {
@@ -97,13 +91,10 @@ fn put_member<'q>(
     job: &Job,
     e: ExprParts,
 ) -> bool
-    requires board { IsBoardOf query.now board.now }
-    requires seat { IsSeat board.now seat.old }
-    requires right { HasRight board.now seat.old job.now.right }
+    requires has_job { HasJob query.now board.now seat.old job.now }
     requires packed { IsPacked e }
     requires asked { IsAskedOf query.now job.now.right.goal e }
-    ensures seat { IsSeat board.now seat.new }
-    ensures right { HasRight board.now seat.new job.now.right }
+    ensures has_job { HasJob query.now board.now seat.new job.now }
     ensures puts { SeatPuts query.now board.now seat.old job.now (λ other. other ≡ e) result seat.new }
 {
     match board.insert(seat, Expr::make(e).0) {
@@ -136,15 +127,10 @@ pub(crate) fn apply_rule<'q, H: Hints>(
     hints: &mut H,
 ) -> Progress
     requires props { IsProps query.now props.now }
-    requires board { IsBoardOf query.now board.now }
-    requires seat { IsSeat board.now seat.old }
-    requires right { HasRight board.now seat.old job.old.right }
+    requires at_work { IsAtWork query.now board.now seat.old job.old (H.capacity hints.old) }
     requires goal { NamesGoal query.now job.old.right.goal (Xf e rule) }
-    requires hints { H.capacity hints.old ≡ board.now.key.room }
-    ensures seat { IsSeat board.now seat.new }
-    ensures right { HasRight board.now seat.new job.new.right }
+    ensures at_work { IsAtWork query.now board.now seat.new job.new (H.capacity hints.new) }
     ensures works { SeatWorks query.now board.now seat.old job.old (Xf e rule) result seat.new job.new }
-    ensures hints { H.capacity hints.new ≡ H.capacity hints.old }
 {
     // For the proof: a rule has results with a bound member only where it binds one, and that is of the left child's
     // group.
@@ -174,14 +160,11 @@ fn put_results<'q>(
     rule: Rule,
     bound: Option<ExprParts>,
 ) -> bool
-    requires board { IsBoardOf query.now board.now }
-    requires seat { IsSeat board.now seat.old }
-    requires right { HasRight board.now seat.old job.now.right }
+    requires has_job { HasJob query.now board.now seat.old job.now }
     requires e { IsCandidate query.now e }
     requires bound { IfSome bound (IsCandidate query.now) }
     requires asked { AsksForAll query.now job.now.right.goal (IsBroughtWith query.now rule e bound) }
-    ensures seat { IsSeat board.now seat.new }
-    ensures right { HasRight board.now seat.new job.now.right }
+    ensures has_job { HasJob query.now board.now seat.new job.now }
     ensures puts { SeatPuts query.now board.now seat.old job.now
         (IsBroughtWith query.now rule e bound) result seat.new }
 {
@@ -206,14 +189,11 @@ fn put_result<'q>(
     bound: Option<ExprParts>,
     n: u32,
 ) -> bool
-    requires board { IsBoardOf query.now board.now }
-    requires seat { IsSeat board.now seat.old }
-    requires right { HasRight board.now seat.old job.now.right }
+    requires has_job { HasJob query.now board.now seat.old job.now }
     requires e { IsCandidate query.now e }
     requires bound { IfSome bound (IsCandidate query.now) }
     requires asked { AsksForAll query.now job.now.right.goal (IsBroughtAt query.now rule e bound n) }
-    ensures seat { IsSeat board.now seat.new }
-    ensures right { HasRight board.now seat.new job.now.right }
+    ensures has_job { HasJob query.now board.now seat.new job.now }
     ensures puts { SeatPuts query.now board.now seat.old job.now
         (IsBroughtAt query.now rule e bound n) result seat.new }
 {
@@ -253,16 +233,11 @@ fn bind_members<'q, H: Hints>(
     hints: &mut H,
 ) -> Progress
     requires props { IsProps query.now props.now }
-    requires board { IsBoardOf query.now board.now }
-    requires seat { IsSeat board.now seat.old }
-    requires right { HasRight board.now seat.old job.old.right }
+    requires at_work { IsAtWork query.now board.now seat.old job.old (H.capacity hints.old) }
     requires goal { NamesGoal query.now job.old.right.goal (Xf e rule) }
     requires left { IsLeftOf e rule left }
-    requires hints { H.capacity hints.old ≡ board.now.key.room }
-    ensures seat { IsSeat board.now seat.new }
-    ensures right { HasRight board.now seat.new job.new.right }
+    ensures at_work { IsAtWork query.now board.now seat.new job.new (H.capacity hints.new) }
     ensures works { SeatWorks query.now board.now seat.old job.old (Xf e rule) result seat.new job.new }
-    ensures hints { H.capacity hints.new ≡ H.capacity hints.old }
 {
     // For the proof: a bound member is a logical one of the left child's group.
     words_are_known();
@@ -295,17 +270,14 @@ fn put_with_members<'q>(
     group: KeyParts,
 ) -> bool
     requires props { IsProps query.now props.now }
-    requires board { IsBoardOf query.now board.now }
-    requires seat { IsSeat board.now seat.old }
-    requires right { HasRight board.now seat.old job.now.right }
+    requires has_job { HasJob query.now board.now seat.old job.now }
     requires known { IsGroup query.now group }
     requires e { IsCandidate query.now e }
     requires shown { (bound : Parts) → IsLogicalIn (IsMember query.now) group bound →
         ShowsEntry (meaning_of query.now) board.now.key.room (hands seat.old).looks (word_of bound) }
     requires asked { (bound other : Parts) → IsLogicalIn (IsMember query.now) group bound →
         IsBroughtWith query.now rule e (Some bound) other → IsAskedOf query.now job.now.right.goal other }
-    ensures seat { IsSeat board.now seat.new }
-    ensures right { HasRight board.now seat.new job.now.right }
+    ensures has_job { HasJob query.now board.now seat.new job.now }
     ensures puts { SeatPuts query.now board.now seat.old job.now
         (IsBroughtFrom query.now rule e group) result seat.new }
 {

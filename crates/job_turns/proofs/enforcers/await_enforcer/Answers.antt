@@ -26,7 +26,7 @@ word-word-requires g c =
     let wanted = c.args.wanted in
     let fits = c.goals_are_known.ensures.requests q (Opt group wanted) c.requires.goal.is_goal in
     let found = found_at q group wanted c.args.place fits c.in-Some.enforced c.in-Some.ensures in
-    (c.words_are_known.ensures.words q c.requires.board.small (Opt group wanted) (Opt group c.in-Some.enforced.below) c.args.job.now.right.goal c.requires.goal
+    (c.words_are_known.ensures.words q c.requires.at_work.has_job.board.small (Opt group wanted) (Opt group c.in-Some.enforced.below) c.args.job.now.right.goal c.requires.goal
     (inr (inr (found.e, found.can, ap (λ (r : Request). Opt group r) found.is.is.1)))).1
 
 pub await_choice-requires-clause-word : goal.await_choice-requires-clause-word

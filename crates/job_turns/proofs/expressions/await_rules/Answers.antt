@@ -1,5 +1,5 @@
 -- One rule more.
-use Rattle.std.proofs.Common.{◌≡◌, ◌+◌, ◌⊎◌, Some, length, get_or, sym, ap, subst, ◌∙◌, inl, inr, ⊎_elim, arith}
+use Rattle.std.proofs.Common.{◌≡◌, ◌+◌, ◌⊎◌, Some, length, get_or, sym, ap, subst, inl, inr, ⊎_elim, arith}
 use Rattle.xform_rules.specs.declared.rules.Rule.TheVariants.{ExpandNAry}
 use Rattle.goal_board.specs.Seats.{hands}
 use Rattle.goal_space.specs.Children.{IsRuleAt}
@@ -10,9 +10,7 @@ use Rattle.job_turns.proofs.expressions.await_rules.Goals as goal
 
 pub loop-rule-init : goal.loop-rule-init
 loop-rule-init g c = record {
-  seat = c.requires.seat;
-  right = c.requires.right;
-  hints = c.requires.hints;
+  at_work = c.requires.at_work;
   awaited = has_none c.args.query.now c.args.board.now.key.room (hands c.args.seat.now) c.args.job.now.right (IsRuleBefore c.args.query.now c.args.exploring c.args.e c.all-rules.result 0) (λ child is. let none = is.1 in absurd (omega arith));
 }
 
@@ -33,9 +31,7 @@ loop-rule-preserved g c =
     let before = IsRuleBefore q c.args.exploring c.args.e c.all-rules.result c.loop-rule.rule-index in
     let here : GoalKind → Type 0 = λ child. c.rule_goal-goal.result ≡ Some child in
     record {
-      seat = c.await_if.ensures.seat;
-      right = c.await_if.ensures.right;
-      hints = c.await_if.ensures.hints ∙ c.loop-rule.invariant.hints;
+      at_work = c.await_if.ensures.at_work;
       awaited = has_others q b.key.room (hands c.args.seat.now) c.args.job.now.right (λ child. before child ⊎ here child) (IsRuleBefore q c.args.exploring c.args.e c.all-rules.result (c.loop-rule.rule-index + 1))
           (λ child is. ⊎_elim (λ old. inl old) (λ new. inr ((c.rule_goal-goal.ensures child).1 new)) (rule_more q c.args.exploring c.args.e c.all-rules.result c.loop-rule.rule-index child is))
           (hands c.await_if.new.seat) c.await_if.new.job.right

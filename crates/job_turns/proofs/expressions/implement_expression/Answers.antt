@@ -14,7 +14,7 @@ await_both-requires-clause-children g c = λ child is. (ImpE c.args.e, c.require
 pub returns-then-not-await_both-clause-works : goal.returns-then-not-await_both-clause-works
 returns-then-not-await_both-clause-works g c =
     let q = c.args.query.now in
-    runs_out q (c.words_are_known.ensures.children q) c.requires.board.small (ImpE c.args.e) c.args.board.now.key.room (hands c.args.seat.now) c.args.job.now.right (hands c.await_both.new.seat) c.await_both.new.job.right c.requires.goal
+    runs_out q (c.words_are_known.ensures.children q) c.requires.at_work.has_job.board.small (ImpE c.args.e) c.args.board.now.key.room (hands c.args.seat.now) c.args.job.now.right (hands c.await_both.new.seat) c.await_both.new.job.right c.requires.goal
     c.if-not-await_both.ensures.awaits
 
 pub await_rules-requires-clause-children : goal.await_rules-requires-clause-children
@@ -24,7 +24,7 @@ pub returns-then-not-await_rules-clause-works : goal.returns-then-not-await_rule
 returns-then-not-await_rules-clause-works g c =
     let q = c.args.query.now in
     let b = c.args.board.now in
-    runs_out q (c.words_are_known.ensures.children q) c.requires.board.small (ImpE c.args.e) b.key.room (hands c.args.seat.now) c.args.job.now.right (hands c.await_rules.new.seat) c.await_rules.new.job.right c.requires.goal
+    runs_out q (c.words_are_known.ensures.children q) c.requires.at_work.has_job.board.small (ImpE c.args.e) b.key.room (hands c.args.seat.now) c.args.job.now.right (hands c.await_rules.new.seat) c.await_rules.new.job.right c.requires.goal
     (runs_out_after q b.key.room (hands c.args.seat.now) c.args.job.now.right (IsOneOf c.implemented_children-groups.result) (hands c.await_both.new.seat) c.await_both.new.job.right (hands c.await_rules.new.seat) c.await_rules.new.job.right
     c.if-not-await_both.ensures.awaits c.if-not-await_rules.ensures.awaits)
 
@@ -34,7 +34,7 @@ returns-clause-works g c =
     let b = c.args.board.now in
     let groups = IsOneOf c.implemented_children-groups.result in
     let rules = IsRuleAt q false c.args.e in
-    works_of_children q (c.words_are_known.ensures.children q) c.requires.board.small (ImpE c.args.e) (c.words_are_known.ensures.asked q) (λ e asks. asks) refl (λ child. groups child ⊎ rules child)
+    works_of_children q (c.words_are_known.ensures.children q) c.requires.at_work.has_job.board.small (ImpE c.args.e) (c.words_are_known.ensures.asked q) (λ e asks. asks) refl (λ child. groups child ⊎ rules child)
     (λ child is. ⊎_elim (λ of_group. inl ((c.implemented_children-groups.ensures child).1 of_group)) (λ of_rule. inr of_rule) is)
     b.key.room (hands c.args.seat.now) c.args.job.now.right (hands c.await_rules.new.seat) c.await_rules.new.job.right c.progress.result c.requires.goal
     (has_both q b.key.room (hands c.args.seat.now) c.args.job.now.right groups rules (hands c.await_both.new.seat) c.await_both.new.job.right (hands c.await_rules.new.seat) c.await_rules.new.job.right c.if-not-await_both.ensures.awaits

@@ -1,15 +1,14 @@
 -- The goal of a member that may serve is awaited, and else there is no answer.
 use Rattle.std.proofs.Common.{◌≡◌, None, refl, inr, inl}
 use Rattle.goal_board.specs.Seats.{hands}
-use Rattle.board_moves.proofs.OneChild.{right_looked}
 use Rattle.xform_rules.specs.Closure.{IsMember}
 use Rattle.goal_space.specs.Answers.{IsAnswerTo}
 use Rattle.goal_space.specs.Children.{CanServe}
 use Rattle.goal_space.specs.declared.goals.GoalKind.{GoalKind}
 use Rattle.goal_space.specs.declared.goals.GoalKind.TheVariants.{Opt, OptE}
-use Rattle.job_turns.specs.Searches.{rules_mean}
 use Rattle.job_turns.specs.Requests.{IsGoalOfMember, IsBestOfMember}
 use Rattle.job_turns.specs.declared.choice.Choice.TheVariants.{Known}
+use Rattle.job_turns.proofs.JobHeld.{job_looked}
 use Rattle.job_turns.proofs.Finding.{finds_none, finds_looked, looks_choose, chooses_others}
 use Rattle.job_turns.proofs.Serving.{best_without, best_with}
 use Rattle.job_turns.proofs.members.await_candidate.Goals as goal
@@ -23,10 +22,12 @@ goal_here-requires-clause-in_range g c = (c.goals_are_known.ensures.words c.args
 pub await_choice-requires-clause-word : goal.await_choice-requires-clause-word
 await_choice-requires-clause-word g c = c.in-Some.ensures.goal.1
 
-pub returns-in-None-clause-right : goal.returns-in-None-clause-right
-returns-in-None-clause-right g c =
-    let b = c.args.board.now in
-    right_looked (rules_mean b.key.rules) b.key.room c.args.job.now.right (hands c.args.seat.now) (hands c.goal_here.new.seat) c.goal_here.ensures.looks c.requires.right
+pub returns-in-None-clause-at_work : goal.returns-in-None-clause-at_work
+returns-in-None-clause-at_work g c =
+    record {
+      has_job = job_looked c.args.query.now c.args.board.now c.args.seat.now c.goal_here.new.seat c.args.job.now c.goal_here.ensures.seat c.requires.at_work.has_job c.goal_here.ensures.looks;
+      hints = c.requires.at_work.hints;
+    }
 
 pub returns-in-None-clause-chooses : goal.returns-in-None-clause-chooses
 returns-in-None-clause-chooses g c =
@@ -40,10 +41,12 @@ returns-in-None-clause-chooses g c =
     (finds_none q room v c.args.job.now.right (IsGoalOfMember q e wanted) (IsBestOfMember q e wanted) (λ child is. none is.0) None (best_without q e.group wanted (c.answers_are_best.ensures.none q) e none))
     c.goal_here.ensures.looks
 
-pub await_choice-requires-clause-right : goal.await_choice-requires-clause-right
-await_choice-requires-clause-right g c =
-    let b = c.args.board.now in
-    right_looked (rules_mean b.key.rules) b.key.room c.args.job.now.right (hands c.args.seat.now) (hands c.goal_here.new.seat) c.goal_here.ensures.looks c.requires.right
+pub await_choice-requires-clause-at_work : goal.await_choice-requires-clause-at_work
+await_choice-requires-clause-at_work g c =
+    record {
+      has_job = job_looked c.args.query.now c.args.board.now c.args.seat.now c.goal_here.new.seat c.args.job.now c.goal_here.ensures.seat c.requires.at_work.has_job c.goal_here.ensures.looks;
+      hints = c.requires.at_work.hints;
+    }
 
 pub await_choice-requires-clause-child : goal.await_choice-requires-clause-child
 await_choice-requires-clause-child g c =

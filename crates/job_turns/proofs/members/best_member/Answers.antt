@@ -1,5 +1,5 @@
 -- One candidate after the other.
-use Rattle.std.proofs.Common.{[], ℕ, ◌+◌, List, None, take, sym, subst, ◌∙◌}
+use Rattle.std.proofs.Common.{[], ℕ, ◌+◌, List, None, take, sym, subst}
 use Rattle.std.proofs.lemmas.List.{take_all}
 use Rattle.query_core.specs.declared.words.KeyParts.{KeyParts}
 use Rattle.request_props.specs.declared.physical.PhysicalCandidate.{PhysicalCandidate}
@@ -26,9 +26,7 @@ loop-candidate-init g c =
     let group = c.args.group in
     let wanted = c.args.wanted in
     record {
-      seat = c.requires.seat;
-      right = c.requires.right;
-      hints = c.requires.hints;
+      at_work = c.requires.at_work;
       found = finds_none q c.args.board.now.key.room (hands c.args.seat.now) c.args.job.now.right (IsMemberGoalAmong q group wanted []) (IsBestAmong q group wanted []) (member_goal_none q group wanted)
           None (best_none q group wanted (c.answers_are_best.ensures.none q));
     }
@@ -77,9 +75,7 @@ loop-candidate-preserved g c =
     let w = hands c.await_candidate.new.seat in
     let fits = c.goals_are_known.ensures.requests q (Opt group wanted) c.requires.goal.is_goal in
     record {
-      seat = c.await_candidate.ensures.seat;
-      right = c.await_candidate.ensures.right;
-      hints = c.await_candidate.ensures.hints ∙ c.loop-candidate.invariant.hints;
+      at_work = c.await_candidate.ensures.at_work;
       found = subst (λ (choice : Choice). FindsChoice q room v start (IsMemberGoalAmong q group wanted (take (i + 1) candidates)) (IsBestAmong q group wanted (take (i + 1) candidates)) choice w after) (sym c.or-choice.ensures)
           (finds_more q group wanted candidates c.physical_of-candidates.ensures i _ c.loop-candidate-test.true room v start (c.answers_are_best.ensures.lesser q) c.args.props.now c.requires.props fits c.loop-candidate.choice c.in_ok-other.other
           (hands c.loop-candidate.seat) c.loop-candidate.job.right w after c.loop-candidate.invariant.found c.in_ok-other.ensures.chooses);

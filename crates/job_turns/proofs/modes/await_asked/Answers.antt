@@ -33,7 +33,7 @@ pub group_goal-word-requires-clause-wanted : goal.group_goal-word-requires-claus
 group_goal-word-requires-clause-wanted g c =
     let asked = subst (IsAskedByChild c.args.query.now c.args.job.now.right.goal) c.in-Some.is c.requires.asked in
     let child = asked.2 in
-    (c.words_are_known.ensures.words c.args.query.now c.requires.board.small child.0 (Opt asked.0 c.in-Some.wanted) c.args.job.now.right.goal child.1 child.2).1.1
+    (c.words_are_known.ensures.words c.args.query.now c.requires.at_work.has_job.board.small child.0 (Opt asked.0 c.in-Some.wanted) c.args.job.now.right.goal child.1 child.2).1.1
 
 pub await_choice-requires-clause-word : goal.await_choice-requires-clause-word
 await_choice-requires-clause-word g c =

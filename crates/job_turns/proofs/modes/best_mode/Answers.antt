@@ -1,5 +1,5 @@
 -- One mode after the other.
-use Rattle.std.proofs.Common.{ℕ, ◌+◌, None, sym, subst, ◌∙◌, arith}
+use Rattle.std.proofs.Common.{ℕ, ◌+◌, None, sym, subst, arith}
 use Rattle.goal_board.specs.Seats.{hands}
 use Rattle.goal_space.specs.Children.{IsChildGoal}
 use Rattle.goal_space.specs.Answers.{IsAnswerTo}
@@ -28,9 +28,7 @@ modes-init g c =
     let e = c.args.expr in
     let wanted = c.args.wanted in
     record {
-      seat = c.requires.seat;
-      right = c.requires.right;
-      hints = c.requires.hints;
+      at_work = c.requires.at_work;
       found = finds_none q c.args.board.now.key.room (hands c.args.seat.now) c.args.job.now.right (IsGoalBelow q e wanted 0) (IsBestBelow q e wanted 0) (goal_below_none q e wanted)
           None (best_below_none q e wanted (c.answers_are_best.ensures.none q));
     }
@@ -75,9 +73,7 @@ modes-preserved g c =
     let more = finds_others q b.key.room (hands c.args.seat.now) c.args.job.now.right _ (IsGoalBelow q e wanted (mode + 1)) (IsBestBelow q e wanted (mode + 1)) (IsBestBelow q e wanted (mode + 1)) (goal_below_more q e wanted from mode next.2) (λ best is. is)
     _ (hands c.await_mode.new.seat) c.await_mode.new.job.right both in
     record {
-      seat = c.await_mode.ensures.seat;
-      right = c.await_mode.ensures.right;
-      hints = c.await_mode.ensures.hints ∙ c.modes.invariant.hints;
+      at_work = c.await_mode.ensures.at_work;
       found = subst (λ (choice : Choice). FindsChoice q b.key.room (hands c.args.seat.now) c.args.job.now.right (IsGoalBelow q e wanted (mode + 1)) (IsBestBelow q e wanted (mode + 1)) choice (hands c.await_mode.new.seat) c.await_mode.new.job.right)
           (sym c.or-choice.ensures) more;
     }

@@ -6,12 +6,20 @@ use Rattle.goal_board.specs.declared.board.Right.{Right}
 use Rattle.goal_rules.specs.Meaning.{meaning_of}
 use Rattle.board_moves.specs.Turns.{IsReady}
 use Rattle.board_moves.proofs.Ending.{ready_after, turns_end}
+use Rattle.job_turns.specs.Searches.{HasRight}
 use Rattle.job_turns.specs.Turns.{TurnsGoal}
 use Rattle.job_turns.specs.Works.{Adds}
 use Rattle.job_turns.proofs.one_turn.turn.Goals as goal
 
-pub work-progress-requires-clause-board : goal.work-progress-requires-clause-board
-work-progress-requires-clause-board g c = record { same_query = c.requires.board; small = record { few_lists = c.requires.props.few_lists; few_orders = c.requires.props.few_orders } }
+pub work-progress-requires-clause-at_work : goal.work-progress-requires-clause-at_work
+work-progress-requires-clause-at_work g c = record {
+  has_job = record {
+    board = record { same_query = c.requires.board; small = record { few_lists = c.requires.props.few_lists; few_orders = c.requires.props.few_orders } };
+    seat = c.requires.seat;
+    right = subst (HasRight c.args.board.now c.args.seat.now) (sym c.of-job.ensures) c.requires.right;
+  };
+  hints = c.requires.hints;
+}
 
 pub end-requires-clause-ready : goal.end-requires-clause-ready
 end-requires-clause-ready g c κs within =

@@ -9,8 +9,7 @@ use Rattle.job_turns.proofs.rule_results.put_results.Goals as goal
 
 pub loop-n-init : goal.loop-n-init
 loop-n-init c = record {
-  seat = c.requires.seat;
-  right = c.requires.right;
+  has_job = c.requires.has_job;
   put = put_none c.args.query.now c.args.board.now.key.room c.args.job.now.right (hands c.args.seat.now) (IsBroughtBelow c.args.query.now c.args.rule c.args.e c.args.bound 0) (λ x is. let none = is.1 in absurd (omega arith));
 }
 
@@ -29,8 +28,7 @@ loop-n-preserved c =
     let below = IsBroughtBelow q c.args.rule c.args.e c.args.bound c.loop-n.n in
     let here = IsBroughtAt q c.args.rule c.args.e c.args.bound c.loop-n.n in
     record {
-      seat = c.put_result.ensures.seat;
-      right = c.put_result.ensures.right;
+      has_job = c.put_result.ensures.has_job;
       put = put_others q c.args.board.now.key.room c.args.job.now.right (hands c.args.seat.now) (λ x. below x ⊎ here x) (IsBroughtBelow q c.args.rule c.args.e c.args.bound (c.loop-n.n + 1))
           (below_more q c.args.rule c.args.e c.args.bound c.loop-n.n) (hands c.put_result.new.seat)
           (put_both q c.args.board.now.key.room c.args.job.now.right (hands c.args.seat.now) below here (hands c.loop-n.seat) (hands c.put_result.new.seat) c.loop-n.invariant.put c.if-not-put_result.ensures.puts);

@@ -1,13 +1,12 @@
 -- The results below a number were put in.
 use Rattle.goal_board.specs.Seats.{hands}
-use Rattle.job_turns.specs.Searches.{IsSeat, HasRight}
+use Rattle.job_turns.specs.Searches.{HasJob}
 use Rattle.job_turns.specs.Results.{IsBroughtBelow}
 use Rattle.job_turns.specs.Works.{HasPut}
 use Rattle.job_turns.proofs.rule_results.put_results.Given as goal
 
 abbrev pub invariant-loop-n : goal.invariant-loop-n
 invariant-loop-n l = record {
-  seat : IsSeat l.board l.seat;
-  right : HasRight l.board l.seat l.job.right;
+  has_job : HasJob l.query l.board l.seat l.job;
   put : HasPut l.query l.board.key.room (hands l.initial.seat) l.job.right (IsBroughtBelow l.query l.rule l.e l.bound l.n) (hands l.seat);
 }

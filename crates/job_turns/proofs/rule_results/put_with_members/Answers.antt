@@ -8,13 +8,12 @@ use Rattle.goal_board.specs.Seats.{hands}
 use Rattle.board_moves.specs.Moves.{IsEntryOf}
 use Rattle.board_moves.specs.Words.{IsNextWord, IsNextOf}
 use Rattle.board_moves.proofs.Ascending.{fewer_above}
-use Rattle.board_moves.proofs.OneChild.{right_looked}
 use Rattle.goal_space.specs.Children.{IsLogicalIn}
 use Rattle.goal_rules.specs.Explored.{IsLogicalWord}
 use Rattle.goal_rules.specs.Meaning.{meaning_of}
-use Rattle.job_turns.specs.Searches.{rules_mean}
 use Rattle.job_turns.specs.Results.{IsBroughtWith, IsBroughtFrom}
 use Rattle.job_turns.proofs.GroupLemmas.{some_logical}
+use Rattle.job_turns.proofs.JobHeld.{job_looked}
 use Rattle.job_turns.proofs.MembersPut.{put_none, put_both, put_others, put_looked, put_shown_from, puts_run_out}
 use Rattle.job_turns.proofs.Bound.{IsBroughtUpTo, entry_member, bound_more, bound_all}
 use Rattle.job_turns.proofs.rule_results.put_with_members.Goals as goal
@@ -26,7 +25,7 @@ pub next_entry-requires-clause-shown : goal.next_entry-requires-clause-shown
 next_entry-requires-clause-shown c κs = λ word is.
     let q = c.args.query.now in
     let b = c.args.board.now in
-    let same = c.requires.board.same_query in
+    let same = c.requires.has_job.board.same_query in
     let over = subst (λ (p : Query). IsEntryOf (meaning_of p) (IsLogicalWord q c.args.group) word) same is in
     let (bound, is_in, number) = entry_member q c.args.group (c.entries_are_known.ensures.members q) (c.members_are_candidates.ensures q) word over in
     subst (λ (p : Query). ShowsEntry (meaning_of p) b.key.room (hands c.loop-word.seat).looks word) (sym same)
@@ -35,8 +34,7 @@ next_entry-requires-clause-shown c κs = λ word is.
 
 pub loop-word-init : goal.loop-word-init
 loop-word-init c = record {
-  seat = c.requires.seat;
-  right = c.requires.right;
+  has_job = c.requires.has_job;
   put = put_none c.args.query.now c.args.board.now.key.room c.args.job.now.right (hands c.args.seat.now) (IsBroughtUpTo c.args.query.now c.args.rule c.args.e c.args.group None) (λ x is. is.2);
 }
 
@@ -47,9 +45,9 @@ pub known_parts-bound-requires : goal.known_parts-bound-requires
 known_parts-bound-requires c =
     let (e, logical, number) = c.in-Some.ensures.next.has.0 in (e, record { packed = c.candidates_are_known.ensures.packed c.args.query.now e logical.candidate; number = number })
 
-pub put_results-requires-clause-right : goal.put_results-requires-clause-right
-put_results-requires-clause-right c =
-    let b = c.args.board.now in right_looked (rules_mean b.key.rules) b.key.room c.args.job.now.right (hands c.loop-word.seat) (hands c.next_entry.new.seat) c.in-Some.ensures.looks c.loop-word.invariant.right
+pub put_results-requires-clause-has_job : goal.put_results-requires-clause-has_job
+put_results-requires-clause-has_job c =
+    job_looked c.args.query.now c.args.board.now c.loop-word.seat c.next_entry.new.seat c.args.job.now c.next_entry.ensures.seat c.loop-word.invariant.has_job c.in-Some.ensures.looks
 
 pub put_results-requires-clause-bound : goal.put_results-requires-clause-bound
 put_results-requires-clause-bound c =
@@ -60,7 +58,7 @@ put_results-requires-clause-bound c =
 pub put_results-requires-clause-asked : goal.put_results-requires-clause-asked
 put_results-requires-clause-asked c = λ other brought.
     let q = c.args.query.now in
-    let over = subst (λ (p : Query). IsEntryOf (meaning_of p) (IsLogicalWord q c.args.group) c.in-Some.word) c.requires.board.same_query c.in-Some.ensures.next.has in
+    let over = subst (λ (p : Query). IsEntryOf (meaning_of p) (IsLogicalWord q c.args.group) c.in-Some.word) c.requires.has_job.board.same_query c.in-Some.ensures.next.has in
     let (x, is_in, number) = entry_member q c.args.group (c.entries_are_known.ensures.members q) (c.members_are_candidates.ensures q) c.in-Some.word over in
     let same = c.known_parts-bound.ensures.only x (record { packed = c.candidates_are_known.ensures.packed q x (c.members_are_candidates.ensures q x is_in.member); number = number }) in
     c.requires.asked c.known_parts-bound.result other (subst (IsLogicalIn (IsMember q) c.args.group) same is_in) brought
@@ -81,10 +79,9 @@ loop-word-preserved c =
     let right = c.args.job.now.right in
     let up_to = IsBroughtUpTo q c.args.rule c.args.e c.args.group c.loop-word.before in
     let with = IsBroughtWith q c.args.rule c.args.e (Some c.known_parts-bound.result) in
-    let next = subst (λ (p : Query). IsNextWord (IsEntryOf (meaning_of p) (IsLogicalWord q c.args.group)) c.loop-word.before c.in-Some.word) c.requires.board.same_query c.in-Some.ensures.next in
+    let next = subst (λ (p : Query). IsNextWord (IsEntryOf (meaning_of p) (IsLogicalWord q c.args.group)) c.loop-word.before c.in-Some.word) c.requires.has_job.board.same_query c.in-Some.ensures.next in
     record {
-      seat = c.put_results.ensures.seat;
-      right = c.put_results.ensures.right;
+      has_job = c.put_results.ensures.has_job;
       put = put_others q room right (hands c.args.seat.now) (λ x. up_to x ⊎ with x) (IsBroughtUpTo q c.args.rule c.args.e c.args.group (Some c.in-Some.word))
           (bound_more q c.args.group (c.entries_are_known.ensures.members q) (c.members_are_candidates.ensures q) c.args.rule c.args.e c.loop-word.before c.in-Some.word next c.known_parts-bound.result
           (λ x is_in number. c.known_parts-bound.ensures.only x (record { packed = c.candidates_are_known.ensures.packed q x (c.members_are_candidates.ensures q x is_in.member); number = number })))
@@ -93,9 +90,9 @@ loop-word-preserved c =
           (put_looked q room right (hands c.args.seat.now) up_to (hands c.loop-word.seat) (hands c.next_entry.new.seat) c.in-Some.ensures.looks c.loop-word.invariant.put) c.if-not-put_results.ensures.puts);
     }
 
-pub returns-clause-right : goal.returns-clause-right
-returns-clause-right c =
-    let b = c.args.board.now in right_looked (rules_mean b.key.rules) b.key.room c.args.job.now.right (hands c.loop-word.seat) (hands c.next_entry.new.seat) c.in_default.ensures.looks c.loop-word.invariant.right
+pub returns-clause-has_job : goal.returns-clause-has_job
+returns-clause-has_job c =
+    job_looked c.args.query.now c.args.board.now c.loop-word.seat c.next_entry.new.seat c.args.job.now c.next_entry.ensures.seat c.loop-word.invariant.has_job c.in_default.ensures.looks
 
 pub returns-clause-puts : goal.returns-clause-puts
 returns-clause-puts c =
@@ -103,7 +100,7 @@ returns-clause-puts c =
     let room = c.args.board.now.key.room in
     let right = c.args.job.now.right in
     let up_to = IsBroughtUpTo q c.args.rule c.args.e c.args.group c.loop-word.before in
-    let none = subst (λ (p : Query). IsNextOf (IsEntryOf (meaning_of p) (IsLogicalWord q c.args.group)) c.loop-word.before None) c.requires.board.same_query c.in_default.ensures.next in
+    let none = subst (λ (p : Query). IsNextOf (IsEntryOf (meaning_of p) (IsLogicalWord q c.args.group)) c.loop-word.before None) c.requires.has_job.board.same_query c.in_default.ensures.next in
     put_others q room right (hands c.args.seat.now) up_to (IsBroughtFrom q c.args.rule c.args.e c.args.group)
     (bound_all q c.args.group (c.entries_are_known.ensures.members q) (c.members_are_candidates.ensures q) c.args.rule c.args.e c.loop-word.before none)
     (hands c.next_entry.new.seat) (put_looked q room right (hands c.args.seat.now) up_to (hands c.loop-word.seat) (hands c.next_entry.new.seat) c.in_default.ensures.looks c.loop-word.invariant.put)

@@ -1,15 +1,14 @@
 -- The results with the members up to one bound were put in.
 use Rattle.goal_board.specs.Seats.{hands}
 use Rattle.board_moves.proofs.Ascending.{left_above}
-use Rattle.job_turns.specs.Searches.{IsSeat, HasRight}
+use Rattle.job_turns.specs.Searches.{HasJob}
 use Rattle.job_turns.specs.Works.{HasPut}
 use Rattle.job_turns.proofs.Bound.{IsBroughtUpTo}
 use Rattle.job_turns.proofs.rule_results.put_with_members.Given as goal
 
 abbrev pub invariant-loop-word : goal.invariant-loop-word
 invariant-loop-word l = record {
-  seat : IsSeat l.board l.seat;
-  right : HasRight l.board l.seat l.job.right;
+  has_job : HasJob l.query l.board l.seat l.job;
   put : HasPut l.query l.board.key.room (hands l.initial.seat) l.job.right (IsBroughtUpTo l.query l.rule l.e l.fn.group l.before) (hands l.seat);
 }
 
