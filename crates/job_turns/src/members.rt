@@ -116,21 +116,15 @@ fn goal_here<'q>(
     ensures looks { OnlyLooks (hands seat.old) (hands seat.new) }
     ensures goal { IsWordOfMember query.now candidate.expr wanted result }
 {
-    // For the proof: expressions have small words, what is in a cell is an entry, and goals are of members.
+    // For the proof: expressions have small words, and what is in a cell is an entry.
     candidates_are_known();
     expressions_are_one();
     entries_are_known();
-    goals_are_known();
     if !may_serve(query, props, candidate.expr, wanted) {
         return None;
     }
-    let goal = member_goal(Expr(candidate.word), wanted);
-    // Where the goal was put in before, the expression is such a member.
-    if board.holds(seat, goal.0) {
-        return Some(goal);
-    }
     if board.holds(seat, candidate.word) {
-        Some(goal)
+        Some(member_goal(Expr(candidate.word), wanted))
     } else {
         None
     }

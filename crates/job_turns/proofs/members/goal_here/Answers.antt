@@ -1,6 +1,5 @@
--- A goal that is held is that of a member that may serve. A candidate that is held is a member, and one that isn't is
--- none: the looks would show it.
-use Rattle.std.proofs.Common.{◌≢◌, Bool, refl, sym, subst, ◌∙◌, arith}
+-- A candidate that is held is a member, and one that isn't is none: the looks would show it.
+use Rattle.std.proofs.Common.{◌≢◌, Bool, sym, subst, ◌∙◌, arith, refl}
 use Rattle.std.proofs.lemmas.Bool.{false≢true}
 use Rattle.query_core.specs.Expressions.{expr_of}
 use Rattle.query_core.specs.Goals.{FitsExpr}
@@ -9,18 +8,16 @@ use Rattle.query_core.proofs.ExpressionLemmas.{word_some}
 use Rattle.board_rule.specs.Looks.{ShowsEntry}
 use Rattle.goal_board.specs.Calls.{FindsWhether}
 use Rattle.goal_board.specs.Seats.{hands}
-use Rattle.board_moves.proofs.Shown.{looks_none, looks_then, later_looked, still_shown}
+use Rattle.board_moves.proofs.Shown.{looks_none}
 use Rattle.board_moves.proofs.Putting.{held_at, only_looks_held, found_enters}
 use Rattle.goal_space.specs.Entries.{IsEntry}
-use Rattle.goal_space.specs.Words.{IsInRange}
-use Rattle.goal_space.specs.declared.goals.GoalKind.TheVariants.{OptE}
 use Rattle.goal_rules.specs.Meaning.{meaning_of}
 use Rattle.job_turns.specs.Searches.{rules_mean}
 use Rattle.job_turns.proofs.Held.{member_shown}
 use Rattle.job_turns.proofs.members.goal_here.Goals as goal
 
-pub member_goal-goal-requires-clause-expr : goal.member_goal-goal-requires-clause-expr
-member_goal-goal-requires-clause-expr c =
+pub member_goal-requires-clause-expr : goal.member_goal-requires-clause-expr
+member_goal-requires-clause-expr c =
     let candidate = c.requires.candidate in
     let small = c.expressions_are_one.ensures.small (expr_of c.args.candidate.expr) (c.candidates_are_known.ensures.packed c.args.query.now (expr_of c.args.candidate.expr) candidate.candidate) in
     subst FitsExpr candidate.number small
@@ -33,45 +30,19 @@ pub returns-then-not-may_serve-clause-goal : goal.returns-then-not-may_serve-cla
 returns-then-not-may_serve-clause-goal c = λ can. false≢true (sym c.if-not-may_serve.true ∙ c.may_serve.ensures.1 (can.mode, can.serves))
 
 pub returns-then-holds-clause-looks : goal.returns-then-holds-clause-looks
-returns-then-holds-clause-looks c = only_looks_held c.args.board.now.key.room (hands c.args.seat.now) c.member_goal-goal.result.0 c.holds.result (hands c.holds.new.seat) c.holds.ensures.answer
+returns-then-holds-clause-looks c = only_looks_held c.args.board.now.key.room (hands c.args.seat.now) c.args.candidate.word c.holds.result (hands c.holds.new.seat) c.holds.ensures.answer
 
 pub returns-then-holds-clause-goal : goal.returns-then-holds-clause-goal
 returns-then-holds-clause-goal c =
     let q = c.args.query.now in
     let b = c.args.board.now in
     let v = hands c.args.seat.now in
-    let e = c.args.candidate.expr in
-    let wanted = c.args.wanted in
-    let word = c.member_goal-goal.result.0 in
-    let number = c.member_goal-goal.ensures.word e c.requires.candidate.number in
-    let some_word : word ≢ 0 = let some = c.member_goal-goal.ensures.some in omega arith in
-    let at = held_at b.key.room v word (hands c.holds.new.seat) (subst (λ (found : Bool). FindsWhether b.key.room v word found (hands c.holds.new.seat)) c.if-holds.true c.holds.ensures.answer) in
-    let enters = found_enters b.key.room rules_mean b.key.rules v word at.0 (hands c.holds.new.seat) c.holds.ensures.seat.over some_word at.1 in
-    let entry : IsEntry q word = subst (λ (x : Query). IsEntry x word) c.requires.board.same_query enters in
-    let in_range : IsInRange (OptE e wanted) = (c.candidates_are_known.ensures.packed q (expr_of e) c.requires.candidate.candidate, c.requires.in_range) in
-    let is_goal = (c.entries_are_known.ensures.goals q c.args.props.now c.requires.props (OptE e wanted) in_range).entry (subst (IsEntry q) (sym number) entry) in
-    let of = c.goals_are_known.ensures.members q (OptE e wanted) is_goal in
-    (record { member = of.1; of_group = refl; mode = of.0; serves = of.2 }, number)
-
-pub returns-then-holds-2-clause-looks : goal.returns-then-holds-2-clause-looks
-returns-then-holds-2-clause-looks c =
-    let room = c.args.board.now.key.room in
-    let v = hands c.args.seat.now in
-    let u = hands c.holds.new.seat in
-    let w = hands c.holds-2.new.seat in
-    looks_then v u w (only_looks_held room v c.member_goal-goal.result.0 c.holds.result u c.holds.ensures.answer) (only_looks_held room u c.args.candidate.word c.holds-2.result w c.holds-2.ensures.answer)
-
-pub returns-then-holds-2-clause-goal : goal.returns-then-holds-2-clause-goal
-returns-then-holds-2-clause-goal c =
-    let q = c.args.query.now in
-    let b = c.args.board.now in
-    let v = hands c.holds.new.seat in
     let word = c.args.candidate.word in
     let e = c.args.candidate.expr in
     let some_word : word ≢ 0 = let some = word_some (expr_of e) in omega arith in
     let serves = c.may_serve.ensures.0 c.if-not-may_serve.false in
-    let at = held_at b.key.room v word (hands c.holds-2.new.seat) (subst (λ (found : Bool). FindsWhether b.key.room v word found (hands c.holds-2.new.seat)) c.if-holds-2.true c.holds-2.ensures.answer) in
-    let enters = found_enters b.key.room rules_mean b.key.rules v word at.0 (hands c.holds-2.new.seat) c.holds-2.ensures.seat.over some_word at.1 in
+    let at = held_at b.key.room v word (hands c.holds.new.seat) (subst (λ (found : Bool). FindsWhether b.key.room v word found (hands c.holds.new.seat)) c.if-holds.true c.holds.ensures.answer) in
+    let enters = found_enters b.key.room rules_mean b.key.rules v word at.0 (hands c.holds.new.seat) c.holds.ensures.seat.over some_word at.1 in
     let entry : IsEntry q word = subst (λ (x : Query). IsEntry x word) c.requires.board.same_query enters in (
       record {
         member = c.entries_are_known.ensures.members q (expr_of e) c.requires.candidate.candidate (subst (IsEntry q) (sym c.requires.candidate.number) entry);
@@ -79,27 +50,18 @@ returns-then-holds-2-clause-goal c =
         mode = serves.0;
         serves = serves.1;
       },
-      c.member_goal-goal.ensures.word e c.requires.candidate.number,
+      c.member_goal.ensures.word e c.requires.candidate.number,
     )
 
-pub returns-else-holds-2-clause-looks : goal.returns-else-holds-2-clause-looks
-returns-else-holds-2-clause-looks c =
-    let room = c.args.board.now.key.room in
-    let v = hands c.args.seat.now in
-    let u = hands c.holds.new.seat in
-    let w = hands c.holds-2.new.seat in
-    looks_then v u w (only_looks_held room v c.member_goal-goal.result.0 c.holds.result u c.holds.ensures.answer) (only_looks_held room u c.args.candidate.word c.holds-2.result w c.holds-2.ensures.answer)
+pub returns-else-holds-clause-looks : goal.returns-else-holds-clause-looks
+returns-else-holds-clause-looks c = only_looks_held c.args.board.now.key.room (hands c.args.seat.now) c.args.candidate.word c.holds.result (hands c.holds.new.seat) c.holds.ensures.answer
 
-pub returns-else-holds-2-clause-goal : goal.returns-else-holds-2-clause-goal
-returns-else-holds-2-clause-goal c =
+pub returns-else-holds-clause-goal : goal.returns-else-holds-clause-goal
+returns-else-holds-clause-goal c =
     let q = c.args.query.now in
     let b = c.args.board.now in
     let v = hands c.args.seat.now in
-    let u = hands c.holds.new.seat in
-    let word = c.args.candidate.word in
     let e = c.args.candidate.expr in
-    let looks = only_looks_held b.key.room v c.member_goal-goal.result.0 c.holds.result u c.holds.ensures.answer in
-    λ can. false≢true (sym c.if-holds-2.false ∙ c.holds-2.ensures.shown
-    (subst (λ (x : Query). ShowsEntry (meaning_of x) b.key.room u.looks word) (sym c.requires.board.same_query)
-    (still_shown (meaning_of q) b.key.room v.looks u.looks (later_looked v u looks) word
-    (member_shown q b.key.room v.looks e c.requires.implemented can.member word c.requires.candidate.number))))
+    λ can. false≢true (sym c.if-holds.false ∙ c.holds.ensures.shown
+    (subst (λ (x : Query). ShowsEntry (meaning_of x) b.key.room v.looks c.args.candidate.word) (sym c.requires.board.same_query)
+    (member_shown q b.key.room v.looks e c.requires.implemented can.member c.args.candidate.word c.requires.candidate.number)))
