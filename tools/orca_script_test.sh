@@ -70,7 +70,8 @@ expect "a program that is current is started at once" 0 "stale" ""
 make_checkout 'echo "never called"; exit 1'
 printf '#!/bin/sh\necho "$GLIBC_TUNABLES"\n' > "$checkout/crates/orca/out/orca"
 unset GLIBC_TUNABLES
-expect "the program is started with large pages" 0 "glibc.malloc.hugetlb=1" ""
+expect "the program is started with large pages for all of a block" 0 \
+  "glibc.malloc.hugetlb=1:glibc.malloc.mmap_threshold=1073741824" ""
 
 make_checkout 'echo "never called"; exit 1'
 printf '#!/bin/sh\necho "$GLIBC_TUNABLES"\n' > "$checkout/crates/orca/out/orca"
