@@ -1,6 +1,9 @@
 //! What the program prints by one worker and by several.
 use crate::join_tests::JOINED;
-use crate::runs::{JOIN, PLAN, TWO_TABLES, assert_printed, noted, printed};
+use crate::runs::{
+    EMPTY, EMPTY_BY_WORKER, EMPTY_MEMO, EMPTY_PLAN, EMPTY_TRACE, JOIN, PLAN, TWO_TABLES,
+    assert_printed, assert_sections, noted, printed,
+};
 use orca_cli::Status;
 use std::alloc::AllocGlobal;
 use std::process::Abort;
@@ -8,17 +11,12 @@ use std::sync::Wait;
 use std::test::Fail;
 use std::thread::Threads;
 
-const EMPTY: &str =
-    r#"{"version":1,"segments":4,"tables":[{"name":"t","rows":0,"distribution":"random","columns":[{"name":"a","ndv":1000},{"name":"b","ndv":10}]}]}"#;
-
 #[test]
 fn one_worker_prints_all_sections(rt: HostRuntime) -> Result<(), Fail> {
     let words = "plan c.json q.sql --memo --trace --by-worker";
-    let text =
-        "cost 2\noutput t.a\nGather rows=0 cost=1\n  Scan(t) rows=0 cost=1\nmemo groups=1 members=2\ngroup Get(t) rows=0\n  Get(t)\n  Scan(t)\ntrace goals=8 exp=1 expe=1 xf=1 imp=1 impe=1 opt=2 opte=1\nExp Get(t)\n  ExpE Get(t)\nExpE Get(t)\nXf GetToScan Get(t)\nImp Get(t)\n  Exp Get(t)\n  ImpE Get(t)\nImpE Get(t)\n  Xf GetToScan Get(t)\nOpt Get(t) [One]\n  Imp Get(t)\n  Opt Get(t) [Spread]\nOpt Get(t) [Spread]\n  Imp Get(t)\n  OptE Scan(t) [Spread]\nOptE Scan(t) [Spread]\nby-worker\n0 Exp Get(t)\n0 ExpE Get(t)\n0 Xf GetToScan Get(t)\n0 Imp Get(t)\n0 ImpE Get(t)\n0 Opt Get(t) [One]\n0 Opt Get(t) [Spread]\n0 OptE Scan(t) [Spread]\n";
-    let query = b"SELECT a FROM t";
-    assert_printed(&rt, words, EMPTY.as_bytes(), query, Status::Planned, text)?;
-    let (_, note) = noted(&rt, words, EMPTY.as_bytes(), query)?;
+    let sections = [EMPTY_PLAN, EMPTY_MEMO, EMPTY_TRACE, EMPTY_BY_WORKER];
+    assert_sections(&rt, words, &sections)?;
+    let (_, note) = noted(&rt, words, EMPTY.as_bytes(), b"SELECT a FROM t")?;
     assert_eq!(rt; note, Some((131_072, 1, 8)));
     Ok(())
 }

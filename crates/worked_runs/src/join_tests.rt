@@ -86,8 +86,24 @@ fn a_further_key_of_a_catalog_changes_nothing(rt: HostRuntime) -> Result<(), Fai
 
 #[test]
 fn prints_the_plan_and_the_memo_of_a_join(rt: HostRuntime) -> Result<(), Fail> {
-    let memo =
-        "memo groups=3 members=13\ngroup Get(T1) rows=1000\n  Get(T1)\n  Scan(T1)\ngroup Get(T2) rows=1000\n  Get(T2)\n  Scan(T2)\ngroup Join(T1, T2) rows=1000\n  NJoin(T1, T2)\n  Join(T1 | T2)\n  Join(T2 | T1)\n  HashJoin(T1 | T2)\n  HashJoin(T2 | T1)\n  MergeJoin(T1 | T2)\n  MergeJoin(T2 | T1)\n  LoopJoin(T1 | T2)\n  LoopJoin(T2 | T1)\n";
+    let memo = "memo groups=3 members=13
+group Get(T1) rows=1000
+  Get(T1)
+  Scan(T1)
+group Get(T2) rows=1000
+  Get(T2)
+  Scan(T2)
+group Join(T1, T2) rows=1000
+  NJoin(T1, T2)
+  Join(T1 | T2)
+  Join(T2 | T1)
+  HashJoin(T1 | T2)
+  HashJoin(T2 | T1)
+  MergeJoin(T1 | T2)
+  MergeJoin(T2 | T1)
+  LoopJoin(T1 | T2)
+  LoopJoin(T2 | T1)
+";
     let told = printed(
         &rt,
         "plan c.json q.sql --memo",

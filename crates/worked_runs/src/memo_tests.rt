@@ -1,6 +1,6 @@
 //! The memos of queries, as the program prints them.
 
-use crate::runs::{JOIN, TWO_TABLES, printed};
+use crate::runs::printed;
 use orca_cli::Status;
 use std::alloc::{AllocError, AllocGlobal, Global};
 use std::process::Abort;
@@ -30,31 +30,6 @@ fn assert_counts<R: Threads + Wait + Sync + AllocGlobal + Abort>(
 ) -> Result<(), Fail> {
     let memo = memo_of(rt, catalog, query)?;
     assert_eq!(rt; memo.lines().next(), Some(counts));
-    Ok(())
-}
-
-#[test]
-fn a_join_of_two_tables(rt: HostRuntime) -> Result<(), Fail> {
-    let memo = memo_of(&rt, TWO_TABLES, JOIN)?;
-    let wanted = "groups=3 members=13
-group Get(T1) rows=1000
-  Get(T1)
-  Scan(T1)
-group Get(T2) rows=1000
-  Get(T2)
-  Scan(T2)
-group Join(T1, T2) rows=1000
-  NJoin(T1, T2)
-  Join(T1 | T2)
-  Join(T2 | T1)
-  HashJoin(T1 | T2)
-  HashJoin(T2 | T1)
-  MergeJoin(T1 | T2)
-  MergeJoin(T2 | T1)
-  LoopJoin(T1 | T2)
-  LoopJoin(T2 | T1)
-";
-    assert_eq!(rt; memo.as_str(), wanted);
     Ok(())
 }
 

@@ -1,7 +1,8 @@
 //! Plans of one table, refusals with their causes and places, and the greatest lengths of texts.
 use crate::runs::{
-    PLAN, TWO_TABLES, assert_catalog_fault, assert_planned, assert_plans, assert_printed,
-    assert_query_fault, printed, shelf_of, words_of,
+    EMPTY, EMPTY_MEMO, EMPTY_PLAN, EMPTY_TRACE, PLAN, TWO_TABLES, assert_catalog_fault,
+    assert_planned, assert_plans, assert_printed, assert_query_fault, assert_sections, printed,
+    shelf_of, words_of,
 };
 use command_line::{Command, read_command};
 use orca_cli::{RunNote, Status, orca_alone};
@@ -25,9 +26,6 @@ GatherMerge(t.a) rows=1000 cost=3001
 fn prints_the_least_plan_of_one_table(rt: HostRuntime) -> Result<(), Fail> {
     assert_planned(&rt, CATALOG, QUERY, SORTED)
 }
-
-const EMPTY: &str =
-    r#"{"version":1,"segments":4,"tables":[{"name":"t","rows":0,"distribution":"random","columns":[{"name":"a","ndv":1000},{"name":"b","ndv":10}]}]}"#;
 
 const ON_ONE_SEGMENT: &str =
     r#"{"version":1,"segments":1,"tables":[{"name":"t","rows":10,"distribution":"random","columns":[{"name":"a","ndv":1000},{"name":"b","ndv":10}]}]}"#;
@@ -77,36 +75,22 @@ fn prints_the_least_plan_of_each_query(rt: HostRuntime) -> Result<(), Fail> {
 
 #[test]
 fn prints_the_memo_where_it_is_asked_for(rt: HostRuntime) -> Result<(), Fail> {
-    let text =
-        "cost 2\noutput t.a\nGather rows=0 cost=1\n  Scan(t) rows=0 cost=1\nmemo groups=1 members=2\ngroup Get(t) rows=0\n  Get(t)\n  Scan(t)\n";
     for words in [
         "plan --memo c.json q.sql",
         "plan c.json --memo q.sql",
         "plan c.json q.sql --memo",
     ] {
-        assert_printed(
-            &rt,
-            words,
-            EMPTY.as_bytes(),
-            b"SELECT a FROM t",
-            Status::Planned,
-            text,
-        )?;
+        assert_sections(&rt, words, &[EMPTY_PLAN, EMPTY_MEMO])?;
     }
     Ok(())
 }
 
 #[test]
 fn prints_the_trace_behind_the_memo(rt: HostRuntime) -> Result<(), Fail> {
-    let text =
-        "cost 2\noutput t.a\nGather rows=0 cost=1\n  Scan(t) rows=0 cost=1\nmemo groups=1 members=2\ngroup Get(t) rows=0\n  Get(t)\n  Scan(t)\ntrace goals=8 exp=1 expe=1 xf=1 imp=1 impe=1 opt=2 opte=1\nExp Get(t)\n  ExpE Get(t)\nExpE Get(t)\nXf GetToScan Get(t)\nImp Get(t)\n  Exp Get(t)\n  ImpE Get(t)\nImpE Get(t)\n  Xf GetToScan Get(t)\nOpt Get(t) [One]\n  Imp Get(t)\n  Opt Get(t) [Spread]\nOpt Get(t) [Spread]\n  Imp Get(t)\n  OptE Scan(t) [Spread]\nOptE Scan(t) [Spread]\n";
-    assert_printed(
+    assert_sections(
         &rt,
         "plan --trace c.json q.sql --memo",
-        EMPTY.as_bytes(),
-        b"SELECT a FROM t",
-        Status::Planned,
-        text,
+        &[EMPTY_PLAN, EMPTY_MEMO, EMPTY_TRACE],
     )
 }
 
