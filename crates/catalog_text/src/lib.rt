@@ -4,6 +4,3 @@
 mod text;
 
 pub use text::write_catalog;
-
-#[cfg(test)]
-mod tests;

@@ -11,6 +11,3 @@ mod texts;
 pub use laws::generated_queries_are_bound;
 pub use shape::GenShape;
 pub use texts::generate;
-
-#[cfg(test)]
-mod tests;

@@ -1,4 +1,5 @@
-use crate::{GenShape, generate};
+//! The catalogue and the query of a number, a count of tables and a shape.
+use query_generator::{GenShape, generate};
 use std::test::Fail;
 
 #[test]

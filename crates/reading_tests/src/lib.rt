@@ -1,4 +1,4 @@
-//! What is read: catalogues, queries, and the words of a command; tests alone.
+//! What is read, and what is written to be read: catalogues, queries, and the words of a command; tests alone.
 #![tactic(auto)]
 
 #[cfg(test)]
@@ -8,4 +8,10 @@ mod catalog_tests;
 #[cfg(test)]
 mod command_tests;
 #[cfg(test)]
+mod generator_tests;
+#[cfg(test)]
+mod print_tests;
+#[cfg(test)]
 mod sql_tests;
+#[cfg(test)]
+mod written_tests;

@@ -1,9 +1,10 @@
-use super::*;
+//! The canonical text of a query.
+use sql_print::print_sql;
 use sql_reader::read_sql;
 use std::alloc::Global;
 use std::test::Fail;
 
-/// The canonical text of what the text reads as.
+// The canonical text of what the text reads as.
 fn reprinted(alloc: Global, text: &[u8]) -> Result<Vec<u8>, Fail> {
     let select = read_sql(alloc, text).ok().ok_or("the text is a query")?;
     Ok(print_sql(alloc, &select)?)

@@ -1,11 +1,13 @@
-use crate::write_catalog;
+//! Catalogues that are written and read back.
+use crate::catalog_tests::TWO_TABLES;
 use catalog_json::read_catalog;
+use catalog_text::write_catalog;
 use std::test::Fail;
 
 #[test]
 fn a_catalogue_is_written_as_it_was(rt: HostRuntime) -> Result<(), Fail> {
     for text in [
-        "{\"version\":1,\"segments\":4,\"tables\":[{\"name\":\"T1\",\"rows\":1000,\"distribution\":[\"a\"],\"columns\":[{\"name\":\"a\",\"ndv\":1000}]},{\"name\":\"T2\",\"rows\":1000,\"distribution\":[\"a\"],\"columns\":[{\"name\":\"a\",\"ndv\":1000},{\"name\":\"b\",\"ndv\":500}]}]}",
+        TWO_TABLES,
         "{\"version\":1,\"segments\":1,\"tables\":[]}",
         "{\"version\":1,\"segments\":4,\"tables\":[{\"name\":\"t\",\"rows\":0,\"distribution\":\"random\",\"columns\":[{\"name\":\"a\",\"ndv\":100},{\"name\":\"b\",\"ndv\":0}],\"indexes\":[[\"b\",\"a\"],[\"a\"]]}]}",
     ] {

@@ -4,6 +4,3 @@
 mod printer;
 
 pub use printer::{print_sql, reads_again};
-
-#[cfg(test)]
-mod tests;
