@@ -1,4 +1,5 @@
 pub mod Over
+pub mod Memo
 pub mod Children
 pub mod Finding
 pub mod MemberJobs

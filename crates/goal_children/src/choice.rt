@@ -1,44 +1,42 @@
 //! The goals that a choice of plans waits for: what enforcers and alternatives ask for.
 #![tactic(auto)]
 
-ghost use Rattle.std.specs.Prelude.{◌≡◌, ◌<◌, ◌↔◌, ◌⊎◌, IfSome, Some};
+ghost use Rattle.std.specs.Prelude.{◌≡◌, ◌↔◌, ◌⊎◌, IfSome, Some};
 ghost use Rattle.std.specs.Option.{option_map};
 ghost use Rattle.query_core.specs.Keys as keys;
-ghost use Rattle.query_core.specs.Keys.{IsGroup};
-ghost use Rattle.query_core.specs.Expressions.{expr_of, physical_children, AreInRange, IsCandidate};
-ghost use Rattle.request_props.specs.Numbered.{IsProps};
+ghost use Rattle.query_core.specs.Expressions.{physical_children, AreInRange};
 ghost use Rattle.request_props.specs.Requests.{IsInRange};
 ghost use Rattle.plan_space.specs.Alternatives.{IsAlternative};
 ghost use Rattle.goal_space.specs.declared.goals.GoalKind.{GoalKind as AnyGoal};
-ghost use Rattle.goal_children.specs.Over.{IsNumberedRequest};
+ghost use Rattle.goal_children.specs.Over.{IsGoalOver};
+ghost use Rattle.goal_children.specs.Memo.{IsMemo};
 ghost use Rattle.goal_children.specs.Choices.{IsOfAlternatives, IsOfAsked, IsOfEnforcer, IsOfMode, IsOfRequest};
 ghost use Rattle.goal_children.specs.Finding.{FindsFrom};
 
 use crate::finding::{goal_from, sooner};
+use crate::memo::Memo;
 use goal_space::GoalKind;
-use plan_space::{Line, what_is_asked_fits};
+use plan_space::{Line, modes_are_few, what_is_asked_fits};
 use plan_tree::{Enforced, alternative_at, enforcer, modes_to_try, next_alternative};
 use query_core::{
-    Children, Key, KeyParts, PhysicalExpr, Query, candidates_are_known, groups_are_known,
+    Children, Key, KeyParts, PhysicalExpr, candidates_are_known, groups_are_known,
 };
-use request_props::{Props, Request};
+use request_props::Request;
 
 /// The first goal of the group for what an enforcer for the request asks of it, from the bound on.
 pub fn enforced_goal_from(
-    query: &Query,
-    props: &Props,
+    memo: Memo<'_>,
     group: KeyParts,
     wanted: Request,
     bound: u64,
 ) -> Option<GoalKind>
-    requires props { IsProps query.now props.now }
-    requires known { IsGroup query.now group }
-    requires numbered { IsNumberedRequest query.now wanted }
-    ensures { FindsFrom (IsOfEnforcer query.now group wanted) bound result }
+    requires memo { IsMemo memo }
+    requires goal { IsGoalOver memo.query.now (GoalKind.Opt group wanted) }
+    ensures { FindsFrom (IsOfEnforcer memo.entry.query.now group wanted) bound result }
 {
     // For the proof: groups have keys.
     groups_are_known();
-    let (first, second) = enforced_by(query, props, group, wanted);
+    let (first, second) = enforced_by(memo, group, wanted);
     sooner(
         asked_of_group(group, first, bound),
         asked_of_group(group, second, bound),
@@ -47,21 +45,20 @@ pub fn enforced_goal_from(
 
 /// What enforcers for the request ask of the group: two at most.
 pub fn enforced_by(
-    query: &Query,
-    props: &Props,
+    memo: Memo<'_>,
     group: KeyParts,
     wanted: Request,
 ) -> (Option<Request>, Option<Request>)
-    requires props { IsProps query.now props.now }
-    requires known { IsGroup query.now group }
-    requires numbered { IsNumberedRequest query.now wanted }
-    ensures exact { (goal : AnyGoal) → IsOfEnforcer query.now group wanted goal
+    requires memo { IsMemo memo }
+    requires goal { IsGoalOver memo.query.now (GoalKind.Opt group wanted) }
+    ensures exact { (goal : AnyGoal) → IsOfEnforcer memo.entry.query.now group wanted goal
         ↔ (IsOfRequest group result.0 goal ⊎ IsOfRequest group result.1 goal) }
     ensures first { IfSome result.0 IsInRange }
     ensures second { IfSome result.1 IsInRange }
 {
     // For the proof: groups have keys.
     groups_are_known();
+    let Memo { query, props, .. } = memo;
     let key = Key::make(group);
     let first = below(enforcer(query, props, key, wanted, 0));
     let second = below(enforcer(query, props, key, wanted, 1));
@@ -81,24 +78,20 @@ fn below(enforced: Option<Enforced>) -> Option<Request>
 /// The first goal of a group for what the expression asks of it in some mode, to serve the request,
 /// from the bound on. Several modes may ask for one.
 pub fn asked_goal_from(
-    query: &Query,
-    props: &Props,
+    memo: Memo<'_>,
     e: PhysicalExpr,
     wanted: Request,
     bound: u64,
 ) -> Option<GoalKind>
-    requires props { IsProps query.now props.now }
-    requires candidate { IsCandidate query.now (expr_of e) }
-    requires numbered { IsNumberedRequest query.now wanted }
-    ensures { FindsFrom (IsOfAlternatives query.now e wanted) bound result }
+    requires memo { IsMemo memo }
+    requires goal { IsGoalOver memo.query.now (GoalKind.OptE e wanted) }
+    ensures { FindsFrom (IsOfAlternatives memo.entry.query.now e wanted) bound result }
 {
+    let Memo { query, props, .. } = memo;
     let tried = modes_to_try(query, props, e, wanted);
     let (mut next, mut from) = (None, 0);
     'modes: while let Some((mode, line)) = next_alternative(query, props, e, wanted, tried, from) {
-        next = sooner(
-            next,
-            goal_in_mode(query, props, e, wanted, mode, line, bound),
-        );
+        next = sooner(next, goal_in_mode(memo, e, wanted, mode, line, bound));
         from = mode + 1;
     }
     next
@@ -106,50 +99,45 @@ pub fn asked_goal_from(
 
 // The first goal of a group for what the expression asks of it in one mode.
 fn goal_in_mode(
-    query: &Query,
-    props: &Props,
+    memo: Memo<'_>,
     e: PhysicalExpr,
     wanted: Request,
     mode: u32,
     line: Line,
     bound: u64,
 ) -> Option<GoalKind>
-    requires props { IsProps query.now props.now }
-    requires candidate { IsCandidate query.now (expr_of e) }
-    requires numbered { IsNumberedRequest query.now wanted }
-    requires few { mode < 256 }
-    requires alternative { IsAlternative query.now e wanted mode line }
-    ensures { FindsFrom (IsOfMode query.now e wanted mode) bound result }
+    requires memo { IsMemo memo }
+    requires goal { IsGoalOver memo.query.now (GoalKind.OptE e wanted) }
+    requires alternative { IsAlternative memo.query.now e wanted mode line }
+    ensures { FindsFrom (IsOfMode memo.entry.query.now e wanted mode) bound result }
 {
     // For the proof: children are groups with keys.
     candidates_are_known();
     groups_are_known();
-    let (first, second) = asked_in_mode(query, props, e, wanted, mode, line);
+    let (first, second) = asked_in_mode(memo, e, wanted, mode, line);
     wished_goal_from(e.children(), first, second, bound)
 }
 
 /// What the expression asks of its children in one mode: of the one child or of the left, and of the right.
 pub fn asked_in_mode(
-    query: &Query,
-    _props: &Props,
+    memo: Memo<'_>,
     e: PhysicalExpr,
     wanted: Request,
     mode: u32,
     line: Line,
 ) -> (Option<Request>, Option<Request>)
-    requires props { IsProps query.now _props.now }
-    requires candidate { IsCandidate query.now (expr_of e) }
-    requires numbered { IsNumberedRequest query.now wanted }
-    requires few { mode < 256 }
-    requires alternative { IsAlternative query.now e wanted mode line }
-    ensures exact { (goal : AnyGoal) → IsOfMode query.now e wanted mode goal
+    requires memo { IsMemo memo }
+    requires goal { IsGoalOver memo.query.now (GoalKind.OptE e wanted) }
+    requires alternative { IsAlternative memo.query.now e wanted mode line }
+    ensures exact { (goal : AnyGoal) → IsOfMode memo.entry.query.now e wanted mode goal
         ↔ IsOfAsked (physical_children e.operator) result.0 result.1 goal }
     ensures first { IfSome result.0 IsInRange }
     ensures second { IfSome result.1 IsInRange }
 {
-    // For the proof: what is asked of children has numbers.
+    // For the proof: what is asked of children has numbers, and an expression has few modes.
     what_is_asked_fits();
-    let alt = alternative_at(query, e, wanted, mode, line);
+    modes_are_few();
+    let alt = alternative_at(memo.query, e, wanted, mode, line);
     (asked_of(alt.left), asked_of(alt.right))
 }
 

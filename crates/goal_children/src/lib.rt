@@ -11,6 +11,7 @@ mod jobs;
 mod laws;
 mod lists;
 mod members;
+mod memo;
 mod words;
 
 pub use children::{child, next_child};

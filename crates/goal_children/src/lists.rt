@@ -8,8 +8,8 @@ ghost use Rattle.query_core.specs.Keys.{IsGroup};
 ghost use Rattle.query_core.specs.Expressions.{IsCandidateWord};
 ghost use Rattle.request_props.specs.Numbered.{IsProps};
 ghost use Rattle.goal_space.specs.Words.{IsInRange};
-ghost use Rattle.goal_space.specs.declared.goals.GoalKind.{GoalKind as AnyGoal};
-ghost use Rattle.goal_children.specs.Over.{IsGoalOver, IsNumberedRequest};
+ghost use Rattle.goal_children.specs.Over.{IsGoalOver};
+ghost use Rattle.goal_children.specs.Memo.{IsMemo};
 ghost use Rattle.goal_children.specs.Children.{AreChildren, IsChildIn};
 ghost use Rattle.goal_children.specs.Choices.{IsBesideMembers};
 ghost use Rattle.goal_children.specs.Finding.{AppendsGoals};
@@ -21,6 +21,7 @@ use crate::group_members::GroupMembers;
 use crate::jobs::{MemberJob, Phase};
 use crate::laws::children_are_over_the_query;
 use crate::members::push_member_goals;
+use crate::memo::Memo;
 use goal_space::{GoalKind, goal_kinds_are_one};
 use query_core::{KeyParts, Query, candidates_are_known, groups_are_known};
 use request_props::{Props, Request};
@@ -64,63 +65,60 @@ pub fn list_children_by_group(
     ensures held { OnOk result (AreHeldFor members.now held.new) }
 {
     list.clear();
-    add_children(query, props, members, goal, held, list)
+    let memo = Memo {
+        query,
+        props,
+        members,
+    };
+    add_children(memo, goal, held, list)
 }
 
 // Adds the children of the goal: the table of children, one row a kind of goal.
 fn add_children(
-    query: &Query,
-    props: &Props,
-    members: &[u64],
+    memo: Memo<'_>,
     goal: GoalKind,
     held: &mut GroupMembers,
     goals: &mut Vec<GoalKind>,
 ) -> Result<(), AllocError>
-    requires props { IsProps query.now props.now }
-    requires candidates { All (IsCandidateWord query.now) members.now }
-    requires ascending { IsStrictlyIncreasing members.now }
-    requires goal { IsGoalOver query.now goal }
-    requires held { AreHeldFor members.now held.old }
+    requires memo { IsMemo memo }
+    requires goal { IsGoalOver memo.query.now goal }
+    requires held { AreHeldFor memo.members.now held.old }
     requires listed { All IsInRange goals.old.items }
-    ensures ok { OnOk result
-        (AppendsGoals (IsChildIn query.now members.now goal) goals.old.items goals.new.items) }
-    ensures held { OnOk result (AreHeldFor members.now held.new) }
+    ensures ok { OnOk result (AppendsGoals (IsChildIn memo.entry.query.now memo.entry.members.now goal)
+        goals.old.items goals.new.items) }
+    ensures held { OnOk result (AreHeldFor memo.entry.members.now held.new) }
 {
     // For the proof: the words of candidates fit.
     candidates_are_known();
+    let query = memo.query;
     match goal {
         GoalKind::Exp(group) => {
             let job = MemberJob::Transform(Phase::Exploration);
-            push_member_goals(query, props, members, group, job, held, goals)
+            push_member_goals(memo, group, job, held, goals)
         }
         GoalKind::ExpE(e) => insert_transformed(query, e, Phase::Exploration, goals),
         GoalKind::Xf(e, rule) => insert_left(e, rule, goals),
-        GoalKind::Imp(group) => add_implemented(query, props, members, group, held, goals),
+        GoalKind::Imp(group) => add_implemented(memo, group, held, goals),
         GoalKind::ImpE(e) => insert_transformed(query, e, Phase::Implementation, goals),
-        GoalKind::Opt(group, wanted) => {
-            add_chosen(query, props, members, group, wanted, held, goals)
-        }
-        GoalKind::OptE(e, wanted) => insert_asked(query, props, e, wanted, goals),
+        GoalKind::Opt(group, wanted) => add_chosen(memo, group, wanted, held, goals),
+        GoalKind::OptE(e, wanted) => insert_asked(memo, e, wanted, goals),
     }
 }
 
 // Adds the children of the implementation of a group.
 fn add_implemented(
-    query: &Query,
-    props: &Props,
-    members: &[u64],
+    memo: Memo<'_>,
     group: KeyParts,
     held: &mut GroupMembers,
     goals: &mut Vec<GoalKind>,
 ) -> Result<(), AllocError>
-    requires props { IsProps query.now props.now }
-    requires candidates { All (IsCandidateWord query.now) members.now }
-    requires ascending { IsStrictlyIncreasing members.now }
-    requires known { IsGroup query.now group }
-    requires held { AreHeldFor members.now held.old }
-    ensures ok { OnOk result
-        (AppendsGoals (IsChildIn query.now members.now (AnyGoal.Imp group)) goals.old.items goals.new.items) }
-    ensures held { OnOk result (AreHeldFor members.now held.new) }
+    requires memo { IsMemo memo }
+    requires known { IsGroup memo.query.now group }
+    requires held { AreHeldFor memo.members.now held.old }
+    ensures ok { OnOk result (AppendsGoals
+        (IsChildIn memo.entry.query.now memo.entry.members.now (GoalKind.Imp group))
+        goals.old.items goals.new.items) }
+    ensures held { OnOk result (AreHeldFor memo.entry.members.now held.new) }
 {
     // For the proof: groups have keys, and words fit.
     groups_are_known();
@@ -128,62 +126,54 @@ fn add_implemented(
     // Words go by kind: the group's exploration, and then its members.
     goals.push(GoalKind::Exp(group))?;
     let job = MemberJob::Transform(Phase::Implementation);
-    push_member_goals(query, props, members, group, job, held, goals)?;
+    push_member_goals(memo, group, job, held, goals)?;
     Ok(())
 }
 
 // Adds the children of a group for a request.
 fn add_chosen(
-    query: &Query,
-    props: &Props,
-    members: &[u64],
+    memo: Memo<'_>,
     group: KeyParts,
     wanted: Request,
     held: &mut GroupMembers,
     goals: &mut Vec<GoalKind>,
 ) -> Result<(), AllocError>
-    requires props { IsProps query.now props.now }
-    requires candidates { All (IsCandidateWord query.now) members.now }
-    requires ascending { IsStrictlyIncreasing members.now }
-    requires known { IsGroup query.now group }
-    requires numbered { IsNumberedRequest query.now wanted }
-    requires held { AreHeldFor members.now held.old }
+    requires memo { IsMemo memo }
+    requires goal { IsGoalOver memo.query.now (GoalKind.Opt group wanted) }
+    requires held { AreHeldFor memo.members.now held.old }
     requires listed { All IsInRange goals.old.items }
-    ensures ok { OnOk result
-        (AppendsGoals (IsChildIn query.now members.now (AnyGoal.Opt group wanted)) goals.old.items
-        goals.new.items) }
-    ensures held { OnOk result (AreHeldFor members.now held.new) }
+    ensures ok { OnOk result (AppendsGoals
+        (IsChildIn memo.entry.query.now memo.entry.members.now (GoalKind.Opt group wanted))
+        goals.old.items goals.new.items) }
+    ensures held { OnOk result (AreHeldFor memo.entry.members.now held.new) }
 {
     // For the proof: groups have keys, and children have words that fit.
     groups_are_known();
     goal_kinds_are_one();
     children_are_over_the_query();
     // Words go by kind: those beside the group's members, and then these.
-    add_beside(query, props, group, wanted, goals)?;
-    let job = MemberJob::Serve(wanted);
-    push_member_goals(query, props, members, group, job, held, goals)?;
+    add_beside(memo, group, wanted, goals)?;
+    push_member_goals(memo, group, MemberJob::Serve(wanted), held, goals)?;
     Ok(())
 }
 
 // Adds what a group waits for beside its members: its implementation, and its other requests.
 fn add_beside(
-    query: &Query,
-    props: &Props,
+    memo: Memo<'_>,
     group: KeyParts,
     wanted: Request,
     goals: &mut Vec<GoalKind>,
 ) -> Result<(), AllocError>
-    requires props { IsProps query.now props.now }
-    requires known { IsGroup query.now group }
-    requires numbered { IsNumberedRequest query.now wanted }
+    requires memo { IsMemo memo }
+    requires goal { IsGoalOver memo.query.now (GoalKind.Opt group wanted) }
     requires listed { All IsInRange goals.old.items }
-    ensures ok { OnOk result
-        (AppendsGoals (IsBesideMembers query.now group wanted) goals.old.items goals.new.items) }
+    ensures ok { OnOk result (AppendsGoals (IsBesideMembers memo.entry.query.now group wanted)
+        goals.old.items goals.new.items) }
 {
     // For the proof: groups have keys, and words fit.
     groups_are_known();
     goal_kinds_are_one();
     goals.push(GoalKind::Imp(group))?;
-    insert_enforced(query, props, group, wanted, goals)?;
+    insert_enforced(memo, group, wanted, goals)?;
     Ok(())
 }

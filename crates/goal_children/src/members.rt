@@ -9,114 +9,108 @@ ghost use Rattle.query_core.specs.declared.expressions.PhysicalExpr.{PhysicalExp
 ghost use Rattle.query_core.specs.Keys.{IsGroup};
 ghost use Rattle.query_core.specs.Goals.{FitsExpr};
 ghost use Rattle.query_core.specs.Expressions.{expr_of, word_of, IsCandidate, IsCandidateWord};
-ghost use Rattle.request_props.specs.Numbered.{IsProps, IsNumbered};
+ghost use Rattle.request_props.specs.Numbered.{IsNumbered};
 ghost use Rattle.plan_tree.specs.Alternatives.{HasAlternative};
 ghost use Rattle.goal_children.specs.Finding.{AppendsGoals, FindsFrom, IsOfMembers};
 ghost use Rattle.goal_children.specs.GroupMembers.{AreHeldFor};
+ghost use Rattle.goal_children.specs.Memo.{IsMemo};
 ghost use Rattle.goal_space.specs.Words.{IsInRange};
 ghost use Rattle.goal_space.specs.declared.goals.GoalKind.{GoalKind as AnyGoal};
 ghost use Rattle.goal_children.specs.MemberJobs.{word_at, HasNumberedJob, HaveNoGoals, IsFirstGoal, IsGoalAmong, IsGoalOf, IsGoalOfWord, IsJobInRange, IsServed, IsTransformed};
 
 use crate::group_members::{GroupMembers, hold_members};
 use crate::jobs::{MemberJob, Phase};
+use crate::memo::Memo;
 use goal_space::GoalKind;
 use plan_tree::may_serve;
 use query_core::{
-    Expr, ExprParts, Goal, GoalParts, KeyParts, PhysicalExpr, Query, candidates_are_known,
+    Expr, ExprParts, Goal, GoalParts, KeyParts, PhysicalExpr, candidates_are_known,
     expressions_are_one, groups_are_known,
 };
-use request_props::{Props, Request, code};
+use request_props::{Request, code};
 use std::alloc::AllocError;
 use xform_rules::words_of;
 
 /// The first of the goals that the members of the group have for the job, from the bound on.
 pub fn member_goal_from(
-    query: &Query,
-    props: &Props,
-    members: &[u64],
+    memo: Memo<'_>,
     group: KeyParts,
     job: MemberJob,
     bound: u64,
 ) -> Option<GoalKind>
-    requires props { IsProps query.now props.now }
-    requires candidates { All (IsCandidateWord query.now) members.now }
-    requires ascending { IsStrictlyIncreasing members.now }
-    requires known { IsGroup query.now group }
-    requires numbered { HasNumberedJob query.now job }
-    ensures { FindsFrom (IsOfMembers query.now members.now group job) bound result }
+    requires memo { IsMemo memo }
+    requires known { IsGroup memo.query.now group }
+    requires numbered { HasNumberedJob memo.query.now job }
+    ensures { FindsFrom (IsOfMembers memo.entry.query.now memo.entry.members.now group job) bound result }
 {
     // For the proof: the words of candidates fit, and groups have keys.
     candidates_are_known();
     expressions_are_one();
     groups_are_known();
-    let own = words_of(members, group);
+    let own = words_of(memo.members, group);
     let from = first_from(job, own, bound);
-    first_goal(query, props, job, &own[from..])
+    first_goal(memo, job, &own[from..])
 }
 
 /// Adds the goals that the members of the group have for the job. Its members are held for the next call.
 pub fn push_member_goals(
-    query: &Query,
-    props: &Props,
-    members: &[u64],
+    memo: Memo<'_>,
     group: KeyParts,
     job: MemberJob,
     held: &mut GroupMembers,
     goals: &mut Vec<GoalKind>,
 ) -> Result<(), AllocError>
-    requires props { IsProps query.now props.now }
-    requires candidates { All (IsCandidateWord query.now) members.now }
-    requires ascending { IsStrictlyIncreasing members.now }
-    requires known { IsGroup query.now group }
-    requires numbered { HasNumberedJob query.now job }
-    requires held { AreHeldFor members.now held.old }
+    requires memo { IsMemo memo }
+    requires known { IsGroup memo.query.now group }
+    requires numbered { HasNumberedJob memo.query.now job }
+    requires held { AreHeldFor memo.members.now held.old }
     ensures ok { OnOk result
-        (AppendsGoals (IsOfMembers query.now members.now group job) goals.old.items goals.new.items) }
-    ensures held { OnOk result (AreHeldFor members.now held.new) }
+        (AppendsGoals (IsOfMembers memo.entry.query.now memo.entry.members.now group job)
+        goals.old.items goals.new.items) }
+    ensures held { OnOk result (AreHeldFor memo.entry.members.now held.new) }
 {
     // For the proof: the words of candidates fit, a word is that of one expression, and groups have keys.
     candidates_are_known();
     expressions_are_one();
     groups_are_known();
-    hold_members(members, group, held)?;
-    push_goals_of(query, props, job, held.members.as_slice(), goals)?;
+    hold_members(memo.members, group, held)?;
+    push_goals_of(memo, job, held.members.as_slice(), goals)?;
     Ok(())
 }
 
 // Adds the goals that the expressions have for the job.
 fn push_goals_of(
-    query: &Query,
-    props: &Props,
+    memo: Memo<'_>,
     job: MemberJob,
     exprs: &[ExprParts],
     goals: &mut Vec<GoalKind>,
 ) -> Result<(), AllocError>
-    requires props { IsProps query.now props.now }
-    requires candidates { All (IsCandidate query.now) exprs.now }
+    requires memo { IsMemo memo }
+    requires candidates { All (IsCandidate memo.query.now) exprs.now }
     requires ascending { IsStrictlyIncreasing (map word_of exprs.now) }
-    requires numbered { HasNumberedJob query.now job }
+    requires numbered { HasNumberedJob memo.query.now job }
     ensures ok { OnOk result
-        (AppendsGoals (IsGoalAmong query.now job (map word_of exprs.now)) goals.old.items goals.new.items) }
+        (AppendsGoals (IsGoalAmong memo.entry.query.now job (map word_of exprs.now))
+        goals.old.items goals.new.items) }
 {
     for e in exprs {
-        push_goal_of(query, props, job, *e, goals)?;
+        push_goal_of(memo, job, *e, goals)?;
     }
     Ok(())
 }
 
 // Adds the goal that the expression has for the job, if it has one.
 fn push_goal_of(
-    query: &Query,
-    props: &Props,
+    memo: Memo<'_>,
     job: MemberJob,
     e: ExprParts,
     goals: &mut Vec<GoalKind>,
 ) -> Result<(), AllocError>
-    requires props { IsProps query.now props.now }
-    requires candidate { IsCandidate query.now e }
-    requires numbered { HasNumberedJob query.now job }
+    requires memo { IsMemo memo }
+    requires candidate { IsCandidate memo.query.now e }
+    requires numbered { HasNumberedJob memo.query.now job }
     ensures ok { OnOk result
-        (AppendsGoals (IsGoalOfWord query.now job (word_of e)) goals.old.items goals.new.items) }
+        (AppendsGoals (IsGoalOfWord memo.entry.query.now job (word_of e)) goals.old.items goals.new.items) }
 {
     // For the proof: the words of candidates fit, and a word is that of one expression.
     candidates_are_known();
@@ -124,7 +118,7 @@ fn push_goal_of(
     // Either job has a call of its own, so that no goal is moved from one place to another before it is added.
     match job {
         MemberJob::Transform(phase) => push_found(transform(phase, e), goals),
-        MemberJob::Serve(wanted) => push_found(serve(query, props, e, wanted), goals),
+        MemberJob::Serve(wanted) => push_found(serve(memo, e, wanted), goals),
     }
 }
 
@@ -144,18 +138,18 @@ fn push_found(found: Option<GoalKind>, goals: &mut Vec<GoalKind>) -> Result<(), 
 }
 
 // The goal of the first of the words that has one for the job.
-fn first_goal(query: &Query, props: &Props, job: MemberJob, words: &[u64]) -> Option<GoalKind>
-    requires props { IsProps query.now props.now }
-    requires candidates { All (IsCandidateWord query.now) words.now }
-    requires numbered { HasNumberedJob query.now job }
+fn first_goal(memo: Memo<'_>, job: MemberJob, words: &[u64]) -> Option<GoalKind>
+    requires memo { IsMemo memo }
+    requires candidates { All (IsCandidateWord memo.query.now) words.now }
+    requires numbered { HasNumberedJob memo.query.now job }
     ensures { MatchOption result
-        (HaveNoGoals query.now job words.now)
-        (IsFirstGoal query.now job words.now) }
+        (HaveNoGoals memo.entry.query.now job words.now)
+        (IsFirstGoal memo.entry.query.now job words.now) }
 {
     // For the proof: the words of candidates fit.
     candidates_are_known();
     for word in words {
-        match job.goal_of(query, props, Expr(*word).known_parts()) {
+        match job.goal_of(memo, Expr(*word).known_parts()) {
             Some(goal) => return Some(goal),
             None => {}
         }
@@ -200,17 +194,17 @@ impl MemberJob {
     }
 
     // The goal that the expression has.
-    fn goal_of(self, query: &Query, props: &Props, e: ExprParts) -> Option<GoalKind>
-        requires props { IsProps query.now props.now }
-        requires candidate { IsCandidate query.now e }
-        requires numbered { HasNumberedJob query.now self }
+    fn goal_of(self, memo: Memo<'_>, e: ExprParts) -> Option<GoalKind>
+        requires memo { IsMemo memo }
+        requires candidate { IsCandidate memo.query.now e }
+        requires numbered { HasNumberedJob memo.query.now self }
         ensures { MatchOption result
-            ((goal : AnyGoal) → IsGoalOf query.now self e goal → ⊥)
-            (IsGoalOf query.now self e) }
+            ((goal : AnyGoal) → IsGoalOf memo.entry.query.now self e goal → ⊥)
+            (IsGoalOf memo.entry.query.now self e) }
     {
         match self {
             MemberJob::Transform(phase) => transform(phase, e),
-            MemberJob::Serve(wanted) => serve(query, props, e, wanted),
+            MemberJob::Serve(wanted) => serve(memo, e, wanted),
         }
     }
 }
@@ -229,30 +223,30 @@ fn transform(phase: Phase, e: ExprParts) -> Option<GoalKind>
 }
 
 // The goal of a physical expression that may serve the request.
-fn serve(query: &Query, props: &Props, e: ExprParts, wanted: Request) -> Option<GoalKind>
-    requires props { IsProps query.now props.now }
-    requires candidate { IsCandidate query.now e }
-    requires numbered { IsNumbered query.now wanted.order }
+fn serve(memo: Memo<'_>, e: ExprParts, wanted: Request) -> Option<GoalKind>
+    requires memo { IsMemo memo }
+    requires candidate { IsCandidate memo.query.now e }
+    requires numbered { IsNumbered memo.query.now wanted.order }
     ensures { MatchOption result
-        ((goal : AnyGoal) → IsServed query.now wanted e goal → ⊥)
-        (IsServed query.now wanted e) }
+        ((goal : AnyGoal) → IsServed memo.entry.query.now wanted e goal → ⊥)
+        (IsServed memo.entry.query.now wanted e) }
 {
     match e.as_physical() {
-        Some(physical) => serve_by(query, props, physical, wanted),
+        Some(physical) => serve_by(memo, physical, wanted),
         None => None,
     }
 }
 
-fn serve_by(query: &Query, props: &Props, e: PhysicalExpr, wanted: Request) -> Option<GoalKind>
-    requires props { IsProps query.now props.now }
-    requires candidate { IsCandidate query.now (expr_of e) }
-    requires numbered { IsNumbered query.now wanted.order }
+fn serve_by(memo: Memo<'_>, e: PhysicalExpr, wanted: Request) -> Option<GoalKind>
+    requires memo { IsMemo memo }
+    requires candidate { IsCandidate memo.query.now (expr_of e) }
+    requires numbered { IsNumbered memo.query.now wanted.order }
     ensures { MatchOption result
-        ((mode : ℕ) → HasAlternative query.now e wanted mode → ⊥)
+        ((mode : ℕ) → HasAlternative memo.entry.query.now e wanted mode → ⊥)
         (λ goal. (goal ≡ GoalKind.OptE e wanted)
-        × ((mode : ℕ) × HasAlternative query.now e wanted mode)) }
+        × ((mode : ℕ) × HasAlternative memo.entry.query.now e wanted mode)) }
 {
-    if may_serve(query, props, e, wanted) {
+    if may_serve(memo.query, memo.props, e, wanted) {
         Some(GoalKind::OptE(e, wanted))
     } else {
         None

@@ -7,12 +7,12 @@ use Rattle.goal_children.proofs.asked.insert_asked.Goals as goal
 
 -- no mode is below the first
 pub modes-init : goal.modes-init
-modes-init c = inserts_nothing (IsOfModesBelow c.args.query.now c.args.e c.args.wanted 0) c.args.goals.now.items (λ k (mode, less, is). omega (arith, less))
+modes-init c = inserts_nothing (IsOfModesBelow c.args.memo.query.now c.args.e c.args.wanted 0) c.args.goals.now.items (λ k (mode, less, is). omega (arith, less))
 
 -- one more mode that has a line
 pub modes-preserved : goal.modes-preserved
 modes-preserved c =
-    let q = c.args.query.now in
+    let q = c.args.memo.query.now in
     let next = c.in-Some.ensures in
     let from = c.modes.from in
     let mode = c.in-Some.mode in
@@ -23,7 +23,7 @@ modes-preserved c =
 -- no mode is left
 pub returns : goal.returns
 returns c =
-    let q = c.args.query.now in
+    let q = c.args.memo.query.now in
     let all = all_below q c.args.e c.args.wanted c.modes.from c.in_default.ensures in
     record {
       ok = inserts_as (IsOfModesBelow q c.args.e c.args.wanted c.modes.from) (IsOfAlternatives q c.args.e c.args.wanted) c.args.goals.now.items c.modes.goals.items

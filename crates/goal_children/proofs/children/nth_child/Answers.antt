@@ -9,18 +9,18 @@ use Rattle.goal_children.proofs.children.nth_child.Goals as goal
 pub children-init : goal.children-init
 children-init c = record {
   few = omega arith;
-  passed = record { children = []; are = up_to_none c.args.query.now c.args.members.now c.args.goal; so_many = refl };
+  passed = record { children = []; are = up_to_none c.args.memo.query.now c.args.memo.members.now c.args.goal; so_many = refl };
 }
 
 -- one more was passed
 pub children-preserved : goal.children-preserved
 children-preserved c =
-    let q = c.args.query.now in
-    let words = c.args.members.now in
+    let q = c.args.memo.query.now in
+    let words = c.args.memo.members.now in
     let passed = c.children.invariant.passed in
     let next = c.in-Some.next in
     let in_range : (child : GoalKind) → IsChildIn q words c.args.goal child → IsInRange child =
-    λ child is. c.children_are_over_the_query.ensures.words q c.requires.props.few_lists c.requires.props.few_orders child
+    λ child is. c.children_are_over_the_query.ensures.words q c.requires.memo.collected.few_lists c.requires.memo.collected.few_orders child
     (c.children_are_over_the_query.ensures.children q words c.args.goal child c.requires.goal is) in
     record {
       few = omega (arith, c.children.invariant.few, c.if-passed-n.false);
@@ -41,7 +41,7 @@ returns-then-passed-n c =
       is_child = c.in-Some.ensures.next.is_child;
       number = c.word.ensures.number;
       before = passed.children;
-      are_before = below_next c.args.query.now c.args.members.now c.args.goal c.children.after passed.children c.in-Some.next passed.are c.in-Some.ensures.next;
+      are_before = below_next c.args.memo.query.now c.args.memo.members.now c.args.goal c.children.after passed.children c.in-Some.next passed.are c.in-Some.ensures.next;
       so_many = passed.so_many ∙ c.if-passed-n.true;
     }
 
@@ -51,6 +51,6 @@ returns c =
     let passed = c.children.invariant.passed in
     record {
       children = passed.children;
-      are_children = all_up_to c.args.query.now c.args.members.now c.args.goal c.children.after passed.children passed.are c.in_default.ensures.next;
+      are_children = all_up_to c.args.memo.query.now c.args.memo.members.now c.args.goal c.children.after passed.children passed.are c.in_default.ensures.next;
       few = omega (arith, c.children.invariant.few, passed.so_many);
     }

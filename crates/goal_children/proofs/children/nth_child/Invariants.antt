@@ -6,7 +6,7 @@ use Rattle.goal_children.proofs.children.nth_child.Given as goal
 abbrev pub invariant-children : goal.invariant-children
 invariant-children l = record {
   few : l.passed ≤ l.n;
-  passed : ArePassed l.query l.members l.goal l.after l.passed;
+  passed : ArePassed l.memo.query.now l.memo.members.now l.goal l.after l.passed;
 }
 
 abbrev pub decreases-children : goal.decreases-children

@@ -7,7 +7,7 @@ use Rattle.goal_children.proofs.choice.asked_goal_from.Given as goal
 abbrev pub invariant-modes : goal.invariant-modes
 invariant-modes l = record {
   within : l.from ≤ 192;
-  finds : FindsFrom (IsOfModesBelow l.query l.e l.wanted l.from) l.bound l.next;
+  finds : FindsFrom (IsOfModesBelow l.memo.query.now l.e l.wanted l.from) l.bound l.next;
 }
 
 abbrev pub decreases-modes : goal.decreases-modes

@@ -6,7 +6,7 @@ use Rattle.goal_children.proofs.choice.enforced_goal_from.Goals as goal
 -- the sooner of the two
 pub returns : goal.returns
 returns c =
-    let q = c.args.query.now in
+    let q = c.args.memo.query.now in
     let First = IsOfRequest c.args.group c.enforced_by-first.result.0 in
     let Second = IsOfRequest c.args.group c.enforced_by-first.result.1 in
     finds_as (λ k. First k ⊎ Second k) (IsOfEnforcer q c.args.group c.args.wanted) c.args.bound c.sooner.result

@@ -12,14 +12,14 @@ use Rattle.goal_children.proofs.members.push_goal_of.Goals as goal
 -- a logical expression has one goal, and no other has one
 pub push_found-requires : goal.push_found-requires
 push_found-requires c =
-    let q = c.args.query.now in
+    let q = c.args.memo.query.now in
     let job = Transform c.in-Transform.phase in
     found_fits q (c.candidates_are_known.ensures.packed q) c.expressions_are_one.ensures.expressions job c.args.e c.requires.candidate
-    (job_in_range q c.requires.props.few_lists c.requires.props.few_orders job (subst (HasNumberedJob q) c.in-Transform.is c.requires.numbered)) c.transform.result c.transform.ensures
+    (job_in_range q c.requires.memo.collected.few_lists c.requires.memo.collected.few_orders job (subst (HasNumberedJob q) c.in-Transform.is c.requires.numbered)) c.transform.result c.transform.ensures
 
 pub returns-in-Transform : goal.returns-in-Transform
 returns-in-Transform c =
-    let q = c.args.query.now in
+    let q = c.args.memo.query.now in
     let job = Transform c.in-Transform.phase in
     let old = c.args.goals.now.items in
     let new = c.push_found.new.goals.items in
@@ -33,14 +33,14 @@ returns-in-Transform c =
 -- and so has a physical one that may serve
 pub push_found-requires-in-Serve : goal.push_found-requires-in-Serve
 push_found-requires-in-Serve c =
-    let q = c.args.query.now in
+    let q = c.args.memo.query.now in
     let job = Serve c.in-Serve.wanted in
     found_fits q (c.candidates_are_known.ensures.packed q) c.expressions_are_one.ensures.expressions job c.args.e c.requires.candidate
-    (job_in_range q c.requires.props.few_lists c.requires.props.few_orders job (subst (HasNumberedJob q) c.in-Serve.is c.requires.numbered)) c.serve.result c.serve.ensures
+    (job_in_range q c.requires.memo.collected.few_lists c.requires.memo.collected.few_orders job (subst (HasNumberedJob q) c.in-Serve.is c.requires.numbered)) c.serve.result c.serve.ensures
 
 pub returns-in-Serve : goal.returns-in-Serve
 returns-in-Serve c =
-    let q = c.args.query.now in
+    let q = c.args.memo.query.now in
     let job = Serve c.in-Serve.wanted in
     let old = c.args.goals.now.items in
     let new = c.push_found-in-Serve.new.goals.items in

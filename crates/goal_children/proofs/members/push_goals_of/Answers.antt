@@ -10,12 +10,12 @@ pub push_goal_of-requires-clause-candidate : goal.push_goal_of-requires-clause-c
 push_goal_of-requires-clause-candidate c = c.requires.candidates c.loop-e.e-index _ c.loop-e-test.true
 
 pub loop-e-init : goal.loop-e-init
-loop-e-init c = none_among c.args.query.now c.args.job c.args.goals.now.items
+loop-e-init c = none_among c.args.memo.query.now c.args.job c.args.goals.now.items
 
 -- and so did that of this one
 pub loop-e-preserved : goal.loop-e-preserved
 loop-e-preserved c =
-    let q = c.args.query.now in
+    let q = c.args.memo.query.now in
     let job = c.args.job in
     let es = c.args.exprs.now in
     let i = c.loop-e.e-index in
@@ -30,5 +30,5 @@ returns c =
     let i = c.loop-e.e-index in
     let whole : length words ≤ i = omega (arith, c.loop-e-test.false, length-map c.args.exprs.now word_of) in
     record {
-      ok = subst (λ ws. AppendsGoals (IsGoalAmong c.args.query.now c.args.job ws) c.args.goals.now.items c.loop-e.goals.items) (take_all i words whole) c.loop-e.invariant;
+      ok = subst (λ ws. AppendsGoals (IsGoalAmong c.args.memo.query.now c.args.job ws) c.args.goals.now.items c.loop-e.goals.items) (take_all i words whole) c.loop-e.invariant;
     }

@@ -12,18 +12,18 @@ use Rattle.goal_children.proofs.members.push_member_goals.Goals as goal
 -- words of candidates are words of expressions
 pub hold_members-requires-clause-words : goal.hold_members-requires-clause-words
 hold_members-requires-clause-words c =
-    known_words c.args.query.now (c.candidates_are_known.ensures.packed c.args.query.now) c.args.members.now c.requires.candidates
+    known_words c.args.memo.query.now (c.candidates_are_known.ensures.packed c.args.memo.query.now) c.args.memo.members.now c.requires.memo.candidates
 
 pub hold_members-requires-clause-in_range : goal.hold_members-requires-clause-in_range
-hold_members-requires-clause-in_range c = c.groups_are_known.ensures.in_range c.args.query.now c.args.group c.requires.known
+hold_members-requires-clause-in_range c = c.groups_are_known.ensures.in_range c.args.memo.query.now c.args.group c.requires.known
 
 -- the expressions that are held are candidates
 pub push_goals_of-requires-clause-candidates : goal.push_goals_of-requires-clause-candidates
 push_goals_of-requires-clause-candidates c =
-    let q = c.args.query.now in
+    let q = c.args.memo.query.now in
     subst (All (IsCandidate q)) (sym c.as_slice.ensures.value)
-    (own_are_candidates q (c.candidates_are_known.ensures.packed q) c.expressions_are_one.ensures.expressions c.args.members.now c.args.group c.hold_members.new.held.members.items
-    c.requires.candidates c.in_ok-hold_members.ensures.ok)
+    (own_are_candidates q (c.candidates_are_known.ensures.packed q) c.expressions_are_one.ensures.expressions c.args.memo.members.now c.args.group c.hold_members.new.held.members.items
+    c.requires.memo.candidates c.in_ok-hold_members.ensures.ok)
 
 pub push_goals_of-requires-clause-ascending : goal.push_goals_of-requires-clause-ascending
 push_goals_of-requires-clause-ascending c =
@@ -32,8 +32,8 @@ push_goals_of-requires-clause-ascending c =
 -- and those of the group's members
 pub returns : goal.returns
 returns c =
-    let q = c.args.query.now in
-    let words = c.args.members.now in
+    let q = c.args.memo.query.now in
+    let words = c.args.memo.members.now in
     let job = c.args.job in
     let es = c.hold_members.new.held.members.items in
     let old = c.args.goals.now.items in
