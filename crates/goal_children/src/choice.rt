@@ -18,9 +18,7 @@ use crate::memo::Memo;
 use goal_space::GoalKind;
 use plan_space::{Line, modes_are_few, what_is_asked_fits};
 use plan_tree::{Enforced, alternative_at, enforcer, modes_to_try, next_alternative};
-use query_core::{
-    Children, Key, KeyParts, PhysicalExpr, candidates_are_known, groups_are_known,
-};
+use query_core::{Children, Key, KeyParts, PhysicalExpr, candidates_are_known, groups_are_known};
 use request_props::Request;
 
 /// The first goal of the group for what an enforcer for the request asks of it, from the bound on.
