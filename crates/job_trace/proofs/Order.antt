@@ -5,12 +5,10 @@ use Rattle.std.proofs.lemmas.Bool.{cases_eq, cases_lt}
 use Rattle.std.proofs.lemmas.List.{get_or-map, length-map}
 use Rattle.std.proofs.lemmas.List.Kept.{AllPairs-from_increasing}
 use Rattle.query_core.specs.Expressions.{word_of, IsPacked, HasWord, IsCandidate}
-use Rattle.query_core.specs.declared.words.KeyParts.TheVariants as groups
-use Rattle.query_core.specs.declared.expressions.Logical.TheVariants as logical
-use Rattle.query_core.specs.declared.expressions.Operator.TheVariants as operators
 use Rattle.query_core.specs.declared.expressions.ExprParts.{ExprParts}
 use Rattle.query_core.specs.declared.query.Query.{Query}
 use Rattle.job_trace.specs.Memo.{AreMembers}
+use Rattle.job_trace.specs.Lines.{StandByGroup}
 use Rattle.goal_children.specs.GroupMembers.{AreOfWords}
 use Rattle.job_trace.proofs.ByGroup.{key_of}
 
@@ -42,7 +40,7 @@ module _ (words : List ℕ) (es : List ExprParts) (have : AreOfWords words es) w
   }
 
   -- keys do not fall along ascending words
-  pub keys_ascend : AreOrdered → IsStrictlyIncreasing words → IsNonDecreasingBy key_of es
+  keys_ascend : AreOrdered → IsStrictlyIncreasing words → IsNonDecreasingBy key_of es
   keys_ascend ordered ascending i j d order within = elim (cases_eq i j) [
     | inl same ↦ subst (λ k. key_of (get_or es i d) ≤ key_of (get_or es k d)) same (omega arith)
     | inr apart ↦
@@ -52,6 +50,9 @@ module _ (words : List ℕ) (es : List ExprParts) (have : AreOfWords words es) w
         key_rises ordered (get_or es i d) (get_or es j d) first.packed second.packed (omega (arith, first.number, second.number, less))
   ]
 
--- some expression, to name the one at a place
-pub some_expression : ExprParts
-some_expression = record { group = groups.Partial; operator = operators.Logical logical.Get }
+-- so members of ascending words stand group by group
+pub stand_by_group : (q : Query) (words : List ℕ) (es : List ExprParts) → ((e : ExprParts) → IsCandidate q e → IsPacked e) → AreOrdered → AreMembers q words es → StandByGroup q es
+stand_by_group q words es packed ordered are = record {
+  candidates = are.candidates;
+  ascending = keys_ascend words es (have_words q words es packed are) ordered are.ascending;
+}

@@ -11,9 +11,8 @@ ghost use Rattle.job_trace.specs.Trace.{IsCrewText};
 
 use crate::goals::push_goal_line;
 use crate::pieces::Pieces;
-use crate::trace::goals_of;
-use goal_children::children_are_over_the_query;
-use goal_space::{GoalKind, goal_kinds_are_one};
+use crate::trace::goals_over;
+use goal_space::GoalKind;
 use query_core::Query;
 use request_props::Props;
 use std::alloc::{AllocError, Global};
@@ -31,10 +30,7 @@ pub fn crew_text(
     requires each { length who.now ≡ length goals.now }
     ensures { IfOk result (λ text. IsCrewText query.now goals.now who.now text.items) }
 {
-    // For the proof: goals over the query have words, and a word is that of one goal.
-    children_are_over_the_query();
-    goal_kinds_are_one();
-    let goals = goals_of(alloc, goals)?;
+    let goals = goals_over(alloc, query, props, goals)?;
     let mut text = String::new(alloc);
     text.push_str("by-worker\n")?;
     push_crew_lines(alloc, query, props, goals.as_slice(), who, &mut text)?;

@@ -29,7 +29,10 @@ pub fn memo_text(alloc: Global, query: &Query, members: &[u64]) -> Result<Vec<u8
     requires ascending { IsStrictlyIncreasing members.now }
     ensures { IfOk result (λ text. IsMemoText query.now members.now text.items) }
 {
-    let members = members_by_group(alloc, query, members)?;
+    // For the proof: the words of candidates fit, and those of groups stand in the order of their keys.
+    candidates_are_known();
+    expressions_are_one();
+    let members = members_of_words(alloc, query, members)?;
     Ok(text_of(alloc, query, members.as_slice())?)
 }
 
@@ -41,7 +44,7 @@ pub fn memo_line(alloc: Global, query: &Query, members: &[u64]) -> Result<Vec<u8
 {
     // For the proof: groups have keys.
     groups_are_known();
-    let members = members_by_group(alloc, query, members)?;
+    let members = members_of_words(alloc, query, members)?;
     Ok(line_of(alloc, members.as_slice())?)
 }
 
@@ -73,16 +76,15 @@ pub fn memos_are_known()
     expressions_are_one();
 }
 
-// The members of these words, which stand group by group.
-fn members_by_group(
+// The members of these words.
+fn members_of_words(
     alloc: Global,
     _query: &Query,
     words: &[u64],
 ) -> Result<Vec<ExprParts>, AllocError>
     requires candidates { All (IsCandidateWord _query.now) words.now }
     requires ascending { IsStrictlyIncreasing words.now }
-    ensures members { IfOk result (λ made. AreMembers _query.now words.now made.items) }
-    ensures by_group { IfOk result (λ made. StandByGroup _query.now made.items) }
+    ensures { IfOk result (λ made. AreMembers _query.now words.now made.items) }
 {
     // For the proof: the words are those of one list of expressions.
     memos_are_known();

@@ -14,7 +14,7 @@ ghost use Rattle.query_text.specs.Added.{Adds};
 ghost use Rattle.job_trace.specs.Counts.{counted};
 ghost use Rattle.job_trace.specs.Goals.{child_line};
 ghost use Rattle.job_trace.specs.Trace as texts;
-ghost use Rattle.job_trace.specs.Trace.{count_of, IsTraceLine, IsTraceText};
+ghost use Rattle.job_trace.specs.Trace.{count_of, AreGoals, IsTraceLine, IsTraceText};
 ghost use Rattle.job_trace.specs.Pieces.{AreKept};
 ghost use Rattle.job_trace.specs.GoalLines.{AddsTraced};
 
@@ -41,10 +41,7 @@ pub fn trace_text(
     requires goals { AreGoalWords query.now goals.now }
     ensures { IfOk result (λ text. IsTraceText query.now members.now goals.now text.items) }
 {
-    // For the proof: goals over the query have words, and a word is that of one goal.
-    children_are_over_the_query();
-    goal_kinds_are_one();
-    let goals = goals_of(alloc, goals)?;
+    let goals = goals_over(alloc, query, props, goals)?;
     let mut text = String::new(alloc);
     push_trace_line(goals.as_slice(), &mut text)?;
     push_all_traced(alloc, query, props, members, goals.as_slice(), &mut text)?;
@@ -63,8 +60,25 @@ pub fn trace_line(alloc: Global, goals: &[u64]) -> Result<Vec<u8>, AllocError>
     Ok(line.into_bytes())
 }
 
-/// The goals that have these words.
-pub fn goals_of(alloc: Global, words: &[u64]) -> Result<Vec<GoalKind>, AllocError>
+/// The goals over the query that have these words.
+pub fn goals_over(
+    alloc: Global,
+    _query: &Query,
+    _props: &Props,
+    words: &[u64],
+) -> Result<Vec<GoalKind>, AllocError>
+    requires props { IsProps _query.now _props.now }
+    requires goals { AreGoalWords _query.now words.now }
+    ensures { IfOk result (λ made. AreGoals _query.now words.now made.items) }
+{
+    // For the proof: goals over the query have words, and a word is that of one goal.
+    children_are_over_the_query();
+    goal_kinds_are_one();
+    goals_of(alloc, words)
+}
+
+// The goals that have these words.
+fn goals_of(alloc: Global, words: &[u64]) -> Result<Vec<GoalKind>, AllocError>
     requires { All IsWordOfGoal words.now }
     ensures { IfOk result (λ made. HaveGoalWords words.now made.items) }
 {

@@ -5,7 +5,7 @@ use Rattle.query_core.specs.declared.expressions.ExprParts.{ExprParts}
 use Rattle.job_trace.specs.Memo.{AreMembers, groups_of, group_lines, memo_line, memo_section}
 use Rattle.goal_children.specs.GroupMembers.{AreOfWords}
 use Rattle.job_trace.proofs.ByGroup.{AreFrom, are_from}
-use Rattle.job_trace.proofs.Order.{keys_ascend, have_words}
+use Rattle.job_trace.proofs.Order.{have_words, stand_by_group}
 use Rattle.job_trace.proofs.Known.{members_there, members_one, groups_rise, lines_each}
 use Rattle.job_trace.proofs.memo.memos_are_known.Goals as goal
 
@@ -20,7 +20,7 @@ one c q words es fs are also =
 
 -- whose keys do not fall
 from : (c : goal.After-expressions_are_one) → (q : Query) (words : List ℕ) (es : List ExprParts) → AreMembers q words es → AreFrom 0 es
-from c q words es are = are_from es (keys_ascend words es (have c q words es are) c.expressions_are_one.ensures.ordered are.ascending)
+from c q words es are = are_from es (stand_by_group q words es (c.candidates_are_known.ensures.packed q) c.expressions_are_one.ensures.ordered are).ascending
 
 pub returns : goal.returns
 returns c = record {
