@@ -1,5 +1,5 @@
 -- Reading elements one after the other, as a loop does.
-use Rattle.std.proofs.Common.{◌≡◌, ℕ, suc, ◌-◌, ◌+◌, ◌<◌, Bool, true, false, List, [], ◌∷◌, ◌++◌, Option, Some, None}
+use Rattle.std.proofs.Common.{◌≡◌, ℕ, suc, ◌-◌, ◌+◌, ◌<◌, ◌≤◌, Bool, true, false, cond, List, Result, [], ◌∷◌, ◌++◌, Option, Some, None}
 use Rattle.std.proofs.Common.{Ok, Err, refl, sym, ap, ◌∙◌, append_assoc, arith}
 use Rattle.std.specs.Prelude.{is_none}
 use Rattle.sql_reader.specs.declared.tokens.Token.{Token}
@@ -9,8 +9,8 @@ use Rattle.sql_reader.specs.declared.stops.Stop.{Stop}
 use Rattle.sql_reader.specs.declared.stops.Stop.TheVariants as stops
 use Rattle.sql_reader.specs.Tokens.{place_of}
 use Rattle.orca_base.specs.Checked.{◌>>=◌}
-use Rattle.sql_reader.specs.Steps.{Step, unexpected, too_many, Takes, elements_at}
-use Rattle.sql_reader.specs.Doing.{Fails}
+use Rattle.sql_reader.specs.Steps.{Step, unexpected, too_many, Takes, refused, elements_at}
+use Rattle.sql_reader.specs.Doing.{Fails, Does}
 
 -- what was read before, and what is still read
 abbrev pub with_front : {X : Type 0} → List X → Step (List X) → Step (List X)
@@ -64,3 +64,31 @@ module _ {X : Type 0} (mark : Mark) (begins : Token → Bool) (read : List Token
   fails (stops.TooMany w) front count i tokens rest total lt h so_far =
       let last : reads (suc (count - (i + 1))) tokens ≡ Err (too_many w rest) = rw h refl in
       sym so_far ∙ ap (λ (r : Step (List X)). with_front front r) (step count i tokens lt ∙ last)
+
+  -- what is refused is no list
+  not_listed : (tokens : List Token) (xs : List X) (rest : List Token)
+      → refused begins what {X = List X} tokens ≡ Ok (xs, rest) → ⊥
+  not_listed [] xs rest e = absurd cc
+  not_listed (t ∷ tokens) xs rest e = by (begins t) e
+    where
+      by : (b : Bool)
+          → cond {A = Step (List X)} b (Err (too_many what (t ∷ tokens))) (Err (unexpected (t ∷ tokens))) ≡ Ok (xs, rest)
+          → ⊥
+      by true k = absurd cc
+      by false k = absurd cc
+
+  stops_behind : (stop : Stop) (front : List X) (tokens rest : List Token)
+      → Fails (refused begins what {X = List X} tokens) stop rest
+      → Fails (with_front front (refused begins what tokens)) stop rest
+  stops_behind stops.Memory front tokens rest h = tt
+  stops_behind stops.Unexpected front tokens rest h = rw h refl
+  stops_behind (stops.TooMany w) front tokens rest h = rw h refl
+
+  -- there is no room for another
+  pub refuses : (result : Result (List X) Stop) (front : List X) (count i : ℕ) (tokens rest : List Token)
+      (total : Step (List X)) → count ≤ i → Does (refused begins what tokens) result rest
+      → with_front front (reads (count - i) tokens) ≡ total → Does total result rest
+  refuses (Ok xs) front count i tokens rest total le h so_far = absurd (not_listed tokens xs rest h)
+  refuses (Err stop) front count i tokens rest total le h so_far =
+      let none : count - i ≡ 0 = omega arith in
+      rw (← so_far, none) (stops_behind stop front tokens rest h)

@@ -39,9 +39,12 @@ abbrev pub fault_at : Stopped → ℕ → SqlFault
 fault_at (unexpected rest) end = faults.Grammar (next_place rest end)
 fault_at (too_many what rest) end = faults.TooMany what (next_place rest end)
 
+-- the query, unless a fault stands before its end
+abbrev pub accepted : Option SqlFault → Select → Result Select SqlFault
+accepted None select = Ok select
+accepted (Some fault) select = Err fault
+
 -- what the parser says, or a fault that stands before it
 abbrev pub outcome : Option SqlFault → Result Select Stopped → ℕ → Result Select SqlFault
-outcome None (Ok select) end = Ok select
-outcome (Some fault) (Ok select) end = Err fault
-outcome None (Err stopped) end = Err (fault_at stopped end)
-outcome (Some fault) (Err stopped) end = Err (sooner (Some fault) (fault_at stopped end))
+outcome before (Ok select) end = accepted before select
+outcome before (Err stopped) end = Err (sooner before (fault_at stopped end))

@@ -42,6 +42,16 @@ Takes says tokens (Some v) rest = (ahead says tokens ≡ true) × (one says toke
 Takes says tokens None rest = (ahead says tokens ≡ false) × (one says tokens ≡ Err (unexpected tokens))
     × (rest ≡ tokens)
 
+-- the token is what it says, or it says nothing and is there still
+abbrev pub Parts : {V : Type 0} → (Token → Option V) → Token → Result V Token → Type 0
+Parts says token (Ok v) = says token ≡ Some v
+Parts says token (Err same) = (says token ≡ None) × (same ≡ token)
+
+-- the tokens behind the next
+abbrev pub behind_next : List Token → List Token
+behind_next [] = []
+behind_next (token ∷ tokens) = tokens
+
 -- the next token, where there is one
 abbrev pub IsNext : List Token → Option (Bor Token) → Type 0
 IsNext [] None = Unit {0}

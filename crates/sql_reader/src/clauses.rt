@@ -65,7 +65,7 @@ fn group_by_clause(alloc: Global, tokens: &mut TokenStream) -> Result<List<ColRe
     if tokens.mark(Mark::Group).is_none() {
         return Ok(List::new(alloc));
     }
-    tokens.mark(Mark::By).ok_or(Stop::Unexpected)?;
+    tokens.expect_mark(Mark::By)?;
     group_columns(alloc, tokens)
 }
 
@@ -76,7 +76,7 @@ fn order_by_clause(alloc: Global, tokens: &mut TokenStream) -> Result<List<SelKe
     if tokens.mark(Mark::Order).is_none() {
         return Ok(List::new(alloc));
     }
-    tokens.mark(Mark::By).ok_or(Stop::Unexpected)?;
+    tokens.expect_mark(Mark::By)?;
     keys(alloc, tokens)
 }
 
@@ -85,7 +85,7 @@ fn order_by_clause(alloc: Global, tokens: &mut TokenStream) -> Result<List<SelKe
 fn body(alloc: Global, items: List<SelItem>, tokens: &mut TokenStream) -> Result<Select, Stop>
     ensures { Does (body_at items tokens.old) result tokens.new }
 {
-    tokens.mark(Mark::From).ok_or(Stop::Unexpected)?;
+    tokens.expect_mark(Mark::From)?;
     let from = tables(alloc, tokens)?;
     let preds = where_clause(alloc, tokens)?;
     let group_by = group_by_clause(alloc, tokens)?;
@@ -104,7 +104,7 @@ fn body(alloc: Global, items: List<SelItem>, tokens: &mut TokenStream) -> Result
 pub fn query(alloc: Global, tokens: &mut TokenStream) -> Result<Select, Stop>
     ensures { Does (query_at tokens.old) result tokens.new }
 {
-    tokens.mark(Mark::Select).ok_or(Stop::Unexpected)?;
+    tokens.expect_mark(Mark::Select)?;
     let items = items(alloc, tokens)?;
     body(alloc, items, tokens)
 }

@@ -15,7 +15,7 @@ use crate::tokens::{Function, Mark, Name};
 pub fn column(tokens: &mut TokenStream) -> Result<ColRef, Stop>
     ensures { Does (column_at tokens.old) result tokens.new }
 {
-    let first = tokens.name().ok_or(Stop::Unexpected)?;
+    let first = tokens.expect_name()?;
     if tokens.mark(Mark::Dot).is_none() {
         return Ok(ColRef {
             at: first.at,
@@ -23,7 +23,7 @@ pub fn column(tokens: &mut TokenStream) -> Result<ColRef, Stop>
             name: first.text,
         });
     }
-    let second = tokens.name().ok_or(Stop::Unexpected)?;
+    let second = tokens.expect_name()?;
     Ok(ColRef {
         at: first.at,
         table: Some(first.text),
@@ -70,9 +70,9 @@ fn argument(function: Function, tokens: &mut TokenStream) -> Result<SelExpr, Sto
 fn call(function: Function, tokens: &mut TokenStream) -> Result<SelExpr, Stop>
     ensures { Does (call_at function tokens.old) result tokens.new }
 {
-    tokens.mark(Mark::Open).ok_or(Stop::Unexpected)?;
+    tokens.expect_mark(Mark::Open)?;
     let call = argument(function, tokens)?;
-    tokens.mark(Mark::Close).ok_or(Stop::Unexpected)?;
+    tokens.expect_mark(Mark::Close)?;
     Ok(call)
 }
 
@@ -97,7 +97,7 @@ fn output(expr: SelExpr, tokens: &mut TokenStream) -> Result<SelItem, Stop>
             name: None,
         });
     }
-    let name = tokens.name().ok_or(Stop::Unexpected)?;
+    let name = tokens.expect_name()?;
     Ok(SelItem {
         expr,
         name_at: name.at,
@@ -130,9 +130,9 @@ fn aliased(table: Name, alias: Name) -> FromItem
 pub fn table(tokens: &mut TokenStream) -> Result<FromItem, Stop>
     ensures { Does (table_at tokens.old) result tokens.new }
 {
-    let table = tokens.name().ok_or(Stop::Unexpected)?;
+    let table = tokens.expect_name()?;
     if tokens.mark(Mark::As).is_some() {
-        let alias = tokens.name().ok_or(Stop::Unexpected)?;
+        let alias = tokens.expect_name()?;
         return Ok(aliased(table, alias));
     }
     match tokens.name() {

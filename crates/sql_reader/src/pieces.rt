@@ -1,6 +1,6 @@
 //! The piece at the front of a text: a blank, a comment, or what spells a token.
 
-ghost use Rattle.std.specs.Prelude.{◌≡◌, ℕ, ◌<◌, ◌≤◌, ◌^◌, length, map, false, List, Option, Some, None, IfOk, IfSome};
+ghost use Rattle.std.specs.Prelude.{◌≡◌, ℕ, ◌<◌, ◌≤◌, ◌^◌, ◌∷◌, length, map, false, List, Option, Some, None, IfOk, IfSome};
 ghost use Rattle.std.specs.Option.{option_map};
 ghost use Rattle.sql_reader.specs.Lexing.{shown, named_kind, signed};
 ghost use Rattle.sql_reader.specs.Words.{word_of};
@@ -183,17 +183,17 @@ fn long_piece<'t>(first: u8, second: u8, rest: &'t [u8]) -> Piece<'t>
     }
 }
 
-/// A symbol of two bytes, or else of one.
-fn sign_piece(text: &[u8]) -> Piece<'_>
-    ensures { IsPiece result (sign_cut text.now) }
+/// A symbol of two bytes, or else of one: its first byte, and the bytes behind that.
+fn sign_piece(first: u8, text: &[u8]) -> Piece<'_>
+    ensures { IsPiece result (sign_cut (first ∷ text.now)) }
 {
-    match text {
-        [first, second, rest @ ..] => match long_piece(*first, *second, rest) {
-            Some(piece) => Some(piece),
-            None => short_piece(*first, &text[1..]),
-        },
-        [byte] => short_piece(*byte, &text[1..]),
+    let long = match text {
+        [second, rest @ ..] => long_piece(first, *second, rest),
         [] => None,
+    };
+    match long {
+        Some(piece) => Some(piece),
+        None => short_piece(first, text),
     }
 }
 
@@ -269,7 +269,7 @@ pub fn piece(alloc: Global, text: &[u8]) -> Result<Piece<'_>, AllocError>
         Class::Digit => Ok(digits_piece(false, text)),
         Class::Quote => quoted_piece(alloc, rest),
         Class::Minus => Ok(minus_piece(rest)),
-        Class::Sign => Ok(sign_piece(text)),
+        Class::Sign => Ok(sign_piece(byte, rest)),
         Class::Bad => Ok(None),
     }
 }

@@ -1,10 +1,12 @@
 //! The reader of queries.
 
-ghost use Rattle.std.specs.Prelude.{◌≡◌, ◌≢◌, ◌≤◌, ◌<◌, ◌^◌, ◌↔◌, ◌⊎◌, ℕ, List, length, IfOk, IfErr};
+ghost use Rattle.std.specs.Prelude.{◌≡◌, ◌≢◌, ◌≤◌, ◌<◌, ◌^◌, ◌↔◌, ◌⊎◌, ℕ, List, length, Result, Ok, IfOk, IfErr};
 ghost use Rattle.sql_reader.specs.declared.syntax.Select.{Select};
 ghost use Rattle.sql_reader.specs.declared.faults.SqlFault.{SqlFault};
 ghost use Rattle.sql_reader.specs.Pieces.{is_control};
+ghost use Rattle.sql_reader.specs.Steps.{Stopped};
 ghost use Rattle.sql_reader.specs.Reading.{parse_at};
+ghost use Rattle.sql_reader.specs.Doing.{Fails};
 ghost use Rattle.sql_reader.specs.Faults.{place, IsFirst, KeepsLimits, Spells, IsReading};
 ghost use Rattle.orca_base.specs.Checked.{Gives};
 ghost use Rattle.sql_reader.specs.Readable.{IsReadable};
@@ -100,8 +102,38 @@ fn earlier_fault(first: Option<SqlFault>, second: Option<SqlFault>) -> Option<Sq
     }
 }
 
-/// What the parser says, or a fault that stands before it.
+/// A query, and nothing behind it.
 #[tactic(auto, unfolding(crate::specs::Reading::parse_at))]
+fn parse(alloc: Global, tokens: &mut TokenStream) -> Result<Select, Stop>
+    ensures ok { IfOk result (λ select. parse_at tokens.old ≡ Ok select) }
+    ensures err { IfErr result (λ stop. Fails (parse_at tokens.old) stop tokens.new) }
+{
+    let select = query(alloc, tokens)?;
+    match tokens.peek() {
+        Some(_) => Err(Stop::Unexpected),
+        None => Ok(select),
+    }
+}
+
+/// The fault at which the parser stopped, or one that stands before it.
+fn refusal(
+    before: Option<SqlFault>,
+    stop: Stop,
+    tokens: &TokenStream,
+    end: u32,
+) -> Result<Select, SqlFault>
+    ensures { (parsed : Result Select Stopped) → Fails parsed stop tokens.now
+        → Gives SqlFault.Memory (outcome before parsed end) result }
+{
+    let at = tokens.place(end);
+    match stop {
+        Stop::Unexpected => Err(sooner_fault(before, SqlFault::Grammar { at })),
+        Stop::TooMany(what) => Err(sooner_fault(before, SqlFault::TooMany { what, at })),
+        Stop::Memory => Err(SqlFault::Memory),
+    }
+}
+
+/// What the parser says, or a fault that stands before it.
 fn answer(
     alloc: Global,
     before: Option<SqlFault>,
@@ -110,20 +142,12 @@ fn answer(
 ) -> Result<Select, SqlFault>
     ensures { Gives SqlFault.Memory (outcome before (parse_at tokens) end) result }
 {
-    match query(alloc, &mut tokens) {
-        Ok(select) if tokens.peek().is_none() => match before {
+    match parse(alloc, &mut tokens) {
+        Ok(select) => match before {
             Some(fault) => Err(fault),
             None => Ok(select),
         },
-        Ok(_) | Err(Stop::Unexpected) => {
-            let at = tokens.place(end);
-            Err(sooner_fault(before, SqlFault::Grammar { at }))
-        }
-        Err(Stop::TooMany(what)) => {
-            let at = tokens.place(end);
-            Err(sooner_fault(before, SqlFault::TooMany { what, at }))
-        }
-        Err(Stop::Memory) => Err(SqlFault::Memory),
+        Err(stop) => refusal(before, stop, &tokens, end),
     }
 }
 

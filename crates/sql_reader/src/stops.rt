@@ -7,7 +7,7 @@ use crate::faults::Limit;
 use std::alloc::AllocError;
 
 /// Why reading stopped at the tokens that are left.
-#[derive(Drop)]
+#[derive(Clone, Copy)]
 pub enum Stop {
     /// The next token, or the end, can't stand there.
     Unexpected,
