@@ -1,8 +1,8 @@
 //! Binding: a select and a catalogue give a query, or the first fault.
-ghost use Rattle.std.specs.Prelude.{◌≡◌, ◌≤◌, Ok, IfOk, length};
+ghost use Rattle.std.specs.Prelude.{◌≡◌, Ok, IfOk};
 ghost use Rattle.query_core.specs.Catalog.{IsCatalog};
 ghost use Rattle.query_core.specs.Results.{AreOptions};
-ghost use Rattle.sql_bind.specs.Steps.{Gives};
+ghost use Rattle.sql_bind.specs.Parts.{parts_of as the_parts};
 ghost use Rattle.sql_bind.specs.Used.{used_by as used_columns};
 ghost use Rattle.sql_reader.specs.Readable.{IsReadable};
 ghost use Rattle.sql_bind.specs.Binding.{binding, IsQueryOf, Binds};
@@ -57,6 +57,44 @@ fn query_of(
     })
 }
 
+/// The query of these parts, or why they are refused.
+fn query_over(
+    alloc: Global,
+    select: &Select,
+    catalog: &Catalog,
+    parts: &Parts<'_>,
+    used: &UsedColumns<'_>,
+    options: Options,
+) -> Result<Query, BindFault>
+    requires readable { IsReadable select.now }
+    requires catalogue { IsCatalog catalog.now }
+    requires options { AreOptions options }
+    requires named { the_parts select.now catalog.now ≡ Ok parts.now }
+    requires used { used.now ≡ used_columns parts.now }
+    ensures { Binds select.now catalog.now options result }
+{
+    judge(parts, used)?;
+    Ok(query_of(alloc, select, catalog, parts, used, options)?)
+}
+
+/// The query of these parts, whose used columns are found first.
+fn judged_query(
+    alloc: Global,
+    select: &Select,
+    catalog: &Catalog,
+    parts: &Parts<'_>,
+    options: Options,
+) -> Result<Query, BindFault>
+    requires readable { IsReadable select.now }
+    requires catalogue { IsCatalog catalog.now }
+    requires options { AreOptions options }
+    requires named { the_parts select.now catalog.now ≡ Ok parts.now }
+    ensures { Binds select.now catalog.now options result }
+{
+    let used = used_by(alloc, parts)?;
+    query_over(alloc, select, catalog, parts, &used, options)
+}
+
 /// Binds a query that was read to a catalogue that was read. Places in faults are offsets in the
 /// query's text.
 pub fn bind(
@@ -73,7 +111,5 @@ pub fn bind(
     ensures { Binds select.now catalog.now options result }
 {
     let parts = parts_of(alloc, select, catalog)?;
-    let used = used_by(alloc, &parts)?;
-    judge(&parts, &used)?;
-    Ok(query_of(alloc, select, catalog, &parts, &used, options)?)
+    judged_query(alloc, select, catalog, &parts, options)
 }

@@ -13,7 +13,7 @@ use sql_reader::ColRef;
 use std::alloc::{AllocError, Global};
 
 /// A column of the catalogue, of one of the tables of FROM.
-#[derive(Clone, Copy, Debug, PartialEq, Eq, Hash)]
+#[derive(Clone, Copy, PartialEq, Eq, Hash)]
 pub struct Column {
     /// The place of its table in FROM.
     pub table: usize,

@@ -12,7 +12,7 @@ use sql_reader::{SelOp, SelOperand, SelPred};
 use std::alloc::Global;
 
 /// The right side of a predicate.
-#[derive(Debug, Drop)]
+#[derive(Drop)]
 pub enum Side {
     Column(Column),
     Int(i64),
@@ -20,7 +20,7 @@ pub enum Side {
 }
 
 /// A predicate.
-#[derive(Debug, Drop)]
+#[derive(Drop)]
 pub struct Compared {
     pub left: Column,
     pub op: CmpOp,

@@ -1,5 +1,5 @@
 //! GROUP BY and ORDER BY over numbered items, nothing twice.
-ghost use Rattle.std.specs.Prelude.{◌≡◌, ◌≤◌, IfOk, OnOk, length};
+ghost use Rattle.std.specs.Prelude.{◌≡◌, ◌≤◌, [], IfOk, OnOk, length};
 ghost use Rattle.sql_bind.specs.Query.{group_numbers as the_group, key_of as the_key, order_of as the_order, key_item, any_number, with_new};
 
 use crate::columns::Column;
@@ -20,6 +20,20 @@ pub fn group_of(
     ensures { IfOk result (λ numbers. numbers ≡ the_group used.now group.now) }
 {
     let mut kept = IndexSet::new(alloc);
+    numbers_in(alloc, used, group, &mut kept)
+}
+
+/// The numbers of the columns, which are added.
+fn numbers_in(
+    alloc: Global,
+    used: &UsedColumns<'_>,
+    group: &[Column],
+    kept: &mut IndexSet<u32>,
+) -> Result<List<u32>, AllocError>
+    requires few { length used.now ≤ 60 }
+    requires empty { kept.old.keys ≡ [] }
+    ensures { IfOk result (λ numbers. numbers ≡ the_group used.now group.now) }
+{
     for column in group {
         kept.insert(used.number_of(*column))?;
     }

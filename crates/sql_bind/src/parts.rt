@@ -1,7 +1,13 @@
 //! The parts of a query over columns, before these are numbered.
-ghost use Rattle.std.specs.Prelude.{◌≡◌, ◌++◌, ◌≤◌, IfOk, length, flat_map, map};
+ghost use Rattle.std.specs.Prelude.{◌≡◌, ◌≢◌, ◌≤◌, Ok, Err, IfOk, IfErr, length};
 ghost use Rattle.query_core.specs.Catalog.{IsCatalog};
+ghost use Rattle.query_core.specs.declared.catalog.Catalog.{Catalog};
 ghost use Rattle.sql_bind.specs.Steps.{Gives};
+ghost use Rattle.sql_bind.specs.Scope.{scope_of as the_scope};
+ghost use Rattle.sql_bind.specs.Columns.{columns_of as the_columns};
+ghost use Rattle.sql_bind.specs.SelectList.{chosen_of as the_chosen};
+ghost use Rattle.sql_bind.specs.Conditions.{compared_of as the_compared};
+ghost use Rattle.sql_bind.specs.SortKeys.{keys_of as the_keys};
 ghost use Rattle.sql_bind.specs.Parts.{parts_of as the_parts};
 
 use crate::columns::{Column, columns_of};
@@ -25,6 +31,36 @@ pub struct Parts<'a> {
     pub keys: List<SortKey>,
 }
 
+/// WHERE, GROUP BY and ORDER BY over the tables and the select list.
+#[derive(Drop)]
+struct Clauses {
+    compared: List<Compared>,
+    group: List<Column>,
+    keys: List<SortKey>,
+}
+
+#[tactic(auto, unfolding(crate::specs::Parts::parts_of))]
+fn clauses_of(
+    alloc: Global,
+    select: &Select,
+    sources: &[Source<'_>],
+    chosen: &[Chosen],
+) -> Result<Clauses, BindFault>
+    ensures compared { IfOk result (λ c. the_compared sources.now select.now.preds ≡ Ok c.compared) }
+    ensures group { IfOk result (λ c. the_columns sources.now select.now.group_by ≡ Ok c.group) }
+    ensures keys { IfOk result (λ c. the_keys sources.now chosen.now select.now.order_by ≡ Ok c.keys) }
+    ensures err { IfErr result (λ fault. (catalog : Catalog)
+        → the_scope catalog select.now.from ≡ Ok sources.now
+        → the_chosen sources.now select.now.items ≡ Ok chosen.now
+        → fault ≢ BindFault.Memory → the_parts select.now catalog ≡ Err fault) }
+{
+    Ok(Clauses {
+        compared: compared_of(alloc, sources, select.preds.as_slice())?,
+        group: columns_of(alloc, sources, select.group_by.as_slice())?,
+        keys: keys_of(alloc, sources, chosen, select.order_by.as_slice())?,
+    })
+}
+
 /// Looks up the names of a query: first those of FROM, then the others in text order.
 #[tactic(auto, unfolding(crate::specs::Parts::parts_of))]
 pub fn parts_of<'a>(
@@ -38,14 +74,11 @@ pub fn parts_of<'a>(
 {
     let scope = scope_of(alloc, catalog, select.from.as_slice())?;
     let chosen = chosen_of(alloc, scope.as_slice(), select.items.as_slice())?;
-    let compared = compared_of(alloc, scope.as_slice(), select.preds.as_slice())?;
-    let group = columns_of(alloc, scope.as_slice(), select.group_by.as_slice())?;
-    let keys = keys_of(
-        alloc,
-        scope.as_slice(),
-        chosen.as_slice(),
-        select.order_by.as_slice(),
-    )?;
+    let Clauses {
+        compared,
+        group,
+        keys,
+    } = clauses_of(alloc, select, scope.as_slice(), chosen.as_slice())?;
     Ok(Parts {
         scope,
         chosen,

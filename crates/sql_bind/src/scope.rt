@@ -155,10 +155,24 @@ pub fn scope_of<'a>(
     requires { IsCatalog catalog.now }
     ensures { Gives (the_scope catalog.now from.now) result }
 {
-    let mut scope = List::new(alloc);
     let mut names = Names::with_capacity(alloc, from.len())?;
+    sources_of(alloc, catalog, from, &mut names)
+}
+
+/// The tables of FROM, whose aliases are added.
+fn sources_of<'a>(
+    alloc: Global,
+    catalog: &'a Catalog,
+    from: &'a [FromItem],
+    names: &mut Names<'a>,
+) -> Result<List<Source<'a>>, BindFault>
+    requires catalogue { IsCatalog catalog.now }
+    requires empty { names.old ≡ [] }
+    ensures { Gives (the_scope catalog.now from.now) result }
+{
+    let mut scope = List::new(alloc);
     for item in from {
-        let source = from_table(alloc, catalog, scope.as_slice(), &mut names, item)?;
+        let source = from_table(alloc, catalog, scope.as_slice(), names, item)?;
         scope.push(source)?;
     }
     Ok(scope)

@@ -1,5 +1,5 @@
 //! The select list: plain columns, and aggregates, which are numbered from 0 in text order.
-ghost use Rattle.std.specs.Prelude.{◌≡◌, ◌<◌, ◌≤◌, ◌++◌, List, length, IfOk, option_to_list};
+ghost use Rattle.std.specs.Prelude.{◌≡◌, ◌<◌, ◌≤◌, ◌++◌, List, [], length, IfOk, option_to_list};
 ghost use Rattle.sql_bind.specs.declared.select_list.Chosen.{Chosen};
 ghost use Rattle.sql_bind.specs.Steps.{Gives};
 ghost use Rattle.sql_bind.specs.SelectList.{function_of as the_function, is_aggregate as is_an_aggregate, aggregates as all_aggregates, call_in as the_call, what_in as the_what, is_called as has_name, output_names, named_as as named_so, chosen_in as chosen_of_item, chosen_of as the_chosen};
@@ -14,7 +14,7 @@ use sql_reader::{ColRef, SelExpr, SelFunc, SelItem};
 use std::alloc::Global;
 
 /// What an element of the select list is.
-#[derive(Clone, Copy, Debug, PartialEq, Eq)]
+#[derive(Clone, Copy)]
 pub enum What {
     /// A column, which is written at this place.
     Column {
@@ -30,7 +30,7 @@ pub enum What {
 }
 
 /// An element of the select list.
-#[derive(Debug, Drop)]
+#[derive(Drop)]
 pub struct Chosen {
     pub what: What,
     /// The output name, where one is given.
@@ -179,10 +179,24 @@ pub fn chosen_of(
     requires { length items.now ≤ 60 }
     ensures { Gives (the_chosen sources.now items.now) result }
 {
-    let mut chosen = List::new(alloc);
     let mut names = Names::with_capacity(alloc, items.len())?;
+    elements_of(alloc, sources, items, &mut names)
+}
+
+/// The elements of the select list, whose output names are added.
+fn elements_of<'a>(
+    alloc: Global,
+    sources: &[Source<'_>],
+    items: &'a [SelItem],
+    names: &mut Names<'a>,
+) -> Result<List<Chosen>, BindFault>
+    requires few { length items.now ≤ 60 }
+    requires empty { names.old ≡ [] }
+    ensures { Gives (the_chosen sources.now items.now) result }
+{
+    let mut chosen = List::new(alloc);
     for item in items {
-        let element = chosen_in(alloc, sources, chosen.as_slice(), &mut names, item)?;
+        let element = chosen_in(alloc, sources, chosen.as_slice(), names, item)?;
         chosen.push(element)?;
     }
     Ok(chosen)

@@ -12,14 +12,14 @@ use sql_reader::{ColRef, SelKey};
 use std::alloc::Global;
 
 /// What is sorted by: a column, or the aggregate of this number.
-#[derive(Clone, Copy, Debug, PartialEq, Eq)]
+#[derive(Clone, Copy)]
 pub enum Target {
     Column(Column),
     Aggregate(u8),
 }
 
 /// A key of ORDER BY.
-#[derive(Clone, Copy, Debug, PartialEq, Eq)]
+#[derive(Clone, Copy)]
 pub struct SortKey {
     /// Where it is written.
     pub at: u32,

@@ -18,7 +18,7 @@ use std::alloc::{AllocError, Global};
 use std::marker::Model;
 
 /// A column, and what the catalogue says of it.
-#[derive(Debug, Drop)]
+#[derive(Drop)]
 pub struct Used<'a> {
     which: Column,
     info: &'a ColumnInfo,

@@ -2,7 +2,7 @@
 use Rattle.std.proofs.Common.{◌≡◌, ◌≤◌, [], drop, length}
 use Rattle.sql_bind.specs.Steps.{each}
 use Rattle.sql_bind.specs.SelectList.{chosen_in, output_names}
-use Rattle.sql_bind.proofs.select_list.chosen_of.Given as goal
+use Rattle.sql_bind.proofs.select_list.elements_of.Given as goal
 
 abbrev pub invariant-loop-item : goal.invariant-loop-item
 invariant-loop-item l = record {

@@ -2,7 +2,7 @@
 use Rattle.std.proofs.Common.{◌≡◌, [], drop}
 use Rattle.sql_bind.specs.Steps.{each}
 use Rattle.sql_bind.specs.Scope.{aliases, from_table}
-use Rattle.sql_bind.proofs.scope.scope_of.Given as goal
+use Rattle.sql_bind.proofs.scope.sources_of.Given as goal
 
 abbrev pub invariant-loop-item : goal.invariant-loop-item
 invariant-loop-item l = record {

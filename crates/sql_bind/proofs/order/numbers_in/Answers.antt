@@ -2,10 +2,10 @@ use Rattle.std.proofs.Common.{◌∙◌}
 use Rattle.sql_bind.specs.Numbers.{number_of}
 use Rattle.sql_bind.specs.Query.{group_numbers, itself, with_new}
 use Rattle.sql_bind.proofs.Distinct.{begins, carries, finishes}
-use Rattle.sql_bind.proofs.order.group_of.Goals as goal
+use Rattle.sql_bind.proofs.order.numbers_in.Goals as goal
 
 pub loop-column-init : goal.loop-column-init
-loop-column-init c = rw c.new-kept.ensures.empty (begins itself (group_numbers c.args.used.now c.args.group.now))
+loop-column-init c = rw c.requires.empty (begins itself (group_numbers c.args.used.now c.args.group.now))
 
 -- the column's number is kept, unless it is there
 pub loop-column-preserved : goal.loop-column-preserved

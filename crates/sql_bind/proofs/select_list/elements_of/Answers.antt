@@ -3,7 +3,7 @@ use Rattle.std.proofs.lemmas.Result.{err_from_is_err_and}
 use Rattle.sql_bind.specs.SelectList.{chosen_in}
 use Rattle.sql_bind.proofs.ChosenKept.{names_push}
 use Rattle.sql_bind.proofs.Each.{goes_on, stops, is_done}
-use Rattle.sql_bind.proofs.select_list.chosen_of.Goals as goal
+use Rattle.sql_bind.proofs.select_list.elements_of.Goals as goal
 
 -- the element that was bound goes last, and its name too
 pub loop-item-preserved : goal.loop-item-preserved
@@ -20,7 +20,7 @@ loop-item-preserved c =
 pub returns-in_err-element : goal.returns-in_err-element
 returns-in_err-element c =
     let loop = c.loop-item in
-    let raised = err_from_is_err_and c.from_residual-in_err-element.result c.from_residual-in_err-element.ensures.1 in
+    let raised = err_from_is_err_and c.from_residual.result c.from_residual.ensures.1 in
     rw raised.1 (stops (chosen_in c.args.sources.now) c.args.items.now loop.chosen loop.item-index c.item-item.result _ c.in_err-element.field-0.0 raised.0 c.loop-item-test.true c.item-item.is (rw (← c.as_slice.ensures) c.in_err-element.ensures.bound) loop.invariant.bound raised.2)
 
 -- no element is left

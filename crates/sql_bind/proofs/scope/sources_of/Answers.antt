@@ -3,7 +3,7 @@ use Rattle.std.proofs.lemmas.Result.{err_from_is_err_and}
 use Rattle.std.proofs.lemmas.List.{map_push}
 use Rattle.sql_bind.specs.Scope.{from_table}
 use Rattle.sql_bind.proofs.Each.{goes_on, stops, is_done}
-use Rattle.sql_bind.proofs.scope.scope_of.Goals as goal
+use Rattle.sql_bind.proofs.scope.sources_of.Goals as goal
 
 -- the table that was bound goes last, and its alias too
 pub loop-item-preserved : goal.loop-item-preserved
@@ -19,7 +19,7 @@ loop-item-preserved c =
 pub returns-in_err-source : goal.returns-in_err-source
 returns-in_err-source c =
     let loop = c.loop-item in
-    let raised = err_from_is_err_and c.from_residual-in_err-source.result c.from_residual-in_err-source.ensures.1 in
+    let raised = err_from_is_err_and c.from_residual.result c.from_residual.ensures.1 in
     rw raised.1 (stops (from_table c.args.catalog.now) c.args.from.now loop.scope loop.item-index c.item-item.result _ c.in_err-source.field-0.0 raised.0 c.loop-item-test.true c.item-item.is (rw (← c.as_slice.ensures) c.in_err-source.ensures.bound) loop.invariant.bound raised.2)
 
 -- no element is left
