@@ -9,7 +9,7 @@ ghost use Rattle.request_props.specs.Requests as requests;
 ghost use Rattle.plan_space.specs.Alternatives.{IsAlternative};
 ghost use Rattle.goal_space.specs.Words.{IsInRange};
 ghost use Rattle.goal_children.specs.Over.{IsGoalOver};
-ghost use Rattle.goal_children.specs.Memo.{IsMemo};
+ghost use Rattle.goal_children.specs.Memo.{IsListedMemo};
 ghost use Rattle.goal_children.specs.Choices.{IsOfAlternatives, IsOfAsked, IsOfEnforcer, IsOfMode, IsOfRequest};
 ghost use Rattle.goal_children.specs.Finding.{InsertsGoals};
 
@@ -30,7 +30,7 @@ pub fn insert_asked(
     wanted: Request,
     goals: &mut Vec<GoalKind>,
 ) -> Result<(), AllocError>
-    requires memo { IsMemo memo }
+    requires memo { IsListedMemo memo }
     requires goal { IsGoalOver memo.query.now (GoalKind.OptE e wanted) }
     requires listed { All IsInRange goals.old.items }
     ensures ok { OnOk result
@@ -55,7 +55,7 @@ fn insert_in_mode(
     line: Line,
     goals: &mut Vec<GoalKind>,
 ) -> Result<(), AllocError>
-    requires memo { IsMemo memo }
+    requires memo { IsListedMemo memo }
     requires goal { IsGoalOver memo.query.now (GoalKind.OptE e wanted) }
     requires alternative { IsAlternative memo.query.now e wanted mode line }
     requires listed { All IsInRange goals.old.items }
@@ -118,7 +118,7 @@ pub fn insert_enforced(
     wanted: Request,
     goals: &mut Vec<GoalKind>,
 ) -> Result<(), AllocError>
-    requires memo { IsMemo memo }
+    requires memo { IsListedMemo memo }
     requires goal { IsGoalOver memo.query.now (GoalKind.Opt group wanted) }
     requires listed { All IsInRange goals.old.items }
     ensures ok { OnOk result

@@ -10,7 +10,7 @@ ghost use Rattle.request_props.specs.Numbered.{IsProps};
 ghost use Rattle.goal_space.specs.Words.{goal_word, IsInRange};
 ghost use Rattle.goal_space.specs.declared.goals.GoalKind.{GoalKind as AnyGoal};
 ghost use Rattle.goal_children.specs.Over.{IsGoalOver, IsGoalWordOver};
-ghost use Rattle.goal_children.specs.Memo.{IsMemo};
+ghost use Rattle.goal_children.specs.Memo.{IsListedMemo};
 ghost use Rattle.goal_children.specs.Children.{AreNoMore, IsChildIn, IsChildWordAt, IsLastChild, IsNextChild};
 ghost use Rattle.goal_children.specs.Finding.{FindsFrom, IsOfExpression};
 
@@ -46,7 +46,7 @@ pub fn child(query: &Query, props: &Props, members: &[u64], goal: Goal, n: u32) 
 }
 
 fn nth_child(memo: Memo<'_>, goal: GoalKind, n: u32) -> Option<Goal>
-    requires memo { IsMemo memo }
+    requires memo { IsListedMemo memo }
     requires goal { IsGoalOver memo.query.now goal }
     ensures { MatchOption result
         (AreNoMore memo.entry.query.now memo.entry.members.now goal n)
@@ -104,7 +104,7 @@ pub fn next_child(
 
 // The child of the least word from the bound on: the table of children, one row a kind of goal.
 fn child_from(memo: Memo<'_>, goal: GoalKind, bound: u64) -> Option<GoalKind>
-    requires memo { IsMemo memo }
+    requires memo { IsListedMemo memo }
     requires goal { IsGoalOver memo.query.now goal }
     ensures { FindsFrom (IsChildIn memo.entry.query.now memo.entry.members.now goal) bound result }
 {
@@ -137,7 +137,7 @@ fn transformed_from(query: &Query, e: ExprParts, phase: Phase, bound: u64) -> Op
 
 // A child of the implementation of a group.
 fn implemented_from(memo: Memo<'_>, group: KeyParts, bound: u64) -> Option<GoalKind>
-    requires memo { IsMemo memo }
+    requires memo { IsListedMemo memo }
     requires known { IsGroup memo.query.now group }
     ensures { FindsFrom (IsChildIn memo.entry.query.now memo.entry.members.now (GoalKind.Imp group))
         bound result }
@@ -153,7 +153,7 @@ fn implemented_from(memo: Memo<'_>, group: KeyParts, bound: u64) -> Option<GoalK
 
 // A child of a group for a request.
 fn chosen_from(memo: Memo<'_>, group: KeyParts, wanted: Request, bound: u64) -> Option<GoalKind>
-    requires memo { IsMemo memo }
+    requires memo { IsListedMemo memo }
     requires goal { IsGoalOver memo.query.now (GoalKind.Opt group wanted) }
     ensures { FindsFrom
         (IsChildIn memo.entry.query.now memo.entry.members.now (GoalKind.Opt group wanted))

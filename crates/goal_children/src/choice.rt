@@ -9,7 +9,7 @@ ghost use Rattle.request_props.specs.Requests.{IsInRange};
 ghost use Rattle.plan_space.specs.Alternatives.{IsAlternative};
 ghost use Rattle.goal_space.specs.declared.goals.GoalKind.{GoalKind as AnyGoal};
 ghost use Rattle.goal_children.specs.Over.{IsGoalOver};
-ghost use Rattle.goal_children.specs.Memo.{IsMemo};
+ghost use Rattle.goal_children.specs.Memo.{IsListedMemo};
 ghost use Rattle.goal_children.specs.Choices.{IsOfAlternatives, IsOfAsked, IsOfEnforcer, IsOfMode, IsOfRequest};
 ghost use Rattle.goal_children.specs.Finding.{FindsFrom};
 
@@ -28,7 +28,7 @@ pub fn enforced_goal_from(
     wanted: Request,
     bound: u64,
 ) -> Option<GoalKind>
-    requires memo { IsMemo memo }
+    requires memo { IsListedMemo memo }
     requires goal { IsGoalOver memo.query.now (GoalKind.Opt group wanted) }
     ensures { FindsFrom (IsOfEnforcer memo.entry.query.now group wanted) bound result }
 {
@@ -47,7 +47,7 @@ pub fn enforced_by(
     group: KeyParts,
     wanted: Request,
 ) -> (Option<Request>, Option<Request>)
-    requires memo { IsMemo memo }
+    requires memo { IsListedMemo memo }
     requires goal { IsGoalOver memo.query.now (GoalKind.Opt group wanted) }
     ensures exact { (goal : AnyGoal) → IsOfEnforcer memo.entry.query.now group wanted goal
         ↔ (IsOfRequest group result.0 goal ⊎ IsOfRequest group result.1 goal) }
@@ -81,7 +81,7 @@ pub fn asked_goal_from(
     wanted: Request,
     bound: u64,
 ) -> Option<GoalKind>
-    requires memo { IsMemo memo }
+    requires memo { IsListedMemo memo }
     requires goal { IsGoalOver memo.query.now (GoalKind.OptE e wanted) }
     ensures { FindsFrom (IsOfAlternatives memo.entry.query.now e wanted) bound result }
 {
@@ -104,7 +104,7 @@ fn goal_in_mode(
     line: Line,
     bound: u64,
 ) -> Option<GoalKind>
-    requires memo { IsMemo memo }
+    requires memo { IsListedMemo memo }
     requires goal { IsGoalOver memo.query.now (GoalKind.OptE e wanted) }
     requires alternative { IsAlternative memo.query.now e wanted mode line }
     ensures { FindsFrom (IsOfMode memo.entry.query.now e wanted mode) bound result }
@@ -124,7 +124,7 @@ pub fn asked_in_mode(
     mode: u32,
     line: Line,
 ) -> (Option<Request>, Option<Request>)
-    requires memo { IsMemo memo }
+    requires memo { IsListedMemo memo }
     requires goal { IsGoalOver memo.query.now (GoalKind.OptE e wanted) }
     requires alternative { IsAlternative memo.query.now e wanted mode line }
     ensures exact { (goal : AnyGoal) → IsOfMode memo.entry.query.now e wanted mode goal

@@ -9,7 +9,7 @@ ghost use Rattle.query_core.specs.Expressions.{IsCandidateWord};
 ghost use Rattle.request_props.specs.Numbered.{IsProps};
 ghost use Rattle.goal_space.specs.Words.{IsInRange};
 ghost use Rattle.goal_children.specs.Over.{IsGoalOver};
-ghost use Rattle.goal_children.specs.Memo.{IsMemo};
+ghost use Rattle.goal_children.specs.Memo.{IsListedMemo};
 ghost use Rattle.goal_children.specs.Children.{AreChildren, IsChildIn};
 ghost use Rattle.goal_children.specs.Choices.{IsBesideMembers};
 ghost use Rattle.goal_children.specs.Finding.{AppendsGoals};
@@ -80,7 +80,7 @@ fn add_children(
     held: &mut GroupMembers,
     goals: &mut Vec<GoalKind>,
 ) -> Result<(), AllocError>
-    requires memo { IsMemo memo }
+    requires memo { IsListedMemo memo }
     requires goal { IsGoalOver memo.query.now goal }
     requires held { AreHeldFor memo.members.now held.old }
     requires listed { All IsInRange goals.old.items }
@@ -112,7 +112,7 @@ fn add_implemented(
     held: &mut GroupMembers,
     goals: &mut Vec<GoalKind>,
 ) -> Result<(), AllocError>
-    requires memo { IsMemo memo }
+    requires memo { IsListedMemo memo }
     requires known { IsGroup memo.query.now group }
     requires held { AreHeldFor memo.members.now held.old }
     ensures ok { OnOk result (AppendsGoals
@@ -138,7 +138,7 @@ fn add_chosen(
     held: &mut GroupMembers,
     goals: &mut Vec<GoalKind>,
 ) -> Result<(), AllocError>
-    requires memo { IsMemo memo }
+    requires memo { IsListedMemo memo }
     requires goal { IsGoalOver memo.query.now (GoalKind.Opt group wanted) }
     requires held { AreHeldFor memo.members.now held.old }
     requires listed { All IsInRange goals.old.items }
@@ -164,7 +164,7 @@ fn add_beside(
     wanted: Request,
     goals: &mut Vec<GoalKind>,
 ) -> Result<(), AllocError>
-    requires memo { IsMemo memo }
+    requires memo { IsListedMemo memo }
     requires goal { IsGoalOver memo.query.now (GoalKind.Opt group wanted) }
     requires listed { All IsInRange goals.old.items }
     ensures ok { OnOk result (AppendsGoals (IsBesideMembers memo.entry.query.now group wanted)

@@ -13,7 +13,7 @@ ghost use Rattle.request_props.specs.Numbered.{IsNumbered};
 ghost use Rattle.plan_tree.specs.Alternatives.{HasAlternative};
 ghost use Rattle.goal_children.specs.Finding.{AppendsGoals, FindsFrom, IsOfMembers};
 ghost use Rattle.goal_children.specs.GroupMembers.{AreHeldFor};
-ghost use Rattle.goal_children.specs.Memo.{IsMemo};
+ghost use Rattle.goal_children.specs.Memo.{IsListedMemo};
 ghost use Rattle.goal_space.specs.Words.{IsInRange};
 ghost use Rattle.goal_space.specs.declared.goals.GoalKind.{GoalKind as AnyGoal};
 ghost use Rattle.goal_children.specs.MemberJobs.{word_at, HasNumberedJob, HaveNoGoals, IsFirstGoal, IsGoalAmong, IsGoalOf, IsGoalOfWord, IsJobInRange, IsServed, IsTransformed};
@@ -38,7 +38,7 @@ pub fn member_goal_from(
     job: MemberJob,
     bound: u64,
 ) -> Option<GoalKind>
-    requires memo { IsMemo memo }
+    requires memo { IsListedMemo memo }
     requires known { IsGroup memo.query.now group }
     requires numbered { HasNumberedJob memo.query.now job }
     ensures { FindsFrom (IsOfMembers memo.entry.query.now memo.entry.members.now group job) bound result }
@@ -60,7 +60,7 @@ pub fn push_member_goals(
     held: &mut GroupMembers,
     goals: &mut Vec<GoalKind>,
 ) -> Result<(), AllocError>
-    requires memo { IsMemo memo }
+    requires memo { IsListedMemo memo }
     requires known { IsGroup memo.query.now group }
     requires numbered { HasNumberedJob memo.query.now job }
     requires held { AreHeldFor memo.members.now held.old }
@@ -85,7 +85,7 @@ fn push_goals_of(
     exprs: &[ExprParts],
     goals: &mut Vec<GoalKind>,
 ) -> Result<(), AllocError>
-    requires memo { IsMemo memo }
+    requires memo { IsListedMemo memo }
     requires candidates { All (IsCandidate memo.query.now) exprs.now }
     requires ascending { IsStrictlyIncreasing (map word_of exprs.now) }
     requires numbered { HasNumberedJob memo.query.now job }
@@ -106,7 +106,7 @@ fn push_goal_of(
     e: ExprParts,
     goals: &mut Vec<GoalKind>,
 ) -> Result<(), AllocError>
-    requires memo { IsMemo memo }
+    requires memo { IsListedMemo memo }
     requires candidate { IsCandidate memo.query.now e }
     requires numbered { HasNumberedJob memo.query.now job }
     ensures ok { OnOk result
@@ -139,7 +139,7 @@ fn push_found(found: Option<GoalKind>, goals: &mut Vec<GoalKind>) -> Result<(), 
 
 // The goal of the first of the words that has one for the job.
 fn first_goal(memo: Memo<'_>, job: MemberJob, words: &[u64]) -> Option<GoalKind>
-    requires memo { IsMemo memo }
+    requires memo { IsListedMemo memo }
     requires candidates { All (IsCandidateWord memo.query.now) words.now }
     requires numbered { HasNumberedJob memo.query.now job }
     ensures { MatchOption result
@@ -195,7 +195,7 @@ impl MemberJob {
 
     // The goal that the expression has.
     fn goal_of(self, memo: Memo<'_>, e: ExprParts) -> Option<GoalKind>
-        requires memo { IsMemo memo }
+        requires memo { IsListedMemo memo }
         requires candidate { IsCandidate memo.query.now e }
         requires numbered { HasNumberedJob memo.query.now self }
         ensures { MatchOption result
@@ -224,7 +224,7 @@ fn transform(phase: Phase, e: ExprParts) -> Option<GoalKind>
 
 // The goal of a physical expression that may serve the request.
 fn serve(memo: Memo<'_>, e: ExprParts, wanted: Request) -> Option<GoalKind>
-    requires memo { IsMemo memo }
+    requires memo { IsListedMemo memo }
     requires candidate { IsCandidate memo.query.now e }
     requires numbered { IsNumbered memo.query.now wanted.order }
     ensures { MatchOption result
@@ -238,7 +238,7 @@ fn serve(memo: Memo<'_>, e: ExprParts, wanted: Request) -> Option<GoalKind>
 }
 
 fn serve_by(memo: Memo<'_>, e: PhysicalExpr, wanted: Request) -> Option<GoalKind>
-    requires memo { IsMemo memo }
+    requires memo { IsListedMemo memo }
     requires candidate { IsCandidate memo.query.now (expr_of e) }
     requires numbered { IsNumbered memo.query.now wanted.order }
     ensures { MatchOption result
