@@ -3,6 +3,8 @@ set -u
 export LC_ALL=C
 top=$(cd "$(dirname "${BASH_SOURCE[0]}")/.." && pwd)
 program=$top/crates/orca/out/orca
+# The program is timed in the large pages in which the script starts it.
+export GLIBC_TUNABLES=${GLIBC_TUNABLES-$(sed -n 's/^large_pages=//p' "$top/orca")}
 folder=$(mktemp -d) || exit 1
 trap 'rm -rf "$folder"' EXIT
 
