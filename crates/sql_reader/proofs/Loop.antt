@@ -54,17 +54,6 @@ module _ {X : Type 0} (mark : Mark) (begins : Token → Bool) (read : List Token
       let last : reads (suc (count - (i + 1))) tokens ≡ Ok (x ∷ [], rest) = rw (h, m.0, m.2) refl in
       sym so_far ∙ ap (λ (r : Step (List X)). with_front front r) (step count i tokens lt ∙ last)
 
-  -- the element stopped, and so the list does
-  pub fails : (e : Stop) (front : List X) (count i : ℕ) (tokens rest : List Token) (total : Step (List X)) → i < count
-      → Fails (read tokens) e rest → with_front front (reads (count - i) tokens) ≡ total → Fails total e rest
-  fails stops.Memory front count i tokens rest total lt h so_far = tt
-  fails stops.Unexpected front count i tokens rest total lt h so_far =
-      let last : reads (suc (count - (i + 1))) tokens ≡ Err (unexpected rest) = rw h refl in
-      sym so_far ∙ ap (λ (r : Step (List X)). with_front front r) (step count i tokens lt ∙ last)
-  fails (stops.TooMany w) front count i tokens rest total lt h so_far =
-      let last : reads (suc (count - (i + 1))) tokens ≡ Err (too_many w rest) = rw h refl in
-      sym so_far ∙ ap (λ (r : Step (List X)). with_front front r) (step count i tokens lt ∙ last)
-
   -- what is refused is no list
   not_listed : (tokens : List Token) (xs : List X) (rest : List Token)
       → refused begins what {X = List X} tokens ≡ Ok (xs, rest) → ⊥

@@ -55,7 +55,3 @@ module _ (front : List ℕ) (after : Bool) (byte : ℕ) (bytes : List ℕ) (tota
       → Some (front, byte ∷ bytes) ≡ total
   closed e h = ap (λ (text : List ℕ). Some (text, byte ∷ bytes)) (sym (append-nil front))
       ∙ what_byte_does quotings.Closed e h
-
--- the text ends behind its closing quote
-pub ended : (front : List ℕ) (total : Quoted) → ReadsOn front true [] total → Some (front, []) ≡ total
-ended front total h = ap (λ (text : List ℕ). Some (text, [])) (sym (append-nil front)) ∙ h

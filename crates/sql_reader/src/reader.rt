@@ -11,7 +11,7 @@ ghost use Rattle.sql_reader.specs.Faults.{place, IsFirst, KeepsLimits, Spells, I
 ghost use Rattle.orca_base.specs.Checked.{Gives};
 ghost use Rattle.sql_reader.specs.Readable.{IsReadable};
 ghost use Rattle.sql_reader.specs.Spellable.{IsPlain};
-ghost use Rattle.sql_reader.specs.Outcome.{bad_byte, first_bad, stuck_at, sooner, earlier, outcome};
+ghost use Rattle.sql_reader.specs.Outcome.{bad_byte, first_bad, stuck_at, sooner, earlier, accepted, outcome};
 
 use crate::clauses::query;
 use crate::faults::SqlFault;
@@ -133,6 +133,16 @@ fn refusal(
     }
 }
 
+/// The query, unless a fault stands before its end.
+fn accepted(before: Option<SqlFault>, select: Select) -> Result<Select, SqlFault>
+    ensures { result ≡ accepted before select }
+{
+    match before {
+        Some(fault) => Err(fault),
+        None => Ok(select),
+    }
+}
+
 /// What the parser says, or a fault that stands before it.
 fn answer(
     alloc: Global,
@@ -142,13 +152,13 @@ fn answer(
 ) -> Result<Select, SqlFault>
     ensures { Gives SqlFault.Memory (outcome before (parse_at tokens) end) result }
 {
-    match parse(alloc, &mut tokens) {
-        Ok(select) => match before {
-            Some(fault) => Err(fault),
-            None => Ok(select),
-        },
+    let answer = match parse(alloc, &mut tokens) {
+        Ok(select) => accepted(before, select),
         Err(stop) => refusal(before, stop, &tokens, end),
-    }
+    };
+    // Let go of here alone, and not at each way out, so that the prover meets it once.
+    drop(tokens);
+    answer
 }
 
 /// The query that a text is. Its reading, or its first fault unless memory ran out.

@@ -1,4 +1,4 @@
-use Rattle.std.proofs.Common.{◌≡◌, ◌≤◌, ◌++◌, ◌∷◌, [], true, false, rules}
+use Rattle.std.proofs.Common.{◌≡◌, ◌++◌, ◌∷◌, [], true, false, rules}
 use Rattle.std.specs.Prelude.{is_none}
 use Rattle.sql_reader.specs.Steps.{elements_at}
 use Rattle.sql_reader.proofs.Loop.{goes_on, ends, refuses}

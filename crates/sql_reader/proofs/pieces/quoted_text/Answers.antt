@@ -1,8 +1,8 @@
-use Rattle.std.proofs.Common.{◌≡◌, ◌++◌, ◌∷◌, [], true, false, string_bytes, sym, rules}
+use Rattle.std.proofs.Common.{◌≡◌, ◌++◌, ◌∷◌, [], false, string_bytes, sym, rules}
 use Rattle.std.specs.Option.{option_map}
 use Rattle.sql_reader.specs.Lexing.{shown}
 use Rattle.sql_reader.specs.Cutting.{quoted_from, shown_text}
-use Rattle.sql_reader.proofs.Quotes.{ReadsOn, part, may_close, closed, ended}
+use Rattle.sql_reader.proofs.Quotes.{ReadsOn, part, may_close, closed}
 use Rattle.sql_reader.proofs.pieces.quoted_text.Goals as goal
 
 -- the byte is part of the text
