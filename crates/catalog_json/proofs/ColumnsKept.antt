@@ -35,7 +35,7 @@ column_kept t before d column so_far e =
     let ndv = bind_ok (number_at 0 trillion (places.Ndv t at) (get (codes "ndv") object.0)) (λ ndv. done (record { name = name.0; ndv = ndv })) column name.2 in
     let new = new_name_kept (places.ColumnName t at) (map (λ c. c.name) before) (get (codes "name") object.0) name.0 name.1 in
     let made : ColumnInfo = record { name = name.0; ndv = ndv.0 } in
-    subst (λ (c : ColumnInfo). AreColumns (before ++ c ∷ [])) (ok_is made column ndv.2) (record {
+    subst (λ (c : ColumnInfo). AreColumns (before ++ c ∷ [])) {x = made} (ok_is made column ndv.2) (record {
       all_are = All-push IsColumn before made so_far.all_are (record { named = new.0; values = below trillion ndv.0 (number_kept 0 trillion (places.Ndv t at) (get (codes "ndv") object.0) ndv.0 ndv.1) });
       differ = rw (map_push (λ (c : ColumnInfo). c.name) before made) (differ_push bytes_eq nat_list_eq_equiv.symm (map (λ c. c.name) before) name.0 so_far.differ new.1);
     })

@@ -43,7 +43,7 @@ table_kept before d table so_far e =
     let are = columns_kept t (get (codes "columns") o) columns.0 columns.1 in
     let listed = rw width at (indexes_kept t (texts columns.0) (get (codes "indexes") o) indexes.0 indexes.1) in
     let made : TableInfo = record { name = name.0; rows = rows.0; placing = placing.0; columns = columns.0; indexes = indexes.0 } in
-    subst (λ (x : TableInfo). AreTables (before ++ x ∷ [])) (ok_is made table indexes.2) (record {
+    subst (λ (x : TableInfo). AreTables (before ++ x ∷ [])) {x = made} (ok_is made table indexes.2) (record {
       all_are = All-push IsTable before made so_far.all_are (record {
         named = new.0;
         counted = below trillion rows.0 (number_kept 0 trillion (places.Rows t) (get (codes "rows") o) rows.0 rows.1);

@@ -27,7 +27,7 @@ pub enum CatalogFault {
 }
 
 /// The first fault of the walk, with its place.
-#[derive(Clone, Copy, Debug, PartialEq, Eq)]
+#[derive(Clone, Copy)]
 pub enum Fault {
     Shape(Place),
     Version(u64),

@@ -1,12 +1,12 @@
 //! Places in a catalogue's JSON value, and their pointers.
 ghost use Rattle.std.specs.Prelude.{◌≡◌, ◌++◌, codes, decimal, IfOk, string_bytes};
-ghost use Rattle.catalog_json.specs.Place.{pointer_of, list_pointer, listed_pointer};
+ghost use Rattle.catalog_json.specs.Place.{in_table, in_column, pointer_of, list_pointer, listed_pointer};
 
 use orca_base::Text;
 use std::alloc::{AllocError, Global};
 
 /// A list of column names, in the table with this number.
-#[derive(Clone, Copy, Debug, PartialEq, Eq)]
+#[derive(Clone, Copy)]
 pub enum NameList {
     Distribution(usize),
     /// The index with the second number.
@@ -14,7 +14,7 @@ pub enum NameList {
 }
 
 /// A part of a catalogue: the first number is the table's, the second the column's.
-#[derive(Clone, Copy, Debug, PartialEq, Eq)]
+#[derive(Clone, Copy)]
 pub enum Place {
     Whole,
     Version,
@@ -39,13 +39,32 @@ fn numbered(alloc: Global, front: &str, i: usize) -> Result<String, AllocError>
     format!(in alloc; "{front}/{i}")
 }
 
+fn in_table(alloc: Global, t: usize, rest: &str) -> Result<String, AllocError>
+    ensures { IfOk result (λ text. string_bytes text ≡ in_table t rest.now) }
+{
+    format!(in alloc; "/tables/{t}{rest}")
+}
+
+/// The part of table t with a number behind this text.
+fn numbered_in_table(alloc: Global, t: usize, list: &str, i: usize) -> Result<String, AllocError>
+    ensures { IfOk result (λ text. string_bytes text ≡ in_table t (list.now ++ decimal i)) }
+{
+    format!(in alloc; "/tables/{t}{list}{i}")
+}
+
+fn in_column(alloc: Global, t: usize, c: usize, rest: &str) -> Result<String, AllocError>
+    ensures { IfOk result (λ text. string_bytes text ≡ in_column t c rest.now) }
+{
+    format!(in alloc; "/tables/{t}/columns/{c}{rest}")
+}
+
 impl NameList {
     fn pointer(self, alloc: Global) -> Result<String, AllocError>
         ensures { IfOk result (λ text. string_bytes text ≡ list_pointer self) }
     {
         match self {
-            NameList::Distribution(t) => format!(in alloc; "/tables/{t}/distribution"),
-            NameList::Index(t, n) => format!(in alloc; "/tables/{t}/indexes/{n}"),
+            NameList::Distribution(t) => in_table(alloc, t, "/distribution"),
+            NameList::Index(t, n) => numbered_in_table(alloc, t, "/indexes/", n),
         }
     }
 
@@ -72,14 +91,14 @@ impl Place {
             Place::Version => String::from_str(alloc, "/version"),
             Place::Segments => String::from_str(alloc, "/segments"),
             Place::Tables => String::from_str(alloc, "/tables"),
-            Place::Table(t) => format!(in alloc; "/tables/{t}"),
-            Place::TableName(t) => format!(in alloc; "/tables/{t}/name"),
-            Place::Rows(t) => format!(in alloc; "/tables/{t}/rows"),
-            Place::Columns(t) => format!(in alloc; "/tables/{t}/columns"),
-            Place::Column(t, c) => format!(in alloc; "/tables/{t}/columns/{c}"),
-            Place::ColumnName(t, c) => format!(in alloc; "/tables/{t}/columns/{c}/name"),
-            Place::Ndv(t, c) => format!(in alloc; "/tables/{t}/columns/{c}/ndv"),
-            Place::Indexes(t) => format!(in alloc; "/tables/{t}/indexes"),
+            Place::Table(t) => numbered(alloc, "/tables", t),
+            Place::TableName(t) => in_table(alloc, t, "/name"),
+            Place::Rows(t) => in_table(alloc, t, "/rows"),
+            Place::Columns(t) => in_table(alloc, t, "/columns"),
+            Place::Column(t, c) => numbered_in_table(alloc, t, "/columns/", c),
+            Place::ColumnName(t, c) => in_column(alloc, t, c, "/name"),
+            Place::Ndv(t, c) => in_column(alloc, t, c, "/ndv"),
+            Place::Indexes(t) => in_table(alloc, t, "/indexes"),
             Place::Names(list) => list.pointer(alloc),
             Place::Listed(list, i) => list.element_pointer(alloc, i),
         }
