@@ -14,7 +14,7 @@ use std::sync::Wait;
 use std::thread::Threads;
 
 /// What the search of a query gave: the words of its members and its goals, and the worker of each goal.
-#[derive(Clone, Copy, Debug)]
+#[derive(Clone, Copy)]
 pub struct Search<'a> {
     pub query: &'a Query,
     pub props: &'a Props,

@@ -14,7 +14,7 @@ use std::alloc::{AllocError, Global};
 use xform_rules::members_are_known;
 
 /// What may be asked for behind the plan.
-#[derive(Clone, Copy, Debug)]
+#[derive(Clone, Copy)]
 pub enum Section {
     /// The groups and their members.
     Memo,
