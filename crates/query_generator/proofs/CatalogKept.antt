@@ -8,6 +8,7 @@ use Rattle.query_core.specs.Catalog.{trillion, is_catalog_name, IsColumn, IsPlac
 use Rattle.query_core.specs.Differ.{texts_differ}
 use Rattle.query_generator.specs.Draws.{draw}
 use Rattle.query_generator.specs.Catalog.{table_name, columns_with, table_with, table_of, catalog_of}
+use Rattle.query_generator.proofs.Throughout.{in_range}
 
 pub draw_below : (number count : ℕ) → draw number count < 65537
 unfolding draw
@@ -16,15 +17,7 @@ draw_below number (suc count) = omega arith
 
 name_kept : (i : ℕ) → i < 8 → is_catalog_name (table_name i) ≡ true
 unfolding digits
-name_kept zero h = refl
-name_kept (suc zero) h = refl
-name_kept (suc (suc zero)) h = refl
-name_kept (suc (suc (suc zero))) h = refl
-name_kept (suc (suc (suc (suc zero)))) h = refl
-name_kept (suc (suc (suc (suc (suc zero))))) h = refl
-name_kept (suc (suc (suc (suc (suc (suc zero)))))) h = refl
-name_kept (suc (suc (suc (suc (suc (suc (suc zero))))))) h = refl
-name_kept (suc (suc (suc (suc (suc (suc (suc (suc i)))))))) h = absurd (omega arith)
+name_kept i h = in_range (λ i. is_catalog_name (table_name i)) 0 8 i refl (omega arith) (omega arith)
 
 column_kept : (rows values : ℕ) → rows ≤ trillion → values ≤ trillion → All IsColumn (columns_with rows values)
 column_kept rows values few fewer zero d h = record { named = refl; values = few }
@@ -56,16 +49,7 @@ tables_kept number a (suc n) h (suc k) d within = tables_kept number (a + 1) n (
 
 names_differ : (number n : ℕ) → n ≤ 8 → texts_differ (map (λ t. t.name) (map (table_of number) (range_with_len 0 n))) ≡ true
 unfolding digits
-names_differ number zero h = refl
-names_differ number (suc zero) h = refl
-names_differ number (suc (suc zero)) h = refl
-names_differ number (suc (suc (suc zero))) h = refl
-names_differ number (suc (suc (suc (suc zero)))) h = refl
-names_differ number (suc (suc (suc (suc (suc zero))))) h = refl
-names_differ number (suc (suc (suc (suc (suc (suc zero)))))) h = refl
-names_differ number (suc (suc (suc (suc (suc (suc (suc zero))))))) h = refl
-names_differ number (suc (suc (suc (suc (suc (suc (suc (suc zero)))))))) h = refl
-names_differ number (suc (suc (suc (suc (suc (suc (suc (suc (suc n))))))))) h = absurd (omega arith)
+names_differ number n h = in_range (λ n. texts_differ (map (λ t. t.name) (map (table_of number) (range_with_len 0 n)))) 0 9 n refl (omega arith) (omega arith)
 
 table_count : (number n : ℕ) → n ≤ 8 → length (map (table_of number) (range_with_len 0 n)) ≤ 1000
 table_count number n h = rw (length-map-range_with_len (table_of number) 0 n) (omega arith)

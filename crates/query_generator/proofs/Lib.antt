@@ -1,3 +1,4 @@
+pub mod Throughout
 pub mod Ranges
 pub mod CatalogKept
 pub mod CatalogShort

@@ -1,8 +1,8 @@
 -- Where the predicates link each table to a lesser one, no TRUE link is wanted.
-use Rattle.std.proofs.Common.{◌≡◌, ℕ, zero, suc, ◌+◌, ◌-◌, ◌^◌, ◌<◌, ◌≤◌, ◌&&◌, Bool, true, List, [], length, nat_lt, inl, inr, refl, arith, subst, sym}
+use Rattle.std.proofs.Common.{◌≡◌, ℕ, zero, suc, ◌-◌, ◌^◌, ◌<◌, ◌≤◌, ◌&&◌, Bool, true, List, [], length, nat_lt, refl, arith, subst, sym}
 use Rattle.std.specs.List.{list_all, range_with_len}
 use Rattle.std.proofs.Math.Seq.{take-length, drop-length}
-use Rattle.std.proofs.lemmas.Bool.{and_parts, cases_eq, false≢true, ltb-true}
+use Rattle.std.proofs.lemmas.Bool.{and_parts, false≢true, ltb-true}
 use Rattle.std.proofs.lemmas.Nat.Bits.{bit_at_ones}
 use Rattle.query_core.specs.declared.predicate.Link.{Link}
 use Rattle.query_core.specs.declared.predicate.Pred.{Pred}
@@ -11,20 +11,11 @@ use Rattle.query_core.specs.declared.table.QueryTable.{QueryTable}
 use Rattle.query_core.specs.Connected.{are_joined, Reaches, here, along}
 use Rattle.query_core.specs.Sets.{bit, Has}
 use Rattle.query_core.specs.Links.{AreLinks, AreTrueLinks, StartsComponent, is_between, predicate_links}
+use Rattle.query_generator.proofs.Throughout.{in_range}
 
 -- the table is joined to a lesser one
 abbrev pub leads : List Link → (ℕ → ℕ) → ℕ → Bool
 leads links lesser t = are_joined links t (lesser t) && nat_lt (lesser t) t
-
--- what all numbers of a range pass
-pub in_range : (test : ℕ → Bool) (a n t : ℕ) → list_all test (range_with_len a n) ≡ true → a ≤ t → t < a + n → test t ≡ true
-in_range test a zero t all from below = absurd (omega arith)
-in_range test a (suc n) t all from below =
-    let parts = and_parts (test a) (list_all test (range_with_len (a + 1) n)) all in
-    elim (cases_eq a t) [
-      | inl same ↦ subst (λ k. test k ≡ true) same parts.0
-      | inr other ↦ in_range test (a + 1) n t parts.1 (omega (arith, other)) (omega arith)
-    ]
 
 first_tables : (count t : ℕ) → t < count → Has (2 ^ count - 1) t
 unfolding bit

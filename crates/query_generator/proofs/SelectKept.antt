@@ -1,12 +1,14 @@
 -- The query of a shape can be spelled, and its text isn't too long to be read.
-use Rattle.std.proofs.Common.{◌≡◌, ℕ, zero, suc, ◌+◌, ◌^◌, ◌<◌, ◌≤◌, true, map, length, codes, refl, arith, lit≤}
+use Rattle.std.proofs.Common.{◌≡◌, ℕ, zero, suc, ◌+◌, ◌^◌, ◌<◌, ◌≤◌, ◌&&◌, Bool, true, None, map, length, nat_lt, codes, refl, arith}
 use Rattle.std.specs.Fmt.{digits}
 use Rattle.std.specs.List.{list_all, range_with_len}
+use Rattle.std.proofs.lemmas.Bool.{and_parts, ltb-true}
 use Rattle.std.proofs.lemmas.List.FromFn.{length-map-range_with_len}
+use Rattle.orca_base.specs.Name.{has_name_form}
 use Rattle.sql_reader.specs.declared.syntax.Select.{Select}
 use Rattle.sql_reader.specs.Readable.{IsReadable, is_table}
 use Rattle.sql_reader.specs.Words.{word_of}
-use Rattle.sql_reader.specs.Spellable.{IsSpellable, IsSpellableName, IsSpellableTable, IsSpellablePred, Each, OneOrMore}
+use Rattle.sql_reader.specs.Spellable.{is_plain, IsSpellable, IsSpellableName, IsSpellableTable, IsSpellablePred, Each, OneOrMore}
 use Rattle.sql_print.specs.Canonical.{canonical_text}
 use Rattle.sql_print.specs.Unplaced.{unplaced}
 use Rattle.query_generator.specs.declared.shape.GenShape.{GenShape}
@@ -14,20 +16,17 @@ use Rattle.query_generator.specs.declared.shape.GenShape.TheVariants.{Chain, Sta
 use Rattle.query_generator.specs.Catalog.{table_name}
 use Rattle.query_generator.specs.Select.{from_of, join_of, select_of}
 use Rattle.query_generator.proofs.Joins.{each_join}
+use Rattle.query_generator.proofs.Throughout.{in_range, same_in_range}
 
 -- ---- names
 
 name_spelled : (i : ℕ) → i < 8 → IsSpellableName (table_name i)
 unfolding digits word_of
-name_spelled zero h = (refl, refl, refl)
-name_spelled (suc zero) h = (refl, refl, refl)
-name_spelled (suc (suc zero)) h = (refl, refl, refl)
-name_spelled (suc (suc (suc zero))) h = (refl, refl, refl)
-name_spelled (suc (suc (suc (suc zero)))) h = (refl, refl, refl)
-name_spelled (suc (suc (suc (suc (suc zero))))) h = (refl, refl, refl)
-name_spelled (suc (suc (suc (suc (suc (suc zero)))))) h = (refl, refl, refl)
-name_spelled (suc (suc (suc (suc (suc (suc (suc zero))))))) h = (refl, refl, refl)
-name_spelled (suc (suc (suc (suc (suc (suc (suc (suc i)))))))) h = absurd (omega arith)
+name_spelled i h = (
+  in_range (λ i. has_name_form (table_name i)) 0 8 i refl (omega arith) (omega arith),
+  same_in_range (λ i. word_of (table_name i)) (λ i. None) 0 8 i refl (omega arith) (omega arith),
+  in_range (λ i. list_all is_plain (table_name i)) 0 8 i refl (omega arith) (omega arith),
+)
 
 id_spelled : IsSpellableName (codes "id")
 unfolding word_of
@@ -68,38 +67,33 @@ pub record IsPlainSelect (select : Select) : Type 0 where
   pub placed : unplaced select ≡ select
   pub short : length (canonical_text select) ≤ 2 ^ 16
 
-pub plain_select : (shape : GenShape) (tables : ℕ) → 1 ≤ tables → tables ≤ 8 → IsPlainSelect (select_of shape tables)
+-- few joins, tables with the form of a name, and a short text, as one test
+abbrev is_plain_at : GenShape → ℕ → Bool
+is_plain_at shape t = nat_lt (length (select_of shape t).preds) 41
+    && (list_all is_table (select_of shape t).from && nat_lt (length (canonical_text (select_of shape t))) (2 ^ 16 + 1))
+
+all_plain : (shape : GenShape) → list_all (is_plain_at shape) (range_with_len 1 8) ≡ true
 unfolding digits
-plain_select Chain zero some few = absurd (omega arith)
-plain_select Chain (suc zero) some few = record { few_preds = lit≤ tt; tables = refl; placed = refl; short = lit≤ tt }
-plain_select Chain (suc (suc zero)) some few = record { few_preds = lit≤ tt; tables = refl; placed = refl; short = lit≤ tt }
-plain_select Chain (suc (suc (suc zero))) some few = record { few_preds = lit≤ tt; tables = refl; placed = refl; short = lit≤ tt }
-plain_select Chain (suc (suc (suc (suc zero)))) some few = record { few_preds = lit≤ tt; tables = refl; placed = refl; short = lit≤ tt }
-plain_select Chain (suc (suc (suc (suc (suc zero))))) some few = record { few_preds = lit≤ tt; tables = refl; placed = refl; short = lit≤ tt }
-plain_select Chain (suc (suc (suc (suc (suc (suc zero)))))) some few = record { few_preds = lit≤ tt; tables = refl; placed = refl; short = lit≤ tt }
-plain_select Chain (suc (suc (suc (suc (suc (suc (suc zero))))))) some few = record { few_preds = lit≤ tt; tables = refl; placed = refl; short = lit≤ tt }
-plain_select Chain (suc (suc (suc (suc (suc (suc (suc (suc zero)))))))) some few = record { few_preds = lit≤ tt; tables = refl; placed = refl; short = lit≤ tt }
-plain_select Chain (suc (suc (suc (suc (suc (suc (suc (suc (suc tables))))))))) some few = absurd (omega arith)
-plain_select Star zero some few = absurd (omega arith)
-plain_select Star (suc zero) some few = record { few_preds = lit≤ tt; tables = refl; placed = refl; short = lit≤ tt }
-plain_select Star (suc (suc zero)) some few = record { few_preds = lit≤ tt; tables = refl; placed = refl; short = lit≤ tt }
-plain_select Star (suc (suc (suc zero))) some few = record { few_preds = lit≤ tt; tables = refl; placed = refl; short = lit≤ tt }
-plain_select Star (suc (suc (suc (suc zero)))) some few = record { few_preds = lit≤ tt; tables = refl; placed = refl; short = lit≤ tt }
-plain_select Star (suc (suc (suc (suc (suc zero))))) some few = record { few_preds = lit≤ tt; tables = refl; placed = refl; short = lit≤ tt }
-plain_select Star (suc (suc (suc (suc (suc (suc zero)))))) some few = record { few_preds = lit≤ tt; tables = refl; placed = refl; short = lit≤ tt }
-plain_select Star (suc (suc (suc (suc (suc (suc (suc zero))))))) some few = record { few_preds = lit≤ tt; tables = refl; placed = refl; short = lit≤ tt }
-plain_select Star (suc (suc (suc (suc (suc (suc (suc (suc zero)))))))) some few = record { few_preds = lit≤ tt; tables = refl; placed = refl; short = lit≤ tt }
-plain_select Star (suc (suc (suc (suc (suc (suc (suc (suc (suc tables))))))))) some few = absurd (omega arith)
-plain_select Clique zero some few = absurd (omega arith)
-plain_select Clique (suc zero) some few = record { few_preds = lit≤ tt; tables = refl; placed = refl; short = lit≤ tt }
-plain_select Clique (suc (suc zero)) some few = record { few_preds = lit≤ tt; tables = refl; placed = refl; short = lit≤ tt }
-plain_select Clique (suc (suc (suc zero))) some few = record { few_preds = lit≤ tt; tables = refl; placed = refl; short = lit≤ tt }
-plain_select Clique (suc (suc (suc (suc zero)))) some few = record { few_preds = lit≤ tt; tables = refl; placed = refl; short = lit≤ tt }
-plain_select Clique (suc (suc (suc (suc (suc zero))))) some few = record { few_preds = lit≤ tt; tables = refl; placed = refl; short = lit≤ tt }
-plain_select Clique (suc (suc (suc (suc (suc (suc zero)))))) some few = record { few_preds = lit≤ tt; tables = refl; placed = refl; short = lit≤ tt }
-plain_select Clique (suc (suc (suc (suc (suc (suc (suc zero))))))) some few = record { few_preds = lit≤ tt; tables = refl; placed = refl; short = lit≤ tt }
-plain_select Clique (suc (suc (suc (suc (suc (suc (suc (suc zero)))))))) some few = record { few_preds = lit≤ tt; tables = refl; placed = refl; short = lit≤ tt }
-plain_select Clique (suc (suc (suc (suc (suc (suc (suc (suc (suc tables))))))))) some few = absurd (omega arith)
+all_plain Chain = refl
+all_plain Star = refl
+all_plain Clique = refl
+
+all_placed : (shape : GenShape) → map (λ t. unplaced (select_of shape t)) (range_with_len 1 8) ≡ map (select_of shape) (range_with_len 1 8)
+all_placed Chain = refl
+all_placed Star = refl
+all_placed Clique = refl
+
+pub plain_select : (shape : GenShape) (tables : ℕ) → 1 ≤ tables → tables ≤ 8 → IsPlainSelect (select_of shape tables)
+plain_select shape tables some few =
+    let select : Select = select_of shape tables in
+    let few_preds = and_parts (nat_lt (length select.preds) 41) _ (in_range (is_plain_at shape) 1 8 tables (all_plain shape) some (omega arith)) in
+    let others = and_parts (list_all is_table select.from) (nat_lt (length (canonical_text select)) (2 ^ 16 + 1)) few_preds.1 in
+    record {
+      few_preds = omega (arith, ltb-true (length select.preds) 41 few_preds.0);
+      tables = others.0;
+      placed = same_in_range (λ t. unplaced (select_of shape t)) (select_of shape) 1 8 tables (all_placed shape) some (omega arith);
+      short = omega (arith, ltb-true (length (canonical_text select)) (2 ^ 16 + 1) others.1);
+    }
 
 pub select_kept : (shape : GenShape) (tables : ℕ) → 1 ≤ tables → tables ≤ 8 → IsReadable (select_of shape tables)
 select_kept shape tables some few =
