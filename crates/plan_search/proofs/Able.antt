@@ -13,7 +13,7 @@ use Rattle.plan_space.specs.Lines.{line_of}
 use Rattle.plan_space.specs.Alternatives.{LineServes}
 use Rattle.plan_tree.specs.Alternatives.{MayGive}
 use Rattle.plan_search.specs.declared.native.Native.{Native}
-use Rattle.plan_search.specs.Search.{IsNative, AreNative, RisesFrom, mode_number, IsIn, AreListed, AreListedFor, AreThoseFor}
+use Rattle.plan_search.specs.Natives.{IsNative, AreNative, RisesFrom, mode_number, IsIn, AreListed, AreListedFor, AreThoseFor}
 use Rattle.plan_search.proofs.Tried.{rises_less, take_more}
 
 -- a line that serves a request may give its distribution

@@ -17,7 +17,7 @@ use Rattle.plan_search.specs.declared.choice.Choice.{Choice}
 use Rattle.plan_space.specs.Cost.{most_of_all}
 use Rattle.plan_space.specs.Laws.{LeastCostsFit}
 use Rattle.plan_search.specs.Places.{place_of}
-use Rattle.plan_search.specs.Search.{IsKept, IsAnswered, AreAnswered, kept_at, cost_at}
+use Rattle.plan_search.specs.KeptPlans.{IsKept, IsAnswered, AreAnswered, kept_at, cost_at}
 use Rattle.plan_search.proofs.RequestPlaces.{request_small}
 
 module _ (q : Query) (answers : KeptPlans) where

@@ -10,7 +10,7 @@ use Rattle.plan_space.specs.declared.nodes.NodeKind.TheVariants as nodes
 use Rattle.plan_space.specs.Nodes.{number_of}
 use Rattle.plan_space.specs.Lines.{request}
 use Rattle.plan_space.specs.Enforcers.{EnforcedBy, enforced, enforcers_by, enforcers_of}
-use Rattle.plan_search.specs.Search.{enforcer_number}
+use Rattle.plan_search.specs.BestSoFar.{enforcer_number}
 
 abbrev number_at : List EnforcedBy → ℕ → ℕ
 number_at list n = option_map_or (λ e. number_of (nodes.Enforcer e.node)) (slice_get list n) (2 ^ 56)

@@ -29,7 +29,8 @@ use Rattle.plan_search.specs.declared.kept_plans.KeptPlans.{KeptPlans}
 use Rattle.plan_search.specs.declared.choice.PlansBelow.{PlansBelow}
 use Rattle.plan_search.specs.declared.choice.Choice.{Choice}
 use Rattle.plan_search.specs.Places.{place_of}
-use Rattle.plan_search.specs.Search.{IsAnswered, AreAnswered, IsChosen, kept_at, cost_at, choice_over, IsPlanAt, cheaper_of, GoesOverPlace, GoesOverEnforcers, IsPlaceSettled, AreEnforcersSettled, enforcer_number}
+use Rattle.plan_search.specs.KeptPlans.{IsAnswered, AreAnswered, kept_at, cost_at, IsPlanAt}
+use Rattle.plan_search.specs.BestSoFar.{IsChosen, choice_over, cheaper_of, GoesOverPlace, GoesOverEnforcers, IsPlaceSettled, AreEnforcersSettled, enforcer_number}
 use Rattle.plan_search.proofs.EnforcerNumbers.{next_number_at, two_numbers}
 use Rattle.plan_search.proofs.Answered.{none_case, some_case, cost_small}
 use Rattle.plan_search.proofs.Scanning.{IsOrder, IsStable, goes_on, goes_as, goes_to, goes_from, goes_not, goes_by_one, enforcer_stable}

@@ -18,15 +18,18 @@ use Rattle.request_props.specs.declared.request.Dist.TheVariants.{One, Spread, C
 use Rattle.request_props.specs.declared.request.Request.{Request}
 use Rattle.request_props.specs.Fitting.{Fits}
 use Rattle.plan_space.specs.Nodes.{Tree}
+use Rattle.plan_space.specs.Least.{HasNoPlan}
 use Rattle.plan_space.specs.Enforcers.{enforcers_of}
 use Rattle.plan_space.specs.Choices.{BestServes, IsModeSettled}
 use Rattle.plan_space.specs.Laws.{SettledIsLeast}
-use Rattle.plan_search.proofs.Answered.{some_case}
+use Rattle.plan_search.proofs.Answered.{none_case, some_case}
 use Rattle.plan_search.specs.declared.kept_plans.KeptPlans.{KeptPlans}
 use Rattle.plan_search.specs.declared.choice.Choice.{Choice}
 use Rattle.plan_search.specs.declared.native.Native.{Native}
 use Rattle.plan_search.specs.Places.{dist_place, request_place, first_place, place_of}
-use Rattle.plan_search.specs.Search.{kept_at, IsKept, IsAnswerFor, answer_at, AreAnswered, IsBestChoice, IsBestSoFar, GoesOverEnforcers, GoesOverAll, AreEnforcersSettled, AreListedFor, AreSettledIn, HasMode}
+use Rattle.plan_search.specs.KeptPlans.{kept_at, IsKept, IsAnswerFor, IsAnswered, answer_at, AreAnswered}
+use Rattle.plan_search.specs.Natives.{AreListedFor, HasMode}
+use Rattle.plan_search.specs.BestSoFar.{IsBestChoice, IsBestSoFar, GoesOverEnforcers, GoesOverAll, AreEnforcersSettled, AreSettledIn}
 use Rattle.plan_search.proofs.RequestPlaces.{request_small}
 use Rattle.plan_search.proofs.Able.{serves_gives}
 use Rattle.plan_search.proofs.Standing.{stands_on, built_stands}
@@ -184,10 +187,23 @@ answered_key q props is_props answers key none answered g r known fits less =
 
 -- ---- all requests
 
--- where all requests of groups with keys below a bound are answered, the plan that is kept at a request's place is the least for it
+-- where all requests of groups with keys below a bound are answered, each of them is
+all_answered : (q : Query) (props : Props) → IsProps q props → (answers : KeptPlans) (group : KeyParts) (wanted : Request) (bound : ℕ) → key_number group < bound
+    → AreAnswered q answers (first_place bound) → IsGroup q group → Fits q group wanted → IsAnswered q answers group wanted
+all_answered q props is_props answers group wanted bound below answered known fits =
+    let small = request_small q group props wanted is_props fits in
+    answered group wanted known fits (omega (arith, small, below))
+
+-- so the plan that is kept at its place is the least for it
 pub kept_found : (q : Query) (props : Props) → IsProps q props → (answers : KeptPlans) (kept : Choice) (group : KeyParts) (wanted : Request) (bound : ℕ)
     → key_number group < bound → AreAnswered q answers (first_place bound) → IsGroup q group → Fits q group wanted → kept_at answers (place_of group wanted) ≡ Some kept
     → (tree : Tree) × IsKept q answers group wanted kept tree
 kept_found q props is_props answers kept group wanted bound below answered known fits at =
-    let small = request_small q group props wanted is_props fits in
-    some_case q answers group wanted kept (answered group wanted known fits (omega (arith, small, below))) at
+    some_case q answers group wanted kept (all_answered q props is_props answers group wanted bound below answered known fits) at
+
+-- and where none is kept there is none
+pub none_found : (q : Query) (props : Props) → IsProps q props → (answers : KeptPlans) (group : KeyParts) (wanted : Request) (bound : ℕ) → key_number group < bound
+    → AreAnswered q answers (first_place bound) → IsGroup q group → Fits q group wanted → kept_at answers (place_of group wanted) ≡ None
+    → HasNoPlan (IsMember q) q group wanted
+none_found q props is_props answers group wanted bound below answered known fits at =
+    none_case q answers group wanted (all_answered q props is_props answers group wanted bound below answered known fits) at

@@ -29,7 +29,8 @@ use Rattle.plan_tree.specs.declared.alternatives.Alt.{Alt}
 use Rattle.plan_tree.specs.Alternatives.{IsAltBy, IsAltIn}
 use Rattle.plan_search.specs.Places.{place_of, place_at, place_asked}
 use Rattle.plan_search.specs.declared.choice.Choice.{Choice}
-use Rattle.plan_search.specs.Search.{IsAnswered, AreAnswered, kept_at, cost_at, IsNative, asked_cost}
+use Rattle.plan_search.specs.KeptPlans.{IsAnswered, AreAnswered, kept_at, cost_at, asked_cost}
+use Rattle.plan_search.specs.Natives.{IsNative}
 use Rattle.plan_search.proofs.Answered.{some_case, cost_small, kid_before, kid_answered}
 use Rattle.plan_search.proofs.Asked.{asked_one, asked_two}
 

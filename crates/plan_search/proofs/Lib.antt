@@ -1,5 +1,6 @@
 pub mod WordLists
 pub mod Growing
+pub mod FoundSteps
 pub mod Scanning
 pub mod RequestPlaces
 pub mod Standing

@@ -20,7 +20,7 @@ use Rattle.plan_space.specs.Lines.{line_of}
 use Rattle.plan_tree.specs.Costs.{AreRowsOf}
 use Rattle.plan_tree.specs.Walks.{AreNone}
 use Rattle.plan_search.specs.declared.native.Native.{Native}
-use Rattle.plan_search.specs.Search.{IsNative, AreNative, RisesFrom, mode_number, IsIn, HasMode, IsInMode, AreInModes, AreModesOf, AddsModes, AreListed}
+use Rattle.plan_search.specs.Natives.{IsNative, AreNative, RisesFrom, mode_number, IsIn, HasMode, IsInMode, AreInModes, AreModesOf, AddsModes, AreListed}
 use Rattle.plan_search.proofs.Tried.{rises_less}
 
 -- an expression has lines in modes below 192 only

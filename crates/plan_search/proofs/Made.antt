@@ -21,7 +21,8 @@ use Rattle.plan_search.specs.declared.choice.Kids.TheVariants as kids
 use Rattle.plan_tree.specs.declared.alternatives.Alt.{Alt}
 use Rattle.plan_tree.specs.Costs.{IsNativeCost}
 use Rattle.plan_search.specs.Places.{place_asked}
-use Rattle.plan_search.specs.Search.{StandsAt, kept_at, IsLacking, IsMade, choice_over, IsPlanAt, ArePlansAt, AreFound, IsOneMissing, IsMissing}
+use Rattle.plan_search.specs.KeptPlans.{StandsAt, kept_at, IsPlanAt, ArePlansAt, AreFound, IsOneMissing, IsMissing}
+use Rattle.plan_search.specs.BestSoFar.{IsLacking, IsMade, choice_over}
 use Rattle.plan_search.proofs.Answered.{none_case, some_case}
 use Rattle.plan_search.proofs.Asked.{asked_zero}
 use Rattle.plan_search.proofs.Kids.{IsAsked, line_is, OneKid, one_kid, TwoKids, two_kids}

@@ -20,7 +20,7 @@ use Rattle.plan_search.specs.declared.choice.Kids.TheVariants as kids
 use Rattle.plan_search.specs.declared.kept_plans.KeptPlans.{KeptPlans}
 use Rattle.plan_search.specs.declared.choice.Choice.{Choice}
 use Rattle.plan_search.specs.Places.{place_of}
-use Rattle.plan_search.specs.Search.{IsBuilt, IsMade, IsChosen, IsRootBelow, root_number, Improves, IsLater, Goes, cheaper_of}
+use Rattle.plan_search.specs.BestSoFar.{IsBuilt, IsMade, IsChosen, IsRootBelow, root_number, Improves, IsLater, Goes, cheaper_of}
 
 -- plans are in order
 pub record IsOrder (q : Query) : Type 0 where

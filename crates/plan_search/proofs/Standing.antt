@@ -9,7 +9,8 @@ use Rattle.plan_search.specs.declared.kept_plans.KeptPlans.{KeptPlans}
 use Rattle.plan_search.specs.declared.choice.Choice.{Choice}
 use Rattle.plan_search.specs.declared.choice.Kids.{Kids}
 use Rattle.plan_search.specs.declared.choice.Kids.TheVariants as kids
-use Rattle.plan_search.specs.Search.{answer_at, kept_at, IsRootAt, StandsAt, IsBuilt}
+use Rattle.plan_search.specs.KeptPlans.{answer_at, kept_at, IsRootAt, StandsAt}
+use Rattle.plan_search.specs.BestSoFar.{IsBuilt}
 
 answer_is : (answer : Option (Option Choice)) (kept : Choice) → option_and_then (λ a. a) answer ≡ Some kept → answer ≡ Some (Some kept)
 answer_is None kept is = cc

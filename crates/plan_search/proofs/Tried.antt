@@ -12,7 +12,8 @@ use Rattle.plan_space.specs.Choices.{IsModeSettled}
 use Rattle.plan_search.specs.declared.kept_plans.KeptPlans.{KeptPlans}
 use Rattle.plan_search.specs.declared.choice.Choice.{Choice}
 use Rattle.plan_search.specs.declared.native.Native.{Native}
-use Rattle.plan_search.specs.Search.{IsNative, AreNative, RisesFrom, next_number, mode_number, IsIn, AreSettledIn, Goes, GoesOver, GoesOverAll}
+use Rattle.plan_search.specs.Natives.{IsNative, AreNative, RisesFrom, mode_number, IsIn}
+use Rattle.plan_search.specs.BestSoFar.{AreSettledIn, Goes, GoesOver, GoesOverAll}
 use Rattle.plan_search.proofs.Scanning.{IsStable, goes_on, goes_to, goes_as, goes_not, mode_stable}
 
 -- each of the list is such a member
@@ -31,6 +32,11 @@ of_own_group q group p is = record {
   few = is.few;
   small = is.small;
 }
+
+-- the number of the first, or one that is above all
+abbrev pub next_number : List Native → ℕ
+next_number [] = 2 ^ 57
+next_number (p ∷ ps) = mode_number p
 
 -- numbers that rise from a bound rise from each lesser one
 pub rises_less : (bound lesser : ℕ) (list : List Native) → lesser ≤ bound → RisesFrom bound list → RisesFrom lesser list

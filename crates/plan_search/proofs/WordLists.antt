@@ -12,7 +12,7 @@ use Rattle.std.proofs.lemmas.List.Elements.{All-contains, Contains-get_or, Conta
 use Rattle.std.proofs.lemmas.List.Kept.{AllPairs-from_increasing}
 use Rattle.query_core.proofs.Rising.{rises_push}
 use Rattle.query_core.proofs.Contained.{contains_here, contains_later, contains_cases}
-use Rattle.plan_search.specs.Steps.{Covers}
+use Rattle.plan_search.specs.Steps.{AreOthers}
 use Rattle.std.proofs.Math.Nat.{eq-zero-or-pos}
 use Rattle.std.proofs.lemmas.Map.Lookups.{exact_unsigned}
 use Rattle.std.specs.declared.cmp.Ordering.TheVariants.{Less, Equal, Greater}
@@ -122,49 +122,55 @@ found_there some w (Err k) fails within holds = absurd (cc)
 
 module _ (words : List ℕ) (i : ℕ) (within : i < length words) where
   -- the words up to one more place
-  pub take_cases : (w : ℕ) → Contains (take (i + 1) words) w → Contains (take i words) w ⊎ (get_or words i 0 ≡ w)
+  take_cases : (w : ℕ) → Contains (take (i + 1) words) w → Contains (take i words) w ⊎ (get_or words i 0 ≡ w)
   take_cases w there = Contains-push_cases (take i words) (get_or words i 0) w (subst (λ xs. Contains xs w) (take_more words i 0 within) there)
 
-  pub take_earlier : (w : ℕ) → Contains (take i words) w → Contains (take (i + 1) words) w
+  take_earlier : (w : ℕ) → Contains (take i words) w → Contains (take (i + 1) words) w
   take_earlier w there = subst (λ xs. Contains xs w) (sym (take_more words i 0 within)) (contains_before (take i words) (get_or words i 0) w there)
 
-  pub take_here : Contains (take (i + 1) words) (get_or words i 0)
+  take_here : Contains (take (i + 1) words) (get_or words i 0)
   take_here = subst (λ xs. Contains xs (get_or words i 0)) (sym (take_more words i 0 within)) (Contains-push (take i words) (get_or words i 0))
 
   -- earlier ones are below
-  pub below_here : IsStrictlyIncreasing words → (w : ℕ) → Contains (take i words) w → w < get_or words i 0
+  below_here : IsStrictlyIncreasing words → (w : ℕ) → Contains (take i words) w → w < get_or words i 0
   below_here ascending w (k, inside, is) =
       let before : k < i = omega (arith, inside, length-take i words) in
       let value : get_or words k 0 ≡ w = sym (get_or-take i words k 0 before) ∙ get_or_default (take i words) k 0 w inside ∙ is in
       omega (arith, value, AllPairs-from_increasing words ascending k i 0 before within)
 
-  module _ (some new : List ℕ) (covers : Covers (take i words) some new) (part : All (Contains (take i words)) new) where
-    -- the word is one of some
-    pub covers_same : Contains some (get_or words i 0) → Covers (take (i + 1) words) some new
-    covers_same known w there = elim (take_cases w there) [
-      | inl before ↦ covers w before
-      | inr here ↦ inl (subst (Contains some) here known)
-    ]
+  -- the word is one of some, or comes
+  module _ (some new : List ℕ) (before : AreOthers (take i words) some new) where
+    pub others_same : Contains some (get_or words i 0) → AreOthers (take (i + 1) words) some new
+    others_same known = record {
+      covers = λ w there. elim (take_cases w there) [
+        | inl earlier ↦ before.covers w earlier
+        | inr here ↦ inl (subst (Contains some) here known)
+      ];
+      part = λ k d inside. take_earlier (get_or new k d) (before.part k d inside);
+      ascending = before.ascending;
+    }
 
-    pub part_same : All (Contains (take (i + 1) words)) new
-    part_same k d inside = take_earlier (get_or new k d) (part k d inside)
+    pub others_more : IsStrictlyIncreasing words → AreOthers (take (i + 1) words) some (new ++ get_or words i 0 ∷ [])
+    others_more ascending = record {
+      covers = λ w there. elim (take_cases w there) [
+        | inl earlier ↦ elim (before.covers w earlier) [
+          | inl known ↦ inl known
+          | inr taken ↦ inr (contains_before new (get_or words i 0) w taken)
+        ]
+        | inr here ↦ inr (subst (Contains (new ++ get_or words i 0 ∷ [])) here (Contains-push new (get_or words i 0)))
+      ];
+      part = λ k d inside. elim (Contains-push_cases new (get_or words i 0) _ (Contains-get_or (new ++ get_or words i 0 ∷ []) k d inside)) [
+        | inl earlier ↦ take_earlier _ (All-contains (Contains (take i words)) new _ before.part earlier)
+        | inr here ↦ subst (Contains (take (i + 1) words)) here take_here
+      ];
+      ascending =
+          rises_push new (get_or words i 0) before.ascending (λ w there. below_here ascending w (All-contains (Contains (take i words)) new w before.part there));
+    }
 
-    -- the word comes
-    pub covers_more : Covers (take (i + 1) words) some (new ++ get_or words i 0 ∷ [])
-    covers_more w there = elim (take_cases w there) [
-      | inl before ↦ elim (covers w before) [
-        | inl known ↦ inl known
-        | inr taken ↦ inr (contains_before new (get_or words i 0) w taken)
-      ]
-      | inr here ↦ inr (subst (Contains (new ++ get_or words i 0 ∷ [])) here (Contains-push new (get_or words i 0)))
-    ]
-
-    pub part_more : All (Contains (take (i + 1) words)) (new ++ get_or words i 0 ∷ [])
-    part_more k d inside = elim (Contains-push_cases new (get_or words i 0) _ (Contains-get_or (new ++ get_or words i 0 ∷ []) k d inside)) [
-      | inl before ↦ take_earlier _ (All-contains (Contains (take i words)) new _ part before)
-      | inr here ↦ subst (Contains (take (i + 1) words)) here take_here
-    ]
-
-    pub rises_more : IsStrictlyIncreasing words → IsStrictlyIncreasing new → IsStrictlyIncreasing (new ++ get_or words i 0 ∷ [])
-    rises_more ascending rises =
-        rises_push new (get_or words i 0) rises (λ w there. below_here ascending w (All-contains (Contains (take i words)) new w part there))
+-- before the first word nothing has been taken
+pub others_none : (words some : List ℕ) → AreOthers (take 0 words) some []
+others_none words some = record {
+  covers = λ w (k, within, is). absurd (omega (arith, within));
+  part = λ k d within. absurd (omega (arith, within));
+  ascending = λ k within. absurd (omega (arith, within));
+}

@@ -1,4 +1,6 @@
 pub mod Steps
 pub mod Places
-pub mod Search
+pub mod KeptPlans
+pub mod Natives
+pub mod BestSoFar
 pub mod Outcome

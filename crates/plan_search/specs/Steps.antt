@@ -1,6 +1,7 @@
 -- What a pass of the plain closure adds to the words found so far.
-use Rattle.std.specs.Prelude.{ℕ, List, length, Option, None, Some, ◌≡◌, ◌≤◌, ◌⊎◌}
-use Rattle.std.specs.List.{Contains}
+use Rattle.std.specs.Prelude.{ℕ, List, length, Option, None, Some, IfSome, ◌≡◌, ◌≤◌, ◌⊎◌}
+use Rattle.std.specs.List.{All, Contains}
+use Rattle.std.specs.List.Sorted.{IsStrictlyIncreasing}
 use Rattle.query_core.specs.Expressions.{word_of, children_of, origin_of, IsChild}
 use Rattle.query_core.specs.declared.query.Query.{Query}
 use Rattle.query_core.specs.declared.words.KeyParts.{KeyParts}
@@ -9,6 +10,16 @@ use Rattle.xform_rules.specs.declared.rules.Rule.{Rule}
 use Rattle.xform_rules.specs.Results.{HasResult}
 use Rattle.xform_rules.specs.Closure.{IsMember, IsMemberWord}
 
+-- words of members, ascending
+pub record AreMemberWords (q : Query) (words : List ℕ) : Type 0 where
+  pub members : All (IsMemberWord q) words
+  pub ascending : IsStrictlyIncreasing words
+
+-- the expression is a member, and so is the bound one, if there is one
+pub record AreMembers (q : Query) (e : ExprParts) (bound : Option ExprParts) : Type 0 where
+  pub member : IsMember q e
+  pub bound_member : IfSome bound (IsMember q)
+
 -- no word is lost, only words of members come, and where none comes all stays as it was
 pub record Grows (q : Query) (old new : List ℕ) : Type 0 where
   pub kept : (w : ℕ) → Contains old w → Contains new w
@@ -16,17 +27,30 @@ pub record Grows (q : Query) (old new : List ℕ) : Type 0 where
   pub longer : length old ≤ length new
   pub same : length new ≤ length old → new ≡ old
 
+-- words come, and then the fact holds of all
+pub record GrowsTo (q : Query) (Fact : List ℕ → Type 0) (old new : List ℕ) : Type 0 where
+  pub grows : Grows q old new
+  pub holds : Fact new
+
 -- the expression's word is found
 abbrev pub ContainsWordOf : List ℕ → ExprParts → Type 0
 ContainsWordOf found e = Contains found (word_of e)
 
--- the origin of each child's group is found
-abbrev pub HasOrigins : Query → ExprParts → List ℕ → Type 0
-HasOrigins q e found = (g : KeyParts) → IsChild (children_of e.operator) g → ContainsWordOf found (origin_of q g)
+-- the origin of the group is found
+abbrev pub HasOrigin : Query → KeyParts → List ℕ → Type 0
+HasOrigin q g found = ContainsWordOf found (origin_of q g)
 
--- each result of the rule, with this bound member or without one, is found
+-- so is that of each child's group
+abbrev pub HasOrigins : Query → ExprParts → List ℕ → Type 0
+HasOrigins q e found = (g : KeyParts) → IsChild (children_of e.operator) g → HasOrigin q g found
+
+-- the n-th result of the rule, with this bound member or without one, is found
+abbrev pub HasResultAt : Query → ExprParts → Option ExprParts → Rule → ℕ → List ℕ → Type 0
+HasResultAt q e bound rule n found = (other : ExprParts) → HasResult q rule e bound n other → ContainsWordOf found other
+
+-- so is each result of the rule
 abbrev pub HasResultsOf : Query → ExprParts → Option ExprParts → Rule → List ℕ → Type 0
-HasResultsOf q e bound rule found = (n : ℕ) (other : ExprParts) → HasResult q rule e bound n other → ContainsWordOf found other
+HasResultsOf q e bound rule found = (n : ℕ) → HasResultAt q e bound rule n found
 
 -- so is each result of each rule
 abbrev pub HasResults : Query → ExprParts → Option ExprParts → List ℕ → Type 0
@@ -53,3 +77,9 @@ AreBoundSteps q words from found = (e : ExprParts) → IsMember q e → Contains
 -- the words are those of either list
 abbrev pub Covers : List ℕ → List ℕ → List ℕ → Type 0
 Covers words some others = (w : ℕ) → Contains words w → Contains some w ⊎ Contains others w
+
+-- the new ones are some of the words, ascending, and each other word is among some
+pub record AreOthers (words some new : List ℕ) : Type 0 where
+  pub covers : Covers words some new
+  pub part : All (Contains words) new
+  pub ascending : IsStrictlyIncreasing new

@@ -4,8 +4,8 @@
 ghost use Rattle.std.specs.Prelude.{◌≡◌, ◌≤◌, ◌+◌, None, IfSome, MatchOption};
 ghost use Rattle.plan_space.specs.Cost.{most_of_all};
 ghost use Rattle.plan_search.specs.Places.{place_asked};
-ghost use Rattle.plan_search.specs.Search.{kept_at, cost_at, asked_cost, AreFound, ArePlansAt, IsMissing, IsOneMissing};
-ghost use Rattle.plan_search.specs.Search.{IsPlanAt};
+ghost use Rattle.plan_search.specs.KeptPlans.{kept_at, cost_at, asked_cost, AreFound, ArePlansAt, IsMissing, IsOneMissing};
+ghost use Rattle.plan_search.specs.KeptPlans.{IsPlanAt};
 
 use crate::choice::{Kids, PlansBelow};
 use crate::kept_plans::KeptPlans;

@@ -6,7 +6,9 @@ ghost use Rattle.query_core.specs.Keys.{IsGroup};
 ghost use Rattle.request_props.specs.Numbered.{IsProps};
 ghost use Rattle.request_props.specs.Fitting.{Fits};
 ghost use Rattle.plan_search.specs.Places.{place_of};
-ghost use Rattle.plan_search.specs.Search.{AreAnswered, AreListedFor, HasRows, IsBestChoice};
+ghost use Rattle.plan_search.specs.KeptPlans.{AreAnswered};
+ghost use Rattle.plan_search.specs.Natives.{AreListedFor};
+ghost use Rattle.plan_search.specs.BestSoFar.{HasRows, IsBestChoice};
 
 use crate::choice::Choice;
 use crate::enforcers::try_enforcers;

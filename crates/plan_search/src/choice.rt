@@ -4,12 +4,12 @@
 ghost use Rattle.std.specs.Prelude.{◌≡◌, ◌≤◌, Some};
 ghost use Rattle.cost_units.specs.Cost.{most_cost};
 ghost use Rattle.plan_space.specs.Cost.{most_of_all};
-ghost use Rattle.plan_search.specs.Search.{cheaper_of, choice_over};
+ghost use Rattle.plan_search.specs.BestSoFar.{cheaper_of, choice_over};
 
 use plan_tree::Node;
 
 /// The places of the plans below a node.
-#[derive(Clone, Copy, Debug, PartialEq, Eq)]
+#[derive(Clone, Copy)]
 pub enum Kids {
     Zero,
     One(u64),
@@ -17,7 +17,7 @@ pub enum Kids {
 }
 
 /// The plans below a node: where they stand, and what they cost together.
-#[derive(Clone, Copy, Debug, PartialEq, Eq)]
+#[derive(Clone, Copy)]
 pub struct PlansBelow {
     pub kids: Kids,
     pub cost: u64,
@@ -39,7 +39,7 @@ impl PlansBelow {
 }
 
 /// A node over least plans.
-#[derive(Clone, Copy, Debug, PartialEq, Eq)]
+#[derive(Clone, Copy)]
 pub struct Choice {
     pub node: Node,
     pub cost: u64,

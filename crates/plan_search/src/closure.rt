@@ -1,18 +1,18 @@
 //! The words of all members, by passes that add the steps from what is new.
 #![tactic(auto)]
 
-ghost use Rattle.std.specs.Prelude.{◌≡◌, ℕ, IfOk, OnOk, IfSome, MatchOption};
-ghost use Rattle.std.specs.List.{All, Contains};
+ghost use Rattle.std.specs.Prelude.{◌≡◌, IfOk, OnOk, MatchOption};
+ghost use Rattle.std.specs.List.{All};
 ghost use Rattle.std.specs.List.Sorted.{IsStrictlyIncreasing};
 ghost use Rattle.query_core.specs.declared.expressions.ExprParts.{ExprParts};
 ghost use Rattle.query_core.specs.Keys.{root_of};
-ghost use Rattle.query_core.specs.Expressions.{word_of, children_of, origin_of, IsChild};
+ghost use Rattle.query_core.specs.Expressions.{word_of, children_of, IsChild};
 ghost use Rattle.query_core.specs.declared.words.KeyParts.{KeyParts};
 ghost use Rattle.xform_rules.specs.Forms.{IsLeftSide};
-ghost use Rattle.xform_rules.specs.Results.{HasResult};
 ghost use Rattle.xform_rules.specs.Closure.{IsMember, IsMemberWord, IsClosureOf};
-ghost use Rattle.plan_search.specs.Steps.{Grows, ContainsWordOf, HasOrigins, HasResultsOf, HasResults};
-ghost use Rattle.plan_search.specs.Steps.{HasBoundResults, HasSteps, AreSteps, AreBoundSteps, Covers};
+ghost use Rattle.plan_search.specs.Steps.{AreMemberWords, AreMembers, GrowsTo, ContainsWordOf, HasOrigin};
+ghost use Rattle.plan_search.specs.Steps.{HasOrigins, HasResultAt, HasResultsOf, HasResults};
+ghost use Rattle.plan_search.specs.Steps.{HasBoundResults, HasSteps, AreSteps, AreBoundSteps, AreOthers};
 
 use crate::word_set::WordSet;
 use orca_base::List;
@@ -50,11 +50,9 @@ fn add_new_steps(
     done: &[u64],
     found: &mut WordSet,
 ) -> Result<(), AllocError>
-    requires members { All (IsMemberWord query.now) words.now }
-    requires ascending { IsStrictlyIncreasing words.now }
+    requires words { AreMemberWords query.now words.now }
     requires done { AreSteps query.now done.now done.now found.now }
-    ensures grows { OnOk result (Grows query.now found.old found.new) }
-    ensures steps { OnOk result (AreSteps query.now words.now words.now found.new) }
+    ensures { OnOk result (GrowsTo query.now (AreSteps query.now words.now words.now) found.old found.new) }
 {
     let new = others(alloc, words, done)?;
     add_all_steps(query, words, &new, found)?;
@@ -64,9 +62,7 @@ fn add_new_steps(
 /// Those of the words that aren't among some.
 fn others(alloc: Global, words: &[u64], some: &[u64]) -> Result<Vec<u64>, AllocError>
     requires { IsStrictlyIncreasing words.now }
-    ensures covers { IfOk result (λ new. Covers words.now some.now new.items) }
-    ensures part { IfOk result (λ new. All (Contains words.now) new.items) }
-    ensures ascending { IfOk result (λ new. IsStrictlyIncreasing new.items) }
+    ensures { IfOk result (λ new. AreOthers words.now some.now new.items) }
 {
     let mut new = Vec::new(alloc);
     for word in words {
@@ -79,8 +75,7 @@ fn others(alloc: Global, words: &[u64], some: &[u64]) -> Result<Vec<u64>, AllocE
 
 /// Adds the expression with which the root begins.
 fn add_root(query: &Query, found: &mut WordSet) -> Result<(), AllocError>
-    ensures grows { OnOk result (Grows query.now found.old found.new) }
-    ensures root { OnOk result (ContainsWordOf found.new (origin_of query.now (root_of query.now))) }
+    ensures { OnOk result (GrowsTo query.now (HasOrigin query.now (root_of query.now)) found.old found.new) }
 {
     let root = query.group(query.root());
     add(query, query.origin_of_group(root), found)
@@ -93,14 +88,13 @@ fn add_all_steps(
     new: &[u64],
     found: &mut WordSet,
 ) -> Result<(), AllocError>
-    requires members { All (IsMemberWord query.now) words.now }
-    requires ascending { IsStrictlyIncreasing words.now }
+    requires words { AreMemberWords query.now words.now }
     requires new { All (IsMemberWord query.now) new.now }
-    ensures grows { OnOk result (Grows query.now found.old found.new) }
-    ensures steps { OnOk result (AreSteps query.now words.now new.now found.new) }
+    ensures { OnOk result (GrowsTo query.now (AreSteps query.now words.now new.now) found.old found.new) }
 {
     for word in new {
-        add_steps(query, words, Expr(*word), found)?;
+        let e = member_of(query, Expr(*word));
+        add_steps(query, words, e, found)?;
     }
     Ok(())
 }
@@ -112,51 +106,29 @@ fn add_all_bound_results(
     new: &[u64],
     found: &mut WordSet,
 ) -> Result<(), AllocError>
-    requires members { All (IsMemberWord query.now) words.now }
-    requires ascending { IsStrictlyIncreasing new.now }
-    requires new { All (IsMemberWord query.now) new.now }
-    ensures grows { OnOk result (Grows query.now found.old found.new) }
-    ensures results { OnOk result (AreBoundSteps query.now new.now words.now found.new) }
+    requires words { All (IsMemberWord query.now) words.now }
+    requires new { AreMemberWords query.now new.now }
+    ensures { OnOk result
+        (GrowsTo query.now (AreBoundSteps query.now new.now words.now) found.old found.new) }
 {
     for word in words {
-        add_bound_results_at(query, new, Expr(*word), found)?;
+        let e = member_of(query, Expr(*word));
+        add_bound_results(query, new, e, found)?;
     }
     Ok(())
 }
 
-/// Adds each result at one word with a bound member among the words.
-fn add_bound_results_at(
-    query: &Query,
-    words: &[u64],
-    expr: Expr,
-    found: &mut WordSet,
-) -> Result<(), AllocError>
-    requires member { IsMemberWord query.now expr.0 }
-    requires members { All (IsMemberWord query.now) words.now }
-    requires ascending { IsStrictlyIncreasing words.now }
-    ensures grows { OnOk result (Grows query.now found.old found.new) }
-    ensures results { OnOk result ((e : ExprParts) → IsMember query.now e →
-        word_of e ≡ expr.0 → HasBoundResults query.now words.now e found.new) }
-{
-    let e = member_of(query, expr);
-    add_bound_results(query, words, e, found)
-}
-
-/// Adds each step from one word, where members among the words are bound.
+/// Adds each step from a member, where members among the words are bound.
 fn add_steps(
     query: &Query,
     words: &[u64],
-    expr: Expr,
+    e: ExprParts,
     found: &mut WordSet,
 ) -> Result<(), AllocError>
-    requires member { IsMemberWord query.now expr.0 }
-    requires members { All (IsMemberWord query.now) words.now }
-    requires ascending { IsStrictlyIncreasing words.now }
-    ensures grows { OnOk result (Grows query.now found.old found.new) }
-    ensures steps { OnOk result ((e : ExprParts) → IsMember query.now e →
-        word_of e ≡ expr.0 → HasSteps query.now words.now e found.new) }
+    requires member { IsMember query.now e }
+    requires words { AreMemberWords query.now words.now }
+    ensures { OnOk result (GrowsTo query.now (HasSteps query.now words.now e) found.old found.new) }
 {
-    let e = member_of(query, expr);
     add_origins(query, e, found)?;
     add_results(query, e, None, found)?;
     add_bound_results(query, words, e, found)
@@ -165,8 +137,7 @@ fn add_steps(
 /// Adds the origin of each child's group.
 fn add_origins(query: &Query, e: ExprParts, found: &mut WordSet) -> Result<(), AllocError>
     requires { IsMember query.now e }
-    ensures grows { OnOk result (Grows query.now found.old found.new) }
-    ensures origins { OnOk result (HasOrigins query.now e found.new) }
+    ensures { OnOk result (GrowsTo query.now (HasOrigins query.now e) found.old found.new) }
 {
     match e.children() {
         Children::Zero => Ok(()),
@@ -187,8 +158,7 @@ fn add_origin(
 ) -> Result<(), AllocError>
     requires member { IsMember query.now e }
     requires child { IsChild (children_of e.operator) child }
-    ensures grows { OnOk result (Grows query.now found.old found.new) }
-    ensures there { OnOk result (ContainsWordOf found.new (origin_of query.now child)) }
+    ensures { OnOk result (GrowsTo query.now (HasOrigin query.now child) found.old found.new) }
 {
     add(query, query.origin_of_group(child), found)
 }
@@ -200,10 +170,8 @@ fn add_results(
     bound: Option<ExprParts>,
     found: &mut WordSet,
 ) -> Result<(), AllocError>
-    requires member { IsMember query.now e }
-    requires bound { IfSome bound (IsMember query.now) }
-    ensures grows { OnOk result (Grows query.now found.old found.new) }
-    ensures results { OnOk result (HasResults query.now e bound found.new) }
+    requires { AreMembers query.now e bound }
+    ensures { OnOk result (GrowsTo query.now (HasResults query.now e bound) found.old found.new) }
 {
     let rules = Rule::all();
     for rule in &rules {
@@ -220,10 +188,8 @@ fn add_results_by(
     bound: Option<ExprParts>,
     found: &mut WordSet,
 ) -> Result<(), AllocError>
-    requires member { IsMember query.now e }
-    requires bound { IfSome bound (IsMember query.now) }
-    ensures grows { OnOk result (Grows query.now found.old found.new) }
-    ensures results { OnOk result (HasResultsOf query.now e bound rule found.new) }
+    requires { AreMembers query.now e bound }
+    ensures { OnOk result (GrowsTo query.now (HasResultsOf query.now e bound rule) found.old found.new) }
 {
     // For the proof: else it has no results.
     results_are_known();
@@ -242,10 +208,8 @@ fn add_results_of(
     bound: Option<ExprParts>,
     found: &mut WordSet,
 ) -> Result<(), AllocError>
-    requires member { IsMember query.now e }
-    requires bound { IfSome bound (IsMember query.now) }
-    ensures grows { OnOk result (Grows query.now found.old found.new) }
-    ensures results { OnOk result (HasResultsOf query.now e bound rule found.new) }
+    requires { AreMembers query.now e bound }
+    ensures { OnOk result (GrowsTo query.now (HasResultsOf query.now e bound rule) found.old found.new) }
 {
     // For the proof: it has no more results.
     results_are_candidates();
@@ -263,10 +227,8 @@ fn add_bound_results(
     found: &mut WordSet,
 ) -> Result<(), AllocError>
     requires member { IsMember query.now e }
-    requires members { All (IsMemberWord query.now) words.now }
-    requires ascending { IsStrictlyIncreasing words.now }
-    ensures grows { OnOk result (Grows query.now found.old found.new) }
-    ensures results { OnOk result (HasBoundResults query.now words.now e found.new) }
+    requires words { AreMemberWords query.now words.now }
+    ensures { OnOk result (GrowsTo query.now (HasBoundResults query.now words.now e) found.old found.new) }
 {
     // For the proof: a bound member is one of the left group, whose key fits a word.
     results_are_known();
@@ -296,8 +258,7 @@ fn add_results_with_each(
 ) -> Result<(), AllocError>
     requires member { IsMember query.now e }
     requires members { All (IsMemberWord query.now) members.now }
-    ensures grows { OnOk result (Grows query.now found.old found.new) }
-    ensures results { OnOk result (HasBoundResults query.now members.now e found.new) }
+    ensures { OnOk result (GrowsTo query.now (HasBoundResults query.now members.now e) found.old found.new) }
 {
     for word in members {
         let bound = member_of(query, Expr(*word));
@@ -315,11 +276,8 @@ fn add_result(
     n: u32,
     found: &mut WordSet,
 ) -> Result<(), AllocError>
-    requires member { IsMember query.now e }
-    requires bound { IfSome bound (IsMember query.now) }
-    ensures grows { OnOk result (Grows query.now found.old found.new) }
-    ensures there { OnOk result ((other : ExprParts) →
-        HasResult query.now rule e bound n other → ContainsWordOf found.new other) }
+    requires { AreMembers query.now e bound }
+    ensures { OnOk result (GrowsTo query.now (HasResultAt query.now e bound rule n) found.old found.new) }
 {
     // For the proof: members have words, and a number is that of one result.
     members_are_known();
@@ -333,8 +291,7 @@ fn add_result(
 /// Adds a member's word.
 fn add(query: &Query, e: ExprParts, found: &mut WordSet) -> Result<(), AllocError>
     requires { IsMember query.now e }
-    ensures grows { OnOk result (Grows query.now found.old found.new) }
-    ensures there { OnOk result (ContainsWordOf found.new e) }
+    ensures { OnOk result (GrowsTo query.now (λ words. ContainsWordOf words e) found.old found.new) }
 {
     // For the proof: each member has a word.
     members_are_known();

@@ -5,7 +5,8 @@ ghost use Rattle.query_core.specs.Keys.{IsGroup};
 ghost use Rattle.request_props.specs.Numbered.{IsProps};
 ghost use Rattle.request_props.specs.Fitting.{Fits};
 ghost use Rattle.plan_search.specs.Places.{place_of};
-ghost use Rattle.plan_search.specs.Search.{AreAnswered, GoesOverEnforcers, GoesOverPlace, HasRows};
+ghost use Rattle.plan_search.specs.KeptPlans.{AreAnswered};
+ghost use Rattle.plan_search.specs.BestSoFar.{GoesOverEnforcers, GoesOverPlace, HasRows};
 
 use crate::below::one_plan;
 use crate::choice::{Choice, offer};

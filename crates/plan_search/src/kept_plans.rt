@@ -4,7 +4,7 @@
 ghost use Rattle.std.specs.Prelude.{◌≡◌, Some, OnOk};
 ghost use Rattle.std.specs.Ordering.{nat_cmp};
 ghost use Rattle.std.specs.BTreeMap.{Updates, IsEmpty};
-ghost use Rattle.plan_search.specs.Search.{kept_at};
+ghost use Rattle.plan_search.specs.KeptPlans.{kept_at};
 
 use crate::choice::Choice;
 use std::alloc::{AllocError, Global};

@@ -6,7 +6,7 @@ ghost use Rattle.query_core.specs.declared.expressions.ExprParts.{ExprParts};
 ghost use Rattle.query_core.specs.Expressions.{IsCandidate, expr_of, word_of};
 ghost use Rattle.request_props.specs.Numbered.{IsProps};
 ghost use Rattle.xform_rules.specs.Closure.{AreMembersOf};
-ghost use Rattle.plan_search.specs.Search.{AddsModes, AreListed, AreThoseFor};
+ghost use Rattle.plan_search.specs.Natives.{AddsModes, AreListed, AreThoseFor};
 
 use plan_space::{Line, modes_are_few};
 use plan_tree::{ExprRows, expr_rows, may_give, next_line};
@@ -16,7 +16,7 @@ use std::alloc::{AllocError, Global};
 use xform_rules::members_are_candidates;
 
 /// A physical expression in a mode, with its line there, and its rows.
-#[derive(Clone, Copy, Debug, PartialEq, Eq)]
+#[derive(Clone, Copy)]
 pub struct Native {
     pub expr: PhysicalExpr,
     pub mode: u32,

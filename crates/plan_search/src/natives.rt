@@ -6,8 +6,9 @@ ghost use Rattle.request_props.specs.Numbered.{IsProps};
 ghost use Rattle.request_props.specs.Fitting.{Fits};
 ghost use Rattle.plan_tree.specs.Alternatives.{IsAltIn};
 ghost use Rattle.plan_search.specs.Places.{place_of};
-ghost use Rattle.plan_search.specs.Search.{AreAnswered, GoesOver, GoesOverAll, IsLacking, IsMade};
-ghost use Rattle.plan_search.specs.Search.{AreNative, IsNative, RisesFrom};
+ghost use Rattle.plan_search.specs.KeptPlans.{AreAnswered};
+ghost use Rattle.plan_search.specs.BestSoFar.{GoesOver, GoesOverAll, IsLacking, IsMade};
+ghost use Rattle.plan_search.specs.Natives.{AreNative, IsNative, RisesFrom};
 
 use crate::below::plans_below;
 use crate::choice::{Choice, offer};

@@ -4,7 +4,7 @@
 ghost use Rattle.std.specs.Prelude.{IfOk};
 ghost use Rattle.plan_space.specs.Nodes.{Tree};
 ghost use Rattle.plan_tree.specs.Spells.{Spells};
-ghost use Rattle.plan_search.specs.Search.{StandsAt};
+ghost use Rattle.plan_search.specs.KeptPlans.{StandsAt};
 
 use crate::choice::Kids;
 use crate::kept_plans::KeptPlans;

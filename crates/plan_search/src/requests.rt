@@ -7,7 +7,9 @@ ghost use Rattle.query_core.specs.Keys.{IsGroup, key_number};
 ghost use Rattle.request_props.specs.Numbered.{IsProps};
 ghost use Rattle.xform_rules.specs.Closure.{IsClosureOf};
 ghost use Rattle.plan_search.specs.Places.{dist_place as dist_place_of, first_place, place_of, request_place};
-ghost use Rattle.plan_search.specs.Search.{AreAnswered, AreListedFor, HasRows};
+ghost use Rattle.plan_search.specs.KeptPlans.{AreAnswered};
+ghost use Rattle.plan_search.specs.Natives.{AreListedFor};
+ghost use Rattle.plan_search.specs.BestSoFar.{HasRows};
 
 use crate::best::answer;
 use crate::kept_plans::KeptPlans;

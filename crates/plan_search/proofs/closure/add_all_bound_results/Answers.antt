@@ -1,30 +1,20 @@
-use Rattle.std.proofs.Common.{arith, sym, ◌∙◌}
-use Rattle.std.proofs.lemmas.List.{get_or_default}
-use Rattle.query_core.specs.Expressions.{word_of}
-use Rattle.plan_search.proofs.Growing.{HasBoundAt, grows_not, grows_on, bound_kept, done_more}
+use Rattle.plan_search.specs.Steps.{HasBoundResults}
+use Rattle.plan_search.proofs.Growing.{HoldsAt, none_yet, one_member_more, all_members}
+use Rattle.plan_search.proofs.FoundSteps.{bound_results_stay}
 use Rattle.plan_search.proofs.closure.add_all_bound_results.Goals as goal
 
 pub loop-word-init : goal.loop-word-init
-loop-word-init c = record {
-  grows = grows_not c.args.query.now c.args.found.now;
-  results = λ k below. absurd (omega (arith, below));
-}
+loop-word-init c = none_yet c.args.query.now (HoldsAt c.args.query.now (HasBoundResults c.args.query.now c.args.new.now) c.args.words.now) c.args.found.now
 
--- those from one more word are found
+-- those at one more word are found
 pub loop-word-preserved : goal.loop-word-preserved
 loop-word-preserved c =
     let q = c.args.query.now in
-    let before = c.loop-word.found in
-    let after = c.add_bound_results_at.new.found in
-    record {
-      grows = grows_on q c.args.found.now before after c.loop-word.invariant.grows c.in_ok-add_bound_results_at.ensures.grows;
-      results = done_more before after c.loop-word.word-index (HasBoundAt q c.args.new.now c.args.words.now)
-          (λ k. bound_kept q before after c.in_ok-add_bound_results_at.ensures.grows k c.args.new.now c.args.words.now) c.loop-word.invariant.results c.in_ok-add_bound_results_at.ensures.results;
-    }
+    let new = c.args.new.now in
+    one_member_more q (HasBoundResults q new) c.args.words.now (bound_results_stay q new) c.loop-word.word-index c.member_of-e.result c.args.found.now
+    c.loop-word.found c.add_bound_results.new.found c.member_of-e.ensures.only c.loop-word.invariant c.in_ok-add_bound_results.ensures
 
-pub returns-clause-grows : goal.returns-clause-grows
-returns-clause-grows c = c.loop-word.invariant.grows
-
-pub returns-clause-results : goal.returns-clause-results
-returns-clause-results c e member (k, within, is) =
-    c.loop-word.invariant.results k (omega (arith, within, c.loop-word-test.false)) e member (sym (get_or_default c.args.words.now k 0 (word_of e) within ∙ is))
+pub returns : goal.returns
+returns c =
+    all_members c.args.query.now (HasBoundResults c.args.query.now c.args.new.now) c.args.words.now c.loop-word.word-index c.args.found.now c.loop-word.found
+    c.loop-word-test.false c.loop-word.invariant

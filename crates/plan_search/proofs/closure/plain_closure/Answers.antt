@@ -1,12 +1,12 @@
 use Rattle.std.proofs.Common.{◌≡◌, ◌∙◌, ◌≤◌, ap, sym, subst, length}
 use Rattle.std.specs.List.{All}
-use Rattle.std.specs.List.Sorted.{IsStrictlyIncreasing}
 use Rattle.std.proofs.lemmas.List.Elements.{All-nil}
 use Rattle.xform_rules.specs.Closure.{IsMemberWord, IsClosureOf}
 use Rattle.query_core.specs.Goals.{EXPRS}
-use Rattle.plan_search.specs.Steps.{AreSteps}
+use Rattle.plan_search.specs.Steps.{AreMemberWords, GrowsTo, AreSteps}
 use Rattle.plan_search.proofs.WordLists.{few_words}
-use Rattle.plan_search.proofs.Growing.{members_on, all_small, closed, none_done, longer_smaller}
+use Rattle.plan_search.proofs.Growing.{members_on}
+use Rattle.plan_search.proofs.FoundSteps.{all_small, closed, none_done, longer_smaller}
 use Rattle.plan_search.proofs.closure.plain_closure.Goals as goal
 
 pub loop-done-init : goal.loop-done-init
@@ -15,7 +15,7 @@ loop-done-init c =
     record {
       members = members_on q c.new-found.result c.add_root.new.found c.in_ok-add_root.ensures.grows
           (subst (All (IsMemberWord q)) (sym c.new-found.ensures) (All-nil (IsMemberWord q)));
-      root = c.in_ok-add_root.ensures.root;
+      root = c.in_ok-add_root.ensures.holds;
       done = subst (λ ws. AreSteps q ws ws c.add_root.new.found) (sym c.new-done.ensures.items) (none_done q c.add_root.new.found);
     }
 
@@ -24,8 +24,8 @@ pub add_new_steps-requires : goal.add_new_steps-requires
 add_new_steps-requires c =
     let q = c.args.query.now in
     record {
-      members = subst (All (IsMemberWord q)) (sym (c.deref.ensures.value ∙ c.in_ok-words.ensures.value)) c.loop-done.invariant.members;
-      ascending = subst IsStrictlyIncreasing (sym (c.deref.ensures.value ∙ c.in_ok-words.ensures.value)) c.in_ok-words.ensures.ascending;
+      words = subst (AreMemberWords q) (sym (c.deref.ensures.value ∙ c.in_ok-words.ensures.value))
+          (record { members = c.loop-done.invariant.members; ascending = c.in_ok-words.ensures.ascending });
       done = subst (λ ws. AreSteps q ws ws c.loop-done.found) (sym c.deref-in-loop-done.ensures.value) c.loop-done.invariant.done;
     }
 
@@ -39,10 +39,10 @@ returns-then-len c =
     let count : length c.deref.result.now ≡ length old = ap length (c.deref.ensures.value ∙ c.in_ok-words.ensures.value) in
     let no_longer : length new ≡ length old =
     sym c.len.ensures.value ∙ c.if-len.true ∙ c.len-in-loop-done.ensures ∙ sym c.deref.ensures.len ∙ count in
-    let steps : AreSteps q words words new = subst (λ ws. AreSteps q ws ws new) c.deref.ensures.value c.in_ok-add_new_steps.ensures.steps in
+    let steps : GrowsTo q (AreSteps q words words) old new =
+    subst (λ ws. GrowsTo q (AreSteps q ws ws) old new) c.deref.ensures.value c.in_ok-add_new_steps.ensures in
     subst (IsClosureOf q) (sym c.of.ensures)
-    (closed q words old new c.in_ok-words.ensures.value c.in_ok-add_new_steps.ensures.grows no_longer c.loop-done.invariant.members
-    c.len.ensures.ascending c.loop-done.invariant.root steps)
+    (closed q words old new c.in_ok-words.ensures.value steps no_longer c.loop-done.invariant.members c.len.ensures.ascending c.loop-done.invariant.root)
 
 -- words have come, and there are at most EXPRS
 pub loop-done-smaller : goal.loop-done-smaller
@@ -64,5 +64,5 @@ loop-done-preserved c =
     record {
       members = members_on q c.loop-done.found new c.in_ok-add_new_steps.ensures.grows c.loop-done.invariant.members;
       root = c.in_ok-add_new_steps.ensures.grows.kept _ c.loop-done.invariant.root;
-      done = subst (λ ws. AreSteps q ws ws new) c.deref.ensures.value c.in_ok-add_new_steps.ensures.steps;
+      done = subst (λ ws. AreSteps q ws ws new) c.deref.ensures.value c.in_ok-add_new_steps.ensures.holds;
     }

@@ -2,16 +2,15 @@ use Rattle.std.proofs.Common.{◌+◌, ◌-◌, length}
 use Rattle.std.specs.List.{All}
 use Rattle.query_core.specs.Goals.{EXPRS}
 use Rattle.query_core.specs.Keys.{root_of}
-use Rattle.query_core.specs.Expressions.{origin_of}
 use Rattle.xform_rules.specs.Closure.{IsMemberWord}
-use Rattle.plan_search.specs.Steps.{ContainsWordOf, AreSteps}
+use Rattle.plan_search.specs.Steps.{HasOrigin, AreSteps}
 use Rattle.plan_search.proofs.closure.plain_closure.Given as goal
 
 -- the words found are those of members, the root's origin among them, and the steps from those that are done, among these, are found
 abbrev pub invariant-loop-done : goal.invariant-loop-done
 invariant-loop-done l = record {
   members : All (IsMemberWord l.query) l.found;
-  root : ContainsWordOf l.found (origin_of l.query (root_of l.query));
+  root : HasOrigin l.query (root_of l.query) l.found;
   done : AreSteps l.query l.done.items l.done.items l.found;
 }
 

@@ -5,7 +5,8 @@ use Rattle.plan_tree.specs.Enforcers.{IsEnforced}
 use Rattle.std.specs.Prelude.{slice_get}
 use Rattle.plan_space.specs.Cost.{most_of_all}
 use Rattle.plan_search.specs.Places.{place_at, place_of}
-use Rattle.plan_search.specs.Search.{GoesOverPlace, IsPlaceSettled, enforcer_number, cost_at, kept_at, IsPlanAt, cheaper_of}
+use Rattle.plan_search.specs.KeptPlans.{cost_at, kept_at, IsPlanAt}
+use Rattle.plan_search.specs.BestSoFar.{GoesOverPlace, IsPlaceSettled, enforcer_number, cheaper_of}
 use Rattle.plan_tree.proofs.FoundEnforcers.{some_enforced, none_enforced}
 use Rattle.plan_search.proofs.Enforcing.{below_small, lacking_goes, enforcer_goes}
 use Rattle.plan_search.proofs.EnforcerNumbers.{last_number}

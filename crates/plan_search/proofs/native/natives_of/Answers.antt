@@ -3,7 +3,7 @@ use Rattle.std.specs.Prelude.{slice_index}
 use Rattle.query_core.specs.declared.expressions.ExprParts.{ExprParts}
 use Rattle.xform_rules.specs.Closure.{IsMember}
 use Rattle.query_core.specs.Expressions.{expr_of, word_of, IsCandidate, IsPacked}
-use Rattle.plan_search.specs.Search.{AddsModes}
+use Rattle.plan_search.specs.Natives.{AddsModes}
 use Rattle.query_core.proofs.ExpressionLemmas.{expr_of_one}
 use Rattle.plan_search.proofs.Listed.{AreMade, made_more, made_past, made_all}
 use Rattle.plan_search.proofs.native.natives_of.Goals as goal

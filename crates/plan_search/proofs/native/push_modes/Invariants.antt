@@ -1,6 +1,6 @@
 use Rattle.std.proofs.Common.{◌≡◌, ◌++◌, ◌-◌, ◌≤◌, List}
 use Rattle.plan_search.specs.declared.native.Native.{Native}
-use Rattle.plan_search.specs.Search.{AreModesOf}
+use Rattle.plan_search.specs.Natives.{AreModesOf}
 use Rattle.plan_search.proofs.native.push_modes.Given as goal
 
 -- the lesser modes came behind the list

@@ -1,5 +1,5 @@
 use Rattle.std.proofs.Common.{take}
-use Rattle.plan_search.specs.Search.{AreThoseFor}
+use Rattle.plan_search.specs.Natives.{AreThoseFor}
 use Rattle.plan_search.proofs.native.those_for.Given as goal
 
 -- those of the first so many

@@ -1,5 +1,5 @@
 use Rattle.std.proofs.Common.{sym, subst}
-use Rattle.plan_search.specs.Search.{IsMade}
+use Rattle.plan_search.specs.BestSoFar.{IsMade}
 use Rattle.plan_search.proofs.Kids.{AreLaws, asked_here, asked_small}
 use Rattle.plan_search.proofs.Made.{missing_lacks, found_made}
 use Rattle.plan_search.proofs.natives.choice_of.Goals as goal

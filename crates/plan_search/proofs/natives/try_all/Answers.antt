@@ -2,7 +2,7 @@ use Rattle.std.proofs.Common.{sym, subst}
 use Rattle.query_core.specs.declared.words.KeyParts.{KeyParts}
 use Rattle.request_props.specs.Fitting.{Fits}
 use Rattle.plan_search.specs.Places.{place_of}
-use Rattle.plan_search.specs.Search.{AreAnswered}
+use Rattle.plan_search.specs.KeptPlans.{AreAnswered}
 use Rattle.plan_search.proofs.Tried.{is_native_at, of_own_group, tried_none, tried_more, tried_all}
 use Rattle.plan_search.proofs.natives.try_all.Goals as goal
 

@@ -1,5 +1,5 @@
 use Rattle.std.proofs.Common.{sym, subst}
-use Rattle.plan_search.specs.Search.{GoesOver}
+use Rattle.plan_search.specs.BestSoFar.{GoesOver}
 use Rattle.plan_search.proofs.Scanning.{made_goes}
 use Rattle.plan_search.proofs.natives.try_mode.Goals as goal
 

@@ -1,5 +1,5 @@
 use Rattle.plan_search.specs.Places.{first_place}
-use Rattle.plan_search.specs.Search.{AreAnswered}
+use Rattle.plan_search.specs.KeptPlans.{AreAnswered}
 use Rattle.plan_search.proofs.requests.answer_all.Given as goal
 
 -- the groups with lesser keys are answered

@@ -1,7 +1,7 @@
 use Rattle.std.proofs.Common.{◌+◌, ◌*◌}
 use Rattle.query_core.specs.Keys.{key_number}
 use Rattle.plan_search.specs.Places.{dist_place, first_place}
-use Rattle.plan_search.specs.Search.{AreAnswered}
+use Rattle.plan_search.specs.KeptPlans.{AreAnswered}
 use Rattle.plan_search.proofs.requests.answer_dist.Given as goal
 
 -- the requests with lesser orders are answered

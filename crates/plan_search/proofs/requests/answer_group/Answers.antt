@@ -1,5 +1,5 @@
 use Rattle.std.proofs.Common.{subst, sym}
-use Rattle.plan_search.specs.Search.{AreListedFor, AreThoseFor}
+use Rattle.plan_search.specs.Natives.{AreListedFor, AreThoseFor}
 use Rattle.plan_search.proofs.Able.{those_listed}
 use Rattle.plan_search.proofs.requests.answer_group.Goals as goal
 

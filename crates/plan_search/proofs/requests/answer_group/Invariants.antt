@@ -1,7 +1,7 @@
 use Rattle.std.proofs.Common.{◌+◌, ◌*◌}
 use Rattle.query_core.specs.Keys.{key_number}
 use Rattle.plan_search.specs.Places.{first_place}
-use Rattle.plan_search.specs.Search.{AreAnswered}
+use Rattle.plan_search.specs.KeptPlans.{AreAnswered}
 use Rattle.plan_search.proofs.requests.answer_group.Given as goal
 
 -- the requests for distributions with lesser places are answered
