@@ -7,7 +7,7 @@ use Rattle.std.proofs.lemmas.List.{get_or_default}
 use Rattle.std.proofs.lemmas.List.Elements.{All-contains}
 use Rattle.query_core.specs.Keys.{root_of}
 use Rattle.query_core.specs.Goals.{FitsExpr}
-use Rattle.query_core.specs.Expressions.{word_of, children_of, origin_of, IsChild}
+use Rattle.query_core.specs.Expressions.{word_of, children_of, IsChild}
 use Rattle.query_core.specs.declared.words.KeyParts.{KeyParts}
 use Rattle.query_core.specs.declared.expressions.Children.TheVariants.{Two}
 use Rattle.query_core.specs.declared.query.Query.{Query}
