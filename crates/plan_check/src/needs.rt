@@ -102,7 +102,7 @@ fn line_fits(query: &Query, props: &Props, line: Line, children: Children, below
             children == Children::One(kid.group) && left_needs(query, props, dist, order, kid.given)
         }
         (Line::Beside(dist, order, request), Below::Two(left, right)) => {
-            are_two(children, left.group, right.group)
+            are_these(children, left.group, right.group)
                 && left_needs(query, props, dist, order, left.given)
                 && given_satisfies(query, props, right.given, request)
         }
@@ -110,7 +110,7 @@ fn line_fits(query: &Query, props: &Props, line: Line, children: Children, below
     }
 }
 
-fn are_two(children: Children, left: KeyParts, right: KeyParts) -> bool
+fn are_these(children: Children, left: KeyParts, right: KeyParts) -> bool
     ensures { IsTrue result ↔ (children ≡ Children.Two left right) }
 {
     children == Children::Two(left, right)
