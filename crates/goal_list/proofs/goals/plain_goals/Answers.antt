@@ -1,7 +1,7 @@
 use Rattle.std.proofs.Common.{◌≡◌, ◌∙◌, ◌≤◌, ◌^◌, ap, sym, subst, length}
 use Rattle.std.specs.List.{All}
 use Rattle.std.proofs.lemmas.List.Elements.{All-nil}
-use Rattle.plan_search.proofs.Growing.{longer_smaller}
+use Rattle.plan_search.proofs.FoundSteps.{longer_smaller}
 use Rattle.plan_search.proofs.WordLists.{few_words}
 use Rattle.goal_space.specs.Entries.{IsGoalWord}
 use Rattle.goal_children.specs.Listed.{AreGoalsOf}
