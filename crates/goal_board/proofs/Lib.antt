@@ -8,6 +8,5 @@ pub mod Finishing
 pub mod WokenLemmas
 pub mod ClosedLemmas
 pub mod LastSeat
-pub mod Still
 pub mod Putting
 pub mod Registering

@@ -4,5 +4,4 @@ pub mod Steps
 pub mod Calls
 pub mod Closed
 pub mod Closing
-pub mod Numbers
 pub mod SeatCalls

@@ -18,6 +18,3 @@ pub use board::{Board, Right, Seat};
 pub use board_rule::GoalRules;
 pub use hints::Hints;
 pub use word_table::Inserted;
-
-#[cfg(test)]
-mod tests;

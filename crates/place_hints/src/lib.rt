@@ -8,6 +8,3 @@ mod source;
 mod sources;
 
 pub use hints::PlaceHints;
-
-#[cfg(test)]
-mod tests;

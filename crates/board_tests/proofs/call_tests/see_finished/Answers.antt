@@ -3,8 +3,8 @@ use Rattle.std.proofs.Common.{[], ◌∷◌, Some, subst}
 use Rattle.board_rule.specs.Words.{cell_word, head_word, cost_word, node_word}
 use Rattle.goal_board.specs.Seats.{hands}
 use Rattle.goal_board.specs.Calls.{ReadsCell}
-use Rattle.goal_board.proofs.Still.{right_seen, answer_shows}
-use Rattle.goal_board.proofs.tests.see_finished.Goals as goal
+use Rattle.board_tests.proofs.Still.{right_seen, answer_shows}
+use Rattle.board_tests.proofs.call_tests.see_finished.Goals as goal
 
 pub returns-clause-right : goal.returns-clause-right
 returns-clause-right g c =

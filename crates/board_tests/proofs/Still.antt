@@ -8,7 +8,7 @@ use Rattle.board_rule.specs.Words.{cell_word, head_word, cost_word, node_word}
 use Rattle.board_rule.specs.Looks.{ShowsFinished, seen_closed, ShowsPromise}
 use Rattle.board_rule.specs.Seats.{looked, fresh_right, without, with_wait}
 use Rattle.board_rule.specs.Records.{Claimed}
-use Rattle.goal_board.specs.Numbers.{numbers, HasOnly}
+use Rattle.board_tests.specs.Numbers.{numbers, HasOnly}
 use Rattle.goal_board.specs.declared.answers.Awaited.{Awaited}
 use Rattle.goal_board.specs.declared.answers.Awaited.TheVariants.{Registered, Finished}
 use Rattle.goal_board.specs.declared.board.Right.{Right}

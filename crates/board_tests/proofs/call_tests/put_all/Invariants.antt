@@ -1,8 +1,8 @@
 -- The seat is one of the board, with the parts that it had and no right.
 use Rattle.std.proofs.Common.{◌≡◌, [], ◌≤◌}
 use Rattle.goal_board.specs.Seats.{IsSeatOf, hands}
-use Rattle.goal_board.specs.Numbers.{numbers}
-use Rattle.goal_board.proofs.tests.put_all.Given as goal
+use Rattle.board_tests.specs.Numbers.{numbers}
+use Rattle.board_tests.proofs.call_tests.put_all.Given as goal
 
 abbrev pub invariant-loop-number : goal.invariant-loop-number
 invariant-loop-number l = record {

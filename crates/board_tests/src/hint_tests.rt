@@ -1,7 +1,7 @@
 ghost use Rattle.std.specs.Prelude.{◌≡◌, ℕ, ◌<◌, ◌≤◌};
 
-use crate::PlaceHints;
 use goal_board::Hints;
+use place_hints::PlaceHints;
 use std::process::Abort;
 use std::test::Fail;
 use std::thread;

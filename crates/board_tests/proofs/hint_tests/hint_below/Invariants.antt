@@ -1,5 +1,5 @@
 use Rattle.std.proofs.Common.{◌≡◌}
-use Rattle.place_hints.proofs.tests.hint_below.Given as goal
+use Rattle.board_tests.proofs.hint_tests.hint_below.Given as goal
 
 -- the capacity stays
 abbrev pub invariant-loop-place : goal.invariant-loop-place

@@ -1,7 +1,7 @@
 -- The seat had no right before.
 use Rattle.goal_board.specs.Seats.{hands}
-use Rattle.goal_board.proofs.Still.{only_claimed}
-use Rattle.goal_board.proofs.tests.claim_goal.Goals as goal
+use Rattle.board_tests.proofs.Still.{only_claimed}
+use Rattle.board_tests.proofs.call_tests.claim_goal.Goals as goal
 
 pub returns-clause-only : goal.returns-clause-only
 returns-clause-only g c =

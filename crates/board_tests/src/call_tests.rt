@@ -1,11 +1,13 @@
 ghost use Rattle.std.specs.Prelude.{◌≡◌, ℕ, ◌<◌, ◌≤◌, [], ◌∷◌};
 ghost use Rattle.board_rule.specs.Looks.{ShowsFinished};
-ghost use Rattle.goal_board.specs.Numbers.{HasOnly};
+ghost use Rattle.board_tests.specs.Numbers.{HasOnly};
 ghost use Rattle.goal_board.specs.Seats.{IsSeatOf, hands};
 ghost use Rattle.goal_board.specs.Calls.{Inserts, IsRightOf};
 ghost use Rattle.goal_board.specs.SeatCalls.{HasSeenPromise};
 
-use crate::{Answer, Awaited, Board, GoalRules, Hints, Inserted, Right, Seat, Suspended, Woken};
+use goal_board::{
+    Answer, Awaited, Board, GoalRules, Hints, Inserted, Right, Seat, Suspended, Woken,
+};
 use std::process::Abort;
 use std::test::Fail;
 use std::thread;
@@ -18,7 +20,7 @@ struct Numbers {
 }
 
 impl GoalRules for Numbers {
-    ghost use Rattle.goal_board.specs.Numbers.{numbers, zero_is_none, ranks_fall, children_enter, answers_are_one};
+    ghost use Rattle.board_tests.specs.Numbers.{numbers, zero_is_none, ranks_fall, children_enter, answers_are_one};
 
     ghost meaning = { λ r. numbers r.limit };
 

@@ -3,11 +3,11 @@ use Rattle.std.proofs.Common.{[], ◌∷◌, sym, refl, ap, subst, ◌∙◌, in
 use Rattle.board_rule.specs.declared.hands.Hands.{Hands}
 use Rattle.board_rule.specs.Words.{cell_word}
 use Rattle.board_rule.specs.Looks.{Looked}
-use Rattle.goal_board.specs.Numbers.{HasOnly}
+use Rattle.board_tests.specs.Numbers.{HasOnly}
 use Rattle.goal_board.specs.Seats.{hands}
 use Rattle.goal_board.specs.declared.board.Right.{Right}
-use Rattle.goal_board.proofs.Still.{right_seen, only_waited, parts_waited, place_waited}
-use Rattle.goal_board.proofs.tests.wait_on.Goals as goal
+use Rattle.board_tests.proofs.Still.{right_seen, only_waited, parts_waited, place_waited}
+use Rattle.board_tests.proofs.call_tests.wait_on.Goals as goal
 
 pub wait_for-requires-clause-right : goal.wait_for-requires-clause-right
 wait_for-requires-clause-right g c κs within =

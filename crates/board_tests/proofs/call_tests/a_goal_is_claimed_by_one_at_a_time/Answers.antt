@@ -1,7 +1,7 @@
 -- The child of 4 was seen finished.
 use Rattle.goal_board.specs.Seats.{hands}
-use Rattle.goal_board.proofs.Still.{promise_shown}
-use Rattle.goal_board.proofs.tests.a_goal_is_claimed_by_one_at_a_time.Goals as goal
+use Rattle.board_tests.proofs.Still.{promise_shown}
+use Rattle.board_tests.proofs.call_tests.a_goal_is_claimed_by_one_at_a_time.Goals as goal
 
 pub finish_one-requires-clause-promise : goal.finish_one-requires-clause-promise
 finish_one-requires-clause-promise g c κs =

@@ -1,7 +1,7 @@
 -- A claim in vain only looks.
 use Rattle.goal_board.specs.Seats.{hands}
-use Rattle.goal_board.proofs.Still.{right_seen}
-use Rattle.goal_board.proofs.tests.claim_in_vain.Goals as goal
+use Rattle.board_tests.proofs.Still.{right_seen}
+use Rattle.board_tests.proofs.call_tests.claim_in_vain.Goals as goal
 
 pub returns-clause-right : goal.returns-clause-right
 returns-clause-right g c =
