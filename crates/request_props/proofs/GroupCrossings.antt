@@ -1,7 +1,7 @@
 -- Which predicates cross from one group to another, by the sets of the equalities of which each has a column.
 use Rattle.std.proofs.Common.{◌≡◌, ◌⊎◌, ◌↔◌, inl, inr, ℕ, ◌<◌, Option, None, Some, length, ap, refl, sym, subst, ◌∙◌, IsTrue, Bool, true, false, ◌&&◌, if◌then◌else◌}
 use Rattle.std.specs.Prelude.{slice_get}
-use Rattle.std.proofs.lemmas.Bool.{and_parts}
+use Rattle.std.proofs.lemmas.Bool.{and_parts, and_from}
 use Rattle.std.proofs.lemmas.Option.{slice_get_within}
 use Rattle.query_core.specs.Keys.{has_item}
 use Rattle.query_core.specs.declared.query.Query.{Query}
@@ -38,9 +38,12 @@ module _ (q : Query) (n a b : ℕ) (is : IsEqualityAt q n a b) where
       λ one. (are.second n).1 (below, (a, b, is, one)),
     )
 
--- two tests pass
-both_pass : (x y : Bool) → IsTrue x → IsTrue y → IsTrue (x && y)
-both_pass x y one other = rw (one, other) refl
+-- two facts hold exactly where the tests of both pass
+both_pass : {S T : Type 0} (x y : Bool) → S ↔ IsTrue x → T ↔ IsTrue y → (S × T) ↔ IsTrue (x && y)
+both_pass x y of_x of_y = (
+  λ both. and_from _ _ (of_x.0 both.0) (of_y.0 both.1),
+  λ pass. let (one, other) = and_parts _ _ pass in (of_x.1 one, of_y.1 other),
+)
 
 -- which of two pairs is taken, by two tests
 chosen_some : (x y : Bool) (s t : ℕ × ℕ) → ((if x then Some s else if y then Some t else None) ≡ None → ⊥) ↔ (IsTrue x ⊎ IsTrue y)
@@ -73,20 +76,10 @@ module _ (q : Query) (left right : KeyParts) (n : ℕ) (first second : EqualityE
   -- an equality's first item lies in the left group and its second in the right one exactly where the sets have it so, and the other way round
   module _ (a b : ℕ) (is : IsEqualityAt q n a b) where
     to_right : (IsInSet first.first n × IsInSet second.second n) ↔ IsTrue (has_item q left a && has_item q right b)
-    to_right =
-        let of_a = first_in q n a b is (HasColumn q left) first of_left in
-        let of_b = second_in q n a b is (HasColumn q right) second of_right in (
-          λ both. both_pass (has_item q left a) (has_item q right b) (of_a.0 both.0) (of_b.0 both.1),
-          λ pass. let (l, r) = and_parts _ _ pass in (of_a.1 l, of_b.1 r),
-        )
+    to_right = both_pass _ _ (first_in q n a b is (HasColumn q left) first of_left) (second_in q n a b is (HasColumn q right) second of_right)
 
     to_left : (IsInSet first.second n × IsInSet second.first n) ↔ IsTrue (has_item q left b && has_item q right a)
-    to_left =
-        let of_b = second_in q n a b is (HasColumn q left) first of_left in
-        let of_a = first_in q n a b is (HasColumn q right) second of_right in (
-          λ both. both_pass (has_item q left b) (has_item q right a) (of_b.0 both.0) (of_a.0 both.1),
-          λ pass. let (l, r) = and_parts _ _ pass in (of_b.1 l, of_a.1 r),
-        )
+    to_left = both_pass _ _ (second_in q n a b is (HasColumn q left) first of_left) (first_in q n a b is (HasColumn q right) second of_right)
 
     some_in : (sides_of q left right a b ≡ None → ⊥) ↔ HasAcross first second n
     some_in =

@@ -6,8 +6,8 @@ use Rattle.std.proofs.lemmas.Bool.{cases_lt}
 use Rattle.std.proofs.lemmas.List.{get_or_append_left, get_or-append_right, get_or-map, get_or_default, length-map, length-append}
 use Rattle.std.proofs.lemmas.List.Elements.{All-map, All-append, Contains-append_left, Contains-append_right}
 use Rattle.query_core.specs.Keys.{IsGroup, key_number, top_of}
-use Rattle.query_core.specs.Expressions.{fields, packed, word_of}
-use Rattle.query_core.specs.ByKind.{expr, join, IsJoinBy, IsOf}
+use Rattle.query_core.specs.Expressions.{fields, fields_of, packed, word_of}
+use Rattle.query_core.specs.ByKind.{expr, join, join_by, IsJoinBy, IsOf}
 use Rattle.query_core.specs.declared.query.Query.{Query}
 use Rattle.query_core.specs.declared.words.KeyParts.TheVariants.{Join, Agg}
 use Rattle.query_core.specs.declared.expressions.Logical.TheVariants.{NJoin}
@@ -104,10 +104,7 @@ word_of_one e = record {
 
 -- the number of the operator
 abbrev operator_number : JoinKind → ℕ
-operator_number Logical = 8
-operator_number Hash = 9
-operator_number Merge = 10
-operator_number Loop = 11
+operator_number kind = (fields_of (join_by kind Agg Agg)).number
 
 -- where the words of a set's operators of this number begin
 abbrev words_from : ℕ → ℕ → ℕ
@@ -118,7 +115,7 @@ abbrev many_of : ℕ → ExprParts
 many_of set = expr (Join set) (operators.Logical NJoin)
 
 -- it comes before the joins of two groups
-many_below : (set : ℕ) → AreBelow (λ e. e ≡ many_of set) (words_from set 8)
+many_below : (set : ℕ) → AreBelow (λ e. e ≡ many_of set) (words_from set (operator_number Logical))
 many_below set e same = omega (arith, ap word_of same)
 
 -- what stands past the end of a list of sides
@@ -178,13 +175,13 @@ module _ (q : Query) (set : ℕ) (small : set < 1024) where
         let merge = IsJoinBy q set Merge in
         let by_loop = IsJoinBy q set Loop in
         let first : AreWordsOf (λ e. logical e ⊎ hash e) (join_words set Logical found ++ join_words set Hash found) =
-        words_of_both logical hash (words_from set 9) _ _ (joins_below Logical _ (omega arith)) (joins_from Hash _ (omega arith)) (words_of_kind Logical) (words_of_kind Hash) in
+        words_of_both logical hash (words_from set (operator_number Hash)) _ _ (joins_below Logical _ (omega arith)) (joins_from Hash _ (omega arith)) (words_of_kind Logical) (words_of_kind Hash) in
         let second : AreWordsOf (λ e. merge e ⊎ by_loop e) (join_words set Merge found ++ join_words set Loop found) =
-        words_of_both merge by_loop (words_from set 11) _ _ (joins_below Merge _ (omega arith)) (joins_from Loop _ (omega arith)) (words_of_kind Merge) (words_of_kind Loop) in
-        let four = words_of_both (λ e. logical e ⊎ hash e) (λ e. merge e ⊎ by_loop e) (words_from set 10) _ _
+        words_of_both merge by_loop (words_from set (operator_number Loop)) _ _ (joins_below Merge _ (omega arith)) (joins_from Loop _ (omega arith)) (words_of_kind Merge) (words_of_kind Loop) in
+        let four = words_of_both (λ e. logical e ⊎ hash e) (λ e. merge e ⊎ by_loop e) (words_from set (operator_number Merge)) _ _
         (both_below logical hash _ (joins_below Logical _ (omega arith)) (joins_below Hash _ (omega arith)))
         (both_from merge by_loop _ (joins_from Merge _ (omega arith)) (joins_from Loop _ (omega arith))) first second in
-        words_of_both (λ e. e ≡ many_of set) (λ e. (logical e ⊎ hash e) ⊎ (merge e ⊎ by_loop e)) (words_from set 8) (word_of (many_of set) ∷ []) _
+        words_of_both (λ e. e ≡ many_of set) (λ e. (logical e ⊎ hash e) ⊎ (merge e ⊎ by_loop e)) (words_from set (operator_number Logical)) (word_of (many_of set) ∷ []) _
         (many_below set)
         (both_from (λ e. logical e ⊎ hash e) (λ e. merge e ⊎ by_loop e) _
         (both_from logical hash _ (joins_from Logical _ (omega arith)) (joins_from Hash _ (omega arith)))
