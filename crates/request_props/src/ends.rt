@@ -17,7 +17,7 @@ use query_core::{KeyParts, Query};
 use std::alloc::{AllocError, Global};
 
 /// The equalities whose first column is one of some, as those of a group, and those whose second is.
-#[derive(Clone, Copy, Debug, PartialEq, Eq)]
+#[derive(Clone, Copy)]
 pub struct EqualityEnds {
     pub first: NumberSet,
     pub second: NumberSet,

@@ -20,10 +20,17 @@ use std::alloc::{AllocError, Global};
 pub fn found_lists(alloc: Global, query: &Query) -> Result<Vec<List<u32>>, AllocError>
     ensures value { IfOk result (λ found. found.items ≡ lists_found query.now) }
 {
-    let mut found = table_lists(alloc, query)?;
-    push_alone(alloc, &mut found, joined_columns(alloc, query)?.as_slice())?;
-    push_unless_empty(alloc, &mut found, query.group_by.as_slice())?;
+    let mut found = Vec::new(alloc);
+    push_lists(alloc, &mut found, query)?;
     Ok(found)
+}
+
+fn push_lists(alloc: Global, found: &mut Vec<List<u32>>, query: &Query) -> Result<(), AllocError>
+    ensures { OnOk result (found.new.items ≡ found.old.items ++ lists_found query.now) }
+{
+    push_table_lists(alloc, found, query)?;
+    push_joined(alloc, found, query)?;
+    push_unless_empty(alloc, found, query.group_by.as_slice())
 }
 
 /// The orders that may be asked for, but for the empty one, as lists of elements.
@@ -31,16 +38,16 @@ pub fn found_orders(alloc: Global, query: &Query) -> Result<Vec<List<u32>>, Allo
     ensures value { IfOk result (λ found. found.items ≡ orders_found query.now) }
 {
     let mut found = Vec::new(alloc);
-    push_unless_empty(alloc, &mut found, wanted_order(alloc, query)?.as_slice())?;
-    let joined = joined_columns(alloc, query)?;
-    push_alone(
-        alloc,
-        &mut found,
-        ascending(alloc, joined.as_slice())?.as_slice(),
-    )?;
-    let grouped = ascending(alloc, query.group_by.as_slice())?;
-    push_unless_empty(alloc, &mut found, grouped.as_slice())?;
+    push_orders(alloc, &mut found, query)?;
     Ok(found)
+}
+
+fn push_orders(alloc: Global, found: &mut Vec<List<u32>>, query: &Query) -> Result<(), AllocError>
+    ensures { OnOk result (found.new.items ≡ found.old.items ++ orders_found query.now) }
+{
+    push_wanted(alloc, found, query)?;
+    push_joined_orders(alloc, found, query)?;
+    push_grouped(alloc, found, query)
 }
 
 /// The elements of the ORDER BY list.
@@ -50,16 +57,66 @@ pub fn wanted_order(alloc: Global, query: &Query) -> Result<Vec<u32>, AllocError
     elements(alloc, query.order.as_slice())
 }
 
-fn table_lists(alloc: Global, query: &Query) -> Result<Vec<List<u32>>, AllocError>
-    ensures value { IfOk result (λ found. found.items ≡ lists_of_tables query.now) }
+fn push_wanted(alloc: Global, found: &mut Vec<List<u32>>, query: &Query) -> Result<(), AllocError>
+    ensures { OnOk result (found.new.items ≡ found.old.items ++ unless_empty (elements_of query.now.order)) }
 {
-    let mut found = Vec::new(alloc);
+    let order = wanted_order(alloc, query)?;
+    push_unless_empty(alloc, found, order.as_slice())
+}
+
+fn push_grouped(alloc: Global, found: &mut Vec<List<u32>>, query: &Query) -> Result<(), AllocError>
+    ensures { OnOk result (found.new.items ≡
+        found.old.items ++ unless_empty (ascending_of query.now.group_by)) }
+{
+    let order = ascending(alloc, query.group_by.as_slice())?;
+    push_unless_empty(alloc, found, order.as_slice())
+}
+
+fn push_joined(alloc: Global, found: &mut Vec<List<u32>>, query: &Query) -> Result<(), AllocError>
+    ensures { OnOk result (found.new.items ≡ found.old.items ++ one_each (columns_joined query.now)) }
+{
+    let columns = joined_columns(alloc, query)?;
+    push_alone(alloc, found, columns.as_slice())
+}
+
+fn push_joined_orders(
+    alloc: Global,
+    found: &mut Vec<List<u32>>,
+    query: &Query,
+) -> Result<(), AllocError>
+    ensures { OnOk result (found.new.items ≡
+        found.old.items ++ one_each (ascending_of (columns_joined query.now))) }
+{
+    let columns = joined_columns(alloc, query)?;
+    push_ascending(alloc, found, columns.as_slice())
+}
+
+// Adds each of the columns, ascending, as an order of its own.
+fn push_ascending(
+    alloc: Global,
+    found: &mut Vec<List<u32>>,
+    columns: &[u32],
+) -> Result<(), AllocError>
+    requires { All (λ column. column < 60) columns.now }
+    ensures { OnOk result (found.new.items ≡ found.old.items ++ one_each (ascending_of columns.now)) }
+{
+    let orders = ascending(alloc, columns)?;
+    push_alone(alloc, found, orders.as_slice())
+}
+
+fn push_table_lists(
+    alloc: Global,
+    found: &mut Vec<List<u32>>,
+    query: &Query,
+) -> Result<(), AllocError>
+    ensures { OnOk result (found.new.items ≡ found.old.items ++ lists_of_tables query.now) }
+{
     for table in query.tables.as_slice() {
         if let Some(list) = &table.hashed {
             found.push(list.copy(alloc)?)?;
         }
     }
-    Ok(found)
+    Ok(())
 }
 
 fn joined_columns(alloc: Global, query: &Query) -> Result<Vec<u32>, AllocError>

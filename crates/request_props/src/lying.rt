@@ -24,8 +24,21 @@ pub fn tables_of_lists(
     Ok(found)
 }
 
-/// The items of each order, which is given by its elements.
-pub fn items_of_orders(alloc: Global, orders: &[List<u32>]) -> Result<Vec<List<u32>>, AllocError>
+/// The same of each order, which is given by its elements.
+pub fn tables_of_orders(
+    alloc: Global,
+    query: &Query,
+    orders: &[List<u32>],
+) -> Result<Vec<Option<u32>>, AllocError>
+    ensures { IfOk result (λ found.
+        AreTablesOf query.now (map items_of_elements orders.now) found.items) }
+{
+    let items = items_of_orders(alloc, orders)?;
+    tables_of_lists(alloc, query, items.as_slice())
+}
+
+// The items of each order.
+fn items_of_orders(alloc: Global, orders: &[List<u32>]) -> Result<Vec<List<u32>>, AllocError>
     ensures { IfOk result (λ lists. lists.items ≡ map items_of_elements orders.now) }
 {
     let mut lists = Vec::new(alloc);

@@ -17,7 +17,7 @@ use query_core::{
 use std::alloc::{AllocError, Global};
 
 /// A physical expression that a group can hold, with its word.
-#[derive(Clone, Copy, Debug, PartialEq, Eq)]
+#[derive(Clone, Copy)]
 pub struct PhysicalCandidate {
     pub word: u64,
     pub expr: PhysicalExpr,

@@ -25,7 +25,7 @@ use std::alloc::{AllocError, Global};
 const MOST: usize = 60;
 
 /// The numbered lists and orders of a query, and what is asked of its whole plan.
-#[derive(Debug, Drop)]
+#[derive(Drop)]
 pub struct Props {
     /// The lists by whose hash rows may be placed. A list's number is its place.
     pub hashed: List<List<u32>>,

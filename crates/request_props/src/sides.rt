@@ -10,7 +10,7 @@ pub struct Side {
 }
 
 /// Both sides of an equality of two columns.
-#[derive(Clone, Copy, Debug, PartialEq, Eq)]
+#[derive(Clone, Copy)]
 pub struct Equality {
     pub left: Side,
     pub right: Side,

@@ -9,7 +9,7 @@ use crate::candidates::group_candidates;
 use crate::ends::{ColumnsBy, EqualityEnds, ends_by};
 use crate::given::GivenDist;
 use crate::groups::{group_rows, query_keys};
-use crate::lying::{items_of_orders, tables_of_lists};
+use crate::lying::{tables_of_lists, tables_of_orders};
 use crate::numbers::{equalities, group_order, grouped, placings};
 use crate::physical::{PhysicalCandidate, group_physical};
 use crate::sides::Equality;
@@ -18,7 +18,7 @@ use query_core::{Query, sets};
 use std::alloc::{AllocError, Global};
 
 /// What each group can hold, by the number of its key.
-#[derive(Debug, Drop)]
+#[derive(Drop)]
 pub struct GroupTables {
     /// Whether each number below `KEYS` is that of a key of the query.
     pub keys: List<bool>,
@@ -31,7 +31,7 @@ pub struct GroupTables {
 }
 
 /// The equalities of two items.
-#[derive(Debug, Drop)]
+#[derive(Drop)]
 pub struct EqualityTables {
     /// For each predicate both its sides, where it is such an equality.
     pub sides: List<Option<Equality>>,
@@ -47,7 +47,7 @@ pub struct EqualityTables {
 }
 
 /// Where rows lie, and the tables of lists and orders.
-#[derive(Debug, Drop)]
+#[derive(Drop)]
 pub struct PlacementTables {
     /// Where the rows of each table lie.
     pub placings: List<GivenDist>,
@@ -132,8 +132,7 @@ impl PlacementTables {
         let placings = placings(alloc, query, lists)?;
         let grouped = grouped(alloc, query, lists)?;
         let of_lists = tables_of_lists(alloc, query, lists)?;
-        let items = items_of_orders(alloc, orders)?;
-        let of_orders = tables_of_lists(alloc, query, items.as_slice())?;
+        let of_orders = tables_of_orders(alloc, query, orders)?;
         let by_groups = group_order(alloc, query, orders)?;
         let tables = PlacementTables {
             placings: List::of(placings),

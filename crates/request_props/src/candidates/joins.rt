@@ -1,7 +1,7 @@
 //! The words of what a group of several tables can hold.
 #![tactic(auto)]
 
-ghost use Rattle.std.specs.Prelude.{◌≡◌, ◌<◌, ◌++◌, IfOk, OnOk};
+ghost use Rattle.std.specs.Prelude.{◌≡◌, ◌<◌, [], ◌++◌, IfOk, OnOk};
 ghost use Rattle.std.specs.List.{All};
 ghost use Rattle.query_core.specs.Keys.{IsGroup};
 ghost use Rattle.query_core.specs.Expressions.{word_of, IsPacked};
@@ -37,12 +37,21 @@ fn words_by_sides(alloc: Global, set: u32, sides: &[Sides]) -> Result<List<u64>,
     ensures { IfOk result (λ words. words ≡ words_over set sides.now) }
 {
     let mut words = List::of(Vec::with_capacity(alloc, 4 * sides.len() + 1)?);
-    words.push(word(set, Operator::Logical(Logical::NJoin)))?;
-    push_joins(&mut words, set, JoinKind::Logical, sides)?;
-    push_joins(&mut words, set, JoinKind::Hash, sides)?;
-    push_joins(&mut words, set, JoinKind::Merge, sides)?;
-    push_joins(&mut words, set, JoinKind::Loop, sides)?;
+    push_words(&mut words, set, sides)?;
     Ok(words)
+}
+
+fn push_words(words: &mut List<u64>, set: u32, sides: &[Sides]) -> Result<(), AllocError>
+    requires none { words.old ≡ [] }
+    requires small { set < 1024 }
+    requires in_range { All AreBothInRange sides.now }
+    ensures { OnOk result (words.new ≡ words_over set sides.now) }
+{
+    words.push(word(set, Operator::Logical(Logical::NJoin)))?;
+    push_joins(words, set, JoinKind::Logical, sides)?;
+    push_joins(words, set, JoinKind::Hash, sides)?;
+    push_joins(words, set, JoinKind::Merge, sides)?;
+    push_joins(words, set, JoinKind::Loop, sides)
 }
 
 // Adds the words of the joins of one kind over these sides.

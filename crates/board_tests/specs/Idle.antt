@@ -1,0 +1,13 @@
+-- What the tests leave of a seat between two of their steps.
+use Rattle.std.specs.Prelude.{◌≡◌, []}
+use Rattle.goal_board.specs.Seats.{IsSeatOf, hands}
+use Rattle.goal_board.specs.declared.board.Board.{Board}
+use Rattle.goal_board.specs.declared.board.Seat.{Seat}
+use Rattle.board_tests.specs.Numbers.{numbers}
+use Rattle.board_tests.specs.declared.call_tests.Numbers.{Numbers}
+
+-- the seat is one of a board of the words from 1 to 4, and holds no right
+pub record IsIdleAt (board : Board Numbers) (seat : Seat Numbers) : Type 0 where
+  pub seat : IsSeatOf (λ r. numbers r.limit) board seat
+  pub limit : board.key.rules.limit ≡ 4
+  pub rights : (hands seat).rights ≡ []
