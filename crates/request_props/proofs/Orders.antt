@@ -12,7 +12,7 @@ use Rattle.query_core.specs.declared.output.OrderKey.{OrderKey}
 use Rattle.request_props.specs.declared.props.Props.{Props}
 use Rattle.request_props.specs.Found.{elements_of, ascending, wanted_order, joined_columns, one_each, unless_empty, found_orders}
 use Rattle.request_props.specs.Ends.{IsGivenBy}
-use Rattle.request_props.specs.Numbered.{order_among, order_of, orders_of, column_order}
+use Rattle.request_props.specs.Numbered.{order_among, order_of, orders_of, order_number, column_order, IsNumberOf}
 use Rattle.request_props.specs.Satisfied.{BeginsWith}
 use Rattle.request_props.proofs.Inserted.{listing_made}
 
@@ -37,7 +37,7 @@ itself_unless_empty [] = inl refl
 itself_unless_empty (first ∷ others) = inr (0, omega arith, refl)
 
 -- the order of ORDER BY is empty, or one of those that were found
-pub wanted_known : (q : Query) → (wanted_order q ≡ []) ⊎ Contains (orders_of q) (wanted_order q)
+wanted_known : (q : Query) → (wanted_order q ≡ []) ⊎ Contains (orders_of q) (wanted_order q)
 wanted_known q = elim (itself_unless_empty (wanted_order q)) [
   | inl empty ↦ inl empty
   | inr within ↦
@@ -91,6 +91,19 @@ place_below lists list (k, within, here) =
           let fails : bytes_eq list (slice_index_or lists k list) ≡ false = fails_before_first (bytes_eq list) lists k list (omega (arith, within, beyond)) in
           absurd (false≢true (sym fails ∙ (bytes_eq-Decides list (slice_index_or lists k list)).1 (sym here)))
     ]
+
+-- an order that is empty, or one of the query's, has its number
+number_known : (q : Query) (order : List ℕ) → (order ≡ []) ⊎ Contains (orders_of q) order → IsNumberOf (orders_of q) order (order_number q order)
+number_known q [] either = record { numbered = omega arith; is_order = refl }
+number_known q (first ∷ others) (inl empty) = let wrong : ⊥ = cc in absurd wrong
+number_known q (first ∷ others) (inr there) =
+    let place = position_or_len (bytes_eq (first ∷ others)) (orders_of q) in
+    let below : place < length (orders_of q) = place_below (orders_of q) (first ∷ others) there in
+    record { numbered = omega (arith, below); is_order = list_at (orders_of q) (first ∷ others) place refl below }
+
+-- so the order of ORDER BY has its
+pub wanted_number : (q : Query) → IsNumberOf (orders_of q) (wanted_order q) (order_number q (wanted_order q))
+wanted_number q = number_known q (wanted_order q) (wanted_known q)
 
 -- a list that is not empty, and has a number, is one of the lists
 number_there : (lists : List (List ℕ)) (number first : ℕ) (others : List ℕ) → order_among lists number ≡ first ∷ others → Contains lists (first ∷ others)

@@ -142,7 +142,8 @@ fn list_number(query: &Query, lists: &[List<u32>], list: &[u32]) -> u32
     place_of(lists, list) as u32
 }
 
-fn order_number(query: &Query, orders: &[List<u32>], order: &[u32]) -> u32
+/// The number of the order; the empty one has 0.
+pub fn order_number(query: &Query, orders: &[List<u32>], order: &[u32]) -> u32
     requires orders { orders.now ≡ orders_of query.now }
     requires few_orders { length orders.now ≤ 60 }
     ensures { result ≡ number_of_order query.now order.now }

@@ -1,11 +1,10 @@
 //! The numbered lists and orders of a query.
 #![tactic(auto)]
 
-ghost use Rattle.std.specs.Prelude.{◌≡◌, ◌≤◌, ◌⊎◌, List, [], IfOk, IfErr, map, length};
-ghost use Rattle.std.specs.List.{Contains};
+ghost use Rattle.std.specs.Prelude.{◌≡◌, ◌≤◌, IfOk, IfErr, map, length};
 ghost use Rattle.query_core.specs.declared.query.Query.{Query};
 ghost use Rattle.request_props.specs.Found.{elements_of, element_of};
-ghost use Rattle.request_props.specs.Numbered.{IsProps, IsRefusedFor, IsNumberOf, IsRoot};
+ghost use Rattle.request_props.specs.Numbered.{IsProps, IsRefusedFor, IsRoot};
 ghost use Rattle.request_props.specs.Numbered.{lists_of, orders_of, order_among};
 ghost use Rattle.request_props.specs.Numbered.{root_dist as dist_of_root};
 
@@ -15,6 +14,7 @@ mod lookups;
 use crate::fault::PropsFault;
 use crate::found::{found_lists, found_orders, wanted_order};
 use crate::numbering::numbered;
+use crate::numbers::order_number;
 use crate::request::{Dist, Request};
 use crate::tables::{EqualityTables, GroupTables, PlacementTables};
 use orca_base::List;
@@ -111,7 +111,7 @@ fn root_request(alloc: Global, query: &Query, orders: &[List<u32>]) -> Result<Re
 {
     Ok(Request {
         dist: root_dist(query.options.root),
-        order: number_of(orders, wanted_order(alloc, query)?.as_slice()),
+        order: order_number(query, orders, wanted_order(alloc, query)?.as_slice()),
     })
 }
 
@@ -122,23 +122,6 @@ fn root_dist(root: RootDist) -> Dist
         RootDist::One => Dist::One,
         RootDist::Spread => Dist::Spread,
     }
-}
-
-// The number of an order that is empty or has one.
-fn number_of(orders: &[List<u32>], order: &[u32]) -> u32
-    requires known { (order.now ≡ []) ⊎ Contains orders.now order.now }
-    requires few { length orders.now ≤ 60 }
-    ensures { IsNumberOf orders.now order.now result }
-{
-    if order.is_empty() {
-        return 0;
-    }
-    for place in 0..orders.len() {
-        if orders[place].as_slice() == order {
-            return place as u32 + 1;
-        }
-    }
-    unreachable!()
 }
 
 fn orders_as_keys(alloc: Global, orders: &[List<u32>]) -> Result<Vec<List<OrderKey>>, AllocError>
