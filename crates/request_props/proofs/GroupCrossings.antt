@@ -26,13 +26,13 @@ module _ (q : Query) (n a b : ℕ) (is : IsEqualityAt q n a b) where
 
   module _ (IsOne : ℕ → Type 0) (ends : EqualityEnds) (are : AreEndsOf q IsOne ends) where
     -- sets of some columns have it exactly where its item is one of them
-    first_in : IsInSet ends.first n ↔ IsOne a
+    pub first_in : IsInSet ends.first n ↔ IsOne a
     first_in = (
       λ has. let (within, (c, d, other, one)) = (are.first n).0 has in subst IsOne (same_items c d other).0 one,
       λ one. (are.first n).1 (below, (a, b, is, one)),
     )
 
-    second_in : IsInSet ends.second n ↔ IsOne b
+    pub second_in : IsInSet ends.second n ↔ IsOne b
     second_in = (
       λ has. let (within, (c, d, other, one)) = (are.second n).0 has in subst IsOne (same_items c d other).1 one,
       λ one. (are.second n).1 (below, (a, b, is, one)),

@@ -16,3 +16,4 @@ pub mod GroupCrossings
 pub mod ListsOfEnds
 pub mod CrossingsByAny
 pub mod PhysicalLists
+pub mod OuterColumns

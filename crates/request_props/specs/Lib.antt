@@ -13,3 +13,4 @@ pub mod Counted
 pub mod Fitting
 pub mod Satisfied
 pub mod Classes
+pub mod Outer

@@ -16,6 +16,7 @@ ghost use Rattle.request_props.specs.declared.given.GivenDist.TheVariants.{Hashe
 ghost use Rattle.request_props.specs.declared.ends.EqualityEnds.{EqualityEnds as AnyEnds};
 ghost use Rattle.request_props.specs.Numbered.{IsProps, side_of, both_sides, equality_of};
 ghost use Rattle.request_props.specs.Numbered.{table_dist as dist_of_table, group_order as order_of_groups};
+ghost use Rattle.request_props.specs.Outer.{CountsOuterColumns};
 ghost use Rattle.request_props.specs.Numbered.{is_grouped_list as is_list_grouped, order_of, column_list, column_order};
 ghost use Rattle.request_props.specs.Satisfied.{BeginsWith, Meets};
 
@@ -78,16 +79,17 @@ impl Props {
     /// own.
     pub fn outer_columns(&self, query: &Query, group: KeyParts) -> usize
         requires { IsProps query.now self.now }
+        ensures { CountsOuterColumns query.now group result }
     {
         let leaving = self.ends(query, group).leaving();
-        let mut count = 0usize;
-        for giving in self.equalities.of_orders.as_slice() {
-            if leaving.meets(*giving) {
-                count = count.saturating_add(1);
+        let mut count = 0;
+        for place in 0..self.orders.len() {
+            let giving = self.ends_giving(query, place as u32 + 1);
+            if leaving.meets(giving) {
+                count += 1;
             }
         }
-        // The empty order is given by all columns.
-        count.saturating_sub(1)
+        count
     }
 
     /// The estimated rows of the group that the key names; 0 where the query has no such group.
