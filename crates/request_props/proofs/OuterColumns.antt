@@ -1,8 +1,8 @@
 -- Which orders are those of a column by which an equality leaves the group.
-use Rattle.std.proofs.Common.{◌≡◌, ◌+◌, ◌⊎◌, ◌↔◌, inl, inr, ℕ, suc, List, refl, subst, IsTrue, Bool, arith}
+use Rattle.std.proofs.Common.{◌≡◌, ◌+◌, ◌↔◌, inl, inr, ℕ, suc, List, refl, subst, IsTrue, Bool, arith}
 use Rattle.query_core.specs.declared.query.Query.{Query}
 use Rattle.query_core.specs.declared.words.KeyParts.{KeyParts}
-use Rattle.request_props.specs.Ends.{IsEqualityAt, AreEndsOf, HasColumn, HasFirstAlone, HasSecondAlone, HaveBoth, IsGivenBy}
+use Rattle.request_props.specs.Ends.{AreEndsOf, HasColumn, HasFirstAlone, HasSecondAlone, HaveBoth, IsGivenBy}
 use Rattle.request_props.specs.NumberSets.{IsInSet}
 use Rattle.request_props.specs.Outer.{HasOuterColumn, IsCountBelow}
 use Rattle.request_props.specs.declared.ends.EqualityEnds.{EqualityEnds}
