@@ -8,6 +8,6 @@ use Rattle.board_tests.specs.declared.call_tests.Numbers.{Numbers}
 
 -- the seat is one of a board of the words from 1 to 4, and holds no right
 pub record IsIdleAt (board : Board Numbers) (seat : Seat Numbers) : Type 0 where
-  pub seat : IsSeatOf (λ r. numbers r.limit) board seat
+  pub of_board : IsSeatOf (λ r. numbers r.limit) board seat
   pub limit : board.key.rules.limit ≡ 4
   pub rights : (hands seat).rights ≡ []

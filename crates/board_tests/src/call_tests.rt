@@ -1,12 +1,13 @@
 ghost use Rattle.std.specs.Prelude.{◌≡◌, ℕ, ◌<◌, ◌≤◌, [], ◌∷◌};
 ghost use Rattle.board_rule.specs.Looks.{ShowsFinished};
 ghost use Rattle.board_tests.specs.Numbers.{HasOnly};
+ghost use Rattle.board_tests.specs.Idle.{IsIdleAt};
 ghost use Rattle.goal_board.specs.Seats.{IsSeatOf, hands};
 ghost use Rattle.goal_board.specs.Calls.{Inserts, IsRightOf};
 ghost use Rattle.goal_board.specs.SeatCalls.{HasSeenPromise};
 
 use goal_board::{
-    Answer, Awaited, Board, GoalRules, Hints, Inserted, Right, Seat, Suspended, Woken,
+    Answer, Awaited, Board, Closed, GoalRules, Hints, Inserted, Right, Seat, Suspended, Woken,
 };
 use std::process::Abort;
 use std::test::Fail;
@@ -275,102 +276,196 @@ fn put_all(board: &Board<Numbers>, mut seat: Seat<Numbers>) -> (Seat<Numbers>, u
     (seat, fresh)
 }
 
+// The place of a word that wasn't there.
+fn place_of(rt: &impl Abort, board: &Board<Numbers>, seat: &mut Seat<Numbers>, word: u64) -> u32
+    requires idle { IsIdleAt board.now seat.old }
+    requires enters { (1 ≤ word) × (word ≤ 4) }
+    ensures idle { IsIdleAt board.now seat.new }
+    ensures parts { (hands seat.new).parts ≡ (hands seat.old).parts }
+    ensures near { result < board.now.key.room }
+{
+    match put_in(board, seat, word) {
+        Inserted::Fresh { at } => at,
+        Inserted::Known { .. } => panic!(rt; "the word was there"),
+        Inserted::Full => panic!(rt; "the board is full"),
+    }
+}
+
+// Finishes 3, which has no children.
+fn finish_three(
+    rt: &impl Abort,
+    board: &Board<Numbers>,
+    seat: &mut Seat<Numbers>,
+    three: u32,
+) -> Woken
+    requires idle { IsIdleAt board.now seat.old }
+    requires near { three < board.now.key.room }
+    ensures idle { IsIdleAt board.now seat.new }
+    ensures parts { (hands seat.new).parts ≡ (hands seat.old).parts }
+{
+    let right = claim_goal(rt, board, seat, three, 3);
+    finish_one(board, seat, right, 5, Answer { cost: 30, node: 3 })
+}
+
+// Finishes 4, once 3 is finished.
+fn finish_four(
+    rt: &impl Abort,
+    board: &Board<Numbers>,
+    seat: &mut Seat<Numbers>,
+    three: u32,
+    four: u32,
+) -> Woken
+    requires idle { IsIdleAt board.now seat.old }
+    requires near { (three < board.now.key.room) × (four < board.now.key.room) }
+    ensures idle { IsIdleAt board.now seat.new }
+    ensures parts { (hands seat.new).parts ≡ (hands seat.old).parts }
+{
+    let right = claim_goal(rt, board, seat, four, 4);
+    let answer = see_finished(rt, board, seat, three, 3, &right);
+    assert_eq!(rt; answer, Answer { cost: 30, node: 3 });
+    finish_one(board, seat, right, 63, Answer { cost: 40, node: 4 })
+}
+
+// Claims 3, which nobody else can claim then, and gives it up.
+fn claim_and_give_up(
+    rt: &impl Abort,
+    board: &Board<Numbers>,
+    seat: &mut Seat<Numbers>,
+    three: u32,
+) -> Suspended
+    requires idle { IsIdleAt board.now seat.old }
+    requires near { three < board.now.key.room }
+    ensures idle { IsIdleAt board.now seat.new }
+    ensures parts { (hands seat.new).parts ≡ (hands seat.old).parts }
+{
+    let right = claim_goal(rt, board, seat, three, 3);
+    claim_in_vain(rt, board, seat, three, &right);
+    pause(board, seat, right)
+}
+
+// Lets 4 wait for 3, and gives it up.
+fn wait_and_give_up(
+    rt: &impl Abort,
+    board: &Board<Numbers>,
+    seat: &mut Seat<Numbers>,
+    three: u32,
+    four: u32,
+) -> (Awaited, Suspended)
+    requires idle { IsIdleAt board.now seat.old }
+    requires near { (three < board.now.key.room) × (four < board.now.key.room) }
+    ensures idle { IsIdleAt board.now seat.new }
+    ensures parts { (hands seat.new).parts ≡ (hands seat.old).parts }
+{
+    let mut right = claim_goal(rt, board, seat, four, 4);
+    let awaited = wait_on(rt, board, seat, &mut right, three, 3);
+    (awaited, pause(board, seat, right))
+}
+
+// What a closed board held: so many cells and answers, a goal that is ready, and whether it was full.
+fn holds(closed: &Closed, cells: usize, answers: usize, ready: Option<u64>, full: bool) -> bool {
+    closed.cells.len() == cells
+        && closed.answers.len() == answers
+        && closed.who.len() == answers
+        && closed.ready == ready
+        && closed.full == full
+}
+
+fn put_three_words(rt: &impl Abort, board: &Board<Numbers>, seat: &mut Seat<Numbers>)
+    requires idle { IsIdleAt board.now seat.old }
+    ensures idle { IsIdleAt board.now seat.new }
+    ensures parts { (hands seat.new).parts ≡ (hands seat.old).parts }
+{
+    assert!(rt; matches!(put_in(board, seat, 4), Inserted::Fresh { .. }));
+    assert!(rt; matches!(put_in(board, seat, 3), Inserted::Fresh { .. }));
+    assert!(rt; matches!(put_in(board, seat, 3), Inserted::Known { .. }));
+}
+
 #[test]
 fn a_word_is_in_one_cell(rt: HostRuntime) -> Result<(), Fail> {
     let (board, mut seat) = Board::start(rt.alloc(), Numbers { limit: 4 }, 4)?;
-    assert!(rt; matches!(put_in(&board, &mut seat, 4), Inserted::Fresh { .. }));
-    assert!(rt; matches!(put_in(&board, &mut seat, 3), Inserted::Fresh { .. }));
-    assert!(rt; matches!(put_in(&board, &mut seat, 3), Inserted::Known { .. }));
+    put_three_words(&rt, &board, &mut seat);
     let mut other = board.split(&mut seat);
-    assert!(rt; matches!(put_in(&board, &mut other, 1), Inserted::Fresh { .. }));
+    place_of(&rt, &board, &mut other, 1);
     board.join(&mut seat, other);
     let closed = board.close(rt.alloc(), seat)?;
-    assert_eq!(rt; closed.cells.len(), 3);
-    assert_eq!(rt; closed.answers.len(), 0);
-    assert!(rt; !closed.full);
+    assert!(rt; holds(&closed, 3, 0, None, false));
     Ok(())
+}
+
+fn claim_in_turn(rt: &impl Abort, board: &Board<Numbers>, seat: &mut Seat<Numbers>)
+    requires idle { IsIdleAt board.now seat.old }
+    ensures idle { IsIdleAt board.now seat.new }
+    ensures parts { (hands seat.new).parts ≡ (hands seat.old).parts }
+{
+    let three = place_of(rt, board, seat, 3);
+    let four = place_of(rt, board, seat, 4);
+    assert_eq!(rt; claim_and_give_up(rt, board, seat, three), Suspended::Ready);
+    assert_eq!(rt; finish_three(rt, board, seat, three).count, 0);
+    assert!(rt; is_open(board, seat, four));
+    finish_four(rt, board, seat, three, four);
 }
 
 #[test]
 fn a_goal_is_claimed_by_one_at_a_time(rt: HostRuntime) -> Result<(), Fail> {
     let (board, mut seat) = Board::start(rt.alloc(), Numbers { limit: 4 }, 4)?;
-    let Inserted::Fresh { at: three } = put_in(&board, &mut seat, 3) else {
-        panic!(rt; "3 was there");
-    };
-    let Inserted::Fresh { at: four } = put_in(&board, &mut seat, 4) else {
-        panic!(rt; "4 was there");
-    };
-    let right = claim_goal(&rt, &board, &mut seat, three, 3);
-    claim_in_vain(&rt, &board, &mut seat, three, &right);
-    assert_eq!(rt; pause(&board, &mut seat, right), Suspended::Ready);
-    let right = claim_goal(&rt, &board, &mut seat, three, 3);
-    let woken = finish_one(&board, &mut seat, right, 5, Answer { cost: 30, node: 3 });
-    assert_eq!(rt; woken.count, 0);
-    assert!(rt; is_open(&board, &mut seat, four));
-    let right = claim_goal(&rt, &board, &mut seat, four, 4);
-    let answer = see_finished(&rt, &board, &mut seat, three, 3, &right);
-    assert_eq!(rt; answer, Answer { cost: 30, node: 3 });
-    finish_one(&board, &mut seat, right, 63, Answer { cost: 40, node: 4 });
+    claim_in_turn(&rt, &board, &mut seat);
     let closed = board.close(rt.alloc(), seat)?;
-    assert_eq!(rt; closed.answers.len(), 2);
-    assert_eq!(rt; closed.who.len(), 2);
-    assert!(rt; closed.ready.is_none() && !closed.full);
+    assert!(rt; holds(&closed, 2, 2, None, false));
     Ok(())
+}
+
+fn wait_for_three(rt: &impl Abort, board: &Board<Numbers>, seat: &mut Seat<Numbers>)
+    requires idle { IsIdleAt board.now seat.old }
+    ensures idle { IsIdleAt board.now seat.new }
+    ensures parts { (hands seat.new).parts ≡ (hands seat.old).parts }
+{
+    let four = place_of(rt, board, seat, 4);
+    let three = place_of(rt, board, seat, 3);
+    let waited = wait_and_give_up(rt, board, seat, three, four);
+    assert_eq!(rt; waited, (Awaited::Registered, Suspended::Waiting));
+    find_busy(rt, board, seat, four);
+    let woken = finish_three(rt, board, seat, three);
+    assert_eq!(rt;
+        woken,
+        Woken {
+            count: 1,
+            one: Some(four)
+        }
+    );
+    let waited = wait_and_give_up(rt, board, seat, three, four);
+    assert_eq!(rt; waited, (Awaited::Finished, Suspended::Ready));
 }
 
 #[test]
 fn a_goal_waits_for_its_child(rt: HostRuntime) -> Result<(), Fail> {
     let (board, mut seat) = Board::start(rt.alloc(), Numbers { limit: 4 }, 4)?;
-    let Inserted::Fresh { at: four } = put_in(&board, &mut seat, 4) else {
-        panic!(rt; "4 was there");
-    };
-    let Inserted::Fresh { at: three } = put_in(&board, &mut seat, 3) else {
-        panic!(rt; "3 was there");
-    };
-    let mut right = claim_goal(&rt, &board, &mut seat, four, 4);
-    assert_eq!(rt;
-        wait_on(&rt, &board, &mut seat, &mut right, three, 3),
-        Awaited::Registered
-    );
-    assert_eq!(rt; pause(&board, &mut seat, right), Suspended::Waiting);
-    find_busy(&rt, &board, &mut seat, four);
-    let right = claim_goal(&rt, &board, &mut seat, three, 3);
-    let woken = finish_one(&board, &mut seat, right, 5, Answer { cost: 30, node: 3 });
-    assert_eq!(rt; woken.count, 1);
-    assert_eq!(rt; woken.one, Some(four));
-    let mut right = claim_goal(&rt, &board, &mut seat, four, 4);
-    assert_eq!(rt;
-        wait_on(&rt, &board, &mut seat, &mut right, three, 3),
-        Awaited::Finished
-    );
-    assert_eq!(rt; pause(&board, &mut seat, right), Suspended::Ready);
+    wait_for_three(&rt, &board, &mut seat);
     let other = board.split(&mut seat);
     board.join(&mut seat, other);
     let closed = board.close(rt.alloc(), seat)?;
-    assert_eq!(rt; closed.cells.len(), 2);
-    assert_eq!(rt; closed.answers.len(), 1);
-    assert_eq!(rt; closed.ready, Some(4));
+    assert!(rt; holds(&closed, 2, 1, Some(4), false));
     Ok(())
+}
+
+fn fill_the_only_cell(rt: &impl Abort, board: &Board<Numbers>, seat: &mut Seat<Numbers>)
+    requires idle { IsIdleAt board.now seat.old }
+    ensures idle { IsIdleAt board.now seat.new }
+    ensures parts { (hands seat.new).parts ≡ (hands seat.old).parts }
+{
+    assert!(rt; !board.full_seen(seat));
+    let three = place_of(rt, board, seat, 3);
+    assert!(rt; matches!(put_in(board, seat, 4), Inserted::Full));
+    assert!(rt; matches!(put_in(board, seat, 3), Inserted::Known { .. }));
+    assert!(rt; !board.holds(seat, 4) && board.full_seen(seat));
+    assert_eq!(rt; finish_three(rt, board, seat, three).count, 0);
 }
 
 #[test]
 fn a_board_of_one_cell_is_full_at_the_second_word(rt: HostRuntime) -> Result<(), Fail> {
     let (board, mut seat) = Board::start(rt.alloc(), Numbers { limit: 4 }, 1)?;
-    assert!(rt; !board.full_seen(&mut seat));
-    let Inserted::Fresh { at } = put_in(&board, &mut seat, 3) else {
-        panic!(rt; "3 was there");
-    };
-    assert!(rt; matches!(put_in(&board, &mut seat, 4), Inserted::Full));
-    assert!(rt; matches!(put_in(&board, &mut seat, 3), Inserted::Known { .. }));
-    assert!(rt; !board.holds(&mut seat, 4));
-    assert!(rt; board.full_seen(&mut seat));
-    let right = claim_goal(&rt, &board, &mut seat, at, 3);
-    let woken = finish_one(&board, &mut seat, right, 0, Answer { cost: 30, node: 3 });
-    assert_eq!(rt; woken.count, 0);
+    fill_the_only_cell(&rt, &board, &mut seat);
     let closed = board.close(rt.alloc(), seat)?;
-    assert_eq!(rt; closed.cells.as_slice(), [3].as_slice());
-    assert_eq!(rt; closed.answers.len(), 1);
-    assert!(rt; closed.full && closed.ready.is_none());
+    assert!(rt; holds(&closed, 1, 1, None, true) && closed.cells.as_slice() == [3].as_slice());
     Ok(())
 }
 

@@ -2,6 +2,7 @@ ghost use Rattle.std.specs.Prelude.{◌≡◌, ℕ, ◌<◌, ◌≤◌};
 
 use goal_board::Hints;
 use place_hints::PlaceHints;
+use std::alloc::{AllocError, Global};
 use std::process::Abort;
 use std::test::Fail;
 use std::thread;
@@ -41,17 +42,53 @@ fn steal_some(hints: &mut PlaceHints, tries: u32) -> (u64, u64) {
     (count, sum)
 }
 
+fn take_and_steal(rt: &impl Abort, first: &mut PlaceHints, second: &mut PlaceHints)
+    requires { 4 ≤ first.old }
+{
+    hint_below(first, 4);
+    assert_eq!(rt; first.take(), Some(3));
+    assert_eq!(rt; (second.steal(0), second.steal(0)), (Some(0), Some(1)));
+    assert_eq!(rt; first.take(), Some(2));
+    assert!(rt; first.take().is_none() && second.steal(0).is_none());
+}
+
 #[test]
 fn the_newest_is_taken_and_the_oldest_stolen(rt: HostRuntime) -> Result<(), Fail> {
     let mut first = PlaceHints::new(rt.alloc(), 100)?;
     assert!(rt; first.take().is_none());
     let mut second = first.split(rt.alloc())?;
-    hint_below(&mut first, 4);
-    assert_eq!(rt; first.take(), Some(3));
-    assert_eq!(rt; second.steal(0), Some(0));
-    assert_eq!(rt; second.steal(0), Some(1));
-    assert_eq!(rt; first.take(), Some(2));
-    assert!(rt; first.take().is_none() && second.steal(0).is_none());
+    take_and_steal(&rt, &mut first, &mut second);
+    Ok(())
+}
+
+// Others know the hints of whoever was split from them, and of whom they were split from.
+fn steal_in_turn(
+    rt: &impl Abort,
+    first: &mut PlaceHints,
+    second: &mut PlaceHints,
+    third: &mut PlaceHints,
+)
+    requires { (2 ≤ second.old) × (1 ≤ third.old) }
+{
+    let others = (first.others(), second.others(), third.others());
+    assert_eq!(rt; others, (2, 1, 2));
+    hint_below(second, 2);
+    assert_eq!(rt; (first.steal(0), third.steal(1)), (Some(0), Some(1)));
+    hint_below(third, 1);
+    assert_eq!(rt; (first.steal(1), first.steal(2)), (Some(0), None));
+}
+
+// The same with a third one.
+fn split_again(
+    rt: &impl Abort,
+    alloc: Global,
+    first: &mut PlaceHints,
+    second: &mut PlaceHints,
+) -> Result<(), AllocError>
+    requires { (100 ≤ first.old) × (100 ≤ second.old) }
+{
+    let mut third = first.split(alloc)?;
+    steal_in_turn(rt, first, second, &mut third);
     Ok(())
 }
 
@@ -59,17 +96,7 @@ fn the_newest_is_taken_and_the_oldest_stolen(rt: HostRuntime) -> Result<(), Fail
 fn who_can_steal_from_whom(rt: HostRuntime) -> Result<(), Fail> {
     let mut first = PlaceHints::new(rt.alloc(), 100)?;
     let mut second = first.split(rt.alloc())?;
-    let mut third = first.split(rt.alloc())?;
-    assert_eq!(rt;
-        (first.others(), second.others(), third.others()),
-        (2, 1, 2)
-    );
-    hint_below(&mut second, 2);
-    assert_eq!(rt; first.steal(0), Some(0));
-    assert_eq!(rt; third.steal(1), Some(1));
-    hint_below(&mut third, 1);
-    assert_eq!(rt; first.steal(1), Some(0));
-    assert!(rt; first.steal(2).is_none());
+    split_again(&rt, rt.alloc(), &mut first, &mut second)?;
     Ok(())
 }
 
