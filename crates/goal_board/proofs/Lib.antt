@@ -1,6 +1,7 @@
 pub mod Overs
 pub mod Kept
 pub mod Told
+pub mod Seated
 pub mod Seen
 pub mod Probes
 pub mod Findings

@@ -1,5 +1,5 @@
 -- Hands over a board's rules stay so, and what a step's moment says of them.
-use Rattle.std.proofs.Common.{◌≡◌, ℕ, ◌+◌, ◌*◌, ◌≢◌, List, ◌∷◌, length, length-set, get_or, Option, Some, sym, ap, subst, ◌∙◌, ⊎_elim, ◌<◌, [], refl}
+use Rattle.std.proofs.Common.{◌≡◌, ℕ, ◌+◌, ◌*◌, ◌≢◌, List, ◌∷◌, length, length-set, get_or, Option, Some, sym, ap, subst, ◌∙◌, ⊎_elim}
 use mathlib.Core.Option.{some}
 use lib.ListN.{get_elem?}
 use Rattle.board_rule.specs.Meaning.{Meaning}
@@ -7,13 +7,12 @@ use Rattle.board_rule.specs.Words.{mem, cell_word}
 use Rattle.board_rule.specs.Looks.{Looked}
 use Rattle.board_rule.specs.Seats.{changed, looked, placed, joined, lasting}
 use Rattle.board_rule.specs.Rule.{IsSound}
-use Rattle.board_rule.specs.Records.{Claimed}
-use Rattle.board_rule.specs.Plays.{Sat, Moment}
+use Rattle.board_rule.specs.Plays.{Moment}
 use Rattle.board_rule.specs.declared.hands.Hands.{Hands}
 use Rattle.board_rule.proofs.Seating.{looked_append, lasting_looked}
 use Rattle.board_rule.proofs.Frames.{changed_from}
 use Rattle.goal_board.specs.Alone.{KeepsAll}
-use Rattle.goal_board.specs.Seats.{AreHandsOver, IsFree}
+use Rattle.goal_board.specs.Seats.{AreHandsOver}
 
 -- a sound board over these rules, with these hands among its seats'
 pub record SoundWith {R : Type 0} (meaning_of : R → Meaning) (rules : R) (room : ℕ) (v : Hands R) : Type 0 where
@@ -26,10 +25,6 @@ pub record SoundWith {R : Type 0} (meaning_of : R → Meaning) (rules : R) (room
 -- as many words are kept once one has changed
 pub all_changed : (room word x : ℕ) (o : Option (List ℕ)) → ((kept : List ℕ) → o ≡ Some kept → length kept ≡ 14 * room + 1) → (kept : List ℕ) → changed word x o ≡ Some kept → length kept ≡ 14 * room + 1
 all_changed room word x o all kept is = let t = changed_from word x o kept is in ap (length {A = ℕ}) (sym t.2) ∙ length-set t.0 word x ∙ all t.0 t.1
-
--- a seat stays bare, and awake, where a step left it with these hands
-pub still_seated : {R : Type 0} (before after : Sat R) (w : Hands R) → after ≡ (w, before.1) → before.1 ≡ [] → 0 < w.parts → (after.1 ≡ []) × (0 < after.0.parts)
-still_seated before after w told bare awake = (ap (λ (m : Sat _). m.1) told ∙ bare, subst (λ (m : Sat _). 0 < m.0.parts) (sym told) awake)
 
 module _ {R : Type 0} (meaning_of : R → Meaning) (rules : R) (room : ℕ) where
   -- the board at a step
@@ -75,9 +70,9 @@ module _ {R : Type 0} (meaning_of : R → Meaning) (rules : R) (room : ℕ) wher
   }
 
   -- and hands whose only new look is at no cell
-  pub over_beside : (v w : Hands R) (word value : ℕ) → ((p : ℕ) → word ≢ cell_word p) → w.rules ≡ v.rules → w.room ≡ v.room → w.looks ≡ (word, value) ∷ v.looks
+  pub over_beside : (v w : Hands R) (word value : ℕ) → w.rules ≡ v.rules → w.room ≡ v.room → w.looks ≡ (word, value) ∷ v.looks → ((p : ℕ) → word ≢ cell_word p)
       → KeepsAll room w → AreHandsOver meaning_of rules room v → AreHandsOver meaning_of rules room w
-  over_beside v w word value apart rules_same room_same looks all over = record {
+  over_beside v w word value rules_same room_same looks apart all over = record {
     its_rules = rules_same ∙ over.its_rules;
     its_room = room_same ∙ over.its_room;
     entries = λ p found near at is_word. ⊎_elim
@@ -95,14 +90,6 @@ module _ {R : Type 0} (meaning_of : R → Meaning) (rules : R) (room : ℕ) wher
     entries = λ p found near at is_word. over.entries p found near (subst (λ ls. Looked ls (cell_word p) found) looks at) is_word;
     all = all;
   }
-
-  -- and a seat that stored a word of an answer
-  pub over_stored : (before after : Sat R) (word x : ℕ) (rights : List Claimed) → after ≡ (record before.0 { alone = changed word x before.0.alone; rights = rights }, before.1)
-      → AreHandsOver meaning_of rules room before.0 → IsFree before.0 → AreHandsOver meaning_of rules room after.0 × IsFree after.0
-  over_stored before after word x rights told over free =
-      let w : Hands R = record before.0 { alone = changed word x before.0.alone; rights = rights } in
-      subst (λ (m : Sat R). AreHandsOver meaning_of rules room m.0 × IsFree m.0) (sym told)
-      (over_same before.0 w refl refl refl (all_changed room word x before.0.alone over.all) over, record { no_wait = free.no_wait; no_walk = free.no_walk })
 
   -- and hands that took in others
   pub over_joined : (v other : Hands R) → AreHandsOver meaning_of rules room v → AreHandsOver meaning_of rules room other → AreHandsOver meaning_of rules room (joined v other)

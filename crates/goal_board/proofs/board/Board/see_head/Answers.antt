@@ -1,60 +1,28 @@
 -- A seat that puts a wait in looks at a child's head.
-use Rattle.std.proofs.Common.{◌<◌, sym, refl, ap, subst, ◌∙◌, arith}
-use mathlib.Core.Option.{none}
-use Rattle.atomic_table.specs.Table.{step, Allows}
+use Rattle.std.proofs.Common.{sym, refl, subst, ◌∙◌, arith}
 use Rattle.board_rule.specs.declared.law.Key.{Key}
-use Rattle.board_rule.specs.Words.{head_word}
-use Rattle.board_rule.specs.Seats.{head_seen}
-use Rattle.board_rule.specs.Plays.{Sat, SeesHead}
-use Rattle.board_rule.proofs.Looking.{Holds}
-use Rattle.goal_board.specs.Seats.{AreHandsOver}
-use Rattle.goal_board.specs.Steps.{the_wait}
-use Rattle.goal_board.proofs.Overs.{over_beside}
-use Rattle.goal_board.proofs.Told.{leaves}
+use Rattle.goal_board.specs.Seats.{hands}
+use Rattle.goal_board.specs.Steps.{the_wait, CanSee}
 use Rattle.board_rule.proofs.WaitLooks.{see_allowed}
+use Rattle.goal_board.proofs.Told.{leaves}
+use Rattle.goal_board.proofs.Seated.{still_up, in_call_beside}
 use Rattle.goal_board.proofs.board.Board.see_head.Goals as goal
 
 pub load-requires : goal.load-requires
 load-requires g c =
     let b = c.args.self.now in
-    let s = c.args.seat.now.seat in
-    let z = b.table.shared.table_id in
-    let meaning = g.R.GoalRules.meaning in (
+    let may = subst (λ (k : Key _). CanSee (g.R.GoalRules.meaning k.rules) k.room (hands c.args.seat.now) c.args.child) (sym b.keyed) c.requires.may in (
       c.requires.seat.same_table,
       (let at = c.head_at.ensures in let near = c.requires.may.near in let sized = b.sized.0 in omega arith),
-      subst (λ (k : Key _). Allows (Holds meaning k.rules k.room) z.slots s.id s.me c.head_at.result (λ n. n) (SeesHead meaning (step z.slots c.head_at.result 0 0 none) s.me)) (sym b.keyed)
-          (see_allowed meaning b.key.rules b.key.room z.slots s.id s.me c.head_at.result (the_wait s.me.0) c.args.child c.head_at.ensures c.args.seat.now.awake c.requires.may),
+      see_allowed g.R.GoalRules.meaning _ _ _ _ _ _ _ _ c.head_at.ensures c.args.seat.now.awake may,
     )
 
 pub invariant_of-seat : goal.invariant_of-seat
-invariant_of-seat g c =
-    let b = c.args.self.now in
-    let s = c.args.seat.now.seat in
-    let z = b.table.shared.table_id in
-    let meaning = g.R.GoalRules.meaning in
-    let told = c.load.ensures.2 (the_wait s.me.0) c.args.child c.requires.may.is c.head_at.ensures in
-    record {
-      bare = ap (λ (m : Sat _). m.1) told.hands_are ∙ c.args.seat.now.bare;
-      awake = subst (λ (m : Sat _). 0 < m.0.parts) (sym told.hands_are) c.args.seat.now.awake;
-    }
+invariant_of-seat g c = let up = still_up c.args.seat.now (c.load.ensures.2 (the_wait (hands c.args.seat.now)) c.args.child c.requires.may.is c.head_at.ensures).hands_are c.args.seat.now.awake in record { bare = up.bare; awake = up.awake }
+
+pub returns-clause-told : goal.returns-clause-told
+returns-clause-told g c = leaves c.head_at.ensures (c.load.ensures.2 (the_wait (hands c.args.seat.now)) c.args.child c.requires.may.is c.head_at.ensures)
 
 pub returns-clause-seat : goal.returns-clause-seat
 returns-clause-seat g c =
-    let b = c.args.self.now in
-    let s = c.args.seat.now.seat in
-    let z = b.table.shared.table_id in
-    let meaning = g.R.GoalRules.meaning in
-    let told = c.load.ensures.2 (the_wait s.me.0) c.args.child c.requires.may.is c.head_at.ensures in
-    record {
-      same_table = c.load.ensures.0 ∙ c.requires.seat.same_table;
-      over = subst (λ (m : Sat _). AreHandsOver meaning b.key.rules b.key.room m.0) (sym told.hands_are)
-          (over_beside meaning b.key.rules b.key.room s.me.0 (head_seen s.me.0 (the_wait s.me.0) c.args.child c.load.result) (head_word c.args.child) c.load.result (λ p e. omega arith) refl refl refl c.requires.seat.over.all c.requires.seat.over);
-    }
-
-pub returns-clause-told : goal.returns-clause-told
-returns-clause-told g c =
-    let b = c.args.self.now in
-    let s = c.args.seat.now.seat in
-    let z = b.table.shared.table_id in
-    let meaning = g.R.GoalRules.meaning in
-    leaves meaning s.me c.load.new.seat.me (head_seen s.me.0 (the_wait s.me.0) c.args.child c.load.result) c.head_at.result (head_word c.args.child) c.load.result c.head_at.ensures (c.load.ensures.2 (the_wait s.me.0) c.args.child c.requires.may.is c.head_at.ensures)
+    in_call_beside (c.load.ensures.0 ∙ c.requires.seat.same_table) (returns-clause-told g c).hands_are refl refl refl (λ p e. omega arith) c.requires.seat.over.all c.requires.seat.over

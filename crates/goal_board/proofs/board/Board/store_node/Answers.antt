@@ -1,41 +1,23 @@
 -- The holder of a goal's right stores its node.
-use Rattle.std.proofs.Common.{sym, ap, subst, ◌∙◌, arith}
-use mathlib.Core.Option.{none}
-use Rattle.atomic_table.specs.Table.{step, Allows}
-use Rattle.board_rule.specs.declared.law.Key.{Key}
-use Rattle.board_rule.specs.Words.{node_word}
-use Rattle.board_rule.specs.Seats.{with_node, node_stored}
-use Rattle.board_rule.specs.Plays.{Sat, StoresNode}
-use Rattle.board_rule.proofs.Looking.{Holds}
-use Rattle.goal_board.proofs.Overs.{still_seated, over_stored}
+use Rattle.std.proofs.Common.{ap, ◌∙◌, arith}
+use Rattle.board_rule.specs.Plays.{Sat}
 use Rattle.board_rule.proofs.Answering.{store_node_allowed}
+use Rattle.goal_board.proofs.Seated.{lawful_right, still_up, seat_stored}
 use Rattle.goal_board.proofs.board.Board.store_node.Goals as goal
 
 pub store-requires : goal.store-requires
 store-requires g c =
-    let b = c.args.self.now in
-    let s = c.args.seat.now.seat in
-    let z = b.table.shared.table_id in
-    let meaning = g.R.GoalRules.meaning in (
+    let b = c.args.self.now in (
       c.requires.seat.same_table,
       (let at = c.node_at.ensures in let near = c.requires.may.near in let sized = b.sized.0 in omega arith),
-      subst (λ (k : Key _). Allows (Holds meaning k.rules k.room) z.slots s.id s.me c.node_at.result (λ _. c.args.node) (λ _. StoresNode meaning (step z.slots c.node_at.result c.args.node 0 none) s.me c.args.node)) (sym b.keyed)
-          (store_node_allowed meaning b.key.rules b.key.room z.slots s.id s.me c.node_at.result c.args.place c.args.node c.node_at.ensures c.args.seat.now.awake c.requires.may),
+      store_node_allowed g.R.GoalRules.meaning _ _ _ _ _ _ _ _ c.node_at.ensures c.args.seat.now.awake (lawful_right b c.requires.may),
     )
 
 pub invariant_of-seat : goal.invariant_of-seat
-invariant_of-seat g c =
-    let s = c.args.seat.now in
-    let told = c.store.ensures.2 c.args.place c.node_at.ensures in
-    let t = still_seated s.seat.me c.store.new.seat.me (node_stored s.seat.me.0 c.args.place c.args.node) told s.bare s.awake in record { bare = t.0; awake = t.1 }
-
-pub returns-clause-seat : goal.returns-clause-seat
-returns-clause-seat g c =
-    let b = c.args.self.now in
-    let before = c.args.seat.now.seat.me in
-    let t = over_stored g.R.GoalRules.meaning b.key.rules b.key.room before c.store.new.seat.me (node_word c.args.place) c.args.node (with_node c.args.place c.args.node before.0.rights)
-    (c.store.ensures.2 c.args.place c.node_at.ensures) c.requires.seat.over c.requires.seat.free in
-    record { same_table = c.store.ensures.0 ∙ c.requires.seat.same_table; over = t.0; free = t.1 }
+invariant_of-seat g c = let up = still_up c.args.seat.now (c.store.ensures.2 c.args.place c.node_at.ensures) c.args.seat.now.awake in record { bare = up.bare; awake = up.awake }
 
 pub returns-clause-hands : goal.returns-clause-hands
 returns-clause-hands g c = ap (λ (m : Sat _). m.0) (c.store.ensures.2 c.args.place c.node_at.ensures)
+
+pub returns-clause-seat : goal.returns-clause-seat
+returns-clause-seat g c = seat_stored (c.store.ensures.0 ∙ c.requires.seat.same_table) _ _ (returns-clause-hands g c) c.requires.seat.over c.requires.seat.free

@@ -1,0 +1,77 @@
+-- What a step leaves of a seat: bare and awake, and one of its board.
+use Rattle.std.proofs.Common.{◌≡◌, ◌≢◌, ℕ, ◌<◌, [], ◌∷◌, List, sym, refl, subst}
+use Rattle.board_rule.specs.Meaning.{Meaning}
+use Rattle.board_rule.specs.Words.{cell_word}
+use Rattle.board_rule.specs.Records.{Claimed}
+use Rattle.board_rule.specs.May.{HasRight}
+use Rattle.board_rule.specs.declared.law.Key.{Key}
+use Rattle.board_rule.specs.Seats.{changed}
+use Rattle.board_rule.specs.Plays.{Sat}
+use Rattle.board_rule.specs.declared.hands.Hands.{Hands}
+use Rattle.goal_board.specs.Alone.{KeepsAll}
+use Rattle.goal_board.specs.Seats.{AreHandsOver, IsFree, IsSeatOf, IsInCall, hands}
+use Rattle.goal_board.specs.Steps.{Tries}
+use Rattle.goal_board.specs.declared.board.Board.{Board}
+use Rattle.goal_board.specs.declared.board.Seat.{Seat}
+use Rattle.goal_board.proofs.Overs.{over_looked, over_beside, over_same, all_changed}
+use Rattle.goal_board.proofs.Told.{either_way}
+
+-- a seat has no slot, and a part of the board
+pub record IsUp {R : Type 0} (m : Sat R) : Type 0 where
+  pub bare : m.1 ≡ []
+  pub awake : 0 < m.0.parts
+
+module _ {R : Type 0} (s : Seat R) where
+  -- it is so after a step that left it these hands
+  pub still_up : {after : Sat R} {w : Hands R} → after ≡ (w, s.seat.me.1) → 0 < w.parts → IsUp after
+  still_up told awake = subst IsUp (sym told) (record { bare = s.bare; awake = awake })
+
+  -- and after one that left it one or other hands
+  pub up_either_way : {after : Sat R} {won lost : Hands R} {value head : ℕ} → (value ≡ head → after ≡ (won, s.seat.me.1)) → (value ≢ head → after ≡ (lost, s.seat.me.1))
+      → 0 < won.parts → 0 < lost.parts → IsUp after
+  up_either_way hit miss if_won if_lost = either_way IsUp hit miss (record { bare = s.bare; awake = if_won }) (record { bare = s.bare; awake = if_lost })
+
+-- a right to a goal of the board is one by the law of its table
+pub lawful_right : {R : Type 0} (b : Board R) {rights : List Claimed} {place : ℕ} → HasRight b.key.room rights place → HasRight b.table.shared.key.room rights place
+lawful_right b {rights} {place} has = subst (λ (k : Key _). HasRight k.room rights place) (sym b.keyed) has
+
+module _ {R : Type 0} {meaning_of : R → Meaning} {b : Board R} {t : Seat R} (same_table : t.seat.table_id ≡ b.table.shared.table_id) where
+  -- hands with the same looks leave the seat in its call
+  pub in_call_same : {v left : Hands R} → hands t ≡ left → left.rules ≡ v.rules → left.room ≡ v.room → left.looks ≡ v.looks → KeepsAll b.key.room left
+      → AreHandsOver meaning_of b.key.rules b.key.room v → IsInCall meaning_of b t
+  in_call_same {v} {left} left_is rules_same room_same looks all over = record {
+    same_table = same_table;
+    over = subst (AreHandsOver meaning_of b.key.rules b.key.room) (sym left_is) (over_same meaning_of b.key.rules b.key.room v left rules_same room_same looks all over);
+  }
+
+  -- and so do hands whose only new look is at no cell
+  pub in_call_beside : {v left : Hands R} {word value : ℕ} → hands t ≡ left → left.rules ≡ v.rules → left.room ≡ v.room → left.looks ≡ (word, value) ∷ v.looks → ((p : ℕ) → word ≢ cell_word p)
+      → KeepsAll b.key.room left → AreHandsOver meaning_of b.key.rules b.key.room v → IsInCall meaning_of b t
+  in_call_beside {v} {left} {word} {value} left_is rules_same room_same looks apart all over = record {
+    same_table = same_table;
+    over = subst (AreHandsOver meaning_of b.key.rules b.key.room) (sym left_is)
+        (over_beside meaning_of b.key.rules b.key.room v left word value rules_same room_same looks apart all over);
+  }
+
+  -- free hands of this kind leave a seat of the board
+  pub seat_beside : {v left : Hands R} {word value : ℕ} → hands t ≡ left → left.rules ≡ v.rules → left.room ≡ v.room → left.looks ≡ (word, value) ∷ v.looks → ((p : ℕ) → word ≢ cell_word p)
+      → KeepsAll b.key.room left → IsFree left → AreHandsOver meaning_of b.key.rules b.key.room v → IsSeatOf meaning_of b t
+  seat_beside left_is rules_same room_same looks apart all free over =
+      let call : IsInCall meaning_of b t = in_call_beside left_is rules_same room_same looks apart all over in
+      record { same_table = same_table; over = call.over; free = subst IsFree (sym left_is) free }
+
+  -- a store by the holder of a right does so
+  pub seat_stored : {v : Hands R} (word x : ℕ) {rights : List Claimed} → hands t ≡ record v { alone = changed word x v.alone; rights = rights }
+      → AreHandsOver meaning_of b.key.rules b.key.room v → IsFree v → IsSeatOf meaning_of b t
+  seat_stored {v} word x told over free =
+      let call : IsInCall meaning_of b t = in_call_same told refl refl refl (all_changed b.key.room word x v.alone over.all) over in
+      record { same_table = same_table; over = call.over; free = subst IsFree (sym told) (record { no_wait = free.no_wait; no_walk = free.no_walk }) }
+
+  -- and so does a compare-exchange from 0 that leaves such hands where it found 0
+  pub seat_tried : {v won : Hands R} {word value : ℕ} → Tries meaning_of v word value won (hands t) → AreHandsOver meaning_of b.key.rules b.key.room won → IsFree won
+      → AreHandsOver meaning_of b.key.rules b.key.room v → IsFree v → IsSeatOf meaning_of b t
+  seat_tried {v} {won} {word} {value} told won_over won_free over free = record {
+    same_table = same_table;
+    over = either_way (AreHandsOver meaning_of b.key.rules b.key.room) told.hit told.miss won_over (over_looked meaning_of b.key.rules b.key.room v word value over told.moment);
+    free = either_way IsFree told.hit told.miss won_free (record { no_wait = free.no_wait; no_walk = free.no_walk });
+  }
