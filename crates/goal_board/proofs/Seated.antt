@@ -31,9 +31,13 @@ module _ {R : Type 0} (s : Seat R) where
       → 0 < won.parts → 0 < lost.parts → IsUp after
   up_either_way hit miss if_won if_lost = either_way IsUp hit miss (record { bare = s.bare; awake = if_won }) (record { bare = s.bare; awake = if_lost })
 
--- a right to a goal of the board is one by the law of its table
+-- what holds of the board's rules and cells holds of those by its table's law
+pub lawful : {R : Type 0} (b : Board R) (Fact : R → ℕ → Type 0) → Fact b.key.rules b.key.room → Fact b.table.shared.key.rules b.table.shared.key.room
+lawful b Fact holds = subst (λ (k : Key _). Fact k.rules k.room) (sym b.keyed) holds
+
+-- as a right to a goal
 pub lawful_right : {R : Type 0} (b : Board R) {rights : List Claimed} {place : ℕ} → HasRight b.key.room rights place → HasRight b.table.shared.key.room rights place
-lawful_right b {rights} {place} has = subst (λ (k : Key _). HasRight k.room rights place) (sym b.keyed) has
+lawful_right b {rights} {place} has = lawful b (λ _ room. HasRight room rights place) has
 
 module _ {R : Type 0} {meaning_of : R → Meaning} {b : Board R} {t : Seat R} (same_table : t.seat.table_id ≡ b.table.shared.table_id) where
   -- hands with the same looks leave the seat in its call

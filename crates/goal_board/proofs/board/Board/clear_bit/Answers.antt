@@ -15,11 +15,14 @@ fetch_and-requires g c =
     )
 
 pub invariant_of-seat : goal.invariant_of-seat
-invariant_of-seat g c = let up = still_up c.args.seat.now (c.fetch_and.ensures.2 c.args.waiter c.requires.first.0 c.requires.first.1).hands_are c.args.seat.now.awake in record { bare = up.bare; awake = up.awake }
+invariant_of-seat g c =
+    let up = still_up c.args.seat.now (c.fetch_and.ensures.2 c.args.waiter c.requires.first.0 c.requires.first.1).hands_are c.args.seat.now.awake in
+    record { bare = up.bare; awake = up.awake }
 
 pub returns-clause-told : goal.returns-clause-told
 returns-clause-told g c = leaves c.run_at.ensures (c.fetch_and.ensures.2 c.args.waiter c.requires.first.0 c.requires.first.1)
 
 pub returns-clause-seat : goal.returns-clause-seat
 returns-clause-seat g c =
-    in_call_beside (c.fetch_and.ensures.0 ∙ c.requires.seat.same_table) (returns-clause-told g c).hands_are refl refl refl (λ p e. omega arith) (all_changed _ _ _ _ c.requires.seat.over.all) c.requires.seat.over
+    in_call_beside (c.fetch_and.ensures.0 ∙ c.requires.seat.same_table) (returns-clause-told g c).hands_are refl refl refl (λ p e. omega arith)
+    (all_changed _ _ _ _ c.requires.seat.over.all) c.requires.seat.over

@@ -1,25 +1,26 @@
 -- A head is closed by its goal's holder.
-use Rattle.std.proofs.Common.{sym, refl, subst, ◌∙◌, arith}
-use Rattle.board_rule.specs.declared.law.Key.{Key}
+use Rattle.std.proofs.Common.{refl, ◌∙◌, arith}
 use Rattle.goal_board.specs.Seats.{hands}
 use Rattle.goal_board.specs.Steps.{CanClose}
 use Rattle.board_rule.proofs.Closing.{close_allowed}
 use Rattle.goal_board.proofs.Overs.{all_changed}
 use Rattle.goal_board.proofs.Told.{leaves}
-use Rattle.goal_board.proofs.Seated.{still_up, in_call_beside}
+use Rattle.goal_board.proofs.Seated.{lawful, still_up, in_call_beside}
 use Rattle.goal_board.proofs.board.Board.close_head.Goals as goal
 
 pub swap-requires : goal.swap-requires
 swap-requires g c =
     let b = c.args.self.now in
-    let may = subst (λ (k : Key _). CanClose (g.R.GoalRules.meaning k.rules) k.room (hands c.args.seat.now) c.args.place c.args._worker c.args._cost c.args._node) (sym b.keyed) c.requires.may in (
+    let may = lawful b (λ rules room. CanClose (g.R.GoalRules.meaning rules) room (hands c.args.seat.now) c.args.place c.args._worker c.args._cost c.args._node) c.requires.may in (
       c.requires.seat.same_table,
       (let at = c.head_at.ensures in let near = c.requires.may.near in let sized = b.sized.0 in omega arith),
       close_allowed g.R.GoalRules.meaning _ _ _ _ _ _ _ _ _ _ c.head_at.ensures c.args.seat.now.awake may c.requires.seat.free.no_wait c.requires.seat.free.no_walk,
     )
 
 pub invariant_of-seat : goal.invariant_of-seat
-invariant_of-seat g c = let up = still_up c.args.seat.now (c.swap.ensures.2 c.args.place c.args._worker c.args._cost c.args._node c.head_at.ensures c.requires.may.stored).tells.hands_are c.args.seat.now.awake in record { bare = up.bare; awake = up.awake }
+invariant_of-seat g c =
+    let up = still_up c.args.seat.now (c.swap.ensures.2 c.args.place c.args._worker c.args._cost c.args._node c.head_at.ensures c.requires.may.stored).tells.hands_are c.args.seat.now.awake in
+    record { bare = up.bare; awake = up.awake }
 
 pub returns-clause-told : goal.returns-clause-told
 returns-clause-told g c =
@@ -28,4 +29,5 @@ returns-clause-told g c =
 
 pub returns-clause-seat : goal.returns-clause-seat
 returns-clause-seat g c =
-    in_call_beside (c.swap.ensures.0 ∙ c.requires.seat.same_table) (returns-clause-told g c).leaves.hands_are refl refl refl (λ p e. omega arith) (all_changed _ _ _ _ c.requires.seat.over.all) c.requires.seat.over
+    in_call_beside (c.swap.ensures.0 ∙ c.requires.seat.same_table) (returns-clause-told g c).leaves.hands_are refl refl refl (λ p e. omega arith)
+    (all_changed _ _ _ _ c.requires.seat.over.all) c.requires.seat.over

@@ -1,18 +1,17 @@
 -- An entry is put where its probe ended.
-use Rattle.std.proofs.Common.{sym, subst, ◌∙◌, arith}
-use Rattle.board_rule.specs.declared.law.Key.{Key}
+use Rattle.std.proofs.Common.{◌∙◌, arith}
 use Rattle.goal_board.specs.Seats.{hands}
 use Rattle.goal_board.specs.Steps.{CanPut}
 use Rattle.board_rule.proofs.Putting.{put_allowed}
 use Rattle.goal_board.proofs.Overs.{over_placed}
 use Rattle.goal_board.proofs.Told.{tries}
-use Rattle.goal_board.proofs.Seated.{up_either_way, seat_tried}
+use Rattle.goal_board.proofs.Seated.{lawful, up_either_way, seat_tried}
 use Rattle.goal_board.proofs.board.Board.put.Goals as goal
 
 pub compare_exchange-requires : goal.compare_exchange-requires
 compare_exchange-requires g c =
     let b = c.args.self.now in
-    let may = subst (λ (k : Key _). CanPut (g.R.GoalRules.meaning k.rules) k.room (hands c.args.seat.now) c.args.place c.args.word) (sym b.keyed) c.requires.may in (
+    let may = lawful b (λ rules room. CanPut (g.R.GoalRules.meaning rules) room (hands c.args.seat.now) c.args.place c.args.word) c.requires.may in (
       c.requires.seat.same_table,
       (let at = c.cell_at.ensures in let near = c.requires.may.near in let sized = b.sized.0 in omega arith),
       put_allowed g.R.GoalRules.meaning _ _ _ _ _ _ _ _ c.cell_at.ensures c.args.seat.now.awake may,
@@ -22,7 +21,8 @@ pub invariant_of-seat : goal.invariant_of-seat
 invariant_of-seat g c =
     let s = c.args.seat.now in
     let told = c.compare_exchange.ensures.2 c.args.place c.cell_at.ensures in
-    let up = up_either_way s told.hit told.miss s.awake s.awake in record { bare = up.bare; awake = up.awake }
+    let up = up_either_way s told.hit told.miss s.awake s.awake in
+    record { bare = up.bare; awake = up.awake }
 
 pub returns-clause-told : goal.returns-clause-told
 returns-clause-told g c = tries c.cell_at.ensures (c.compare_exchange.ensures.2 c.args.place c.cell_at.ensures)

@@ -1,6 +1,5 @@
 -- A seat that puts a wait in makes its waiter the first of the child's list.
 use Rattle.std.proofs.Common.{◌≤◌, ◌^◌, sym, refl, ap, subst, ◌∙◌, arith}
-use Rattle.board_rule.specs.declared.law.Key.{Key}
 use Rattle.board_rule.specs.Words.{head_word}
 use Rattle.board_rule.specs.Waiters.{pushed}
 use Rattle.board_rule.specs.Seats.{head_seen}
@@ -10,13 +9,13 @@ use Rattle.goal_board.specs.Steps.{the_wait}
 use Rattle.board_rule.proofs.Pushing.{push_allowed}
 use Rattle.goal_board.proofs.Overs.{over_beside, all_changed}
 use Rattle.goal_board.proofs.Told.{either_way}
-use Rattle.goal_board.proofs.Seated.{up_either_way}
+use Rattle.goal_board.proofs.Seated.{lawful, up_either_way}
 use Rattle.goal_board.proofs.board.Board.put_wait.Goals as goal
 
 pub compare_exchange-requires : goal.compare_exchange-requires
 compare_exchange-requires g c =
     let b = c.args.self.now in
-    let room = subst (λ (k : Key _). k.room ≤ 2 ^ 20) (sym b.keyed) b.sized.3 in (
+    let room = lawful b (λ _ room. room ≤ 2 ^ 20) b.sized.3 in (
       c.requires.seat.same_table,
       (let at = c.head_at.ensures in let near = c.requires.near in let sized = b.sized.0 in omega arith),
       push_allowed g.R.GoalRules.meaning _ _ room _ _ _ _ (the_wait (hands c.args.seat.now)) _ _
@@ -29,7 +28,8 @@ invariant_of-seat g c =
     let s = c.args.seat.now in
     let told = c.compare_exchange.ensures.2 in
     let may = c.requires.may in
-    let up = up_either_way s (told.hit (the_wait (hands s)) may.is may.seen) (told.miss (the_wait (hands s)) may.is) s.awake s.awake in record { bare = up.bare; awake = up.awake }
+    let up = up_either_way s (told.hit (the_wait (hands s)) may.is may.seen) (told.miss (the_wait (hands s)) may.is) s.awake s.awake in
+    record { bare = up.bare; awake = up.awake }
 
 pub returns-clause-seat : goal.returns-clause-seat
 returns-clause-seat g c =

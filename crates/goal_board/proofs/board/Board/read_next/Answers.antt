@@ -14,11 +14,14 @@ load-requires g c =
     )
 
 pub invariant_of-seat : goal.invariant_of-seat
-invariant_of-seat g c = let up = still_up c.args.seat.now (c.load.ensures.2 c.args.waiter c.next_at.ensures).hands_are c.args.seat.now.awake in record { bare = up.bare; awake = up.awake }
+invariant_of-seat g c =
+    let up = still_up c.args.seat.now (c.load.ensures.2 c.args.waiter c.next_at.ensures).hands_are c.args.seat.now.awake in
+    record { bare = up.bare; awake = up.awake }
 
 pub returns-clause-told : goal.returns-clause-told
 returns-clause-told g c = leaves c.next_at.ensures (c.load.ensures.2 c.args.waiter c.next_at.ensures)
 
 pub returns-clause-seat : goal.returns-clause-seat
 returns-clause-seat g c =
-    in_call_beside (c.load.ensures.0 ∙ c.requires.seat.same_table) (returns-clause-told g c).hands_are refl refl refl (λ p e. omega arith) c.requires.seat.over.all c.requires.seat.over
+    in_call_beside (c.load.ensures.0 ∙ c.requires.seat.same_table) (returns-clause-told g c).hands_are refl refl refl (λ p e. omega arith)
+    c.requires.seat.over.all c.requires.seat.over

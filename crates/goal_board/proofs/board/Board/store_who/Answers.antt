@@ -14,7 +14,9 @@ store-requires g c =
     )
 
 pub invariant_of-seat : goal.invariant_of-seat
-invariant_of-seat g c = let up = still_up c.args.seat.now (c.store.ensures.2 c.args.place c.who_at.ensures) c.args.seat.now.awake in record { bare = up.bare; awake = up.awake }
+invariant_of-seat g c =
+    let up = still_up c.args.seat.now (c.store.ensures.2 c.args.place c.who_at.ensures) c.args.seat.now.awake in
+    record { bare = up.bare; awake = up.awake }
 
 pub returns-clause-hands : goal.returns-clause-hands
 returns-clause-hands g c = ap (λ (m : Sat _). m.0) (c.store.ensures.2 c.args.place c.who_at.ensures)
