@@ -36,10 +36,10 @@ found_set value is none = let at_zero : not (eqb value 0) ≡ false = ap (λ x. 
 pub found_unset : (value : ℕ) → not (eqb value 0) ≡ false → value ≡ 0
 found_unset value is = ⊎_elim (λ none. none) (λ taken. let otherwise : not (eqb value 0) ≡ true = ap not (ne_eqb value 0 taken) in let bad : ⊥ = cc in absurd bad) (cases_eq value 0)
 
-module _ {R : Type 0} (meaning_of : R → Meaning) (rules : R) (room : ℕ) where
-  pub reads_cell : (v w : Hands R) (at value : ℕ) (found : Option ℕ) → AreHandsOver meaning_of rules room v → LooksAt meaning_of v (cell_word at) value w
+module _ {R : Type 0} {meaning_of : R → Meaning} {rules : R} {room : ℕ} where
+  pub reads_cell : {v w : Hands R} {at value : ℕ} {found : Option ℕ} → AreHandsOver meaning_of rules room v → LooksAt meaning_of v (cell_word at) value w
       → value ≡ found_word found → ((word : ℕ) → found ≡ Some word → word ≢ 0) → ReadsCell v at found w
-  reads_cell v w at value found over told same is_word = record {
+  reads_cell {v} {at} {value} over told same is_word = record {
     hands_are = told.hands_are ∙ ap (looked v (cell_word at)) same;
     some_word = is_word;
     looks = subst (λ x. IsSeen v ((cell_word at, x) ∷ [])) same
@@ -47,9 +47,9 @@ module _ {R : Type 0} (meaning_of : R → Meaning) (rules : R) (room : ℕ) wher
   }
 
   -- no goal stood in the cell
-  pub finds_no_goal : (v w : Hands R) (at value : ℕ) → AreHandsOver meaning_of rules room v → LooksAt meaning_of v (cell_word at) value w
+  pub finds_no_goal : {v w : Hands R} {at value : ℕ} → AreHandsOver meaning_of rules room v → LooksAt meaning_of v (cell_word at) value w
       → (value ≡ 0) ⊎ ((meaning_of rules).goal value ≡ false) → FindsBusy (meaning_of rules) room v at w
-  finds_no_goal v w at value over told not_goal = record {
+  finds_no_goal {v} {at} {value} over told not_goal = record {
     more = (cell_word at, value) ∷ [];
     looks = seen_one v (cell_word at, value) (λ e. omega (arith, e)) (saw_at meaning_of rules room v (cell_word at) value over told.moment);
     busy = inl (value, inl (refl, refl), not_goal);
@@ -64,10 +64,10 @@ module _ {R : Type 0} (meaning_of : R → Meaning) (rules : R) (room : ℕ) wher
       (seen_one v (cell_word at, goal) (λ e. omega (arith, e)) (saw_at meaning_of rules room v (cell_word at) goal over told.moment))
       (saw_at meaning_of rules room w (run_word at) value after moment)
 
-  pub claims_goal : (v w u : Hands R) (at goal value : ℕ) → at < room → AreHandsOver meaning_of rules room v → AreHandsOver meaning_of rules room w
+  pub claims_goal : {v w u : Hands R} {at goal value : ℕ} → at < room → AreHandsOver meaning_of rules room v → AreHandsOver meaning_of rules room w
       → LooksAt meaning_of v (cell_word at) goal w → goal ≢ 0 → (meaning_of rules).goal goal ≡ true → Tries meaning_of w (run_word at) value (claimed w at) u → value ≡ 0
       → ClaimsGoal (meaning_of rules) room v at (record { place = at; goal = goal; waits = 0 }) u
-  claims_goal v w u at goal value near over after told some_goal is_goal tries free =
+  claims_goal {v} {w} {u} {at} {goal} {value} near over after told some_goal is_goal tries free =
       let is : u ≡ claimed (looked v (cell_word at) goal) at = tries.hit free ∙ ap (λ h. claimed h at) told.hands_are in
       let here : Looked w.looks (cell_word at) goal = subst (λ (h : Hands R). Looked h.looks (cell_word at) goal) (sym told.hands_are) (inl (refl, refl)) in
       record {
@@ -87,9 +87,9 @@ module _ {R : Type 0} (meaning_of : R → Meaning) (rules : R) (room : ℕ) wher
         all = over.all;
       }
 
-  pub finds_busy : (v w u : Hands R) (at goal value : ℕ) → AreHandsOver meaning_of rules room v → AreHandsOver meaning_of rules room w
+  pub finds_busy : {v w u : Hands R} {at goal value : ℕ} → AreHandsOver meaning_of rules room v → AreHandsOver meaning_of rules room w
       → LooksAt meaning_of v (cell_word at) goal w → Tries meaning_of w (run_word at) value (claimed w at) u → value ≢ 0 → FindsBusy (meaning_of rules) room v at u
-  finds_busy v w u at goal value over after told tries taken = record {
+  finds_busy {v} {w} {at} {goal} {value} over after told tries taken = record {
     more = (run_word at, value) ∷ ((cell_word at, goal) ∷ []);
     looks = both_looks v w at goal value over after told tries.moment;
     busy = inr (value, inl (refl, refl), taken);
@@ -108,11 +108,11 @@ module _ {R : Type 0} (meaning_of : R → Meaning) (rules : R) (room : ℕ) wher
     not_ready = wait_left found;
   }
 
-  pub suspends_ready : (v w : Hands R) (place found : ℕ) → AreHandsOver meaning_of rules room v → Leaves meaning_of v (run_word place) found (suspended v place found) w → found ≡ 256 → SuspendsGoal v place Ready w
-  suspends_ready v w place found over told held = suspends v w place found Ready over told (λ _. held) (λ is. let no : ⊥ = cc in absurd no)
+  pub suspends_ready : {v w : Hands R} {place found : ℕ} → AreHandsOver meaning_of rules room v → Leaves meaning_of v (run_word place) found (suspended v place found) w → found ≡ 256 → SuspendsGoal v place Ready w
+  suspends_ready {v} {w} {place} {found} over told held = suspends v w place found Ready over told (λ _. held) (λ is. let no : ⊥ = cc in absurd no)
 
-  pub suspends_waiting : (v w : Hands R) (place found : ℕ) → AreHandsOver meaning_of rules room v → Leaves meaning_of v (run_word place) found (suspended v place found) w → found ≢ 256 → SuspendsGoal v place Waiting w
-  suspends_waiting v w place found over told more = suspends v w place found Waiting over told (λ is. let no : ⊥ = cc in absurd no) (λ _. more)
+  pub suspends_waiting : {v w : Hands R} {place found : ℕ} → AreHandsOver meaning_of rules room v → Leaves meaning_of v (run_word place) found (suspended v place found) w → found ≢ 256 → SuspendsGoal v place Waiting w
+  suspends_waiting {v} {w} {place} {found} over told more = suspends v w place found Waiting over told (λ is. let no : ⊥ = cc in absurd no) (λ _. more)
 
   -- where the looks show the full word set, some entry is in no cell
   pub leaves_out : (v : Hands R) → SoundWith meaning_of rules room v → LeavesOut (meaning_of rules) room v.looks
@@ -124,9 +124,9 @@ module _ {R : Type 0} (meaning_of : R → Meaning) (rules : R) (room : ℕ) wher
 
   pub finds_open : ((goal child : ℕ) → (meaning_of rules).entry goal → (meaning_of rules).child goal child → IsTrue ((meaning_of rules).goal child))
       → (rank : ℕ → ℕ) → ((goal child : ℕ) → (meaning_of rules).child goal child → rank child < rank goal)
-      → (v w : Hands R) (at value : ℕ) → at < room → AreHandsOver meaning_of rules room v → IsFree v → LooksAt meaning_of v (head_word at) value w → value < 2 ^ 63
+      → {v w : Hands R} {at value : ℕ} → at < room → AreHandsOver meaning_of rules room v → IsFree v → LooksAt meaning_of v (head_word at) value w → value < 2 ^ 63
       → FindsOpen (meaning_of rules) room v at w
-  finds_open children rank falls v w at value near over free told not_closed =
+  finds_open children rank falls {v} {at} {value} near over free told not_closed =
       let t = sound_at meaning_of rules room v (head_word at) value over told.moment in
       let s = t.0 in
       let k = s.sound.by_kinds in
@@ -174,9 +174,9 @@ module _ {R : Type 0} (meaning_of : R → Meaning) (rules : R) (room : ℕ) wher
       let t = sound_at meaning_of rules room v full_word value over moment in
       absurd ((t.0.sound.by_kinds.hands t.0.id v t.0.mine).stays.set_full shows.0 shows.1 shows.2 (sym t.1 ∙ unset refl))
 
-  pub reads_full : (v w : Hands R) (value : ℕ) (full : Bool) → AreHandsOver meaning_of rules room v → 0 < v.parts → LooksAt meaning_of v full_word value w
+  pub reads_full : {v w : Hands R} {value : ℕ} {full : Bool} → AreHandsOver meaning_of rules room v → 0 < v.parts → LooksAt meaning_of v full_word value w
       → (IsTrue full → value ≢ 0) → (full ≡ false → value ≡ 0) → ReadsFull (meaning_of rules) room v full w
-  reads_full v w value full over some_part told set unset = record {
+  reads_full {v} {w} {value} {full} over some_part told set unset = record {
     value = value;
     hands_are = told.hands_are;
     set = set;
@@ -202,10 +202,10 @@ module _ {R : Type 0} (meaning_of : R → Meaning) (rules : R) (room : ℕ) wher
       )
 
   pub reads_answer : ((goal cost node other_cost other_node : ℕ) → (meaning_of rules).answer goal cost node → (meaning_of rules).answer goal other_cost other_node → (cost ≡ other_cost) × (node ≡ other_node))
-      → (v w u x : Hands R) (at head cost node : ℕ) → at < room → AreHandsOver meaning_of rules room v → AreHandsOver meaning_of rules room w → AreHandsOver meaning_of rules room u → 0 < u.parts
+      → {v w u x : Hands R} {at head cost node : ℕ} → at < room → AreHandsOver meaning_of rules room v → AreHandsOver meaning_of rules room w → AreHandsOver meaning_of rules room u → 0 < u.parts
       → LooksAt meaning_of v (head_word at) head w → LooksAt meaning_of w (cost_word at) cost u → LooksAt meaning_of u (node_word at) node x → 2 ^ 63 ≤ head
       → ReadsAnswer (meaning_of rules) room v at (record { cost = cost; node = node }) x
-  reads_answer one v w u x at head cost node near over_v over_w over_u some_part at_head at_cost at_node closed =
+  reads_answer one {v} {w} {u} {x} {at} {head} {cost} {node} near over_v over_w over_u some_part at_head at_cost at_node closed =
       let uw : u ≡ looked (looked v (head_word at) head) (cost_word at) cost = at_cost.hands_are ∙ ap (λ h. looked h (cost_word at) cost) at_head.hands_are in
       record {
         head = head;

@@ -31,8 +31,8 @@ loop-step-preserved g c =
     let inv = c.loop-step.invariant in
     record {
       seat = c.look-found.ensures.seat;
-      probes = goes_on inv.probes inv.seat.over c.loop-step.seat.awake (looks_at c.cell_at.ensures c.look-found.ensures.told) c.if-found-eq0.false c.if-found-word.false c.loop-step-test.true
-          c.next_place-place.ensures.value;
+      probes = goes_on inv.probes inv.seat.over c.loop-step.seat.awake (looks_at c.cell_at.ensures c.look-found.ensures.told) c.if-found-eq0.false c.if-found-word.false
+          c.loop-step-test.true c.next_place-place.ensures.value;
     }
 
 pub returns-clause-answer : goal.returns-clause-answer

@@ -21,8 +21,8 @@ loop-step-preserved-then-seen-ne0 g c =
     let inv = c.loop-step.invariant in
     record {
       seat = c.look-seen.ensures.seat;
-      probes = goes_on inv.probes inv.seat.over c.loop-step.seat.awake (looks_at c.cell_at.ensures c.look-seen.ensures.told) c.if-seen-ne0.true c.if-seen-word.false c.loop-step-test.true
-          c.next_place-place.ensures.value;
+      probes = goes_on inv.probes inv.seat.over c.loop-step.seat.awake (looks_at c.cell_at.ensures c.look-seen.ensures.told) c.if-seen-ne0.true c.if-seen-word.false
+          c.loop-step-test.true c.next_place-place.ensures.value;
     }
 
 pub put-found-requires-clause-may : goal.put-found-requires-clause-may
@@ -35,7 +35,8 @@ put-found-requires-clause-may g c κs within =
 pub returns-then-found-eq0-clause-answer : goal.returns-then-found-eq0-clause-answer
 returns-then-found-eq0-clause-answer g c =
     let inv = c.loop-step.invariant in
-    puts_fresh (looks_here inv.probes inv.seat.over c.loop-step.seat.awake (looks_at c.cell_at.ensures c.look-seen.ensures.told)) c.look-seen.ensures.seat.over c.put-found.ensures.told c.if-found-eq0.true
+    puts_fresh (looks_here inv.probes inv.seat.over c.loop-step.seat.awake (looks_at c.cell_at.ensures c.look-seen.ensures.told))
+    c.look-seen.ensures.seat.over c.put-found.ensures.told c.if-found-eq0.true
 
 pub returns-then-found-word-clause-answer : goal.returns-then-found-word-clause-answer
 returns-then-found-word-clause-answer g c =
@@ -48,8 +49,8 @@ loop-step-preserved g c =
     let inv = c.loop-step.invariant in
     record {
       seat = c.put-found.ensures.seat;
-      probes = goes_on (looks_here inv.probes inv.seat.over c.loop-step.seat.awake (looks_at c.cell_at.ensures c.look-seen.ensures.told)) c.look-seen.ensures.seat.over c.look-seen.new.seat.awake
-          (missed c.put-found.ensures.told c.if-found-eq0.false) c.if-found-eq0.false c.if-found-word.false c.loop-step-test.true c.next_place-place-in-loop-step.ensures.value;
+      probes = goes_on (looks_here inv.probes inv.seat.over c.loop-step.seat.awake (looks_at c.cell_at.ensures c.look-seen.ensures.told))
+          c.look-seen.ensures.seat.over c.look-seen.new.seat.awake (missed c.put-found.ensures.told c.if-found-eq0.false) c.if-found-eq0.false c.if-found-word.false c.loop-step-test.true c.next_place-place-in-loop-step.ensures.value;
     }
 
 pub fill-requires-clause-may : goal.fill-requires-clause-may

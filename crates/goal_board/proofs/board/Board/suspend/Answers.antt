@@ -11,10 +11,8 @@ release-requires-clause-may g c κs within =
 
 pub returns-then-release-eq-HELD-clause-answer : goal.returns-then-release-eq-HELD-clause-answer
 returns-then-release-eq-HELD-clause-answer g c =
-    suspends_ready g.R.GoalRules.meaning c.args.self.now.key.rules c.args.self.now.key.room (hands c.args.seat.now) (hands c.release.new.seat) c.args.right.place c.release.result
-    c.requires.seat.over c.release.ensures.told c.if-release-eq-HELD.true
+    suspends_ready c.requires.seat.over c.release.ensures.told c.if-release-eq-HELD.true
 
 pub returns-else-release-eq-HELD-clause-answer : goal.returns-else-release-eq-HELD-clause-answer
 returns-else-release-eq-HELD-clause-answer g c =
-    suspends_waiting g.R.GoalRules.meaning c.args.self.now.key.rules c.args.self.now.key.room (hands c.args.seat.now) (hands c.release.new.seat) c.args.right.place c.release.result
-    c.requires.seat.over c.release.ensures.told c.if-release-eq-HELD.false
+    suspends_waiting c.requires.seat.over c.release.ensures.told c.if-release-eq-HELD.false

@@ -31,14 +31,16 @@ pub loop-name-preserved-then-clear_bit-bit_of : goal.loop-name-preserved-then-cl
 loop-name-preserved-then-clear_bit-bit_of g c =
     let inv = c.loop-name.invariant in
     let first = named_first (hands c.loop-name.seat).walk.waiters c.loop-name.name inv.named c.loop-name-test.true in
-    let t = (turns first.1 inv.near inv.few inv.woken inv.seat.over c.read_next-name.ensures.seat.over c.read_next-name.ensures.told c.clear_bit.ensures.told).0 (c.if-clear_bit-bit_of.true ∙ c.bit_of.ensures) in
+    let t = (turns first.1 inv.near inv.few inv.woken inv.seat.over c.read_next-name.ensures.seat.over
+    c.read_next-name.ensures.told c.clear_bit.ensures.told).0 (c.if-clear_bit-bit_of.true ∙ c.bit_of.ensures) in
     record { seat = c.clear_bit.ensures.seat; named = t.named; near = t.near; few = t.few; woken = t.woken; hints = c.hint.ensures ∙ inv.hints }
 
 pub loop-name-preserved : goal.loop-name-preserved
 loop-name-preserved g c =
     let inv = c.loop-name.invariant in
     let first = named_first (hands c.loop-name.seat).walk.waiters c.loop-name.name inv.named c.loop-name-test.true in
-    let t = (turns first.1 inv.near inv.few inv.woken inv.seat.over c.read_next-name.ensures.seat.over c.read_next-name.ensures.told c.clear_bit.ensures.told).1 (λ is. c.if-clear_bit-bit_of.false (is ∙ sym c.bit_of.ensures)) in
+    let t = (turns first.1 inv.near inv.few inv.woken inv.seat.over c.read_next-name.ensures.seat.over
+    c.read_next-name.ensures.told c.clear_bit.ensures.told).1 (λ is. c.if-clear_bit-bit_of.false (is ∙ sym c.bit_of.ensures)) in
     record { seat = c.clear_bit.ensures.seat; named = t.named; near = t.near; few = t.few; woken = t.woken; hints = inv.hints }
 
 pub returns-clause-seat : goal.returns-clause-seat
