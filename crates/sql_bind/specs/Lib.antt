@@ -5,6 +5,7 @@ pub mod SelectList
 pub mod Conditions
 pub mod SortKeys
 pub mod Parts
+pub mod NamedParts
 pub mod Used
 pub mod Numbers
 pub mod UsedColumns

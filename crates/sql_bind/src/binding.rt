@@ -2,10 +2,11 @@
 ghost use Rattle.std.specs.Prelude.{◌≡◌, Ok, IfOk};
 ghost use Rattle.query_core.specs.Catalog.{IsCatalog};
 ghost use Rattle.query_core.specs.Results.{AreOptions};
-ghost use Rattle.sql_bind.specs.Parts.{parts_of as the_parts};
+ghost use Rattle.sql_bind.specs.Grouping.{judged};
+ghost use Rattle.sql_bind.specs.NamedParts.{AreNamed};
 ghost use Rattle.sql_bind.specs.Used.{used_by as used_columns};
 ghost use Rattle.sql_reader.specs.Readable.{IsReadable};
-ghost use Rattle.sql_bind.specs.Binding.{binding, IsQueryOf, Binds};
+ghost use Rattle.sql_bind.specs.Binding.{IsQueryOf, Binds};
 
 use crate::fault::BindFault;
 use crate::grouping::{is_grouped, judge};
@@ -27,10 +28,8 @@ fn query_of(
     used: &UsedColumns<'_>,
     options: Options,
 ) -> Result<Query, AllocError>
-    requires readable { IsReadable select.now }
-    requires catalogue { IsCatalog catalog.now }
-    requires options { AreOptions options }
-    requires bound { binding select.now catalog.now ≡ Ok parts.now }
+    requires named { AreNamed select.now catalog.now options parts.now }
+    requires judged { judged parts.now ≡ Ok parts.now }
     requires used { used.now ≡ used_columns parts.now }
     ensures { IfOk result (IsQueryOf parts.now catalog.now options) }
 {
@@ -66,10 +65,7 @@ fn query_over(
     used: &UsedColumns<'_>,
     options: Options,
 ) -> Result<Query, BindFault>
-    requires readable { IsReadable select.now }
-    requires catalogue { IsCatalog catalog.now }
-    requires options { AreOptions options }
-    requires named { the_parts select.now catalog.now ≡ Ok parts.now }
+    requires named { AreNamed select.now catalog.now options parts.now }
     requires used { used.now ≡ used_columns parts.now }
     ensures { Binds select.now catalog.now options result }
 {
@@ -85,10 +81,7 @@ fn judged_query(
     parts: &Parts<'_>,
     options: Options,
 ) -> Result<Query, BindFault>
-    requires readable { IsReadable select.now }
-    requires catalogue { IsCatalog catalog.now }
-    requires options { AreOptions options }
-    requires named { the_parts select.now catalog.now ≡ Ok parts.now }
+    requires { AreNamed select.now catalog.now options parts.now }
     ensures { Binds select.now catalog.now options result }
 {
     let used = used_by(alloc, parts)?;
