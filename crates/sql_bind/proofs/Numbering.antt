@@ -1,6 +1,6 @@
 -- Columns in a set, and the number of a column as its place there.
 use Rattle.std.proofs.Common.{◌≡◌, ◌∙◌, ℕ, suc, ◌+◌, ◌≤◌, ◌||◌, Bool, true, false, cond, List, [], ◌∷◌, ◌++◌, length, map, position, nat_lt, Some, None, refl, sym, ap, arith}
-use Rattle.std.specs.List.{position_or_len}
+use Rattle.std.specs.List.{list_any, position_or_len}
 use Rattle.std.proofs.lemmas.Bool.Decides.{nat_tests}
 use Rattle.std.proofs.lemmas.List.Folds.{list_any-append}
 use Rattle.std.proofs.lemmas.List.Sums.{prefix_len-le-length}
@@ -15,6 +15,11 @@ use Rattle.sql_bind.proofs.NameLemmas.{position-map}
 
 pub same_turned : (c d : Column) → is_same c d ≡ is_same d c
 same_turned c d = grind (arith, nat_tests)
+
+-- the column is compared with each of these
+pub among_turned : (c : Column) (ds : List Column) → list_any (λ d. is_same d c) ds ≡ is_among ds c
+among_turned c [] = refl
+among_turned c (d ∷ ds) = rw (same_turned d c, among_turned c ds) refl
 
 -- ---- one column more in a set
 

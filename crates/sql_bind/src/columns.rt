@@ -4,7 +4,7 @@ ghost use Rattle.std.specs.List.{list_any, AllByRecursion};
 ghost use Rattle.std.specs.Str.{bytes_eq};
 ghost use Rattle.sql_bind.specs.Steps.{Gives};
 ghost use Rattle.sql_bind.specs.Scope.{FromTable};
-ghost use Rattle.sql_bind.specs.Columns.{belongs_to as belongs, place_in as the_place, candidates as all_candidates, only_one as the_only, column_of as the_column, columns_of as the_columns, is_same, is_among as among};
+ghost use Rattle.sql_bind.specs.Columns.{belongs_to as belongs, place_in as the_place, candidates as all_candidates, only_one as the_only, column_of as the_column, columns_of as the_columns, is_among as among};
 
 use crate::fault::BindFault;
 use crate::scope::Source;
@@ -21,16 +21,10 @@ pub struct Column {
     pub place: usize,
 }
 
-pub fn same(a: Column, b: Column) -> bool
-    ensures { result ≡ is_same a b }
-{
-    a.table == b.table && a.place == b.place
-}
-
 pub fn is_among(columns: &[Column], column: Column) -> bool
     ensures { result ≡ among columns.now column }
 {
-    columns.iter().any(|other| same(column, *other))
+    columns.contains(&column)
 }
 
 /// Whether the part before the point, if any, is the alias.
