@@ -1,5 +1,5 @@
 //! The parts of the query over numbered items.
-ghost use Rattle.std.specs.Prelude.{◌≡◌, ◌≤◌, IfOk, length, option_map, nat_le, IsTrue};
+ghost use Rattle.std.specs.Prelude.{◌≡◌, ◌≤◌, ◌++◌, ◌∷◌, [], IfOk, OnOk, length, option_map, option_to_list, nat_le, IsTrue};
 ghost use Rattle.std.specs.List.{list_all};
 ghost use Rattle.sql_bind.specs.Numbers.{number_of as the_number};
 ghost use Rattle.sql_bind.specs.Query.{item_of as the_item, items_of as the_items, hashed_of as the_hashed, indexes_of as the_indexes, table_of as the_table, tables_from as the_tables, operand_of as the_operand, pred_of as the_pred, preds_of as the_preds, agg_of as the_agg, aggs_of as the_aggs, output_of as the_output, outputs_of as the_outputs};
@@ -15,15 +15,16 @@ use orca_base::{List, Text};
 use query_core::{Agg, Item, Operand, OutItem, Placing, Pred, QueryTable};
 use std::alloc::{AllocError, Global};
 
-fn item_of(alloc: Global, used: &Used<'_>) -> Result<Item, AllocError>
+fn add_item(alloc: Global, used: &Used<'_>, items: &mut List<Item>) -> Result<(), AllocError>
     requires { used.now.which.table ≤ 10 }
-    ensures { IfOk result (λ item. item ≡ the_item used.now) }
+    ensures { OnOk result (items.new ≡ items.old ++ the_item used.now ∷ []) }
 {
-    Ok(Item {
+    items.push(Item {
         table: used.column().table as u32,
         name: used.info().name.copy(alloc)?,
         ndv: used.info().ndv,
-    })
+    })?;
+    Ok(())
 }
 
 /// The used columns, as items.
@@ -33,8 +34,7 @@ pub fn items_of(alloc: Global, used: &[Used<'_>]) -> Result<List<Item>, AllocErr
 {
     let mut items = List::new(alloc);
     for column in used {
-        let item = item_of(alloc, column)?;
-        items.push(item)?;
+        add_item(alloc, column, &mut items)?;
     }
     Ok(items)
 }
@@ -119,15 +119,21 @@ fn operand_of(alloc: Global, used: &UsedColumns<'_>, side: &Side) -> Result<Oper
     }
 }
 
-fn pred_of(alloc: Global, used: &UsedColumns<'_>, compared: &Compared) -> Result<Pred, AllocError>
+fn add_pred(
+    alloc: Global,
+    used: &UsedColumns<'_>,
+    compared: &Compared,
+    preds: &mut List<Pred>,
+) -> Result<(), AllocError>
     requires { length used.now ≤ 60 }
-    ensures { IfOk result (λ pred. pred ≡ the_pred used.now compared.now) }
+    ensures { OnOk result (preds.new ≡ preds.old ++ the_pred used.now compared.now ∷ []) }
 {
-    Ok(Pred {
+    preds.push(Pred {
         left: used.number_of(compared.left),
         op: compared.op,
         right: operand_of(alloc, used, &compared.right)?,
-    })
+    })?;
+    Ok(())
 }
 
 /// The predicates.
@@ -141,8 +147,7 @@ pub fn preds_of(
 {
     let mut preds = List::new(alloc);
     for comparison in compared {
-        let pred = pred_of(alloc, used, comparison)?;
-        preds.push(pred)?;
+        add_pred(alloc, used, comparison, &mut preds)?;
     }
     Ok(preds)
 }
@@ -166,22 +171,29 @@ fn argument_of(used: &UsedColumns<'_>, arg: Option<Column>) -> Option<u32>
     }
 }
 
-fn agg_of(alloc: Global, used: &UsedColumns<'_>, chosen: &Chosen) -> Result<Option<Agg>, AllocError>
+/// Adds the element, if it is an aggregate.
+fn add_agg(
+    alloc: Global,
+    used: &UsedColumns<'_>,
+    chosen: &Chosen,
+    aggs: &mut List<Agg>,
+) -> Result<(), AllocError>
     requires { length used.now ≤ 60 }
-    ensures { IfOk result (λ agg. agg ≡ the_agg used.now chosen.now) }
+    ensures { OnOk result (aggs.new ≡ aggs.old ++ option_to_list (the_agg used.now chosen.now)) }
 {
     match chosen.what {
-        What::Column { at: _, column: _ } => Ok(None),
+        What::Column { at: _, column: _ } => {}
         What::Aggregate {
             number: _,
             func,
             arg,
-        } => Ok(Some(Agg {
+        } => aggs.push(Agg {
             func,
             arg: argument_of(used, arg),
             name: name_of(alloc, &chosen.name)?,
-        })),
+        })?,
     }
+    Ok(())
 }
 
 /// The aggregates in text order.
@@ -195,21 +207,25 @@ pub fn aggs_of(
 {
     let mut aggs = List::new(alloc);
     for element in chosen {
-        if let Some(agg) = agg_of(alloc, used, element)? {
-            aggs.push(agg)?;
-        }
+        add_agg(alloc, used, element, &mut aggs)?;
     }
     Ok(aggs)
 }
 
-fn output_of(alloc: Global, used: &UsedColumns<'_>, chosen: &Chosen) -> Result<OutItem, AllocError>
+fn add_output(
+    alloc: Global,
+    used: &UsedColumns<'_>,
+    chosen: &Chosen,
+    outputs: &mut List<OutItem>,
+) -> Result<(), AllocError>
     requires { length used.now ≤ 60 }
-    ensures { IfOk result (λ output. output ≡ the_output used.now chosen.now) }
+    ensures { OnOk result (outputs.new ≡ outputs.old ++ the_output used.now chosen.now ∷ []) }
 {
-    Ok(OutItem {
+    outputs.push(OutItem {
         item: target_number(used, target_of(chosen.what)),
         name: name_of(alloc, &chosen.name)?,
-    })
+    })?;
+    Ok(())
 }
 
 /// The output in text order.
@@ -223,8 +239,7 @@ pub fn outputs_of(
 {
     let mut outputs = List::new(alloc);
     for element in chosen {
-        let output = output_of(alloc, used, element)?;
-        outputs.push(output)?;
+        add_output(alloc, used, element, &mut outputs)?;
     }
     Ok(outputs)
 }
