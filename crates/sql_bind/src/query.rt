@@ -23,8 +23,7 @@ fn add_item(alloc: Global, used: &Used<'_>, items: &mut List<Item>) -> Result<()
         table: used.column().table as u32,
         name: used.info().name.copy(alloc)?,
         ndv: used.info().ndv,
-    })?;
-    Ok(())
+    })
 }
 
 /// The used columns, as items.
@@ -132,8 +131,7 @@ fn add_pred(
         left: used.number_of(compared.left),
         op: compared.op,
         right: operand_of(alloc, used, &compared.right)?,
-    })?;
-    Ok(())
+    })
 }
 
 /// The predicates.
@@ -182,7 +180,7 @@ fn add_agg(
     ensures { OnOk result (aggs.new ≡ aggs.old ++ option_to_list (the_agg used.now chosen.now)) }
 {
     match chosen.what {
-        What::Column { at: _, column: _ } => {}
+        What::Column { at: _, column: _ } => Ok(()),
         What::Aggregate {
             number: _,
             func,
@@ -191,9 +189,8 @@ fn add_agg(
             func,
             arg: argument_of(used, arg),
             name: name_of(alloc, &chosen.name)?,
-        })?,
+        }),
     }
-    Ok(())
 }
 
 /// The aggregates in text order.
@@ -224,8 +221,7 @@ fn add_output(
     outputs.push(OutItem {
         item: target_number(used, target_of(chosen.what)),
         name: name_of(alloc, &chosen.name)?,
-    })?;
-    Ok(())
+    })
 }
 
 /// The output in text order.
