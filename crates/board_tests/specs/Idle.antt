@@ -4,7 +4,7 @@ use Rattle.goal_board.specs.Seats.{IsSeatOf, hands}
 use Rattle.goal_board.specs.declared.board.Board.{Board}
 use Rattle.goal_board.specs.declared.board.Seat.{Seat}
 use Rattle.board_tests.specs.Numbers.{numbers}
-use Rattle.board_tests.specs.declared.call_tests.Numbers.{Numbers}
+use Rattle.board_tests.specs.declared.numbers.Numbers.{Numbers}
 
 -- the seat is one of a board of the words from 1 to 4, and holds no right
 pub record IsIdleAt (board : Board Numbers) (seat : Seat Numbers) : Type 0 where
