@@ -1,6 +1,6 @@
 //! A grouped query over one table with an index, worked by hand.
 
-ghost use Rattle.std.specs.Prelude.{IfSome};
+ghost use Rattle.std.specs.Prelude.{IfOk, IfSome};
 ghost use Rattle.query_core.specs.Expressions.{IsCandidate, expr_of};
 ghost use Rattle.request_props.specs.Numbered.{IsProps};
 
@@ -8,6 +8,8 @@ use crate::node_tests::{ask, made, origin, step};
 use plan_tree::*;
 use query_core::*;
 use request_props::{Dist, Props, Request};
+use std::alloc::Global;
+use std::process::Abort;
 use std::test::Fail;
 use worked_queries::{implied, per_group};
 use xform_rules::Rule;
@@ -28,6 +30,13 @@ const BY_B_C: u32 = 1;
 const WANTED: u32 = 1;
 
 const GROUPS: u32 = 2;
+
+// The rows of each group by b and c, in the order of one of these, and what the query implies.
+fn counted(alloc: Global, ordered_by: &str) -> Result<(Box<Query>, Box<Props>), Fail>
+    ensures { IfOk result (λ made. IsProps made.0.value made.1.value) }
+{
+    implied(alloc, per_group(alloc, ordered_by)?)
+}
 
 fn first_of(query: &Query, key: u32) -> Option<ExprParts>
     ensures { IfSome result (IsCandidate query.now) }
@@ -113,28 +122,6 @@ fn made_serving(
     )
 }
 
-// Whether the aggregation by the rule asks so of its child, and costs so much over rows and over partial groups.
-fn is_aggregated(
-    query: &Query,
-    props: &Props,
-    rule: Rule,
-    request: Request,
-    mode: u32,
-    wanted: Option<(Dist, u32, u64, u64)>,
-) -> bool
-    requires { IsProps query.now props.now }
-{
-    let of_rows = aggregation_serving(query, props, rule, false, request, mode);
-    let of_partial = aggregation_serving(query, props, rule, true, request, mode);
-    match wanted {
-        Some((dist, order, cost, partial_cost)) => {
-            let asked = Some(ask(dist, order));
-            of_rows == Some((asked, cost)) && of_partial == Some((asked, partial_cost))
-        }
-        None => of_rows.is_none() && of_partial.is_none(),
-    }
-}
-
 // The distribution by the hash of the GROUP BY columns.
 const HASHED: Dist = Dist::Hashed(BY_B_C);
 
@@ -165,58 +152,78 @@ const STREAM_AGGREGATIONS: [(Dist, u32, u32, Option<(Dist, u32, u64, u64)>); 6] 
     (Dist::Spread, GROUPS, 128, None),
 ];
 
+// Asserts that the aggregation by the rule asks so of its child, and costs so much over rows and over partial groups.
+fn assert_aggregated(
+    rt: &impl Abort,
+    query: &Query,
+    props: &Props,
+    rule: Rule,
+    request: Request,
+    mode: u32,
+    wanted: Option<(Dist, u32, u64, u64)>,
+)
+    requires { IsProps query.now props.now }
+{
+    let of_rows = aggregation_serving(query, props, rule, false, request, mode);
+    let of_partial = aggregation_serving(query, props, rule, true, request, mode);
+    let is_so = match wanted {
+        Some((dist, order, cost, partial_cost)) => {
+            let asked = Some(ask(dist, order));
+            of_rows == Some((asked, cost)) && of_partial == Some((asked, partial_cost))
+        }
+        None => of_rows.is_none() && of_partial.is_none(),
+    };
+    assert!(rt; is_so, "{rule:?} {request:?} {mode}");
+}
+
+fn assert_aggregations(
+    rt: &impl Abort,
+    query: &Query,
+    props: &Props,
+    rule: Rule,
+    rows: &[(Dist, u32, u32, Option<(Dist, u32, u64, u64)>)],
+)
+    requires { IsProps query.now props.now }
+{
+    for (dist, order, mode, wanted) in rows {
+        let request = ask(*dist, *order);
+        assert_aggregated(rt, query, props, rule, request, *mode, *wanted);
+    }
+}
+
 #[test]
 fn aggregations_are_as_by_hand(rt: HostRuntime) -> Result<(), Fail> {
-    let (query, props) = implied(rt.alloc(), per_group(rt.alloc(), "b")?)?;
-    for (dist, order, mode, wanted) in HASH_AGGREGATIONS {
-        let is_so = is_aggregated(
-            &query,
-            &props,
-            Rule::AggToHash,
-            ask(dist, order),
-            mode,
-            wanted,
-        );
-        assert!(rt; is_so, "{dist:?} {order} {mode}");
-    }
-    for (dist, order, mode, wanted) in STREAM_AGGREGATIONS {
-        let is_so = is_aggregated(
-            &query,
-            &props,
-            Rule::AggToStream,
-            ask(dist, order),
-            mode,
-            wanted,
-        );
-        assert!(rt; is_so, "{dist:?} {order} {mode}");
-    }
+    let (query, props) = counted(rt.alloc(), "b")?;
+    assert_aggregations(&rt, &query, &props, Rule::AggToHash, &HASH_AGGREGATIONS);
+    assert_aggregations(&rt, &query, &props, Rule::AggToStream, &STREAM_AGGREGATIONS);
     Ok(())
+}
+
+fn assert_partial(rt: &impl Abort, query: &Query, props: &Props, request: Request, stays: bool)
+    requires { IsProps query.now props.now }
+{
+    let wanted = if stays {
+        Some((Some(request), 169))
+    } else {
+        None
+    };
+    let serving = made_serving(query, props, PARTIAL, Rule::PartialToHash, request);
+    assert!(rt; serving == wanted, "{request:?}");
 }
 
 #[test]
 fn partial_groups_stay_where_spread_rows_lie(rt: HostRuntime) -> Result<(), Fail> {
-    let (query, props) = implied(rt.alloc(), per_group(rt.alloc(), "b")?)?;
-    for (dist, order, stays) in [
-        (Dist::Spread, 0, true),
-        (HASHED, 0, true),
-        (Dist::One, 0, false),
-        (Dist::Copies, 0, false),
-        (Dist::Spread, WANTED, false),
-    ] {
-        let request = ask(dist, order);
-        let wanted = if stays {
-            Some((Some(request), 169))
-        } else {
-            None
-        };
-        let serving = made_serving(&query, &props, PARTIAL, Rule::PartialToHash, request);
-        assert!(rt; serving == wanted, "{dist:?} {order}");
-    }
+    let (query, props) = counted(rt.alloc(), "b")?;
+    assert_partial(&rt, &query, &props, ask(Dist::Spread, 0), true);
+    assert_partial(&rt, &query, &props, ask(HASHED, 0), true);
+    assert_partial(&rt, &query, &props, ask(Dist::One, 0), false);
+    assert_partial(&rt, &query, &props, ask(Dist::Copies, 0), false);
+    assert_partial(&rt, &query, &props, ask(Dist::Spread, WANTED), false);
     Ok(())
 }
 
-// Whether a scan and a seek by the index serve the request, or neither does.
-fn serve_by_index(query: &Query, props: &Props, request: Request, served: bool) -> bool
+// Asserts that a scan and a seek by the index serve the request, or neither does.
+fn assert_by_index(rt: &impl Abort, query: &Query, props: &Props, request: Request, served: bool)
     requires { IsProps query.now props.now }
 {
     let (scan, seek) = if served {
@@ -224,45 +231,45 @@ fn serve_by_index(query: &Query, props: &Props, request: Request, served: bool) 
     } else {
         (None, None)
     };
-    made_serving(query, props, TABLE, Rule::GetToIndexScan, request) == scan
-        && made_serving(query, props, FILTERED, Rule::SelectToIndexSeek, request) == seek
+    let is_so = made_serving(query, props, TABLE, Rule::GetToIndexScan, request) == scan
+        && made_serving(query, props, FILTERED, Rule::SelectToIndexSeek, request) == seek;
+    assert!(rt; is_so, "{request:?}");
 }
 
-// Whether the index, whose columns begin with b, serves what it can, and an order as told.
-fn gives_orders(query: &Query, props: &Props, begins: bool) -> bool
-    requires { IsProps query.now props.now }
-{
-    for (dist, order, served) in [
-        (Dist::Spread, 0, true),
-        (Dist::Spread, WANTED, begins),
-        (Dist::Spread, GROUPS, true),
-        (Dist::Hashed(BY_A), GROUPS, true),
-        (Dist::Hashed(BY_B_C), 0, false),
-        (Dist::One, 0, false),
-    ] {
-        if !serve_by_index(query, props, ask(dist, order), served) {
-            return false;
-        }
-    }
-    true
-}
-
-#[test]
-fn an_index_gives_each_order_with_which_its_columns_begin(rt: HostRuntime) -> Result<(), Fail> {
-    for (ordered_by, begins) in [("b", true), ("c", false)] {
-        let (query, props) = implied(rt.alloc(), per_group(rt.alloc(), ordered_by)?)?;
-        assert!(rt; gives_orders(&query, &props, begins), "{ordered_by}");
-    }
+// Asserts that the index, whose columns begin with b, serves what it can, and an order as told.
+fn assert_orders(
+    rt: &impl Abort,
+    alloc: Global,
+    ordered_by: &str,
+    begins: bool,
+) -> Result<(), Fail> {
+    let (query, props) = counted(alloc, ordered_by)?;
+    assert_by_index(rt, &query, &props, ask(Dist::Spread, 0), true);
+    assert_by_index(rt, &query, &props, ask(Dist::Spread, WANTED), begins);
+    assert_by_index(rt, &query, &props, ask(Dist::Spread, GROUPS), true);
+    assert_by_index(rt, &query, &props, ask(Dist::Hashed(BY_A), GROUPS), true);
+    assert_by_index(rt, &query, &props, ask(Dist::Hashed(BY_B_C), 0), false);
+    assert_by_index(rt, &query, &props, ask(Dist::One, 0), false);
     Ok(())
 }
 
 #[test]
+fn an_index_gives_each_order_with_which_its_columns_begin(rt: HostRuntime) -> Result<(), Fail> {
+    assert_orders(&rt, rt.alloc(), "b", true)?;
+    assert_orders(&rt, rt.alloc(), "c", false)
+}
+
+// Whether a stream aggregation of the rows gives the order.
+fn streams_in(query: &Query, props: &Props, order: u32) -> bool
+    requires { IsProps query.now props.now }
+{
+    let request = ask(Dist::One, order);
+    aggregation_serving(query, props, Rule::AggToStream, false, request, 0).is_some()
+}
+
+#[test]
 fn a_stream_aggregation_gives_the_order_of_its_groups_alone(rt: HostRuntime) -> Result<(), Fail> {
-    let (query, props) = implied(rt.alloc(), per_group(rt.alloc(), "c")?)?;
-    for (order, served) in [(WANTED, false), (GROUPS, true)] {
-        let request = ask(Dist::One, order);
-        let serving = aggregation_serving(&query, &props, Rule::AggToStream, false, request, 0);
-        assert!(rt; serving.is_some() == served, "{order}");
-    }
+    let (query, props) = counted(rt.alloc(), "c")?;
+    assert!(rt; !streams_in(&query, &props, WANTED) && streams_in(&query, &props, GROUPS));
     Ok(())
 }

@@ -5,9 +5,10 @@ use plan_space::{Enforcer, NodeKind};
 use plan_tree::{Found, Plan};
 use query_core::{KeyParts, Physical, PhysicalExpr, Query};
 use std::alloc::Global;
+use std::process::Abort;
 use std::test::Fail;
 use worked_queries::{
-    cross_product, grouped, hashed_alike, huge_tables, large_and_small, props_of, sorted_table,
+    cross_product, grouped, hashed_alike, huge_tables, implied, large_and_small, sorted_table,
     two_tables, without_a_plan,
 };
 
@@ -50,85 +51,83 @@ fn join_of(plan: &Plan) -> Option<NodeKind> {
     }
 }
 
-fn least_of(alloc: Global, query: Query) -> Result<Found, Fail> {
-    let props = props_of(alloc, &query)?;
+fn least_of(alloc: Global, query: Result<Query, Fail>) -> Result<Found, Fail> {
+    let (query, props) = implied(alloc, query?)?;
     Ok(plain_least(alloc, &query, &props)?)
 }
 
-// Whether the least plan has this cost, this root and so many nodes.
-fn costs(
+// Asserts that the least plan has this cost, this root and so many nodes.
+fn assert_least(
+    rt: &impl Abort,
     alloc: Global,
-    query: Query,
+    query: Result<Query, Fail>,
     least: u64,
     root: NodeKind,
     nodes: u64,
-) -> Result<bool, Fail> {
+) -> Result<(), Fail> {
     let found = least_of(alloc, query)?;
-    Ok(matches!(&found, Found::Least { plan, cost }
-        if *cost == least && root_of(plan) == Some(root) && nodes_of(plan) == nodes))
+    assert!(rt;
+        matches!(&found, Found::Least { plan, cost }
+            if *cost == least && root_of(plan) == Some(root) && nodes_of(plan) == nodes),
+        "{least}"
+    );
+    Ok(())
 }
 
 #[test]
 fn one_side_is_redistributed_and_sorted_segments_are_merged(rt: HostRuntime) -> Result<(), Fail> {
-    let alloc = rt.alloc();
     let root = NodeKind::Enforcer(Enforcer::GatherMerge(1));
-    assert!(rt; costs(alloc, two_tables(alloc)?, 7506, root, 6)?);
-    Ok(())
+    assert_least(&rt, rt.alloc(), two_tables(rt.alloc()), 7506, root, 6)
 }
 
 #[test]
 fn tables_that_are_hashed_alike_are_joined_where_they_lie(rt: HostRuntime) -> Result<(), Fail> {
-    let alloc = rt.alloc();
     let root = NodeKind::Enforcer(Enforcer::Gather);
-    assert!(rt; costs(alloc, hashed_alike(alloc)?, 3504, root, 4)?);
-    Ok(())
+    assert_least(&rt, rt.alloc(), hashed_alike(rt.alloc()), 3504, root, 4)
 }
 
 #[test]
 fn small_tables_without_a_predicate_are_joined_on_one_segment(rt: HostRuntime) -> Result<(), Fail> {
-    let alloc = rt.alloc();
     let root = loop_of(0, 1);
-    assert!(rt; costs(alloc, cross_product(alloc)?, 1253, root, 5)?);
-    Ok(())
+    assert_least(&rt, rt.alloc(), cross_product(rt.alloc()), 1253, root, 5)
 }
 
 #[test]
 fn a_small_table_is_broadcast_to_a_large_one(rt: HostRuntime) -> Result<(), Fail> {
-    let alloc = rt.alloc();
     let root = NodeKind::Enforcer(Enforcer::Gather);
-    assert!(rt; costs(alloc, large_and_small(alloc)?, 52_318, root, 5)?);
-    Ok(())
+    assert_least(
+        &rt,
+        rt.alloc(),
+        large_and_small(rt.alloc()),
+        52_318,
+        root,
+        5,
+    )
 }
 
 #[test]
 fn the_cost_of_a_huge_join_is_capped(rt: HostRuntime) -> Result<(), Fail> {
-    let alloc = rt.alloc();
     let root = loop_of(0, 1);
-    assert!(rt; costs(alloc, huge_tables(alloc)?, 1_004_500_000_000_004, root, 5)?);
-    Ok(())
+    let least = 1_004_500_000_000_004;
+    assert_least(&rt, rt.alloc(), huge_tables(rt.alloc()), least, root, 5)
 }
 
 #[test]
 fn one_table_is_sorted_on_its_segments_and_merged(rt: HostRuntime) -> Result<(), Fail> {
-    let alloc = rt.alloc();
     let root = NodeKind::Enforcer(Enforcer::GatherMerge(1));
-    assert!(rt; costs(alloc, sorted_table(alloc)?, 5253, root, 3)?);
-    Ok(())
+    assert_least(&rt, rt.alloc(), sorted_table(rt.alloc()), 5253, root, 3)
 }
 
 // Each segment groups its own rows, and these groups go where the hash of b says.
 #[test]
 fn groups_are_made_in_two_steps_on_the_segments(rt: HostRuntime) -> Result<(), Fail> {
-    let alloc = rt.alloc();
     let root = NodeKind::Enforcer(Enforcer::GatherMerge(1));
-    assert!(rt; costs(alloc, grouped(alloc)?, 855, root, 6)?);
-    Ok(())
+    assert_least(&rt, rt.alloc(), grouped(rt.alloc()), 855, root, 6)
 }
 
 #[test]
 fn there_is_no_plan_where_no_rule_makes_a_join(rt: HostRuntime) -> Result<(), Fail> {
-    let alloc = rt.alloc();
-    let found = least_of(alloc, without_a_plan(alloc)?)?;
+    let found = least_of(rt.alloc(), without_a_plan(rt.alloc()))?;
     assert!(rt; matches!(found, Found::NoPlan));
     Ok(())
 }
@@ -137,15 +136,9 @@ fn there_is_no_plan_where_no_rule_makes_a_join(rt: HostRuntime) -> Result<(), Fa
 // greater one.
 #[test]
 fn of_plans_of_one_cost_the_first_by_code_is_least(rt: HostRuntime) -> Result<(), Fail> {
-    let alloc = rt.alloc();
-    let found = least_of(alloc, two_tables(alloc)?)?;
-    let hashed_alike = NodeKind::Native(
-        PhysicalExpr::new(
-            KeyParts::Join(3),
-            Physical::HashJoin(KeyParts::Get(0), KeyParts::Get(1)),
-        ),
-        128,
-    );
+    let operator = Physical::HashJoin(KeyParts::Get(0), KeyParts::Get(1));
+    let hashed_alike = NodeKind::Native(PhysicalExpr::new(KeyParts::Join(3), operator), 128);
+    let found = least_of(rt.alloc(), two_tables(rt.alloc()))?;
     assert!(rt;
         matches!(&found, Found::Least { plan, cost: 7506 } if join_of(plan) == Some(hashed_alike))
     );

@@ -1,6 +1,6 @@
 //! Two tables that are joined by an equality, worked by hand.
 
-ghost use Rattle.std.specs.Prelude.{IfSome};
+ghost use Rattle.std.specs.Prelude.{IfOk, IfSome};
 ghost use Rattle.query_core.specs.Keys.{IsGroup};
 ghost use Rattle.query_core.specs.Expressions.{IsCandidate, expr_of};
 ghost use Rattle.request_props.specs.Numbered.{IsProps};
@@ -9,9 +9,18 @@ use plan_space::{Enforcer, NodeKind};
 use plan_tree::*;
 use query_core::*;
 use request_props::{Dist, Props, Request};
+use std::alloc::Global;
+use std::process::Abort;
 use std::test::Fail;
 use worked_queries::{compared_tables, implied};
 use xform_rules::{Rule, result_at, results_are_candidates};
+
+// Two tables that are joined by this comparison, and what the query implies.
+fn compared(alloc: Global, op: CmpOp) -> Result<(Box<Query>, Box<Props>), Fail>
+    ensures { IfOk result (λ made. IsProps made.0.value made.1.value) }
+{
+    implied(alloc, compared_tables(alloc, op, 0)?)
+}
 
 // The result of the rule at the expression.
 pub fn step(query: &Query, rule: Rule, e: ExprParts) -> Option<ExprParts>
@@ -116,72 +125,86 @@ fn has_three_modes(query: &Query, props: &Props, join: PhysicalExpr) -> bool
         && next_mode(query, props, join, 129).is_none()
 }
 
+fn assert_three_modes(rt: &impl Abort, query: &Query, props: &Props, rule: Rule)
+    requires { IsProps query.now props.now }
+{
+    assert!(rt;
+        matches!(join_by(query, rule), Some(join) if has_three_modes(query, props, join)),
+        "{rule:?}"
+    );
+}
+
 #[test]
 fn a_hash_join_with_one_crossing_equality_has_three_modes(rt: HostRuntime) -> Result<(), Fail> {
-    let (query, props) = implied(rt.alloc(), compared_tables(rt.alloc(), CmpOp::Eq, 0)?)?;
-    for rule in [Rule::JoinToHash, Rule::JoinToMerge] {
-        let join = join_by(&query, rule).ok_or("the rule makes a join")?;
-        assert!(rt; has_three_modes(&query, &props, join));
-    }
+    let (query, props) = compared(rt.alloc(), CmpOp::Eq)?;
+    assert_three_modes(&rt, &query, &props, Rule::JoinToHash);
+    assert_three_modes(&rt, &query, &props, Rule::JoinToMerge);
     Ok(())
 }
+
+// A distribution, a mode, and whether a join by loops serves the one in the other.
+const LOOP_MODES: [(Dist, u32, bool); 4] = [
+    (Dist::One, 0, true),
+    (Dist::One, 64, false),
+    (Dist::Spread, 64, true),
+    (Dist::Spread, 128, false),
+];
 
 #[test]
 fn a_join_without_an_equality_has_two_modes(rt: HostRuntime) -> Result<(), Fail> {
-    let (query, props) = implied(rt.alloc(), compared_tables(rt.alloc(), CmpOp::Lt, 0)?)?;
-    for (dist, mode, is_one) in [
-        (Dist::One, 0, true),
-        (Dist::One, 64, false),
-        (Dist::Spread, 64, true),
-        (Dist::Spread, 128, false),
-    ] {
-        let alt = join_in(&query, &props, Rule::JoinToLoop, ask(dist, 0), mode);
-        assert!(rt; alt.is_some() == is_one, "{mode}");
+    let (query, props) = compared(rt.alloc(), CmpOp::Lt)?;
+    for (dist, mode, is_one) in &LOOP_MODES {
+        let alt = join_in(&query, &props, Rule::JoinToLoop, ask(*dist, 0), *mode);
+        assert!(rt; alt.is_some() == *is_one, "{mode}");
     }
     Ok(())
 }
 
-// Whether the first two alternatives are in these modes, and there is no third one.
-fn has_modes(
+// Asserts that the first two alternatives are in these modes, and that there is no third one.
+fn assert_modes(
+    rt: &impl Abort,
     query: &Query,
     props: &Props,
     rule: Rule,
     request: Request,
     first: Option<u32>,
     second: Option<u32>,
-) -> bool
+)
     requires { IsProps query.now props.now }
 {
-    mode_at(query, props, rule, request, 0) == first
+    let has_modes = mode_at(query, props, rule, request, 0) == first
         && mode_at(query, props, rule, request, 1) == second
-        && mode_at(query, props, rule, request, 2).is_none()
+        && mode_at(query, props, rule, request, 2).is_none();
+    assert!(rt; has_modes, "{rule:?} {request:?}");
 }
+
+// A rule, a distribution and an order, and the modes of the two first alternatives.
+const JOIN_MODES: [(Rule, Dist, u32, Option<u32>, Option<u32>); 11] = [
+    (Rule::JoinToHash, Dist::One, 0, Some(0), None),
+    (Rule::JoinToHash, Dist::One, 1, None, None),
+    (Rule::JoinToHash, Dist::Spread, 0, Some(64), Some(128)),
+    (Rule::JoinToHash, Dist::Hashed(0), 0, Some(64), Some(128)),
+    (Rule::JoinToHash, Dist::Hashed(1), 0, None, None),
+    (Rule::JoinToHash, Dist::Copies, 0, None, None),
+    (Rule::JoinToMerge, Dist::One, 1, Some(0), None),
+    (Rule::JoinToMerge, Dist::Spread, 1, Some(64), Some(128)),
+    (Rule::JoinToMerge, Dist::Spread, 2, None, None),
+    (Rule::JoinToLoop, Dist::One, 1, Some(0), None),
+    (Rule::JoinToLoop, Dist::Spread, 2, None, None),
+];
 
 #[test]
 fn alternatives_are_as_by_hand(rt: HostRuntime) -> Result<(), Fail> {
-    let (query, props) = implied(rt.alloc(), compared_tables(rt.alloc(), CmpOp::Eq, 0)?)?;
-    for (rule, dist, order, first, second) in [
-        (Rule::JoinToHash, Dist::One, 0, Some(0), None),
-        (Rule::JoinToHash, Dist::One, 1, None, None),
-        (Rule::JoinToHash, Dist::Spread, 0, Some(64), Some(128)),
-        (Rule::JoinToHash, Dist::Hashed(0), 0, Some(64), Some(128)),
-        (Rule::JoinToHash, Dist::Hashed(1), 0, None, None),
-        (Rule::JoinToHash, Dist::Copies, 0, None, None),
-        (Rule::JoinToMerge, Dist::One, 1, Some(0), None),
-        (Rule::JoinToMerge, Dist::Spread, 1, Some(64), Some(128)),
-        (Rule::JoinToMerge, Dist::Spread, 2, None, None),
-        (Rule::JoinToLoop, Dist::One, 1, Some(0), None),
-        (Rule::JoinToLoop, Dist::Spread, 2, None, None),
-    ] {
-        let as_by_hand = has_modes(&query, &props, rule, ask(dist, order), first, second);
-        assert!(rt; as_by_hand, "{rule:?} {dist:?} {order}");
+    let (query, props) = compared(rt.alloc(), CmpOp::Eq)?;
+    for (rule, dist, order, first, second) in &JOIN_MODES {
+        let request = ask(*dist, *order);
+        assert_modes(&rt, &query, &props, *rule, request, *first, *second);
     }
     Ok(())
 }
 
 #[test]
 fn joins_ask_as_by_hand(rt: HostRuntime) -> Result<(), Fail> {
-    let (query, props) = implied(rt.alloc(), compared_tables(rt.alloc(), CmpOp::Eq, 0)?)?;
     let merged = Alt {
         node: Node((1 << 56) + (70_594_229_968_898 + (1 << 31)) * 256 + 128),
         left: Some((Key(0), ask(Dist::Hashed(0), 1))),
@@ -192,12 +215,11 @@ fn joins_ask_as_by_hand(rt: HostRuntime) -> Result<(), Fail> {
         left: Some((Key(0), ask(Dist::One, 1))),
         right: Some((Key(1), ask(Dist::One, 0))),
     };
-    for (rule, request, mode, alt) in [
-        (Rule::JoinToMerge, ask(Dist::Spread, 1), 128, merged),
-        (Rule::JoinToLoop, ask(Dist::One, 1), 0, looped),
-    ] {
-        assert_eq!(rt; join_in(&query, &props, rule, request, mode), Some(alt));
-    }
+    let (query, props) = compared(rt.alloc(), CmpOp::Eq)?;
+    let by_merge = join_in(&query, &props, Rule::JoinToMerge, ask(Dist::Spread, 1), 128);
+    assert!(rt; by_merge == Some(merged));
+    let by_loops = join_in(&query, &props, Rule::JoinToLoop, ask(Dist::One, 1), 0);
+    assert!(rt; by_loops == Some(looped));
     Ok(())
 }
 
@@ -241,59 +263,72 @@ fn join_costs(query: &Query, props: &Props) -> bool
 
 #[test]
 fn costs_are_those_of_worked_examples(rt: HostRuntime) -> Result<(), Fail> {
-    let (query, props) = implied(rt.alloc(), compared_tables(rt.alloc(), CmpOp::Eq, 0)?)?;
+    let (query, props) = compared(rt.alloc(), CmpOp::Eq)?;
     assert!(rt; query.is_key(Key(0)) && table_costs(&query, &props, query.group(Key(0))));
     assert!(rt; join_costs(&query, &props));
     Ok(())
 }
 
+// What is asked for, the place of the enforcer, its number, and what it asks for.
+const ENFORCERS: [(Dist, u32, u32, Option<(u64, Dist, u32)>); 12] = [
+    (Dist::One, 1, 0, Some((65, Dist::One, 0))),
+    (Dist::One, 1, 1, Some((129, Dist::Spread, 1))),
+    (Dist::One, 1, 2, None),
+    (Dist::One, 0, 0, Some((1, Dist::Spread, 0))),
+    (Dist::One, 0, 1, None),
+    (Dist::Spread, 0, 0, None),
+    (Dist::Copies, 0, 0, Some((2, Dist::Spread, 0))),
+    (Dist::Copies, 2, 0, Some((66, Dist::Copies, 0))),
+    (Dist::Copies, 2, 1, None),
+    (Dist::Hashed(1), 0, 0, Some((193, Dist::Spread, 0))),
+    (Dist::Hashed(2), 0, 0, None),
+    (Dist::One, 3, 0, None),
+];
+
+fn assert_enforced(
+    rt: &impl Abort,
+    query: &Query,
+    props: &Props,
+    request: Request,
+    n: u32,
+    wanted: Option<(u64, Dist, u32)>,
+)
+    requires { IsProps query.now props.now }
+{
+    assert!(rt;
+        enforced(query, props, request, n) == wanted,
+        "{request:?} {n}"
+    );
+}
+
 #[test]
 fn a_sort_comes_before_a_merge(rt: HostRuntime) -> Result<(), Fail> {
-    let (query, props) = implied(rt.alloc(), compared_tables(rt.alloc(), CmpOp::Eq, 0)?)?;
-    // What is asked for, the place of the enforcer, its number, and what it asks for.
-    for (dist, order, n, wanted) in [
-        (Dist::One, 1, 0, Some((65, Dist::One, 0))),
-        (Dist::One, 1, 1, Some((129, Dist::Spread, 1))),
-        (Dist::One, 1, 2, None),
-        (Dist::One, 0, 0, Some((1, Dist::Spread, 0))),
-        (Dist::One, 0, 1, None),
-        (Dist::Spread, 0, 0, None),
-        (Dist::Copies, 0, 0, Some((2, Dist::Spread, 0))),
-        (Dist::Copies, 2, 0, Some((66, Dist::Copies, 0))),
-        (Dist::Copies, 2, 1, None),
-        (Dist::Hashed(1), 0, 0, Some((193, Dist::Spread, 0))),
-        (Dist::Hashed(2), 0, 0, None),
-        (Dist::One, 3, 0, None),
-    ] {
-        assert_eq!(rt;
-            enforced(&query, &props, ask(dist, order), n),
-            wanted,
-            "{dist:?} {order} {n}"
-        );
+    let (query, props) = compared(rt.alloc(), CmpOp::Eq)?;
+    for (dist, order, n, wanted) in &ENFORCERS {
+        assert_enforced(&rt, &query, &props, ask(*dist, *order), *n, *wanted);
     }
     Ok(())
 }
 
+fn assert_kind(rt: &impl Abort, number: u64, kind: Option<NodeKind>) {
+    assert!(rt; Node(number).kind() == kind, "{number}");
+}
+
+fn assert_enforcer(rt: &impl Abort, number: u64, enforcer: Enforcer) {
+    assert_kind(rt, number, Some(NodeKind::Enforcer(enforcer)));
+}
+
 #[test]
 fn nodes_are_told_by_their_numbers(rt: HostRuntime) {
-    let enforcers = [
-        (1, Some(Enforcer::Gather)),
-        (2, Some(Enforcer::Broadcast)),
-        (65, Some(Enforcer::Sort(1))),
-        (124, Some(Enforcer::Sort(60))),
-        (188, Some(Enforcer::GatherMerge(60))),
-        (192, Some(Enforcer::Redistribute(0))),
-        (251, Some(Enforcer::Redistribute(59))),
-        (64, None),
-        (125, None),
-        (252, None),
-        (1 << 56, None),
-    ];
-    for (number, enforcer) in enforcers {
-        let kind = match enforcer {
-            Some(enforcer) => Some(NodeKind::Enforcer(enforcer)),
-            None => None,
-        };
-        assert_eq!(rt; Node(number).kind(), kind);
-    }
+    assert_enforcer(&rt, 1, Enforcer::Gather);
+    assert_enforcer(&rt, 2, Enforcer::Broadcast);
+    assert_enforcer(&rt, 65, Enforcer::Sort(1));
+    assert_enforcer(&rt, 124, Enforcer::Sort(60));
+    assert_enforcer(&rt, 188, Enforcer::GatherMerge(60));
+    assert_enforcer(&rt, 192, Enforcer::Redistribute(0));
+    assert_enforcer(&rt, 251, Enforcer::Redistribute(59));
+    assert_kind(&rt, 64, None);
+    assert_kind(&rt, 125, None);
+    assert_kind(&rt, 252, None);
+    assert_kind(&rt, 1 << 56, None);
 }
