@@ -13,7 +13,7 @@ use request_props::{Dist, Props, Request};
 use std::alloc::{AllocError, Global};
 use std::process::Abort;
 use std::test::Fail;
-use worked_queries::{filtered_table, hashed_count, large_and_small, props_of, two_tables};
+use worked_queries::{filtered_table, hashed_count, implied, large_and_small, two_tables};
 
 // ---- nodes by their numbers
 
@@ -63,14 +63,19 @@ struct Case<'a> {
     says: Result<u64, PlanFault>,
 }
 
-// The plan of the listed nodes, made from the last one on.
+// The plan of the listed nodes.
 fn plan_of(alloc: Global, nodes: &[(u64, u32)]) -> Result<Plan, AllocError> {
     let mut plans = Vec::new(alloc);
+    plan_by(alloc, nodes, &mut plans)
+}
+
+// The same, made from the last node on, with those that wait for a node above them in the list.
+fn plan_by(alloc: Global, nodes: &[(u64, u32)], plans: &mut Vec<Plan>) -> Result<Plan, AllocError> {
     for (node, kids) in nodes.iter().rev() {
-        let plan = plan_over(alloc, Node(*node), *kids, &mut plans)?;
+        let plan = plan_over(alloc, Node(*node), *kids, plans)?;
         plans.push(plan)?;
     }
-    Ok(last_of(&mut plans))
+    Ok(last_of(plans))
 }
 
 // A node over so many of the plans that were made last.
@@ -123,7 +128,7 @@ fn check_cases(
     query: &Query,
     props: &Props,
     cases: &[Case],
-) -> Result<(), Fail>
+) -> Result<(), AllocError>
     requires { IsProps query.now props.now }
 {
     for case in cases {
@@ -132,9 +137,14 @@ fn check_cases(
     Ok(())
 }
 
-fn check_each(rt: &impl Abort, alloc: Global, query: Query, cases: &[Case]) -> Result<(), Fail> {
-    let props = props_of(alloc, &query)?;
-    check_cases(rt, alloc, &query, &props, cases)
+fn check_each(
+    rt: &impl Abort,
+    alloc: Global,
+    query: Result<Query, Fail>,
+    cases: &[Case],
+) -> Result<(), Fail> {
+    let (query, props) = implied(alloc, query?)?;
+    Ok(check_cases(rt, alloc, &query, &props, cases)?)
 }
 
 // ---- two tables
@@ -188,7 +198,7 @@ fn a_plan_costs_what_the_table_says(rt: HostRuntime) -> Result<(), Fail> {
     check_each(
         &rt,
         rt.alloc(),
-        two_tables(rt.alloc())?,
+        two_tables(rt.alloc()),
         &[copied, merged, looped],
     )
 }
@@ -202,7 +212,7 @@ fn the_least_plan_has_its_cost(rt: HostRuntime) -> Result<(), Fail> {
             order,
             says: Ok(7506),
         };
-        check_each(&rt, rt.alloc(), two_tables(rt.alloc())?, &[least])?;
+        check_each(&rt, rt.alloc(), two_tables(rt.alloc()), &[least])?;
     }
     // a sort at 2,001 and a motion at 1,001 that change nothing
     let redundant = Case {
@@ -220,7 +230,7 @@ fn the_least_plan_has_its_cost(rt: HostRuntime) -> Result<(), Fail> {
         order: 1,
         says: Ok(7506 + 2001 + 1001),
     };
-    check_each(&rt, rt.alloc(), two_tables(rt.alloc())?, &[redundant])
+    check_each(&rt, rt.alloc(), two_tables(rt.alloc()), &[redundant])
 }
 
 #[test]
@@ -237,39 +247,32 @@ fn copies_of_a_small_table_cost_little(rt: HostRuntime) -> Result<(), Fail> {
         order: 0,
         says: Ok(52318),
     };
-    check_each(&rt, rt.alloc(), large_and_small(rt.alloc())?, &[copied])
+    check_each(&rt, rt.alloc(), large_and_small(rt.alloc()), &[copied])
 }
 
-// So many sorts over a scan.
-fn sorts(alloc: Global, many: u32) -> Result<Plan, AllocError> {
-    let mut plan = Plan::Leaf(Node(SCAN_1));
-    for _ in 0..many {
-        plan = Plan::Over(Node(SORT_A), Box::new(alloc, plan)?);
-    }
-    Ok(plan)
-}
-
-// What a check of so many sorts over a scan says.
-fn checked_sorts(alloc: Global, many: u32, query: Query) -> Result<Result<u64, PlanFault>, Fail> {
-    let props = props_of(alloc, &query)?;
-    let plan = sorts(alloc, many)?;
-    let wanted = Request {
+// What a check says of so many sorts over a scan.
+fn check_sorts(
+    rt: &impl Abort,
+    alloc: Global,
+    many: usize,
+    says: Result<u64, PlanFault>,
+) -> Result<(), Fail> {
+    let mut nodes = vec![in alloc; (SORT_A, 1); many]?;
+    nodes.push((SCAN_1, 0))?;
+    let sorts = Case {
+        nodes: &nodes,
         dist: Dist::Spread,
         order: 1,
+        says,
     };
-    Ok(check_plan(&query, &props, &plan, wanted))
+    check_each(rt, alloc, two_tables(alloc), &[sorts])
 }
 
 #[test]
 fn a_thousand_nodes_are_few_enough(rt: HostRuntime) -> Result<(), Fail> {
-    for (many, says) in [
-        (999, Ok(999 * 2001 + 251)),
-        (1000, Err(PlanFault::TooLarge { nodes: 1001 })),
-    ] {
-        let told = checked_sorts(rt.alloc(), many, two_tables(rt.alloc())?)?;
-        assert_eq!(rt; told, says);
-    }
-    Ok(())
+    check_sorts(&rt, rt.alloc(), 999, Ok(999 * 2001 + 251))?;
+    let over = PlanFault::TooLarge { nodes: 1001 };
+    check_sorts(&rt, rt.alloc(), 1000, Err(over))
 }
 
 #[test]
@@ -297,7 +300,7 @@ fn a_number_that_no_node_of_the_query_has_is_told(rt: HostRuntime) -> Result<(),
             order: 1,
             says: Err(PlanFault::Shape { node: 3 }),
         };
-        check_each(&rt, rt.alloc(), two_tables(rt.alloc())?, &[unknown])?;
+        check_each(&rt, rt.alloc(), two_tables(rt.alloc()), &[unknown])?;
     }
     Ok(())
 }
@@ -331,7 +334,7 @@ fn the_last_node_with_wrong_kids_is_told(rt: HostRuntime) -> Result<(), Fail> {
     check_each(
         &rt,
         rt.alloc(),
-        two_tables(rt.alloc())?,
+        two_tables(rt.alloc()),
         &[turned, of_two_over_nothing, of_two],
     )
 }
@@ -353,7 +356,7 @@ fn the_first_node_whose_needs_are_not_met_is_told(rt: HostRuntime) -> Result<(),
     check_each(
         &rt,
         rt.alloc(),
-        two_tables(rt.alloc())?,
+        two_tables(rt.alloc()),
         &[by_another_column, gathered_thrice],
     )?;
     // an order and a list that aren't in the table, and a merge of rows in no order
@@ -364,7 +367,7 @@ fn the_first_node_whose_needs_are_not_met_is_told(rt: HostRuntime) -> Result<(),
             order: 0,
             says: Err(PlanFault::Needs { node: 0 }),
         };
-        check_each(&rt, rt.alloc(), two_tables(rt.alloc())?, &[apart])?;
+        check_each(&rt, rt.alloc(), two_tables(rt.alloc()), &[apart])?;
     }
     Ok(())
 }
@@ -378,7 +381,7 @@ fn a_valid_plan_may_not_be_what_is_asked_for(rt: HostRuntime) -> Result<(), Fail
             order,
             says: Err(PlanFault::Unsatisfied),
         };
-        check_each(&rt, rt.alloc(), two_tables(rt.alloc())?, &[other])?;
+        check_each(&rt, rt.alloc(), two_tables(rt.alloc()), &[other])?;
     }
     Ok(())
 }
@@ -401,7 +404,7 @@ fn the_whole_plan_is_looked_through_for_one_fault_first(rt: HostRuntime) -> Resu
     check_each(
         &rt,
         rt.alloc(),
-        two_tables(rt.alloc())?,
+        two_tables(rt.alloc()),
         &[wrong_kids, unknown],
     )
 }
@@ -468,7 +471,7 @@ fn aggregations_cost_what_the_table_says(rt: HostRuntime) -> Result<(), Fail> {
     check_each(
         &rt,
         rt.alloc(),
-        hashed_count(rt.alloc())?,
+        hashed_count(rt.alloc()),
         &[gathered, in_two_steps, streamed],
     )
 }
@@ -493,7 +496,7 @@ fn an_aggregation_by_a_list_outside_group_by_lacks_what_it_needs(
     check_each(
         &rt,
         rt.alloc(),
-        hashed_count(rt.alloc())?,
+        hashed_count(rt.alloc()),
         &[over_a_scan, over_wrong_kids],
     )
 }
@@ -525,7 +528,7 @@ fn a_filter_and_an_index_cost_what_the_table_says(rt: HostRuntime) -> Result<(),
     check_each(
         &rt,
         rt.alloc(),
-        filtered_table(rt.alloc())?,
+        filtered_table(rt.alloc()),
         &[over_a_scan, over_an_index, sought],
     )
 }
