@@ -14,38 +14,42 @@ fn text(alloc: Global, part: &str) -> Result<Text, AllocError>
 
 // `SELECT a FROM t ORDER BY a DESC`
 fn one_table(alloc: Global) -> Result<Query, AllocError> {
+    let alias = text(alloc, "t")?;
+    let name = text(alloc, "a")?;
     let table = QueryTable {
-        alias: text(alloc, "t")?,
+        alias,
         rows: 1000,
         hashed: None,
         indexes: List::new(alloc),
     };
+    let tables = List::of(vec![in alloc; table]?);
     let item = Item {
         table: 0,
-        name: text(alloc, "a")?,
+        name,
         ndv: 10,
     };
+    let items = List::of(vec![in alloc; item]?);
+    let shown = OutItem {
+        item: 0,
+        name: None,
+    };
+    let output = List::of(vec![in alloc; shown]?);
+    let key = OrderKey {
+        item: 0,
+        desc: true,
+    };
+    let order = List::of(vec![in alloc; key]?);
     Ok(Query {
         segments: 4,
-        tables: List::of(vec![in alloc; table]?),
-        items: List::of(vec![in alloc; item]?),
+        tables,
+        items,
         preds: List::new(alloc),
         links: List::new(alloc),
         grouped: false,
         group_by: List::new(alloc),
         aggs: List::new(alloc),
-        output: List::of(vec![in alloc;
-            OutItem {
-                item: 0,
-                name: None
-            },
-        ]?),
-        order: List::of(vec![in alloc;
-            OrderKey {
-                item: 0,
-                desc: true
-            },
-        ]?),
+        output,
+        order,
         options: Options {
             root: RootDist::One,
             off: 0,
@@ -59,7 +63,7 @@ fn lent<T: Send + Sync>(value: &T) -> &T {
 
 #[test]
 fn a_query_of_one_table_can_be_made_and_shared(rt: HostRuntime) -> Result<(), Fail> {
-    let query = one_table(rt.alloc())?;
-    assert_eq!(rt; lent(&query).order.len(), 1);
+    let query = Box::new(rt.alloc(), one_table(rt.alloc())?)?;
+    assert!(rt; lent::<Query>(&query).order.len() == 1);
     Ok(())
 }

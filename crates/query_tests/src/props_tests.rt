@@ -1,18 +1,22 @@
 //! A query of two tables, worked by hand.
 
-ghost use Rattle.std.specs.Prelude.{IsTrue};
+ghost use Rattle.std.specs.Prelude.{IfOk, IsTrue};
 ghost use Rattle.request_props.specs.Numbered.{IsProps};
 ghost use Rattle.request_props.specs.Requests.{IsInRange};
 ghost use Rattle.request_props.specs.Satisfied.{IsOrderKnown};
 
 use query_core::*;
 use request_props::*;
+use std::alloc::Global;
 use std::process::Abort;
 use std::test::Fail;
 use worked_queries::{cycle_of_four_predicates, implied, two_equalities};
 
-fn key(item: u32, desc: bool) -> OrderKey {
-    OrderKey { item, desc }
+// Two tables with two equalities, and what the query implies.
+fn equated(alloc: Global) -> Result<(Box<Query>, Box<Props>), Fail>
+    ensures { IfOk result (λ made. IsProps made.0.value made.1.value) }
+{
+    implied(alloc, two_equalities(alloc)?)
 }
 
 fn has_list(props: &Props, place: usize, list: &[u32]) -> bool {
@@ -22,30 +26,40 @@ fn has_list(props: &Props, place: usize, list: &[u32]) -> bool {
     }
 }
 
-fn has_order(props: &Props, place: usize, order: &[OrderKey]) -> bool {
+// Whether the order at the place is by this column alone.
+fn has_order(props: &Props, place: usize, item: u32, desc: bool) -> bool {
     match props.orders.as_slice().get(place) {
-        Some(listed) => listed.as_slice() == order,
+        Some(listed) => listed.as_slice() == [OrderKey { item, desc }].as_slice(),
         None => false,
     }
 }
 
+fn has_lists(props: &Props) -> bool {
+    props.hashed.len() == 3
+        && has_list(props, 0, &[0])
+        && has_list(props, 1, &[2])
+        && has_list(props, 2, &[0, 1])
+}
+
+fn has_orders(props: &Props) -> bool {
+    props.orders.len() == 3
+        && props.root.order == 2
+        && has_order(props, 0, 0, false)
+        && has_order(props, 1, 0, true)
+        && has_order(props, 2, 2, false)
+}
+
 #[test]
 fn lists_are_numbered_by_length_and_then_by_their_elements(rt: HostRuntime) -> Result<(), Fail> {
-    let (_query, props) = implied(rt.alloc(), two_equalities(rt.alloc())?)?;
-    assert_eq!(rt; props.hashed.len(), 3);
-    assert!(rt; has_list(&props, 0, &[0]));
-    assert!(rt; has_list(&props, 1, &[2]));
-    assert!(rt; has_list(&props, 2, &[0, 1]));
+    let (_query, props) = equated(rt.alloc())?;
+    assert!(rt; has_lists(&props));
     Ok(())
 }
 
 #[test]
 fn orders_are_numbered_by_their_elements(rt: HostRuntime) -> Result<(), Fail> {
-    let (_query, props) = implied(rt.alloc(), two_equalities(rt.alloc())?)?;
-    assert!(rt; has_order(&props, 0, &[key(0, false)]));
-    assert!(rt; has_order(&props, 1, &[key(0, true)]));
-    assert!(rt; has_order(&props, 2, &[key(2, false)]));
-    assert!(rt; props.orders.len() == 3 && props.root.order == 2);
+    let (_query, props) = equated(rt.alloc())?;
+    assert!(rt; has_orders(&props));
     Ok(())
 }
 
@@ -55,8 +69,8 @@ fn lent<T: Send + Sync>(value: &T) -> &T {
 
 #[test]
 fn what_is_collected_can_be_shared(rt: HostRuntime) -> Result<(), Fail> {
-    let (_query, props) = implied(rt.alloc(), two_equalities(rt.alloc())?)?;
-    assert_eq!(rt; lent(&props).orders.len(), 3);
+    let (_query, props) = equated(rt.alloc())?;
+    assert!(rt; lent(&props).orders.len() == 3);
     Ok(())
 }
 
@@ -70,24 +84,31 @@ fn has_its_crossings(query: &Query, props: &Props) -> bool
         && props.crossing(query, second, first, 1).is_none()
 }
 
-fn assert_looked_up(rt: &impl Abort, query: &Query, props: &Props)
+// Whether it has these groups, and joins all pairs of 10 and 100 rows, of which a tenth and then a third is left.
+fn has_its_groups(query: &Query, props: &Props) -> bool
     requires { IsProps query.now props.now }
 {
-    assert!(rt; props.is_key(query, Key(1027)));
-    assert!(rt; !props.is_key(query, Key(17)));
-    // All pairs of 10 and 100 rows, of which a tenth and then a third is left.
-    assert_eq!(rt; props.rows(query, query.root()), 34);
-    assert!(rt; has_its_crossings(query, props));
-    assert!(rt; props.table_dist(query, 0) == GivenDist::Hashed(2));
-    assert!(rt; props.table_dist(query, 1) == GivenDist::Random);
-    assert!(rt; !props.is_grouped_list(query, 0));
-    assert!(rt; props.group_order(query) == 0);
+    props.is_key(query, Key(1027))
+        && !props.is_key(query, Key(17))
+        && props.rows(query, query.root()) == 34
+}
+
+// Whether the first table is hashed by both its columns and the second one at random, and no rows are grouped.
+fn has_its_dists(query: &Query, props: &Props) -> bool
+    requires { IsProps query.now props.now }
+{
+    props.table_dist(query, 0) == GivenDist::Hashed(2)
+        && props.table_dist(query, 1) == GivenDist::Random
+        && !props.is_grouped_list(query, 0)
+        && props.group_order(query) == 0
 }
 
 #[test]
 fn what_a_query_implies_is_looked_up(rt: HostRuntime) -> Result<(), Fail> {
-    let (query, props) = implied(rt.alloc(), two_equalities(rt.alloc())?)?;
-    assert_looked_up(&rt, &query, &props);
+    let (query, props) = equated(rt.alloc())?;
+    assert!(rt; has_its_groups(&query, &props));
+    assert!(rt; has_its_crossings(&query, &props));
+    assert!(rt; has_its_dists(&query, &props));
     Ok(())
 }
 
@@ -119,6 +140,25 @@ fn crossings_agree(query: &Query, props: &Props, left: KeyParts, right: KeyParts
     true
 }
 
+// Asserts that merges of the two groups in this order are by these predicates.
+fn assert_merging(
+    rt: &impl Abort,
+    query: &Query,
+    props: &Props,
+    left: KeyParts,
+    right: KeyParts,
+    order: u32,
+    preds: &[u32],
+)
+    requires { IsProps query.now props.now }
+{
+    assert!(rt;
+        crossings_agree(query, props, left, right)
+            && has_just(props.merging(query, left, right, order), preds),
+        "{left:?} {right:?} {order}"
+    );
+}
+
 #[test]
 fn merges_are_by_a_left_column_that_gives_the_order(rt: HostRuntime) -> Result<(), Fail> {
     let (query, props) = implied(rt.alloc(), cycle_of_four_predicates(rt.alloc())?)?;
@@ -136,12 +176,26 @@ fn merges_are_by_a_left_column_that_gives_the_order(rt: HostRuntime) -> Result<(
         (KeyParts::Get(0), KeyParts::Filter(1), 2, &[1]),
         (KeyParts::Filter(1), KeyParts::Get(0), 5, &[1]),
     ];
-    for (left, right, order, preds) in rows {
-        assert!(rt; crossings_agree(&query, &props, left, right), "{order}");
-        let merging = props.merging(&query, left, right, order);
-        assert!(rt; has_just(merging, preds), "{order}");
+    for (left, right, order, preds) in &rows {
+        assert_merging(&rt, &query, &props, *left, *right, *order, preds);
     }
     Ok(())
+}
+
+// Asserts that hash joins of the two groups for this distribution are by these predicates.
+fn assert_hashing(
+    rt: &impl Abort,
+    query: &Query,
+    props: &Props,
+    left: KeyParts,
+    right: KeyParts,
+    wanted: Dist,
+    preds: &[u32],
+)
+    requires { IsProps query.now props.now }
+{
+    let hashing = props.hashing(query, left, right, wanted);
+    assert!(rt; has_just(hashing, preds), "{left:?} {right:?} {wanted:?}");
 }
 
 #[test]
@@ -158,24 +212,30 @@ fn hashes_are_by_a_left_column_that_is_the_list(rt: HostRuntime) -> Result<(), F
         (KeyParts::Get(0), KeyParts::Filter(1), Dist::Hashed(1), &[1]),
         (KeyParts::Filter(1), KeyParts::Get(0), Dist::Hashed(4), &[1]),
     ];
-    for (left, right, wanted, preds) in rows {
-        let hashing = props.hashing(&query, left, right, wanted);
-        assert!(rt; has_just(hashing, preds), "{wanted:?}");
+    for (left, right, wanted, preds) in &rows {
+        assert_hashing(&rt, &query, &props, *left, *right, *wanted, preds);
     }
     Ok(())
 }
 
-#[test]
-fn requests_fit_groups(rt: HostRuntime) -> Result<(), Fail> {
-    let (query, props) = implied(rt.alloc(), two_equalities(rt.alloc())?)?;
+// Whether a request, a list and an order fit the groups that have their columns, and no others.
+fn fit_groups(query: &Query, props: &Props) -> bool
+    requires { IsProps query.now props.now }
+{
     let wanted = Request {
         dist: Dist::Hashed(1),
         order: 3,
     };
-    assert!(rt; props.fits(&query, KeyParts::Join(3), wanted));
-    assert!(rt; !props.fits(&query, KeyParts::Get(0), wanted));
-    assert!(rt; props.hash_fits(&query, KeyParts::Filter(0), 2));
-    assert!(rt; !props.order_fits(&query, KeyParts::Agg, 3));
+    props.fits(query, KeyParts::Join(3), wanted)
+        && !props.fits(query, KeyParts::Get(0), wanted)
+        && props.hash_fits(query, KeyParts::Filter(0), 2)
+        && !props.order_fits(query, KeyParts::Agg, 3)
+}
+
+#[test]
+fn requests_fit_groups(rt: HostRuntime) -> Result<(), Fail> {
+    let (query, props) = equated(rt.alloc())?;
+    assert!(rt; fit_groups(&query, &props));
     Ok(())
 }
 
@@ -268,16 +328,35 @@ const ROWS: [(GivenDist, GivenOrder, Dist, u32, bool); 12] = [
     ),
 ];
 
+fn assert_answer(
+    rt: &impl Abort,
+    query: &Query,
+    props: &Props,
+    given: Given,
+    request: Request,
+    met: bool,
+)
+    requires { IsProps query.now props.now }
+{
+    assert!(rt;
+        answer(query, props, given, request) == Some(met),
+        "{given:?} {request:?}"
+    );
+}
+
 #[test]
 fn requests_are_met_as_by_hand(rt: HostRuntime) -> Result<(), Fail> {
-    let (query, props) = implied(rt.alloc(), two_equalities(rt.alloc())?)?;
-    for (given_dist, given_order, dist, order, met) in ROWS {
+    let (query, props) = equated(rt.alloc())?;
+    for (given_dist, given_order, dist, order, met) in &ROWS {
         let given = Given {
-            dist: given_dist,
-            order: given_order,
+            dist: *given_dist,
+            order: *given_order,
         };
-        let request = Request { dist, order };
-        assert_eq!(rt; answer(&query, &props, given, request), Some(met));
+        let request = Request {
+            dist: *dist,
+            order: *order,
+        };
+        assert_answer(&rt, &query, &props, given, request, *met);
     }
     Ok(())
 }
@@ -294,7 +373,5 @@ fn requests_have_codes(rt: HostRuntime) {
     assert!(rt; has_code(Request { dist, order: 2 }, 386));
     let dist = Dist::Hashed(59);
     assert!(rt; has_code(Request { dist, order: 60 }, 4028));
-    for number in [61, 4032] {
-        assert!(rt; request_of(number).is_none(), "{number}");
-    }
+    assert!(rt; request_of(61).is_none() && request_of(4032).is_none());
 }

@@ -1,6 +1,8 @@
 //! Results of rules at worked examples.
 
 use query_core::*;
+use std::alloc::Global;
+use std::process::Abort;
 use std::test::Fail;
 use worked_queries::{compared_tables, three_indexes};
 use xform_rules::nth_result;
@@ -30,53 +32,75 @@ fn second_step(query: &Query, rule: u32) -> Option<u64> {
     Some(nth_result(query, join, rule, 0, None)?.0)
 }
 
+// Asserts what each rule gives for the join of all tables.
+fn assert_joined(
+    rt: &impl Abort,
+    alloc: Global,
+    query: Result<Query, Fail>,
+    rules: &[(u32, Option<u64>)],
+) -> Result<(), Fail> {
+    let query = Box::new(alloc, query?)?;
+    for (rule, result) in rules {
+        assert!(rt; second_step(&query, *rule) == *result, "{rule}");
+    }
+    Ok(())
+}
+
+// Asserts what a rule gives at a place for the first expression of a group, whose key comes first.
+fn assert_first_steps(
+    rt: &impl Abort,
+    alloc: Global,
+    query: Result<Query, Fail>,
+    steps: &[(u32, u32, u32, Option<u64>)],
+) -> Result<(), Fail> {
+    let query = Box::new(alloc, query?)?;
+    for (key, rule, n, result) in steps {
+        assert!(rt;
+            first_step(&query, *key, *rule, *n) == *result,
+            "{rule} {n}"
+        );
+    }
+    Ok(())
+}
+
 #[test]
 fn a_join_of_two_tables_is_implemented_in_three_ways(rt: HostRuntime) -> Result<(), Fail> {
-    let query = Box::new(rt.alloc(), compared_tables(rt.alloc(), CmpOp::Eq, 0)?)?;
-    for (rule, result) in [
+    let rules = [
         (9, Some(HASH_JOIN)),
         (10, Some(MERGE_JOIN)),
         (11, Some(LOOP_JOIN)),
         (2, Some(0x403400004001)),
         (12, None),
-    ] {
-        assert!(rt; second_step(&query, rule) == result, "{rule}");
-    }
-    for (rule, n) in [(9, 0), (1, 1)] {
-        assert!(rt; first_step(&query, 1027, rule, n).is_none(), "{rule}");
-    }
-    Ok(())
+    ];
+    let query = compared_tables(rt.alloc(), CmpOp::Eq, 0);
+    assert_joined(&rt, rt.alloc(), query, &rules)?;
+    let steps = [(1027, 9, 0, None), (1027, 1, 1, None)];
+    let query = compared_tables(rt.alloc(), CmpOp::Eq, 0);
+    assert_first_steps(&rt, rt.alloc(), query, &steps)
 }
 
 #[test]
 fn without_an_equality_a_join_is_by_loops(rt: HostRuntime) -> Result<(), Fail> {
-    let query = Box::new(rt.alloc(), compared_tables(rt.alloc(), CmpOp::Lt, 0)?)?;
-    for (rule, result) in [(9, None), (10, None), (11, Some(LOOP_JOIN))] {
-        assert!(rt; second_step(&query, rule) == result, "{rule}");
-    }
-    Ok(())
+    let rules = [(9, None), (10, None), (11, Some(LOOP_JOIN))];
+    let query = compared_tables(rt.alloc(), CmpOp::Lt, 0);
+    assert_joined(&rt, rt.alloc(), query, &rules)
 }
 
 #[test]
 fn a_rule_that_is_off_has_no_result(rt: HostRuntime) -> Result<(), Fail> {
-    let query = Box::new(rt.alloc(), compared_tables(rt.alloc(), CmpOp::Eq, 1 << 9)?)?;
-    for (rule, result) in [(9, None), (10, Some(MERGE_JOIN))] {
-        assert!(rt; second_step(&query, rule) == result, "{rule}");
-    }
-    Ok(())
+    let rules = [(9, None), (10, Some(MERGE_JOIN))];
+    let query = compared_tables(rt.alloc(), CmpOp::Eq, 1 << 9);
+    assert_joined(&rt, rt.alloc(), query, &rules)
 }
 
 #[test]
 fn an_index_is_sought_where_its_first_column_is_compared(rt: HostRuntime) -> Result<(), Fail> {
-    let query = Box::new(rt.alloc(), three_indexes(rt.alloc())?)?;
-    for (key, rule, n, result) in [
+    let steps = [
         (16, 8, 0, Some(0x10304000000)),
         (16, 8, 1, Some(0x10308000000)),
         (16, 8, 2, None),
         (0, 6, 2, Some(0x188000000)),
         (0, 6, 3, None),
-    ] {
-        assert!(rt; first_step(&query, key, rule, n) == result, "{rule} {n}");
-    }
-    Ok(())
+    ];
+    assert_first_steps(&rt, rt.alloc(), three_indexes(rt.alloc()), &steps)
 }
