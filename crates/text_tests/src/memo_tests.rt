@@ -7,6 +7,7 @@ ghost use Rattle.query_core.specs.Expressions.{IsCandidateWord};
 use job_trace::memo_text;
 use query_core::{Expr, Query};
 use std::alloc::{AllocError, Global};
+use std::process::Abort;
 use std::test::Fail;
 use worked_queries::{cycle, filtered_count, two_tables};
 
@@ -40,9 +41,22 @@ fn text_of_memo(alloc: Global, query: &Query, words: &[u64]) -> Result<Vec<u8>, 
     Ok(Vec::new(alloc))
 }
 
-// The same of a query that nothing else needs.
-fn memo_of(alloc: Global, query: Query, words: &[u64]) -> Result<Vec<u8>, Fail> {
+fn memo_of(alloc: Global, query: Result<Query, Fail>, words: &[u64]) -> Result<Vec<u8>, Fail> {
+    let query = Box::new(alloc, query?)?;
     Ok(text_of_memo(alloc, &query, words)?)
+}
+
+// Asserts that the memo of these words is shown so.
+fn assert_memo(
+    rt: &impl Abort,
+    alloc: Global,
+    query: Result<Query, Fail>,
+    words: &[u64],
+    wanted: &str,
+) -> Result<(), Fail> {
+    let text = memo_of(alloc, query, words)?;
+    assert!(rt; text.as_slice() == wanted.as_bytes(), "not {wanted}");
+    Ok(())
 }
 
 // A word has the key from bit 36 on, the operator from bit 31, the index from bit 26, the children.
@@ -63,10 +77,7 @@ fn a_memo_is_shown_group_by_group(rt: HostRuntime) -> Result<(), Fail> {
         0x403580002002,
         0x403580004001,
     ];
-    let text = memo_of(rt.alloc(), two_tables(rt.alloc())?, &words)?;
-    assert_eq!(rt;
-        text.as_slice(),
-        "memo groups=3 members=13
+    let wanted = "memo groups=3 members=13
 group Get(T1) rows=1000
   Get(T1)
   Scan(T1)
@@ -83,10 +94,8 @@ group Join(T1, T2) rows=1000
   MergeJoin(T2 | T1)
   LoopJoin(T1 | T2)
   LoopJoin(T2 | T1)
-"
-            .as_bytes()
-    );
-    Ok(())
+";
+    assert_memo(&rt, rt.alloc(), two_tables(rt.alloc()), &words, wanted)
 }
 
 #[test]
@@ -109,10 +118,7 @@ fn indexes_and_aggregations_are_shown(rt: HostRuntime) -> Result<(), Fail> {
         0x801700022000,
         0x801701002000,
     ];
-    let text = memo_of(rt.alloc(), filtered_count(rt.alloc())?, &words)?;
-    assert_eq!(rt;
-        text.as_slice(),
-        "memo groups=4 members=16
+    let wanted = "memo groups=4 members=16
 group Get(t) rows=100000
   Get(t)
   Scan(t)
@@ -133,10 +139,8 @@ group Agg rows=10
   HashAgg(partial)
   StreamAgg(input)
   StreamAgg(partial)
-"
-            .as_bytes()
-    );
-    Ok(())
+";
+    assert_memo(&rt, rt.alloc(), filtered_count(rt.alloc()), &words, wanted)
 }
 
 #[test]
@@ -147,17 +151,12 @@ fn sides_of_several_tables_are_shown_in_order(rt: HostRuntime) -> Result<(), Fai
         0x407400808003,
         0x407500004406,
     ];
-    let text = memo_of(rt.alloc(), cycle(rt.alloc())?, &words)?;
-    assert_eq!(rt;
-        text.as_slice(),
-        "memo groups=1 members=4
+    let wanted = "memo groups=1 members=4
 group Join(A, B, C) rows=1000
   NJoin(A, B, C)
   Join(C | A, B)
   Join(A, B | C)
   MergeJoin(B | A, C)
-"
-            .as_bytes()
-    );
-    Ok(())
+";
+    assert_memo(&rt, rt.alloc(), cycle(rt.alloc()), &words, wanted)
 }

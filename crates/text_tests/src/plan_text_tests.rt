@@ -1,15 +1,18 @@
 //! Texts of plans that were made by hand.
 
 ghost use Rattle.std.specs.Prelude.{◌<◌};
+ghost use Rattle.request_props.specs.Numbered.{IsProps};
 ghost use Rattle.plan_tree.specs.Nodes.{EnforcerInRange, NativeInRange};
 
 use plan_report::plan_text;
 use plan_space::{Enforcer, NodeKind};
 use plan_tree::{Found, Node, Plan};
 use query_core::{KeyParts, Physical, PhysicalExpr, Query};
+use request_props::Props;
 use std::alloc::{AllocError, Global};
+use std::process::Abort;
 use std::test::Fail;
-use worked_queries::{props_of, totals, two_tables_descending};
+use worked_queries::{implied, totals, two_tables_descending};
 
 fn native(group: KeyParts, operator: Physical, mode: u32) -> Node
     requires { NativeInRange (record { group = group; operator = operator }) mode }
@@ -82,57 +85,99 @@ fn two_table_plan(alloc: Global) -> Result<Plan, AllocError> {
 }
 
 // The text of what was found.
-fn text_of(alloc: Global, query: &Query, found: &Found) -> Result<Vec<u8>, Fail> {
-    let props = props_of(alloc, query)?;
-    Ok(plan_text(alloc, query, &props, found)?)
+fn text_of(alloc: Global, query: Result<Query, Fail>, found: &Found) -> Result<Vec<u8>, Fail> {
+    let (query, props) = implied(alloc, query?)?;
+    Ok(plan_text(alloc, &query, &props, found)?)
 }
 
-// Whether it begins so.
-fn begins(alloc: Global, query: &Query, found: &Found, wanted: &str) -> Result<bool, Fail> {
-    let text = text_of(alloc, query, found)?;
-    Ok(text.starts_with(wanted.as_bytes()))
-}
-
-// Whether the text of a plan of this node alone has such a line behind the two first ones.
-fn is_line_of(
+fn text_of_plan(
     alloc: Global,
-    query: &Query,
-    node: Node,
-    head: &str,
-    line: &str,
-) -> Result<bool, Fail> {
-    let found = Found::Least {
-        plan: Plan::Leaf(node),
-        cost: 1,
-    };
-    let wanted = format!(in alloc; "cost 1\n{head}{line}")?;
-    begins(alloc, query, &found, &wanted)
+    query: Result<Query, Fail>,
+    plan: Plan,
+    cost: u64,
+) -> Result<Vec<u8>, Fail> {
+    let found = Found::Least { plan, cost };
+    text_of(alloc, query, &found)
 }
 
 #[test]
 fn a_plan_is_printed_a_node_a_line(rt: HostRuntime) -> Result<(), Fail> {
     let alloc = rt.alloc();
-    let query = Box::new(alloc, two_tables_descending(alloc)?)?;
-    let found = Found::Least {
-        plan: two_table_plan(alloc)?,
-        cost: 7506,
-    };
-    let text = text_of(alloc, &query, &found)?;
+    let plan = two_table_plan(alloc)?;
+    let text = text_of_plan(alloc, two_tables_descending(alloc), plan, 7506)?;
     let expected =
         "cost 7506\noutput T1.a, T2.b AS c\nGatherMerge(T1.a DESC) rows=1000 cost=3001\n  \
         Sort(T1.a DESC) rows=1000 cost=2001\n    HashJoin(colocated p0) rows=1000 cost=1001\n      \
         Scan(T1) rows=1000 cost=251\n      Redistribute(T2.b) rows=1000 cost=1001\n        \
         Scan(T2) rows=1000 cost=251\n";
-    assert_eq!(rt; text.as_slice(), expected.as_bytes());
+    assert!(rt; text.as_slice() == expected.as_bytes());
+    Ok(())
+}
+
+#[test]
+fn no_plan_is_one_line(rt: HostRuntime) -> Result<(), Fail> {
+    let alloc = rt.alloc();
+    let text = text_of(alloc, two_tables_descending(alloc), &Found::NoPlan)?;
+    assert!(rt; text.as_slice() == "no plan\n".as_bytes());
+    Ok(())
+}
+
+#[test]
+fn an_order_names_an_aggregate_by_its_output_name(rt: HostRuntime) -> Result<(), Fail> {
+    let alloc = rt.alloc();
+    let plan = over(alloc, enforcer(Enforcer::Sort(2)), Plan::Leaf(scan(0)))?;
+    let text = text_of_plan(alloc, totals(alloc), plan, 1)?;
+    let wanted =
+        "cost 1\noutput COUNT(*), SUM(t.a) AS total, t.b\nSort(total DESC, t.b) rows=1000 cost=2001\n";
+    assert!(rt; text.starts_with(wanted.as_bytes()));
+    Ok(())
+}
+
+// The text of a plan of this node alone, at a cost of 1.
+fn text_of_node(
+    alloc: Global,
+    query: &Query,
+    props: &Props,
+    node: Node,
+) -> Result<Vec<u8>, AllocError>
+    requires { IsProps query.now props.now }
+{
+    let found = Found::Least {
+        plan: Plan::Leaf(node),
+        cost: 1,
+    };
+    plan_text(alloc, query, props, &found)
+}
+
+// Whether the text goes on so behind this head.
+fn goes_on(text: &[u8], head: &str, line: &str) -> bool {
+    match text.strip_prefix(head.as_bytes()) {
+        Some(rest) => rest.starts_with(line.as_bytes()),
+        None => false,
+    }
+}
+
+// Asserts that the text of each node alone has such a line behind the head.
+fn assert_lines(
+    rt: &impl Abort,
+    alloc: Global,
+    query: Result<Query, Fail>,
+    head: &str,
+    lines: &[(Node, &str)],
+) -> Result<(), Fail> {
+    let (query, props) = implied(alloc, query?)?;
+    for (node, line) in lines {
+        let text = text_of_node(alloc, &query, &props, *node)?;
+        assert!(rt; goes_on(text.as_slice(), head, line), "{line}");
+    }
     Ok(())
 }
 
 #[test]
 fn a_node_is_printed_with_its_mode(rt: HostRuntime) -> Result<(), Fail> {
     let alloc = rt.alloc();
-    let query = Box::new(alloc, two_tables_descending(alloc)?)?;
     let index_scan = native(KeyParts::Get(1), Physical::IndexScan(0), 0);
-    let cases = [
+    let lines = [
         (hash_join(0), "HashJoin(one) rows=1000 "),
         (hash_join(64), "HashJoin(copied) rows=1000 "),
         (merge_join(0), "MergeJoin(one p0) rows=1000 "),
@@ -140,47 +185,20 @@ fn a_node_is_printed_with_its_mode(rt: HostRuntime) -> Result<(), Fail> {
         (merge_join(128), "MergeJoin(colocated p0) rows=1000 "),
         (index_scan, "IndexScan(T2, i0) rows=1000 cost=501\n"),
     ];
-    for (node, line) in cases {
-        let printed = is_line_of(alloc, &query, node, "output T1.a, T2.b AS c\n", line)?;
-        assert!(rt; printed, "{line}");
-    }
-    Ok(())
-}
-
-#[test]
-fn no_plan_is_one_line(rt: HostRuntime) -> Result<(), Fail> {
-    let alloc = rt.alloc();
-    let query = Box::new(alloc, two_tables_descending(alloc)?)?;
-    let text = text_of(alloc, &query, &Found::NoPlan)?;
-    assert_eq!(rt; text.as_slice(), "no plan\n".as_bytes());
-    Ok(())
-}
-
-#[test]
-fn an_order_names_an_aggregate_by_its_output_name(rt: HostRuntime) -> Result<(), Fail> {
-    let alloc = rt.alloc();
-    let query = Box::new(alloc, totals(alloc)?)?;
-    let found = Found::Least {
-        plan: over(alloc, enforcer(Enforcer::Sort(2)), Plan::Leaf(scan(0)))?,
-        cost: 1,
-    };
-    let wanted =
-        "cost 1\noutput COUNT(*), SUM(t.a) AS total, t.b\nSort(total DESC, t.b) rows=1000 cost=2001\n";
-    assert!(rt; begins(alloc, &query, &found, wanted)?);
-    Ok(())
+    let head = "cost 1\noutput T1.a, T2.b AS c\n";
+    assert_lines(&rt, alloc, two_tables_descending(alloc), head, &lines)
 }
 
 #[test]
 fn an_aggregation_is_printed_with_where_it_groups(rt: HostRuntime) -> Result<(), Fail> {
     let alloc = rt.alloc();
-    let query = Box::new(alloc, totals(alloc)?)?;
     let index_seek = native(KeyParts::Filter(0), Physical::IndexSeek(0), 0);
     let partial_agg = native(
         KeyParts::Partial,
         Physical::PartialAgg(KeyParts::Filter(0)),
         0,
     );
-    let cases = [
+    let lines = [
         (index_seek, "IndexSeek(t, i0) rows=100 cost=76\n"),
         (hash_agg(0), "HashAgg(one) rows=10 "),
         (hash_agg(128), "HashAgg(hashed t.a) rows=10 "),
@@ -189,9 +207,6 @@ fn an_aggregation_is_printed_with_where_it_groups(rt: HostRuntime) -> Result<(),
         (stream_agg(129), "StreamAgg(hashed t.b) rows=10 "),
         (partial_agg, "PartialAgg rows=40 "),
     ];
-    let head = "output COUNT(*), SUM(t.a) AS total, t.b\n";
-    for (node, line) in cases {
-        assert!(rt; is_line_of(alloc, &query, node, head, line)?, "{line}");
-    }
-    Ok(())
+    let head = "cost 1\noutput COUNT(*), SUM(t.a) AS total, t.b\n";
+    assert_lines(&rt, alloc, totals(alloc), head, &lines)
 }
