@@ -15,6 +15,7 @@ use plan_tree::{Answered, Answers, Found, Node, Plan};
 use query_core::Query;
 use request_props::Props;
 use std::alloc::{AllocError, Global};
+use std::process::Abort;
 use std::test::Fail;
 use worked_queries::{
     chain, grouped, implied, large_and_small, one_table, two_tables, without_a_plan,
@@ -87,16 +88,21 @@ fn all_as_searched(
 }
 
 // Whether all answers of the query are.
-fn are_as_searched(alloc: Global, query: Query) -> Result<bool, Fail> {
-    let (query, props) = implied(alloc, query)?;
-    Ok(has_answers_as_searched(alloc, &query, &props)?)
-}
-
 fn has_answers_as_searched(alloc: Global, query: &Query, props: &Props) -> Result<bool, AllocError>
     requires { IsProps query.now props.now }
 {
     let answers = answers_of(alloc, query, props)?;
     all_as_searched(alloc, query, props, answers.list.as_slice())
+}
+
+fn assert_as_searched(
+    rt: &impl Abort,
+    alloc: Global,
+    query: Result<Query, Fail>,
+) -> Result<(), Fail> {
+    let (query, props) = implied(alloc, query?)?;
+    assert!(rt; has_answers_as_searched(alloc, &query, &props)?);
+    Ok(())
 }
 
 // The plan's text by the answers.
@@ -126,53 +132,54 @@ fn both_texts(alloc: Global, query: &Query, props: &Props) -> Result<(Vec<u8>, V
 }
 
 // Both of a query.
-fn texts_of(alloc: Global, query: Query) -> Result<(Vec<u8>, Vec<u8>), Fail> {
-    let (query, props) = implied(alloc, query)?;
+fn texts_of(alloc: Global, query: Result<Query, Fail>) -> Result<(Vec<u8>, Vec<u8>), Fail> {
+    let (query, props) = implied(alloc, query?)?;
     Ok(both_texts(alloc, &query, &props)?)
 }
 
-fn extracts_what_is_searched(alloc: Global, query: Query) -> Result<bool, Fail> {
+// Asserts that both are one text, which begins so.
+fn assert_one_text(
+    rt: &impl Abort,
+    alloc: Global,
+    query: Result<Query, Fail>,
+    start: &str,
+) -> Result<(), Fail> {
     let (extracted, searched) = texts_of(alloc, query)?;
-    Ok(extracted == searched)
+    assert!(rt; extracted == searched && extracted.starts_with(start.as_bytes()));
+    Ok(())
 }
 
 #[test]
 fn best_pairs_are_those_of_the_plain_search(rt: HostRuntime) -> Result<(), Fail> {
     let alloc = rt.alloc();
-    assert!(rt; are_as_searched(alloc, one_table(alloc, 100)?)?);
-    assert!(rt; are_as_searched(alloc, large_and_small(alloc)?)?);
-    assert!(rt; are_as_searched(alloc, two_tables(alloc)?)?);
-    assert!(rt; are_as_searched(alloc, chain(alloc)?)?);
-    assert!(rt; are_as_searched(alloc, grouped(alloc)?)?);
-    assert!(rt; are_as_searched(alloc, without_a_plan(alloc)?)?);
-    Ok(())
+    assert_as_searched(&rt, alloc, one_table(alloc, 100))?;
+    assert_as_searched(&rt, alloc, large_and_small(alloc))?;
+    assert_as_searched(&rt, alloc, two_tables(alloc))?;
+    assert_as_searched(&rt, alloc, chain(alloc))?;
+    assert_as_searched(&rt, alloc, grouped(alloc))?;
+    assert_as_searched(&rt, alloc, without_a_plan(alloc))
 }
 
 #[test]
 fn the_least_plan_is_made_of_the_answers(rt: HostRuntime) -> Result<(), Fail> {
     let alloc = rt.alloc();
-    assert!(rt; extracts_what_is_searched(alloc, one_table(alloc, 100)?)?);
-    assert!(rt; extracts_what_is_searched(alloc, large_and_small(alloc)?)?);
-    assert!(rt; extracts_what_is_searched(alloc, chain(alloc)?)?);
-    assert!(rt; extracts_what_is_searched(alloc, grouped(alloc)?)?);
-    Ok(())
+    assert_one_text(&rt, alloc, one_table(alloc, 100), "cost ")?;
+    assert_one_text(&rt, alloc, large_and_small(alloc), "cost ")?;
+    assert_one_text(&rt, alloc, chain(alloc), "cost ")?;
+    assert_one_text(&rt, alloc, grouped(alloc), "cost ")
 }
 
 // The worked example of two tables that are joined in an order.
 #[test]
 fn an_order_is_made_on_each_segment_and_kept_by_the_merge(rt: HostRuntime) -> Result<(), Fail> {
     let alloc = rt.alloc();
-    let (extracted, searched) = texts_of(alloc, two_tables(alloc)?)?;
-    assert!(rt; extracted == searched);
-    assert!(rt; extracted.starts_with("cost 7506\n".as_bytes()));
-    Ok(())
+    assert_one_text(&rt, alloc, two_tables(alloc), "cost 7506\n")
 }
 
 #[test]
 fn no_plan_is_made_where_there_is_none(rt: HostRuntime) -> Result<(), Fail> {
     let alloc = rt.alloc();
-    let (extracted, searched) = texts_of(alloc, without_a_plan(alloc)?)?;
-    assert_eq!(rt; extracted.as_slice(), "no plan\n".as_bytes());
-    assert_eq!(rt; searched.as_slice(), "no plan\n".as_bytes());
+    let (extracted, searched) = texts_of(alloc, without_a_plan(alloc))?;
+    assert!(rt; extracted == searched && extracted.as_slice() == "no plan\n".as_bytes());
     Ok(())
 }

@@ -6,19 +6,21 @@ use goal_space::GoalKind;
 use query_core::{ExprParts, Goal, KeyParts, Logical, Physical, PhysicalExpr};
 use request_props::{Dist, Request};
 use std::process::Abort;
-use std::test::Fail;
 use xform_rules::Rule;
 
 fn has_word(rt: &impl Abort, goal: GoalKind, word: u64)
     requires { IsInRange goal }
 {
-    assert_eq!(rt; goal.word(), Goal(word));
-    assert_eq!(rt; GoalKind::of(Goal(word)), Some(goal));
+    let packed = Goal(word);
+    assert!(rt;
+        goal.word() == packed && GoalKind::of(packed) == Some(goal),
+        "{word}"
+    );
 }
 
 // Goals of a join of two tables, the root's first.
 #[test]
-fn goals_have_the_words_of_the_format(rt: HostRuntime) -> Result<(), Fail> {
+fn goals_have_the_words_of_the_format(rt: HostRuntime) {
     let (join, table) = (KeyParts::Join(3), KeyParts::Get(1));
     let sorted = Request {
         dist: Dist::One,
@@ -45,19 +47,17 @@ fn goals_have_the_words_of_the_format(rt: HostRuntime) -> Result<(), Fail> {
         0xc001080000000000,
     );
     has_word(&rt, GoalKind::OptE(scan, hashed), 0xe001100000000140);
-    Ok(())
 }
 
 // An order 61, a logical expression for a request, a rule at no expression, and an expression.
 #[test]
-fn other_words_are_those_of_no_goal(rt: HostRuntime) -> Result<(), Fail> {
-    for word in [
+fn other_words_are_those_of_no_goal(rt: HostRuntime) {
+    for word in &[
         0xd00000000040303d,
         0xe403400002002001,
         0xa000000000000002,
         0x403400002002,
     ] {
-        assert!(rt; GoalKind::of(Goal(word)).is_none());
+        assert!(rt; GoalKind::of(Goal(*word)).is_none(), "{word}");
     }
-    Ok(())
 }
