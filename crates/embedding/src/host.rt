@@ -1,7 +1,7 @@
 //! What a host has of its own: the statistics of its tables, and a statement that its parser made.
 ghost use Rattle.std.specs.Prelude.{◌≡◌, IfOk};
 ghost use Rattle.sql_reader.specs.Readable.{IsReadable};
-ghost use Rattle.embedding.specs.Statement.{column_of, statement as statement_meant, table_of};
+ghost use Rattle.embedding.specs.Statement.{column_of, count_shown, join_of_both, region_shown, statement as statement_meant, table_of};
 
 use orca_base::{List, Text};
 use query_core::{Catalog, ColumnInfo, Placing, TableInfo};
@@ -36,10 +36,7 @@ fn table(
 ) -> Result<TableInfo, AllocError> {
     let mut infos = List::new(alloc);
     for (name, ndv) in columns {
-        infos.push(ColumnInfo {
-            name: text(alloc, name)?,
-            ndv,
-        })?;
+        push_column(alloc, name, ndv, &mut infos)?;
     }
     Ok(TableInfo {
         name: text(alloc, name)?,
@@ -50,37 +47,98 @@ fn table(
     })
 }
 
+fn push_column(
+    alloc: Global,
+    name: &str,
+    ndv: u64,
+    infos: &mut List<ColumnInfo>,
+) -> Result<(), AllocError> {
+    infos.push(ColumnInfo {
+        name: text(alloc, name)?,
+        ndv,
+    })
+}
+
 /// `SELECT customers.region, COUNT(*) AS placed FROM orders, customers
 /// WHERE orders.customer = customers.id GROUP BY customers.region`
 pub fn statement(alloc: Global) -> Result<Select, AllocError>
     ensures meant { IfOk result (λ made. made ≡ statement_meant) }
     ensures readable { IfOk result IsReadable }
 {
-    let shown = SelItem {
+    Ok(Select {
+        items: shown(alloc)?,
+        from: tables(alloc)?,
+        preds: conditions(alloc)?,
+        group_by: groups(alloc)?,
+        order_by: List::new(alloc),
+    })
+}
+
+fn shown(alloc: Global) -> Result<List<SelItem>, AllocError>
+    ensures { IfOk result (λ items. items ≡ statement_meant.items) }
+{
+    let mut items = List::new(alloc);
+    items.push(region(alloc)?)?;
+    items.push(count(alloc)?)?;
+    Ok(items)
+}
+
+fn region(alloc: Global) -> Result<SelItem, AllocError>
+    ensures { IfOk result (λ item. item ≡ region_shown) }
+{
+    Ok(SelItem {
         expr: SelExpr::Column(column(alloc, "customers", "region")?),
         name_at: 0,
         name: None,
-    };
-    let counted = SelItem {
+    })
+}
+
+fn count(alloc: Global) -> Result<SelItem, AllocError>
+    ensures { IfOk result (λ item. item ≡ count_shown) }
+{
+    Ok(SelItem {
         expr: SelExpr::Agg {
             func: SelFunc::CountAll,
             arg: None,
         },
         name_at: 0,
         name: Some(text(alloc, "placed")?),
-    };
-    let joined = SelPred {
+    })
+}
+
+fn tables(alloc: Global) -> Result<List<FromItem>, AllocError>
+    ensures { IfOk result (λ tables. tables ≡ statement_meant.from) }
+{
+    let mut tables = List::new(alloc);
+    tables.push(from(alloc, "orders")?)?;
+    tables.push(from(alloc, "customers")?)?;
+    Ok(tables)
+}
+
+fn conditions(alloc: Global) -> Result<List<SelPred>, AllocError>
+    ensures { IfOk result (λ preds. preds ≡ statement_meant.preds) }
+{
+    let mut preds = List::new(alloc);
+    preds.push(joined(alloc)?)?;
+    Ok(preds)
+}
+
+fn joined(alloc: Global) -> Result<SelPred, AllocError>
+    ensures { IfOk result (λ pred. pred ≡ join_of_both) }
+{
+    Ok(SelPred {
         left: column(alloc, "orders", "customer")?,
         op: SelOp::Eq,
         right: SelOperand::Column(column(alloc, "customers", "id")?),
-    };
-    Ok(Select {
-        items: List::of(vec![in alloc; shown, counted]?),
-        from: List::of(vec![in alloc; from(alloc, "orders")?, from(alloc, "customers")?]?),
-        preds: List::of(vec![in alloc; joined]?),
-        group_by: List::of(vec![in alloc; column(alloc, "customers", "region")?]?),
-        order_by: List::new(alloc),
     })
+}
+
+fn groups(alloc: Global) -> Result<List<ColRef>, AllocError>
+    ensures { IfOk result (λ columns. columns ≡ statement_meant.group_by) }
+{
+    let mut columns = List::new(alloc);
+    columns.push(column(alloc, "customers", "region")?)?;
+    Ok(columns)
 }
 
 // A column as it is written. A host without a text has no offsets.
