@@ -1,6 +1,7 @@
 use catalog_json::{CatalogFault, read_catalog};
 use query_core::{Catalog, ColumnInfo, Placing, TableInfo};
 use std::alloc::{AllocError, Global};
+use std::process::Abort;
 use std::test::Fail;
 
 /// Two tables of 1,000 rows, each hashed on its first column.
@@ -169,6 +170,44 @@ fn each_proper_prefix_is_refused(rt: HostRuntime) -> Result<(), Fail> {
     Ok(())
 }
 
+// So many arrays, each but the last around another.
+fn nested(alloc: Global, arrays: usize) -> Result<String, AllocError> {
+    let open = repeated(alloc, "[", arrays)?;
+    let close = repeated(alloc, "]", arrays)?;
+    format!(in alloc; "{open}{close}")
+}
+
+// What is said of the two tables with this value under a key that is passed over.
+fn said_beside(alloc: Global, value: &str) -> Result<String, AllocError> {
+    let beside = format!(in alloc; "{{\"x\":{value},\"version\"")?;
+    changed(alloc, "{\"version\"", beside.as_str())
+}
+
+// And under one that is looked at.
+fn said_inside(alloc: Global, value: &str) -> Result<String, AllocError> {
+    let inside = format!(in alloc; "\"segments\":{value}")?;
+    changed(alloc, "\"segments\":4", inside.as_str())
+}
+
+fn assert_said(rt: &impl Abort, told: &str, wanted: &str) {
+    assert!(rt; told == wanted, "{told}, not {wanted}");
+}
+
+// Asserts what is said of the value alone, and of it under either key.
+fn assert_levels(
+    rt: &impl Abort,
+    alloc: Global,
+    value: &str,
+    alone: &str,
+    passed_over: &str,
+    looked_at: &str,
+) -> Result<(), AllocError> {
+    assert_said(rt, &said(alloc, value.as_bytes())?, alone);
+    assert_said(rt, &said_beside(alloc, value)?, passed_over);
+    assert_said(rt, &said_inside(alloc, value)?, looked_at);
+    Ok(())
+}
+
 #[test]
 fn a_hundred_and_twenty_seven_levels_are_read(rt: HostRuntime) -> Result<(), Fail> {
     let alloc = rt.alloc();
@@ -179,16 +218,8 @@ fn a_hundred_and_twenty_seven_levels_are_read(rt: HostRuntime) -> Result<(), Fai
         (127, "shape at ", "not JSON", "not JSON"),
         (128, "not JSON", "not JSON", "not JSON"),
     ] {
-        let open = repeated(alloc, "[", arrays)?;
-        let close = repeated(alloc, "]", arrays)?;
-        let nested = format!(in alloc; "{}{}", open.as_str(), close.as_str())?;
-        assert_eq!(rt; said(alloc, nested.as_bytes())?.as_str(), alone);
-        let beside = format!(in alloc; "{{\"x\":{},\"version\"", nested.as_str())?;
-        let line = changed(alloc, "{\"version\"", beside.as_str())?;
-        assert_eq!(rt; line.as_str(), passed_over);
-        let inside = format!(in alloc; "\"segments\":{}", nested.as_str())?;
-        let line = changed(alloc, "\"segments\":4", inside.as_str())?;
-        assert_eq!(rt; line.as_str(), looked_at);
+        let value = nested(alloc, arrays)?;
+        assert_levels(&rt, alloc, &value, alone, passed_over, looked_at)?;
     }
     Ok(())
 }
@@ -256,16 +287,15 @@ fn said_of_length(alloc: Global, length: Length, count: u32) -> Result<String, A
 #[test]
 fn lengths_end_at_their_limits(rt: HostRuntime) -> Result<(), Fail> {
     for (length, most, told) in [
-        (Length::Tables, 1000, "range at /tables"),
+        (Length::Tables, 1000u32, "range at /tables"),
         (Length::Columns, 1000, "range at /tables/0/columns"),
         (Length::Hashed, 8, "range at /tables/0/distribution"),
         (Length::Indexes, 16, "range at /tables/0/indexes"),
         (Length::Name, 64, "shape at /tables/0/name"),
     ] {
-        let line = said_of_length(rt.alloc(), length, most)?;
-        assert_eq!(rt; line.as_str(), "read", "below {told}");
-        let line = said_of_length(rt.alloc(), length, most.saturating_add(1))?;
-        assert_eq!(rt; line.as_str(), told);
+        let longer = most.saturating_add(1);
+        assert_said(&rt, &said_of_length(rt.alloc(), length, most)?, "read");
+        assert_said(&rt, &said_of_length(rt.alloc(), length, longer)?, told);
     }
     Ok(())
 }
