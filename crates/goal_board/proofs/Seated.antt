@@ -17,19 +17,19 @@ use Rattle.goal_board.proofs.Overs.{over_looked, over_beside, over_same, all_cha
 use Rattle.goal_board.proofs.Told.{either_way}
 
 -- a seat has no slot, and a part of the board
-pub record IsUp {R : Type 0} (m : Sat R) : Type 0 where
+pub record IsAwake {R : Type 0} (m : Sat R) : Type 0 where
   pub bare : m.1 ≡ []
   pub awake : 0 < m.0.parts
 
 module _ {R : Type 0} (s : Seat R) where
   -- it is so after a step that left it these hands
-  pub still_up : {after : Sat R} {w : Hands R} → after ≡ (w, s.seat.me.1) → 0 < w.parts → IsUp after
-  still_up told awake = subst IsUp (sym told) (record { bare = s.bare; awake = awake })
+  pub still_awake : {after : Sat R} {w : Hands R} → after ≡ (w, s.seat.me.1) → 0 < w.parts → IsAwake after
+  still_awake told awake = subst IsAwake (sym told) (record { bare = s.bare; awake = awake })
 
   -- and after one that left it one or other hands
-  pub up_either_way : {after : Sat R} {won lost : Hands R} {value head : ℕ} → (value ≡ head → after ≡ (won, s.seat.me.1)) → (value ≢ head → after ≡ (lost, s.seat.me.1))
-      → 0 < won.parts → 0 < lost.parts → IsUp after
-  up_either_way hit miss if_won if_lost = either_way IsUp hit miss (record { bare = s.bare; awake = if_won }) (record { bare = s.bare; awake = if_lost })
+  pub awake_either_way : {after : Sat R} {won lost : Hands R} {value head : ℕ} → (value ≡ head → after ≡ (won, s.seat.me.1)) → (value ≢ head → after ≡ (lost, s.seat.me.1))
+      → 0 < won.parts → 0 < lost.parts → IsAwake after
+  awake_either_way hit miss if_won if_lost = either_way IsAwake hit miss (record { bare = s.bare; awake = if_won }) (record { bare = s.bare; awake = if_lost })
 
 -- what holds of the board's rules and cells holds of those by its table's law
 pub lawful : {R : Type 0} (b : Board R) (Fact : R → ℕ → Type 0) → Fact b.key.rules b.key.room → Fact b.table.shared.key.rules b.table.shared.key.room

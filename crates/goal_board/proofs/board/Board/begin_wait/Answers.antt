@@ -5,7 +5,7 @@ use Rattle.goal_board.specs.Steps.{CanBegin}
 use Rattle.board_rule.proofs.Waiting.{begin_allowed}
 use Rattle.goal_board.proofs.Overs.{all_changed}
 use Rattle.goal_board.proofs.Told.{leaves}
-use Rattle.goal_board.proofs.Seated.{lawful, still_up, in_call_beside}
+use Rattle.goal_board.proofs.Seated.{lawful, still_awake, in_call_beside}
 use Rattle.goal_board.proofs.board.Board.begin_wait.Goals as goal
 
 pub fetch_or-requires : goal.fetch_or-requires
@@ -19,8 +19,8 @@ fetch_or-requires g c =
 
 pub invariant_of-seat : goal.invariant_of-seat
 invariant_of-seat g c =
-    let up = still_up c.args.seat.now (c.fetch_or.ensures.2 c.args.place c.run_at.ensures).hands_are c.args.seat.now.awake in
-    record { bare = up.bare; awake = up.awake }
+    let after = still_awake c.args.seat.now (c.fetch_or.ensures.2 c.args.place c.run_at.ensures).hands_are c.args.seat.now.awake in
+    record { bare = after.bare; awake = after.awake }
 
 pub returns-clause-told : goal.returns-clause-told
 returns-clause-told g c = leaves c.run_at.ensures (c.fetch_or.ensures.2 c.args.place c.run_at.ensures)

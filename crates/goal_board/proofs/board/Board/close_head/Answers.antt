@@ -5,7 +5,7 @@ use Rattle.goal_board.specs.Steps.{CanClose}
 use Rattle.board_rule.proofs.Closing.{close_allowed}
 use Rattle.goal_board.proofs.Overs.{all_changed}
 use Rattle.goal_board.proofs.Told.{leaves}
-use Rattle.goal_board.proofs.Seated.{lawful, still_up, in_call_beside}
+use Rattle.goal_board.proofs.Seated.{lawful, still_awake, in_call_beside}
 use Rattle.goal_board.proofs.board.Board.close_head.Goals as goal
 
 pub swap-requires : goal.swap-requires
@@ -19,8 +19,8 @@ swap-requires g c =
 
 pub invariant_of-seat : goal.invariant_of-seat
 invariant_of-seat g c =
-    let up = still_up c.args.seat.now (c.swap.ensures.2 c.args.place c.args._worker c.args._cost c.args._node c.head_at.ensures c.requires.may.stored).tells.hands_are c.args.seat.now.awake in
-    record { bare = up.bare; awake = up.awake }
+    let after = still_awake c.args.seat.now (c.swap.ensures.2 c.args.place c.args._worker c.args._cost c.args._node c.head_at.ensures c.requires.may.stored).tells.hands_are c.args.seat.now.awake in
+    record { bare = after.bare; awake = after.awake }
 
 pub returns-clause-told : goal.returns-clause-told
 returns-clause-told g c =

@@ -6,7 +6,7 @@ use Rattle.goal_board.specs.Steps.{the_wait}
 use Rattle.board_rule.proofs.Clearing.{drop_allowed}
 use Rattle.goal_board.proofs.Overs.{all_changed}
 use Rattle.goal_board.proofs.Told.{leaves}
-use Rattle.goal_board.proofs.Seated.{still_up, in_call_beside}
+use Rattle.goal_board.proofs.Seated.{still_awake, in_call_beside}
 use Rattle.goal_board.proofs.board.Board.drop_wait.Goals as goal
 
 pub fetch_and-requires : goal.fetch_and-requires
@@ -20,8 +20,8 @@ fetch_and-requires g c =
 
 pub invariant_of-seat : goal.invariant_of-seat
 invariant_of-seat g c =
-    let up = still_up c.args.seat.now (c.fetch_and.ensures.2 (the_wait (hands c.args.seat.now)) c.requires.may.is).hands_are c.args.seat.now.awake in
-    record { bare = up.bare; awake = up.awake }
+    let after = still_awake c.args.seat.now (c.fetch_and.ensures.2 (the_wait (hands c.args.seat.now)) c.requires.may.is).hands_are c.args.seat.now.awake in
+    record { bare = after.bare; awake = after.awake }
 
 pub returns-clause-told : goal.returns-clause-told
 returns-clause-told g c = leaves c.run_at.ensures (c.fetch_and.ensures.2 (the_wait (hands c.args.seat.now)) c.requires.may.is)

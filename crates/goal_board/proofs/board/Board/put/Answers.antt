@@ -5,7 +5,7 @@ use Rattle.goal_board.specs.Steps.{CanPut}
 use Rattle.board_rule.proofs.Putting.{put_allowed}
 use Rattle.goal_board.proofs.Overs.{over_placed}
 use Rattle.goal_board.proofs.Told.{tries}
-use Rattle.goal_board.proofs.Seated.{lawful, up_either_way, seat_tried}
+use Rattle.goal_board.proofs.Seated.{lawful, awake_either_way, seat_tried}
 use Rattle.goal_board.proofs.board.Board.put.Goals as goal
 
 pub compare_exchange-requires : goal.compare_exchange-requires
@@ -21,8 +21,8 @@ pub invariant_of-seat : goal.invariant_of-seat
 invariant_of-seat g c =
     let s = c.args.seat.now in
     let told = c.compare_exchange.ensures.2 c.args.place c.cell_at.ensures in
-    let up = up_either_way s told.hit told.miss s.awake s.awake in
-    record { bare = up.bare; awake = up.awake }
+    let after = awake_either_way s told.hit told.miss s.awake s.awake in
+    record { bare = after.bare; awake = after.awake }
 
 pub returns-clause-told : goal.returns-clause-told
 returns-clause-told g c = tries c.cell_at.ensures (c.compare_exchange.ensures.2 c.args.place c.cell_at.ensures)

@@ -9,7 +9,7 @@ use Rattle.goal_board.specs.Steps.{the_wait}
 use Rattle.board_rule.proofs.Pushing.{push_allowed}
 use Rattle.goal_board.proofs.Overs.{over_beside, all_changed}
 use Rattle.goal_board.proofs.Told.{either_way}
-use Rattle.goal_board.proofs.Seated.{lawful, up_either_way}
+use Rattle.goal_board.proofs.Seated.{lawful, awake_either_way}
 use Rattle.goal_board.proofs.board.Board.put_wait.Goals as goal
 
 pub compare_exchange-requires : goal.compare_exchange-requires
@@ -28,8 +28,8 @@ invariant_of-seat g c =
     let s = c.args.seat.now in
     let told = c.compare_exchange.ensures.2 in
     let may = c.requires.may in
-    let up = up_either_way s (told.hit (the_wait (hands s)) may.is may.seen) (told.miss (the_wait (hands s)) may.is) s.awake s.awake in
-    record { bare = up.bare; awake = up.awake }
+    let after = awake_either_way s (told.hit (the_wait (hands s)) may.is may.seen) (told.miss (the_wait (hands s)) may.is) s.awake s.awake in
+    record { bare = after.bare; awake = after.awake }
 
 pub returns-clause-seat : goal.returns-clause-seat
 returns-clause-seat g c =

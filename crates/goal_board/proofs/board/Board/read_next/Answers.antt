@@ -2,7 +2,7 @@
 use Rattle.std.proofs.Common.{refl, ◌∙◌, arith}
 use Rattle.board_rule.proofs.WaitLooks.{read_allowed}
 use Rattle.goal_board.proofs.Told.{leaves}
-use Rattle.goal_board.proofs.Seated.{still_up, in_call_beside}
+use Rattle.goal_board.proofs.Seated.{still_awake, in_call_beside}
 use Rattle.goal_board.proofs.board.Board.read_next.Goals as goal
 
 pub load-requires : goal.load-requires
@@ -15,8 +15,8 @@ load-requires g c =
 
 pub invariant_of-seat : goal.invariant_of-seat
 invariant_of-seat g c =
-    let up = still_up c.args.seat.now (c.load.ensures.2 c.args.waiter c.next_at.ensures).hands_are c.args.seat.now.awake in
-    record { bare = up.bare; awake = up.awake }
+    let after = still_awake c.args.seat.now (c.load.ensures.2 c.args.waiter c.next_at.ensures).hands_are c.args.seat.now.awake in
+    record { bare = after.bare; awake = after.awake }
 
 pub returns-clause-told : goal.returns-clause-told
 returns-clause-told g c = leaves c.next_at.ensures (c.load.ensures.2 c.args.waiter c.next_at.ensures)

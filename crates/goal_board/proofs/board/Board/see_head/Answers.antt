@@ -4,7 +4,7 @@ use Rattle.goal_board.specs.Seats.{hands}
 use Rattle.goal_board.specs.Steps.{the_wait, CanSee}
 use Rattle.board_rule.proofs.WaitLooks.{see_allowed}
 use Rattle.goal_board.proofs.Told.{leaves}
-use Rattle.goal_board.proofs.Seated.{lawful, still_up, in_call_beside}
+use Rattle.goal_board.proofs.Seated.{lawful, still_awake, in_call_beside}
 use Rattle.goal_board.proofs.board.Board.see_head.Goals as goal
 
 pub load-requires : goal.load-requires
@@ -18,8 +18,8 @@ load-requires g c =
 
 pub invariant_of-seat : goal.invariant_of-seat
 invariant_of-seat g c =
-    let up = still_up c.args.seat.now (c.load.ensures.2 (the_wait (hands c.args.seat.now)) c.args.child c.requires.may.is c.head_at.ensures).hands_are c.args.seat.now.awake in
-    record { bare = up.bare; awake = up.awake }
+    let after = still_awake c.args.seat.now (c.load.ensures.2 (the_wait (hands c.args.seat.now)) c.args.child c.requires.may.is c.head_at.ensures).hands_are c.args.seat.now.awake in
+    record { bare = after.bare; awake = after.awake }
 
 pub returns-clause-told : goal.returns-clause-told
 returns-clause-told g c = leaves c.head_at.ensures (c.load.ensures.2 (the_wait (hands c.args.seat.now)) c.args.child c.requires.may.is c.head_at.ensures)

@@ -2,7 +2,7 @@
 use Rattle.std.proofs.Common.{ap, ◌∙◌, arith}
 use Rattle.board_rule.specs.Plays.{Sat}
 use Rattle.board_rule.proofs.Answering.{store_cost_allowed}
-use Rattle.goal_board.proofs.Seated.{lawful_right, still_up, seat_stored}
+use Rattle.goal_board.proofs.Seated.{lawful_right, still_awake, seat_stored}
 use Rattle.goal_board.proofs.board.Board.store_cost.Goals as goal
 
 pub store-requires : goal.store-requires
@@ -15,8 +15,8 @@ store-requires g c =
 
 pub invariant_of-seat : goal.invariant_of-seat
 invariant_of-seat g c =
-    let up = still_up c.args.seat.now (c.store.ensures.2 c.args.place c.cost_at.ensures) c.args.seat.now.awake in
-    record { bare = up.bare; awake = up.awake }
+    let after = still_awake c.args.seat.now (c.store.ensures.2 c.args.place c.cost_at.ensures) c.args.seat.now.awake in
+    record { bare = after.bare; awake = after.awake }
 
 pub returns-clause-hands : goal.returns-clause-hands
 returns-clause-hands g c = ap (λ (m : Sat _). m.0) (c.store.ensures.2 c.args.place c.cost_at.ensures)

@@ -6,7 +6,7 @@ use Rattle.goal_board.specs.Seats.{hands}
 use Rattle.goal_board.specs.Steps.{the_wait}
 use Rattle.board_rule.proofs.Linking.{link_allowed}
 use Rattle.goal_board.proofs.Overs.{all_changed}
-use Rattle.goal_board.proofs.Seated.{still_up, in_call_same}
+use Rattle.goal_board.proofs.Seated.{still_awake, in_call_same}
 use Rattle.goal_board.proofs.board.Board.store_next.Goals as goal
 
 pub store-requires : goal.store-requires
@@ -19,8 +19,8 @@ store-requires g c =
 
 pub invariant_of-seat : goal.invariant_of-seat
 invariant_of-seat g c =
-    let up = still_up c.args.seat.now (c.store.ensures.2 (the_wait (hands c.args.seat.now)) c.args.head c.requires.may.is c.requires.may.seen) c.args.seat.now.awake in
-    record { bare = up.bare; awake = up.awake }
+    let after = still_awake c.args.seat.now (c.store.ensures.2 (the_wait (hands c.args.seat.now)) c.args.head c.requires.may.is c.requires.may.seen) c.args.seat.now.awake in
+    record { bare = after.bare; awake = after.awake }
 
 pub returns-clause-hands : goal.returns-clause-hands
 returns-clause-hands g c = ap (λ (m : Sat _). m.0) (c.store.ensures.2 (the_wait (hands c.args.seat.now)) c.args.head c.requires.may.is c.requires.may.seen)
