@@ -16,7 +16,7 @@ pub struct Answered {
 }
 
 /// The answers to all goals of a query, ascending by the goals' words.
-#[derive(Debug, Drop)]
+#[derive(Drop)]
 pub struct Answers {
     pub list: List<Answered>,
 }

@@ -9,7 +9,7 @@ use crate::node::Node;
 use std::alloc::{AllocError, Global};
 
 /// A plan: a node over none, one or two plans.
-#[derive(Debug, Drop)]
+#[derive(Drop)]
 pub enum Plan {
     Leaf(Node),
     Over(Node, Box<Plan>),
@@ -17,7 +17,7 @@ pub enum Plan {
 }
 
 /// The outcome of a search for the least plan.
-#[derive(Debug, Drop)]
+#[derive(Drop)]
 pub enum Found {
     Least { plan: Plan, cost: u64 },
     NoPlan,

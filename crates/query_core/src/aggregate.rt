@@ -11,7 +11,7 @@ pub enum AggFunc {
 }
 
 /// An aggregate of a query. Its item number is the number of the query's items plus its place.
-#[derive(Debug, Drop)]
+#[derive(Drop)]
 pub struct Agg {
     pub func: AggFunc,
     /// The item that it goes over; none for `CountAll`.

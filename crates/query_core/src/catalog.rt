@@ -7,7 +7,7 @@ ghost use Rattle.query_core.specs.Catalog.{within, is_catalog_name as is_short_n
 use orca_base::{List, Text, is_name};
 
 /// A column of a catalogue's table.
-#[derive(Debug, Drop)]
+#[derive(Drop)]
 pub struct ColumnInfo {
     pub name: Text,
     /// How many distinct values it has: 0 to 10^12.
@@ -15,7 +15,7 @@ pub struct ColumnInfo {
 }
 
 /// Where the rows of a catalogue's table lie.
-#[derive(Debug, Drop)]
+#[derive(Drop)]
 pub enum Placing {
     /// By the hash of these columns, each given by its place in the table's columns.
     Hashed(List<u32>),
@@ -24,7 +24,7 @@ pub enum Placing {
 }
 
 /// A table of a catalogue.
-#[derive(Debug, Drop)]
+#[derive(Drop)]
 pub struct TableInfo {
     pub name: Text,
     /// How many rows it has: 0 to 10^12.
@@ -36,7 +36,7 @@ pub struct TableInfo {
 }
 
 /// What a catalogue's bytes say.
-#[derive(Debug, Drop)]
+#[derive(Drop)]
 pub struct Catalog {
     /// How many segments the database has: 1 to 1,000.
     pub segments: u64,

@@ -1,7 +1,7 @@
 use orca_base::Text;
 
 /// A place of the select list.
-#[derive(Debug, Drop)]
+#[derive(Drop)]
 pub struct OutItem {
     /// The number of an item, or of an aggregate.
     pub item: u32,

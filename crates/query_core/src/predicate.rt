@@ -12,7 +12,7 @@ pub enum CmpOp {
 }
 
 /// The right side of a predicate.
-#[derive(Debug, Drop)]
+#[derive(Drop)]
 pub enum Operand {
     /// An item, by its place in the query's items.
     Item(u32),
@@ -21,7 +21,7 @@ pub enum Operand {
 }
 
 /// A predicate: an item, a comparison and an operand.
-#[derive(Debug, Drop)]
+#[derive(Drop)]
 pub struct Pred {
     pub left: u32,
     pub op: CmpOp,

@@ -15,7 +15,7 @@ use crate::table::{Item, QueryTable};
 use orca_base::List;
 
 /// A bound query: what is to be planned.
-#[derive(Debug, Drop)]
+#[derive(Drop)]
 pub struct Query {
     /// How many segments the database has: 1 to 1,000.
     pub segments: u64,

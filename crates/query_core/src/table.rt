@@ -1,7 +1,7 @@
 use orca_base::{List, Text};
 
 /// A column that a query uses.
-#[derive(Debug, Drop)]
+#[derive(Drop)]
 pub struct Item {
     /// The place of its table in the query's tables.
     pub table: u32,
@@ -11,7 +11,7 @@ pub struct Item {
 }
 
 /// A table of a query, under its alias.
-#[derive(Debug, Drop)]
+#[derive(Drop)]
 pub struct QueryTable {
     pub alias: Text,
     /// How many rows it has: 0 to 10^12.
