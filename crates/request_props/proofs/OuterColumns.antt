@@ -4,7 +4,7 @@ use Rattle.query_core.specs.declared.query.Query.{Query}
 use Rattle.query_core.specs.declared.words.KeyParts.{KeyParts}
 use Rattle.request_props.specs.Ends.{AreEndsOf, HasColumn, HasFirstAlone, HasSecondAlone, HaveBoth, IsGivenBy}
 use Rattle.request_props.specs.NumberSets.{IsInSet}
-use Rattle.request_props.specs.Outer.{HasOuterColumn, IsCountBelow}
+use Rattle.request_props.specs.Outer.{HasOuterColumn, IsCountOf}
 use Rattle.request_props.specs.declared.ends.EqualityEnds.{EqualityEnds}
 use Rattle.request_props.proofs.GroupCrossings.{first_in, second_in}
 
@@ -57,17 +57,17 @@ module _ (q : Query) (group : KeyParts) (order : List ℕ) (ends leaving giving 
   meets_outer is_one tells = (λ one. let (pred, both) = tells.0 one in outer_of_both pred both, λ outer. tells.1 (both_of_outer outer))
 
 -- one number more
-pub counted_one : (IsOne : ℕ → Type 0) (number count : ℕ) → IsOne number → IsCountBelow IsOne number count → IsCountBelow IsOne (number + 1) (count + 1)
-unfolding IsCountBelow
+pub counted_one : (IsOne : ℕ → Type 0) (number count : ℕ) → IsOne number → IsCountOf IsOne number count → IsCountOf IsOne (number + 1) (count + 1)
+unfolding IsCountOf
 counted_one IsOne number count one counted =
-    let next : suc number ≡ number + 1 = omega arith in subst (λ n. IsCountBelow IsOne n (count + 1)) next (inl (one, count, counted, omega arith))
+    let next : suc number ≡ number + 1 = omega arith in subst (λ n. IsCountOf IsOne n (count + 1)) next (inl (one, count, counted, omega arith))
 
-pub counted_none : (IsOne : ℕ → Type 0) (number count : ℕ) → (IsOne number → ⊥) → IsCountBelow IsOne number count → IsCountBelow IsOne (number + 1) count
-unfolding IsCountBelow
+pub counted_none : (IsOne : ℕ → Type 0) (number count : ℕ) → (IsOne number → ⊥) → IsCountOf IsOne number count → IsCountOf IsOne (number + 1) count
+unfolding IsCountOf
 counted_none IsOne number count none counted =
-    let next : suc number ≡ number + 1 = omega arith in subst (λ n. IsCountBelow IsOne n count) next (inr (none, counted))
+    let next : suc number ≡ number + 1 = omega arith in subst (λ n. IsCountOf IsOne n count) next (inr (none, counted))
 
 -- none of the numbers below 0
-pub counted_at_first : (IsOne : ℕ → Type 0) → IsCountBelow IsOne 0 0
-unfolding IsCountBelow
+pub counted_at_first : (IsOne : ℕ → Type 0) → IsCountOf IsOne 0 0
+unfolding IsCountOf
 counted_at_first IsOne = refl

@@ -27,6 +27,10 @@ ascending columns = map (λ column. 2 * column) columns
 abbrev pub wanted_order : Query → List ℕ
 wanted_order q = elements_of q.order
 
+-- the GROUP BY list, each column ascending
+abbrev pub grouped_order : Query → List ℕ
+grouped_order q = ascending q.group_by
+
 -- the items are columns of different tables
 abbrev pub is_across : List Item → ℕ → ℕ → Bool
 is_across items left right = is_some (link_between (table_of items left) (table_of items right))
@@ -77,4 +81,4 @@ found_lists q = table_lists q ++ one_each (joined_columns q) ++ unless_empty q.g
 
 -- the ORDER BY list, each side of these equalities ascending, and the GROUP BY list ascending; the empty order is none of them
 abbrev pub found_orders : Query → List (List ℕ)
-found_orders q = unless_empty (wanted_order q) ++ one_each (ascending (joined_columns q)) ++ unless_empty (ascending q.group_by)
+found_orders q = unless_empty (wanted_order q) ++ one_each (ascending (joined_columns q)) ++ unless_empty (grouped_order q)

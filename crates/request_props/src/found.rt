@@ -10,7 +10,7 @@ ghost use Rattle.request_props.specs.Found.{joined_columns as columns_joined};
 ghost use Rattle.request_props.specs.Found.{is_across, sides_of};
 ghost use Rattle.request_props.specs.Found.{sides_across as across, sides_between as between};
 ghost use Rattle.request_props.specs.Found.{table_lists as lists_of_tables};
-ghost use Rattle.request_props.specs.Found.{unless_empty};
+ghost use Rattle.request_props.specs.Found.{unless_empty, grouped_order, wanted_order as order_wanted};
 
 use orca_base::List;
 use query_core::{CmpOp, Item, Operand, OrderKey, Pred, Query};
@@ -52,21 +52,20 @@ fn push_orders(alloc: Global, found: &mut Vec<List<u32>>, query: &Query) -> Resu
 
 /// The elements of the ORDER BY list.
 pub fn wanted_order(alloc: Global, query: &Query) -> Result<Vec<u32>, AllocError>
-    ensures value { IfOk result (λ elements. elements.items ≡ elements_of query.now.order) }
+    ensures value { IfOk result (λ elements. elements.items ≡ order_wanted query.now) }
 {
     elements(alloc, query.order.as_slice())
 }
 
 fn push_wanted(alloc: Global, found: &mut Vec<List<u32>>, query: &Query) -> Result<(), AllocError>
-    ensures { OnOk result (found.new.items ≡ found.old.items ++ unless_empty (elements_of query.now.order)) }
+    ensures { OnOk result (found.new.items ≡ found.old.items ++ unless_empty (order_wanted query.now)) }
 {
     let order = wanted_order(alloc, query)?;
     push_unless_empty(alloc, found, order.as_slice())
 }
 
 fn push_grouped(alloc: Global, found: &mut Vec<List<u32>>, query: &Query) -> Result<(), AllocError>
-    ensures { OnOk result (found.new.items ≡
-        found.old.items ++ unless_empty (ascending_of query.now.group_by)) }
+    ensures { OnOk result (found.new.items ≡ found.old.items ++ unless_empty (grouped_order query.now)) }
 {
     let order = ascending(alloc, query.group_by.as_slice())?;
     push_unless_empty(alloc, found, order.as_slice())

@@ -4,7 +4,7 @@ use Rattle.std.proofs.lemmas.List.{length-map}
 use Rattle.std.proofs.lemmas.Bool.{false≢true}
 use Rattle.request_props.specs.Found.{elements_of}
 use Rattle.request_props.specs.Numbered.{order_of, orders_of}
-use Rattle.request_props.specs.Outer.{HasOuterColumn, IsCountBelow}
+use Rattle.request_props.specs.Outer.{HasOuterColumn, IsCountOf}
 use Rattle.request_props.proofs.OuterColumns.{counted_at_first, counted_none, counted_one, meets_outer}
 use Rattle.request_props.proofs.props.Props.outer_columns.Goals as goal
 use Rattle.request_props.proofs.props.Props.outer_columns.Goals.{then-meets, else-meets}
@@ -24,11 +24,11 @@ loop-place-preserved c =
     c.leaving-leaving.ensures.first c.leaving-leaving.ensures.second c.meets.result c.meets.ensures in
     elim c.if-meets.branch [
       | then-meets w ↦ record {
-        counted = subst (IsCountBelow IsOne (place + 1)) (sym w.count-is) (counted_one IsOne place count (tells.0 w.if-meets.true) before.counted);
+        counted = subst (IsCountOf IsOne (place + 1)) (sym w.count-is) (counted_one IsOne place count (tells.0 w.if-meets.true) before.counted);
         few = omega (arith, w.count-is, before.few);
       }
       | else-meets w ↦ record {
-        counted = subst (IsCountBelow IsOne (place + 1)) (sym w.count-is) (counted_none IsOne place count (λ one. false≢true (sym w.if-meets.false ∙ tells.1 one)) before.counted);
+        counted = subst (IsCountOf IsOne (place + 1)) (sym w.count-is) (counted_none IsOne place count (λ one. false≢true (sym w.if-meets.false ∙ tells.1 one)) before.counted);
         few = omega (arith, w.count-is, before.few);
       }
     ]
@@ -39,4 +39,4 @@ returns c =
     let orders = c.args.self.now.orders in
     let length_is : length (map elements_of orders) ≡ length orders = length-map orders elements_of in
     let end : c.loop-place.place ≡ length (orders_of q) = omega (arith, length_is, ap length c.requires.order_lists) in
-    subst (λ n. IsCountBelow (λ place. HasOuterColumn q c.args.group (order_of q (place + 1))) n c.loop-place.count) end c.loop-place.invariant.counted
+    subst (λ n. IsCountOf (λ place. HasOuterColumn q c.args.group (order_of q (place + 1))) n c.loop-place.count) end c.loop-place.invariant.counted
