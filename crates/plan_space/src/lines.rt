@@ -4,7 +4,7 @@
 use request_props::{Dist, GivenDist, GivenOrder, Request};
 
 /// How the distribution of an expression goes with that of its left child.
-#[derive(Clone, Copy, Debug, PartialEq, Eq)]
+#[derive(Clone, Copy)]
 pub enum LeftDist {
     /// It is this one, over a child that meets the other.
     Fixed(GivenDist, Dist),
@@ -18,7 +18,7 @@ pub enum LeftDist {
 }
 
 /// How the order of an expression goes with that of its left child.
-#[derive(Clone, Copy, Debug, PartialEq, Eq)]
+#[derive(Clone, Copy)]
 pub enum LeftOrder {
     /// It is this one, over a child in the order of the number.
     Fixed(GivenOrder, u32),
@@ -27,7 +27,7 @@ pub enum LeftOrder {
 }
 
 /// What an expression in a mode needs of its children, and what it gives over them.
-#[derive(Clone, Copy, Debug, PartialEq, Eq)]
+#[derive(Clone, Copy)]
 pub enum Line {
     /// Without children it gives this.
     Alone(GivenDist, GivenOrder),

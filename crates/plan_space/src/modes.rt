@@ -20,7 +20,7 @@ pub enum Mode {
 }
 
 /// The modes to try of an expression: of each kind those by the numbers of a set.
-#[derive(Clone, Copy, Debug, PartialEq, Eq)]
+#[derive(Clone, Copy)]
 pub struct ModeSets {
     pub one: NumberSet,
     pub copied: NumberSet,

@@ -30,7 +30,7 @@ use query_core::{KeyParts, Physical, PhysicalExpr, Query, candidates_are_known};
 use request_props::{Dist, Props, Request, class_asked, classes_agree};
 
 /// The rows of an expression's group, and of its children: 0 where there is none.
-#[derive(Clone, Copy, Debug, PartialEq, Eq)]
+#[derive(Clone, Copy)]
 pub struct ExprRows {
     pub left: u64,
     pub right: u64,

@@ -22,14 +22,14 @@ use query_core::{KeyParts, PhysicalExpr, Query};
 use request_props::{Given, GivenDist, GivenOrder, Props, Request};
 
 /// What a node sees of a plan below it: the plan's group, and what it gives.
-#[derive(Clone, Copy, Debug, PartialEq, Eq)]
+#[derive(Clone, Copy)]
 pub struct Seen {
     pub group: KeyParts,
     pub given: Given,
 }
 
 /// What a node sees of all plans below it.
-#[derive(Clone, Copy, Debug, PartialEq, Eq)]
+#[derive(Clone, Copy)]
 pub enum Below {
     Nothing,
     One(Seen),
