@@ -1,5 +1,0 @@
-//! The check of given plans; tests alone.
-#![tactic(auto)]
-
-#[cfg(test)]
-mod tests;

@@ -1,0 +1,111 @@
+//! The traces of two queries: a table that is read, and a join in the order of a column.
+
+ghost use Rattle.request_props.specs.Numbered.{IsProps};
+
+use crate::texts::assert_text;
+use goal_children::goal_lists_are_known;
+use goal_list::plain_goals;
+use job_trace::{crew_text, trace_text};
+use plan_search::plain_closure;
+use query_core::Query;
+use request_props::Props;
+use std::alloc::{AllocError, Global};
+use std::test::Fail;
+use worked_queries::{implied, one_table, two_tables};
+use xform_rules::members_are_known;
+
+// The trace over all members and goals of the query.
+fn trace_of(alloc: Global, query: Result<Query, Fail>) -> Result<Vec<u8>, Fail> {
+    let (query, props) = implied(alloc, query?)?;
+    Ok(trace_over(alloc, &query, &props)?)
+}
+
+fn trace_over(alloc: Global, query: &Query, props: &Props) -> Result<Vec<u8>, AllocError>
+    requires { IsProps query.now props.now }
+{
+    // For the proof: members are words of candidates, and goals those of goals over the query.
+    members_are_known();
+    goal_lists_are_known();
+    let members = plain_closure(alloc, query)?;
+    let goals = plain_goals(alloc, query, props, members.as_slice())?;
+    trace_text(alloc, query, props, members.as_slice(), goals.as_slice())
+}
+
+// The goals by worker, where one worker finished them all.
+fn crew_of_one(alloc: Global, query: Result<Query, Fail>) -> Result<Vec<u8>, Fail> {
+    let (query, props) = implied(alloc, query?)?;
+    Ok(crew_over(alloc, &query, &props)?)
+}
+
+fn crew_over(alloc: Global, query: &Query, props: &Props) -> Result<Vec<u8>, AllocError>
+    requires { IsProps query.now props.now }
+{
+    // For the proof: goals of the query are goals over it.
+    goal_lists_are_known();
+    let members = plain_closure(alloc, query)?;
+    let goals = plain_goals(alloc, query, props, members.as_slice())?;
+    let who = vec![in alloc; 0u32; goals.len()]?;
+    crew_text(alloc, query, props, goals.as_slice(), &who)
+}
+
+const TRACE: &str = "trace goals=8 exp=1 expe=1 xf=1 imp=1 impe=1 opt=2 opte=1
+Exp Get(t)
+  ExpE Get(t)
+ExpE Get(t)
+Xf GetToScan Get(t)
+Imp Get(t)
+  Exp Get(t)
+  ImpE Get(t)
+ImpE Get(t)
+  Xf GetToScan Get(t)
+Opt Get(t) [One]
+  Imp Get(t)
+  Opt Get(t) [Spread]
+Opt Get(t) [Spread]
+  Imp Get(t)
+  OptE Scan(t) [Spread]
+OptE Scan(t) [Spread]
+";
+
+const CREW: &str = "by-worker
+0 Exp Get(t)
+0 ExpE Get(t)
+0 Xf GetToScan Get(t)
+0 Imp Get(t)
+0 ImpE Get(t)
+0 Opt Get(t) [One]
+0 Opt Get(t) [Spread]
+0 OptE Scan(t) [Spread]
+";
+
+#[test]
+fn a_table_that_is_read_has_eight_goals(rt: HostRuntime) -> Result<(), Fail> {
+    let trace = trace_of(rt.alloc(), one_table(rt.alloc(), 0))?;
+    assert_text(&rt, trace.as_slice(), TRACE);
+    Ok(())
+}
+
+#[test]
+fn one_worker_finishes_the_eight_goals(rt: HostRuntime) -> Result<(), Fail> {
+    let crew = crew_of_one(rt.alloc(), one_table(rt.alloc(), 0))?;
+    assert_text(&rt, crew.as_slice(), CREW);
+    Ok(())
+}
+
+const ROOT: &str = "
+Opt Join(T1, T2) [One; T1.a]
+  Imp Join(T1, T2)
+  Opt Join(T1, T2) [One]
+  Opt Join(T1, T2) [Spread; T1.a]
+  OptE MergeJoin(T1 | T2) [One; T1.a]
+  OptE LoopJoin(T1 | T2) [One; T1.a]
+";
+
+#[test]
+fn a_sorted_join_has_66_goals(rt: HostRuntime) -> Result<(), Fail> {
+    let trace = trace_of(rt.alloc(), two_tables(rt.alloc()))?;
+    let text = str::from_utf8(trace.as_slice())?;
+    let first = "trace goals=66 exp=3 expe=5 xf=11 imp=3 impe=5 opt=20 opte=19\n";
+    assert!(rt; text.starts_with(first) && text.contains(ROOT));
+    Ok(())
+}
