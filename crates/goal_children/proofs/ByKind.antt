@@ -9,7 +9,7 @@ use Rattle.goal_space.specs.Words.{goal_word, parts_of}
 use Rattle.goal_space.specs.declared.goals.GoalKind.{GoalKind}
 use Rattle.goal_space.specs.declared.goals.GoalKind.TheVariants.{Exp, Imp, Opt}
 use Rattle.goal_children.specs.declared.jobs.MemberJob.TheVariants.{Serve, Transform}
-use Rattle.goal_children.specs.declared.jobs.Phase.TheVariants.{Implementation}
+use Rattle.goal_space.specs.declared.phase.Phase.TheVariants.{Implementation}
 use Rattle.goal_children.specs.Children.{IsChildIn}
 use Rattle.goal_children.specs.Choices.{IsBesideMembers, IsOfEnforcer}
 use Rattle.goal_children.specs.Finding.{AppendsGoals, FindsFrom, InsertsGoals, IsLeastFrom, IsOfMembers}

@@ -5,8 +5,9 @@ use Rattle.query_core.specs.declared.expressions.Children.{Children}
 use Rattle.query_core.specs.declared.expressions.Children.TheVariants.{Zero, One, Two}
 use Rattle.goal_space.specs.declared.goals.GoalKind.{GoalKind}
 use Rattle.goal_space.specs.declared.goals.GoalKind.TheVariants.{Exp}
-use Rattle.goal_children.specs.declared.jobs.Phase.{Phase}
-use Rattle.goal_children.specs.Finding.{phase_goal_of_group, sooner_of, FindsFrom, InsertsGoals, IsOfGroups, IsOfLeftGroup}
+use Rattle.goal_space.specs.declared.phase.Phase.{Phase}
+use Rattle.goal_space.specs.Phases.{phase_goal_of_group, IsOfGroups}
+use Rattle.goal_children.specs.Finding.{sooner_of, FindsFrom, InsertsGoals, IsOfLeftGroup}
 use Rattle.goal_children.proofs.Finds.{finds_as, sooner_is}
 use Rattle.goal_children.proofs.Inserting.{inserts_as, inserts_more, inserts_nothing}
 

@@ -15,12 +15,13 @@ use Rattle.query_core.specs.declared.expressions.ExprParts.{ExprParts}
 use Rattle.request_props.specs.Numbered.{lists_of, orders_of}
 use Rattle.goal_space.specs.Words.{goal_word, IsInRange}
 use Rattle.goal_space.specs.declared.goals.GoalKind.{GoalKind}
-use Rattle.goal_children.specs.declared.jobs.Phase.{Phase}
-use Rattle.goal_children.specs.declared.jobs.Phase.TheVariants.{Exploration, Implementation}
+use Rattle.goal_space.specs.declared.phase.Phase.{Phase}
+use Rattle.goal_space.specs.declared.phase.Phase.TheVariants.{Exploration, Implementation}
 use Rattle.goal_children.specs.declared.jobs.MemberJob.{MemberJob}
 use Rattle.goal_children.specs.declared.jobs.MemberJob.TheVariants.{Transform, Serve}
 use Rattle.goal_space.specs.Children.{IsListedIn}
-use Rattle.goal_children.specs.Finding.{phase_goal_of_expr, IsOfMembers, FindsFrom, IsLeastFrom}
+use Rattle.goal_space.specs.Phases.{phase_goal_of_expr}
+use Rattle.goal_children.specs.Finding.{IsOfMembers, FindsFrom, IsLeastFrom}
 use Rattle.goal_children.proofs.OverChildren.{request_in_range}
 use Rattle.goal_children.specs.MemberJobs.{word_at, HasNumberedJob, HaveNoGoals, IsFirstGoal, IsGoalOf, IsJobInRange}
 

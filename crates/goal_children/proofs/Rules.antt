@@ -6,7 +6,8 @@ use Rattle.query_core.specs.declared.expressions.ExprParts.{ExprParts}
 use Rattle.xform_rules.specs.declared.rules.Rule.{Rule}
 use Rattle.goal_space.specs.Children.{IsRuleAt}
 use Rattle.goal_space.specs.declared.goals.GoalKind.{GoalKind}
-use Rattle.goal_children.specs.Finding.{FindsFrom, InsertsGoals, IsOfRule, sooner_of}
+use Rattle.goal_space.specs.Phases.{IsOfRule}
+use Rattle.goal_children.specs.Finding.{FindsFrom, InsertsGoals, sooner_of}
 use Rattle.goal_children.proofs.Finds.{finds_as, sooner_is}
 use Rattle.goal_children.proofs.Inserting.{inserts_as, inserts_more, inserts_nothing}
 use Rattle.std.proofs.lemmas.List.Elements.{Contains-append_left, Contains-push, Contains-push_cases}

@@ -1,23 +1,19 @@
 -- How the next child is found, the least word of each kind of child and of several kinds; and how kinds of children come to a list.
-use Rattle.std.specs.Prelude.{ℕ, Bool, true, false, ◌≡◌, ◌<◌, ◌≤◌, ◌⊎◌, ◌↔◌, List, All, Option, None, Some, map, nat_lt, if◌then◌else◌}
+use Rattle.std.specs.Prelude.{ℕ, ◌≡◌, ◌<◌, ◌≤◌, ◌⊎◌, ◌↔◌, List, All, Option, None, Some, map, nat_lt, if◌then◌else◌}
 use Rattle.std.specs.List.{Contains}
 use Rattle.std.specs.List.Sorted.{IsStrictlyIncreasing}
-use Rattle.query_core.specs.Expressions.{children_of, IsChild}
 use Rattle.query_core.specs.declared.query.Query.{Query}
 use Rattle.query_core.specs.declared.words.KeyParts.{KeyParts}
 use Rattle.query_core.specs.declared.expressions.Children.{Children}
 use Rattle.query_core.specs.declared.expressions.ExprParts.{ExprParts}
 use Rattle.query_core.specs.declared.expressions.PhysicalExpr.{PhysicalExpr}
-use Rattle.xform_rules.specs.Rules.{explores}
-use Rattle.xform_rules.specs.Results.{Applies}
 use Rattle.xform_rules.specs.declared.rules.Rule.{Rule}
 use Rattle.xform_rules.specs.declared.rules.Rule.TheVariants.{JoinAssociate}
 use Rattle.goal_space.specs.Words.{goal_word, IsInRange}
-use Rattle.goal_space.specs.Children.{IsLeft, IsLogicalIn, IsRuleAt, CanServe, IsListedIn}
+use Rattle.goal_space.specs.Children.{IsLeft, IsLogicalIn, CanServe, IsListedIn}
+use Rattle.goal_space.specs.Phases.{phase_goal_of_expr}
 use Rattle.goal_space.specs.declared.goals.GoalKind.{GoalKind}
-use Rattle.goal_space.specs.declared.goals.GoalKind.TheVariants.{Exp, ExpE, Xf, Imp, ImpE, OptE}
-use Rattle.goal_children.specs.declared.jobs.Phase.{Phase}
-use Rattle.goal_children.specs.declared.jobs.Phase.TheVariants.{Exploration, Implementation}
+use Rattle.goal_space.specs.declared.goals.GoalKind.TheVariants.{Exp, OptE}
 use Rattle.goal_children.specs.declared.jobs.MemberJob.{MemberJob}
 use Rattle.goal_children.specs.declared.jobs.MemberJob.TheVariants.{Transform, Serve}
 
@@ -68,25 +64,6 @@ pub record InsertsGoals (Kind : GoalKind → Type 0) (old new : List GoalKind) :
 
 -- ---- kinds of children
 
--- the goal of a group in a phase
-abbrev pub phase_goal_of_group : Phase → KeyParts → GoalKind
-phase_goal_of_group Exploration group = Exp group
-phase_goal_of_group Implementation group = Imp group
-
--- the goal of an expression in a phase
-abbrev pub phase_goal_of_expr : Phase → ExprParts → GoalKind
-phase_goal_of_expr Exploration e = ExpE e
-phase_goal_of_expr Implementation e = ImpE e
-
--- the rules of the phase explore
-abbrev pub does_explore : Phase → Bool
-does_explore Exploration = true
-does_explore Implementation = false
-
--- the goal of one of the groups
-abbrev pub IsOfGroups : Phase → Children → GoalKind → Type 0
-IsOfGroups phase children goal = (group : KeyParts) × IsChild children group × (goal ≡ phase_goal_of_group phase group)
-
 -- the goal of the left group
 abbrev pub IsOfLeftGroup : Children → GoalKind → Type 0
 IsOfLeftGroup children goal = (group : KeyParts) × IsLeft children group × (goal ≡ Exp group)
@@ -94,18 +71,6 @@ IsOfLeftGroup children goal = (group : KeyParts) × IsLeft children group × (go
 -- the goal of the left group, where the rule binds a member of it
 abbrev pub IsOfLeft : ExprParts → Rule → Children → GoalKind → Type 0
 IsOfLeft e rule children goal = (group : KeyParts) × (rule ≡ JoinAssociate) × IsLeft children group × (goal ≡ Exp group)
-
--- the rule is of the phase and applies to the expression
-abbrev pub IsTried : Query → Bool → ExprParts → Rule → Type 0
-IsTried q exploring e rule = (explores rule ≡ exploring) × Applies q rule e
-
--- the goal of one rule at the expression, if it is of the phase and applies
-abbrev pub IsOfRule : Query → Bool → ExprParts → Rule → GoalKind → Type 0
-IsOfRule q exploring e rule goal = (explores rule ≡ exploring) × Applies q rule e × (goal ≡ Xf e rule)
-
--- a child of the goal of an expression in a phase
-abbrev pub IsOfExpression : Query → Phase → ExprParts → GoalKind → Type 0
-IsOfExpression q phase e goal = IsOfGroups phase (children_of e.operator) goal ⊎ IsRuleAt q (does_explore phase) e goal
 
 -- the goal of a job of a member of the group
 abbrev pub IsOfMembers : Query → List ℕ → KeyParts → MemberJob → GoalKind → Type 0

@@ -13,12 +13,12 @@ use Rattle.request_props.specs.declared.request.Request.{Request}
 use Rattle.plan_tree.specs.Alternatives.{HasAlternative}
 use Rattle.goal_space.specs.declared.goals.GoalKind.{GoalKind}
 use Rattle.goal_space.specs.declared.goals.GoalKind.TheVariants.{OptE}
-use Rattle.goal_children.specs.declared.jobs.Phase.{Phase}
-use Rattle.goal_children.specs.declared.jobs.Phase.TheVariants.{Exploration, Implementation}
+use Rattle.goal_space.specs.declared.phase.Phase.{Phase}
+use Rattle.goal_space.specs.declared.phase.Phase.TheVariants.{Exploration, Implementation}
 use Rattle.goal_children.specs.declared.jobs.MemberJob.{MemberJob}
 use Rattle.goal_children.specs.declared.jobs.MemberJob.TheVariants.{Transform, Serve}
 use Rattle.goal_children.specs.Over.{IsNumberedRequest}
-use Rattle.goal_children.specs.Finding.{phase_goal_of_expr}
+use Rattle.goal_space.specs.Phases.{phase_goal_of_expr}
 
 -- the request of the job, if it has one, has numbers
 abbrev pub HasNumberedJob : Query → MemberJob → Type 0

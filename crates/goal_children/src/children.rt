@@ -12,16 +12,17 @@ ghost use Rattle.goal_space.specs.declared.goals.GoalKind.{GoalKind as AnyGoal};
 ghost use Rattle.goal_children.specs.Over.{IsGoalOver, IsGoalWordOver};
 ghost use Rattle.goal_children.specs.Memo.{IsListedMemo};
 ghost use Rattle.goal_children.specs.Children.{AreNoMore, IsChildIn, IsChildWordAt, IsLastChild, IsNextChild};
-ghost use Rattle.goal_children.specs.Finding.{FindsFrom, IsOfExpression};
+ghost use Rattle.goal_space.specs.Phases.{IsOfExpression};
+ghost use Rattle.goal_children.specs.Finding.{FindsFrom};
 
 use crate::choice::{asked_goal_from, enforced_goal_from};
 use crate::expressions::{group_goal_from, left_goal_from, rule_goal_from};
 use crate::finding::{bound_behind, goal_from, known_goal, sooner};
-use crate::jobs::{MemberJob, Phase};
+use crate::jobs::MemberJob;
 use crate::laws::children_are_over_the_query;
 use crate::members::member_goal_from;
 use crate::memo::Memo;
-use goal_space::{GoalKind, goal_kinds_are_one};
+use goal_space::{GoalKind, Phase, goal_kinds_are_one};
 use query_core::{ExprParts, Goal, KeyParts, Query, candidates_are_known, groups_are_known};
 use request_props::{Props, Request};
 

@@ -6,15 +6,15 @@ ghost use Rattle.std.specs.List.{All};
 ghost use Rattle.query_core.specs.Expressions.{children_of, AreInRange, IsCandidate, IsPacked};
 ghost use Rattle.goal_space.specs.Children.{IsRuleAt};
 ghost use Rattle.goal_space.specs.Words.{IsInRange};
-ghost use Rattle.goal_children.specs.Finding.{does_explore, FindsFrom, InsertsGoals, IsOfExpression, IsOfGroups, IsOfLeft, IsOfLeftGroup, IsOfRule, IsTried};
+ghost use Rattle.goal_space.specs.Phases.{does_explore, IsOfExpression, IsOfGroups, IsOfRule};
+ghost use Rattle.goal_children.specs.Finding.{FindsFrom, InsertsGoals, IsOfLeft, IsOfLeftGroup};
 
 use crate::finding::{goal_from, sooner};
-use crate::jobs::Phase;
 use crate::words::insert_goal;
-use goal_space::GoalKind;
+use goal_space::{GoalKind, Phase};
 use query_core::{Children, ExprParts, Query};
 use std::alloc::AllocError;
-use xform_rules::{Rule, applies_at};
+use xform_rules::Rule;
 
 /// The first goal of the groups that an expression stands on, from the bound on.
 pub fn group_goal_from(phase: Phase, children: Children, bound: u64) -> Option<GoalKind>
@@ -70,7 +70,7 @@ fn goal_of_rule(
     requires { IsPacked e }
     ensures { FindsFrom (IsOfRule query.now (does_explore phase) e rule) bound result }
 {
-    if applies_in(query, phase, e, rule) {
+    if phase.tries(query, e, rule) {
         goal_from(GoalKind::Xf(e, rule), bound)
     } else {
         None
@@ -147,7 +147,7 @@ fn insert_rule(
     ensures ok { OnOk result
         (InsertsGoals (IsOfRule query.now (does_explore phase) e rule) goals.old.items goals.new.items) }
 {
-    if applies_in(query, phase, e, rule) {
+    if phase.tries(query, e, rule) {
         insert_goal(GoalKind::Xf(e, rule), goals)
     } else {
         Ok(())
@@ -186,11 +186,4 @@ fn associates(rule: Rule) -> bool
     ensures { IsTrue result ↔ (rule ≡ Rule.JoinAssociate) }
 {
     rule == Rule::JoinAssociate
-}
-
-// Whether the rule is of the phase and applies to the expression.
-fn applies_in(query: &Query, phase: Phase, e: ExprParts, rule: Rule) -> bool
-    ensures { IsTrue result ↔ IsTried query.now (does_explore phase) e rule }
-{
-    rule.explores() == phase.explores() && applies_at(query, rule, e)
 }

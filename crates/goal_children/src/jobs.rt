@@ -1,19 +1,8 @@
-//! Which goals groups and their members have.
+//! What a member of a group is looked at for.
 #![tactic(auto)]
 
-ghost use Rattle.std.specs.Prelude.{◌≡◌};
-ghost use Rattle.goal_children.specs.Finding.{does_explore, phase_goal_of_expr, phase_goal_of_group};
-
-use goal_space::GoalKind;
-use query_core::{ExprParts, KeyParts};
+use goal_space::Phase;
 use request_props::Request;
-
-/// What rules are tried for.
-#[derive(Clone, Copy)]
-pub enum Phase {
-    Exploration,
-    Implementation,
-}
 
 /// What a member of a group may be looked at for.
 #[derive(Clone, Copy)]
@@ -22,36 +11,4 @@ pub enum MemberJob {
     Transform(Phase),
     /// A physical member, for plans that meet the request.
     Serve(Request),
-}
-
-impl Phase {
-    /// The goal of a group.
-    pub fn of_group(self, group: KeyParts) -> GoalKind
-        ensures { result ≡ phase_goal_of_group self group }
-    {
-        match self {
-            Phase::Exploration => GoalKind::Exp(group),
-            Phase::Implementation => GoalKind::Imp(group),
-        }
-    }
-
-    /// The goal of an expression.
-    pub fn of_expr(self, e: ExprParts) -> GoalKind
-        ensures { result ≡ phase_goal_of_expr self e }
-    {
-        match self {
-            Phase::Exploration => GoalKind::ExpE(e),
-            Phase::Implementation => GoalKind::ImpE(e),
-        }
-    }
-
-    /// Whether its rules are those that explore.
-    pub fn explores(self) -> bool
-        ensures { result ≡ does_explore self }
-    {
-        match self {
-            Phase::Exploration => true,
-            Phase::Implementation => false,
-        }
-    }
 }

@@ -19,9 +19,9 @@ ghost use Rattle.goal_space.specs.declared.goals.GoalKind.{GoalKind as AnyGoal};
 ghost use Rattle.goal_children.specs.MemberJobs.{word_at, HasNumberedJob, HaveNoGoals, IsFirstGoal, IsGoalAmong, IsGoalOf, IsGoalOfWord, IsJobInRange, IsServed, IsTransformed};
 
 use crate::group_members::{GroupMembers, hold_members};
-use crate::jobs::{MemberJob, Phase};
+use crate::jobs::MemberJob;
 use crate::memo::Memo;
-use goal_space::GoalKind;
+use goal_space::{GoalKind, Phase};
 use plan_tree::may_serve;
 use query_core::{
     Expr, ExprParts, Goal, GoalParts, KeyParts, PhysicalExpr, candidates_are_known,

@@ -8,3 +8,4 @@ pub mod InRange
 pub mod Decoded
 pub mod Bits
 pub mod Enforced
+pub mod Phases

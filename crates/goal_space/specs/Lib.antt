@@ -1,5 +1,6 @@
 pub mod Words
 pub mod Children
+pub mod Phases
 pub mod Goals
 pub mod Ranks
 pub mod Asked

@@ -4,10 +4,12 @@
 
 mod goals;
 mod laws;
+mod phase;
 mod ranks;
 mod words;
 
 pub use goals::GoalKind;
 pub use laws::{goals_are_known, goals_ask_for_members, ranks_fall};
+pub use phase::Phase;
 pub use ranks::{rank, table_count};
 pub use words::goal_kinds_are_one;

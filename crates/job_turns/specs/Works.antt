@@ -1,12 +1,9 @@
 -- What the work of a goal has come to, over the query.
 use Rattle.std.specs.Prelude.{◌≡◌, ◌⊎◌, ℕ, Bool, true, false, Option, Some}
-use Rattle.query_core.specs.Expressions.{children_of, origin_of, word_of, IsChild}
+use Rattle.query_core.specs.Expressions.{origin_of, word_of}
 use Rattle.query_core.specs.declared.query.Query.{Query}
 use Rattle.query_core.specs.declared.expressions.ExprParts.{ExprParts}
 use Rattle.query_core.specs.declared.words.KeyParts.{KeyParts}
-use Rattle.xform_rules.specs.Rules.{explores}
-use Rattle.xform_rules.specs.Results.{Applies}
-use Rattle.xform_rules.specs.declared.rules.Rule.{Rule}
 use Rattle.xform_rules.specs.Closure.{IsMember}
 use Rattle.board_rule.specs.Looks.{ShowsFinished, ShowsEntry}
 use Rattle.board_rule.specs.declared.hands.Hands.{Hands}
@@ -61,14 +58,6 @@ module _ (q : Query) (room : ℕ) (v : Hands Rules) (before : Right) where
 -- one of the goals that are there
 abbrev pub IsOneOf : Option GoalKind × Option GoalKind → GoalKind → Type 0
 IsOneOf goals child = (goals.0 ≡ Some child) ⊎ (goals.1 ≡ Some child)
-
--- the goal of a child's group
-abbrev pub IsOfChild : (KeyParts → GoalKind) → ExprParts → GoalKind → Type 0
-IsOfChild kind e goal = (group : KeyParts) × IsChild (children_of e.operator) group × (goal ≡ kind group)
-
--- the goal of the rule at the expression, where it applies and explores, or doesn't
-abbrev pub IsRuleOf : Query → Bool → ExprParts → Rule → GoalKind → Type 0
-IsRuleOf q exploring e rule goal = (explores rule ≡ exploring) × Applies q rule e × (goal ≡ Xf e rule)
 
 -- the goal with the word asks for the member
 abbrev pub IsAskedOf : Query → ℕ → ExprParts → Type 0

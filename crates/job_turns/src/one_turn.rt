@@ -10,7 +10,7 @@ ghost use Rattle.job_turns.specs.Searches.{IsSeat, HasRight, IsAtWork};
 ghost use Rattle.job_turns.specs.Seats.{SeatWorks};
 ghost use Rattle.job_turns.specs.Turns.{TurnsGoal};
 
-use crate::expressions::{explore_expression, implement_expression};
+use crate::expressions::transform_expression;
 use crate::groups::{explore_group, implement_group};
 use crate::modes::choose_mode;
 use crate::requests::choose_plan;
@@ -18,7 +18,7 @@ use crate::rule_results::apply_rule;
 use board_moves::{Job, Progress, Turned};
 use goal_board::{Board, Hints, Right, Seat};
 use goal_rules::Rules;
-use goal_space::{GoalKind, goals_are_known};
+use goal_space::{GoalKind, Phase, goals_are_known};
 use query_core::{Goal, Query};
 use request_props::Props;
 use xform_rules::members_are_known;
@@ -93,10 +93,14 @@ fn work<'q, H: Hints>(
 {
     match goal {
         GoalKind::Exp(group) => explore_group(query, props, board, seat, job, group, hints),
-        GoalKind::ExpE(e) => explore_expression(query, board, seat, job, e, hints),
+        GoalKind::ExpE(e) => {
+            transform_expression(query, board, seat, job, Phase::Exploration, e, hints)
+        }
         GoalKind::Xf(e, rule) => apply_rule(query, props, board, seat, job, e, rule, hints),
         GoalKind::Imp(group) => implement_group(query, props, board, seat, job, group, hints),
-        GoalKind::ImpE(e) => implement_expression(query, board, seat, job, e, hints),
+        GoalKind::ImpE(e) => {
+            transform_expression(query, board, seat, job, Phase::Implementation, e, hints)
+        }
         GoalKind::Opt(group, wanted) => choose_plan(
             query, props, board, seat, job, group, wanted, hints,
         ),

@@ -1,6 +1,6 @@
 use Rattle.std.proofs.Common.{◌≡◌}
 use Rattle.goal_space.specs.declared.goals.GoalKind.TheVariants.{Exp}
-use Rattle.goal_children.specs.declared.jobs.Phase.TheVariants.{Implementation}
+use Rattle.goal_space.specs.declared.phase.Phase.TheVariants.{Implementation}
 use Rattle.goal_children.specs.declared.jobs.MemberJob.TheVariants.{Transform}
 use Rattle.goal_children.specs.Finding.{IsOfMembers}
 use Rattle.goal_children.proofs.Finds.{found_in_range, sooner_is}

@@ -1,7 +1,8 @@
 use Rattle.std.proofs.Common.{subst}
 use Rattle.query_core.specs.declared.expressions.Children.{Children}
 use Rattle.goal_space.specs.Children.{IsRuleAt}
-use Rattle.goal_children.specs.Finding.{does_explore, FindsFrom, IsOfGroups}
+use Rattle.goal_space.specs.Phases.{does_explore, IsOfGroups}
+use Rattle.goal_children.specs.Finding.{FindsFrom}
 use Rattle.query_core.specs.Expressions.{children_of}
 use Rattle.goal_children.proofs.Finds.{found_in_range, sooner_is}
 use Rattle.goal_children.proofs.children.transformed_from.Goals as goal

@@ -1,7 +1,8 @@
 use Rattle.std.proofs.Common.{◌<◌, ◌≤◌, take, length, get_or, sym, subst, ap, arith}
 use Rattle.std.proofs.lemmas.List.{take_all, take_more}
 use Rattle.xform_rules.specs.declared.rules.Rule.TheVariants.{ExpandNAry}
-use Rattle.goal_children.specs.Finding.{does_explore, InsertsGoals}
+use Rattle.goal_space.specs.Phases.{does_explore}
+use Rattle.goal_children.specs.Finding.{InsertsGoals}
 use Rattle.goal_children.proofs.Rules.{IsOfRules, no_rules_inserted, rule_inserted, each_rule_inserted}
 use Rattle.goal_children.proofs.expressions.insert_rules.Goals as goal
 

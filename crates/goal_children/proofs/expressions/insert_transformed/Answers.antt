@@ -2,7 +2,8 @@ use Rattle.std.proofs.Common.{subst}
 use Rattle.query_core.specs.Expressions.{children_of}
 use Rattle.query_core.specs.declared.expressions.Children.{Children}
 use Rattle.goal_space.specs.Children.{IsRuleAt}
-use Rattle.goal_children.specs.Finding.{does_explore, InsertsGoals, IsOfGroups}
+use Rattle.goal_space.specs.Phases.{does_explore, IsOfGroups}
+use Rattle.goal_children.specs.Finding.{InsertsGoals}
 use Rattle.goal_children.proofs.Inserting.{inserts_both}
 use Rattle.goal_children.proofs.expressions.insert_transformed.Goals as goal
 

@@ -1,7 +1,8 @@
 use Rattle.std.proofs.Common.{◌<◌, ◌≤◌, take, length, get_or, sym, subst, ap, arith}
 use Rattle.std.proofs.lemmas.List.{take_all, take_more}
 use Rattle.xform_rules.specs.declared.rules.Rule.TheVariants.{ExpandNAry}
-use Rattle.goal_children.specs.Finding.{does_explore, FindsFrom}
+use Rattle.goal_space.specs.Phases.{does_explore}
+use Rattle.goal_children.specs.Finding.{FindsFrom}
 use Rattle.goal_children.proofs.Finds.{found_in_range}
 use Rattle.goal_children.proofs.Rules.{IsOfRules, no_rules, rule_more, each_rule}
 use Rattle.goal_children.proofs.expressions.rule_goal_from.Goals as goal

@@ -1,5 +1,6 @@
 use Rattle.std.proofs.Common.{take}
-use Rattle.goal_children.specs.Finding.{does_explore, FindsFrom}
+use Rattle.goal_space.specs.Phases.{does_explore}
+use Rattle.goal_children.specs.Finding.{FindsFrom}
 use Rattle.goal_children.proofs.Rules.{IsOfRules}
 use Rattle.goal_children.proofs.expressions.rule_goal_from.Given as goal
 
