@@ -22,7 +22,7 @@ use std::alloc::{AllocError, Global};
 use xform_rules::members_are_known;
 
 /// What the search of a query gave.
-#[derive(Debug, Drop)]
+#[derive(Drop)]
 pub enum Outcome {
     /// The root's goal is finished, and with it every goal.
     Done {

@@ -12,14 +12,14 @@ use request_props::Props;
 use std::alloc::{AllocError, Global};
 
 // A valid plan, and the group whose rows it has.
-#[derive(Debug, Drop)]
+#[derive(Drop)]
 struct Listed {
     plan: Plan,
     group: KeyParts,
 }
 
 // What may stand at the root of a plan: physical members in their modes, and enforcers.
-#[derive(Debug, Drop)]
+#[derive(Drop)]
 struct Roots {
     natives: Vec<(PhysicalExpr, Node)>,
     enforcers: Vec<Node>,
