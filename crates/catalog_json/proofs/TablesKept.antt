@@ -1,10 +1,11 @@
 -- A catalogue that is read keeps the limits, has names that differ, and lists its own columns.
-use Rattle.std.proofs.Common.{◌≡◌, All, ◌≤◌, true, List, [], ◌∷◌, ◌++◌, length, map, codes, Option, Ok, refl, subst}
+use Rattle.std.proofs.Common.{◌≡◌, All, ℕ, ◌≤◌, true, List, [], ◌∷◌, ◌++◌, length, map, codes, Option, Ok, refl, subst}
 use Rattle.std.specs.Str.{bytes_eq}
 use Rattle.std.specs.Cmp.Lexicographic.{nat_list_eq_equiv}
 use Rattle.std.proofs.lemmas.List.{length-map, map_push}
 use Rattle.std.proofs.lemmas.List.Elements.{All-nil, All-push}
 use Rattle.query_core.specs.declared.catalog.ColumnInfo.{ColumnInfo}
+use Rattle.query_core.specs.declared.catalog.Placing.{Placing}
 use Rattle.query_core.specs.declared.catalog.TableInfo.{TableInfo}
 use Rattle.query_core.specs.declared.catalog.Catalog.{Catalog}
 use Rattle.serde_json.specs.Data.{Data}
@@ -12,50 +13,70 @@ use Rattle.serde_json.specs.Find.{get}
 use Rattle.catalog_json.specs.declared.place.Place.TheVariants as places
 use Rattle.query_core.specs.Catalog.{trillion}
 use Rattle.query_core.specs.Differ.{all_differ}
-use Rattle.query_core.specs.Catalog.{IsTable, IsCatalog}
-use Rattle.catalog_json.specs.Walk.{◌>>=◌, catalog_at, columns_at, each, indexes_at, list_at, new_name_at, number_at, object_at, placing_at, table_at, tables_at, version_at}
+use Rattle.query_core.specs.Catalog.{is_catalog_name, IsPlacing, IsTable, IsCatalog}
+use Rattle.catalog_json.specs.Walk.{◌>>=◌, catalog_at, columns_at, each, indexes_at, list_at, lists_at, named_table_at, new_name_at, number_at, object_at, placing_at, table_at, tables_at, version_at}
 use Rattle.query_core.proofs.Apart.{differ_push}
 use Rattle.orca_base.proofs.Checked.{bind_ok, done, each_counts, ok_is}
 use Rattle.catalog_json.proofs.Steps.{all_keep, list_kept, new_name_kept, number_kept}
 use Rattle.catalog_json.proofs.ColumnsKept.{below, columns_kept}
-use Rattle.catalog_json.proofs.ListsKept.{indexes_kept, placing_kept}
+use Rattle.catalog_json.proofs.ListsKept.{AreIndexes, indexes_kept, placing_kept}
 
 -- tables as those of a catalogue, as far as they are read
 record AreTables (tables : List TableInfo) : Type 0 where
   all_are : All IsTable tables
   differ : all_differ bytes_eq (map (λ t. t.name) tables) ≡ true
 
+lists_kept : (t : ℕ) (names : List (List ℕ)) (d : Data) (lists : Placing × List (List ℕ)) → lists_at t names d ≡ Ok lists → IsPlacing (length names) lists.0 × AreIndexes (length names) lists.1
+unfolding lists_at
+lists_kept t names d lists e =
+    let placing = bind_ok (placing_at t names (get (codes "distribution") d)) (λ placing. indexes_at t names (get (codes "indexes") d) >>= λ indexes. done (placing, indexes)) lists e in
+    let indexes = bind_ok (indexes_at t names (get (codes "indexes") d)) (λ indexes. done (placing.0, indexes)) lists placing.2 in
+    subst (λ (lists : Placing × List (List ℕ)). IsPlacing (length names) lists.0 × AreIndexes (length names) lists.1) (ok_is (placing.0, indexes.0) lists indexes.2)
+    (placing_kept t names (get (codes "distribution") d) placing.0 placing.1, indexes_kept t names (get (codes "indexes") d) indexes.0 indexes.1)
+
+-- a table that got a name
+record IsTableNamed (name : List ℕ) (table : TableInfo) : Type 0 where
+  is : IsTable table
+  called : table.name ≡ name
+
+named_table_kept : (t : ℕ) (name : List ℕ) (d : Data) (table : TableInfo) → is_catalog_name name ≡ true → named_table_at t name d ≡ Ok table → IsTableNamed name table
+unfolding named_table_at
+named_table_kept t name d table named e =
+    let texts = λ (columns : List ColumnInfo). map (λ c. c.name) columns in
+    let rows = bind_ok (number_at 0 trillion (places.Rows t) (get (codes "rows") d)) (λ rows. columns_at t (get (codes "columns") d) >>= λ columns. lists_at t (texts columns) d >>= λ lists. done (record { name = name; rows = rows; placing = lists.0; columns = columns; indexes = lists.1 })) table e in
+    let columns = bind_ok (columns_at t (get (codes "columns") d)) (λ columns. lists_at t (texts columns) d >>= λ lists. done (record { name = name; rows = rows.0; placing = lists.0; columns = columns; indexes = lists.1 })) table rows.2 in
+    let lists = bind_ok (lists_at t (texts columns.0) d) (λ lists. done (record { name = name; rows = rows.0; placing = lists.0; columns = columns.0; indexes = lists.1 })) table columns.2 in
+    let width : length (texts columns.0) ≡ length columns.0 = length-map columns.0 (λ c. c.name) in
+    let are = columns_kept t (get (codes "columns") d) columns.0 columns.1 in
+    let listed = rw width at (lists_kept t (texts columns.0) d lists.0 lists.1) in
+    let made : TableInfo = record { name = name; rows = rows.0; placing = lists.0.0; columns = columns.0; indexes = lists.0.1 } in
+    subst (IsTableNamed name) {x = made} (ok_is made table lists.2) (record {
+      is = record {
+        named = named;
+        counted = below trillion rows.0 (number_kept 0 trillion (places.Rows t) (get (codes "rows") d) rows.0 rows.1);
+        width = are.width;
+        each_column = are.are.all_are;
+        differ = are.are.differ;
+        placed = listed.0;
+        index_count = listed.1.count;
+        each_index = listed.1.all_are;
+      };
+      called = refl;
+    })
+
 table_kept : (before : List TableInfo) (d : Data) (table : TableInfo) → AreTables before → table_at before d ≡ Ok table → AreTables (before ++ table ∷ [])
 unfolding table_at
 table_kept before d table so_far e =
     let t = length before in
     let names = map (λ t. t.name) before in
-    let texts = λ (columns : List ColumnInfo). map (λ c. c.name) columns in
-    let object = bind_ok (object_at (places.Table t) d) (λ object. new_name_at (places.TableName t) names (get (codes "name") object) >>= λ name. number_at 0 trillion (places.Rows t) (get (codes "rows") object) >>= λ rows. columns_at t (get (codes "columns") object) >>= λ columns. placing_at t (texts columns) (get (codes "distribution") object) >>= λ placing. indexes_at t (texts columns) (get (codes "indexes") object) >>= λ indexes. done (record { name = name; rows = rows; placing = placing; columns = columns; indexes = indexes })) table e in
-    let o = object.0 in
-    let name = bind_ok (new_name_at (places.TableName t) names (get (codes "name") o)) (λ name. number_at 0 trillion (places.Rows t) (get (codes "rows") o) >>= λ rows. columns_at t (get (codes "columns") o) >>= λ columns. placing_at t (texts columns) (get (codes "distribution") o) >>= λ placing. indexes_at t (texts columns) (get (codes "indexes") o) >>= λ indexes. done (record { name = name; rows = rows; placing = placing; columns = columns; indexes = indexes })) table object.2 in
-    let rows = bind_ok (number_at 0 trillion (places.Rows t) (get (codes "rows") o)) (λ rows. columns_at t (get (codes "columns") o) >>= λ columns. placing_at t (texts columns) (get (codes "distribution") o) >>= λ placing. indexes_at t (texts columns) (get (codes "indexes") o) >>= λ indexes. done (record { name = name.0; rows = rows; placing = placing; columns = columns; indexes = indexes })) table name.2 in
-    let columns = bind_ok (columns_at t (get (codes "columns") o)) (λ columns. placing_at t (texts columns) (get (codes "distribution") o) >>= λ placing. indexes_at t (texts columns) (get (codes "indexes") o) >>= λ indexes. done (record { name = name.0; rows = rows.0; placing = placing; columns = columns; indexes = indexes })) table rows.2 in
-    let placing = bind_ok (placing_at t (texts columns.0) (get (codes "distribution") o)) (λ placing. indexes_at t (texts columns.0) (get (codes "indexes") o) >>= λ indexes. done (record { name = name.0; rows = rows.0; placing = placing; columns = columns.0; indexes = indexes })) table columns.2 in
-    let indexes = bind_ok (indexes_at t (texts columns.0) (get (codes "indexes") o)) (λ indexes. done (record { name = name.0; rows = rows.0; placing = placing.0; columns = columns.0; indexes = indexes })) table placing.2 in
-    let new = new_name_kept (places.TableName t) names (get (codes "name") o) name.0 name.1 in
-    let width : length (texts columns.0) ≡ length columns.0 = length-map columns.0 (λ c. c.name) in
-    let are = columns_kept t (get (codes "columns") o) columns.0 columns.1 in
-    let listed = rw width at (indexes_kept t (texts columns.0) (get (codes "indexes") o) indexes.0 indexes.1) in
-    let made : TableInfo = record { name = name.0; rows = rows.0; placing = placing.0; columns = columns.0; indexes = indexes.0 } in
-    subst (λ (x : TableInfo). AreTables (before ++ x ∷ [])) {x = made} (ok_is made table indexes.2) (record {
-      all_are = All-push IsTable before made so_far.all_are (record {
-        named = new.0;
-        counted = below trillion rows.0 (number_kept 0 trillion (places.Rows t) (get (codes "rows") o) rows.0 rows.1);
-        width = are.width;
-        each_column = are.are.all_are;
-        differ = are.are.differ;
-        placed = rw width at (placing_kept t (texts columns.0) (get (codes "distribution") o) placing.0 placing.1);
-        index_count = listed.count;
-        each_index = listed.all_are;
-      });
-      differ = rw (map_push (λ (x : TableInfo). x.name) before made) (differ_push bytes_eq nat_list_eq_equiv.symm names name.0 so_far.differ new.1);
-    })
+    let object = bind_ok (object_at (places.Table t) d) (λ object. new_name_at (places.TableName t) names (get (codes "name") object) >>= λ name. named_table_at t name object) table e in
+    let name = bind_ok (new_name_at (places.TableName t) names (get (codes "name") object.0)) (λ name. named_table_at t name object.0) table object.2 in
+    let new = new_name_kept (places.TableName t) names (get (codes "name") object.0) name.0 name.1 in
+    let kept = named_table_kept t name.0 object.0 table new.0 name.2 in
+    record {
+      all_are = All-push IsTable before table so_far.all_are kept.is;
+      differ = rw (map_push (λ (x : TableInfo). x.name) before table, kept.called) (differ_push bytes_eq nat_list_eq_equiv.symm names name.0 so_far.differ new.1);
+    }
 
 -- the tables of a catalogue
 record AreAllTables (tables : List TableInfo) : Type 0 where

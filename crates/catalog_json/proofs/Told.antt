@@ -18,7 +18,7 @@ use Rattle.catalog_json.specs.declared.place.NameList.TheVariants.{Distribution,
 use Rattle.catalog_json.specs.declared.place.Place.{Place}
 use Rattle.catalog_json.specs.declared.place.Place.TheVariants as places
 use Rattle.query_core.specs.Catalog.{trillion, within, is_catalog_name}
-use Rattle.catalog_json.specs.Walk.{Reading, elements, in_limits, whole, number_at, named, name_at, new_name_at, of_length, list_at, object_at, column_at, columns_at, new_place, listed_at, places_at, placing_by, index_at, indexes_at, table_at, version_one, tables_at, catalog_at}
+use Rattle.catalog_json.specs.Walk.{Reading, elements, in_limits, whole, number_at, named, name_at, new_name_at, of_length, list_at, object_at, column_at, columns_at, new_place, listed_at, places_at, placing_by, index_at, indexes_at, lists_at, named_table_at, table_at, version_one, tables_at, catalog_at}
 use Rattle.catalog_json.specs.Outcome.{told, told_of, of_value, json_of, most_bytes, reading_of}
 
 -- the reading has a value, or a fault other than want of memory
@@ -92,14 +92,22 @@ indexes_told t names None = tt
 indexes_told t names (Some d) = goes_on faults.Memory _ _ (list_told 0 16 (places.Indexes t) (Some d))
     (λ ds. each_told faults.Memory (index_at t names) (λ before e. places_told (Index t (length before)) names (Some e)) [] ds)
 
+lists_told : (t : ℕ) (names : List (List ℕ)) (d : Data) → IsTold (lists_at t names d)
+unfolding lists_at
+lists_told t names d = goes_on faults.Memory _ _ (placing_by_told t names (get (codes "distribution") d) (option_and_then as_str (get (codes "distribution") d)))
+    (λ placing. goes_on faults.Memory _ _ (indexes_told t names (get (codes "indexes") d)) (λ indexes. tt))
+
+named_table_told : (t : ℕ) (name : List ℕ) (d : Data) → IsTold (named_table_at t name d)
+unfolding named_table_at
+named_table_told t name d = goes_on faults.Memory _ _ (number_told 0 trillion (places.Rows t) (get (codes "rows") d))
+    (λ rows. goes_on faults.Memory _ _ (columns_told t (get (codes "columns") d))
+    (λ columns. goes_on faults.Memory _ _ (lists_told t (map (λ c. c.name) columns) d) (λ lists. tt)))
+
 table_told : (before : List TableInfo) (d : Data) → IsTold (table_at before d)
 unfolding table_at
 table_told before d = goes_on faults.Memory _ _ (object_told (places.Table (length before)) d)
     (λ object. goes_on faults.Memory _ _ (new_name_told (places.TableName (length before)) (map (λ t. t.name) before) (get (codes "name") object))
-    (λ name. goes_on faults.Memory _ _ (number_told 0 trillion (places.Rows (length before)) (get (codes "rows") object))
-    (λ rows. goes_on faults.Memory _ _ (columns_told (length before) (get (codes "columns") object))
-    (λ columns. goes_on faults.Memory _ _ (placing_by_told (length before) (map (λ c. c.name) columns) (get (codes "distribution") object) (option_and_then as_str (get (codes "distribution") object)))
-    (λ placing. goes_on faults.Memory _ _ (indexes_told (length before) (map (λ c. c.name) columns) (get (codes "indexes") object)) (λ indexes. tt))))))
+    (λ name. named_table_told (length before) name object))
 
 -- ---- the whole
 

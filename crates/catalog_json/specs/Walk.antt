@@ -137,16 +137,27 @@ indexes_at t names (Some d) = do
   ds ← list_at 0 16 (places.Indexes t) (Some d)
   each (index_at t names) [] ds
 
+-- where the rows of table t lie, and its indexes, over the names of its columns
+unfoldable pub lists_at : ℕ → List (List ℕ) → Data → Reading (Placing × List (List ℕ))
+lists_at t names d = do
+  placing ← placing_at t names (get (codes "distribution") d)
+  indexes ← indexes_at t names (get (codes "indexes") d)
+  Ok (placing, indexes)
+
+-- table t of this name, with what the other members of its object say
+unfoldable pub named_table_at : ℕ → List ℕ → Data → Reading TableInfo
+named_table_at t name d = do
+  rows ← number_at 0 trillion (places.Rows t) (get (codes "rows") d)
+  columns ← columns_at t (get (codes "columns") d)
+  lists ← lists_at t (map (λ c. c.name) columns) d
+  Ok (record { name = name; rows = rows; placing = lists.0; columns = columns; indexes = lists.1 })
+
 -- a table, after those before it
 unfoldable pub table_at : List TableInfo → Data → Reading TableInfo
 table_at before d = do
   object ← object_at (places.Table (length before)) d
   name ← new_name_at (places.TableName (length before)) (map (λ t. t.name) before) (get (codes "name") object)
-  rows ← number_at 0 trillion (places.Rows (length before)) (get (codes "rows") object)
-  columns ← columns_at (length before) (get (codes "columns") object)
-  placing ← placing_at (length before) (map (λ c. c.name) columns) (get (codes "distribution") object)
-  indexes ← indexes_at (length before) (map (λ c. c.name) columns) (get (codes "indexes") object)
-  Ok (record { name = name; rows = rows; placing = placing; columns = columns; indexes = indexes })
+  named_table_at (length before) name object
 
 -- ---- the whole
 

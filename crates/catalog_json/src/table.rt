@@ -2,7 +2,8 @@
 ghost use Rattle.std.specs.Prelude.{◌≡◌, ◌≤◌, [], ◌∷◌, ◌++◌, length, map, option_map, IfOk};
 ghost use Rattle.serde_json.specs.View.{view};
 ghost use Rattle.catalog_json.specs.Columns.{names_of};
-ghost use Rattle.catalog_json.specs.Walk.{Gives, each, index_at, indexes_at, placing_at, random_at, table_at, tables_at};
+ghost use Rattle.catalog_json.specs.Object.{data_of};
+ghost use Rattle.catalog_json.specs.Walk.{Gives, each, index_at, indexes_at, lists_at, named_table_at, placing_at, random_at, table_at, tables_at};
 
 use crate::column::{Columns, read_columns};
 use crate::fault::Fault;
@@ -11,7 +12,7 @@ use crate::member::{TRILLION, list_at, number_at, take_list};
 use crate::names::Names;
 use crate::object::Object;
 use crate::place::{NameList, Place};
-use orca_base::List;
+use orca_base::{List, Text};
 use query_core::{Placing, TableInfo};
 use serde_json::Value;
 use std::alloc::Global;
@@ -86,6 +87,45 @@ fn read_indexes(
     }
 }
 
+/// Reads where the rows of table `t` lie, and its indexes.
+#[tactic(auto, unfolding(crate::specs::Walk::lists_at))]
+fn read_lists(
+    alloc: Global,
+    t: usize,
+    columns: &Columns,
+    object: &Object,
+) -> Result<(Placing, List<List<u32>>), Fault>
+    requires { length columns.now ≤ 1000 }
+    ensures { Gives (lists_at t (names_of columns.now) (data_of object.now)) result }
+{
+    let placing = read_placing(alloc, t, columns, object.get("distribution"))?;
+    let indexes = read_indexes(alloc, t, columns, object.get("indexes"))?;
+    Ok((placing, indexes))
+}
+
+/// Reads what the members of a table other than its name say.
+#[tactic(auto, unfolding(crate::specs::Walk::named_table_at, crate::specs::Walk::lists_at))]
+fn read_named_table(
+    alloc: Global,
+    t: usize,
+    name: Text,
+    object: &mut Object,
+) -> Result<TableInfo, Fault>
+    ensures read { Gives (named_table_at t name (data_of object.old)) result }
+    ensures named { IfOk result (λ table. table.name ≡ name) }
+{
+    let rows = number_at(object.get("rows"), 0, TRILLION, Place::Rows(t))?;
+    let columns = read_columns(alloc, t, object.take("columns"))?;
+    let (placing, indexes) = read_lists(alloc, t, &columns, object)?;
+    Ok(TableInfo {
+        name,
+        rows,
+        placing,
+        columns: columns.into_list(alloc)?,
+        indexes,
+    })
+}
+
 /// Reads one of the tables, and adds its name.
 #[tactic(auto, unfolding(crate::specs::Walk::table_at))]
 fn read_table(
@@ -101,26 +141,21 @@ fn read_table(
     let t = before.len();
     let mut object = Object::of(value, Place::Table(t))?;
     let name = names.read_new(alloc, object.take("name"), Place::TableName(t))?;
-    let rows = number_at(object.get("rows"), 0, TRILLION, Place::Rows(t))?;
-    let columns = read_columns(alloc, t, object.take("columns"))?;
-    let placing = read_placing(alloc, t, &columns, object.get("distribution"))?;
-    let indexes = read_indexes(alloc, t, &columns, object.get("indexes"))?;
-    Ok(TableInfo {
-        name,
-        rows,
-        placing,
-        columns: columns.into_list(alloc)?,
-        indexes,
-    })
+    read_named_table(alloc, t, name, &mut object)
 }
 
-fn read_each_table(alloc: Global, values: Vec<Value>) -> Result<List<TableInfo>, Fault>
+/// Reads the tables, and adds their names.
+fn read_each_table(
+    alloc: Global,
+    values: Vec<Value>,
+    names: &mut Names,
+) -> Result<List<TableInfo>, Fault>
+    requires { names.old ≡ [] }
     ensures { Gives (each table_at [] (map view values.items)) result }
 {
-    let mut tables = List::of(Vec::with_capacity(alloc, values.len())?);
-    let mut names = Names::with_capacity(alloc, values.len())?;
+    let mut tables = List::new(alloc);
     for value in values {
-        let table = read_table(alloc, tables.as_slice(), &mut names, value)?;
+        let table = read_table(alloc, tables.as_slice(), names, value)?;
         tables.push(table)?;
     }
     Ok(tables)
@@ -131,5 +166,6 @@ pub fn read_tables(alloc: Global, value: Option<Value>) -> Result<List<TableInfo
     ensures { Gives (tables_at (option_map view value)) result }
 {
     let values = take_list(value, 0, MOST_TABLES, Place::Tables)?;
-    read_each_table(alloc, values)
+    let mut names = Names::with_capacity(alloc, values.len())?;
+    read_each_table(alloc, values, &mut names)
 }

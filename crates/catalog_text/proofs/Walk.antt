@@ -19,7 +19,7 @@ use Rattle.catalog_json.specs.declared.place.NameList.TheVariants.{Distribution,
 use Rattle.catalog_json.specs.declared.place.Place.{Place}
 use Rattle.catalog_json.specs.declared.place.Place.TheVariants as places
 use Rattle.catalog_json.specs.Columns.{names_of}
-use Rattle.catalog_json.specs.Walk.{elements, number_at, list_at, name_at as name_read, new_name_at, new_place, column_at, columns_at, listed_at, places_at, placing_at, placing_by, index_at, indexes_at, table_at, tables_at, catalog_at, each}
+use Rattle.catalog_json.specs.Walk.{elements, number_at, list_at, name_at as name_read, new_name_at, new_place, column_at, columns_at, listed_at, places_at, placing_at, placing_by, index_at, indexes_at, lists_at, named_table_at, table_at, tables_at, catalog_at, each}
 use Rattle.catalog_text.specs.Text.{name_at}
 use Rattle.catalog_text.proofs.Differ.{new_text, new_number, place_of}
 use Rattle.catalog_text.proofs.Each.{each_read}
@@ -134,7 +134,7 @@ module _ (before : List TableInfo) (t : TableInfo) (h : IsTable t) (new : list_a
   placing_here = placing_read t.columns h.each_column h.differ (length before) t.placing h.placed
 
   table_by : (indexes : List (List ℕ)) → t.indexes ≡ indexes → table_at before (table_data t) ≡ Ok t
-  unfolding table_at
+  unfolding table_at named_table_at lists_at
   table_by [] e =
       rw (e, names_here, rows_here, columns_here, placing_here, no_indexes (length before) (names_of t.columns)) refl
   table_by (index ∷ indexes) e =
