@@ -2,6 +2,8 @@
 #![tactic(auto)]
 
 #[cfg(test)]
+mod gate_tests;
+#[cfg(test)]
 mod outcome_tests;
 #[cfg(test)]
 mod run_tests;

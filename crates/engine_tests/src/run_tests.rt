@@ -4,7 +4,7 @@ ghost use Rattle.std.specs.Prelude.{◌≤◌, ◌^◌};
 ghost use Rattle.request_props.specs.Numbered.{IsProps};
 
 use job_engine::{Engine, Outcome, RunNote, run_alone, run_crew};
-use orca_io::NoGate;
+use orca_io::{Gate, NoGate};
 use plan_tree::Answered;
 use query_core::Query;
 use request_props::Props;
@@ -90,20 +90,21 @@ pub fn find_alone(
     run_alone(alloc, engine, worker, note)
 }
 
-// What two workers find, with room for so many entries.
-fn find_by_two<R: Threads + Wait + Sync>(
+/// What two workers find that pass this gate, with room for so many entries.
+pub fn find_by_two<R: Threads + Wait + Sync, G: Gate>(
     rt: &R,
     alloc: Global,
     query: &Query,
     props: &Props,
     cap: u32,
+    gate: &G,
     note: &mut RunNote,
 ) -> Result<Outcome, AllocError>
     requires props { IsProps query.now props.now }
     requires capacity { (1 ≤ cap) × (cap ≤ 2 ^ 20) }
 {
     let (engine, worker) = Engine::start(alloc, query, props, cap)?;
-    run_crew(rt, alloc, engine, worker, 2, &NoGate, note)
+    run_crew(rt, alloc, engine, worker, 2, gate, note)
 }
 
 // Whether two members and eight goals were found, the root's among these, all by the first worker.
@@ -135,7 +136,7 @@ fn finds_by_two<R: Threads + Wait + Sync>(
 ) -> Result<bool, AllocError>
     requires { IsProps query.now props.now }
 {
-    let outcome = find_by_two(rt, alloc, query, props, 64, note)?;
+    let outcome = find_by_two(rt, alloc, query, props, 64, &NoGate, note)?;
     Ok(found_alike(alone, &outcome))
 }
 
@@ -189,7 +190,7 @@ fn ends_by_two<R: Threads + Wait + Sync>(
     requires props { IsProps query.now props.now }
     requires capacity { (1 ≤ cap) × (cap ≤ 2 ^ 20) }
 {
-    let outcome = find_by_two(rt, alloc, query, props, cap, &mut RunNote::new())?;
+    let outcome = find_by_two(rt, alloc, query, props, cap, &NoGate, &mut RunNote::new())?;
     Ok(is_done_or_full(&outcome, fits))
 }
 

@@ -2,7 +2,7 @@
 use crate::join_tests::JOINED;
 use crate::runs::{JOIN, PLAN, TWO_TABLES, run_over, shelf_of, text_at};
 use orca_cli::Status;
-use orca_io::MemSink;
+use orca_io::{MemSink, NoGate};
 use std::alloc::{AllocError, AllocGlobal};
 use std::process::Abort;
 use std::sync::Wait;
@@ -23,7 +23,7 @@ fn run_failing<R: Threads + Wait + Sync + AllocGlobal>(
     if let Some((call, kept)) = put {
         sink.fail_at(call, kept)?;
     }
-    let (status, _) = run_over(rt, PLAN, &mut shelf, &mut sink)?;
+    let (status, _) = run_over(rt, PLAN, &mut shelf, &mut sink, &NoGate)?;
     Ok((status, sink))
 }
 

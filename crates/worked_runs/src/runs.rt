@@ -1,6 +1,6 @@
 //! Runs of the top call over two files in memory.
 use orca_cli::{RunNote, Status, orca_run};
-use orca_io::{MemShelf, MemSink, NoGate};
+use orca_io::{Gate, MemShelf, MemSink, NoGate};
 use std::alloc::{AllocError, AllocGlobal, Global};
 use std::process::Abort;
 use std::sync::Wait;
@@ -90,7 +90,7 @@ pub fn answered<R: Threads + Wait + Sync + AllocGlobal>(
 ) -> Result<(Status, MemSink), AllocError> {
     let mut shelf = shelf_of(rt.alloc(), catalog, query)?;
     let mut sink = MemSink::with_room(rt.alloc(), 1 << 20)?;
-    let (status, _) = run_over(rt, line, &mut shelf, &mut sink)?;
+    let (status, _) = run_over(rt, line, &mut shelf, &mut sink, &NoGate)?;
     Ok((status, sink))
 }
 
@@ -194,16 +194,17 @@ pub fn assert_plans<R: Threads + Wait + Sync + AllocGlobal + Abort>(
     Ok(())
 }
 
-/// The status and the note of the words of a line over a shelf and a sink.
-pub fn run_over<R: Threads + Wait + Sync + AllocGlobal>(
+/// The status and the note of the words of a line over a shelf and a sink, whose workers pass the gate.
+pub fn run_over<R: Threads + Wait + Sync + AllocGlobal, G: Gate>(
     rt: &R,
     line: &str,
     shelf: &mut MemShelf,
     sink: &mut MemSink,
+    gate: &G,
 ) -> Result<(Status, Option<(u32, u32, u32)>), AllocError> {
     let words = words_of(rt.alloc(), line)?;
     let mut note = RunNote::new();
-    let status = orca_run(rt, rt.alloc(), &words, shelf, sink, &NoGate, &mut note);
+    let status = orca_run(rt, rt.alloc(), &words, shelf, sink, gate, &mut note);
     Ok((status, note.last()))
 }
 
@@ -247,5 +248,5 @@ pub fn noted<R: Threads + Wait + Sync + AllocGlobal>(
 ) -> Result<(Status, Option<(u32, u32, u32)>), AllocError> {
     let mut shelf = shelf_of(rt.alloc(), catalog, query)?;
     let mut sink = MemSink::with_room(rt.alloc(), 1 << 20)?;
-    run_over(rt, line, &mut shelf, &mut sink)
+    run_over(rt, line, &mut shelf, &mut sink, &NoGate)
 }
