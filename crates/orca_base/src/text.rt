@@ -1,4 +1,4 @@
-ghost use Rattle.std.specs.Prelude.{◌≡◌, [], ◌++◌, OnOk, OnErr, IfOk, string_bytes};
+ghost use Rattle.std.specs.Prelude.{◌≡◌, IfOk, string_bytes};
 
 use std::alloc::{AllocError, Global};
 use std::marker::Model;
@@ -18,27 +18,11 @@ impl Model for Text {
 }
 
 impl Text {
-    pub fn new(alloc: Global) -> Text
-        ensures { result ≡ [] }
-    {
-        Text {
-            text: String::new(alloc),
-        }
-    }
-
     /// The bytes of a string, moved.
     pub fn of(text: String) -> Text
         ensures { result ≡ string_bytes text }
     {
         Text { text }
-    }
-
-    /// Adds a part at the end.
-    pub fn push(&mut self, part: &str) -> Result<(), AllocError>
-        ensures ok { OnOk result (self.new ≡ self.old ++ part.now) }
-        ensures err { OnErr result (self.new ≡ self.old) }
-    {
-        self.text.push_str(part)
     }
 
     pub fn copy(&self, alloc: Global) -> Result<Text, AllocError>
