@@ -7,7 +7,7 @@ use Rattle.std.proofs.Math.Nat.{pow-le-pow_right}
 use Rattle.std.proofs.lemmas.Bool.{cases_lt, eqb-true, ne_eqb, cond_both}
 use Rattle.query_core.specs.Sets.{is_several}
 use Rattle.query_core.specs.Connected.{IsConnected}
-use Rattle.query_core.specs.Keys.{key_number, IsInRange, IsGroup, Names, IsKey, has_own, alone, top_of}
+use Rattle.query_core.specs.Keys.{key_number, IsInRange, IsGroup, Names, IsKey, has_own, group_of_table, top_of}
 use Rattle.query_core.specs.declared.query.Query.{Query}
 use Rattle.query_core.specs.declared.words.Key.{Key}
 use Rattle.query_core.specs.declared.words.KeyParts.{KeyParts}
@@ -64,7 +64,7 @@ top_group q set some of_tables connected =
     exponent_lt least (length q.tables) (subst (λ x. x < 2 ^ length q.tables) (eqb-true set (2 ^ least) same) of_tables) in
     let several : (set == 2 ^ least) ≡ false → IsTrue (is_several set) = λ differs.
     rw (ne_eqb set 0 (λ none. omega (arith, none, some)), differs) refl in
-    cond_both (set == 2 ^ least) (Some least) None (λ o. IsGroup q (option_map_or (alone q) o (Join set)))
+    cond_both (set == 2 ^ least) (Some least) None (λ o. IsGroup q (option_map_or (group_of_table q) o (Join set)))
     (λ same. cond_both (has_own q least) (Filter least) (Get least) (IsGroup q) (λ own. (there same, own)) (λ none. there same))
     (λ differs. (of_tables, several differs, connected))
 

@@ -6,7 +6,7 @@ use Rattle.std.specs.Int.{trailing_zeros, w32}
 use Rattle.std.proofs.lemmas.Bool.{eqb-true, cond_both}
 use Rattle.std.proofs.lemmas.Nat.{le_or_l, le_or_r}
 use Rattle.query_core.specs.Sets.{bit}
-use Rattle.query_core.specs.Keys.{key_number, IsInRange, has_own, alone, top_of, tables_of}
+use Rattle.query_core.specs.Keys.{key_number, IsInRange, has_own, group_of_table, top_of, tables_of}
 use Rattle.query_core.specs.Expressions.{FallsInto}
 use Rattle.query_core.specs.declared.query.Query.{Query}
 use Rattle.query_core.specs.declared.words.KeyParts.{KeyParts}
@@ -18,7 +18,7 @@ use Rattle.query_core.proofs.GroupLemmas.{key_one, exponent_lt}
 pub tables_top : (q : Query) (set : ℕ) → tables_of (top_of q set) ≡ set
 tables_top q set =
     let least = trailing_zeros w32 set in
-    cond_both (set == 2 ^ least) (Some least) None (λ o. tables_of (option_map_or (alone q) o (Join set)) ≡ set)
+    cond_both (set == 2 ^ least) (Some least) None (λ o. tables_of (option_map_or (group_of_table q) o (Join set)) ≡ set)
     (λ same. cond_both (has_own q least) (Filter least) (Get least) (λ g. tables_of g ≡ set)
     (λ own. sym (eqb-true set (2 ^ least) same)) (λ none. sym (eqb-true set (2 ^ least) same)))
     (λ differs. refl)
@@ -28,7 +28,7 @@ pub top_in_range : (q : Query) (set : ℕ) → set < 1024 → IsInRange (top_of 
 top_in_range q set small =
     let least = trailing_zeros w32 set in
     let there : (set == 2 ^ least) ≡ true → least < 10 = λ same. exponent_lt least 10 (subst (λ x. x < 2 ^ 10) (eqb-true set (2 ^ least) same) small) in
-    cond_both (set == 2 ^ least) (Some least) None (λ o. IsInRange (option_map_or (alone q) o (Join set)))
+    cond_both (set == 2 ^ least) (Some least) None (λ o. IsInRange (option_map_or (group_of_table q) o (Join set)))
     (λ same. cond_both (has_own q least) (Filter least) (Get least) IsInRange (λ own. there same) (λ none. there same))
     (λ differs. small)
 
@@ -63,7 +63,7 @@ pub key_top_small : (q : Query) (set : ℕ) → set < 1024 → key_number (top_o
 key_top_small q set small =
     let least = trailing_zeros w32 set in
     let there : (set == 2 ^ least) ≡ true → least < 10 = λ same. exponent_lt least 10 (subst (λ x. x < 2 ^ 10) (eqb-true set (2 ^ least) same) small) in
-    cond_both (set == 2 ^ least) (Some least) None (λ o. key_number (option_map_or (alone q) o (Join set)) < 2048)
+    cond_both (set == 2 ^ least) (Some least) None (λ o. key_number (option_map_or (group_of_table q) o (Join set)) < 2048)
     (λ same. cond_both (has_own q least) (Filter least) (Get least) (λ g. key_number g < 2048)
     (λ own. omega (arith, there same)) (λ none. omega (arith, there same)))
     (λ differs. omega (arith, small))

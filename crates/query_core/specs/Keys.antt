@@ -62,12 +62,12 @@ abbrev pub IsKey : Query → Key → Type 0
 IsKey q key = (group : KeyParts) × Names q key group
 
 -- the group of one table: where it has own predicates these are applied
-abbrev pub alone : Query → ℕ → KeyParts
-alone q t = if has_own q t then Filter t else Get t
+abbrev pub group_of_table : Query → ℕ → KeyParts
+group_of_table q t = if has_own q t then Filter t else Get t
 
 -- the group that joins the tables of a set
 abbrev pub top_of : Query → ℕ → KeyParts
-top_of q set = option_map_or (alone q) (only_of set) (Join set)
+top_of q set = option_map_or (group_of_table q) (only_of set) (Join set)
 
 -- the tables of a group that joins tables
 abbrev pub tables_of : KeyParts → ℕ

@@ -4,7 +4,7 @@
 ghost use Rattle.std.specs.Prelude.{◌≡◌, ◌<◌, ◌^◌, IsTrue, ◌↔◌, length};
 ghost use Rattle.query_core.specs.Connected.{IsConnected, AreLinked};
 ghost use Rattle.query_core.specs.Items.{is_column_of as column_of};
-ghost use Rattle.query_core.specs.Keys.{is_own, has_own, lies_in, IsGroup, IsKey, Names, top_of as group_of_set, input_of, root_of, alone as group_of_table, is_column_in, is_grouped_by, is_aggregate, key_number, has_item as holds_item};
+ghost use Rattle.query_core.specs.Keys.{is_own, has_own, lies_in, IsGroup, IsKey, Names, top_of, input_of, root_of, group_of_table, is_column_in, is_grouped_by, is_aggregate, key_number, has_item as holds_item};
 
 use crate::predicate::{Operand, Pred};
 use crate::query::Query;
@@ -34,16 +34,6 @@ impl Query {
         ensures { IsTrue result ↔ AreLinked self.now.links a b }
     {
         connected::linked(self.links.as_slice(), a, b)
-    }
-
-    /// The key of the group that joins the tables of the set.
-    pub fn top(&self, mask: u32) -> Key
-        requires some { 0 < mask }
-        requires of_tables { mask < 2 ^ length self.now.tables }
-        requires connected { IsConnected self.now.links mask }
-        ensures { Names self.now result (group_of_set self.now mask) }
-    {
-        Key::make(self.top_group(mask))
     }
 
     /// The key of the whole query's group.
@@ -139,15 +129,16 @@ impl Query {
 
     /// The group that joins the tables of the set.
     pub fn top_group(&self, set: u32) -> KeyParts
-        ensures { result ≡ group_of_set self.now set }
+        ensures { result ≡ top_of self.now set }
     {
         match sets::only(set) {
-            Some(table) => self.alone(table),
+            Some(table) => self.table_group(table),
             None => KeyParts::Join(set),
         }
     }
 
-    fn alone(&self, table: u32) -> KeyParts
+    // The group of one table: where it has own predicates these are applied.
+    fn table_group(&self, table: u32) -> KeyParts
         ensures { result ≡ group_of_table self.now table }
     {
         if self.has_own(table) {

@@ -90,7 +90,9 @@ impl Query {
         }
     }
 
-    fn has_index(&self, table: u32, index: u32) -> bool
+    /// Whether the query's table has an index of this number. Indexes are numbered in the order
+    /// in which the catalogue lists them.
+    pub fn has_index(&self, table: u32, index: u32) -> bool
         ensures { IsTrue result ↔ HasIndex self.now table index }
     {
         (index as usize) < self.index_count(table)

@@ -1,7 +1,7 @@
 //! Keys as numbers. Nothing else packs or unpacks a key.
 #![tactic(auto)]
 
-ghost use Rattle.std.specs.Prelude.{◌≡◌, ◌<◌, ◌^◌, MatchOption};
+ghost use Rattle.std.specs.Prelude.{◌≡◌, ◌<◌, ◌^◌, ◌↔◌, IsTrue, MatchOption};
 ghost use Rattle.query_core.specs.Keys.{key_number, tables_of, IsInRange};
 
 use crate::sets;
@@ -50,6 +50,19 @@ impl Key {
 }
 
 impl KeyParts {
+    /// Whether a key can name the group, which needn't be one of a query's.
+    pub fn is_in_range(self) -> bool
+        ensures { IsTrue result ↔ IsInRange self }
+    {
+        match self {
+            KeyParts::Get(table) => table < 10,
+            KeyParts::Filter(table) => table < 10,
+            KeyParts::Join(set) => set < 1024,
+            KeyParts::Partial => true,
+            KeyParts::Agg => true,
+        }
+    }
+
     /// The tables that the group joins. A group of GROUP BY joins none.
     pub fn tables(self) -> u32
         requires { IsInRange self }
