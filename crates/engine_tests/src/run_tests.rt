@@ -5,7 +5,6 @@ ghost use Rattle.request_props.specs.Numbered.{IsProps};
 
 use job_engine::{Engine, Outcome, RunNote, run_alone, run_crew};
 use orca_io::{Gate, NoGate};
-use plan_tree::Answered;
 use query_core::Query;
 use request_props::Props;
 use std::alloc::{AllocError, Global};
@@ -19,16 +18,6 @@ type Noted = Option<(u32, u32, u32)>;
 
 // The word of the goal Opt Get(t) [One]: kind 5, key 0, request 0.
 const ROOT: u64 = 13 << 60;
-
-// Whether the answers are to the same goals, and tell the same of each.
-fn are_alike(answers: &[Answered], others: &[Answered]) -> bool {
-    for (told, other) in answers.iter().zip(others.iter()) {
-        if told.goal != other.goal || told.node != other.node || told.cost != other.cost {
-            return false;
-        }
-    }
-    answers.len() == others.len()
-}
 
 // Whether both searches found the same members, goals and answers.
 pub fn found_alike(one: &Outcome, other: &Outcome) -> bool {
@@ -49,7 +38,7 @@ pub fn found_alike(one: &Outcome, other: &Outcome) -> bool {
         ) => {
             members.as_slice() == same_members.as_slice()
                 && goals.as_slice() == same_goals.as_slice()
-                && are_alike(answers.list.as_slice(), same_answers.list.as_slice())
+                && answers.list.as_slice() == same_answers.list.as_slice()
         }
         _ => false,
     }

@@ -8,7 +8,8 @@ use Rattle.query_core.specs.declared.query.Query.{Query}
 use Rattle.goal_space.specs.Words.{goal_word, IsInRange}
 use Rattle.goal_space.specs.declared.goals.GoalKind.{GoalKind}
 use Rattle.goal_children.specs.Children.{AreChildren, IsChildIn}
-use Rattle.goal_children.specs.Finding.{AppendsGoals, AreRising, InsertsGoals}
+use Rattle.goal_children.specs.Finding.{AppendsGoals, InsertsGoals}
+use Rattle.goal_children.specs.GoalLists.{AreRising}
 use Rattle.goal_children.proofs.Collecting.{collects_as, collects_both, collects_nothing, collects_one}
 use Rattle.goal_children.proofs.OneList.{goal_of_word}
 

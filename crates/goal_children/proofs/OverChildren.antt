@@ -30,14 +30,14 @@ module _ (q : Query) (group_below : (e : ExprParts) (g : KeyParts) → IsCandida
   child_over words (Exp group) child over (e, is_in, is) = of_group (ExpE e) child is (record { of_candidate = is_in.member.candidate; numbered = tt })
   child_over words (ExpE e) child over (inl (group, below, is)) =
       of_group (Exp group) child is (record { of_candidate = group_below e group over.of_candidate below; numbered = tt })
-  child_over words (ExpE e) child over (inr (rule, kind, applies, is)) = of_group (Xf e rule) child is (record { of_candidate = over.of_candidate; numbered = tt })
+  child_over words (ExpE e) child over (inr (rule, (kind, applies), is)) = of_group (Xf e rule) child is (record { of_candidate = over.of_candidate; numbered = tt })
   child_over words (Xf e rule) child over (group, associates, left, is) =
       of_group (Exp group) child is (record { of_candidate = group_below e group over.of_candidate (left_child (children_of e.operator) group left); numbered = tt })
   child_over words (Imp group) child over (inl is) = of_group (Exp group) child is (record { of_candidate = over.of_candidate; numbered = tt })
   child_over words (Imp group) child over (inr (e, is_in, is)) = of_group (ImpE e) child is (record { of_candidate = is_in.member.candidate; numbered = tt })
   child_over words (ImpE e) child over (inl (group, below, is)) =
       of_group (Imp group) child is (record { of_candidate = group_below e group over.of_candidate below; numbered = tt })
-  child_over words (ImpE e) child over (inr (rule, kind, applies, is)) = of_group (Xf e rule) child is (record { of_candidate = over.of_candidate; numbered = tt })
+  child_over words (ImpE e) child over (inr (rule, (kind, applies), is)) = of_group (Xf e rule) child is (record { of_candidate = over.of_candidate; numbered = tt })
   child_over words (Opt group wanted) child over (inl is) = of_group (Imp group) child is (record { of_candidate = over.of_candidate; numbered = tt })
   child_over words (Opt group wanted) child over (inr (inl (e, can, is))) =
       of_group (OptE e wanted) child is (record { of_candidate = can.member.candidate; numbered = over.numbered })

@@ -1,19 +1,19 @@
 -- How the next child is found, the least word of each kind of child and of several kinds; and how kinds of children come to a list.
 use Rattle.std.specs.Prelude.{ℕ, ◌≡◌, ◌<◌, ◌≤◌, ◌⊎◌, ◌↔◌, List, All, Option, None, Some, map, nat_lt, if◌then◌else◌}
 use Rattle.std.specs.List.{Contains}
-use Rattle.std.specs.List.Sorted.{IsStrictlyIncreasing}
 use Rattle.query_core.specs.declared.query.Query.{Query}
 use Rattle.query_core.specs.declared.words.KeyParts.{KeyParts}
 use Rattle.query_core.specs.declared.expressions.Children.{Children}
 use Rattle.query_core.specs.declared.expressions.ExprParts.{ExprParts}
 use Rattle.query_core.specs.declared.expressions.PhysicalExpr.{PhysicalExpr}
+use Rattle.xform_rules.specs.Rules.{binds}
 use Rattle.xform_rules.specs.declared.rules.Rule.{Rule}
-use Rattle.xform_rules.specs.declared.rules.Rule.TheVariants.{JoinAssociate}
 use Rattle.goal_space.specs.Words.{goal_word, IsInRange}
 use Rattle.goal_space.specs.Children.{IsLeft, IsLogicalIn, CanServe, IsListedIn}
 use Rattle.goal_space.specs.Phases.{phase_goal_of_expr}
 use Rattle.goal_space.specs.declared.goals.GoalKind.{GoalKind}
 use Rattle.goal_space.specs.declared.goals.GoalKind.TheVariants.{Exp, OptE}
+use Rattle.goal_children.specs.GoalLists.{AreRising}
 use Rattle.goal_children.specs.declared.jobs.MemberJob.{MemberJob}
 use Rattle.goal_children.specs.declared.jobs.MemberJob.TheVariants.{Transform, Serve}
 
@@ -38,10 +38,6 @@ sooner_of (Some a) None = Some a
 sooner_of (Some a) (Some b) = if nat_lt (goal_word b) (goal_word a) then Some b else Some a
 
 -- ---- goals that come to a list
-
--- the words of the goals rise
-abbrev pub AreRising : List GoalKind → Type 0
-AreRising goals = IsStrictlyIncreasing (map goal_word goals)
 
 -- the goals of the kind have greater words than those of the list
 abbrev pub AreBehind : (GoalKind → Type 0) → List GoalKind → Type 0
@@ -70,7 +66,7 @@ IsOfLeftGroup children goal = (group : KeyParts) × IsLeft children group × (go
 
 -- the goal of the left group, where the rule binds a member of it
 abbrev pub IsOfLeft : ExprParts → Rule → Children → GoalKind → Type 0
-IsOfLeft e rule children goal = (group : KeyParts) × (rule ≡ JoinAssociate) × IsLeft children group × (goal ≡ Exp group)
+IsOfLeft e rule children goal = (group : KeyParts) × IsTrue (binds rule) × IsLeft children group × (goal ≡ Exp group)
 
 -- the goal of a job of a member of the group
 abbrev pub IsOfMembers : Query → List ℕ → KeyParts → MemberJob → GoalKind → Type 0

@@ -1,9 +1,13 @@
 -- Goals by their words.
 use Rattle.std.specs.Prelude.{ℕ, ◌≡◌, ◌<◌, ◌≤◌, List, All, get_or, length, map}
 use Rattle.std.specs.List.{Contains}
+use Rattle.std.specs.List.Sorted.{IsStrictlyIncreasing}
 use Rattle.goal_space.specs.Words.{goal_word, HasWord, IsInRange}
 use Rattle.goal_space.specs.declared.goals.GoalKind.{GoalKind}
-use Rattle.goal_children.specs.Finding.{AreRising}
+
+-- the words of the goals rise
+abbrev pub AreRising : List GoalKind → Type 0
+AreRising goals = IsStrictlyIncreasing (map goal_word goals)
 
 -- the word is that of a goal
 abbrev pub IsWordOfGoal : ℕ → Type 0

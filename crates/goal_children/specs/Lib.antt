@@ -1,10 +1,10 @@
 pub mod Over
 pub mod Memo
 pub mod Children
+pub mod GoalLists
 pub mod Finding
 pub mod MemberJobs
 pub mod Choices
 pub mod Laws
 pub mod Listed
-pub mod GoalLists
 pub mod GroupMembers

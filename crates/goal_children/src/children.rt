@@ -72,8 +72,8 @@ fn nth_child(memo: Memo<'_>, goal: GoalKind, n: u32) -> Option<Goal>
     None
 }
 
-/// The child of the least word, over the listed members; behind that of a goal, where one is given.
-pub fn next_child(
+// The child of the least word, over the listed members; behind that of a goal, where one is given.
+fn next_child(
     query: &Query,
     props: &Props,
     members: &[u64],

@@ -4,9 +4,8 @@
 ghost use Rattle.std.specs.Prelude.{◌≡◌, ◌↔◌, IsTrue, OnOk};
 ghost use Rattle.std.specs.List.{All};
 ghost use Rattle.query_core.specs.Expressions.{children_of, AreInRange, IsCandidate, IsPacked};
-ghost use Rattle.goal_space.specs.Children.{IsRuleAt};
 ghost use Rattle.goal_space.specs.Words.{IsInRange};
-ghost use Rattle.goal_space.specs.Phases.{does_explore, IsOfExpression, IsOfGroups, IsOfRule};
+ghost use Rattle.goal_space.specs.Phases.{IsOfExpression, IsOfGroups, IsOfRule, IsRuleAt};
 ghost use Rattle.goal_children.specs.Finding.{FindsFrom, InsertsGoals, IsOfLeft, IsOfLeftGroup};
 
 use crate::finding::{goal_from, sooner};
@@ -34,7 +33,7 @@ pub fn group_goal_from(phase: Phase, children: Children, bound: u64) -> Option<G
 /// The first goal of the rules of the phase that apply to the expression, from the bound on.
 pub fn rule_goal_from(query: &Query, phase: Phase, e: ExprParts, bound: u64) -> Option<GoalKind>
     requires { IsPacked e }
-    ensures { FindsFrom (IsRuleAt query.now (does_explore phase) e) bound result }
+    ensures { FindsFrom (IsRuleAt query.now phase e) bound result }
 {
     let rules = Rule::all();
     let mut next = None;
@@ -49,7 +48,7 @@ pub fn left_goal_from(e: ExprParts, rule: Rule, bound: u64) -> Option<GoalKind>
     requires { AreInRange (children_of e.operator) }
     ensures { FindsFrom (IsOfLeft e rule (children_of e.operator)) bound result }
 {
-    if rule != Rule::JoinAssociate {
+    if !rule.binds() {
         return None;
     }
     match e.children() {
@@ -68,7 +67,7 @@ fn goal_of_rule(
     bound: u64,
 ) -> Option<GoalKind>
     requires { IsPacked e }
-    ensures { FindsFrom (IsOfRule query.now (does_explore phase) e rule) bound result }
+    ensures { FindsFrom (IsOfRule query.now phase e rule) bound result }
 {
     if phase.tries(query, e, rule) {
         goal_from(GoalKind::Xf(e, rule), bound)
@@ -125,7 +124,7 @@ fn insert_rules(
     requires packed { IsPacked e }
     requires listed { All IsInRange goals.old.items }
     ensures ok { OnOk result
-        (InsertsGoals (IsRuleAt query.now (does_explore phase) e) goals.old.items goals.new.items) }
+        (InsertsGoals (IsRuleAt query.now phase e) goals.old.items goals.new.items) }
 {
     let rules = Rule::all();
     for rule in &rules {
@@ -145,7 +144,7 @@ fn insert_rule(
     requires packed { IsPacked e }
     requires listed { All IsInRange goals.old.items }
     ensures ok { OnOk result
-        (InsertsGoals (IsOfRule query.now (does_explore phase) e rule) goals.old.items goals.new.items) }
+        (InsertsGoals (IsOfRule query.now phase e rule) goals.old.items goals.new.items) }
 {
     if phase.tries(query, e, rule) {
         insert_goal(GoalKind::Xf(e, rule), goals)
@@ -161,7 +160,7 @@ pub fn insert_left(e: ExprParts, rule: Rule, goals: &mut Vec<GoalKind>) -> Resul
     ensures ok { OnOk result
         (InsertsGoals (IsOfLeft e rule (children_of e.operator)) goals.old.items goals.new.items) }
 {
-    if associates(rule) {
+    if rule.binds() {
         insert_left_group(e.children(), goals)
     } else {
         Ok(())
@@ -179,11 +178,4 @@ fn insert_left_group(children: Children, goals: &mut Vec<GoalKind>) -> Result<()
         Children::One(child) => insert_goal(GoalKind::Exp(child), goals),
         Children::Two(left, _) => insert_goal(GoalKind::Exp(left), goals),
     }
-}
-
-// Whether the rule binds a member of the left group.
-fn associates(rule: Rule) -> bool
-    ensures { IsTrue result ↔ (rule ≡ Rule.JoinAssociate) }
-{
-    rule == Rule::JoinAssociate
 }

@@ -14,7 +14,7 @@ mod members;
 mod memo;
 mod words;
 
-pub use children::{child, next_child};
+pub use children::child;
 pub use finding::known_goal;
 pub use group_members::{GroupMembers, put_expressions};
 pub use laws::{

@@ -58,7 +58,7 @@ module _ (q : Query) (group : KeyParts) (is_goal : IsGoal q (Exp group)) (
     goal = ExpE e;
     other = Xf e leads.rule;
     names = record { is_goal = explored_goal e is_in; number = refl };
-    is_child = inr (leads.rule, leads.exploring, leads.applies, refl);
+    is_child = inr (leads.rule, (leads.exploring, leads.applies), refl);
     number = refl;
   }
 
@@ -66,7 +66,7 @@ module _ (q : Query) (group : KeyParts) (is_goal : IsGoal q (Exp group)) (
   rule_asks e other is_in leads = record {
     goal = Xf e leads.rule;
     member = other;
-    names = record { is_goal = child_goal (ExpE e) (Xf e leads.rule) (explored_goal e is_in) (inr (leads.rule, leads.exploring, leads.applies, refl)); number = refl };
+    names = record { is_goal = child_goal (ExpE e) (Xf e leads.rule) (explored_goal e is_in) (inr (leads.rule, (leads.exploring, leads.applies), refl)); number = refl };
     asks = (other, leads.is_result, inl refl);
     number = refl;
   }

@@ -8,7 +8,7 @@ use Rattle.std.proofs.lemmas.Nat.{le_or_l, le_or_r}
 use Rattle.std.proofs.lemmas.Nat.Bits.{bit_at-lt}
 use Rattle.std.proofs.Math.Nat.{pow-le-pow_right}
 use Rattle.query_core.specs.Sets.{bit}
-use Rattle.query_core.specs.Keys.{has_own, alone, top_of, input_of, IsGroup}
+use Rattle.query_core.specs.Keys.{has_own, group_of_table, top_of, input_of, IsGroup}
 use Rattle.query_core.specs.Expressions.{children_of, FallsInto, IsChild, IsCandidate, IsJoin, IsFiltered, IsAggregated, IsPartial, HasShape}
 use Rattle.query_core.specs.declared.query.Query.{Query}
 use Rattle.query_core.specs.declared.words.KeyParts.{KeyParts}
@@ -54,7 +54,7 @@ near_table t small = elim (cases_lt t 10) [
 -- ---- levels of the groups of sets
 
 -- the group of one table has level 1 or 2
-alone_level : (q : Query) (t : ℕ) → level_of (alone q t) ≤ 2
+alone_level : (q : Query) (t : ℕ) → level_of (group_of_table q t) ≤ 2
 alone_level q t = elim (has_own q t) as (λ (own : Bool). level_of (if own then groups.Filter t else groups.Get t) ≤ 2) [
   | true ↦ omega arith
   | false ↦ omega arith
@@ -62,7 +62,7 @@ alone_level q t = elim (has_own q t) as (λ (own : Bool). level_of (if own then 
 
 -- the group of a set has no higher level than 1 and its number of tables, or than 2
 side_by : (q : Query) (a t count : ℕ) (single : Bool) → (single ≡ true → a ≡ 2 ^ t) → a < 1024 → table_count a < count
-    → level_of (option_map_or (alone q) (if single then Some t else None) (groups.Join a)) < 1 + count
+    → level_of (option_map_or (group_of_table q) (if single then Some t else None) (groups.Join a)) < 1 + count
 side_by q a t count true same small fewer =
     let is = same refl in
     let one : table_count a ≡ 1 = ap table_count is ∙ one_table t (near_table t (subst (λ (x : ℕ). x < 1024) is small)) in

@@ -1,5 +1,5 @@
 -- The children of a goal, which have to be finished before it: the table, one row a kind of goal.
-use Rattle.std.specs.Prelude.{ℕ, Bool, true, false, ◌≡◌, ◌⊎◌, IsTrue, List, [], ◌∷◌}
+use Rattle.std.specs.Prelude.{ℕ, ◌≡◌, ◌⊎◌, IsTrue, List, [], ◌∷◌}
 use Rattle.std.specs.List.{Contains}
 use Rattle.query_core.specs.Expressions.{children_of, physical_children, expr_of, is_logical, word_of, IsCandidate, IsChild}
 use Rattle.query_core.specs.declared.query.Query.{Query}
@@ -8,10 +8,7 @@ use Rattle.query_core.specs.declared.expressions.Children.{Children}
 use Rattle.query_core.specs.declared.expressions.Children.TheVariants as arities
 use Rattle.query_core.specs.declared.expressions.ExprParts.{ExprParts}
 use Rattle.query_core.specs.declared.expressions.PhysicalExpr.{PhysicalExpr}
-use Rattle.xform_rules.specs.Rules.{explores}
-use Rattle.xform_rules.specs.Results.{Applies}
-use Rattle.xform_rules.specs.declared.rules.Rule.{Rule}
-use Rattle.xform_rules.specs.declared.rules.Rule.TheVariants.{JoinAssociate}
+use Rattle.xform_rules.specs.Rules.{binds}
 use Rattle.request_props.specs.declared.request.Request.{Request}
 use Rattle.plan_space.specs.Choices.{groups_of}
 use Rattle.plan_space.specs.Alternatives.{IsAlternative, asked_of}
@@ -19,8 +16,10 @@ use Rattle.plan_space.specs.Enforcers.{EnforcedBy, enforcers_of, Among}
 use Rattle.plan_space.specs.declared.lines.Line.{Line}
 use Rattle.plan_tree.specs.Alternatives.{HasAlternative}
 use Rattle.plan_tree.specs.Enforcers.{LiesIn}
+use Rattle.goal_space.specs.Phases.{IsRuleAt}
 use Rattle.goal_space.specs.declared.goals.GoalKind.{GoalKind}
 use Rattle.goal_space.specs.declared.goals.GoalKind.TheVariants.{Exp, ExpE, Xf, Imp, ImpE, Opt, OptE}
+use Rattle.goal_space.specs.declared.phase.Phase.TheVariants.{Exploration, Implementation}
 
 -- the group is the first child
 abbrev pub IsLeft : Children → KeyParts → Type 0
@@ -59,23 +58,19 @@ pub record AsksOf (q : Query) (e : PhysicalExpr) (wanted : Request) (group : Key
   pub is_alternative : IsAlternative q e wanted mode line
   pub is_asked : IsAsked (groups_of (physical_children e.operator)) (asked_of line wanted) group below
 
--- a rule at the expression, one that explores or one that doesn't
-abbrev pub IsRuleAt : Query → Bool → ExprParts → GoalKind → Type 0
-IsRuleAt q exploring e child = (rule : Rule) × (explores rule ≡ exploring) × Applies q rule e × (child ≡ Xf e rule)
-
 -- the second goal is a child of the first, over these members
 abbrev pub IsChildGoal : (ExprParts → Type 0) → Query → GoalKind → GoalKind → Type 0
 IsChildGoal Member q (Exp group) child = (e : ExprParts) × IsLogicalIn Member group e × (child ≡ ExpE e)
 IsChildGoal Member q (ExpE e) child =
     ((group : KeyParts) × IsChild (children_of e.operator) group × (child ≡ Exp group))
-    ⊎ IsRuleAt q true e child
-IsChildGoal Member q (Xf e rule) child = (group : KeyParts) × (rule ≡ JoinAssociate) × IsLeft (children_of e.operator) group × (child ≡ Exp group)
+    ⊎ IsRuleAt q Exploration e child
+IsChildGoal Member q (Xf e rule) child = (group : KeyParts) × IsTrue (binds rule) × IsLeft (children_of e.operator) group × (child ≡ Exp group)
 IsChildGoal Member q (Imp group) child =
     (child ≡ Exp group)
     ⊎ ((e : ExprParts) × IsLogicalIn Member group e × (child ≡ ImpE e))
 IsChildGoal Member q (ImpE e) child =
     ((group : KeyParts) × IsChild (children_of e.operator) group × (child ≡ Imp group))
-    ⊎ IsRuleAt q false e child
+    ⊎ IsRuleAt q Implementation e child
 IsChildGoal Member q (Opt group wanted) child =
     (child ≡ Imp group)
     ⊎ (((e : PhysicalExpr) × CanServe Member q group wanted e × (child ≡ OptE e wanted))

@@ -1,6 +1,6 @@
 pub mod Words
-pub mod Children
 pub mod Phases
+pub mod Children
 pub mod Goals
 pub mod Ranks
 pub mod Asked

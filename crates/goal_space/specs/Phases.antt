@@ -8,7 +8,6 @@ use Rattle.query_core.specs.declared.expressions.ExprParts.{ExprParts}
 use Rattle.xform_rules.specs.Rules.{explores}
 use Rattle.xform_rules.specs.Results.{Applies}
 use Rattle.xform_rules.specs.declared.rules.Rule.{Rule}
-use Rattle.goal_space.specs.Children.{IsRuleAt}
 use Rattle.goal_space.specs.declared.goals.GoalKind.{GoalKind}
 use Rattle.goal_space.specs.declared.goals.GoalKind.TheVariants.{Exp, ExpE, Xf, Imp, ImpE}
 use Rattle.goal_space.specs.declared.phase.Phase.{Phase}
@@ -33,14 +32,18 @@ does_explore Implementation = false
 abbrev pub IsOfGroups : Phase → Children → GoalKind → Type 0
 IsOfGroups phase children goal = (group : KeyParts) × IsChild children group × (goal ≡ phase_goal_of_group phase group)
 
--- the rule explores, or doesn't, and applies to the expression
-abbrev pub IsTried : Query → Bool → ExprParts → Rule → Type 0
-IsTried q exploring e rule = (explores rule ≡ exploring) × Applies q rule e
+-- the rule is one of the phase, and applies to the expression
+abbrev pub IsTried : Query → Phase → ExprParts → Rule → Type 0
+IsTried q phase e rule = (explores rule ≡ does_explore phase) × Applies q rule e
 
--- the goal of one rule at the expression, if it is tried
-abbrev pub IsOfRule : Query → Bool → ExprParts → Rule → GoalKind → Type 0
-IsOfRule q exploring e rule goal = (explores rule ≡ exploring) × Applies q rule e × (goal ≡ Xf e rule)
+-- the goal of one rule at the expression, if it is tried there
+abbrev pub IsOfRule : Query → Phase → ExprParts → Rule → GoalKind → Type 0
+IsOfRule q phase e rule goal = IsTried q phase e rule × (goal ≡ Xf e rule)
+
+-- the goal of some rule of the phase at the expression
+abbrev pub IsRuleAt : Query → Phase → ExprParts → GoalKind → Type 0
+IsRuleAt q phase e goal = (rule : Rule) × IsOfRule q phase e rule goal
 
 -- a child of the goal of an expression in a phase
 abbrev pub IsOfExpression : Query → Phase → ExprParts → GoalKind → Type 0
-IsOfExpression q phase e goal = IsOfGroups phase (children_of e.operator) goal ⊎ IsRuleAt q (does_explore phase) e goal
+IsOfExpression q phase e goal = IsOfGroups phase (children_of e.operator) goal ⊎ IsRuleAt q phase e goal

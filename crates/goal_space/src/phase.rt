@@ -48,7 +48,7 @@ impl Phase {
 
     /// Whether the rule is one of its rules, and applies to the expression.
     pub fn tries(self, query: &Query, e: ExprParts, rule: Rule) -> bool
-        ensures { IsTrue result ↔ IsTried query.now (does_explore self) e rule }
+        ensures { IsTrue result ↔ IsTried query.now self e rule }
     {
         rule.explores() == self.explores() && applies_at(query, rule, e)
     }

@@ -17,8 +17,8 @@ use Rattle.board_moves.proofs.Shown.{still_finished}
 use Rattle.board_moves.proofs.MovesLemmas.{proceeds_none, proceeds_then, later_proceeded, runs_out_then}
 use Rattle.board_moves.proofs.Children.{awaited}
 use Rattle.goal_space.specs.Words.{goal_word}
-use Rattle.goal_space.specs.Children.{IsRuleAt}
-use Rattle.goal_space.specs.Phases.{IsOfRule}
+use Rattle.goal_space.specs.Phases.{IsOfRule, IsRuleAt}
+use Rattle.goal_space.specs.declared.phase.Phase.{Phase}
 use Rattle.goal_space.specs.Entries.{IsChildWord}
 use Rattle.goal_space.specs.declared.goals.GoalKind.{GoalKind}
 use Rattle.goal_rules.specs.Meaning.{meaning_of}
@@ -74,19 +74,19 @@ pub none_is : (other : GoalKind) (found : Option GoalKind) → found ≡ None �
 none_is other found is also = let bad : ⊥ = cc in bad
 
 -- the goal of a rule that stands before a place in the list
-abbrev pub IsRuleBefore : Query → Bool → ExprParts → List Rule → ℕ → GoalKind → Type 0
-IsRuleBefore q exploring e rules place child = (k : ℕ) × (k < place) × IsOfRule q exploring e (get_or rules k ExpandNAry) child
+abbrev pub IsRuleBefore : Query → Phase → ExprParts → List Rule → ℕ → GoalKind → Type 0
+IsRuleBefore q phase e rules place child = (k : ℕ) × (k < place) × IsOfRule q phase e (get_or rules k ExpandNAry) child
 
 -- one rule more
-pub rule_more : (q : Query) (exploring : Bool) (e : ExprParts) (rules : List Rule) (place : ℕ) (child : GoalKind) → IsRuleBefore q exploring e rules (place + 1) child
-    → IsRuleBefore q exploring e rules place child ⊎ IsOfRule q exploring e (get_or rules place ExpandNAry) child
-rule_more q exploring e rules place child (k, below, is) =
+pub rule_more : (q : Query) (phase : Phase) (e : ExprParts) (rules : List Rule) (place : ℕ) (child : GoalKind) → IsRuleBefore q phase e rules (place + 1) child
+    → IsRuleBefore q phase e rules place child ⊎ IsOfRule q phase e (get_or rules place ExpandNAry) child
+rule_more q phase e rules place child (k, below, is) =
     ⊎_elim (λ (less : k < place). inl (k, less, is))
-    (λ (most : place ≤ k). let same : k ≡ place = omega arith in inr (subst (λ i. IsOfRule q exploring e (get_or rules i ExpandNAry) child) same is)) (cases_lt k place)
+    (λ (most : place ≤ k). let same : k ≡ place = omega arith in inr (subst (λ i. IsOfRule q phase e (get_or rules i ExpandNAry) child) same is)) (cases_lt k place)
 
 -- each rule is one of the list
-pub each_rule : (q : Query) (exploring : Bool) (e : ExprParts) (rules : List Rule) (place : ℕ) (child : GoalKind) → ((rule : Rule) → Contains rules rule) → length rules ≤ place → IsRuleAt q exploring e child
-    → IsRuleBefore q exploring e rules place child
-each_rule q exploring e rules place child every past (rule, kind, applies, is) =
+pub each_rule : (q : Query) (phase : Phase) (e : ExprParts) (rules : List Rule) (place : ℕ) (child : GoalKind) → ((rule : Rule) → Contains rules rule) → length rules ≤ place → IsRuleAt q phase e child
+    → IsRuleBefore q phase e rules place child
+each_rule q phase e rules place child every past (rule, of_rule) =
     let at = every rule in
-    (at.0, omega (arith, at.1), subst (λ r. IsOfRule q exploring e r child) (sym (get_or_default rules at.0 ExpandNAry rule at.1 ∙ at.2)) (kind, applies, is))
+    (at.0, omega (arith, at.1), subst (λ r. IsOfRule q phase e r child) (sym (get_or_default rules at.0 ExpandNAry rule at.1 ∙ at.2)) of_rule)

@@ -15,7 +15,6 @@ use Rattle.xform_rules.specs.Forms.{IsLogical, IsLeftSide}
 use Rattle.xform_rules.specs.Rules.{binds}
 use Rattle.xform_rules.specs.Results.{GivesWith, HasResult}
 use Rattle.xform_rules.specs.declared.rules.Rule.{Rule}
-use Rattle.xform_rules.specs.declared.rules.Rule.TheVariants.{JoinAssociate}
 use Rattle.board_rule.specs.Looks.{ShowsFinished}
 use Rattle.board_rule.specs.declared.hands.Hands.{Hands}
 use Rattle.goal_board.specs.declared.board.Right.{Right}
@@ -48,9 +47,9 @@ pub below_more : (q : Query) (rule : Rule) (e : ExprParts) (bound : Option ExprP
 below_more q rule e bound n other (k, below, brought) =
     ⊎_elim (λ (less : k < n). inl (k, less, brought)) (λ (most : n ≤ k). let same : k ≡ n = omega arith in inr (subst (λ i. IsBroughtAt q rule e bound i other) same brought)) (cases_lt k n)
 
--- a rule with a bound member is JoinAssociate, and binds one of the left child's group
-binding_rule : (q : Query) (rule : Rule) (group : KeyParts) (bound : ExprParts) (n : ℕ) (to operator : Operator) → IsLogical (GivesWith q rule group (Some bound) n to) operator → rule ≡ JoinAssociate
-binding_rule q rule group bound n to (operators.Logical from) gives = gives.0
+-- a rule with a bound member binds one, which is of the left child's group
+binding_rule : (q : Query) (rule : Rule) (group : KeyParts) (bound : ExprParts) (n : ℕ) (to operator : Operator) → IsLogical (GivesWith q rule group (Some bound) n to) operator → IsTrue (binds rule)
+binding_rule q rule group bound n to (operators.Logical from) gives = ap binds gives.0
 binding_rule q rule group bound n to (operators.Physical from) gives = absurd gives
 
 pub left_of : (q : Query) (rule : Rule) (e bound : ExprParts) (n : ℕ) (x : ExprParts) → HasResult q rule e (Some bound) n x → IsLeftSide e bound.group → IsLeftOf e rule bound.group
@@ -86,7 +85,7 @@ module _ (q : Query) (children : ChildrenAreKnown q) (asked : AskedAreKnown q) (
 pub bound_wanted : (q : Query) (e : ExprParts) (rule : Rule) (left : KeyParts) → IsLeftOf e rule left → ((bound : Option ExprParts) (n : ℕ) (x : ExprParts) → HasResult q rule e bound n x → is_some bound ≡ binds rule)
     → ((bound : ExprParts) (n : ℕ) (x : ExprParts) → HasResult q rule e (Some bound) n x → IsLeftSide e bound.group) → ((bound : ExprParts) (n : ℕ) (x : ExprParts) → HasResult q rule e (Some bound) n x → IsTrue (is_logical bound.operator))
     → (x : ExprParts) → AsksFor q (Xf e rule) x → IsBroughtFrom q rule e left x
-bound_wanted q e rule left is_left binding side logical x (other, inl (n, has), brought) = absurd (false≢true (binding None n other has ∙ ap binds is_left.0))
+bound_wanted q e rule left is_left binding side logical x (other, inl (n, has), brought) = absurd (false≢true (binding None n other has ∙ is_left.0))
 bound_wanted q e rule left is_left binding side logical x (other, inr (bound, n, member, has), brought) =
     (bound, record { member = member; of_group = left_one (children_of e.operator) bound.group left (left_of q rule e bound n other has (side bound n other has)).1 is_left.1; logical = logical bound n other has }, (n, (other, has, brought)))
 

@@ -1,13 +1,13 @@
 -- What rules bring, with a bound member or without one.
-use Rattle.std.specs.Prelude.{◌≡◌, ℕ, ◌<◌, Option, Some}
+use Rattle.std.specs.Prelude.{ℕ, ◌<◌, Option, Some, IsTrue}
 use Rattle.query_core.specs.Expressions.{children_of}
 use Rattle.query_core.specs.declared.query.Query.{Query}
 use Rattle.query_core.specs.declared.expressions.ExprParts.{ExprParts}
 use Rattle.query_core.specs.declared.words.KeyParts.{KeyParts}
 use Rattle.xform_rules.specs.Closure.{IsMember}
 use Rattle.xform_rules.specs.Results.{HasResult}
+use Rattle.xform_rules.specs.Rules.{binds}
 use Rattle.xform_rules.specs.declared.rules.Rule.{Rule}
-use Rattle.xform_rules.specs.declared.rules.Rule.TheVariants.{JoinAssociate}
 use Rattle.goal_space.specs.Children.{IsLeft, IsLogicalIn}
 use Rattle.goal_space.specs.Asked.{IsBroughtBy}
 
@@ -29,4 +29,4 @@ IsBroughtFrom q rule e group other = (bound : ExprParts) × IsLogicalIn (IsMembe
 
 -- the rule binds a member of the left child's group, which is this one
 abbrev pub IsLeftOf : ExprParts → Rule → KeyParts → Type 0
-IsLeftOf e rule group = (rule ≡ JoinAssociate) × IsLeft (children_of e.operator) group
+IsLeftOf e rule group = IsTrue (binds rule) × IsLeft (children_of e.operator) group

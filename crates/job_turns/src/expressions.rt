@@ -3,10 +3,9 @@
 
 ghost use Rattle.std.specs.Prelude.{◌≡◌, ◌↔◌, Some};
 ghost use Rattle.query_core.specs.Expressions.{children_of};
-ghost use Rattle.goal_space.specs.Children.{IsRuleAt};
 ghost use Rattle.goal_space.specs.Entries.{NamesGoal};
 ghost use Rattle.goal_space.specs.declared.goals.GoalKind.{GoalKind as Kind};
-ghost use Rattle.goal_space.specs.Phases.{does_explore, phase_goal_of_expr, IsOfGroups, IsOfRule};
+ghost use Rattle.goal_space.specs.Phases.{phase_goal_of_expr, IsOfGroups, IsOfRule, IsRuleAt};
 ghost use Rattle.job_turns.specs.Searches.{IsAtWork};
 ghost use Rattle.job_turns.specs.Works.{IsOneOf};
 ghost use Rattle.job_turns.specs.Seats.{AreChildrenOf, SeatAwaits, SeatWorks};
@@ -74,10 +73,10 @@ fn await_rules<'q, H: Hints>(
     hints: &mut H,
 ) -> bool
     requires at_work { IsAtWork query.now board.now seat.old job.old (H.capacity hints.old) }
-    requires children { AreChildrenOf query.now job.old.right.goal (IsRuleAt query.now (does_explore phase) e) }
+    requires children { AreChildrenOf query.now job.old.right.goal (IsRuleAt query.now phase e) }
     ensures at_work { IsAtWork query.now board.now seat.new job.new (H.capacity hints.new) }
     ensures awaits { SeatAwaits query.now board.now seat.old job.old
-        (IsRuleAt query.now (does_explore phase) e) result seat.new job.new }
+        (IsRuleAt query.now phase e) result seat.new job.new }
 {
     let rules = Rule::all();
     for rule in &rules {
@@ -91,7 +90,7 @@ fn await_rules<'q, H: Hints>(
 
 // The goal of the rule at the expression, if the rule is one of the phase and applies.
 fn rule_goal(query: &Query, phase: Phase, e: ExprParts, rule: Rule) -> Option<GoalKind>
-    ensures { (goal : Kind) → (result ≡ Some goal) ↔ IsOfRule query.now (does_explore phase) e rule goal }
+    ensures { (goal : Kind) → (result ≡ Some goal) ↔ IsOfRule query.now phase e rule goal }
 {
     if phase.tries(query, e, rule) {
         Some(GoalKind::Xf(e, rule))

@@ -210,7 +210,7 @@ fn put_result<'q>(
 fn left_group(e: ExprParts, rule: Rule) -> Option<KeyParts>
     ensures { (group : Key) → (result ≡ Some group) ↔ IsLeftOf e rule group }
 {
-    if rule != Rule::JoinAssociate {
+    if !rule.binds() {
         return None;
     }
     match e.children() {

@@ -6,13 +6,13 @@ use Rattle.std.proofs.lemmas.Bool.{cases_lt}
 use Rattle.std.proofs.lemmas.List.{get_or_append_left, get_or-append-add}
 use Rattle.std.proofs.lemmas.List.Elements.{All-nil, All-cons, All-append}
 use Rattle.plan_check.specs.Places.{IsFirstWithout, IsLastWithout}
-use Rattle.plan_check.specs.Passes.{IsFirst, IsLast, place_alone, sooner_of, later_of}
+use Rattle.plan_check.specs.Passes.{IsFirst, IsLast, own_place_of, sooner_of, later_of}
 
 module _ {X : Type 0} (Fact : X → Type 0) where
   -- ---- one element, and two parts
 
   -- one element that has the fact or lacks it
-  pub first_alone : (x : X) (right : Bool) → (IsTrue right ↔ Fact x) → IsFirst Fact (x ∷ []) (place_alone right)
+  pub first_alone : (x : X) (right : Bool) → (IsTrue right ↔ Fact x) → IsFirst Fact (x ∷ []) (own_place_of right)
   first_alone x true tells = All-cons Fact x [] (tells.0 refl) (All-nil Fact)
   first_alone x false tells = record {
     before = [];
@@ -24,7 +24,7 @@ module _ {X : Type 0} (Fact : X → Type 0) where
     others = All-nil Fact;
   }
 
-  pub last_alone : (x : X) (right : Bool) → (IsTrue right ↔ Fact x) → IsLast Fact (x ∷ []) (place_alone right)
+  pub last_alone : (x : X) (right : Bool) → (IsTrue right ↔ Fact x) → IsLast Fact (x ∷ []) (own_place_of right)
   last_alone x true tells = All-cons Fact x [] (tells.0 refl) (All-nil Fact)
   last_alone x false tells = record {
     before = [];
@@ -97,40 +97,40 @@ module _ {X : Type 0} (Fact : X → Type 0) where
   -- ---- a list as a node and those below it: none, those of one plan, and those of two
 
   -- the first place, by those of the parts
-  pub first_of_one : (list : List X) (x : X) (right : Bool) (own : Option ℕ) → list ≡ x ∷ [] → (IsTrue right ↔ Fact x) → own ≡ place_alone right
+  pub first_of_one : (list : List X) (x : X) (right : Bool) (own : Option ℕ) → list ≡ x ∷ [] → (IsTrue right ↔ Fact x) → own ≡ own_place_of right
       → IsFirst Fact list own
   first_of_one list x right own parts tells own_is =
       subst (λ zs. IsFirst Fact zs own) (sym parts) (subst (λ place. IsFirst Fact (x ∷ []) place) (sym own_is) (first_alone x right tells))
 
   pub first_of_more : (list : List X) (x : X) (ys : List X) (right : Bool) (own below found : Option ℕ) → list ≡ x ∷ ys → (IsTrue right ↔ Fact x)
-      → own ≡ place_alone right → IsFirst Fact ys below → found ≡ sooner_of own 1 below → IsFirst Fact list found
+      → own ≡ own_place_of right → IsFirst Fact ys below → found ≡ sooner_of own 1 below → IsFirst Fact list found
   first_of_more list x ys right own below found parts tells own_is first found_is =
       let root = first_of_one (x ∷ []) x right own refl tells own_is in
       let all = first_joined (x ∷ []) ys own 1 below (omega arith) root first in
       subst (λ zs. IsFirst Fact zs found) (sym parts) (subst (λ place. IsFirst Fact (x ∷ ys) place) (sym found_is) all)
 
   pub first_of_both : (list : List X) (x : X) (ys zs : List X) (right : Bool) (own left second below found : Option ℕ) (count : ℕ) → list ≡ x ∷ (ys ++ zs)
-      → (IsTrue right ↔ Fact x) → own ≡ place_alone right → count ≡ length ys → IsFirst Fact ys left → IsFirst Fact zs second
+      → (IsTrue right ↔ Fact x) → own ≡ own_place_of right → count ≡ length ys → IsFirst Fact ys left → IsFirst Fact zs second
       → below ≡ sooner_of left count second → found ≡ sooner_of own 1 below → IsFirst Fact list found
   first_of_both list x ys zs right own left second below found count parts tells own_is many first other below_is found_is =
       let joined = first_joined ys zs left count second many first other in
       first_of_more list x (ys ++ zs) right own below found parts tells own_is (subst (λ place. IsFirst Fact (ys ++ zs) place) (sym below_is) joined) found_is
 
   -- the last place, by those of the parts
-  pub last_of_one : (list : List X) (x : X) (right : Bool) (own : Option ℕ) → list ≡ x ∷ [] → (IsTrue right ↔ Fact x) → own ≡ place_alone right
+  pub last_of_one : (list : List X) (x : X) (right : Bool) (own : Option ℕ) → list ≡ x ∷ [] → (IsTrue right ↔ Fact x) → own ≡ own_place_of right
       → IsLast Fact list own
   last_of_one list x right own parts tells own_is =
       subst (λ zs. IsLast Fact zs own) (sym parts) (subst (λ place. IsLast Fact (x ∷ []) place) (sym own_is) (last_alone x right tells))
 
   pub last_of_more : (list : List X) (x : X) (ys : List X) (right : Bool) (own below found : Option ℕ) → list ≡ x ∷ ys → (IsTrue right ↔ Fact x)
-      → own ≡ place_alone right → IsLast Fact ys below → found ≡ later_of own 1 below → IsLast Fact list found
+      → own ≡ own_place_of right → IsLast Fact ys below → found ≡ later_of own 1 below → IsLast Fact list found
   last_of_more list x ys right own below found parts tells own_is last found_is =
       let root = last_of_one (x ∷ []) x right own refl tells own_is in
       let all = last_joined (x ∷ []) ys own 1 below (omega arith) root last in
       subst (λ zs. IsLast Fact zs found) (sym parts) (subst (λ place. IsLast Fact (x ∷ ys) place) (sym found_is) all)
 
   pub last_of_both : (list : List X) (x : X) (ys zs : List X) (right : Bool) (own left second below found : Option ℕ) (count : ℕ) → list ≡ x ∷ (ys ++ zs)
-      → (IsTrue right ↔ Fact x) → own ≡ place_alone right → count ≡ length ys → IsLast Fact ys left → IsLast Fact zs second
+      → (IsTrue right ↔ Fact x) → own ≡ own_place_of right → count ≡ length ys → IsLast Fact ys left → IsLast Fact zs second
       → below ≡ later_of left count second → found ≡ later_of own 1 below → IsLast Fact list found
   last_of_both list x ys zs right own left second below found count parts tells own_is many last other below_is found_is =
       let joined = last_joined ys zs left count second many last other in

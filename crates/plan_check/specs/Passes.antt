@@ -19,9 +19,9 @@ IsLast Fact list None = All Fact list
 IsLast Fact list (Some place) = IsLastWithout Fact list place
 
 -- the place of one element that has the fact, or lacks it
-abbrev pub place_alone : Bool → Option ℕ
-place_alone true = None
-place_alone false = Some 0
+abbrev pub own_place_of : Bool → Option ℕ
+own_place_of true = None
+own_place_of false = Some 0
 
 -- a place in a list, or else one behind it
 abbrev pub sooner_of : Option ℕ → ℕ → Option ℕ → Option ℕ

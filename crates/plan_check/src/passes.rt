@@ -19,7 +19,7 @@ ghost use Rattle.plan_check.specs.Passes.{IsFirst, IsLast, AreKnown, root_of};
 use crate::kids::has_kids;
 use crate::needs::node_fits;
 use crate::nodes::{is_node_of, known_kind};
-use crate::places::{alone, later, sooner};
+use crate::places::{later, own_place, sooner};
 use plan_space::NodeKind;
 use plan_tree::{Below, Node, Plan, cost_above, seen_below};
 use query_core::Query;
@@ -43,7 +43,7 @@ pub fn first_unknown(query: &Query, props: &Props, plan: &Plan) -> Option<u32>
     ensures first { IsFirst (IsNodeOf query.now) (nodes_of plan.now) result }
     ensures within { IfSome result (λ place. place < length (nodes_of plan.now)) }
 {
-    let own = alone(is_node_of(query, props, root(plan)));
+    let own = own_place(is_node_of(query, props, root(plan)));
     match plan {
         Plan::Leaf(_) => own,
         Plan::Over(_, kid) => sooner(own, 1, first_unknown(query, props, kid)),
@@ -64,7 +64,7 @@ pub fn last_wrong(query: &Query, props: &Props, plan: &Plan) -> Option<u32>
         IsLast (RootHasKids query.now) (plans_in t) result }
     ensures within { IfSome result (λ place. place < length (nodes_of plan.now)) }
 {
-    let own = alone(root_has_kids(query, props, plan));
+    let own = own_place(root_has_kids(query, props, plan));
     match plan {
         Plan::Leaf(_) => own,
         Plan::Over(_, kid) => later(own, 1, last_wrong(query, props, kid)),
@@ -85,7 +85,7 @@ pub fn first_unfit(query: &Query, props: &Props, plan: &Plan) -> Option<u32>
         IsFirst (RootFits query.now) (plans_in t) result }
     ensures within { IfSome result (λ place. place < length (nodes_of plan.now)) }
 {
-    let own = alone(root_fits(query, props, plan));
+    let own = own_place(root_fits(query, props, plan));
     match plan {
         Plan::Leaf(_) => own,
         Plan::Over(_, kid) => sooner(own, 1, first_unfit(query, props, kid)),

@@ -2,11 +2,11 @@
 #![tactic(auto)]
 
 ghost use Rattle.std.specs.Prelude.{◌≡◌, ◌+◌, ◌<◌, ◌^◌, IfSome};
-ghost use Rattle.plan_check.specs.Passes.{place_alone, sooner_of, later_of};
+ghost use Rattle.plan_check.specs.Passes.{own_place_of, sooner_of, later_of};
 
 /// The place of one element that is right or wrong, where it is wrong.
-pub fn alone(right: bool) -> Option<u32>
-    ensures { result ≡ place_alone right }
+pub fn own_place(right: bool) -> Option<u32>
+    ensures { result ≡ own_place_of right }
 {
     if right { None } else { Some(0) }
 }

@@ -7,7 +7,7 @@ use Rattle.std.specs.Int.Bits.{or_add_and}
 use Rattle.std.proofs.Math.Nat.{pow-le-pow_right}
 use Rattle.std.proofs.lemmas.Nat.{trailing_le}
 use Rattle.std.proofs.lemmas.Bool.{cases_Bool}
-use Rattle.query_core.specs.Keys.{key_number, has_own, alone, top_of, input_of}
+use Rattle.query_core.specs.Keys.{key_number, has_own, group_of_table, top_of, input_of}
 use Rattle.query_core.specs.Expressions.{physical_children, HasPhysical, IsFiltered, IsJoin, IsAggregated, IsPartial, IsChild}
 use Rattle.query_core.specs.declared.query.Query.{Query}
 use Rattle.query_core.specs.declared.words.KeyParts.{KeyParts}
@@ -32,7 +32,7 @@ pub record AreLesser (group : KeyParts) (below : List KeyParts) : Type 0 where
 
 -- ---- groups of tables
 
-alone_nodes : (q : Query) (t : ℕ) → group_nodes (alone q t) ≤ 8
+alone_nodes : (q : Query) (t : ℕ) → group_nodes (group_of_table q t) ≤ 8
 alone_nodes q t = elim (cases_Bool (has_own q t)) [
   | inl is ↦ subst (λ b. group_nodes (cond b (groups.Filter t) (groups.Get t)) ≤ 8) (sym is) (omega arith)
   | inr is ↦ subst (λ b. group_nodes (cond b (groups.Filter t) (groups.Get t)) ≤ 8) (sym is) (omega arith)
@@ -43,11 +43,11 @@ top_nodes : (q : Query) (a : ℕ) → 0 < a → group_nodes (top_of q a) ≤ 1 +
 top_nodes q a some =
     let t = trailing_zeros w32 a in
     elim (cases_Bool (nat_eq a (2 ^ t))) [
-      | inl is ↦ subst (λ b. group_nodes (option_map_or (alone q) (cond b (Some t) None) (groups.Join a)) ≤ 1 + (16 * a - 8)) (sym is) (omega (arith, some, alone_nodes q t))
-      | inr is ↦ subst (λ b. group_nodes (option_map_or (alone q) (cond b (Some t) None) (groups.Join a)) ≤ 1 + (16 * a - 8)) (sym is) (omega arith)
+      | inl is ↦ subst (λ b. group_nodes (option_map_or (group_of_table q) (cond b (Some t) None) (groups.Join a)) ≤ 1 + (16 * a - 8)) (sym is) (omega (arith, some, alone_nodes q t))
+      | inr is ↦ subst (λ b. group_nodes (option_map_or (group_of_table q) (cond b (Some t) None) (groups.Join a)) ≤ 1 + (16 * a - 8)) (sym is) (omega arith)
     ]
 
-alone_key : (q : Query) (t : ℕ) → t ≤ 32 → key_number (alone q t) ≤ 48
+alone_key : (q : Query) (t : ℕ) → t ≤ 32 → key_number (group_of_table q t) ≤ 48
 alone_key q t small = elim (cases_Bool (has_own q t)) [
   | inl is ↦ subst (λ b. key_number (cond b (groups.Filter t) (groups.Get t)) ≤ 48) (sym is) (omega (arith, small))
   | inr is ↦ subst (λ b. key_number (cond b (groups.Filter t) (groups.Get t)) ≤ 48) (sym is) (omega (arith, small))
@@ -58,8 +58,8 @@ top_key : (q : Query) (a set : ℕ) → a < set → key_number (top_of q a) < 10
 top_key q a set less =
     let t = trailing_zeros w32 a in
     elim (cases_Bool (nat_eq a (2 ^ t))) [
-      | inl is ↦ subst (λ b. key_number (option_map_or (alone q) (cond b (Some t) None) (groups.Join a)) < 1024 + set) (sym is) (omega (arith, alone_key q t (trailing_le 32 a)))
-      | inr is ↦ subst (λ b. key_number (option_map_or (alone q) (cond b (Some t) None) (groups.Join a)) < 1024 + set) (sym is) (omega (arith, less))
+      | inl is ↦ subst (λ b. key_number (option_map_or (group_of_table q) (cond b (Some t) None) (groups.Join a)) < 1024 + set) (sym is) (omega (arith, alone_key q t (trailing_le 32 a)))
+      | inr is ↦ subst (λ b. key_number (option_map_or (group_of_table q) (cond b (Some t) None) (groups.Join a)) < 1024 + set) (sym is) (omega (arith, less))
     ]
 
 -- two disjoint sets that are a third together are as many as it, as numbers

@@ -6,7 +6,7 @@ use Rattle.std.specs.Option.{option_map_or}
 use Rattle.std.proofs.lemmas.Bool.{cond_both}
 use Rattle.std.proofs.lemmas.List.Elements.{All-nil, All-cons, All-weaker}
 use Rattle.std.specs.Int.{trailing_zeros, w32}
-use Rattle.query_core.specs.Keys.{alone as alone_group, has_own, top_of, has_item}
+use Rattle.query_core.specs.Keys.{group_of_table, has_own, top_of, has_item}
 use Rattle.query_core.specs.declared.query.Query.{Query}
 use Rattle.query_core.specs.declared.words.KeyParts.{KeyParts}
 use Rattle.query_core.specs.declared.words.KeyParts.TheVariants as groups
@@ -120,7 +120,7 @@ pub top_dists_fit : (q : Query) (set : ℕ) → DistsFit q (top_of q set)
 top_dists_fit q set =
     let least = trailing_zeros w32 set in
     cond_both (set == 2 ^ least) (Some least) None
-    (λ found. DistsFit q (option_map_or (alone_group q) found (groups.Join set)))
+    (λ found. DistsFit q (option_map_or (group_of_table q) found (groups.Join set)))
     (λ same. cond_both (has_own q least) (groups.Filter least) (groups.Get least) (λ group. DistsFit q group) (λ own dist lies. lies) (λ none dist lies. lies))
     (λ several dist lies. lies)
 

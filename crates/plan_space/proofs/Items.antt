@@ -10,7 +10,7 @@ use Rattle.std.proofs.lemmas.Nat.Bits.{bit_at_and, bit_at_or, bit_at-pow_same, b
 use Rattle.query_core.specs.Crossing.{equal_item, sides_of, sides_with, crossing_at, crossing_of}
 use Rattle.query_core.specs.Expressions.{FallsInto}
 use Rattle.query_core.specs.Items.{is_column_of, is_column_list, has_own_lists}
-use Rattle.query_core.specs.Keys.{has_own, alone, top_of, is_column_in, has_item}
+use Rattle.query_core.specs.Keys.{has_own, group_of_table, top_of, is_column_in, has_item}
 use Rattle.query_core.specs.Links.{link_between}
 use Rattle.query_core.specs.Sets.{bit, Has}
 use Rattle.query_core.specs.declared.table.Item.{Item}
@@ -67,7 +67,7 @@ column_in_larger set whole larger (Some item) column =
     eq-eqb (bit whole item.table) 1 (larger item.table (eqb-true (bit set item.table) 1 column))
 
 -- an item of a table's group is a column of the table
-alone_column : (q : Query) (t i : ℕ) → IsTrue (has_item q (alone q t) i) → IsTrue (is_column_of q.items t i)
+alone_column : (q : Query) (t i : ℕ) → IsTrue (has_item q (group_of_table q t) i) → IsTrue (is_column_of q.items t i)
 alone_column q t i =
     cond_both (has_own q t) (groups.Filter t) (groups.Get t) (λ group. IsTrue (has_item q group i) → IsTrue (is_column_of q.items t i))
     (λ own item. item) (λ none item. item)
@@ -77,7 +77,7 @@ top_column : (q : Query) (set i : ℕ) → IsTrue (has_item q (top_of q set) i) 
 top_column q set i =
     let least = trailing_zeros w32 set in
     cond_both (set == 2 ^ least) (Some least) None
-    (λ found. IsTrue (has_item q (option_map_or (alone q) found (groups.Join set)) i) → IsTrue (is_column_in q.items set i))
+    (λ found. IsTrue (has_item q (option_map_or (group_of_table q) found (groups.Join set)) i) → IsTrue (is_column_in q.items set i))
     (λ same item.
     let has : Has set least = subst (λ s. Has s least) (sym (eqb-true set (2 ^ least) same)) (one_has least) in
     column_in_set set least has (slice_get q.items i) (alone_column q least i item))

@@ -17,7 +17,7 @@ use Rattle.std.proofs.lemmas.Map.Keys.{sorted_tail}
 use Rattle.std.proofs.lemmas.Map.Views.{All-after_first}
 use Rattle.std.proofs.lemmas.Nat.Bits.{bit_at_ones, bit_at-pow_other}
 use Rattle.query_core.specs.Items.{is_column_of}
-use Rattle.query_core.specs.Keys.{has_own, alone, top_of, input_of, root_of, is_column_in, has_item}
+use Rattle.query_core.specs.Keys.{has_own, group_of_table, top_of, input_of, root_of, is_column_in, has_item}
 use Rattle.query_core.specs.Results.{is_root_item}
 use Rattle.query_core.specs.Sets.{bit, Has}
 use Rattle.query_core.specs.declared.options.RootDist.{RootDist}
@@ -40,7 +40,7 @@ use Rattle.plan_space.proofs.Numbers.{ListingIsOne, contains_here, order_numbere
 -- ---- items of the root
 
 -- a column of a table is an item of the table's group
-column_alone : (q : Query) (t i : ℕ) → IsTrue (is_column_of q.items t i) → IsTrue (has_item q (alone q t) i)
+column_alone : (q : Query) (t i : ℕ) → IsTrue (is_column_of q.items t i) → IsTrue (has_item q (group_of_table q t) i)
 column_alone q t i column = cond_both (has_own q t) (groups.Filter t) (groups.Get t) (λ group. IsTrue (has_item q group i)) (λ own. column) (λ none. column)
 
 -- the set of one table has no other
@@ -62,7 +62,7 @@ column_top : (q : Query) (set i : ℕ) → IsTrue (is_column_in q.items set i) �
 column_top q set i column =
     let least = trailing_zeros w32 set in
     cond_both (set == 2 ^ least) (Some least) None
-    (λ found. IsTrue (has_item q (option_map_or (alone q) found (groups.Join set)) i))
+    (λ found. IsTrue (has_item q (option_map_or (group_of_table q) found (groups.Join set)) i))
     (λ same.
     let own = subst (λ s. IsTrue (is_column_in q.items s i)) (eqb-true set (2 ^ least) same) column in
     column_alone q least i (only_column least (slice_get q.items i) own))

@@ -1,8 +1,8 @@
 //! What a node costs over the plans that it sees. No call here takes memory.
 #![tactic(auto)]
 
-ghost use Rattle.std.specs.Prelude.{◌≡◌, ◌≤◌, ◌↔◌, IsTrue};
-ghost use Rattle.query_core.specs.Keys.{IsGroup, IsInRange as IsKeyInRange};
+ghost use Rattle.std.specs.Prelude.{◌≡◌, ◌≤◌};
+ghost use Rattle.query_core.specs.Keys.{IsGroup};
 ghost use Rattle.cardinality.specs.Rows.{rows_of};
 ghost use Rattle.cost_units.specs.Cost.{IsBounded, local_cost, most_cost, most_rows};
 ghost use Rattle.request_props.specs.Numbered.{IsProps};
@@ -163,22 +163,9 @@ fn group_rows(query: &Query, props: &Props, group: KeyParts) -> u64
 {
     // For the proof: each group of the query has a key.
     groups_are_known();
-    if has_key(group) {
+    if group.is_in_range() {
         props.rows(query, Key::make(group))
     } else {
         0
-    }
-}
-
-// Whether keys can name the group.
-fn has_key(group: KeyParts) -> bool
-    ensures { IsTrue result ↔ IsKeyInRange group }
-{
-    match group {
-        KeyParts::Get(table) => table < 10,
-        KeyParts::Filter(table) => table < 10,
-        KeyParts::Join(set) => set < 1024,
-        KeyParts::Partial => true,
-        KeyParts::Agg => true,
     }
 }

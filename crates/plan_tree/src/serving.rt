@@ -2,8 +2,7 @@
 //! memory.
 #![tactic(auto)]
 
-ghost use Rattle.std.specs.Prelude.{◌≡◌, ◌<◌, ◌↔◌, IsTrue, length, slice_get};
-ghost use Rattle.std.specs.Option.{option_map_or};
+ghost use Rattle.std.specs.Prelude.{◌≡◌, ◌↔◌, IsTrue, slice_get};
 ghost use Rattle.request_props.specs.Numbered.{IsProps, IsNumbered};
 ghost use Rattle.request_props.specs.Satisfied.{Satisfies, IsOrderKnown, given_order};
 ghost use Rattle.plan_space.specs.Gives.{gives_so};
@@ -225,21 +224,11 @@ fn known_order(query: &Query, props: &Props, order: GivenOrder) -> GivenOrder
             }
         }
         GivenOrder::Index(table, index) => {
-            if has_index(query, table, index) {
+            if query.has_index(table, index) {
                 order
             } else {
                 GivenOrder::Listed(0)
             }
         }
-    }
-}
-
-fn has_index(query: &Query, table: u32, index: u32) -> bool
-    ensures { IsTrue result ↔
-        (index < option_map_or (λ t. length t.indexes) (slice_get query.now.tables table) 0) }
-{
-    match query.tables.as_slice().get(table as usize) {
-        Some(table) => (index as usize) < table.indexes.len(),
-        None => false,
     }
 }

@@ -10,7 +10,7 @@ use Rattle.std.proofs.lemmas.Nat.{or_disjoint}
 use Rattle.std.proofs.lemmas.List.{map-append}
 use Rattle.std.proofs.lemmas.List.Elements.{All-push, All-map, Contains-append_left, Contains-push}
 use Rattle.query_core.specs.Sets.{bit}
-use Rattle.query_core.specs.Keys.{key_number, has_own, alone, top_of}
+use Rattle.query_core.specs.Keys.{key_number, has_own, group_of_table, top_of}
 use Rattle.query_core.specs.Expressions.{FallsInto}
 use Rattle.query_core.specs.declared.query.Query.{Query}
 use Rattle.query_core.specs.declared.words.KeyParts.TheVariants.{Get, Filter, Join}
@@ -27,7 +27,7 @@ pub top_number : (q : Query) (a : ℕ) → a < 1024 → (key_number (top_of q a)
 top_number q a small =
     let least = trailing_zeros w32 a in
     let there : (a == 2 ^ least) ≡ true → least < 10 = λ same. exponent_lt least 10 (omega (arith, eqb-true a (2 ^ least) same, small)) in
-    cond_both (a == 2 ^ least) (Some least) None (λ o. (key_number (option_map_or (alone q) o (Join a)) < 26) ⊎ (key_number (option_map_or (alone q) o (Join a)) ≡ 1024 + a))
+    cond_both (a == 2 ^ least) (Some least) None (λ o. (key_number (option_map_or (group_of_table q) o (Join a)) < 26) ⊎ (key_number (option_map_or (group_of_table q) o (Join a)) ≡ 1024 + a))
     (λ same. inl (cond_both (has_own q least) (Filter least) (Get least) (λ g. key_number g < 26) (λ own. omega (arith, there same)) (λ none. omega (arith, there same))))
     (λ differs. inr refl)
 

@@ -1,6 +1,7 @@
 -- When what a plan gives is what is asked for.
-use Rattle.std.specs.Prelude.{ℕ, ◌≡◌, ◌<◌, List, [], ◌∷◌, length, slice_get, slice_index_or, ⊤}
+use Rattle.std.specs.Prelude.{ℕ, ◌≡◌, List, [], ◌∷◌, slice_get, slice_index_or, ⊤}
 use Rattle.std.specs.Option.{option_map_or}
+use Rattle.query_core.specs.Expressions.{HasIndex}
 use Rattle.query_core.specs.declared.query.Query.{Query}
 use Rattle.request_props.specs.Found.{ascending}
 use Rattle.request_props.specs.Numbered.{IsNumbered, order_of}
@@ -55,4 +56,4 @@ pub record Satisfies (q : Query) (given : Given) (request : Request) : Type 0 wh
 -- an order has a number, and an index is there
 abbrev pub IsOrderKnown : Query → GivenOrder → Type 0
 IsOrderKnown q (Listed number) = IsNumbered q number
-IsOrderKnown q (Index table index) = index < option_map_or (λ t. length t.indexes) (slice_get q.tables table) 0
+IsOrderKnown q (Index table index) = HasIndex q table index

@@ -36,7 +36,7 @@ impl EqualityEnds {
     }
 
     /// Whether both have some equality by the same column.
-    pub fn meets(self, other: EqualityEnds) -> bool
+    pub fn shares(self, other: EqualityEnds) -> bool
         ensures { IsTrue result ↔ (pred : ℕ) × HaveBoth self other pred }
     {
         !self.first.and(other.first).is_empty() || !self.second.and(other.second).is_empty()

@@ -250,10 +250,7 @@ fn is_known(query: &Query, props: &Props, order: GivenOrder) -> bool
 {
     match order {
         GivenOrder::Listed(number) => number as usize <= props.orders.len(),
-        GivenOrder::Index(table, index) => match query.tables.as_slice().get(table as usize) {
-            Some(table) => (index as usize) < table.indexes.len(),
-            None => false,
-        },
+        GivenOrder::Index(table, index) => query.has_index(table, index),
     }
 }
 

@@ -1,8 +1,7 @@
 //! The rows of a table: by a scan of the table, or in the order of one of its indexes.
 #![tactic(auto)]
 
-ghost use Rattle.std.specs.Prelude.{ℕ, IsTrue, ◌↔◌, ◌≡◌, ◌<◌};
-ghost use Rattle.query_core.specs.Expressions.{HasIndex};
+ghost use Rattle.std.specs.Prelude.{ℕ, IsTrue, ◌↔◌, ◌≡◌};
 ghost use Rattle.xform_rules.specs.Forms.{Finds};
 ghost use Rattle.xform_rules.specs.GetRules.{IsGet, IsIndexedGet, Scans, ScansIndex};
 
@@ -20,7 +19,7 @@ pub fn is_indexed_get(query: &Query, group: KeyParts, from: Logical, index: u32)
     ensures { IsTrue result ↔ IsIndexedGet query.now group from index }
 {
     match group {
-        KeyParts::Get(table) => is_get(from) && has_index(query, table, index),
+        KeyParts::Get(table) => is_get(from) && query.has_index(table, index),
         _ => false,
     }
 }
@@ -47,13 +46,4 @@ pub fn scanned_by_index(
         return Some(Physical::IndexScan(index));
     }
     None
-}
-
-fn has_index(query: &Query, table: u32, index: u32) -> bool
-    ensures { IsTrue result ↔ HasIndex query.now table index }
-{
-    match query.tables.as_slice().get(table as usize) {
-        Some(table) => (index as usize) < table.indexes.len(),
-        None => false,
-    }
 }

@@ -4,7 +4,7 @@
 ghost use Rattle.std.specs.Prelude.{◌≡◌, ◌≤◌, IsTrue, ◌↔◌, IfSome, Some};
 ghost use Rattle.std.specs.List.{Contains};
 ghost use Rattle.xform_rules.specs.Rules.{all_rules, rule_name, rule_number, rule_limit, IsOn};
-ghost use Rattle.xform_rules.specs.Rules.{explores as does_explore, binds as does_bind};
+ghost use Rattle.xform_rules.specs.Rules.{explores as rule_explores, binds as rule_binds};
 ghost use Rattle.xform_rules.specs.Rules.{can_be_off as may_be_off};
 
 use query_core::{Query, sets};
@@ -122,7 +122,7 @@ impl Rule {
 
     /// Whether it gives other logical expressions. The other rules give physical ones.
     pub fn explores(self) -> bool
-        ensures { result ≡ does_explore self }
+        ensures { result ≡ rule_explores self }
     {
         match self {
             Rule::ExpandNAry => true,
@@ -144,7 +144,7 @@ impl Rule {
 
     /// Whether it binds a member of the left child's group.
     pub fn binds(self) -> bool
-        ensures { result ≡ does_bind self }
+        ensures { result ≡ rule_binds self }
     {
         match self {
             Rule::ExpandNAry => false,

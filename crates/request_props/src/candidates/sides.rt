@@ -3,7 +3,7 @@
 
 ghost use Rattle.std.specs.Prelude.{ℕ, ◌≡◌, ◌<◌, ◌≤◌, ◌+◌, ◌^◌, length, MatchOption, IfOk, OnOk};
 ghost use Rattle.query_core.specs.Connected.{IsConnected};
-ghost use Rattle.query_core.specs.Keys.{alone as group_of_table, top_of, IsGroup};
+ghost use Rattle.query_core.specs.Keys.{group_of_table, top_of, IsGroup};
 ghost use Rattle.request_props.specs.Groups.{AreKeys};
 ghost use Rattle.request_props.specs.Joins.{IsSide, HasSides, AreSidesAt, AreSidesBelow, AreAllSides};
 
@@ -129,13 +129,13 @@ fn side(query: &Query, keys: &[bool], tables: u32) -> Option<KeyParts>
         return None;
     }
     match sets::only(tables) {
-        Some(table) => Some(alone(query, keys, table)),
+        Some(table) => Some(table_group(query, keys, table)),
         None => several(query, keys, tables),
     }
 }
 
 // The group of one table: where it has own predicates these are applied.
-fn alone(query: &Query, keys: &[bool], table: u32) -> KeyParts
+fn table_group(query: &Query, keys: &[bool], table: u32) -> KeyParts
     requires keys { AreKeys query.now keys.now }
     requires of_tables { table < length query.now.tables }
     ensures { result ≡ group_of_table query.now table }

@@ -85,7 +85,7 @@ impl Props {
         let mut count = 0;
         for place in 0..self.orders.len() {
             let giving = self.ends_giving(query, place as u32 + 1);
-            if leaving.meets(giving) {
+            if leaving.shares(giving) {
                 count += 1;
             }
         }

@@ -1,4 +1,4 @@
-use Rattle.std.proofs.Common.{◌≡◌, true, false, subst}
+use Rattle.std.proofs.Common.{◌≡◌, ◌∙◌, true, false, subst, sym}
 use Rattle.std.proofs.lemmas.Result.{on_ok_weaker}
 use Rattle.query_core.specs.Expressions.{children_of}
 use Rattle.query_core.specs.declared.expressions.Children.{Children}
@@ -6,10 +6,10 @@ use Rattle.goal_children.specs.Finding.{InsertsGoals, IsOfLeft, IsOfLeftGroup}
 use Rattle.goal_children.proofs.Inserting.{inserts_as, inserts_nothing}
 use Rattle.goal_children.proofs.expressions.insert_left.Goals as goal
 
--- the rule is the one that associates
-pub returns-then-associates : goal.returns-then-associates
-returns-then-associates c =
-    let is_it = c.associates.ensures.0 c.if-associates.true in
+-- the rule binds a member of the left group
+pub returns-then-binds : goal.returns-then-binds
+returns-then-binds c =
+    let is_it = sym c.binds.ensures ∙ c.if-binds.true in
     let old = c.args.goals.now.items in
     let new = c.insert_left_group.new.goals.items in
     let children = children_of c.args.e.operator in
@@ -21,10 +21,10 @@ returns-then-associates c =
     }
 
 -- or it waits for nothing
-pub returns-else-associates : goal.returns-else-associates
-returns-else-associates c = record {
+pub returns-else-binds : goal.returns-else-binds
+returns-else-binds c = record {
   ok = inserts_nothing (IsOfLeft c.args.e c.args.rule (children_of c.args.e.operator)) c.args.goals.now.items (λ k (group, is_it, left, same).
-      let yes : c.associates.result ≡ true = c.associates.ensures.1 is_it in
-      let no : c.associates.result ≡ false = c.if-associates.false in
+      let yes : c.binds.result ≡ true = c.binds.ensures ∙ is_it in
+      let no : c.binds.result ≡ false = c.if-binds.false in
       cc);
 }

@@ -1,8 +1,7 @@
 -- The goals of the children's groups and of the rules are all children that the goal has.
 use Rattle.std.proofs.Common.{◌⊎◌, sym, subst, inl, inr, ⊎_elim}
 use Rattle.goal_board.specs.Seats.{hands}
-use Rattle.goal_space.specs.Children.{IsRuleAt}
-use Rattle.goal_space.specs.Phases.{does_explore, phase_goal_of_expr}
+use Rattle.goal_space.specs.Phases.{phase_goal_of_expr, IsRuleAt}
 use Rattle.goal_space.proofs.Phases.{children_in_phase, asks_for_none, chooses_none}
 use Rattle.xform_rules.specs.Closure.{IsMember}
 use Rattle.job_turns.specs.Works.{IsChildOf, IsOneOf}
@@ -46,7 +45,7 @@ returns-clause-works g c =
     let phase = c.args.phase in
     let e = c.args.e in
     let groups = IsOneOf c.group_goals-groups.result in
-    let rules = IsRuleAt q (does_explore phase) e in
+    let rules = IsRuleAt q phase e in
     works_of_children q (c.words_are_known.ensures.children q) c.requires.at_work.has_job.board.small (phase_goal_of_expr phase e) (c.words_are_known.ensures.asked q) (asks_for_none q phase e) (chooses_none q phase e)
     (λ child. groups child ⊎ rules child)
     (λ child is. ⊎_elim (λ of_group. inl ((c.group_goals-groups.ensures child).1 of_group)) (λ of_rule. inr of_rule) ((children_in_phase q (IsMember q) phase e child).0 is))
