@@ -1,11 +1,11 @@
 //! The columns of a table.
-ghost use Rattle.std.specs.Prelude.{◌≡◌, ◌≤◌, ◌<◌, [], ◌∷◌, ◌++◌, false, length, map, option_map, position, string_bytes, IfOk, IfErr, IfSome};
+ghost use Rattle.std.specs.Prelude.{◌≡◌, ◌≤◌, ◌<◌, [], ◌∷◌, ◌++◌, length, map, option_map, position, IfOk, IfErr, IfSome};
 ghost use Rattle.std.specs.List.{list_any};
 ghost use Rattle.std.specs.Str.{bytes_eq};
 ghost use Rattle.serde_json.specs.View.{view};
 ghost use Rattle.catalog_json.specs.declared.fault.Fault.TheVariants.{Memory};
-ghost use Rattle.catalog_json.specs.Columns.{column_of, names_of};
-ghost use Rattle.catalog_json.specs.Walk.{Gives, each, seen, new_name_at, column_at, columns_at};
+ghost use Rattle.catalog_json.specs.Columns.{names_of};
+ghost use Rattle.catalog_json.specs.Walk.{Gives, each, seen, column_at, columns_at};
 
 use crate::fault::Fault;
 use crate::member::{TRILLION, number_at, take_list, take_name};
@@ -68,39 +68,19 @@ impl Columns {
         self.ndvs.contains_key(name)
     }
 
-    /// A name that no column here has.
-    #[tactic(auto, unfolding(crate::specs::Walk::new_name_at))]
-    fn new_name(&self, value: Option<Value>, place: Place) -> Result<String, Fault>
-        ensures read { seen string_bytes result ≡ new_name_at place (names_of self.now) (option_map view value) }
-        ensures new { IfOk result (λ name. list_any (bytes_eq (string_bytes name)) (names_of self.now) ≡ false) }
-    {
-        let name = take_name(value, place)?;
-        if self.has(name.as_str()) {
-            return Err(Fault::Twice(place));
-        }
-        Ok(name)
-    }
-
-    /// Reads the name of one more of the columns of table `t`, and how many distinct values it has.
-    #[tactic(auto, unfolding(crate::specs::Walk::column_at))]
-    fn next_column(&self, t: usize, value: Value) -> Result<(String, u64), Fault>
-        ensures read { seen column_of result ≡ column_at t self.now (view value) }
-        ensures new { IfOk result
-            (λ entry. list_any (bytes_eq (string_bytes entry.0)) (names_of self.now) ≡ false) }
-    {
-        let c = self.len();
-        let mut object = Object::of(value, Place::Column(t, c))?;
-        let name = self.new_name(object.take("name"), Place::ColumnName(t, c))?;
-        let ndv = number_at(object.get("ndv"), 0, TRILLION, Place::Ndv(t, c))?;
-        Ok((name, ndv))
-    }
-
     /// Reads one more of the columns of table `t`.
+    #[tactic(auto, unfolding(crate::specs::Walk::column_at, crate::specs::Walk::new_name_at))]
     fn read(&mut self, t: usize, value: Value) -> Result<(), Fault>
         ensures { Gives (seen (λ c. self.old ++ c ∷ []) (column_at t self.old (view value)))
             (seen (λ _. self.new) result) }
     {
-        let (name, ndv) = self.next_column(t, value)?;
+        let c = self.len();
+        let mut object = Object::of(value, Place::Column(t, c))?;
+        let name = take_name(object.take("name"), Place::ColumnName(t, c))?;
+        if self.has(name.as_str()) {
+            return Err(Fault::Twice(Place::ColumnName(t, c)));
+        }
+        let ndv = number_at(object.get("ndv"), 0, TRILLION, Place::Ndv(t, c))?;
         self.ndvs.insert(name, ndv)?;
         Ok(())
     }

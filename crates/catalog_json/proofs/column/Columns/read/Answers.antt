@@ -1,14 +1,19 @@
-use Rattle.std.proofs.Common.{◌≡◌, List, Ok, sym, ap}
+use Rattle.std.proofs.Common.{◌≡◌, List, false, Ok, string_bytes, sym, ap, rules, ◌∙◌}
+use Rattle.std.specs.List.{list_any}
+use Rattle.std.specs.Str.{bytes_eq}
 use Rattle.query_core.specs.declared.catalog.ColumnInfo.{ColumnInfo}
 use Rattle.serde_json.specs.View.{view}
-use Rattle.catalog_json.specs.Columns.{column_of}
-use Rattle.catalog_json.specs.Walk.{column_at}
+use Rattle.catalog_json.specs.Columns.{column_of, names_of}
+use Rattle.catalog_json.specs.Walk.{column_at, new_name_at}
 use Rattle.catalog_json.proofs.Keys.{goes_last}
 use Rattle.catalog_json.proofs.column.Columns.read.Goals as goal
 
 -- the column that was read goes last
 pub returns : goal.returns
+unfolding column_at new_name_at
 returns c =
-    let entry = c.in_ok-name in
-    let made : column_at c.args.t c.args.self.now (view c.args.value) ≡ Ok (column_of (entry.name, entry.ndv)) = sym entry.ensures.read in
-    rw (made, c.in_ok-insert.ensures.entries, ← c.self.view_is) (ap (λ (columns : List ColumnInfo). Ok columns) (sym (goes_last c.self.inside.ndvs.entries entry.name entry.ndv (rw (← c.self.view_is) at entry.ensures.new))))
+    let name = c.in_ok-name.name in
+    let old = c.args.self.now in
+    let fresh : list_any (bytes_eq (string_bytes name)) (names_of old) ≡ false = rw (← c.as_str.ensures.value) (sym c.has.ensures ∙ c.if-has.false) in
+    let made : column_at c.args.t old (view c.args.value) ≡ Ok (column_of (name, c.in_ok-ndv.ndv)) = search rules in
+    rw (made, c.in_ok-insert.ensures.entries, ← c.self.view_is) (ap (λ (columns : List ColumnInfo). Ok columns) (sym (goes_last c.self.inside.ndvs.entries name c.in_ok-ndv.ndv (rw (← c.self.view_is) at fresh))))
