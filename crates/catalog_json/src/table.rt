@@ -153,7 +153,7 @@ fn read_each_table(
     requires { names.old ≡ [] }
     ensures { Gives (each table_at [] (map view values.items)) result }
 {
-    let mut tables = List::new(alloc);
+    let mut tables = List::of(Vec::with_capacity(alloc, values.len())?);
     for value in values {
         let table = read_table(alloc, tables.as_slice(), names, value)?;
         tables.push(table)?;
