@@ -17,19 +17,24 @@ abbrev alt_of : Node → Option (Key × Request) → Option (Key × Request) →
 alt_of node left right = record { node = node; left = left; right = right }
 
 module _ (q : Query) (node : Node) where
-  asked : (left : Option (Key × Request)) (group : KeyParts) (wanted : Request) (answer : Option Best) → Asks q left group wanted → IsBestAsked q left answer
+  asked : (left : Option (Key × Request)) (group : KeyParts) (wanted : Request) (answer : Option Best)
+      → Asks q left group wanted → IsBestAsked q left answer
       → IsBest q group wanted all_nodes answer
   asked None group wanted answer asks best = absurd asks
-  asked (Some key) group wanted answer asks best = subst (λ r. IsBest q group r all_nodes answer) asks.1 (best group asks.0)
+  asked (Some key) group wanted answer asks best =
+      subst (λ r. IsBest q group r all_nodes answer) asks.1 (best group asks.0)
 
-  answered : (left right : Option (Key × Request)) (first second : Option Best) (groups : List KeyParts) (wishes : List Request)
-      → AreAsked q (alt_of node left right) groups wishes → IsBestAsked q left first → IsBestAsked q right second → AreBest q groups wishes (answers_for left right first second)
+  answered : (left right : Option (Key × Request)) (first second : Option Best) (groups : List KeyParts)
+      (wishes : List Request)
+      → AreAsked q (alt_of node left right) groups wishes → IsBestAsked q left first → IsBestAsked q right second
+      → AreBest q groups wishes (answers_for left right first second)
   answered None right first second [] [] asks x y = tt
   answered (Some left) right first second [] [] asks x y = let never = asks.0 in cc
   answered left right first second [] (wanted ∷ wishes) asks x y = absurd asks
   answered left right first second (group ∷ []) [] asks x y = absurd asks
   answered None right first second (group ∷ []) (wanted ∷ []) asks x y = absurd asks.0
-  answered (Some left) None first second (group ∷ []) (wanted ∷ []) asks x y = (asked (Some left) group wanted first asks.0 x, tt)
+  answered (Some left) None first second (group ∷ []) (wanted ∷ []) asks x y =
+      (asked (Some left) group wanted first asks.0 x, tt)
   answered (Some left) (Some right) first second (group ∷ []) (wanted ∷ []) asks x y = let never = asks.1 in cc
   answered left right first second (group ∷ []) (wanted ∷ other ∷ wishes) asks x y = absurd asks
   answered left right first second (group ∷ second_group ∷ []) [] asks x y = absurd asks
@@ -42,6 +47,8 @@ module _ (q : Query) (node : Node) where
   answered left right first second (group ∷ second_group ∷ third_group ∷ groups) wishes asks x y = absurd asks
 
 -- the answers for what the alternative asks are the best of the children's groups
-pub asked_best : (q : Query) (alt : Alt) (below : Option Best × Option Best) (groups : List KeyParts) (wishes : List Request) → AreAsked q alt groups wishes → AreBestBelow q alt below
+pub asked_best : (q : Query) (alt : Alt) (below : Option Best × Option Best) (groups : List KeyParts)
+    (wishes : List Request) → AreAsked q alt groups wishes → AreBestBelow q alt below
     → AreBest q groups wishes (answers_asked alt below)
-asked_best q alt below groups wishes asks best = answered q alt.node alt.left alt.right below.0 below.1 groups wishes asks best.left best.right
+asked_best q alt below groups wishes asks best =
+    answered q alt.node alt.left alt.right below.0 below.1 groups wishes asks best.left best.right

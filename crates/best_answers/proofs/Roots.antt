@@ -20,7 +20,8 @@ root_over node (left ∷ right ∷ []) plan is = subst (λ t. root_node t ≡ no
 root_over node (left ∷ right ∷ other ∷ others) plan is = absurd is
 
 -- and over the same plans it is one plan
-pub over_one : (node : NodeKind) (kids : List Tree) (plan other : Tree) → IsNodeOver node kids plan → IsNodeOver node kids other → other ≡ plan
+pub over_one : (node : NodeKind) (kids : List Tree) (plan other : Tree) → IsNodeOver node kids plan
+    → IsNodeOver node kids other → other ≡ plan
 over_one node [] plan other x y = cc
 over_one node (kid ∷ []) plan other x y = cc
 over_one node (left ∷ right ∷ []) plan other x y = cc

@@ -1,5 +1,6 @@
 -- Answers as pairs of a cost and a node: that of a plan, and that of a node over plans with answers.
-use Rattle.std.specs.Prelude.{ℕ, ◌≡◌, ◌+◌, List, [], ◌∷◌, Option, None, Some, option_map, Bool, nat_lt, nat_eq, ◌&&◌, ◌||◌, if◌then◌else◌}
+use Rattle.std.specs.Prelude.{ℕ, ◌≡◌, ◌+◌, List, [], ◌∷◌, Option, None, Some, option_map, Bool, nat_lt, nat_eq, ◌&&◌}
+use Rattle.std.specs.Prelude.{◌||◌, if◌then◌else◌}
 use Rattle.query_core.specs.declared.query.Query.{Query}
 use Rattle.query_core.specs.declared.words.Key.{Key}
 use Rattle.request_props.specs.declared.request.Request.{Request}
@@ -20,7 +21,8 @@ answer_of q plan = pair (cost_of q plan) (root_node plan)
 
 -- the first has a lesser cost, or the same cost and a lesser node
 abbrev pub is_lesser : Best → Best → Bool
-is_lesser first second = nat_lt first.cost second.cost || (nat_eq first.cost second.cost && nat_lt first.node.0 second.node.0)
+is_lesser first second = nat_lt first.cost
+    second.cost || (nat_eq first.cost second.cost && nat_lt first.node.0 second.node.0)
 
 -- of two the lesser one
 abbrev pub lesser : Option Best → Option Best → Option Best
@@ -35,7 +37,8 @@ costs_below (None ∷ others) = None
 costs_below (Some first ∷ others) = option_map (λ cost. first.cost + cost) (costs_below others)
 
 -- the answers for what is asked, the left one first
-abbrev pub answers_for : Option (Key × Request) → Option (Key × Request) → Option Best → Option Best → List (Option Best)
+abbrev pub answers_for : Option (Key × Request) → Option (Key × Request) → Option Best → Option Best
+    → List (Option Best)
 answers_for None right first second = []
 answers_for (Some left) None first second = first ∷ []
 answers_for (Some left) (Some right) first second = first ∷ second ∷ []

@@ -30,7 +30,8 @@ pub record IsLeastIn (q : Query) (group : KeyParts) (wanted : Request) (set : No
   pub choice : IsChoiceIn q group wanted set plan
   pub enforcers : (e : EnforcedBy) → Among e (enforcers_of wanted) → IsIn set (nodes.Enforcer e.node)
       → IsEnforcerSettled (IsMember q) q group e plan
-  pub members : (e : PhysicalExpr) (mode : ℕ) → IsMember q (expr_of e) → e.group ≡ group → IsIn set (nodes.Native e mode)
+  pub members : (e : PhysicalExpr) (mode : ℕ) → IsMember q (expr_of e) → e.group ≡ group
+      → IsIn set (nodes.Native e mode)
       → IsModeSettled (IsMember q) q wanted e mode plan
 
 -- the answer is that of the least choice with a root in the set, or none where there is no such choice

@@ -26,7 +26,8 @@ use Rattle.best_answers.specs.Answers.{answer_of, lesser, costs_below, best_over
 use Rattle.best_answers.specs.Best.{IsLeastIn, IsBest, AreBest}
 use Rattle.best_answers.specs.declared.best.Best.{Best}
 
--- the nodes of the smaller set are in the larger one, and so are all of that one that may serve the request in the smaller
+-- the nodes of the smaller set are in the larger one, and so are all of that one that may serve the request in the
+-- smaller
 pub record Covers (q : Query) (group : KeyParts) (wanted : Request) (smaller larger : Nodes) : Type 0 where
   pub within : (node : NodeKind) → IsIn smaller node → IsIn larger node
   pub enforcers : (e : EnforcedBy) → Among e (enforcers_of wanted) → IsIn larger (nodes.Enforcer e.node)
@@ -47,35 +48,42 @@ NoneIsBest q = (group : KeyParts) (wanted : Request) → IsBest q group wanted n
 -- the lesser of the best of two sets is the best of both
 abbrev pub LesserIsBest : Query → Type 0
 LesserIsBest q =
-    (props : Props) → IsProps q props → (group : KeyParts) (wanted : Request) (some others : Nodes) (first second : Option Best)
+    (props : Props) → IsProps q props → (group : KeyParts) (wanted : Request) (some others : Nodes)
+    (first second : Option Best)
     → Fits q group wanted → IsBest q group wanted some first → IsBest q group wanted others second
     → IsBest q group wanted (both_of some others) (lesser first second)
 
 -- what is the best of a set is the best of each set that it covers
 abbrev pub CoveredIsBest : Query → Type 0
 CoveredIsBest q =
-    (group : KeyParts) (wanted : Request) (smaller larger : Nodes) (answer : Option Best) → Covers q group wanted smaller larger
+    (group : KeyParts) (wanted : Request) (smaller larger : Nodes) (answer : Option Best)
+    → Covers q group wanted smaller larger
     → IsBest q group wanted smaller answer → IsBest q group wanted larger answer
 
 -- an enforcer for the request with the best of what it asks is the best of this one node
 abbrev pub EnforcerIsBest : Query → Type 0
 EnforcerIsBest q =
     (group : KeyParts) (wanted : Request) (e : EnforcedBy) (local : ℕ) (answer : Option Best) → Fits q group wanted
-    → Among e (enforcers_of wanted) → IsEnforcerCost q e.node group e.below local → IsBest q group e.below all_nodes answer
-    → IsBest q group wanted (one_node (nodes.Enforcer e.node)) (best_over local (nodes.Enforcer e.node) (costs_below (answer ∷ [])))
+    → Among e (enforcers_of wanted) → IsEnforcerCost q e.node group e.below local
+    → IsBest q group e.below all_nodes answer
+    → IsBest q group wanted (one_node (nodes.Enforcer e.node))
+    (best_over local (nodes.Enforcer e.node) (costs_below (answer ∷ [])))
 
 -- so is a member in a mode with the best of what its line asks of the children
 abbrev pub ModeIsBest : Query → Type 0
 ModeIsBest q =
     (e : PhysicalExpr) (mode : ℕ) (line : Line) (wanted : Request) (local : ℕ) (answers : List (Option Best))
-    → IsMember q (expr_of e) → Fits q e.group wanted → IsAlternative q e wanted mode line → IsNativeCost q e mode wanted local
+    → IsMember q (expr_of e) → Fits q e.group wanted → IsAlternative q e wanted mode line
+    → IsNativeCost q e mode wanted local
     → AreBest q (groups_of (physical_children e.operator)) (asked_of line wanted) answers
-    → IsBest q e.group wanted (one_node (nodes.Native e mode)) (best_over local (nodes.Native e mode) (costs_below answers))
+    → IsBest q e.group wanted (one_node (nodes.Native e mode))
+    (best_over local (nodes.Native e mode) (costs_below answers))
 
 -- the best of all nodes is the answer of the least plan of all, which is a choice, or says that there is none
 abbrev pub BestIsLeast : Query → Type 0
 BestIsLeast q =
-    (group : KeyParts) (wanted : Request) (answer : Option Best) → Fits q group wanted → IsBest q group wanted all_nodes answer
+    (group : KeyParts) (wanted : Request) (answer : Option Best) → Fits q group wanted
+    → IsBest q group wanted all_nodes answer
     → (plan : Option Tree) × IsLeastIn q group wanted all_nodes plan × IsAnswer (IsMember q) q group wanted plan
     × (answer ≡ option_map (answer_of q) plan)
 

@@ -9,7 +9,8 @@ left_above None = 2 ^ 64
 left_above (Some before) = 2 ^ 64 - 1 - before
 
 -- fewer are above the next one
-pub fewer_above : (before : Option ℕ) (word : ℕ) → IsAbove before word → word < 2 ^ 64 → left_above (Some word) < left_above before
+pub fewer_above : (before : Option ℕ) (word : ℕ) → IsAbove before word → word < 2 ^ 64
+    → left_above (Some word) < left_above before
 fewer_above None word above fits = omega arith
 fewer_above (Some b) word above fits = omega arith
 
@@ -29,19 +30,24 @@ up_to_or_above (Some b) word = ⊎_elim (λ (less : b < word). inr less) (λ (mo
 module _ (Has : ℕ → Type 0) (before : Option ℕ) (word : ℕ) (next : IsNextWord Has before word) where
   -- what is up to the next one is it, or up to the one before
   pub up_to_next : (other : ℕ) → Has other → other ≤ word → (other ≡ word) ⊎ IsUpTo before other
-  up_to_next other has most = ⊎_elim (λ (old : IsUpTo before other). inr old) (λ (above : IsAbove before other). let least = next.least other has above in inl (omega arith)) (up_to_or_above before other)
+  up_to_next other has most = ⊎_elim (λ (old : IsUpTo before other). inr old)
+      (λ (above : IsAbove before other). let least = next.least other has above in inl (omega arith))
+      (up_to_or_above before other)
 
 -- the search for an entry has come to a word: no entry was passed
 pub record Passes (Wanted : ℕ → Type 0) (start before : Option ℕ) : Type 0 where
   pub none_passed : (word : ℕ) → Wanted word → IsAbove start word → IsAbove before word
   pub after : (word : ℕ) → IsAbove before word → IsAbove start word
 
-module _ (Has Wanted : ℕ → Type 0) (wanted_has : (word : ℕ) → Wanted word → Has word) (start before : Option ℕ) (passes : Passes Wanted start before) where
+module _ (Has Wanted : ℕ → Type 0) (wanted_has : (word : ℕ) → Wanted word → Has word) (start before : Option ℕ)
+    (passes : Passes Wanted start before) where
   -- the next word isn't wanted
   pub passes_next : (word : ℕ) → IsNextWord Has before word → (Wanted word → ⊥) → Passes Wanted start (Some word)
   passes_next word next unwanted = record {
     none_passed = λ other wanted above. ⊎_elim (λ (less : word < other). less)
-        (λ (most : other ≤ word). let least = next.least other (wanted_has other wanted) (passes.none_passed other wanted above) in let same : word ≡ other = omega arith in absurd (unwanted (subst Wanted (sym same) wanted)))
+        (λ (most : other ≤ word). let least = next.least other (wanted_has other wanted)
+        (passes.none_passed other wanted above) in let same : word ≡ other = omega arith in
+        absurd (unwanted (subst Wanted (sym same) wanted)))
         (cases_lt word other);
     after = λ other above. passes.after other (above_on before word other next.above above);
   }

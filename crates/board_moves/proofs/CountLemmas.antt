@@ -1,5 +1,7 @@
 -- Numbers of places: where what holds changes at one place alone, or at none.
-use Rattle.std.proofs.Common.{◌≡◌, ◌≢◌, ℕ, zero, suc, ◌+◌, ◌*◌, ◌<◌, ◌≤◌, ◌==◌, Bool, true, false, not, ◌&&◌, cond, List, length, slice_set, eq-eqb, ne_eqb, ap, sym, refl, ◌∙◌, arith, get_or-set_other, get_or-set_same, nat_le, ◌^◌}
+use Rattle.std.proofs.Common.{◌≡◌, ◌≢◌, ℕ, zero, suc, ◌+◌, ◌*◌, ◌<◌, ◌≤◌, ◌==◌, Bool, true, false, not, ◌&&◌, cond}
+use Rattle.std.proofs.Common.{List, length, slice_set, eq-eqb, ne_eqb, ap, sym, refl, ◌∙◌, arith, get_or-set_other}
+use Rattle.std.proofs.Common.{get_or-set_same, nat_le, ◌^◌}
 use Rattle.std.proofs.lemmas.Bool.{and_right}
 use mathlib.Core.Logic.{dite}
 use native.Mathlib.Decide.{ℕ_discrete}
@@ -27,7 +29,8 @@ number_same p q (suc n) same =
     omega (arith, here, rest)
 
 -- the number changes as what holds at the place
-pub one_changed : (p q : ℕ → Bool) (n at : ℕ) → at < n → ((k : ℕ) → k < n → k ≢ at → q k ≡ p k) → number_below q n + one_if (p at) ≡ number_below p n + one_if (q at)
+pub one_changed : (p q : ℕ → Bool) (n at : ℕ) → at < n → ((k : ℕ) → k < n → k ≢ at → q k ≡ p k)
+    → number_below q n + one_if (p at) ≡ number_below p n + one_if (q at)
 one_changed p q zero at near same = absurd (omega arith)
 one_changed p q (suc n) at near same =
     dite (ℕ_discrete at n)
@@ -73,15 +76,20 @@ claim_counts meaning room at kept near long some_goal is_goal is_ready =
     let was : has_ready meaning m at ≡ true =
     ap (λ b. (not b && meaning.goal (m.cell at)) && (m.run at == 0)) (ne_eqb (m.cell at) 0 some_goal)
     ∙ (ap (λ b. b && (m.run at == 0)) is_goal ∙ eq-eqb (m.run at) 0 is_ready) in
-    let busy : (after.run at == 0) ≡ false = ne_eqb (after.run at) 0 (λ e. let here = run_here kept at 256 room near long in omega arith) in
-    let now : has_ready meaning after at ≡ false = and_right (not (after.cell at == 0) && meaning.goal (after.cell at)) (after.run at == 0) busy in
+    let busy : (after.run at == 0) ≡ false =
+    ne_eqb (after.run at) 0 (λ e. let here = run_here kept at 256 room near long in omega arith) in
+    let now : has_ready meaning after at ≡ false =
+    and_right (not (after.cell at == 0) && meaning.goal (after.cell at)) (after.run at == 0) busy in
     let others : (k : ℕ) → k < room → k ≢ at → has_ready meaning after k ≡ has_ready meaning m k =
-    λ k below apart. ap (λ (t : ℕ × ℕ). (not (t.0 == 0) && meaning.goal t.0) && (t.1 == 0)) (λ i. (cell_kept kept at 256 k i, run_kept kept at 256 k apart i)) in
+    λ k below apart. ap (λ (t : ℕ × ℕ). (not (t.0 == 0) && meaning.goal t.0) && (t.1 == 0))
+    (λ i. (cell_kept kept at 256 k i, run_kept kept at 256 k apart i)) in
     let one = one_changed (has_ready meaning m) (has_ready meaning after) room at near others in
     let p_here : one_if (has_ready meaning m at) ≡ 1 = ap one_if was in
     let q_here : one_if (has_ready meaning after at) ≡ 0 = ap one_if now in
     record {
       fewer_ready = omega (arith, one, p_here, q_here);
-      same_empty = number_same (has_empty m) (has_empty after) room (λ k below. ap (λ c. c == 0) (cell_kept kept at 256 k));
-      same_open = number_same (has_open m) (has_open after) room (λ k below. ap (λ h. not (nat_le (2 ^ 63) h)) (head_kept kept at 256 k));
+      same_empty = number_same (has_empty m) (has_empty after) room
+          (λ k below. ap (λ c. c == 0) (cell_kept kept at 256 k));
+      same_open = number_same (has_open m) (has_open after) room
+          (λ k below. ap (λ h. not (nat_le (2 ^ 63) h)) (head_kept kept at 256 k));
     }

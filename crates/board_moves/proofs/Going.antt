@@ -1,5 +1,7 @@
 -- How the words that a seat keeps while it is alone go on, call by call, before the turn of a goal ends.
-use Rattle.std.proofs.Common.{◌≡◌, ◌≢◌, ℕ, ◌+◌, ◌*◌, ◌<◌, ◌≤◌, ◌==◌, ◌^◌, nat_le, List, [], ◌∷◌, ◌++◌, length, length-set, set, get_or-set_other, get_or-set_same, Option, eq-eqb, ne_eqb, refl, sym, ap, subst, ◌∙◌, ⊎_elim, inl, inr, arith}
+use Rattle.std.proofs.Common.{◌≡◌, ◌≢◌, ℕ, ◌+◌, ◌*◌, ◌<◌, ◌≤◌, ◌==◌, ◌^◌, nat_le, List, [], ◌∷◌, ◌++◌, length}
+use Rattle.std.proofs.Common.{length-set, set, get_or-set_other, get_or-set_same, Option, eq-eqb, ne_eqb, refl, sym, ap}
+use Rattle.std.proofs.Common.{subst, ◌∙◌, ⊎_elim, inl, inr, arith}
 use Rattle.std.proofs.lemmas.Bool.{cases_lt}
 use Rattle.board_rule.specs.Words.{mem, cell_word, run_word, head_word}
 use Rattle.board_rule.specs.Seats.{Each, changed, waits_at}
@@ -29,39 +31,52 @@ goes_none place words room before is long = (
     heads = λ p. refl;
     others = λ p apart. refl;
     cells = inl (λ p near. refl);
-    waiting = λ has. ⊎_elim (λ (e : 1 ≤ 0). let no : ⊥ = omega (arith, e) in absurd no) (λ (h : HasWait ((mem before).run place)). h) has;
+    waiting = λ has. ⊎_elim (λ (e : 1 ≤ 0). let no : ⊥ = omega (arith, e) in absurd no)
+        (λ (h : HasWait ((mem before).run place)). h) has;
   },
 )
 
 -- cells that haven't changed are as empty as before
-pub empties_same : (room : ℕ) (before after : List ℕ) → ((p : ℕ) → p < room → (mem after).cell p ≡ (mem before).cell p) → empty_count room after ≡ empty_count room before
-empties_same room before after same = number_same (has_empty (mem before)) (has_empty (mem after)) room (λ k below. ap (λ c. c == 0) (same k below))
+pub empties_same : (room : ℕ) (before after : List ℕ) → ((p : ℕ) → p < room → (mem after).cell p ≡ (mem before).cell p)
+    → empty_count room after ≡ empty_count room before
+empties_same room before after same = number_same (has_empty (mem before)) (has_empty (mem after)) room
+    (λ k below. ap (λ c. c == 0) (same k below))
 
 -- a cell that was empty holds a word
-fewer_empty : (room at word : ℕ) (before : List ℕ) → at < room → length before ≡ 14 * room + 1 → word ≢ 0 → (mem before).cell at ≡ 0 → empty_count room (set before (cell_word at) word) < empty_count room before
+fewer_empty : (room at word : ℕ) (before : List ℕ) → at < room → length before ≡ 14 * room + 1 → word ≢ 0
+    → (mem before).cell at ≡ 0 → empty_count room (set before (cell_word at) word) < empty_count room before
 fewer_empty room at word before near long some was_empty =
     let after : List ℕ = set before (cell_word at) word in
     let here : (mem after).cell at ≡ word = get_or-set_same before (cell_word at) word 0 (omega (arith, near, long)) in
-    let one = one_changed (has_empty (mem before)) (has_empty (mem after)) room at near (λ k below apart. ap (λ c. c == 0) (get_or-set_other before (cell_word at) (cell_word k) word 0 (λ e. apart (omega arith)))) in
+    let one = one_changed (has_empty (mem before)) (has_empty (mem after)) room at near
+    (λ k below apart. ap (λ c. c == 0) (get_or-set_other before (cell_word at) (cell_word k) word 0
+    (λ e. apart (omega arith)))) in
     let p_here : one_if (has_empty (mem before) at) ≡ 1 = ap one_if (eq-eqb ((mem before).cell at) 0 was_empty) in
-    let q_here : one_if (has_empty (mem after) at) ≡ 0 = ap one_if (ne_eqb ((mem after).cell at) 0 (λ e. some (sym here ∙ e))) in
+    let q_here : one_if (has_empty (mem after) at) ≡ 0 =
+    ap one_if (ne_eqb ((mem after).cell at) 0 (λ e. some (sym here ∙ e))) in
     omega (arith, one, p_here, q_here)
 
 -- a word was put into a cell
-goes_put : (place at word room : ℕ) (before : List ℕ) → length before ≡ 14 * room + 1 → word ≢ 0 → (mem before).cell at ≡ 0 → GoesOn room place 0 before (set before (cell_word at) word)
+goes_put : (place at word room : ℕ) (before : List ℕ) → length before ≡ 14 * room + 1 → word ≢ 0
+    → (mem before).cell at ≡ 0 → GoesOn room place 0 before (set before (cell_word at) word)
 goes_put place at word room before long some was_empty =
     let after : List ℕ = set before (cell_word at) word in
-    let runs : (p : ℕ) → (mem after).run p ≡ (mem before).run p = λ p. get_or-set_other before (cell_word at) (run_word p) word 0 (λ e. omega arith) in record {
+    let runs : (p : ℕ) → (mem after).run p ≡ (mem before).run p =
+    λ p. get_or-set_other before (cell_word at) (run_word p) word 0 (λ e. omega arith) in record {
       same_length = length-set before (cell_word at) word;
-      heads = λ p. ap (nat_le (2 ^ 63)) (get_or-set_other before (cell_word at) (head_word p) word 0 (λ e. omega arith));
+      heads = λ p. ap (nat_le (2 ^ 63)) (get_or-set_other before (cell_word at) (head_word p) word 0
+          (λ e. omega arith));
       others = λ p apart. runs p;
       cells = ⊎_elim (λ (near : at < room). inr (fewer_empty room at word before near long some was_empty))
-          (λ (far : room ≤ at). inl (λ p near. get_or-set_other before (cell_word at) (cell_word p) word 0 (λ e. omega (arith, far, near)))) (cases_lt at room);
-      waiting = λ has. ⊎_elim (λ (e : 1 ≤ 0). let no : ⊥ = omega (arith, e) in absurd no) (λ (h : HasWait ((mem before).run place)). subst HasWait (sym (runs place)) h) has;
+          (λ (far : room ≤ at). inl (λ p near. get_or-set_other before (cell_word at) (cell_word p) word 0
+          (λ e. omega (arith, far, near)))) (cases_lt at room);
+      waiting = λ has. ⊎_elim (λ (e : 1 ≤ 0). let no : ⊥ = omega (arith, e) in absurd no)
+          (λ (h : HasWait ((mem before).run place)). subst HasWait (sym (runs place)) h) has;
     }
 
 module _ {R : Type 0} where
-  pub goes_fresh : (place room : ℕ) (v : Hands R) (word at : ℕ) (w : Hands R) → PutsFresh room v word at w → word ≢ 0 → GoesOnAlone place 0 v.alone (changed (cell_word at) word v.alone)
+  pub goes_fresh : (place room : ℕ) (v : Hands R) (word at : ℕ) (w : Hands R) → PutsFresh room v word at w → word ≢ 0
+      → GoesOnAlone place 0 v.alone (changed (cell_word at) word v.alone)
   goes_fresh place room v word at w t some n before is long = (
     set before (cell_word at) word,
     ap (changed (cell_word at) word) is,
@@ -69,9 +84,11 @@ module _ {R : Type 0} where
   )
 
   -- a wait was registered
-  pub goes_registered : (v : Hands R) (place at : ℕ) (w : Hands R) (t : Registers v place at w) → GoesOnAlone place 1 v.alone t.words
+  pub goes_registered : (v : Hands R) (place at : ℕ) (w : Hands R) (t : Registers v place at w)
+      → GoesOnAlone place 1 v.alone t.words
   goes_registered v place at w t room before is long =
-      let s = subst (λ o. StaysAlone (KeepsBoard place (λ run. bit_or run (2 ^ waits_at place v.rights))) o t.words) is t.kept in (
+      let s = subst (λ o. StaysAlone (KeepsBoard place (λ run. bit_or run (2 ^ waits_at place v.rights))) o t.words) is
+      t.kept in (
         s.0,
         s.1,
         record {
@@ -84,7 +101,8 @@ module _ {R : Type 0} where
       )
 
   -- a child was found finished
-  pub goes_finished : (v : Hands R) (place at : ℕ) (w : Hands R) (t : FindsFinished v place at w) → GoesOnAlone place 0 v.alone t.words
+  pub goes_finished : (v : Hands R) (place at : ℕ) (w : Hands R) (t : FindsFinished v place at w)
+      → GoesOnAlone place 0 v.alone t.words
   goes_finished v place at w t room before is long =
       let s = subst (λ o. StaysAlone (KeepsBoard place (λ run. run)) o t.words) is t.kept in (
         s.0,
@@ -94,12 +112,14 @@ module _ {R : Type 0} where
           heads = s.2.heads;
           others = s.2.others;
           cells = inl (λ p near. s.2.cells p);
-          waiting = λ has. ⊎_elim (λ (e : 1 ≤ 0). let no : ⊥ = omega (arith, e) in absurd no) (λ (h : HasWait ((mem before).run place)). subst HasWait (sym s.2.its_run) h) has;
+          waiting = λ has. ⊎_elim (λ (e : 1 ≤ 0). let no : ⊥ = omega (arith, e) in absurd no)
+              (λ (h : HasWait ((mem before).run place)). subst HasWait (sym s.2.its_run) h) has;
         },
       )
 
 -- words that went on, and then went on
-goes_both : (room place first second : ℕ) (a b c : List ℕ) → GoesOn room place first a b → GoesOn room place second b c → GoesOn room place (first + second) a c
+goes_both : (room place first second : ℕ) (a b c : List ℕ) → GoesOn room place first a b → GoesOn room place second b c
+    → GoesOn room place (first + second) a c
 goes_both room place first second a b c f s = record {
   same_length = s.same_length ∙ f.same_length;
   heads = λ p. s.heads p ∙ f.heads p;
@@ -107,10 +127,12 @@ goes_both room place first second a b c f s = record {
   cells = ⊎_elim
       (λ (same : (p : ℕ) → p < room → (mem b).cell p ≡ (mem a).cell p). ⊎_elim
       (λ (again : (p : ℕ) → p < room → (mem c).cell p ≡ (mem b).cell p). inl (λ p near. again p near ∙ same p near))
-      (λ (fewer : empty_count room c < empty_count room b). inr (let as_many = empties_same room a b same in omega (arith, fewer, as_many)))
+      (λ (fewer : empty_count room c < empty_count room b).
+      inr (let as_many = empties_same room a b same in omega (arith, fewer, as_many)))
       s.cells)
       (λ (fewer : empty_count room b < empty_count room a). ⊎_elim
-      (λ (again : (p : ℕ) → p < room → (mem c).cell p ≡ (mem b).cell p). inr (let as_many = empties_same room b c again in omega (arith, fewer, as_many)))
+      (λ (again : (p : ℕ) → p < room → (mem c).cell p ≡ (mem b).cell p).
+      inr (let as_many = empties_same room b c again in omega (arith, fewer, as_many)))
       (λ (still : empty_count room c < empty_count room b). inr (omega (arith, fewer, still)))
       s.cells)
       f.cells;
@@ -123,7 +145,9 @@ goes_both room place first second a b c f s = record {
       has;
 }
 
-pub goes_then : (place first second : ℕ) (v a u b : Option (List ℕ)) → u ≡ a → GoesOnAlone place first v a → GoesOnAlone place second u b → GoesOnAlone place (first + second) v b
+pub goes_then : (place first second : ℕ) (v a u b : Option (List ℕ)) → u ≡ a → GoesOnAlone place first v a
+    → GoesOnAlone place second u b → GoesOnAlone place (first + second) v b
 goes_then place first second v a u b same f s room before is long =
     let one = f room before is long in
-    let two = s room one.0 (same ∙ one.1) (one.2.same_length ∙ long) in (two.0, two.1, goes_both room place first second before one.0 two.0 one.2 two.2)
+    let two = s room one.0 (same ∙ one.1) (one.2.same_length ∙ long) in
+    (two.0, two.1, goes_both room place first second before one.0 two.0 one.2 two.2)

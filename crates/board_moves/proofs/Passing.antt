@@ -1,5 +1,6 @@
 -- One pass over the words that a group may have as members, word by word.
-use Rattle.std.proofs.Common.{◌≡◌, ◌≢◌, ◌⊎◌, ℕ, ◌+◌, ◌^◌, ◌<◌, ◌≤◌, Option, None, Some, List, [], ◌∷◌, ◌++◌, length, refl, sym, subst, inl, inr, ⊎_elim, arith}
+use Rattle.std.proofs.Common.{◌≡◌, ◌≢◌, ◌⊎◌, ℕ, ◌+◌, ◌^◌, ◌<◌, ◌≤◌, Option, None, Some, List, [], ◌∷◌, ◌++◌, length}
+use Rattle.std.proofs.Common.{refl, sym, subst, inl, inr, ⊎_elim, arith}
 use Rattle.board_rule.specs.Meaning.{Meaning}
 use Rattle.board_rule.specs.Looks.{ShowsFinished, ShowsEntry}
 use Rattle.board_rule.specs.Seats.{Among, Each}
@@ -23,7 +24,8 @@ pub record FoundUpTo (Has : ℕ → Type 0) (before : Option ℕ) (found : List 
 pub found_none : (Has : ℕ → Type 0) → FoundUpTo Has None [] 0
 found_none Has = record { falls = tt; number_is = refl; below = λ word at. absurd at }
 
-module _ (Has : ℕ → Type 0) (before : Option ℕ) (found : List ℕ) (number : ℕ) (so_far : FoundUpTo Has before found number) (word : ℕ) (next : IsNextWord Has before word) where
+module _ (Has : ℕ → Type 0) (before : Option ℕ) (found : List ℕ) (number : ℕ)
+    (so_far : FoundUpTo Has before found number) (word : ℕ) (next : IsNextWord Has before word) where
   up_to : (other : ℕ) → IsUpTo before other → other < word
   up_to other below = before_is before below next.above
     where
@@ -33,17 +35,25 @@ module _ (Has : ℕ → Type 0) (before : Option ℕ) (found : List ℕ) (number
 
   -- the next word isn't found
   pub found_past : FoundUpTo Has (Some word) found number
-  found_past = record { falls = so_far.falls; number_is = so_far.number_is; below = λ other at. let old = so_far.below other at in (old.0, let less = up_to other old.1 in omega arith) }
+  found_past = record {
+    falls = so_far.falls;
+    number_is = so_far.number_is;
+    below = λ other at. let old =
+        so_far.below other at in (old.0, let less = up_to other old.1 in omega arith);
+  }
 
   -- the next word is found
   pub found_next : FoundUpTo Has (Some word) (word ∷ found) (number + 1)
   found_next = record {
     falls = (each_below found (λ other at. up_to other (so_far.below other at).1), so_far.falls);
     number_is = let same = so_far.number_is in omega arith;
-    below = λ other at. ⊎_elim (λ (e : word ≡ other). (subst Has e next.has, let most : other ≤ word = omega arith in most)) (λ (t : Among found other). found_past.below other t) at;
+    below = λ other at. ⊎_elim (λ (e : word ≡ other).
+        (subst Has e next.has, let most : other ≤ word = omega arith in most))
+        (λ (t : Among found other). found_past.below other t) at;
   }
     where
-      each_below : (words : List ℕ) → ((other : ℕ) → Among words other → other < word) → Each (λ other. other < word) words
+      each_below : (words : List ℕ) → ((other : ℕ) → Among words other → other < word)
+          → Each (λ other. other < word) words
       each_below [] less = tt
       each_below (x ∷ xs) less = (less x (inl refl), each_below xs (λ other at. less other (inr at)))
 
@@ -78,7 +88,8 @@ module _ {R : Type 0} (meaning : Meaning) (room : ℕ) (Has : ℕ → Type 0) (v
     knew = λ word has most shown. absurd most;
   }
 
-  module _ (before : Option ℕ) (number : ℕ) (u : Hands R) (pass : Passing before number u) (word : ℕ) (next : IsNextWord Has before word) (w : Hands R) where
+  module _ (before : Option ℕ) (number : ℕ) (u : Hands R) (pass : Passing before number u) (word : ℕ)
+      (next : IsNextWord Has before word) (w : Hands R) where
     -- the next word was found in no cell
     abbrev pub passing_past : SeesNone meaning room u word w → Passing (Some word) number w
     passing_past t = record {
@@ -89,12 +100,18 @@ module _ {R : Type 0} (meaning : Meaning) (room : ℕ) (Has : ℕ → Type 0) (v
       so_far = found_past Has before pass.found number pass.so_far word next;
       each = λ other at. found_earlier room t.more pass.more other (pass.each other at);
       rest = λ other has most. ⊎_elim
-          (λ (e : other ≡ word). inr (subst (FoundNowhere room (t.more ++ pass.more)) (sym e) (nowhere_later room t.more pass.more word t.nowhere)))
-          (λ (old : IsUpTo before other). ⊎_elim (λ (at : Among pass.found other). inl at) (λ (none : FoundNowhere room pass.more other). inr (nowhere_earlier room t.more pass.more other none)) (pass.rest other has old))
+          (λ (e : other ≡ word). inr (subst (FoundNowhere room (t.more ++ pass.more)) (sym e)
+          (nowhere_later room t.more pass.more word t.nowhere)))
+          (λ (old : IsUpTo before other). ⊎_elim (λ (at : Among pass.found other). inl at)
+          (λ (none : FoundNowhere room pass.more other). inr (nowhere_earlier room t.more pass.more other none))
+          (pass.rest other has old))
           (up_to_next Has before word next other has most);
       knew = λ other has most shown. ⊎_elim
-          (λ (e : other ≡ word). absurd (t.unknown (subst (ShowsEntry meaning room u.looks) e (still_shown meaning room v.looks u.looks (later_seen pass.more v u pass.hands_are) other shown))))
-          (λ (old : IsUpTo before other). pass.knew other has old shown) (up_to_next Has before word next other has most);
+          (λ (e : other ≡ word). absurd (t.unknown
+          (subst (ShowsEntry meaning room u.looks) e
+          (still_shown meaning room v.looks u.looks (later_seen pass.more v u pass.hands_are) other shown))))
+          (λ (old : IsUpTo before other). pass.knew other has old shown)
+          (up_to_next Has before word next other has most);
     }
 
     -- the next word was found in a cell
@@ -105,16 +122,22 @@ module _ {R : Type 0} (meaning : Meaning) (room : ℕ) (Has : ℕ → Type 0) (v
       hands_are = seen_twice v u w pass.more t.more pass.hands_are t.hands_are;
       found = word ∷ pass.found;
       so_far = found_next Has before pass.found number pass.so_far word next;
-      each = λ other at. ⊎_elim (λ (e : word ≡ other). subst (FoundIn room (t.more ++ pass.more)) e (found_later room t.more pass.more word t.there))
+      each = λ other at. ⊎_elim (λ (e : word ≡ other).
+          subst (FoundIn room (t.more ++ pass.more)) e (found_later room t.more pass.more word t.there))
           (λ (old : Among pass.found other). found_earlier room t.more pass.more other (pass.each other old)) at;
       rest = λ other has most. ⊎_elim (λ (e : other ≡ word). inl (inl (sym e)))
-          (λ (old : IsUpTo before other). ⊎_elim (λ (at : Among pass.found other). inl (inr at)) (λ (none : FoundNowhere room pass.more other). inr (nowhere_earlier room t.more pass.more other none)) (pass.rest other has old))
+          (λ (old : IsUpTo before other). ⊎_elim (λ (at : Among pass.found other). inl (inr at))
+          (λ (none : FoundNowhere room pass.more other). inr (nowhere_earlier room t.more pass.more other none))
+          (pass.rest other has old))
           (up_to_next Has before word next other has most);
-      knew = λ other has most shown. ⊎_elim (λ (e : other ≡ word). inl (sym e)) (λ (old : IsUpTo before other). inr (pass.knew other has old shown)) (up_to_next Has before word next other has most);
+      knew = λ other has most shown. ⊎_elim (λ (e : other ≡ word). inl (sym e))
+          (λ (old : IsUpTo before other). inr (pass.knew other has old shown))
+          (up_to_next Has before word next other has most);
     }
 
   -- no word comes next
-  abbrev pub passed : (before : Option ℕ) (number : ℕ) (w : Hands R) → Passing before number w → IsNextOf Has before None → CountsAgain meaning room v Has number w
+  abbrev pub passed : (before : Option ℕ) (number : ℕ) (w : Hands R) → Passing before number w
+      → IsNextOf Has before None → CountsAgain meaning room v Has number w
   passed before number w pass none = record {
     more = pass.more;
     looks = pass.looks;
@@ -130,7 +153,8 @@ module _ {R : Type 0} (meaning : Meaning) (room : ℕ) (Has : ℕ → Type 0) (v
   }
     where
       all_up_to : (word : ℕ) → Has word → IsUpTo before word
-      all_up_to word has = ⊎_elim (λ (most : IsUpTo before word). most) (λ (above : IsAbove before word). absurd (none word has above)) (up_to_or_above before word)
+      all_up_to word has = ⊎_elim (λ (most : IsUpTo before word). most)
+          (λ (above : IsAbove before word). absurd (none word has above)) (up_to_or_above before word)
 
   module _ (goal_of : ℕ → ℕ) where
     -- a first pass has come to a word: the goals of those that it found are finished
@@ -141,24 +165,40 @@ module _ {R : Type 0} (meaning : Meaning) (room : ℕ) (Has : ℕ → Type 0) (v
     pub collecting_none : Collecting None 0 v
     collecting_none = record { pass = passing_none; finished = λ word at. absurd at }
 
-    module _ (before : Option ℕ) (number : ℕ) (u : Hands R) (so_far : Collecting before number u) (word : ℕ) (next : IsNextWord Has before word) (w : Hands R) where
-      old_finished : Later u.looks w.looks → (other : ℕ) → Among so_far.pass.found other → ShowsFinished meaning room w.looks (goal_of other)
-      old_finished on other at = still_finished meaning room u.looks w.looks on (goal_of other) (so_far.finished other at)
+    module _ (before : Option ℕ) (number : ℕ) (u : Hands R) (so_far : Collecting before number u) (word : ℕ)
+        (next : IsNextWord Has before word) (w : Hands R) where
+      old_finished : Later u.looks w.looks → (other : ℕ) → Among so_far.pass.found other
+          → ShowsFinished meaning room w.looks (goal_of other)
+      old_finished on other at = still_finished meaning room u.looks w.looks on (goal_of other)
+          (so_far.finished other at)
 
       pub collecting_past : SeesNone meaning room u word w → Collecting (Some word) number w
-      collecting_past t = record { pass = passing_past before number u so_far.pass word next w t; finished = old_finished (later_seen t.more u w t.hands_are) }
-
-      pub collecting_next : SeesIn meaning room u word w → ShowsFinished meaning room w.looks (goal_of word) → Collecting (Some word) (number + 1) w
-      collecting_next t explored = record {
-        pass = passing_next before number u so_far.pass word next w t;
-        finished = λ other at. ⊎_elim (λ (e : word ≡ other). subst (λ x. ShowsFinished meaning room w.looks (goal_of x)) e explored) (λ (old : Among so_far.pass.found other). old_finished (later_seen t.more u w t.hands_are) other old) at;
+      collecting_past t = record {
+        pass = passing_past before number u so_far.pass word next w t;
+        finished =
+            old_finished (later_seen t.more u w t.hands_are);
       }
 
-    pub collected : (before : Option ℕ) (number : ℕ) (w : Hands R) → Collecting before number w → IsNextOf Has before None → CollectsAll meaning room v Has goal_of number w
-    collected before number w so_far none = record { pass = passed before number w so_far.pass none; finished = so_far.finished }
+      pub collecting_next : SeesIn meaning room u word w → ShowsFinished meaning room w.looks (goal_of word)
+          → Collecting (Some word) (number + 1) w
+      collecting_next t explored = record {
+        pass = passing_next before number u so_far.pass word next w t;
+        finished = λ other at. ⊎_elim (λ (e : word ≡ other).
+            subst (λ x. ShowsFinished meaning room w.looks (goal_of x)) e explored)
+            (λ (old : Among so_far.pass.found other). old_finished (later_seen t.more u w t.hands_are) other old) at;
+      }
+
+    pub collected : (before : Option ℕ) (number : ℕ) (w : Hands R) → Collecting before number w
+        → IsNextOf Has before None → CollectsAll meaning room v Has goal_of number w
+    collected before number w so_far none = record {
+      pass = passed before number w so_far.pass none;
+      finished =
+          so_far.finished;
+    }
 
     -- a goal that isn't finished was met in the middle of the pass
-    pub meets_open : (before : Option ℕ) (number : ℕ) (u : Hands R) → Passing before number u → (goal : ℕ) (w : Hands R) → FindsOpenGoal meaning room Has goal_of u goal w → FindsOpenGoal meaning room Has goal_of v goal w
+    pub meets_open : (before : Option ℕ) (number : ℕ) (u : Hands R) → Passing before number u → (goal : ℕ) (w : Hands R)
+        → FindsOpenGoal meaning room Has goal_of u goal w → FindsOpenGoal meaning room Has goal_of v goal w
     meets_open before number u pass goal w t = record {
       word = t.word;
       has = t.has;
@@ -167,7 +207,10 @@ module _ {R : Type 0} (meaning : Meaning) (room : ℕ) (Has : ℕ → Type 0) (v
       looks = seen_both v u pass.more t.more pass.hands_are pass.looks t.looks;
       hands_are = seen_twice v u w pass.more t.more pass.hands_are t.hands_are;
       there = found_later room t.more pass.more t.word t.there;
-      not_finished = ⊎_elim (λ (none : FoundNowhere room t.more goal). inl (nowhere_later room t.more pass.more goal none))
-          (λ (is_open : FoundOpen room t.more goal). inr (open_later room t.more pass.more goal is_open)) t.not_finished;
-      unknown = λ shown. t.unknown (still_finished meaning room v.looks u.looks (later_seen pass.more v u pass.hands_are) goal shown);
+      not_finished = ⊎_elim (λ (none : FoundNowhere room t.more goal).
+          inl (nowhere_later room t.more pass.more goal none))
+          (λ (is_open : FoundOpen room t.more goal). inr (open_later room t.more pass.more goal is_open))
+          t.not_finished;
+      unknown = λ shown. t.unknown (still_finished meaning room v.looks u.looks
+          (later_seen pass.more v u pass.hands_are) goal shown);
     }

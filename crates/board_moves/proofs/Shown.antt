@@ -2,7 +2,8 @@
 use Rattle.std.proofs.Common.{◌≡◌, ℕ, List, [], ◌++◌, ◌∙◌, refl, sym, ap, subst, append_assoc, ⊎_elim}
 use Rattle.board_rule.specs.Meaning.{Meaning}
 use Rattle.board_rule.specs.Words.{full_word, cell_word}
-use Rattle.board_rule.specs.Looks.{Looked, ShowsFinished, seen_closed, child_of, ShowsEntry, seen_there, asked_by, finished}
+use Rattle.board_rule.specs.Looks.{Looked, ShowsFinished, seen_closed, child_of, ShowsEntry, seen_there, asked_by}
+use Rattle.board_rule.specs.Looks.{finished}
 use Rattle.board_rule.specs.declared.hands.Hands.{Hands}
 use Rattle.board_rule.proofs.Seating.{looked_append}
 use Rattle.goal_board.specs.Calls.{seen, IsSeen}
@@ -13,43 +14,62 @@ use Rattle.board_moves.specs.Moves.{OnlyLooks}
 abbrev pub Later : (looks later : List (ℕ × ℕ)) → Type 0
 Later looks later = (word found : ℕ) → Looked looks word found → Looked later word found
 
-pub still_finished : (meaning : Meaning) (room : ℕ) (looks later : List (ℕ × ℕ)) → Later looks later → (goal : ℕ) → ShowsFinished meaning room looks goal → ShowsFinished meaning room later goal
+pub still_finished : (meaning : Meaning) (room : ℕ) (looks later : List (ℕ × ℕ)) → Later looks later → (goal : ℕ)
+    → ShowsFinished meaning room looks goal → ShowsFinished meaning room later goal
 still_finished meaning room looks later on _ (seen_closed goal place near some_goal at closed) =
     seen_closed goal place near some_goal (on _ goal at) (closed.0, on _ closed.0 closed.1, closed.2)
-still_finished meaning room looks later on _ (child_of goal child shows is) = child_of goal child (still_finished meaning room looks later on goal shows) is
+still_finished meaning room looks later on _ (child_of goal child shows is) =
+    child_of goal child (still_finished meaning room looks later on goal shows) is
 
-pub still_shown : (meaning : Meaning) (room : ℕ) (looks later : List (ℕ × ℕ)) → Later looks later → (word : ℕ) → ShowsEntry meaning room looks word → ShowsEntry meaning room later word
-still_shown meaning room looks later on _ (seen_there word place near some_word at) = seen_there word place near some_word (on _ word at)
-still_shown meaning room looks later on _ (asked_by goal word shows is) = asked_by goal word (still_finished meaning room looks later on goal shows) is
-still_shown meaning room looks later on _ (finished goal shows) = finished goal (still_finished meaning room looks later on goal shows)
+pub still_shown : (meaning : Meaning) (room : ℕ) (looks later : List (ℕ × ℕ)) → Later looks later → (word : ℕ)
+    → ShowsEntry meaning room looks word → ShowsEntry meaning room later word
+still_shown meaning room looks later on _ (seen_there word place near some_word at) =
+    seen_there word place near some_word (on _ word at)
+still_shown meaning room looks later on _ (asked_by goal word shows is) =
+    asked_by goal word (still_finished meaning room looks later on goal shows) is
+still_shown meaning room looks later on _ (finished goal shows) =
+    finished goal (still_finished meaning room looks later on goal shows)
 
 module _ {R : Type 0} where
   -- the looks of hands that only looked further
   pub later_seen : (more : List (ℕ × ℕ)) (v w : Hands R) → w ≡ seen more v → Later v.looks w.looks
-  later_seen more v w is word found at = subst (λ (h : Hands R). Looked h.looks word found) (sym is) (looked_earlier more v.looks word found at)
+  later_seen more v w is word found at = subst (λ (h : Hands R). Looked h.looks word found) (sym is)
+      (looked_earlier more v.looks word found at)
 
   -- the looks of two calls, one after the other
-  pub seen_both : (v u : Hands R) (first second : List (ℕ × ℕ)) → u ≡ seen first v → IsSeen v first → IsSeen u second → IsSeen v (second ++ first)
+  pub seen_both : (v u : Hands R) (first second : List (ℕ × ℕ)) → u ≡ seen first v → IsSeen v first → IsSeen u second
+      → IsSeen v (second ++ first)
   seen_both v u first second is before after = record {
-    quiet = λ value at. ⊎_elim (λ (t : Looked second full_word value). after.quiet value t) (λ (t : Looked first full_word value). before.quiet value t)
+    quiet = λ value at. ⊎_elim (λ (t : Looked second full_word value). after.quiet value t)
+        (λ (t : Looked first full_word value). before.quiet value t)
         (looked_append second first full_word value at);
     alone = λ kept has word value at. ⊎_elim
         (λ (t : Looked second word value). after.alone kept (ap (λ (h : Hands R). h.alone) is ∙ has) word value t)
-        (λ (t : Looked first word value). before.alone kept has word value t) (looked_append second first word value at);
+        (λ (t : Looked first word value). before.alone kept has word value t)
+        (looked_append second first word value at);
     stays = λ place word value saw is_word at. ⊎_elim
-        (λ (t : Looked second (cell_word place) value). after.stays place word value (later_seen first v u is (cell_word place) word saw) is_word t)
-        (λ (t : Looked first (cell_word place) value). before.stays place word value saw is_word t) (looked_append second first (cell_word place) value at);
+        (λ (t : Looked second (cell_word place) value).
+        after.stays place word value (later_seen first v u is (cell_word place) word saw) is_word t)
+        (λ (t : Looked first (cell_word place) value). before.stays place word value saw is_word t)
+        (looked_append second first (cell_word place) value at);
   }
 
-  pub seen_twice : (v u w : Hands R) (first second : List (ℕ × ℕ)) → u ≡ seen first v → w ≡ seen second u → w ≡ seen (second ++ first) v
+  pub seen_twice : (v u w : Hands R) (first second : List (ℕ × ℕ)) → u ≡ seen first v → w ≡ seen second u
+      → w ≡ seen (second ++ first) v
   seen_twice v u w first second is then =
-      then ∙ ap (λ h. seen second h) is ∙ ap (λ (looks : List (ℕ × ℕ)). let h : Hands R = record v { looks = looks } in h) (sym (append_assoc second first v.looks))
+      then ∙ ap (λ h. seen second h) is ∙ ap (λ (looks : List (ℕ × ℕ)). let h : Hands R = record v { looks = looks } in
+      h) (sym (append_assoc second first v.looks))
 
   -- no call was made
   abbrev pub looks_none : (v : Hands R) → OnlyLooks v v
   looks_none v = record {
     more = [];
-    looks = record { quiet = λ value at. absurd at; alone = λ kept has word value at. absurd at; stays = λ place word value saw is_word at. absurd at };
+    looks = record {
+      quiet = λ value at. absurd at;
+      alone = λ kept has word value at. absurd at;
+      stays =
+          λ place word value saw is_word at. absurd at;
+    };
     hands_are = refl;
   }
 

@@ -1,4 +1,5 @@
--- The double collection: a first pass over the words that a group may have as members sees that the goal of each one found is finished, and a second pass counts them again.
+-- The double collection: a first pass over the words that a group may have as members sees that the goal of each one
+-- found is finished, and a second pass counts them again.
 use Rattle.std.specs.Prelude.{◌≡◌, ◌≢◌, ◌⊎◌, ℕ, ◌^◌, ◌<◌, List, [], ◌∷◌, ◌++◌, length}
 use Rattle.word_table.specs.Probing.{home_of, steps_to}
 use Rattle.board_rule.specs.Meaning.{Meaning}
@@ -18,7 +19,8 @@ module _ (room : ℕ) (looks : List (ℕ × ℕ)) (word : ℕ) where
 
   -- the looks from the word's home on found other words, and then an empty cell
   abbrev pub EndsEmpty : Type 0
-  EndsEmpty = (gap : ℕ) × (gap < room) × Looked looks (cell_word gap) 0 × SawOthers room looks word (steps_to room (home_of word room) gap)
+  EndsEmpty = (gap : ℕ) × (gap < room) × Looked looks (cell_word gap) 0
+      × SawOthers room looks word (steps_to room (home_of word room) gap)
 
   -- the word was in no cell at a look, or all cells held other words
   abbrev pub FoundNowhere : Type 0
@@ -26,7 +28,8 @@ module _ (room : ℕ) (looks : List (ℕ × ℕ)) (word : ℕ) where
 
   -- a look found the goal in a cell, and one found its head open
   abbrev pub FoundOpen : Type 0
-  FoundOpen = (place : ℕ) × (place < room) × Looked looks (cell_word place) word × ((head : ℕ) × Looked looks (head_word place) head × (head < 2 ^ 63))
+  FoundOpen = (place : ℕ) × (place < room) × Looked looks (cell_word place) word
+      × ((head : ℕ) × Looked looks (head_word place) head × (head < 2 ^ 63))
 
 -- each is greater than all that come after it
 abbrev pub Falls : List ℕ → Type 0
@@ -54,20 +57,24 @@ module _ (meaning : Meaning) (origin : ℕ) (Has : ℕ → Type 0) (goal_of : �
   -- the origin, and each of the words that a child of the goal of one that is reached asks for
   pub data IsReached : ℕ → Type 0 where
     from_origin : IsReached origin
-    from_child : (word child other : ℕ) → IsReached word → meaning.child (goal_of word) child → meaning.asked child other → Has other → IsReached other
+    from_child : (word child other : ℕ) → IsReached word → meaning.child (goal_of word) child
+        → meaning.asked child other → Has other → IsReached other
 
-  -- the goal explores a group: it asks for the members, which are among the words and reached, and its children are their goals
+  -- the goal explores a group: it asks for the members, which are among the words and reached, and its children are
+  -- their goals
   pub record IsExploration (goal : ℕ) : Type 0 where
     pub some_word : (word : ℕ) → Has word → word ≢ 0
     pub some_goal : (word : ℕ) → Has word → goal_of word ≢ 0
     pub origin_has : Has origin
     pub origin_asked : meaning.asked goal origin
     pub members : (word : ℕ) → meaning.asked goal word → Has word × IsReached word
-    pub children : (child : ℕ) → meaning.child goal child → (word : ℕ) × meaning.asked goal word × (child ≡ goal_of word)
+    pub children : (child : ℕ) → meaning.child goal child → (word : ℕ) × meaning.asked goal word
+        × (child ≡ goal_of word)
     pub explores : (word : ℕ) → Has word → meaning.entry word → meaning.child goal (goal_of word)
 
 -- the looks show that the group grew; the first pass found all words that were shown in cells before
-pub record FindsMore {R : Type 0} (meaning : Meaning) (room : ℕ) (Has : ℕ → Type 0) (v : Hands R) (first second : ℕ) (w : Hands R) : Type 0 where
+pub record FindsMore {R : Type 0} (meaning : Meaning) (room : ℕ) (Has : ℕ → Type 0) (v : Hands R) (first second : ℕ)
+    (w : Hands R) : Type 0 where
   pub more : List (ℕ × ℕ)
   pub looks : IsSeen v more
   pub hands_are : w ≡ seen more v

@@ -1,5 +1,7 @@
--- How far the words of a board are from having all their goals finished: counts over its places, which each turn of a goal brings down.
-use Rattle.std.specs.Prelude.{◌≡◌, ◌≢◌, ◌⊎◌, ℕ, zero, suc, ◌==◌, ◌+◌, ◌*◌, ◌^◌, ◌<◌, ◌≤◌, Bool, not, ◌&&◌, cond, nat_le, List, length, Option, Some}
+-- How far the words of a board are from having all their goals finished: counts over its places, which each turn of a
+-- goal brings down.
+use Rattle.std.specs.Prelude.{◌≡◌, ◌≢◌, ◌⊎◌, ℕ, zero, suc, ◌==◌, ◌+◌, ◌*◌, ◌^◌, ◌<◌, ◌≤◌, Bool, not, ◌&&◌, cond, nat_le}
+use Rattle.std.specs.Prelude.{List, length, Option, Some}
 use Rattle.board_rule.specs.Meaning.{Meaning}
 use Rattle.board_rule.specs.Words.{Mem, mem}
 use Rattle.board_rule.specs.declared.hands.Hands.{Hands}
@@ -33,22 +35,28 @@ open_count room words = number_below (has_open (mem words)) room
 module _ (meaning : Meaning) (room : ℕ) (before after : List ℕ) where
   -- a goal was finished, or else an empty cell was taken, or else there are no more ready goals than before
   pub data Advances : Type 0 where
-    finishes : open_count room after < open_count room before → empty_count room after ≤ empty_count room before → Advances
+    finishes : open_count room after < open_count room before → empty_count room after ≤ empty_count room before
+        → Advances
     fills : open_count room after ≤ open_count room before → empty_count room after < empty_count room before → Advances
-    waits : open_count room after ≤ open_count room before → empty_count room after ≤ empty_count room before → ready_count meaning room after ≤ ready_count meaning room before → Advances
+    waits : open_count room after ≤ open_count room before → empty_count room after ≤ empty_count room before
+        → ready_count meaning room after ≤ ready_count meaning room before → Advances
 
 -- a seat that is alone stays so, and its words advance
 abbrev pub AdvancesAlone : {R : Type 0} → Meaning → ℕ → Hands R → Hands R → Type 0
-AdvancesAlone meaning room v w = (kept : List ℕ) → v.alone ≡ Some kept → (words : List ℕ) × (w.alone ≡ Some words) × Advances meaning room kept words
+AdvancesAlone meaning room v w = (kept : List ℕ) → v.alone ≡ Some kept → (words : List ℕ) × (w.alone ≡ Some words)
+    × Advances meaning room kept words
 
--- words in which no goal was finished and no run word has changed but that of the place; a cell was taken, or none has changed; the goal there has a wait where it had one or so many more
+-- words in which no goal was finished and no run word has changed but that of the place; a cell was taken, or none has
+-- changed; the goal there has a wait where it had one or so many more
 pub record GoesOn (room place more_waits : ℕ) (before after : List ℕ) : Type 0 where
   pub same_length : length after ≡ length before
   pub heads : (p : ℕ) → nat_le (2 ^ 63) ((mem after).head p) ≡ nat_le (2 ^ 63) ((mem before).head p)
   pub others : (p : ℕ) → p ≢ place → (mem after).run p ≡ (mem before).run p
-  pub cells : ((p : ℕ) → p < room → (mem after).cell p ≡ (mem before).cell p) ⊎ (empty_count room after < empty_count room before)
+  pub cells : ((p : ℕ) → p < room → (mem after).cell p ≡ (mem before).cell p)
+      ⊎ (empty_count room after < empty_count room before)
   pub waiting : (1 ≤ more_waits) ⊎ HasWait ((mem before).run place) → HasWait ((mem after).run place)
 
 -- a seat that is alone stays so, and its words go on so, however many places they have
 abbrev pub GoesOnAlone : (place more_waits : ℕ) → Option (List ℕ) → Option (List ℕ) → Type 0
-GoesOnAlone place more_waits v w = (room : ℕ) (before : List ℕ) → v ≡ Some before → length before ≡ 14 * room + 1 → (after : List ℕ) × (w ≡ Some after) × GoesOn room place more_waits before after
+GoesOnAlone place more_waits v w = (room : ℕ) (before : List ℕ) → v ≡ Some before → length before ≡ 14 * room + 1
+    → (after : List ℕ) × (w ≡ Some after) × GoesOn room place more_waits before after

@@ -23,12 +23,19 @@ pub record OnlyLooks {R : Type 0} (v w : Hands R) : Type 0 where
 abbrev pub with_waits : ℕ → ℕ → List Claimed → List Claimed
 with_waits place waits rights = map (λ r. cond (r.place == place) (record r { waits = r.waits + waits }) r) rights
 
--- further looks, none of them at the full word; these words put into cells, the last one first; so many waits more of the right to the goal at the place
+-- further looks, none of them at the full word; these words put into cells, the last one first; so many waits more of
+-- the right to the goal at the place
 pub record Moves {R : Type 0} (place : ℕ) (v : Hands R) (puts : List ℕ) (waits : ℕ) (w : Hands R) : Type 0 where
   pub words : Option (List ℕ)
   pub more : List (ℕ × ℕ)
   pub quiet : (value : ℕ) → Looked more full_word value → ⊥
-  pub hands_are : w ≡ record v { alone = words; looks = more ++ v.looks; puts = puts ++ v.puts; rights = with_waits place waits v.rights }
+  pub hands_are : w ≡ record v {
+    alone = words;
+    looks = more ++ v.looks;
+    puts = puts ++ v.puts;
+    rights =
+        with_waits place waits v.rights;
+  }
   -- how the words that a seat keeps while it is alone go on, where no put word is 0
   pub kept : Each (λ word. word ≢ 0) puts → GoesOnAlone place waits v.alone words
 
@@ -52,14 +59,16 @@ module _ {R : Type 0} (Adds : ℕ → Type 0) (v : Hands R) (before : Right) whe
     pub full : FindsFull room middle word w
 
 -- the looks show a child finished, and this is its answer
-pub record IsAnsweredBy (meaning : Meaning) (room : ℕ) (looks : List (ℕ × ℕ)) (child : ℕ) (answer : Answer) : Type 0 where
-  pub finished : ShowsFinished meaning room looks child
-  pub exact : meaning.answer child answer.cost answer.node
+pub record IsAnsweredBy (meaning : Meaning) (room : ℕ) (looks : List (ℕ × ℕ)) (child : ℕ) (answer : Answer) : Type 0
+  where
+    pub finished : ShowsFinished meaning room looks child
+    pub exact : meaning.answer child answer.cost answer.node
 
 module _ {R : Type 0} (meaning : Meaning) (room : ℕ) (v : Hands R) (before : Right) where
   -- what came of one child: it is finished and has this answer, or the right has a wait, or the child found no cell
   abbrev pub Awaits : (child : ℕ) → Progress → Hands R → Right → Type 0
-  Awaits child (Complete answer) w after = Proceeds (meaning.child before.goal) v before w after × (after.waits ≡ before.waits) × IsAnsweredBy meaning room w.looks child answer
+  Awaits child (Complete answer) w after = Proceeds (meaning.child before.goal) v before w after
+      × (after.waits ≡ before.waits) × IsAnsweredBy meaning room w.looks child answer
   Awaits child Waiting w after = Proceeds (meaning.child before.goal) v before w after × (1 ≤ after.waits)
   Awaits child Full w after = RunsOut (meaning.child before.goal) v before room w after
 

@@ -67,7 +67,8 @@ module _ {R : Type 0} (meaning : Meaning) (room : ℕ) (v : Hands R) where
     Collects (Ok number) w = CollectsAll number w
     Collects (Err goal) w = FindsOpenGoal meaning room Has goal_of v goal w
 
-    -- the words that were found: all that were shown in cells before; their goals are finished, unless the right has a wait
+    -- the words that were found: all that were shown in cells before; their goals are finished, unless the right has a
+    -- wait
     pub record AwaitsAll (before : Right) (number : ℕ) (w : Hands R) (after : Right) : Type 0 where
       pub proceeds : Proceeds (meaning.child before.goal) v before w after
       pub found : List ℕ

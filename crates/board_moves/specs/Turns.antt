@@ -13,9 +13,11 @@ use Rattle.board_moves.specs.declared.progress.Turned.{Turned}
 use Rattle.board_moves.specs.declared.progress.Progress.TheVariants as progress
 use Rattle.board_moves.specs.declared.progress.Turned.TheVariants as turned
 
--- a goal may be finished with an answer where its right has no wait, the looks show its promise, and the answer is the goal's
+-- a goal may be finished with an answer where its right has no wait, the looks show its promise, and the answer is the
+-- goal's
 abbrev pub IsReady : Meaning → ℕ → List (ℕ × ℕ) → Right → Progress → Type 0
-IsReady meaning room looks right (progress.Complete answer) = (right.waits ≡ 0) × ShowsPromise meaning room looks right.goal × meaning.answer right.goal answer.cost answer.node
+IsReady meaning room looks right (progress.Complete answer) = (right.waits ≡ 0)
+    × ShowsPromise meaning room looks right.goal × meaning.answer right.goal answer.cost answer.node
 IsReady meaning room looks right progress.Waiting = Unit {0}
 IsReady meaning room looks right progress.Full = Unit {0}
 
@@ -26,14 +28,17 @@ GivesUp v place w = (answer : Suspended) × SuspendsGoal v place answer w
 module _ {R : Type 0} (room : ℕ) (v : Hands R) (place worker : ℕ) where
   -- a goal that is complete was finished, and another was suspended
   abbrev pub EndsTurn : Progress → Turned → Hands R → Type 0
-  EndsTurn (progress.Complete answer) result w = (woken : Woken) × (result ≡ turned.Finished woken) × FinishesGoal room v place worker answer.cost answer.node woken w
+  EndsTurn (progress.Complete answer) result w = (woken : Woken) × (result ≡ turned.Finished woken)
+      × FinishesGoal room v place worker answer.cost answer.node woken w
   EndsTurn progress.Waiting result w = (result ≡ turned.Suspended) × GivesUp v place w
   EndsTurn progress.Full result w = (result ≡ turned.Full) × GivesUp v place w
 
 module _ {R : Type 0} (meaning : Meaning) (room : ℕ) (Adds : ℕ → Type 0) (v : Hands R) (before : Right) where
-  -- what a turn has come to before it ends: the goal may be finished, or its right has a wait, or an entry found no cell
+  -- what a turn has come to before it ends: the goal may be finished, or its right has a wait, or an entry found no
+  -- cell
   abbrev pub Works : Progress → Hands R → Right → Type 0
-  Works (progress.Complete answer) w after = Proceeds Adds v before w after × IsReady meaning room w.looks after (progress.Complete answer)
+  Works (progress.Complete answer) w after = Proceeds Adds v before w after
+      × IsReady meaning room w.looks after (progress.Complete answer)
   Works progress.Waiting w after = Proceeds Adds v before w after × (1 ≤ after.waits)
   Works progress.Full w after = RunsOut Adds v before room w after
 

@@ -1,5 +1,6 @@
 -- What a store of an answer word, by the seat that holds the goal, leaves of each topic.
-use Rattle.std.proofs.Common.{cond, eqb, ◌≡◌, ℕ, ◌+◌, ◌*◌, ◌/◌, ◌^◌, ◌<◌, ◌≤◌, ◌≢◌, List, [], ◌∷◌, map, set, sym, refl, ap, subst, ◌∙◌, inr, arith, Option}
+use Rattle.std.proofs.Common.{cond, eqb, ◌≡◌, ℕ, ◌+◌, ◌*◌, ◌/◌, ◌^◌, ◌<◌, ◌≤◌, ◌≢◌, List, [], ◌∷◌, map, set, sym, refl}
+use Rattle.std.proofs.Common.{ap, subst, ◌∙◌, inr, arith, Option}
 use mathlib.Core.Option.{some}
 use lib.ListN.{get_elem?}
 use Rattle.board_rule.specs.Meaning.{Meaning}
@@ -26,28 +27,36 @@ pub record Answers (m : Mem) (place : ℕ) (cost node who : ℕ → ℕ) (stores
   pub stored : (r : Claimed) → IsStored m.cost m.node m.who r → IsStored cost node who (stores r)
 
 -- a change of rights that keeps their places keeps how often each stands there
-pub times_map : (stores : Claimed → Claimed) → ((r : Claimed) → (stores r).place ≡ r.place) → (p : ℕ) (rights : List Claimed) → rights_at p (map stores rights) ≡ rights_at p rights
+pub times_map : (stores : Claimed → Claimed) → ((r : Claimed) → (stores r).place ≡ r.place)
+    → (p : ℕ) (rights : List Claimed) → rights_at p (map stores rights) ≡ rights_at p rights
 times_map stores same p [] = refl
-times_map stores same p (r ∷ rs) = omega (arith, times_map stores same p rs, ap (λ q. cond {A = ℕ} (eqb q p) 1 0) (same r))
+times_map stores same p (r ∷ rs) = omega
+    (arith, times_map stores same p rs, ap (λ q. cond {A = ℕ} (eqb q p) 1 0) (same r))
 
-pub each_map : (P Q : Claimed → Type 0) (stores : Claimed → Claimed) → ((r : Claimed) → P r → Q (stores r)) → (rights : List Claimed) → Each P rights → Each Q (map stores rights)
+pub each_map : (P Q : Claimed → Type 0) (stores : Claimed → Claimed) → ((r : Claimed) → P r → Q (stores r))
+    → (rights : List Claimed) → Each P rights → Each Q (map stores rights)
 each_map P Q stores follows [] old = tt
 each_map P Q stores follows (r ∷ rs) old = (follows r old.0, each_map P Q stores follows rs old.1)
 
 -- nor does it change how many waits they have
-waits_map : (stores : Claimed → Claimed) → ((r : Claimed) → (stores r).place ≡ r.place) → ((r : Claimed) → (stores r).waits ≡ r.waits)
+waits_map : (stores : Claimed → Claimed) → ((r : Claimed) → (stores r).place ≡ r.place)
+    → ((r : Claimed) → (stores r).waits ≡ r.waits)
     → (p : ℕ) (rights : List Claimed) → waits_at p (map stores rights) ≡ waits_at p rights
 waits_map stores same waits p [] = refl
-waits_map stores same waits p (r ∷ rs) = let rest = waits_map stores same waits p rs in λ i. cond (eqb (same r i) p) (waits r i) (rest i)
+waits_map stores same waits p (r ∷ rs) = let rest = waits_map stores same waits p rs in
+    λ i. cond (eqb (same r i) p) (waits r i) (rest i)
 
 -- two facts of all give a third
-pub each_both : {A : Type 0} (P Q S : A → Type 0) → ((a : A) → P a → Q a → S a) → (l : List A) → Each P l → Each Q l → Each S l
+pub each_both : {A : Type 0} (P Q S : A → Type 0) → ((a : A) → P a → Q a → S a) → (l : List A) → Each P l → Each Q l
+    → Each S l
 each_both P Q S follows [] p q = tt
 each_both P Q S follows (a ∷ l) p q = (follows a p.0 q.0, each_both P Q S follows l p.1 q.1)
 
-module _ {R : Type 0} (meaning : Meaning) (rules : R) (room : ℕ) (m : Mem) (place : ℕ) (cost node who : ℕ → ℕ) (stores : Claimed → Claimed)
+module _ {R : Type 0} (meaning : Meaning) (rules : R) (room : ℕ) (m : Mem) (place : ℕ) (cost node who : ℕ → ℕ)
+    (stores : Claimed → Claimed)
     (answers : Answers m place cost node who stores) (near : place < room) where
-  blank_stored : m.run place ≢ 0 → KeepsBlank meaning room m → KeepsBlank meaning room (record m { cost = cost; node = node; who = who })
+  blank_stored : m.run place ≢ 0 → KeepsBlank meaning room m
+      → KeepsBlank meaning room (record m { cost = cost; node = node; who = who })
   blank_stored runs old p near_p no_goal =
       let b = old p near_p no_goal in
       let ne : p ≢ place = λ e. runs (ap m.run (sym e) ∙ b.run) in
@@ -60,19 +69,23 @@ module _ {R : Type 0} (meaning : Meaning) (rules : R) (room : ℕ) (m : Mem) (pl
         next = b.next;
       }
 
-  promises_stored : m.head place < 2 ^ 63 → KeepsPromises meaning room m.cell m.head m.cost m.node → KeepsPromises meaning room m.cell m.head cost node
+  promises_stored : m.head place < 2 ^ 63 → KeepsPromises meaning room m.cell m.head m.cost m.node
+      → KeepsPromises meaning room m.cell m.head cost node
   promises_stored is_open old = record {
     promise = old.promise;
     answer = λ p near_p closed.
         let ne : p ≢ place = λ e. let lt = subst (λ q. m.head q < 2 ^ 63) (sym e) is_open in absurd (omega arith) in
         subst (λ x. meaning.answer (m.cell p) x (node p)) (sym (answers.cost_else p ne))
-        (subst (λ x. meaning.answer (m.cell p) (m.cost p) x) (sym (answers.node_else p ne)) (old.answer p near_p closed));
+        (subst (λ x. meaning.answer (m.cell p) (m.cost p) x) (sym (answers.node_else p ne))
+        (old.answer p near_p closed));
   }
 
   -- what was finished is recorded elsewhere
-  recorded_stored : m.head place < 2 ^ 63 → (e : Ended) → IsRecorded room m.head m.cost m.node m.who e → IsRecorded room m.head cost node who e
+  recorded_stored : m.head place < 2 ^ 63 → (e : Ended) → IsRecorded room m.head m.cost m.node m.who e
+      → IsRecorded room m.head cost node who e
   recorded_stored is_open e old =
-      let ne : e.place ≢ place = λ same. let lt = subst (λ q. m.head q < 2 ^ 63) (sym same) is_open in let c = old.closed in absurd (omega arith) in
+      let ne : e.place ≢ place = λ same. let lt = subst (λ q. m.head q < 2 ^ 63) (sym same) is_open in let c =
+      old.closed in absurd (omega arith) in
       record {
         near = old.near;
         closed = old.closed;
@@ -91,17 +104,21 @@ module _ {R : Type 0} (meaning : Meaning) (rules : R) (room : ℕ) (m : Mem) (pl
   }
 
   -- the right has the waits that it had
-  raised_stored : {pending : Option Pending} (r : Claimed) → IsRaised m.run pending r → IsRaised m.run pending (stores r)
+  raised_stored : {pending : Option Pending} (r : Claimed) → IsRaised m.run pending r
+      → IsRaised m.run pending (stores r)
   raised_stored {pending} r old = record {
     few = subst (λ n. n ≤ 8) (sym (answers.same_waits r)) old.few;
-    others = λ b more few. subst (λ p. bit_at (m.run p) b ≡ times (λ (q : ℕ). q) (8 * p + b) (waiting pending)) (sym (answers.same_place r))
+    others = λ b more few. subst (λ p. bit_at (m.run p) b ≡ times (λ (q : ℕ). q) (8 * p + b) (waiting pending))
+        (sym (answers.same_place r))
         (old.others b (subst (λ n. n ≤ b) (answers.same_waits r) more) few);
   }
 
   -- the board is sound by kinds once a seat has stored an answer word of a goal that it holds
-  pub store_keeps : (views : List (Hands R)) (id : ℕ) (v : Hands R) (kept : Option (List ℕ)) → get_elem? views id ≡ some v → 0 < v.parts → HasRight room v.rights place
+  pub store_keeps : (views : List (Hands R)) (id : ℕ) (v : Hands R) (kept : Option (List ℕ))
+      → get_elem? views id ≡ some v → 0 < v.parts → HasRight room v.rights place
       → IsSoundBy meaning rules room m views
-      → IsSoundBy meaning rules room (record m { cost = cost; node = node; who = who }) (set views id (record v { alone = kept; rights = map stores v.rights }))
+      → IsSoundBy meaning rules room (record m { cost = cost; node = node; who = who })
+      (set views id (record v { alone = kept; rights = map stores v.rights }))
   store_keeps views id v kept mine some_part has k =
       let n : Mem = record m { cost = cost; node = node; who = who } in
       let w : Hands R = record v { alone = kept; rights = map stores v.rights } in
@@ -122,8 +139,10 @@ module _ {R : Type 0} (meaning : Meaning) (rules : R) (room : ℕ) (m : Mem) (pl
             record {
               stays = h.stays;
               absence = h.absence;
-              recorded = each_as (IsRecorded room m.head m.cost m.node m.who) (IsRecorded room m.head cost node who) (recorded_stored is.is_open) u.done h.recorded;
-              stored = each_both (IsStored m.cost m.node m.who) (λ r. r.place ≢ place) (IsStored cost node who) stored_else u.rights h.stored
+              recorded = each_as (IsRecorded room m.head m.cost m.node m.who) (IsRecorded room m.head cost node who)
+                  (recorded_stored is.is_open) u.done h.recorded;
+              stored = each_both (IsStored m.cost m.node m.who) (λ r. r.place ≢ place) (IsStored cost node who)
+                  stored_else u.rights h.stored
                   (absent_each (λ (r : Claimed). r.place) place u.rights none);
               ends = h.ends;
               raised = h.raised;
@@ -135,14 +154,23 @@ module _ {R : Type 0} (meaning : Meaning) (rules : R) (room : ℕ) (m : Mem) (pl
             (record {
               stays = own.stays;
               absence = own.absence;
-              recorded = each_as (IsRecorded room m.head m.cost m.node m.who) (IsRecorded room m.head cost node who) (recorded_stored is.is_open) v.done own.recorded;
-              stored = each_map (IsStored m.cost m.node m.who) (IsStored cost node who) stores answers.stored v.rights own.stored;
+              recorded = each_as (IsRecorded room m.head m.cost m.node m.who) (IsRecorded room m.head cost node who)
+                  (recorded_stored is.is_open) v.done own.recorded;
+              stored = each_map (IsStored m.cost m.node m.who) (IsStored cost node who) stores answers.stored v.rights
+                  own.stored;
               ends = λ p. omega (arith, own.ends p, counts p v.rights);
-              raised = each_map (IsRaised m.run v.pending) (IsRaised m.run v.pending) stores raised_stored v.rights own.raised;
-              pends = pending_as meaning room m.cell m.next m.cell m.next v.looks v.looks v.rights (map stores v.rights) v.pending
+              raised = each_map (IsRaised m.run v.pending) (IsRaised m.run v.pending) stores raised_stored v.rights
+                  own.raised;
+              pends = pending_as meaning room m.cell m.next m.cell m.next v.looks v.looks v.rights (map stores v.rights)
+                  v.pending
                   (λ x at old. record {
-                    has = record { near = old.has.near; held = let h = old.has.held in omega (arith, counts (x.waiter / 8) v.rights) };
-                    its_wait = waits_map stores answers.same_place answers.same_waits (x.waiter / 8) v.rights ∙ old.its_wait;
+                    has = record {
+                      near = old.has.near;
+                      held = let h = old.has.held in
+                          omega (arith, counts (x.waiter / 8) v.rights);
+                    };
+                    its_wait = waits_map stores answers.same_place answers.same_waits (x.waiter / 8) v.rights
+                        ∙ old.its_wait;
                     seen = old.seen;
                     looked = old.looked;
                   })

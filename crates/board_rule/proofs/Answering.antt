@@ -1,5 +1,6 @@
 -- Stores of the answer words of a goal, by the seat that holds it, keep soundness.
-use Rattle.std.proofs.Common.{cond, eqb, eq-eqb, ne_eqb, length-set, ◌≡◌, ℕ, ◌<◌, ◌≢◌, set, sym, refl, ap, subst, ◌∙◌, arith, Some}
+use Rattle.std.proofs.Common.{cond, eqb, eq-eqb, ne_eqb, length-set, ◌≡◌, ℕ, ◌<◌, ◌≢◌, set, sym, refl, ap, subst, ◌∙◌}
+use Rattle.std.proofs.Common.{arith, Some}
 use mathlib.Core.Logic.{dite}
 use native.Mathlib.Decide.{ℕ_discrete}
 use mathlib.Core.Option.{none}
@@ -30,7 +31,8 @@ at_place place change r Fact here else =
 stored_there : (f : ℕ → ℕ) (place x at y : ℕ) → at ≡ place → Some x ≡ Some y → put f place x at ≡ y
 stored_there f place x at y e is = ap (put f place x) e ∙ put_here f place x ∙ cc
 
-answers_cost : (m : Mem) (place x : ℕ) → Answers m place (put m.cost place x) m.node m.who (λ r. cond (eqb r.place place) (record r { cost = Some x }) r)
+answers_cost : (m : Mem) (place x : ℕ) → Answers m place (put m.cost place x) m.node m.who
+    (λ r. cond (eqb r.place place) (record r { cost = Some x }) r)
 answers_cost m place x = record {
   cost_else = put_else m.cost place x;
   node_else = λ _ _. refl;
@@ -38,11 +40,22 @@ answers_cost m place x = record {
   same_place = λ r. at_place place (λ q. record q { cost = Some x }) r (λ q. q.place ≡ r.place) (λ _. refl) (λ _. refl);
   same_waits = λ r. at_place place (λ q. record q { cost = Some x }) r (λ q. q.waits ≡ r.waits) (λ _. refl) (λ _. refl);
   stored = λ r old. at_place place (λ q. record q { cost = Some x }) r (IsStored (put m.cost place x) m.node m.who)
-      (λ e. record { cost_is = λ y is. stored_there m.cost place x r.place y e is; node_is = old.node_is; who_is = old.who_is })
-      (λ ne. record { cost_is = λ y is. put_else m.cost place x r.place ne ∙ old.cost_is y is; node_is = old.node_is; who_is = old.who_is });
+      (λ e. record {
+        cost_is = λ y is. stored_there m.cost place x r.place y e is;
+        node_is = old.node_is;
+        who_is =
+            old.who_is;
+      })
+      (λ ne. record {
+        cost_is = λ y is. put_else m.cost place x r.place ne ∙ old.cost_is y is;
+        node_is =
+            old.node_is;
+        who_is = old.who_is;
+      });
 }
 
-answers_node : (m : Mem) (place x : ℕ) → Answers m place m.cost (put m.node place x) m.who (λ r. cond (eqb r.place place) (record r { node = Some x }) r)
+answers_node : (m : Mem) (place x : ℕ) → Answers m place m.cost (put m.node place x) m.who
+    (λ r. cond (eqb r.place place) (record r { node = Some x }) r)
 answers_node m place x = record {
   cost_else = λ _ _. refl;
   node_else = put_else m.node place x;
@@ -50,11 +63,22 @@ answers_node m place x = record {
   same_place = λ r. at_place place (λ q. record q { node = Some x }) r (λ q. q.place ≡ r.place) (λ _. refl) (λ _. refl);
   same_waits = λ r. at_place place (λ q. record q { node = Some x }) r (λ q. q.waits ≡ r.waits) (λ _. refl) (λ _. refl);
   stored = λ r old. at_place place (λ q. record q { node = Some x }) r (IsStored m.cost (put m.node place x) m.who)
-      (λ e. record { cost_is = old.cost_is; node_is = λ y is. stored_there m.node place x r.place y e is; who_is = old.who_is })
-      (λ ne. record { cost_is = old.cost_is; node_is = λ y is. put_else m.node place x r.place ne ∙ old.node_is y is; who_is = old.who_is });
+      (λ e. record {
+        cost_is = old.cost_is;
+        node_is = λ y is. stored_there m.node place x r.place y e is;
+        who_is =
+            old.who_is;
+      })
+      (λ ne. record {
+        cost_is = old.cost_is;
+        node_is = λ y is. put_else m.node place x r.place ne
+            ∙ old.node_is y is;
+        who_is = old.who_is;
+      });
 }
 
-answers_who : (m : Mem) (place x : ℕ) → Answers m place m.cost m.node (put m.who place x) (λ r. cond (eqb r.place place) (record r { who = Some x }) r)
+answers_who : (m : Mem) (place x : ℕ) → Answers m place m.cost m.node (put m.who place x)
+    (λ r. cond (eqb r.place place) (record r { who = Some x }) r)
 answers_who m place x = record {
   cost_else = λ _ _. refl;
   node_else = λ _ _. refl;
@@ -62,13 +86,24 @@ answers_who m place x = record {
   same_place = λ r. at_place place (λ q. record q { who = Some x }) r (λ q. q.place ≡ r.place) (λ _. refl) (λ _. refl);
   same_waits = λ r. at_place place (λ q. record q { who = Some x }) r (λ q. q.waits ≡ r.waits) (λ _. refl) (λ _. refl);
   stored = λ r old. at_place place (λ q. record q { who = Some x }) r (IsStored m.cost m.node (put m.who place x))
-      (λ e. record { cost_is = old.cost_is; node_is = old.node_is; who_is = λ y is. stored_there m.who place x r.place y e is })
-      (λ ne. record { cost_is = old.cost_is; node_is = old.node_is; who_is = λ y is. put_else m.who place x r.place ne ∙ old.who_is y is });
+      (λ e. record {
+        cost_is = old.cost_is;
+        node_is = old.node_is;
+        who_is =
+            λ y is. stored_there m.who place x r.place y e is;
+      })
+      (λ ne. record {
+        cost_is = old.cost_is;
+        node_is = old.node_is;
+        who_is = λ y is. put_else m.who place x r.place ne
+            ∙ old.who_is y is;
+      });
 }
 
 module _ {R : Type 0} (meaning_of : R → Meaning) (rules : R) (room : ℕ) where
   cost_at : (slots id : ℕ) (me : Sat R) (place x : ℕ) → 0 < me.0.parts → HasRight room me.0.rights place
-      → Allows (Holds meaning_of rules room) slots id me (cost_word place) (λ _. x) (λ _. StoresCost meaning_of (step slots (cost_word place) x 0 none) me x)
+      → Allows (Holds meaning_of rules room) slots id me (cost_word place) (λ _. x)
+      (λ _. StoresCost meaning_of (step slots (cost_word place) x 0 none) me x)
   cost_at slots id me place x some_part has s sound homes mine fits =
       let m : Mem = mem s.words in
       let near = has.near in
@@ -79,22 +114,28 @@ module _ {R : Type 0} (meaning_of : R → Meaning) (rules : R) (room : ℕ) wher
         tt,
         record {
           count = length-set s.words (cost_word place) x ∙ count;
-          by_kinds = subst (λ b. IsSoundBy (meaning_of rules) rules room b (set s.views id w)) (sym (put_cost s.words place x (omega arith)))
-              (store_keeps (meaning_of rules) rules room m place (put m.cost place x) m.node m.who (λ r. cond (eqb r.place place) (record r { cost = Some x }) r) (answers_cost m place x) near
+          by_kinds = subst (λ b. IsSoundBy (meaning_of rules) rules room b (set s.views id w))
+              (sym (put_cost s.words place x (omega arith)))
+              (store_keeps (meaning_of rules) rules room m place (put m.cost place x) m.node m.who
+              (λ r. cond (eqb r.place place) (record r { cost = Some x }) r) (answers_cost m place x) near
               s.views id me.0 w.alone mine some_part has sound.by_kinds);
           alone = alone_set s.words s.views id (cost_word place) x me.0 w mine refl sound.alone;
         },
         λ p same. ap (λ q. (cost_stored me.0 q x, me.1)) (omega (arith, same)),
       )
 
-  pub store_cost_allowed : (slots id : ℕ) (me : Sat R) (i place x : ℕ) → i ≡ cost_word place → 0 < me.0.parts → HasRight room me.0.rights place
-      → Allows (Holds meaning_of rules room) slots id me i (λ _. x) (λ _. StoresCost meaning_of (step slots i x 0 none) me x)
+  pub store_cost_allowed : (slots id : ℕ) (me : Sat R) (i place x : ℕ) → i ≡ cost_word place → 0 < me.0.parts
+      → HasRight room me.0.rights place
+      → Allows (Holds meaning_of rules room) slots id me i (λ _. x)
+      (λ _. StoresCost meaning_of (step slots i x 0 none) me x)
   store_cost_allowed slots id me i place x is some_part has =
-      subst (λ j. Allows (Holds meaning_of rules room) slots id me j (λ _. x) (λ _. StoresCost meaning_of (step slots j x 0 none) me x)) (sym is)
+      subst (λ j. Allows (Holds meaning_of rules room) slots id me j (λ _. x)
+      (λ _. StoresCost meaning_of (step slots j x 0 none) me x)) (sym is)
       (cost_at slots id me place x some_part has)
 
   node_at : (slots id : ℕ) (me : Sat R) (place x : ℕ) → 0 < me.0.parts → HasRight room me.0.rights place
-      → Allows (Holds meaning_of rules room) slots id me (node_word place) (λ _. x) (λ _. StoresNode meaning_of (step slots (node_word place) x 0 none) me x)
+      → Allows (Holds meaning_of rules room) slots id me (node_word place) (λ _. x)
+      (λ _. StoresNode meaning_of (step slots (node_word place) x 0 none) me x)
   node_at slots id me place x some_part has s sound homes mine fits =
       let m : Mem = mem s.words in
       let near = has.near in
@@ -105,22 +146,28 @@ module _ {R : Type 0} (meaning_of : R → Meaning) (rules : R) (room : ℕ) wher
         tt,
         record {
           count = length-set s.words (node_word place) x ∙ count;
-          by_kinds = subst (λ b. IsSoundBy (meaning_of rules) rules room b (set s.views id w)) (sym (put_node s.words place x (omega arith)))
-              (store_keeps (meaning_of rules) rules room m place m.cost (put m.node place x) m.who (λ r. cond (eqb r.place place) (record r { node = Some x }) r) (answers_node m place x) near
+          by_kinds = subst (λ b. IsSoundBy (meaning_of rules) rules room b (set s.views id w))
+              (sym (put_node s.words place x (omega arith)))
+              (store_keeps (meaning_of rules) rules room m place m.cost (put m.node place x) m.who
+              (λ r. cond (eqb r.place place) (record r { node = Some x }) r) (answers_node m place x) near
               s.views id me.0 w.alone mine some_part has sound.by_kinds);
           alone = alone_set s.words s.views id (node_word place) x me.0 w mine refl sound.alone;
         },
         λ p same. ap (λ q. (node_stored me.0 q x, me.1)) (omega (arith, same)),
       )
 
-  pub store_node_allowed : (slots id : ℕ) (me : Sat R) (i place x : ℕ) → i ≡ node_word place → 0 < me.0.parts → HasRight room me.0.rights place
-      → Allows (Holds meaning_of rules room) slots id me i (λ _. x) (λ _. StoresNode meaning_of (step slots i x 0 none) me x)
+  pub store_node_allowed : (slots id : ℕ) (me : Sat R) (i place x : ℕ) → i ≡ node_word place → 0 < me.0.parts
+      → HasRight room me.0.rights place
+      → Allows (Holds meaning_of rules room) slots id me i (λ _. x)
+      (λ _. StoresNode meaning_of (step slots i x 0 none) me x)
   store_node_allowed slots id me i place x is some_part has =
-      subst (λ j. Allows (Holds meaning_of rules room) slots id me j (λ _. x) (λ _. StoresNode meaning_of (step slots j x 0 none) me x)) (sym is)
+      subst (λ j. Allows (Holds meaning_of rules room) slots id me j (λ _. x)
+      (λ _. StoresNode meaning_of (step slots j x 0 none) me x)) (sym is)
       (node_at slots id me place x some_part has)
 
   who_at : (slots id : ℕ) (me : Sat R) (place x : ℕ) → 0 < me.0.parts → HasRight room me.0.rights place
-      → Allows (Holds meaning_of rules room) slots id me (who_word place) (λ _. x) (λ _. StoresWho meaning_of (step slots (who_word place) x 0 none) me x)
+      → Allows (Holds meaning_of rules room) slots id me (who_word place) (λ _. x)
+      (λ _. StoresWho meaning_of (step slots (who_word place) x 0 none) me x)
   who_at slots id me place x some_part has s sound homes mine fits =
       let m : Mem = mem s.words in
       let near = has.near in
@@ -131,16 +178,21 @@ module _ {R : Type 0} (meaning_of : R → Meaning) (rules : R) (room : ℕ) wher
         tt,
         record {
           count = length-set s.words (who_word place) x ∙ count;
-          by_kinds = subst (λ b. IsSoundBy (meaning_of rules) rules room b (set s.views id w)) (sym (put_who s.words place x (omega arith)))
-              (store_keeps (meaning_of rules) rules room m place m.cost m.node (put m.who place x) (λ r. cond (eqb r.place place) (record r { who = Some x }) r) (answers_who m place x) near
+          by_kinds = subst (λ b. IsSoundBy (meaning_of rules) rules room b (set s.views id w))
+              (sym (put_who s.words place x (omega arith)))
+              (store_keeps (meaning_of rules) rules room m place m.cost m.node (put m.who place x)
+              (λ r. cond (eqb r.place place) (record r { who = Some x }) r) (answers_who m place x) near
               s.views id me.0 w.alone mine some_part has sound.by_kinds);
           alone = alone_set s.words s.views id (who_word place) x me.0 w mine refl sound.alone;
         },
         λ p same. ap (λ q. (who_stored me.0 q x, me.1)) (omega (arith, same)),
       )
 
-  pub store_who_allowed : (slots id : ℕ) (me : Sat R) (i place x : ℕ) → i ≡ who_word place → 0 < me.0.parts → HasRight room me.0.rights place
-      → Allows (Holds meaning_of rules room) slots id me i (λ _. x) (λ _. StoresWho meaning_of (step slots i x 0 none) me x)
+  pub store_who_allowed : (slots id : ℕ) (me : Sat R) (i place x : ℕ) → i ≡ who_word place → 0 < me.0.parts
+      → HasRight room me.0.rights place
+      → Allows (Holds meaning_of rules room) slots id me i (λ _. x)
+      (λ _. StoresWho meaning_of (step slots i x 0 none) me x)
   store_who_allowed slots id me i place x is some_part has =
-      subst (λ j. Allows (Holds meaning_of rules room) slots id me j (λ _. x) (λ _. StoresWho meaning_of (step slots j x 0 none) me x)) (sym is)
+      subst (λ j. Allows (Holds meaning_of rules room) slots id me j (λ _. x)
+      (λ _. StoresWho meaning_of (step slots j x 0 none) me x)) (sym is)
       (who_at slots id me place x some_part has)

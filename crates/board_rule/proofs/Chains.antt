@@ -1,5 +1,6 @@
 -- Heads that come later, sums over places, chains of waiters, and bits of run words.
-use Rattle.std.proofs.Common.{◌≡◌, ℕ, zero, suc, ◌+◌, ◌-◌, ◌/◌, ◌^◌, ◌<◌, ◌≤◌, ◌≢◌, min, max, List, [], ◌∷◌, cond, eqb, eq-eqb, ne_eqb, bit_or, sym, refl, ap, subst, ◌∙◌, inl, inr, ⊎_elim, arith}
+use Rattle.std.proofs.Common.{◌≡◌, ℕ, zero, suc, ◌+◌, ◌-◌, ◌/◌, ◌^◌, ◌<◌, ◌≤◌, ◌≢◌, min, max, List, [], ◌∷◌, cond, eqb}
+use Rattle.std.proofs.Common.{eq-eqb, ne_eqb, bit_or, sym, refl, ap, subst, ◌∙◌, inl, inr, ⊎_elim, arith}
 use Rattle.std.proofs.lemmas.Bool.{cases_eq}
 use Rattle.std.proofs.lemmas.Nat.Bits.{bit_at_or, bit_at_and, bit_at-pow_same, bit_at-pow_other, bit_at-lt, bit_at_not}
 use Rattle.std.specs.Int.{bit_at}
@@ -17,7 +18,8 @@ count q waiters = times (λ (p : ℕ). p) q waiters
 -- a closed head that was seen is closed
 pub later_closed : (found now : ℕ) → IsLater found now → 2 ^ 63 ≤ found → 2 ^ 63 ≤ now
 later_closed found now later closed =
-    ⊎_elim (λ h. h) (⊎_elim (λ same. subst (λ n. 2 ^ 63 ≤ n) (sym same) closed) (λ t. let lt = t.0 in absurd (omega arith))) later
+    ⊎_elim (λ h. h) (⊎_elim (λ same. subst (λ n. 2 ^ 63 ≤ n) (sym same) closed) (λ t. let lt = t.0 in
+    absurd (omega arith))) later
 
 pub later_then : (a b c : ℕ) → IsLater a b → IsLater b c → IsLater a c
 later_then a b c first second =
@@ -38,39 +40,53 @@ pub below_same : (f g : ℕ → ℕ) (n : ℕ) → ((p : ℕ) → p < n → g p 
 below_same f g zero same = refl
 below_same f g (suc n) same = omega (arith, same n (omega arith), below_same f g n (λ p near. same p (omega arith)))
 
-pub below_at : (f g : ℕ → ℕ) (n at : ℕ) → at < n → ((p : ℕ) → p < n → p ≢ at → g p ≡ f p) → below g n + f at ≡ below f n + g at
+pub below_at : (f g : ℕ → ℕ) (n at : ℕ) → at < n → ((p : ℕ) → p < n → p ≢ at → g p ≡ f p)
+    → below g n + f at ≡ below f n + g at
 below_at f g zero at near same = absurd (omega arith)
 below_at f g (suc n) at near same =
     ⊎_elim
     (λ here. let rest = below_same f g n (λ p less. same p (omega arith) (λ e. omega arith)) in
     subst (λ k. (g n + below g n) + f k ≡ (f n + below f n) + g k) (sym here) (omega arith))
-    (λ else. omega (arith, same n (omega arith) (λ e. else (sym e)), below_at f g n at (omega arith) (λ p less ne. same p (omega arith) ne)))
+    (λ else. omega (
+      arith,
+      same n (omega arith) (λ e. else (sym e)),
+      below_at f g n at (omega arith) (λ p less ne. same p (omega arith) ne),
+    ))
     (cases_eq at n)
 
 pub below_term : (f : ℕ → ℕ) (n at : ℕ) → at < n → f at ≤ below f n
 below_term f zero at near = absurd (omega arith)
 below_term f (suc n) at near =
-    ⊎_elim (λ here. subst (λ k. f k ≤ f n + below f n) (sym here) (omega arith)) (λ else. omega (arith, below_term f n at (omega arith))) (cases_eq at n)
+    ⊎_elim (λ here. subst (λ k. f k ≤ f n + below f n) (sym here) (omega arith))
+    (λ else. omega (arith, below_term f n at (omega arith))) (cases_eq at n)
 
 pub below_none : (f : ℕ → ℕ) (n : ℕ) → ((p : ℕ) → p < n → f p ≡ 0) → below f n ≡ 0
 below_none f zero none_of = refl
-below_none f (suc n) none_of = omega (arith, none_of n (omega arith), below_none f n (λ p near. none_of p (omega arith)))
+below_none f (suc n) none_of = omega (
+  arith,
+  none_of n (omega arith),
+  below_none f n (λ p near. none_of p (omega arith)),
+)
 
 -- the lists of all places, but for that of one
 abbrev pub put_list : (ℕ → List ℕ) → ℕ → List ℕ → ℕ → List ℕ
 put_list lists at l p = cond (eqb p at) l (lists p)
 
-pub put_list_cases : (lists : ℕ → List ℕ) (at : ℕ) (l : List ℕ) (p : ℕ) (Fact : List ℕ → Type 0) → (p ≡ at → Fact l) → (p ≢ at → Fact (lists p)) → Fact (put_list lists at l p)
+pub put_list_cases : (lists : ℕ → List ℕ) (at : ℕ) (l : List ℕ) (p : ℕ) (Fact : List ℕ → Type 0) → (p ≡ at → Fact l)
+    → (p ≢ at → Fact (lists p)) → Fact (put_list lists at l p)
 put_list_cases lists at l p Fact here else =
-    ⊎_elim (λ e. subst (λ b. Fact (cond b l (lists p))) (sym (eq-eqb p at e)) (here e)) (λ ne. subst (λ b. Fact (cond b l (lists p))) (sym (ne_eqb p at ne)) (else ne)) (cases_eq p at)
+    ⊎_elim (λ e. subst (λ b. Fact (cond b l (lists p))) (sym (eq-eqb p at e)) (here e))
+    (λ ne. subst (λ b. Fact (cond b l (lists p))) (sym (ne_eqb p at ne)) (else ne)) (cases_eq p at)
 
 -- how often a waiter stands in all lists, once one has changed
 pub below_put_list : (lists : ℕ → List ℕ) (room at : ℕ) (l : List ℕ) (q : ℕ) → at < room
-    → below (λ c. count q (put_list lists at l c)) room + count q (lists at) ≡ below (λ c. count q (lists c)) room + count q l
+    → below (λ c. count q (put_list lists at l c)) room + count q (lists at) ≡ below (λ c. count q (lists c))
+    room + count q l
 below_put_list lists room at l q near =
     below_at (λ c. count q (lists c)) (λ c. count q (put_list lists at l c)) room at near
     (λ p _ ne. put_list_cases lists at l p (λ x. count q x ≡ count q (lists p)) (λ e. absurd (ne e)) (λ _. refl))
-    ∙ ap (λ n. below (λ c. count q (lists c)) room + n) (put_list_cases lists at l at (λ x. count q x ≡ count q l) (λ _. refl) (λ ne. absurd (ne refl)))
+    ∙ ap (λ n. below (λ c. count q (lists c)) room + n)
+    (put_list_cases lists at l at (λ x. count q x ≡ count q l) (λ _. refl) (λ ne. absurd (ne refl)))
 
 -- a fact of each, where it may depend on being one of the list
 pub each_with : {A : Type 0} (P Q : A → Type 0) (l : List A) → ((a : A) → Among l a → P a → Q a) → Each P l → Each Q l
@@ -81,7 +97,8 @@ each_with P Q (x ∷ xs) follows old = (follows x (inl refl) old.0, each_with P 
 pub chain_put : (next : ℕ → ℕ) (q x : ℕ) (l : List ℕ) → count q l ≡ 0 → IsChain next l → IsChain (put next q x) l
 chain_put next q x [] none_of old = tt
 chain_put next q x (p ∷ ps) none_of old =
-    let ne : p ≢ q = λ e. let one : cond {A = ℕ} (eqb p q) 1 0 ≡ 1 = ap (λ b. cond b 1 0) (eq-eqb p q e) in absurd (omega arith) in
+    let ne : p ≢ q = λ e. let one : cond {A = ℕ} (eqb p q) 1 0 ≡ 1 = ap (λ b. cond b 1 0) (eq-eqb p q e) in
+    absurd (omega arith) in
     (put_else next q x p ne ∙ old.0, chain_put next q x ps (omega arith) old.1)
 
 pub chain_rest : (next : ℕ → ℕ) (l : List ℕ) → IsChain next l → IsChain next (rest_of l)
@@ -119,15 +136,18 @@ mask_same : (b : ℕ) → b < 64 → bit_at (2 ^ 64 - 1 - 2 ^ b) b ≡ 0
 mask_same b within = bit_at_not w64 (2 ^ b) b (pow_within b within) within ∙ ap (λ x. 1 - x) (bit_at-pow_same b)
 
 mask_other : (b i : ℕ) → b < 64 → i < 64 → i ≢ b → bit_at (2 ^ 64 - 1 - 2 ^ b) i ≡ 1
-mask_other b i within few ne = bit_at_not w64 (2 ^ b) i (pow_within b within) few ∙ ap (λ x. 1 - x) (bit_at-pow_other b i ne)
+mask_other b i within few ne = bit_at_not w64 (2 ^ b) i (pow_within b within) few
+    ∙ ap (λ x. 1 - x) (bit_at-pow_other b i ne)
 
 -- and once one was cleared
 pub cleared_same : (n b : ℕ) → b < 64 → bit_at (cleared n b) b ≡ 0
-cleared_same n b within = bit_at_and n (2 ^ 64 - 1 - 2 ^ b) b ∙ least (bit_at n b) (bit_at (2 ^ 64 - 1 - 2 ^ b) b) (mask_same b within)
+cleared_same n b within = bit_at_and n (2 ^ 64 - 1 - 2 ^ b) b
+    ∙ least (bit_at n b) (bit_at (2 ^ 64 - 1 - 2 ^ b) b) (mask_same b within)
 
 pub cleared_other : (n b i : ℕ) → b < 64 → i < 64 → i ≢ b → bit_at (cleared n b) i ≡ bit_at n i
 cleared_other n b i within few ne =
-    bit_at_and n (2 ^ 64 - 1 - 2 ^ b) i ∙ under (bit_at n i) (bit_at (2 ^ 64 - 1 - 2 ^ b) i) (bit_at-lt n i) (mask_other b i within few ne)
+    bit_at_and n (2 ^ 64 - 1 - 2 ^ b) i ∙ under (bit_at n i) (bit_at (2 ^ 64 - 1 - 2 ^ b) i) (bit_at-lt n i)
+    (mask_other b i within few ne)
 
 -- a bit that was not set is not set after
 pub cleared_none : (n b i : ℕ) → bit_at n i ≡ 0 → bit_at (cleared n b) i ≡ 0

@@ -1,5 +1,6 @@
 -- A compare-exchange of a run word from 0 to 256 keeps soundness.
-use Rattle.std.proofs.Common.{IsTrue, cond, ne_eqb, length-set, ◌≡◌, ℕ, ◌+◌, ◌/◌, ◌<◌, ◌≢◌, List, ◌∷◌, get_or, set, eqb, sym, refl, ap, subst, ◌∙◌, inr, ⊎_elim, arith}
+use Rattle.std.proofs.Common.{IsTrue, cond, ne_eqb, length-set, ◌≡◌, ℕ, ◌+◌, ◌/◌, ◌<◌, ◌≢◌, List, ◌∷◌, get_or, set, eqb}
+use Rattle.std.proofs.Common.{sym, refl, ap, subst, ◌∙◌, inr, ⊎_elim, arith}
 use mathlib.Core.Option.{some, none}
 use lib.ListN.{get_elem?}
 use prog.Atomic.{either}
@@ -11,7 +12,8 @@ use Rattle.board_rule.specs.Meaning.{Meaning}
 use Rattle.board_rule.specs.Words.{Mem, mem, put, full_word, cell_word, run_word, head_word}
 use Rattle.board_rule.specs.Looks.{RemembersAbsence}
 use Rattle.board_rule.specs.Seats.{waits_at, fresh_right, looked, claimed}
-use Rattle.board_rule.specs.Rule.{HoldsGoal, KeepsBlank, KeepsRights, Stays, AreHands, ArePending, IsSoundBy, IsSound, held, ended}
+use Rattle.board_rule.specs.Rule.{HoldsGoal, KeepsBlank, KeepsRights, Stays, AreHands, ArePending, IsSoundBy, IsSound}
+use Rattle.board_rule.specs.Rule.{held, ended}
 use Rattle.board_rule.specs.May.{MayClaim}
 use Rattle.board_rule.specs.Plays.{Sat, Claims}
 use Rattle.board_rule.specs.declared.hands.Hands.{Hands}
@@ -24,7 +26,8 @@ use Rattle.board_rule.proofs.Putting.{Leads, miss_leads}
 use Rattle.board_rule.proofs.Rights.{rights_at, counts_one, counts_none, held-set, ended-set, rights_moved}
 
 -- a look at a word that is no cell, no head and not the full word shows nothing that has to stay
-pub stays_beside : (cell head : ℕ → ℕ) (full : ℕ) (looks : List (ℕ × ℕ)) (word found : ℕ) → full_word ≢ word → ((p : ℕ) → cell_word p ≢ word) → ((p : ℕ) → head_word p ≢ word)
+pub stays_beside : (cell head : ℕ → ℕ) (full : ℕ) (looks : List (ℕ × ℕ)) (word found : ℕ) → full_word ≢ word
+    → ((p : ℕ) → cell_word p ≢ word) → ((p : ℕ) → head_word p ≢ word)
     → Stays cell head full looks → Stays cell head full ((word, found) ∷ looks)
 stays_beside cell head full looks word found no_full no_cell no_head old = record {
   cells = λ p x at some. ⊎_elim (λ t. absurd (no_cell p (sym t.0))) (λ t. old.cells p x t some) at;
@@ -33,7 +36,8 @@ stays_beside cell head full looks word found no_full no_cell no_head old = recor
 }
 
 -- a look at a word that is no cell tells of no absence
-pub absence_beside : (meaning : Meaning) (room : ℕ) (looks : List (ℕ × ℕ)) (word found : ℕ) → ((p : ℕ) → cell_word p ≢ word)
+pub absence_beside : (meaning : Meaning) (room : ℕ) (looks : List (ℕ × ℕ)) (word found : ℕ)
+    → ((p : ℕ) → cell_word p ≢ word)
     → RemembersAbsence meaning room looks → RemembersAbsence meaning room ((word, found) ∷ looks)
 absence_beside meaning room looks word found no_cell old = ((λ _ shown p _ is _ _. absurd (no_cell p is)), old)
 
@@ -42,13 +46,16 @@ pub held_alone : (i : ℕ) → i ≢ 8 → bit_at 256 i ≡ 0
 held_alone i ne = bit_at-pow_other 8 i ne
 
 -- a ready goal that is claimed is held by one seat
-rights_claimed : {R : Type 0} (room : ℕ) (m : Mem) (views : List (Hands R)) (id : ℕ) (v : Hands R) (place : ℕ) → get_elem? views id ≡ some v
-    → m.run place ≡ 0 → place < room → KeepsRights room m.run m.head views → KeepsRights room (put m.run place 256) m.head (set views id (claimed v place))
+rights_claimed : {R : Type 0} (room : ℕ) (m : Mem) (views : List (Hands R)) (id : ℕ) (v : Hands R) (place : ℕ)
+    → get_elem? views id ≡ some v
+    → m.run place ≡ 0 → place < room → KeepsRights room m.run m.head views
+    → KeepsRights room (put m.run place 256) m.head (set views id (claimed v place))
 rights_claimed room m views id v place mine ready near old =
     let w = claimed v place in
     let was = old place near in
     let one : cond {A = ℕ} (eqb place place) 1 0 ≡ 1 = counts_one place place refl in
-    let was_none : held views place + ended views place ≡ 0 = sym was.running ∙ ap (λ n. bit_at n 8) ready ∙ bit_at-zero 8 in
+    let was_none : held views place + ended views place ≡ 0 = sym was.running ∙ ap (λ n. bit_at n 8) ready
+    ∙ bit_at-zero 8 in
     let h : held (set views id w) place ≡ 1 = omega (arith, held-set views id v w mine place, one) in
     let d : ended (set views id w) place ≡ 0 = omega (arith, ended-set views id v w mine place) in
     rights_moved views id v w mine room m.run m.head (put m.run place 256) m.head place
@@ -65,7 +72,8 @@ rights_claimed room m views id v place mine ready near old =
     old
 
 -- the words of empty cells and of members are 0 where the goal's run word has changed
-pub blank_run : (meaning : Meaning) (room : ℕ) (m : Mem) (place x : ℕ) → HoldsGoal meaning room m.cell place → KeepsBlank meaning room m
+pub blank_run : (meaning : Meaning) (room : ℕ) (m : Mem) (place x : ℕ) → HoldsGoal meaning room m.cell place
+    → KeepsBlank meaning room m
     → KeepsBlank meaning room (record m { run = put m.run place x })
 blank_run meaning room m place x holds old p near no_goal = let b = old p near no_goal in record {
   run = put_else m.run place x p (λ e. no_goal (subst (HoldsGoal meaning room m.cell) (sym e) holds)) ∙ b.run;
@@ -89,13 +97,17 @@ blank_running meaning room m place x runs old p near no_goal = let b = old p nea
 }
 
 -- a wait that is being put in is for another goal than one that is claimed
-pends_claimed : {R : Type 0} (meaning : Meaning) (room : ℕ) (cell next : ℕ → ℕ) (v : Hands R) (place : ℕ) → rights_at place v.rights ≡ 0
-    → ArePending meaning room cell next v.looks v.rights v.pending → ArePending meaning room cell next ((claimed v place).looks) (fresh_right place ∷ v.rights) v.pending
+pends_claimed : {R : Type 0} (meaning : Meaning) (room : ℕ) (cell next : ℕ → ℕ) (v : Hands R) (place : ℕ)
+    → rights_at place v.rights ≡ 0
+    → ArePending meaning room cell next v.looks v.rights v.pending
+    → ArePending meaning room cell next ((claimed v place).looks) (fresh_right place ∷ v.rights) v.pending
 pends_claimed meaning room cell next v place none_of =
-    pending_as meaning room cell next cell next v.looks ((run_word place, 0) ∷ v.looks) v.rights (fresh_right place ∷ v.rights) v.pending
+    pending_as meaning room cell next cell next v.looks ((run_word place, 0) ∷ v.looks) v.rights
+    (fresh_right place ∷ v.rights) v.pending
     (λ x is old.
     let has = old.has.held in
-    let ne : place ≢ x.waiter / 8 = λ e. let h : rights_at (x.waiter / 8) v.rights ≡ 0 = ap (λ p. rights_at p v.rights) (sym e) ∙ none_of in absurd (omega arith) in
+    let ne : place ≢ x.waiter / 8 = λ e. let h : rights_at (x.waiter / 8) v.rights ≡ 0 =
+    ap (λ p. rights_at p v.rights) (sym e) ∙ none_of in absurd (omega arith) in
     record {
       has = record { near = old.has.near; held = omega arith };
       its_wait = ap (λ b. cond b 0 (waits_at (x.waiter / 8) v.rights)) (ne_eqb place (x.waiter / 8) ne) ∙ old.its_wait;
@@ -105,7 +117,8 @@ pends_claimed meaning room cell next v place none_of =
 
 module _ {R : Type 0} (meaning_of : R → Meaning) (rules : R) (room : ℕ) where
   -- a board is sound once a seat has claimed a ready goal
-  claim_keeps : (words : List ℕ) (views : List (Hands R)) (id : ℕ) (v : Hands R) (place : ℕ) → IsSound (meaning_of rules) rules room words views → get_elem? views id ≡ some v
+  claim_keeps : (words : List ℕ) (views : List (Hands R)) (id : ℕ) (v : Hands R) (place : ℕ)
+      → IsSound (meaning_of rules) rules room words views → get_elem? views id ≡ some v
       → 0 < v.parts → MayClaim (meaning_of rules) room v.looks place → get_or words (run_word place) 0 ≡ 0
       → IsSound (meaning_of rules) rules room (set words (run_word place) 256) (set views id (claimed v place))
   claim_keeps words views id v place sound mine some_part may ready =
@@ -128,42 +141,68 @@ module _ {R : Type 0} (meaning_of : R → Meaning) (rules : R) (room : ℕ) wher
       let none_mine : rights_at place v.rights ≡ 0 = omega (arith, own_rights, running, no_bit) in
       record {
         count = length-set words (run_word place) 256 ∙ count;
-        by_kinds = subst (λ b. IsSoundBy meaning rules room b (set views id w)) (sym (put_run words place 256 (omega arith))) (record {
-          cells = k.cells;
-          blank = blank_run meaning room m place 256 holds k.blank;
-          rights = rights_claimed room m views id v place mine ready near k.rights;
-          waits = waits_as meaning room m.cell m.head m.next m.run n.run views (set views id w) same
-              (handed_same views id v w mine refl) k.waits;
-          promises = k.promises;
-          full = k.full;
-          hands = of_others_set (AreHands meaning rules room m) (AreHands meaning rules room n) views id w
-              (λ other u ne there h. record { stays = h.stays; absence = h.absence; recorded = h.recorded; stored = h.stored; ends = h.ends; raised = raised_as m.run n.run u.pending u.rights same h.raised; pends = h.pends; walked = h.walked; awake = h.awake })
-              k.hands
-              (record {
-                stays = stays_beside m.cell m.head m.full v.looks (run_word place) 0 (λ e. omega arith) (λ p e. omega arith) (λ p e. omega arith) own.stays;
-                absence = absence_beside meaning room v.looks (run_word place) 0 (λ p e. omega arith) own.absence;
-                recorded = own.recorded;
-                stored = (record { cost_is = λ x e. absurd (cc); node_is = λ x e. absurd (cc); who_is = λ x e. absurd (cc) }, own.stored);
-                ends = λ p. omega (arith, own.ends p);
-                raised = (
-                  record {
-                    few = omega arith;
-                    others = λ b _ few. ap (λ x. bit_at x b) (put_here m.run place 256) ∙ held_alone b (λ e. omega arith)
-                        ∙ sym (none_pending meaning room m.cell m.next v.looks v.rights v.pending place b few none_mine own.pends);
-                  },
-                  raised_as m.run n.run v.pending v.rights same own.raised,
-                );
-                pends = pends_claimed meaning room m.cell m.next v place none_mine own.pends;
-                walked = own.walked;
-                awake = inr (awake_has rules room v some_part own.awake);
-              });
-          parts = total_same (λ (h : Hands R). h.parts) views id v w mine refl ∙ k.parts;
-        });
+        by_kinds = subst (λ b. IsSoundBy meaning rules room b (set views id w))
+            (sym (put_run words place 256 (omega arith))) (record {
+              cells = k.cells;
+              blank = blank_run meaning room m place 256 holds k.blank;
+              rights = rights_claimed room m views id v place mine ready near k.rights;
+              waits = waits_as meaning room m.cell m.head m.next m.run n.run views (set views id w) same
+                  (handed_same views id v w mine refl) k.waits;
+              promises = k.promises;
+              full = k.full;
+              hands = of_others_set (AreHands meaning rules room m) (AreHands meaning rules room n) views id w
+                  (λ other u ne there h. record {
+                    stays = h.stays;
+                    absence = h.absence;
+                    recorded = h.recorded;
+                    stored =
+                        h.stored;
+                    ends = h.ends;
+                    raised = raised_as m.run n.run u.pending u.rights same h.raised;
+                    pends =
+                        h.pends;
+                    walked = h.walked;
+                    awake = h.awake;
+                  })
+                  k.hands
+                  (record {
+                    stays = stays_beside m.cell m.head m.full v.looks (run_word place) 0 (λ e. omega arith)
+                        (λ p e. omega arith) (λ p e. omega arith) own.stays;
+                    absence = absence_beside meaning room v.looks (run_word place) 0 (λ p e. omega arith) own.absence;
+                    recorded = own.recorded;
+                    stored = (
+                      record {
+                        cost_is = λ x e. absurd (cc);
+                        node_is = λ x e. absurd (cc);
+                        who_is =
+                            λ x e. absurd (cc);
+                      },
+                      own.stored,
+                    );
+                    ends = λ p. omega (arith, own.ends p);
+                    raised = (
+                      record {
+                        few = omega arith;
+                        others = λ b _ few. ap (λ x. bit_at x b) (put_here m.run place 256)
+                            ∙ held_alone b (λ e. omega arith)
+                            ∙ sym (none_pending meaning room m.cell m.next v.looks v.rights v.pending place b few none_mine
+                            own.pends);
+                      },
+                      raised_as m.run n.run v.pending v.rights same own.raised,
+                    );
+                    pends = pends_claimed meaning room m.cell m.next v place none_mine own.pends;
+                    walked = own.walked;
+                    awake = inr (awake_has rules room v some_part own.awake);
+                  });
+              parts = total_same (λ (h : Hands R). h.parts) views id v w mine refl ∙ k.parts;
+            });
         alone = alone_set words views id (run_word place) 256 v w mine refl sound.alone;
       }
 
-  claim_at : (slots id : ℕ) (me : Sat R) (place : ℕ) → 0 < me.0.parts → MayClaim (meaning_of rules) room me.0.looks place
-      → Allows (Holds meaning_of rules room) slots id me (run_word place) (λ n. either (eqb n 0) 256 n) (Claims meaning_of (step slots (run_word place) 0 256 none) me)
+  claim_at : (slots id : ℕ) (me : Sat R) (place : ℕ) → 0 < me.0.parts
+      → MayClaim (meaning_of rules) room me.0.looks place
+      → Allows (Holds meaning_of rules room) slots id me (run_word place) (λ n. either (eqb n 0) 256 n)
+      (Claims meaning_of (step slots (run_word place) 0 256 none) me)
   claim_at slots id me place some_part may s sound homes mine fits =
       let i : ℕ = run_word place in
       let then : ℕ → Sat R → Type 0 = Claims meaning_of (step slots i 0 256 none) me in
@@ -188,8 +227,11 @@ module _ {R : Type 0} (meaning_of : R → Meaning) (rules : R) (room : ℕ) wher
         λ p same. record { hit = λ hit. absurd (miss hit); miss = λ _. refl; moment = moment },
       ))
 
-  pub claim_allowed : (slots id : ℕ) (me : Sat R) (i place : ℕ) → i ≡ run_word place → 0 < me.0.parts → MayClaim (meaning_of rules) room me.0.looks place
-      → Allows (Holds meaning_of rules room) slots id me i (λ n. either (eqb n 0) 256 n) (Claims meaning_of (step slots i 0 256 none) me)
+  pub claim_allowed : (slots id : ℕ) (me : Sat R) (i place : ℕ) → i ≡ run_word place → 0 < me.0.parts
+      → MayClaim (meaning_of rules) room me.0.looks place
+      → Allows (Holds meaning_of rules room) slots id me i (λ n. either (eqb n 0) 256 n)
+      (Claims meaning_of (step slots i 0 256 none) me)
   claim_allowed slots id me i place is some_part may =
-      subst (λ j. Allows (Holds meaning_of rules room) slots id me j (λ n. either (eqb n 0) 256 n) (Claims meaning_of (step slots j 0 256 none) me)) (sym is)
+      subst (λ j. Allows (Holds meaning_of rules room) slots id me j (λ n. either (eqb n 0) 256 n)
+      (Claims meaning_of (step slots j 0 256 none) me)) (sym is)
       (claim_at slots id me place some_part may)

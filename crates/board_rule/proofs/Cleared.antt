@@ -1,5 +1,6 @@
 -- What the bit of a waiter in a seat's hands leaves of each topic when it is cleared.
-use Rattle.std.proofs.Common.{◌≡◌, ℕ, ◌+◌, ◌*◌, ◌/◌, ◌%◌, ◌<◌, ◌≤◌, ◌≢◌, List, [], ◌∷◌, Option, None, Some, set, sym, refl, ap, subst, ◌∙◌, ⊎_elim, arith}
+use Rattle.std.proofs.Common.{◌≡◌, ℕ, ◌+◌, ◌*◌, ◌/◌, ◌%◌, ◌<◌, ◌≤◌, ◌≢◌, List, [], ◌∷◌, Option, None, Some, set, sym}
+use Rattle.std.proofs.Common.{refl, ap, subst, ◌∙◌, ⊎_elim, arith}
 use mathlib.Core.Option.{some}
 use lib.ListN.{get_elem?}
 use Rattle.std.specs.Int.{bit_at}
@@ -25,20 +26,23 @@ run_cleared run q = put run (q / 8) (cleared (run (q / 8)) (q % 8))
 pub bit_here : (run : ℕ → ℕ) (q : ℕ) → wait_bit (run_cleared run q) q ≡ 0
 bit_here run q =
     let few : q % 8 < 8 = omega arith in
-    ap (λ n. bit_at n (q % 8)) (put_here run (q / 8) (cleared (run (q / 8)) (q % 8))) ∙ cleared_same (run (q / 8)) (q % 8) (omega arith)
+    ap (λ n. bit_at n (q % 8)) (put_here run (q / 8) (cleared (run (q / 8)) (q % 8)))
+    ∙ cleared_same (run (q / 8)) (q % 8) (omega arith)
 
 pub bit_else : (run : ℕ → ℕ) (q p b : ℕ) → b < 8 → 8 * p + b ≢ q → bit_at (run_cleared run q p) b ≡ bit_at (run p) b
 bit_else run q p b few ne =
     put_cases run (q / 8) (cleared (run (q / 8)) (q % 8)) p (λ n. bit_at n b ≡ bit_at (run p) b)
     (λ at. let within : q % 8 < 8 = omega arith in
-    cleared_other (run (q / 8)) (q % 8) b (omega arith) (omega arith) (λ e. ne (omega arith)) ∙ ap (λ k. bit_at (run k) b) (sym at))
+    cleared_other (run (q / 8)) (q % 8) b (omega arith) (omega arith) (λ e. ne (omega arith))
+    ∙ ap (λ k. bit_at (run k) b) (sym at))
     (λ _. refl)
 
 wait_else : (run : ℕ → ℕ) (q p : ℕ) → p ≢ q → wait_bit (run_cleared run q) p ≡ wait_bit run p
 wait_else run q p ne = let few : p % 8 < 8 = omega arith in bit_else run q (p / 8) (p % 8) few (λ e. ne (omega arith))
 
 -- the rights of a seat that does not put the waiter in are raised as before
-pub raised_cleared : (run : ℕ → ℕ) (q : ℕ) (pending : Option Pending) (rights : List Claimed) → 1 ≤ wait_bit run q → count q (waiting pending) ≡ 0
+pub raised_cleared : (run : ℕ → ℕ) (q : ℕ) (pending : Option Pending) (rights : List Claimed) → 1 ≤ wait_bit run q
+    → count q (waiting pending) ≡ 0
     → Each (IsRaised run pending) rights → Each (IsRaised (run_cleared run q) pending) rights
 raised_cleared run q pending rights is_set none_of =
     each_as (IsRaised run pending) (IsRaised (run_cleared run q) pending)
@@ -48,7 +52,8 @@ raised_cleared run q pending rights is_set none_of =
           ⊎_elim
           (λ here.
           let was = old.others b more few in
-          let zero_count : count (8 * r.place + b) (waiting pending) ≡ 0 = ap (λ p. count p (waiting pending)) here ∙ none_of in
+          let zero_count : count (8 * r.place + b) (waiting pending) ≡ 0 = ap (λ p. count p (waiting pending)) here
+          ∙ none_of in
           let at : r.place ≡ q / 8 = omega arith in
           let bit : b ≡ q % 8 = omega arith in
           let same : bit_at (run r.place) b ≡ wait_bit run q = λ i. bit_at (run (at i)) (bit i) in
@@ -58,7 +63,8 @@ raised_cleared run q pending rights is_set none_of =
     }) rights
 
 -- those of a seat that put it in are without it
-pub raised_dropped : (run : ℕ → ℕ) (x : Pending) (rights : List Claimed) → Each (IsRaised run (Some x)) rights → Each (IsRaised (run_cleared run x.waiter) None) rights
+pub raised_dropped : (run : ℕ → ℕ) (x : Pending) (rights : List Claimed) → Each (IsRaised run (Some x)) rights
+    → Each (IsRaised (run_cleared run x.waiter) None) rights
 raised_dropped run x rights =
     each_as (IsRaised run (Some x)) (IsRaised (run_cleared run x.waiter) None)
     (λ r old. record {
@@ -69,11 +75,13 @@ raised_dropped run x rights =
           let at : r.place ≡ x.waiter / 8 = omega arith in
           let bit : b ≡ x.waiter % 8 = omega arith in
           (λ i. bit_at (run_cleared run x.waiter (at i)) (bit i)) ∙ bit_here run x.waiter)
-          (λ ne. bit_else run x.waiter r.place b few ne ∙ old.others b more few ∙ count_none (8 * r.place + b) x.waiter ne)
+          (λ ne. bit_else run x.waiter r.place b few ne ∙ old.others b more few
+          ∙ count_none (8 * r.place + b) x.waiter ne)
           (cases_eq (8 * r.place + b) x.waiter);
     }) rights
 
-module _ {R : Type 0} (meaning : Meaning) (room : ℕ) (m : Mem) (views : List (Hands R)) (id : ℕ) (v w : Hands R) (q : ℕ) (mine : get_elem? views id ≡ some v)
+module _ {R : Type 0} (meaning : Meaning) (room : ℕ) (m : Mem) (views : List (Hands R)) (id : ℕ) (v w : Hands R) (q : ℕ)
+    (mine : get_elem? views id ≡ some v)
     (one_less : (p : ℕ) → count p (in_hand v.pending v.walk) ≡ count p (q ∷ []) + count p (in_hand w.pending w.walk))
     (waits : KeepsWaits meaning room m.cell m.run m.head m.next views) where
   -- the waiter's bit was set, as it stood in the seat's hands
@@ -85,7 +93,8 @@ module _ {R : Type 0} (meaning : Meaning) (room : ℕ) (m : Mem) (views : List (
       omega (arith, one_less q, count_one q q refl)
 
   -- it stands in no other hands, and once in these
-  pub not_others : (other : ℕ) (u : Hands R) → other ≢ id → get_elem? views other ≡ some u → count q (in_hand u.pending u.walk) ≡ 0
+  pub not_others : (other : ℕ) (u : Hands R) → other ≢ id → get_elem? views other ≡ some u
+      → count q (in_hand u.pending u.walk) ≡ 0
   not_others other u ne there =
       let once = waits.once q in
       let both = terms_le (λ (y : Hands R). count q (in_hand y.pending y.walk)) views id other v u ne mine there in
@@ -122,24 +131,31 @@ module _ {R : Type 0} (meaning : Meaning) (room : ℕ) (m : Mem) (views : List (
         (cases_eq p q);
   }
 
-  pub rights_cleared : w.rights ≡ v.rights → w.done ≡ v.done → KeepsRights room m.run m.head views → KeepsRights room (run_cleared m.run q) m.head (set views id w)
+  pub rights_cleared : w.rights ≡ v.rights → w.done ≡ v.done → KeepsRights room m.run m.head views
+      → KeepsRights room (run_cleared m.run q) m.head (set views id w)
   rights_cleared rights done old =
       let place : ℕ = q / 8 in
       let few : q % 8 < 8 = omega arith in
       let near : place < room = waits.near q (omega (arith, was_set)) in
       let was = old place near in
       let x : ℕ = cleared (m.run place) (q % 8) in
-      let h : held (set views id w) place ≡ held views place = total_same (λ (u : Hands R). rights_at place u.rights) views id v w mine (ap (rights_at place) rights) in
-      let d : ended (set views id w) place ≡ ended views place = total_same (λ (u : Hands R). done_at place u.done) views id v w mine (ap (done_at place) done) in
+      let h : held (set views id w) place ≡ held views place =
+      total_same (λ (u : Hands R). rights_at place u.rights) views id v w mine (ap (rights_at place) rights) in
+      let d : ended (set views id w) place ≡ ended views place =
+      total_same (λ (u : Hands R). done_at place u.done) views id v w mine (ap (done_at place) done) in
       let unsettled : ended (set views id w) place ≡ 1 → ⊥ = λ one.
-      let zero_bit : wait_bit m.run q ≡ 0 = ap (λ n. bit_at n (q % 8)) (was.settled (sym d ∙ one)) ∙ held_alone (q % 8) (λ e. omega arith) in
+      let zero_bit : wait_bit m.run q ≡ 0 = ap (λ n. bit_at n (q % 8)) (was.settled (sym d ∙ one))
+      ∙ held_alone (q % 8) (λ e. omega arith) in
       absurd (omega (arith, was_set)) in
       rights_moved views id v w mine room m.run m.head (run_cleared m.run q) m.head place
       (λ p _. ap (rights_at p) rights) (λ p _. ap (done_at p) done) (λ p ne. put_else m.run place x p ne) (λ _ _. refl)
       (record {
         once = omega (arith, h, d, was.once);
-        running = ap (λ n. bit_at n 8) (put_here m.run place x) ∙ cleared_other (m.run place) (q % 8) 8 (omega arith) (omega arith) (λ e. omega arith) ∙ was.running ∙ omega (arith, h, d);
-        small = λ i high. ap (λ n. bit_at n i) (put_here m.run place x) ∙ cleared_none (m.run place) (q % 8) i (was.small i high);
+        running = ap (λ n. bit_at n 8) (put_here m.run place x)
+            ∙ cleared_other (m.run place) (q % 8) 8 (omega arith) (omega arith) (λ e. omega arith) ∙ was.running
+            ∙ omega (arith, h, d);
+        small = λ i high. ap (λ n. bit_at n i) (put_here m.run place x)
+            ∙ cleared_none (m.run place) (q % 8) i (was.small i high);
         closed = λ one. absurd (unsettled one);
         settled = λ one. absurd (unsettled one);
         is_open = λ none_done. was.is_open (sym d ∙ none_done);

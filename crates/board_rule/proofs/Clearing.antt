@@ -1,5 +1,7 @@
--- A fetch-and that clears the bit of a waiter keeps soundness: by the seat that walks, and by the one that puts the wait in.
-use Rattle.std.proofs.Common.{length-set, ◌≡◌, ℕ, ◌+◌, ◌-◌, ◌/◌, ◌%◌, ◌^◌, ◌<◌, ◌≤◌, List, [], ◌∷◌, Option, None, Some, bit_and, get_or, set, sym, refl, ap, subst, ◌∙◌, inr, arith}
+-- A fetch-and that clears the bit of a waiter keeps soundness: by the seat that walks, and by the one that puts the
+-- wait in.
+use Rattle.std.proofs.Common.{length-set, ◌≡◌, ℕ, ◌+◌, ◌-◌, ◌/◌, ◌%◌, ◌^◌, ◌<◌, ◌≤◌, List, [], ◌∷◌, Option, None, Some}
+use Rattle.std.proofs.Common.{bit_and, get_or, set, sym, refl, ap, subst, ◌∙◌, inr, arith}
 use mathlib.Core.Option.{some, none}
 use lib.ListN.{get_elem?}
 use Rattle.atomic_table.specs.Table.{keeps, step, Allows}
@@ -19,19 +21,22 @@ use Rattle.board_rule.proofs.Rights.{bit_runs}
 use Rattle.board_rule.proofs.Chains.{count, chain_rest}
 use Rattle.board_rule.proofs.Waits.{pending_looked, hand_parts}
 use Rattle.board_rule.proofs.Claiming.{stays_beside, absence_beside, blank_running}
-use Rattle.board_rule.proofs.Cleared.{run_cleared, raised_cleared, raised_dropped, was_set, not_others, not_again, waits_cleared, rights_cleared}
+use Rattle.board_rule.proofs.Cleared.{run_cleared, raised_cleared, raised_dropped, was_set, not_others, not_again}
+use Rattle.board_rule.proofs.Cleared.{waits_cleared, rights_cleared}
 use Rattle.board_rule.proofs.Looking.{Holds}
 
 -- what is left of a walk without its first waiter
 walked_rest : (meaning : Meaning) (room : ℕ) (m : Mem) (walk : Walk) → IsWalked meaning room m.cell m.head m.next walk
-    → IsWalked meaning room m.cell m.head m.next (record { child = walk.child; waiters = rest_of walk.waiters; next = None })
+    → IsWalked meaning room m.cell m.head m.next
+    (record { child = walk.child; waiters = rest_of walk.waiters; next = None })
 walked_rest meaning room m walk old = record {
   chained = chain_rest m.next walk.waiters old.chained;
   read = λ found is. let no : ⊥ = cc in absurd no;
   waited = rest walk.waiters old.waited;
 }
   where
-    rest : (l : List ℕ) → Each (WaitedFor meaning room m.cell m.head walk.child) l → Each (WaitedFor meaning room m.cell m.head walk.child) (rest_of l)
+    rest : (l : List ℕ) → Each (WaitedFor meaning room m.cell m.head walk.child) l
+        → Each (WaitedFor meaning room m.cell m.head walk.child) (rest_of l)
     rest [] all = tt
     rest (q ∷ qs) all = all.1
 
@@ -47,14 +52,17 @@ module _ {R : Type 0} (meaning_of : R → Meaning) (rules : R) (room : ℕ) wher
   }
 
   -- a board is sound once a seat has cleared the bit of a waiter that it had in its hands
-  clear_keeps : (words : List ℕ) (views : List (Hands R)) (id : ℕ) (v : Hands R) (q : ℕ) (pending : Option Pending) (walk : Walk)
+  clear_keeps : (words : List ℕ) (views : List (Hands R)) (id : ℕ) (v : Hands R) (q : ℕ) (pending : Option Pending)
+      (walk : Walk)
       → IsSound (meaning_of rules) rules room words views → get_elem? views id ≡ some v → 0 < v.parts
       → ((p : ℕ) → count p (in_hand v.pending v.walk) ≡ count p (q ∷ []) + count p (in_hand pending walk))
       → (1 ≤ wait_bit (mem words).run q → Each (IsRaised (run_cleared (mem words).run q) pending) v.rights)
-      → ((looks : List (ℕ × ℕ)) (look : ℕ × ℕ) → looks ≡ v.looks → ArePending (meaning_of rules) room (mem words).cell (mem words).next (look ∷ looks) v.rights pending)
+      → ((looks : List (ℕ × ℕ)) (look : ℕ × ℕ) → looks ≡ v.looks
+      → ArePending (meaning_of rules) room (mem words).cell (mem words).next (look ∷ looks) v.rights pending)
       → IsWalked (meaning_of rules) room (mem words).cell (mem words).head (mem words).next walk
       → let found = get_or words (run_word (q / 8)) 0 in
-      IsSound (meaning_of rules) rules room (set words (run_word (q / 8)) (cleared found (q % 8))) (set views id (after_clear v q found pending walk))
+      IsSound (meaning_of rules) rules room (set words (run_word (q / 8)) (cleared found (q % 8)))
+      (set views id (after_clear v q found pending walk))
   clear_keeps words views id v q pending walk sound mine some_part one_less raised pends walked =
       let meaning : Meaning = meaning_of rules in
       let m : Mem = mem words in
@@ -70,48 +78,51 @@ module _ {R : Type 0} (meaning_of : R → Meaning) (rules : R) (room : ℕ) wher
       let near : place < room = k.waits.near q (omega (arith, is_set)) in
       record {
         count = length-set words (run_word place) x ∙ total_count;
-        by_kinds = subst (λ k. IsSoundBy meaning rules room k (set views id w)) (sym (put_run words place x (omega arith))) (record {
-          cells = k.cells;
-          blank = blank_running meaning room m place x (bit_runs found (q % 8) (omega (arith, is_set))) k.blank;
-          rights = rights_cleared meaning room m views id v w q mine one_less k.waits refl refl k.rights;
-          waits = waits_cleared meaning room m views id v w q mine one_less k.waits;
-          promises = k.promises;
-          full = k.full;
-          hands = of_others_set (AreHands meaning rules room m) (AreHands meaning rules room n) views id w
-              (λ other u ne there h.
-              let none_of = not_others meaning room m views id v w q mine one_less k.waits other u ne there in
-              let parts = hand_parts q u.pending u.walk in
-              record {
-                stays = h.stays;
-                absence = h.absence;
-                recorded = h.recorded;
-                stored = h.stored;
-                ends = h.ends;
-                raised = raised_cleared m.run q u.pending u.rights (omega (arith, is_set)) (omega arith) h.raised;
-                pends = h.pends;
-                walked = h.walked;
-                awake = h.awake;
-              })
-              k.hands
-              (record {
-                stays = stays_beside m.cell m.head m.full v.looks (run_word place) found (λ e. omega arith) (λ p e. omega arith) (λ p e. omega arith) own.stays;
-                absence = absence_beside meaning room v.looks (run_word place) found (λ p e. omega arith) own.absence;
-                recorded = own.recorded;
-                stored = own.stored;
-                ends = own.ends;
-                raised = raised (omega (arith, is_set));
-                pends = pends v.looks (run_word place, found) refl;
-                walked = walked;
-                awake = inr (awake_has rules room v some_part own.awake);
-              });
-          parts = total_same (λ (h : Hands R). h.parts) views id v w mine refl ∙ k.parts;
-        });
+        by_kinds = subst (λ k. IsSoundBy meaning rules room k (set views id w))
+            (sym (put_run words place x (omega arith))) (record {
+              cells = k.cells;
+              blank = blank_running meaning room m place x (bit_runs found (q % 8) (omega (arith, is_set))) k.blank;
+              rights = rights_cleared meaning room m views id v w q mine one_less k.waits refl refl k.rights;
+              waits = waits_cleared meaning room m views id v w q mine one_less k.waits;
+              promises = k.promises;
+              full = k.full;
+              hands = of_others_set (AreHands meaning rules room m) (AreHands meaning rules room n) views id w
+                  (λ other u ne there h.
+                  let none_of = not_others meaning room m views id v w q mine one_less k.waits other u ne there in
+                  let parts = hand_parts q u.pending u.walk in
+                  record {
+                    stays = h.stays;
+                    absence = h.absence;
+                    recorded = h.recorded;
+                    stored = h.stored;
+                    ends = h.ends;
+                    raised = raised_cleared m.run q u.pending u.rights (omega (arith, is_set)) (omega arith) h.raised;
+                    pends = h.pends;
+                    walked = h.walked;
+                    awake = h.awake;
+                  })
+                  k.hands
+                  (record {
+                    stays = stays_beside m.cell m.head m.full v.looks (run_word place) found (λ e. omega arith)
+                        (λ p e. omega arith) (λ p e. omega arith) own.stays;
+                    absence = absence_beside meaning room v.looks (run_word place) found (λ p e. omega arith) own.absence;
+                    recorded = own.recorded;
+                    stored = own.stored;
+                    ends = own.ends;
+                    raised = raised (omega (arith, is_set));
+                    pends = pends v.looks (run_word place, found) refl;
+                    walked = walked;
+                    awake = inr (awake_has rules room v some_part own.awake);
+                  });
+              parts = total_same (λ (h : Hands R). h.parts) views id v w mine refl ∙ k.parts;
+            });
         alone = alone_set words views id (run_word place) x v w mine refl sound.alone;
       }
 
   -- the first waiter of a walk, and those after it
   walk_counts : (pending : Option Pending) (walk : Walk) (q : ℕ) (others : List ℕ) → walk.waiters ≡ q ∷ others → (p : ℕ)
-      → count p (in_hand pending walk) ≡ count p (q ∷ []) + count p (in_hand pending (record { child = walk.child; waiters = rest_of walk.waiters; next = None }))
+      → count p (in_hand pending walk) ≡ count p (q ∷ []) + count p
+      (in_hand pending (record { child = walk.child; waiters = rest_of walk.waiters; next = None }))
   walk_counts pending walk q others is p =
       let whole = hand_parts p pending walk in
       let left = hand_parts p pending (record { child = walk.child; waiters = rest_of walk.waiters; next = None }) in
@@ -119,8 +130,10 @@ module _ {R : Type 0} (meaning_of : R → Meaning) (rules : R) (room : ℕ) wher
       let rest : count p (rest_of walk.waiters) ≡ count p others = ap (λ l. count p (rest_of l)) is in
       omega arith
 
-  clear_at : (slots id : ℕ) (me : Sat R) (q : ℕ) (others : List ℕ) (mask : ℕ) → mask ≡ 2 ^ 64 - 1 - 2 ^ (q % 8) → 0 < me.0.parts → me.0.walk.waiters ≡ q ∷ others
-      → Allows (Holds meaning_of rules room) slots id me (run_word (q / 8)) (λ n. bit_and n mask) (ClearsBit meaning_of (step slots (run_word (q / 8)) mask 0 none) me)
+  clear_at : (slots id : ℕ) (me : Sat R) (q : ℕ) (others : List ℕ) (mask : ℕ) → mask ≡ 2 ^ 64 - 1 - 2 ^ (q % 8)
+      → 0 < me.0.parts → me.0.walk.waiters ≡ q ∷ others
+      → Allows (Holds meaning_of rules room) slots id me (run_word (q / 8)) (λ n. bit_and n mask)
+      (ClearsBit meaning_of (step slots (run_word (q / 8)) mask 0 none) me)
   clear_at slots id me q others mask is_mask some_part walks s sound homes mine fits =
       let i : ℕ = run_word (q / 8) in
       let found : ℕ = get_or s.words i 0 in
@@ -137,10 +150,12 @@ module _ {R : Type 0} (meaning_of : R → Meaning) (rules : R) (room : ℕ) wher
         bit_cleared v q found,
         keeps,
         tt,
-        subst (λ y. IsSound meaning rules room (set s.words i (bit_and found y)) (set s.views id (bit_cleared v q found))) (sym is_mask)
+        subst (λ y. IsSound meaning rules room (set s.words i (bit_and found y))
+            (set s.views id (bit_cleared v q found))) (sym is_mask)
             (clear_keeps s.words s.views id v q v.pending left sound mine some_part less
             (λ is_set. raised_cleared m.run q v.pending v.rights is_set (omega arith) own.raised)
-            (λ looks look same. subst (λ ls. ArePending meaning room m.cell m.next (look ∷ ls) v.rights v.pending) (sym same)
+            (λ looks look same. subst (λ ls. ArePending meaning room m.cell m.next (look ∷ ls) v.rights v.pending)
+            (sym same)
             (pending_looked meaning room m.cell m.next look v.looks v.rights v.pending own.pends))
             (walked_rest meaning room m v.walk own.walked)),
         λ p rest is.
@@ -153,14 +168,19 @@ module _ {R : Type 0} (meaning_of : R → Meaning) (rules : R) (room : ℕ) wher
       )
 
   -- the seat that walks clears the bit of the first waiter
-  pub clear_allowed : (slots id : ℕ) (me : Sat R) (i q : ℕ) (others : List ℕ) (mask : ℕ) → i ≡ run_word (q / 8) → mask ≡ 2 ^ 64 - 1 - 2 ^ (q % 8) → 0 < me.0.parts → me.0.walk.waiters ≡ q ∷ others
-      → Allows (Holds meaning_of rules room) slots id me i (λ n. bit_and n mask) (ClearsBit meaning_of (step slots i mask 0 none) me)
+  pub clear_allowed : (slots id : ℕ) (me : Sat R) (i q : ℕ) (others : List ℕ) (mask : ℕ) → i ≡ run_word (q / 8)
+      → mask ≡ 2 ^ 64 - 1 - 2 ^ (q % 8) → 0 < me.0.parts → me.0.walk.waiters ≡ q ∷ others
+      → Allows (Holds meaning_of rules room) slots id me i (λ n. bit_and n mask)
+      (ClearsBit meaning_of (step slots i mask 0 none) me)
   clear_allowed slots id me i q others mask is is_mask some_part walks =
-      subst (λ j. Allows (Holds meaning_of rules room) slots id me j (λ n. bit_and n mask) (ClearsBit meaning_of (step slots j mask 0 none) me)) (sym is)
+      subst (λ j. Allows (Holds meaning_of rules room) slots id me j (λ n. bit_and n mask)
+      (ClearsBit meaning_of (step slots j mask 0 none) me)) (sym is)
       (clear_at slots id me q others mask is_mask some_part walks)
 
-  drop_at : (slots id : ℕ) (me : Sat R) (x : Pending) (mask : ℕ) → mask ≡ 2 ^ 64 - 1 - 2 ^ (x.waiter % 8) → 0 < me.0.parts → MayDrop me.0.pending x
-      → Allows (Holds meaning_of rules room) slots id me (run_word (x.waiter / 8)) (λ n. bit_and n mask) (DropsWait meaning_of (step slots (run_word (x.waiter / 8)) mask 0 none) me)
+  drop_at : (slots id : ℕ) (me : Sat R) (x : Pending) (mask : ℕ) → mask ≡ 2 ^ 64 - 1 - 2 ^ (x.waiter % 8)
+      → 0 < me.0.parts → MayDrop me.0.pending x
+      → Allows (Holds meaning_of rules room) slots id me (run_word (x.waiter / 8)) (λ n. bit_and n mask)
+      (DropsWait meaning_of (step slots (run_word (x.waiter / 8)) mask 0 none) me)
   drop_at slots id me x mask is_mask some_part may s sound homes mine fits =
       let q : ℕ = x.waiter in
       let i : ℕ = run_word (q / 8) in
@@ -172,10 +192,12 @@ module _ {R : Type 0} (meaning_of : R → Meaning) (rules : R) (room : ℕ) wher
         wait_dropped v x found,
         keeps,
         tt,
-        subst (λ y. IsSound meaning rules room (set s.words i (bit_and found y)) (set s.views id (wait_dropped v x found))) (sym is_mask)
+        subst (λ y. IsSound meaning rules room (set s.words i (bit_and found y))
+            (set s.views id (wait_dropped v x found))) (sym is_mask)
             (clear_keeps s.words s.views id v q None v.walk sound mine some_part
             (λ p. ap (λ o. count p (in_hand o v.walk)) may.is ∙ omega arith)
-            (λ is_set. raised_dropped m.run x v.rights (subst (λ o. Each (IsRaised m.run o) v.rights) may.is own.raised))
+            (λ is_set. raised_dropped m.run x v.rights
+            (subst (λ o. Each (IsRaised m.run o) v.rights) may.is own.raised))
             (λ looks look same. tt)
             own.walked),
         λ y is.
@@ -188,8 +210,11 @@ module _ {R : Type 0} (meaning_of : R → Meaning) (rules : R) (room : ℕ) wher
       )
 
   -- the seat that puts a wait in clears its bit, as it saw the child finished
-  pub drop_allowed : (slots id : ℕ) (me : Sat R) (i : ℕ) (x : Pending) (mask : ℕ) → i ≡ run_word (x.waiter / 8) → mask ≡ 2 ^ 64 - 1 - 2 ^ (x.waiter % 8) → 0 < me.0.parts → MayDrop me.0.pending x
-      → Allows (Holds meaning_of rules room) slots id me i (λ n. bit_and n mask) (DropsWait meaning_of (step slots i mask 0 none) me)
+  pub drop_allowed : (slots id : ℕ) (me : Sat R) (i : ℕ) (x : Pending) (mask : ℕ) → i ≡ run_word (x.waiter / 8)
+      → mask ≡ 2 ^ 64 - 1 - 2 ^ (x.waiter % 8) → 0 < me.0.parts → MayDrop me.0.pending x
+      → Allows (Holds meaning_of rules room) slots id me i (λ n. bit_and n mask)
+      (DropsWait meaning_of (step slots i mask 0 none) me)
   drop_allowed slots id me i x mask is is_mask some_part may =
-      subst (λ j. Allows (Holds meaning_of rules room) slots id me j (λ n. bit_and n mask) (DropsWait meaning_of (step slots j mask 0 none) me)) (sym is)
+      subst (λ j. Allows (Holds meaning_of rules room) slots id me j (λ n. bit_and n mask)
+      (DropsWait meaning_of (step slots j mask 0 none) me)) (sym is)
       (drop_at slots id me x mask is_mask some_part may)

@@ -1,5 +1,6 @@
 -- A swap that closes a goal's head keeps soundness.
-use Rattle.std.proofs.Common.{length, ◌*◌, ◌≡◌, ℕ, ◌+◌, ◌^◌, ◌<◌, ◌≤◌, List, set, length-set, cond, eqb, eq-eqb, ne_eqb, Some, IsTrue, sym, refl, ap, subst, ◌∙◌, inr, ⊎_elim, arith, None, [], ◌/◌}
+use Rattle.std.proofs.Common.{length, ◌*◌, ◌≡◌, ℕ, ◌+◌, ◌^◌, ◌<◌, ◌≤◌, List, set, length-set, cond, eqb, eq-eqb, ne_eqb}
+use Rattle.std.proofs.Common.{Some, IsTrue, sym, refl, ap, subst, ◌∙◌, inr, ⊎_elim, arith, None, [], ◌/◌}
 use mathlib.Core.Option.{some, none}
 use lib.ListN.{get_elem?}
 use Rattle.std.proofs.lemmas.Bool.{cases_eq, cases_lt}
@@ -11,34 +12,41 @@ use Rattle.board_rule.specs.Records.{Claimed}
 use Rattle.board_rule.specs.Words.{Mem, mem, put, head_word}
 use Rattle.board_rule.specs.Waiters.{head_of, IsChain}
 use Rattle.board_rule.specs.Seats.{Each, in_hand, answered_right, without, finished}
-use Rattle.board_rule.specs.Rule.{HoldsGoal, IsPromised, KeepsRights, IsRecorded, IsStored, IsRaised, ArePending, WaitedFor, KeepsWaits, EndsClaims, AreHands, IsSoundBy, IsSound, held, ended}
+use Rattle.board_rule.specs.Rule.{HoldsGoal, IsPromised, KeepsRights, IsRecorded, IsStored, IsRaised, ArePending}
+use Rattle.board_rule.specs.Rule.{WaitedFor, KeepsWaits, EndsClaims, AreHands, IsSoundBy, IsSound, held, ended}
 use Rattle.board_rule.specs.May.{HasRight, MayClose}
 use Rattle.board_rule.specs.Plays.{Sat, Closes}
 use Rattle.board_rule.specs.declared.hands.Hands.{Hands}
-use Rattle.board_rule.proofs.Lists.{put_here, put_else, put_cases, each_as, each_at, among_counts, only_one, total-set, total_same}
+use Rattle.board_rule.proofs.Lists.{put_here, put_else, put_cases, each_as, each_at, among_counts, only_one, total-set}
+use Rattle.board_rule.proofs.Lists.{total_same}
 use Rattle.board_rule.proofs.Stores.{put_head}
 use Rattle.board_rule.proofs.Frames.{awake_has, of_others_set, alone_set, moment_of}
 use Rattle.board_rule.proofs.Truths.{shown_promise}
-use Rattle.board_rule.proofs.Rights.{held_by, counts_one, counts_none, held-set, ended-set, rights_moved, rights_at, without_here, without_else, each_without}
+use Rattle.board_rule.proofs.Rights.{held_by, counts_one, counts_none, held-set, ended-set, rights_moved, rights_at}
+use Rattle.board_rule.proofs.Rights.{without_here, without_else, each_without}
 use Rattle.board_rule.proofs.Chains.{count, put_list, put_list_cases, below_put_list}
 use Rattle.board_rule.proofs.Claiming.{held_alone}
 use Rattle.board_rule.proofs.Lengths.{list_length, waiters_within}
 use Rattle.board_rule.proofs.Looking.{Holds}
-use Rattle.board_rule.proofs.CloseTopics.{stays_close, own_stays_close, recorded_close, promises_close, blank_close, walked_close}
+use Rattle.board_rule.proofs.CloseTopics.{stays_close, own_stays_close, recorded_close, promises_close, blank_close}
+use Rattle.board_rule.proofs.CloseTopics.{walked_close}
 
 module _ {R : Type 0} (meaning_of : R → Meaning) (rules : R) (room : ℕ) where
   -- a held goal without waits has the held bit alone in its run word
-  runs_alone : (run : ℕ → ℕ) (place : ℕ) (r : Claimed) → r.place ≡ place → r.waits ≡ 0 → bit_at (run place) 8 ≡ 1 → ((i : ℕ) → 9 ≤ i → bit_at (run place) i ≡ 0)
+  runs_alone : (run : ℕ → ℕ) (place : ℕ) (r : Claimed) → r.place ≡ place → r.waits ≡ 0 → bit_at (run place) 8 ≡ 1
+      → ((i : ℕ) → 9 ≤ i → bit_at (run place) i ≡ 0)
       → IsRaised run None r → run place ≡ 256
   runs_alone run place r at waits runs small raised = same_from_bits (run place) 256 (λ i.
       ⊎_elim
-      (λ low. ap (λ p. bit_at (run p) i) (sym at) ∙ raised.others i (omega arith) low ∙ sym (held_alone i (λ e. omega arith)))
+      (λ low. ap (λ p. bit_at (run p) i) (sym at) ∙ raised.others i (omega arith) low
+      ∙ sym (held_alone i (λ e. omega arith)))
       (λ high. ⊎_elim (λ e. ap (bit_at (run place)) e ∙ runs ∙ sym (ap (bit_at 256) e))
       (λ ne. small i (omega arith) ∙ sym (held_alone i ne)) (cases_eq i 8))
       (cases_lt i 8))
 
   -- the right goes to what the seat finished
-  rights_close : (run head : ℕ → ℕ) (views : List (Hands R)) (id : ℕ) (v : Hands R) (place worker cost node : ℕ) (waiters : List ℕ) → get_elem? views id ≡ some v
+  rights_close : (run head : ℕ → ℕ) (views : List (Hands R)) (id : ℕ) (v : Hands R) (place worker cost node : ℕ)
+      (waiters : List ℕ) → get_elem? views id ≡ some v
       → HasRight room v.rights place → run place ≡ 256 → KeepsRights room run head views
       → KeepsRights room run (put head place (2 ^ 63)) (set views id (finished v place worker cost node waiters))
   rights_close run head views id v place worker cost node waiters mine has settled old =
@@ -47,7 +55,8 @@ module _ {R : Type 0} (meaning_of : R → Meaning) (rules : R) (room : ℕ) wher
       let is = held_by room run head views id v place mine has old in
       let gone = without_here place v.rights has.held in
       let one : cond {A = ℕ} (eqb place place) 1 0 ≡ 1 = counts_one place place refl in
-      let h : held (set views id w) place ≡ 0 = omega (arith, held-set views id v w mine place, is.held_once, is.right_once) in
+      let h : held (set views id w) place ≡ 0 =
+      omega (arith, held-set views id v w mine place, is.held_once, is.right_once) in
       let d : ended (set views id w) place ≡ 1 = omega (arith, ended-set views id v w mine place, is.not_ended) in
       rights_moved views id v w mine room run head run (put head place (2 ^ 63)) place
       (λ p ne. without_else place p v.rights ne) (λ p ne. omega (arith, counts_none place p (λ e. ne (sym e))))
@@ -63,19 +72,24 @@ module _ {R : Type 0} (meaning_of : R → Meaning) (rules : R) (room : ℕ) wher
       old
 
   -- the waiters of the goal go from its list to the seat's hands
-  waits_close : (m : Mem) (views : List (Hands R)) (id : ℕ) (v w : Hands R) (place : ℕ) (old : KeepsWaits (meaning_of rules) room m.cell m.run m.head m.next views) → get_elem? views id ≡ some v
+  waits_close : (m : Mem) (views : List (Hands R)) (id : ℕ) (v w : Hands R) (place : ℕ)
+      (old : KeepsWaits (meaning_of rules) room m.cell m.run m.head m.next views) → get_elem? views id ≡ some v
       → place < room → in_hand v.pending v.walk ≡ [] → in_hand w.pending w.walk ≡ old.lists place
       → KeepsWaits (meaning_of rules) room m.cell m.run (put m.head place (2 ^ 63)) m.next (set views id w)
   waits_close m views id v w place old mine near free walks = record {
     lists = put_list old.lists place [];
     none_left = λ c in_room. put_cases m.head place (2 ^ 63) c (λ x. 2 ^ 63 ≤ x → put_list old.lists place [] c ≡ [])
         (λ here _. put_list_cases old.lists place [] c (λ l. l ≡ []) (λ _. refl) (λ ne. absurd (ne here)))
-        (λ _ closed. put_list_cases old.lists place [] c (λ l. l ≡ []) (λ _. refl) (λ _. old.none_left c in_room closed));
-    heads = λ c in_room. put_cases m.head place (2 ^ 63) c (λ x. x < 2 ^ 63 → x ≡ head_of (put_list old.lists place [] c))
+        (λ _ closed. put_list_cases old.lists place [] c (λ l. l ≡ []) (λ _. refl)
+        (λ _. old.none_left c in_room closed));
+    heads = λ c in_room. put_cases m.head place (2 ^ 63) c (λ x. x < 2 ^ 63
+        → x ≡ head_of (put_list old.lists place [] c))
         (λ _ is_open. absurd (omega arith))
-        (λ ne is_open. put_list_cases old.lists place [] c (λ l. m.head c ≡ head_of l) (λ here. absurd (ne here)) (λ _. old.heads c in_room is_open));
+        (λ ne is_open. put_list_cases old.lists place [] c (λ l. m.head c ≡ head_of l) (λ here. absurd (ne here))
+        (λ _. old.heads c in_room is_open));
     chains = λ c in_room. put_list_cases old.lists place [] c (IsChain m.next) (λ _. tt) (λ _. old.chains c in_room);
-    joined = λ c in_room. put_list_cases old.lists place [] c (Each (λ q. (meaning_of rules).child (m.cell (q / 8)) (m.cell c))) (λ _. tt) (λ _. old.joined c in_room);
+    joined = λ c in_room. put_list_cases old.lists place [] c
+        (Each (λ q. (meaning_of rules).child (m.cell (q / 8)) (m.cell c))) (λ _. tt) (λ _. old.joined c in_room);
     once = λ q.
         let lists = below_put_list old.lists room place [] q near in
         let hands = total-set (λ (u : Hands R). count q (in_hand u.pending u.walk)) views id v w mine in
@@ -86,19 +100,27 @@ module _ {R : Type 0} (meaning_of : R → Meaning) (rules : R) (room : ℕ) wher
     near = old.near;
   }
 
-  ends_close : (v : Hands R) (place worker cost node : ℕ) (waiters : List ℕ) → 1 ≤ rights_at place v.rights → EndsClaims v → EndsClaims (finished v place worker cost node waiters)
+  ends_close : (v : Hands R) (place worker cost node : ℕ) (waiters : List ℕ) → 1 ≤ rights_at place v.rights
+      → EndsClaims v → EndsClaims (finished v place worker cost node waiters)
   ends_close v place worker cost node waiters has old p = ⊎_elim
       (λ here. let one : cond {A = ℕ} (eqb place p) 1 0 ≡ 1 = ap (λ b. cond b 1 0) (eq-eqb place p (sym here)) in
-      let less : rights_at p (without place v.rights) + 1 ≡ rights_at p v.rights = subst (λ q. rights_at q (without place v.rights) + 1 ≡ rights_at q v.rights) (sym here) (without_here place v.rights has) in
+      let less : rights_at p (without place v.rights) + 1 ≡ rights_at p v.rights =
+      subst (λ q. rights_at q (without place v.rights) + 1 ≡ rights_at q v.rights) (sym here)
+      (without_here place v.rights has) in
       omega (arith, old p))
-      (λ else. let zero_here : cond {A = ℕ} (eqb place p) 1 0 ≡ 0 = ap (λ b. cond b 1 0) (ne_eqb place p (λ e. else (sym e))) in
+      (λ else. let zero_here : cond {A = ℕ} (eqb place p) 1 0 ≡ 0 =
+      ap (λ b. cond b 1 0) (ne_eqb place p (λ e. else (sym e))) in
       omega (arith, old p, without_else place p v.rights else))
       (cases_eq p place)
 
   -- a board is sound once a seat has closed the head of a goal that it holds
-  close_keeps : (words : List ℕ) (views : List (Hands R)) (id : ℕ) (v : Hands R) (place worker cost node : ℕ) (sound : IsSound (meaning_of rules) rules room words views)
-      → (mine : get_elem? views id ≡ some v) → 0 < v.parts → MayClose (meaning_of rules) room v.looks v.rights place worker cost node → v.pending ≡ None → v.walk.waiters ≡ []
-      → IsSound (meaning_of rules) rules room (set words (head_word place) (2 ^ 63)) (set views id (finished v place worker cost node (sound.by_kinds.waits.lists place)))
+  close_keeps : (words : List ℕ) (views : List (Hands R)) (id : ℕ) (v : Hands R) (place worker cost node : ℕ)
+      (sound : IsSound (meaning_of rules) rules room words views)
+      → (mine : get_elem? views id ≡ some v) → 0 < v.parts
+      → MayClose (meaning_of rules) room v.looks v.rights place worker cost node → v.pending ≡ None
+      → v.walk.waiters ≡ []
+      → IsSound (meaning_of rules) rules room (set words (head_word place) (2 ^ 63))
+      (set views id (finished v place worker cost node (sound.by_kinds.waits.lists place)))
   close_keeps words views id v place worker cost node sound mine some_part may free walked =
       let meaning : Meaning = meaning_of rules in
       let m : Mem = mem words in
@@ -109,75 +131,111 @@ module _ {R : Type 0} (meaning_of : R → Meaning) (rules : R) (room : ℕ) wher
       let own = k.hands id v mine in
       let near = may.near in
       let count = sound.count in
-      let has : 1 ≤ rights_at place v.rights = among_counts (λ (r : Claimed). r.place) v.rights (answered_right place worker cost node) may.stored in
-      let stored = each_at (IsStored m.cost m.node m.who) v.rights (answered_right place worker cost node) own.stored may.stored in
-      let raised = each_at (IsRaised m.run v.pending) v.rights (answered_right place worker cost node) own.raised may.stored in
+      let has : 1 ≤ rights_at place v.rights =
+      among_counts (λ (r : Claimed). r.place) v.rights (answered_right place worker cost node) may.stored in
+      let stored = each_at (IsStored m.cost m.node m.who) v.rights (answered_right place worker cost node) own.stored
+      may.stored in
+      let raised = each_at (IsRaised m.run v.pending) v.rights (answered_right place worker cost node) own.raised
+      may.stored in
       let has_right : HasRight room v.rights place = record { near = near; held = has } in
       let is = held_by room m.run m.head views id v place mine has_right k.rights in
-      let settled : m.run place ≡ 256 = runs_alone m.run place (answered_right place worker cost node) refl refl is.runs (k.rights place near).small
+      let settled : m.run place ≡ 256 = runs_alone m.run place (answered_right place worker cost node) refl refl is.runs
+      (k.rights place near).small
       (subst (λ o. IsRaised m.run o (answered_right place worker cost node)) free raised) in
       let cell : m.cell place ≡ may.goal = own.stays.cells place may.goal may.stands may.some_goal in
-      let is_goal : HoldsGoal meaning room m.cell place = ((λ none_there. may.some_goal (sym cell ∙ none_there)), subst (λ g. IsTrue (meaning.goal g)) (sym cell) may.is_goal) in
+      let is_goal : HoldsGoal meaning room m.cell place = (
+        (λ none_there. may.some_goal (sym cell ∙ none_there)),
+        subst (λ g. IsTrue (meaning.goal g)) (sym cell) may.is_goal,
+      ) in
       record {
         count = length-set words (head_word place) (2 ^ 63) ∙ count;
-        by_kinds = subst (λ b. IsSoundBy meaning rules room b (set views id w)) (sym (put_head words place (2 ^ 63) (omega arith))) (record {
-          cells = k.cells;
-          blank = blank_close meaning room m place is_goal k.blank;
-          rights = rights_close m.run m.head views id v place worker cost node waiters mine has_right settled k.rights;
-          waits = waits_close m views id v w place k.waits mine near (ap (λ o. in_hand o v.walk) free ∙ walked) (ap (λ o. in_hand o w.walk) free);
-          promises = promises_close meaning room m place
-              (subst (IsPromised meaning room m.cell m.head) (sym cell) (shown_promise meaning room m k.promises v.looks own.stays may.goal may.promise))
-              (subst (λ c. meaning.answer (m.cell place) c (m.node place)) (sym (stored.cost_is cost refl))
-              (subst (λ x. meaning.answer (m.cell place) cost x) (sym (stored.node_is node refl)) (subst (λ g. meaning.answer g cost node) (sym cell) may.answer)))
-              k.promises;
-          full = k.full;
-          hands = of_others_set (AreHands meaning rules room m) (AreHands meaning rules room n) views id w
-              (λ other u ne there h. record {
-                stays = stays_close meaning room m place u.looks h.stays;
-                absence = h.absence;
-                recorded = each_as (IsRecorded room m.head m.cost m.node m.who) (IsRecorded room n.head m.cost m.node m.who) (recorded_close meaning room m place) u.done h.recorded;
-                stored = h.stored;
-                ends = h.ends;
-                raised = h.raised;
-                pends = h.pends;
-                walked = walked_close meaning room m place u.walk h.walked;
-                awake = h.awake;
-              })
-              k.hands
-              (record {
-                stays = own_stays_close meaning room m place (head_of waiters) v.looks own.stays;
-                absence = ((λ _ word p p_near is. absurd (omega (arith, is))), own.absence);
-                recorded = (
-                  record { near = near; closed = put_cases m.head place (2 ^ 63) place (λ x. 2 ^ 63 ≤ x) (λ _. omega arith) (λ ne. absurd (ne refl)); cost_is = stored.cost_is cost refl; node_is = stored.node_is node refl; who_is = stored.who_is (worker + 1) refl; few = may.few },
-                  each_as (IsRecorded room m.head m.cost m.node m.who) (IsRecorded room n.head m.cost m.node m.who) (recorded_close meaning room m place) v.done own.recorded,
-                );
-                stored = each_without (IsStored m.cost m.node m.who) place v.rights own.stored;
-                ends = ends_close v place worker cost node waiters has own.ends;
-                raised = each_without (IsRaised m.run v.pending) place v.rights own.raised;
-                pends = subst (ArePending meaning room m.cell m.next w.looks w.rights) (sym free) tt;
-                walked = record {
-                  chained = k.waits.chains place near;
-                  read = λ found none_read. let no : ⊥ = cc in absurd no;
-                  waited = each_as (λ q. meaning.child (m.cell (q / 8)) (m.cell place)) (WaitedFor meaning room m.cell n.head place)
-                      (λ q is_child. record { near = near; closed = put_cases m.head place (2 ^ 63) place (λ x. 2 ^ 63 ≤ x) (λ _. omega arith) (λ ne. absurd (ne refl)); is_child = is_child })
-                      waiters (k.waits.joined place near);
-                };
-                awake = inr (awake_has rules room v some_part own.awake);
-              });
-          parts = total_same (λ (h : Hands R). h.parts) views id v w mine refl ∙ k.parts;
-        });
+        by_kinds = subst (λ b. IsSoundBy meaning rules room b (set views id w))
+            (sym (put_head words place (2 ^ 63) (omega arith))) (record {
+              cells = k.cells;
+              blank = blank_close meaning room m place is_goal k.blank;
+              rights = rights_close m.run m.head views id v place worker cost node waiters mine has_right settled k.rights;
+              waits = waits_close m views id v w place k.waits mine near (ap (λ o. in_hand o v.walk) free ∙ walked)
+                  (ap (λ o. in_hand o w.walk) free);
+              promises = promises_close meaning room m place
+                  (subst (IsPromised meaning room m.cell m.head) (sym cell)
+                  (shown_promise meaning room m k.promises v.looks own.stays may.goal may.promise))
+                  (subst (λ c. meaning.answer (m.cell place) c (m.node place)) (sym (stored.cost_is cost refl))
+                  (subst (λ x. meaning.answer (m.cell place) cost x) (sym (stored.node_is node refl))
+                  (subst (λ g. meaning.answer g cost node) (sym cell) may.answer)))
+                  k.promises;
+              full = k.full;
+              hands = of_others_set (AreHands meaning rules room m) (AreHands meaning rules room n) views id w
+                  (λ other u ne there h. record {
+                    stays = stays_close meaning room m place u.looks h.stays;
+                    absence = h.absence;
+                    recorded = each_as (IsRecorded room m.head m.cost m.node m.who)
+                        (IsRecorded room n.head m.cost m.node m.who) (recorded_close meaning room m place) u.done
+                        h.recorded;
+                    stored = h.stored;
+                    ends = h.ends;
+                    raised = h.raised;
+                    pends = h.pends;
+                    walked = walked_close meaning room m place u.walk h.walked;
+                    awake = h.awake;
+                  })
+                  k.hands
+                  (record {
+                    stays = own_stays_close meaning room m place (head_of waiters) v.looks own.stays;
+                    absence = ((λ _ word p p_near is. absurd (omega (arith, is))), own.absence);
+                    recorded = (
+                      record {
+                        near = near;
+                        closed = put_cases m.head place (2 ^ 63) place (λ x. 2 ^ 63 ≤ x)
+                            (λ _. omega arith) (λ ne. absurd (ne refl));
+                        cost_is = stored.cost_is cost refl;
+                        node_is =
+                            stored.node_is node refl;
+                        who_is = stored.who_is (worker + 1) refl;
+                        few = may.few;
+                      },
+                      each_as (IsRecorded room m.head m.cost m.node m.who) (IsRecorded room n.head m.cost m.node m.who)
+                          (recorded_close meaning room m place) v.done own.recorded,
+                    );
+                    stored = each_without (IsStored m.cost m.node m.who) place v.rights own.stored;
+                    ends = ends_close v place worker cost node waiters has own.ends;
+                    raised = each_without (IsRaised m.run v.pending) place v.rights own.raised;
+                    pends = subst (ArePending meaning room m.cell m.next w.looks w.rights) (sym free) tt;
+                    walked = record {
+                      chained = k.waits.chains place near;
+                      read = λ found none_read. let no : ⊥ = cc in absurd no;
+                      waited = each_as (λ q. meaning.child (m.cell (q / 8)) (m.cell place))
+                          (WaitedFor meaning room m.cell n.head place)
+                          (λ q is_child. record {
+                            near = near;
+                            closed =
+                                put_cases m.head place (2 ^ 63) place (λ x. 2 ^ 63 ≤ x) (λ _. omega arith)
+                                (λ ne. absurd (ne refl));
+                            is_child = is_child;
+                          })
+                          waiters (k.waits.joined place near);
+                    };
+                    awake = inr (awake_has rules room v some_part own.awake);
+                  });
+              parts = total_same (λ (h : Hands R). h.parts) views id v w mine refl ∙ k.parts;
+            });
         alone = alone_set words views id (head_word place) (2 ^ 63) v w mine refl sound.alone;
       }
 
-  close_at : (slots id : ℕ) (me : Sat R) (place worker cost node : ℕ) → 0 < me.0.parts → MayClose (meaning_of rules) room me.0.looks me.0.rights place worker cost node
+  close_at : (slots id : ℕ) (me : Sat R) (place worker cost node : ℕ) → 0 < me.0.parts
+      → MayClose (meaning_of rules) room me.0.looks me.0.rights place worker cost node
       → me.0.pending ≡ None → me.0.walk.waiters ≡ []
-      → Allows (Holds meaning_of rules room) slots id me (head_word place) (λ _. 2 ^ 63) (Closes meaning_of (step slots (head_word place) (2 ^ 63) 0 none) me)
+      → Allows (Holds meaning_of rules room) slots id me (head_word place) (λ _. 2 ^ 63)
+      (Closes meaning_of (step slots (head_word place) (2 ^ 63) 0 none) me)
   close_at slots id me place worker cost node some_part may free walked s sound homes mine fits =
       let moment = moment_of meaning_of rules room s.words s.views id me.0 (head_word place) sound mine some_part in
       let k = sound.by_kinds in
       let waiters : List ℕ = k.waits.lists place in
       let has : HasRight room me.0.rights place =
-      record { near = may.near; held = among_counts (λ (r : Claimed). r.place) me.0.rights (answered_right place worker cost node) may.stored } in
+      record {
+        near = may.near;
+        held = among_counts (λ (r : Claimed). r.place) me.0.rights
+            (answered_right place worker cost node) may.stored;
+      } in
       let is = held_by room (mem s.words).run (mem s.words).head s.views id me.0 place mine has k.rights in
       let its_room : me.0.room ≡ room = (awake_has rules room me.0 some_part (k.hands id me.0 mine).awake).2 in
       let few : rights_at place me.0.rights ≤ 1 = omega (arith, is.right_once) in (
@@ -188,24 +246,35 @@ module _ {R : Type 0} (meaning_of : R → Meaning) (rules : R) (room : ℕ) wher
         λ p a c x same stored.
             let e : place ≡ p = omega (arith, same) in
             let r : answered_right place worker cost node ≡ answered_right p a c x =
-            only_one (λ (r : Claimed). r.place) me.0.rights (answered_right place worker cost node) (answered_right p a c x) few (sym e) may.stored stored in
+            only_one (λ (r : Claimed). r.place) me.0.rights (answered_right place worker cost node)
+            (answered_right p a c x) few (sym e) may.stored stored in
             let ec : cost ≡ c = let t : Some cost ≡ Some c = ap (λ (q : Claimed). q.cost) r in cc in
             let ex : node ≡ x = let t : Some node ≡ Some x = ap (λ (q : Claimed). q.node) r in cc in
-            let more : worker + 1 ≡ a + 1 = let t : Some (worker + 1) ≡ Some (a + 1) = ap (λ (q : Claimed). q.who) r in cc in
+            let more : worker + 1 ≡ a + 1 = let t : Some (worker + 1) ≡ Some (a + 1) = ap (λ (q : Claimed). q.who) r in
+            cc in
             let ea : worker ≡ a = omega arith in record {
               waiters = waiters;
               named = k.waits.heads place may.near is.is_open;
               near = subst (λ n. Each (λ q. q < 8 * n) waiters) (sym its_room)
-                  (waiters_within (meaning_of rules) room (mem s.words).cell (mem s.words).run (mem s.words).head (mem s.words).next s.views k.waits place may.near);
+                  (waiters_within (meaning_of rules) room (mem s.words).cell (mem s.words).run (mem s.words).head
+                  (mem s.words).next s.views k.waits place may.near);
               few = subst (λ n. length waiters ≤ 8 * n) (sym its_room)
-                  (list_length (meaning_of rules) room (mem s.words).cell (mem s.words).run (mem s.words).head (mem s.words).next s.views k.waits place may.near);
-              tells = record { hands_are = λ i. (finished me.0 (e i) (ea i) (ec i) (ex i) waiters, me.1); moment = moment };
+                  (list_length (meaning_of rules) room (mem s.words).cell (mem s.words).run (mem s.words).head
+                  (mem s.words).next s.views k.waits place may.near);
+              tells = record {
+                hands_are = λ i. (finished me.0 (e i) (ea i) (ec i) (ex i) waiters, me.1);
+                moment =
+                    moment;
+              };
             },
       )
 
-  pub close_allowed : (slots id : ℕ) (me : Sat R) (i place worker cost node : ℕ) → i ≡ head_word place → 0 < me.0.parts → MayClose (meaning_of rules) room me.0.looks me.0.rights place worker cost node
+  pub close_allowed : (slots id : ℕ) (me : Sat R) (i place worker cost node : ℕ) → i ≡ head_word place → 0 < me.0.parts
+      → MayClose (meaning_of rules) room me.0.looks me.0.rights place worker cost node
       → me.0.pending ≡ None → me.0.walk.waiters ≡ []
-      → Allows (Holds meaning_of rules room) slots id me i (λ _. 2 ^ 63) (Closes meaning_of (step slots i (2 ^ 63) 0 none) me)
+      → Allows (Holds meaning_of rules room) slots id me i (λ _. 2 ^ 63)
+      (Closes meaning_of (step slots i (2 ^ 63) 0 none) me)
   close_allowed slots id me i place worker cost node is some_part may free walked =
-      subst (λ j. Allows (Holds meaning_of rules room) slots id me j (λ _. 2 ^ 63) (Closes meaning_of (step slots j (2 ^ 63) 0 none) me)) (sym is)
+      subst (λ j. Allows (Holds meaning_of rules room) slots id me j (λ _. 2 ^ 63)
+      (Closes meaning_of (step slots j (2 ^ 63) 0 none) me)) (sym is)
       (close_at slots id me place worker cost node some_part may free walked)

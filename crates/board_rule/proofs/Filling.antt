@@ -17,18 +17,31 @@ use Rattle.board_rule.proofs.Waits.{waits_stay, pending_looked}
 use Rattle.board_rule.proofs.Looking.{Holds}
 
 -- other words seen in all cells, none of them this one, show the board full
-fills : (meaning : Meaning) (room : ℕ) (cell head : ℕ → ℕ) (full : ℕ) (looks : List (ℕ × ℕ)) → Stays cell head full looks → MayFill meaning room looks → IsFull meaning room cell
+fills : (meaning : Meaning) (room : ℕ) (cell head : ℕ → ℕ) (full : ℕ) (looks : List (ℕ × ℕ))
+    → Stays cell head full looks → MayFill meaning room looks → IsFull meaning room cell
 fills meaning room cell head full looks stays may = record {
   taken = λ p near. let t = may.passed p near in let e = stays.cells p t.0 t.1 t.2 in λ none. t.2 (sym e ∙ none);
-  left_out = (may.word, may.enters, λ p near. let t = may.passed p near in let e = stays.cells p t.0 t.1 t.2 in λ same. t.3 (sym e ∙ same));
+  left_out = (
+    may.word,
+    may.enters,
+    λ p near. let t = may.passed p near in let e = stays.cells p t.0 t.1 t.2 in
+        λ same. t.3 (sym e ∙ same),
+  );
 }
 
 -- what was seen stays where the full word is set
-stays_full : (cell head : ℕ → ℕ) (full : ℕ) (looks : List (ℕ × ℕ)) → Stays cell head full looks → Stays cell head 1 looks
-stays_full cell head full looks old = record { cells = old.cells; heads = old.heads; set_full = λ found at some_found none. absurd (omega arith) }
+stays_full : (cell head : ℕ → ℕ) (full : ℕ) (looks : List (ℕ × ℕ)) → Stays cell head full looks
+    → Stays cell head 1 looks
+stays_full cell head full looks old = record {
+  cells = old.cells;
+  heads = old.heads;
+  set_full =
+      λ found at some_found none. absurd (omega arith);
+}
 
 -- also where it is seen set
-stays_filled : (cell head : ℕ → ℕ) (looks : List (ℕ × ℕ)) → Stays cell head 1 looks → Stays cell head 1 ((full_word, 1) ∷ looks)
+stays_filled : (cell head : ℕ → ℕ) (looks : List (ℕ × ℕ)) → Stays cell head 1 looks
+    → Stays cell head 1 ((full_word, 1) ∷ looks)
 stays_filled cell head looks old = record {
   cells = λ p x at some_found. ⊎_elim (λ t. absurd (omega (arith, t.0))) (λ t. old.cells p x t some_found) at;
   heads = λ p x at. ⊎_elim (λ t. absurd (omega (arith, t.0))) (λ t. old.heads p x t) at;
@@ -37,7 +50,8 @@ stays_filled cell head looks old = record {
 
 module _ {R : Type 0} (meaning_of : R → Meaning) (rules : R) (room : ℕ) where
   -- a board is sound once a seat that found all cells taken has set the full word
-  fill_keeps : (words : List ℕ) (views : List (Hands R)) (id : ℕ) (v : Hands R) → IsSound (meaning_of rules) rules room words views → get_elem? views id ≡ some v
+  fill_keeps : (words : List ℕ) (views : List (Hands R)) (id : ℕ) (v : Hands R)
+      → IsSound (meaning_of rules) rules room words views → get_elem? views id ≡ some v
       → 0 < v.parts → MayFill (meaning_of rules) room v.looks
       → IsSound (meaning_of rules) rules room (set words full_word 1) (set views id (filled v))
   fill_keeps words views id v sound mine some_part may =
@@ -50,34 +64,49 @@ module _ {R : Type 0} (meaning_of : R → Meaning) (rules : R) (room : ℕ) wher
       let count = sound.count in
       record {
         count = length-set words full_word 1 ∙ count;
-        by_kinds = subst (λ b. IsSoundBy meaning rules room b (set views id w)) (sym (put_full words 1 (omega arith))) (record {
-          cells = k.cells;
-          blank = λ p near no_goal. let b = k.blank p near no_goal in record { run = b.run; head = b.head; cost = b.cost; node = b.node; who = b.who; next = b.next };
-          rights = rights_stay room m.run m.head views id v w mine (λ _. refl) refl k.rights;
-          waits = waits_stay meaning room m.cell m.head m.next m.run views id v w mine refl k.waits;
-          promises = k.promises;
-          full = λ _. fills meaning room m.cell m.head m.full v.looks own.stays may;
-          hands = of_others_set (AreHands meaning rules room m) (AreHands meaning rules room n) views id w
-              (λ other u ne there h. record { stays = stays_full m.cell m.head m.full u.looks h.stays; absence = h.absence; recorded = h.recorded; stored = h.stored; ends = h.ends; raised = h.raised; pends = h.pends; walked = h.walked; awake = h.awake })
-              k.hands
-              (record {
-                stays = stays_filled m.cell m.head v.looks (stays_full m.cell m.head m.full v.looks own.stays);
-                absence = ((λ none. absurd (omega arith)), own.absence);
-                recorded = own.recorded;
-                stored = own.stored;
-                ends = own.ends;
-                raised = own.raised;
-                pends = pending_looked meaning room m.cell m.next (full_word, 1) v.looks v.rights v.pending own.pends;
-                walked = own.walked;
-                awake = inr (awake_has rules room v some_part own.awake);
-              });
-          parts = total_same (λ (h : Hands R). h.parts) views id v w mine refl ∙ k.parts;
-        });
+        by_kinds = subst (λ b. IsSoundBy meaning rules room b (set views id w)) (sym (put_full words 1 (omega arith)))
+            (record {
+              cells = k.cells;
+              blank = λ p near no_goal. let b = k.blank p near no_goal in
+                  record { run = b.run; head = b.head; cost = b.cost; node = b.node; who = b.who; next = b.next };
+              rights = rights_stay room m.run m.head views id v w mine (λ _. refl) refl k.rights;
+              waits = waits_stay meaning room m.cell m.head m.next m.run views id v w mine refl k.waits;
+              promises = k.promises;
+              full = λ _. fills meaning room m.cell m.head m.full v.looks own.stays may;
+              hands = of_others_set (AreHands meaning rules room m) (AreHands meaning rules room n) views id w
+                  (λ other u ne there h. record {
+                    stays = stays_full m.cell m.head m.full u.looks h.stays;
+                    absence =
+                        h.absence;
+                    recorded = h.recorded;
+                    stored = h.stored;
+                    ends = h.ends;
+                    raised = h.raised;
+                    pends =
+                        h.pends;
+                    walked = h.walked;
+                    awake = h.awake;
+                  })
+                  k.hands
+                  (record {
+                    stays = stays_filled m.cell m.head v.looks (stays_full m.cell m.head m.full v.looks own.stays);
+                    absence = ((λ none. absurd (omega arith)), own.absence);
+                    recorded = own.recorded;
+                    stored = own.stored;
+                    ends = own.ends;
+                    raised = own.raised;
+                    pends = pending_looked meaning room m.cell m.next (full_word, 1) v.looks v.rights v.pending own.pends;
+                    walked = own.walked;
+                    awake = inr (awake_has rules room v some_part own.awake);
+                  });
+              parts = total_same (λ (h : Hands R). h.parts) views id v w mine refl ∙ k.parts;
+            });
         alone = alone_set words views id full_word 1 v w mine refl sound.alone;
       }
 
   pub fill_allowed : (slots id : ℕ) (me : Sat R) → 0 < me.0.parts → MayFill (meaning_of rules) room me.0.looks
-      → Allows (Holds meaning_of rules room) slots id me full_word (λ _. 1) (λ _. Fills meaning_of (step slots full_word 1 0 none) me 1)
+      → Allows (Holds meaning_of rules room) slots id me full_word (λ _. 1)
+      (λ _. Fills meaning_of (step slots full_word 1 0 none) me 1)
   fill_allowed slots id me some_part may s sound homes mine fits = (
     filled me.0,
     keeps,

@@ -1,5 +1,6 @@
 -- What a step leaves as it was, whatever its kind.
-use Rattle.std.proofs.Common.{◌≡◌, ℕ, ◌<◌, ◌≤◌, ◌≢◌, List, length, get_or, set, Option, None, Some, sym, refl, ap, subst, ◌∙◌, ⊎_elim, arith, length-set}
+use Rattle.std.proofs.Common.{◌≡◌, ℕ, ◌<◌, ◌≤◌, ◌≢◌, List, length, get_or, set, Option, None, Some, sym, refl, ap}
+use Rattle.std.proofs.Common.{subst, ◌∙◌, ⊎_elim, arith, length-set}
 use mathlib.Core.Option.{some}
 use lib.ListN.{get_elem?}
 use Rattle.atomic_table.proofs.Lists.{at_set}
@@ -13,23 +14,31 @@ use Rattle.board_rule.proofs.Lists.{some_below, total_same}
 
 module _ {R : Type 0} where
   -- a seat with a part is not spent
-  pub awake_has : (rules : R) (room : ℕ) (v : Hands R) → 0 < v.parts → IsAwake rules room v → (1 ≤ v.parts) × (v.rules ≡ Some rules) × (v.room ≡ room)
-  awake_has rules room v some-part is = ⊎_elim (λ (e : v ≡ spent). absurd (omega (arith, ap (λ (h : Hands R). h.parts) e))) (λ t. t) is
+  pub awake_has : (rules : R) (room : ℕ) (v : Hands R) → 0 < v.parts → IsAwake rules room v → (1 ≤ v.parts)
+      × (v.rules ≡ Some rules) × (v.room ≡ room)
+  awake_has rules room v some-part is = ⊎_elim
+      (λ (e : v ≡ spent). absurd (omega (arith, ap (λ (h : Hands R). h.parts) e))) (λ t. t) is
 
   -- a fact of all seats holds once one of them has other hands of which it holds
-  pub of_all_set : (Fact : Hands R → Type 0) (views : List (Hands R)) (id : ℕ) (w : Hands R) → OfAll Fact views → Fact w → OfAll Fact (set views id w)
-  of_all_set Fact views id w old new k u e = ⊎_elim (λ t. subst Fact t.1 new) (λ t. old k u t.1) (at_set views id k w u e)
+  pub of_all_set : (Fact : Hands R → Type 0) (views : List (Hands R)) (id : ℕ) (w : Hands R) → OfAll Fact views → Fact w
+      → OfAll Fact (set views id w)
+  of_all_set Fact views id w old new k u e =
+      ⊎_elim (λ t. subst Fact t.1 new) (λ t. old k u t.1) (at_set views id k w u e)
 
-  pub of_all_as : (P Q : Hands R → Type 0) (views : List (Hands R)) → ((v : Hands R) → P v → Q v) → OfAll P views → OfAll Q views
+  pub of_all_as : (P Q : Hands R → Type 0) (views : List (Hands R)) → ((v : Hands R) → P v → Q v) → OfAll P views
+      → OfAll Q views
   of_all_as P Q views follows old k u e = follows u (old k u e)
 
   -- as the two before, where the fact of the others may depend on their being others
   pub of_others_set : (P Q : Hands R → Type 0) (views : List (Hands R)) (id : ℕ) (w : Hands R)
-      → ((k : ℕ) (u : Hands R) → k ≢ id → get_elem? views k ≡ some u → P u → Q u) → OfAll P views → Q w → OfAll Q (set views id w)
-  of_others_set P Q views id w follows old new k u e = ⊎_elim (λ t. subst Q t.1 new) (λ t. follows k u t.0 t.1 (old k u t.1)) (at_set views id k w u e)
+      → ((k : ℕ) (u : Hands R) → k ≢ id → get_elem? views k ≡ some u → P u → Q u) → OfAll P views → Q w
+      → OfAll Q (set views id w)
+  of_others_set P Q views id w follows old new k u e =
+      ⊎_elim (λ t. subst Q t.1 new) (λ t. follows k u t.0 t.1 (old k u t.1)) (at_set views id k w u e)
 
   -- what is said of a place stays where the sums over rights and done stay
-  pub are_rights_as : (run head : ℕ → ℕ) (old_views new_views : List (Hands R)) (p : ℕ) → held new_views p ≡ held old_views p → ended new_views p ≡ ended old_views p
+  pub are_rights_as : (run head : ℕ → ℕ) (old_views new_views : List (Hands R)) (p : ℕ)
+      → held new_views p ≡ held old_views p → ended new_views p ≡ ended old_views p
       → AreRights run head old_views p → AreRights run head new_views p
   are_rights_as run head old_views new_views p h d old = record {
     once = omega (arith, h, d, old.once);
@@ -41,24 +50,31 @@ module _ {R : Type 0} where
   }
 
   -- the sums over rights and done stay where the seat's stay
-  pub rights_stay : (room : ℕ) (run head : ℕ → ℕ) (views : List (Hands R)) (id : ℕ) (v w : Hands R) → get_elem? views id ≡ some v
-      → ((p : ℕ) → times (λ (r : Claimed). r.place) p w.rights ≡ times (λ (r : Claimed). r.place) p v.rights) → w.done ≡ v.done
+  pub rights_stay : (room : ℕ) (run head : ℕ → ℕ) (views : List (Hands R)) (id : ℕ) (v w : Hands R)
+      → get_elem? views id ≡ some v
+      → ((p : ℕ) → times (λ (r : Claimed). r.place) p w.rights ≡ times (λ (r : Claimed). r.place) p v.rights)
+      → w.done ≡ v.done
       → KeepsRights room run head views → KeepsRights room run head (set views id w)
   rights_stay room run head views id v w mine rights done old =
-      let h : (p : ℕ) → held (set views id w) p ≡ held views p = λ p. total_same (λ (u : Hands R). times (λ (r : Claimed). r.place) p u.rights) views id v w mine (rights p) in
+      let h : (p : ℕ) → held (set views id w) p ≡ held views p =
+      λ p. total_same (λ (u : Hands R). times (λ (r : Claimed). r.place) p u.rights) views id v w mine (rights p) in
       let d : (p : ℕ) → ended (set views id w) p ≡ ended views p =
-      λ p. total_same (λ (u : Hands R). times (λ (e : Ended). e.place) p u.done) views id v w mine (ap (times (λ (e : Ended). e.place) p) done) in
+      λ p. total_same (λ (u : Hands R). times (λ (e : Ended). e.place) p u.done) views id v w mine
+      (ap (times (λ (e : Ended). e.place) p) done) in
       λ p near. are_rights_as run head views (set views id w) p (h p) (d p) (old p near)
 
   -- where a seat that is alone keeps the board's words, all seats do
-  pub alone_moved : (old_words new_words : List ℕ) (views : List (Hands R)) (id : ℕ) (v w : Hands R) → get_elem? views id ≡ some v
-      → ((kept : List ℕ) → w.alone ≡ Some kept → (before : List ℕ) × (v.alone ≡ Some before) × (before ≡ old_words → kept ≡ new_words))
+  pub alone_moved : (old_words new_words : List ℕ) (views : List (Hands R)) (id : ℕ) (v w : Hands R)
+      → get_elem? views id ≡ some v
+      → ((kept : List ℕ) → w.alone ≡ Some kept → (before : List ℕ) × (v.alone ≡ Some before)
+      × (before ≡ old_words → kept ≡ new_words))
       → OfAll (KeepsAlone old_words views) views → OfAll (KeepsAlone new_words (set views id w)) (set views id w)
   alone_moved old_words new_words views id v w mine moves old =
       let count : length (set views id w) ≡ length views = length-set views id w in
       of_others_set (KeepsAlone old_words views) (KeepsAlone new_words (set views id w)) views id w
       (λ k u ne there keeps. record {
-        every_word = λ kept is. absurd (ne (omega (arith, keeps.only kept is, some_below views k u there, some_below views id v mine)));
+        every_word = λ kept is. absurd (ne (omega
+            (arith, keeps.only kept is, some_below views k u there, some_below views id v mine)));
         only = λ kept is. count ∙ keeps.only kept is;
       })
       old
@@ -68,21 +84,26 @@ module _ {R : Type 0} where
       })
 
 -- words that were changed come from words that were there
-pub changed_from : (word x : ℕ) (o : Option (List ℕ)) (kept : List ℕ) → changed word x o ≡ Some kept → (before : List ℕ) × (o ≡ Some before) × (set before word x ≡ kept)
+pub changed_from : (word x : ℕ) (o : Option (List ℕ)) (kept : List ℕ) → changed word x o ≡ Some kept → (before : List ℕ)
+    × (o ≡ Some before) × (set before word x ≡ kept)
 changed_from word x None kept e = let no : ⊥ = cc in absurd no
 changed_from word x (Some before) kept e = (before, refl, cc)
 
 module _ {R : Type 0} where
   -- a store in a word of the seat that is alone, as of the board
-  pub alone_set : (words : List ℕ) (views : List (Hands R)) (id word x : ℕ) (v w : Hands R) → get_elem? views id ≡ some v → w.alone ≡ changed word x v.alone
+  pub alone_set : (words : List ℕ) (views : List (Hands R)) (id word x : ℕ) (v w : Hands R)
+      → get_elem? views id ≡ some v → w.alone ≡ changed word x v.alone
       → OfAll (KeepsAlone words views) views → OfAll (KeepsAlone (set words word x) (set views id w)) (set views id w)
   alone_set words views id word x v w mine changes =
       alone_moved words (set words word x) views id v w mine
-      (λ kept is. let t = changed_from word x v.alone kept (sym changes ∙ is) in (t.0, t.1, λ e. sym t.2 ∙ ap (λ (ws : List ℕ). set ws word x) e))
+      (λ kept is. let t = changed_from word x v.alone kept (sym changes ∙ is) in
+      (t.0, t.1, λ e. sym t.2 ∙ ap (λ (ws : List ℕ). set ws word x) e))
 
   -- the board at a step
-  pub moment_of : (meaning_of : R → Meaning) (rules : R) (room : ℕ) (words : List ℕ) (views : List (Hands R)) (id : ℕ) (v : Hands R) (word : ℕ)
-      → IsSound (meaning_of rules) rules room words views → get_elem? views id ≡ some v → 0 < v.parts → Moment meaning_of v word (get_or words word 0)
+  pub moment_of : (meaning_of : R → Meaning) (rules : R) (room : ℕ) (words : List ℕ) (views : List (Hands R)) (id : ℕ)
+      (v : Hands R) (word : ℕ)
+      → IsSound (meaning_of rules) rules room words views → get_elem? views id ≡ some v → 0 < v.parts
+      → Moment meaning_of v word (get_or words word 0)
   moment_of meaning_of rules room words views id v word sound mine some_part =
       let has = awake_has rules room v some_part (sound.by_kinds.hands id v mine).awake in
       record {

@@ -1,5 +1,6 @@
 -- A list of different waiters is no longer than there are waiters, so the head that names it is a number of 48 bits.
-use Rattle.std.proofs.Common.{◌≡◌, ℕ, zero, suc, ◌+◌, ◌*◌, ◌/◌, ◌%◌, ◌<◌, ◌≤◌, List, [], ◌∷◌, length, cond, eqb, refl, ◌∙◌, ⊎_elim, arith}
+use Rattle.std.proofs.Common.{◌≡◌, ℕ, zero, suc, ◌+◌, ◌*◌, ◌/◌, ◌%◌, ◌<◌, ◌≤◌, List, [], ◌∷◌, length, cond, eqb, refl}
+use Rattle.std.proofs.Common.{◌∙◌, ⊎_elim, arith}
 use Rattle.std.proofs.lemmas.Bool.{cases_eq}
 use Rattle.std.proofs.lemmas.Nat.Bits.{bit_at-lt}
 use Rattle.board_rule.specs.Meaning.{Meaning}
@@ -23,7 +24,8 @@ below_one : (q n : ℕ) → q < n → below (λ p. cond (eqb q p) 1 0) n ≡ 1
 below_one q zero within = absurd (omega arith)
 below_one q (suc n) within =
     ⊎_elim
-    (λ here. let none_below = below_none (λ p. cond (eqb q p) 1 0) n (λ p less. counts_none q p (λ e. omega arith)) in omega (arith, counts_one q n here))
+    (λ here. let none_below = below_none (λ p. cond (eqb q p) 1 0) n (λ p less. counts_none q p (λ e. omega arith)) in
+    omega (arith, counts_one q n here))
     (λ ne. omega (arith, counts_none q n ne, below_one q n (omega arith)))
     (cases_eq q n)
 
@@ -31,17 +33,23 @@ below_one q (suc n) within =
 length_below : (l : List ℕ) (n : ℕ) → Each (λ q. q < n) l → below (λ p. count p l) n ≡ length l
 length_below [] n within = below_none (λ p. count p []) n (λ p _. refl)
 length_below (q ∷ qs) n within =
-    below_add (λ p. cond (eqb q p) 1 0) (λ p. count p qs) n ∙ omega (arith, below_one q n within.0, length_below qs n within.1)
+    below_add (λ p. cond (eqb q p) 1 0) (λ p. count p qs) n
+    ∙ omega (arith, below_one q n within.0, length_below qs n within.1)
 
 each_within : (n : ℕ) (l : List ℕ) → ((q : ℕ) → 1 ≤ count q l → q < n) → Each (λ q. q < n) l
 each_within n [] within = tt
-each_within n (q ∷ qs) within = (within q (omega (arith, counts_one q q refl)), each_within n qs (λ p some_count. within p (omega arith)))
+each_within n (q ∷ qs) within = (
+  within q (omega (arith, counts_one q q refl)),
+  each_within n qs (λ p some_count. within p (omega arith)),
+)
 
 -- different waiters below a number are no more than it
 pub few_waiters : (l : List ℕ) (n : ℕ) → ((q : ℕ) → count q l ≤ 1) → ((q : ℕ) → 1 ≤ count q l → q < n) → length l ≤ n
-few_waiters l n once within = let same = length_below l n (each_within n l within) in let most = below_most (λ p. count p l) n once in omega arith
+few_waiters l n once within = let same = length_below l n (each_within n l within) in let most =
+    below_most (λ p. count p l) n once in omega arith
 
-module _ {R : Type 0} (meaning : Meaning) (room : ℕ) (cell run head next : ℕ → ℕ) (views : List (Hands R)) (waits : KeepsWaits meaning room cell run head next views)
+module _ {R : Type 0} (meaning : Meaning) (room : ℕ) (cell run head next : ℕ → ℕ) (views : List (Hands R))
+    (waits : KeepsWaits meaning room cell run head next views)
     (c : ℕ) (near : c < room) where
   -- a waiter stands at most once in the list of a place
   listed_once : (q : ℕ) → count q (waits.lists c) ≤ 1

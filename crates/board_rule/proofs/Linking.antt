@@ -1,5 +1,6 @@
 -- A store of a waiter's next word, by the seat that puts its wait in, keeps soundness.
-use Rattle.std.proofs.Common.{length-set, ◌≡◌, ℕ, ◌+◌, ◌*◌, ◌/◌, ◌%◌, ◌^◌, ◌<◌, ◌≤◌, ◌≢◌, List, Option, Some, set, sym, refl, ap, subst, ◌∙◌, inr, arith}
+use Rattle.std.proofs.Common.{length-set, ◌≡◌, ℕ, ◌+◌, ◌*◌, ◌/◌, ◌%◌, ◌^◌, ◌<◌, ◌≤◌, ◌≢◌, List, Option, Some, set, sym}
+use Rattle.std.proofs.Common.{refl, ap, subst, ◌∙◌, inr, arith}
 use mathlib.Core.Option.{some, none}
 use lib.ListN.{get_elem?}
 use Rattle.std.proofs.lemmas.Nat.Bits.{bit_at-lt}
@@ -24,17 +25,20 @@ use Rattle.board_rule.proofs.WaitLooks.{raised_by}
 use Rattle.board_rule.proofs.Looking.{Holds}
 
 -- words that are 0 stay so where the next word of a waiter changes
-blank_next : (meaning : Meaning) (room : ℕ) (m : Mem) (q x : ℕ) → m.run (q / 8) ≢ 0 → KeepsBlank meaning room m → KeepsBlank meaning room (record m { next = put m.next q x })
+blank_next : (meaning : Meaning) (room : ℕ) (m : Mem) (q x : ℕ) → m.run (q / 8) ≢ 0 → KeepsBlank meaning room m
+    → KeepsBlank meaning room (record m { next = put m.next q x })
 blank_next meaning room m q x runs old p near no_goal = let b = old p near no_goal in record {
   run = b.run;
   head = b.head;
   cost = b.cost;
   node = b.node;
   who = b.who;
-  next = λ c few. put_else m.next q x (8 * p + c) (λ e. let at : q / 8 ≡ p = omega arith in runs (ap m.run at ∙ b.run)) ∙ b.next c few;
+  next = λ c few. put_else m.next q x (8 * p + c) (λ e. let at : q / 8 ≡ p = omega arith in runs (ap m.run at ∙ b.run))
+      ∙ b.next c few;
 }
 
-module _ {R : Type 0} (meaning : Meaning) (room : ℕ) (m : Mem) (views : List (Hands R)) (id : ℕ) (v : Hands R) (x : Pending) (mine : get_elem? views id ≡ some v) (is : v.pending ≡ Some x)
+module _ {R : Type 0} (meaning : Meaning) (room : ℕ) (m : Mem) (views : List (Hands R)) (id : ℕ) (v : Hands R)
+    (x : Pending) (mine : get_elem? views id ≡ some v) (is : v.pending ≡ Some x)
     (waits : KeepsWaits meaning room m.cell m.run m.head m.next views) where
   -- the waiter stands once in the seat's hands
   in_own_hands : count x.waiter (in_hand v.pending v.walk) ≡ 1 + count x.waiter v.walk.waiters
@@ -63,11 +67,13 @@ module _ {R : Type 0} (meaning : Meaning) (room : ℕ) (m : Mem) (views : List (
       omega (arith, in_own_hands)
 
   -- nor in the hands of another seat
-  pub not_handed : (other : ℕ) (u : Hands R) → other ≢ id → get_elem? views other ≡ some u → count x.waiter (in_hand u.pending u.walk) ≡ 0
+  pub not_handed : (other : ℕ) (u : Hands R) → other ≢ id → get_elem? views other ≡ some u
+      → count x.waiter (in_hand u.pending u.walk) ≡ 0
   not_handed other u ne there =
       let once = waits.once x.waiter in
       let few = bit_at-lt (m.run (x.waiter / 8)) (x.waiter % 8) in
-      let both = terms_le (λ (y : Hands R). count x.waiter (in_hand y.pending y.walk)) views id other v u ne mine there in
+      let both = terms_le (λ (y : Hands R). count x.waiter (in_hand y.pending y.walk)) views id other v u ne mine
+      there in
       omega (arith, in_own_hands)
 
   waits_next : (to : ℕ) → KeepsWaits meaning room m.cell m.run m.head (put m.next x.waiter to) views
@@ -81,18 +87,23 @@ module _ {R : Type 0} (meaning : Meaning) (room : ℕ) (m : Mem) (views : List (
     near = waits.near;
   }
 
-walked_next : (meaning : Meaning) (room : ℕ) (m : Mem) (q to : ℕ) (walk : Walk) → count q walk.waiters ≡ 0 → IsWalked meaning room m.cell m.head m.next walk
+walked_next : (meaning : Meaning) (room : ℕ) (m : Mem) (q to : ℕ) (walk : Walk) → count q walk.waiters ≡ 0
+    → IsWalked meaning room m.cell m.head m.next walk
     → IsWalked meaning room m.cell m.head (put m.next q to) walk
-walked_next meaning room m q to walk none_of old = record { chained = chain_put m.next q to walk.waiters none_of old.chained; read = old.read; waited = old.waited }
+walked_next meaning room m q to walk none_of old =
+    record { chained = chain_put m.next q to walk.waiters none_of old.chained; read = old.read; waited = old.waited }
 
 -- another's wait that is being put in keeps its next word
-pends_next : (meaning : Meaning) (room : ℕ) (m : Mem) (q to : ℕ) (looks : List (ℕ × ℕ)) (rights : List Claimed) (pending : Option Pending) → count q (waiting pending) ≡ 0
-    → ArePending meaning room m.cell m.next looks rights pending → ArePending meaning room m.cell (put m.next q to) looks rights pending
+pends_next : (meaning : Meaning) (room : ℕ) (m : Mem) (q to : ℕ) (looks : List (ℕ × ℕ)) (rights : List Claimed)
+    (pending : Option Pending) → count q (waiting pending) ≡ 0
+    → ArePending meaning room m.cell m.next looks rights pending
+    → ArePending meaning room m.cell (put m.next q to) looks rights pending
 pends_next meaning room m q to looks rights pending none_of =
     pending_as meaning room m.cell m.next m.cell (put m.next q to) looks looks rights rights pending
     (λ x is old.
     let ne : x.waiter ≢ q = λ e.
-    let one : count q (waiting pending) ≡ 1 = ap (λ o. count q (waiting o)) is ∙ count_one q x.waiter (sym e) in absurd (omega arith) in
+    let one : count q (waiting pending) ≡ 1 = ap (λ o. count q (waiting o)) is ∙ count_one q x.waiter (sym e) in
+    absurd (omega arith) in
     record {
       has = old.has;
       its_wait = old.its_wait;
@@ -108,9 +119,11 @@ pends_next meaning room m q to looks rights pending none_of =
 
 module _ {R : Type 0} (meaning_of : R → Meaning) (rules : R) (room : ℕ) where
   -- a board is sound once a seat has stored the next word of the waiter that it puts in
-  link_keeps : (words : List ℕ) (views : List (Hands R)) (id : ℕ) (v : Hands R) (x : Pending) (head : ℕ) → IsSound (meaning_of rules) rules room words views → get_elem? views id ≡ some v
+  link_keeps : (words : List ℕ) (views : List (Hands R)) (id : ℕ) (v : Hands R) (x : Pending) (head : ℕ)
+      → IsSound (meaning_of rules) rules room words views → get_elem? views id ≡ some v
       → 0 < v.parts → MayLink v.pending x head
-      → IsSound (meaning_of rules) rules room (set words (next_word x.waiter) (head % 2 ^ 24)) (set views id (next_stored v x head))
+      → IsSound (meaning_of rules) rules room (set words (next_word x.waiter) (head % 2 ^ 24))
+      (set views id (next_stored v x head))
   link_keeps words views id v x head sound mine some_part may =
       let meaning : Meaning = meaning_of rules in
       let m : Mem = mem words in
@@ -126,61 +139,65 @@ module _ {R : Type 0} (meaning_of : R → Meaning) (rules : R) (room : ℕ) wher
       let bit = pending_waits meaning room m views id v x mine may.is k.waits in
       record {
         count = length-set words (next_word q) to ∙ total_count;
-        by_kinds = subst (λ k. IsSoundBy meaning rules room k (set views id w)) (sym (put_next words q to (omega arith))) (record {
-          cells = k.cells;
-          blank = blank_next meaning room m q to (bit_runs (m.run (q / 8)) (q % 8) bit) k.blank;
-          rights = rights_stay room m.run m.head views id v w mine (λ p. refl) refl k.rights;
-          waits = waits_stay meaning room m.cell m.head n.next m.run views id v w mine (ap (λ o. in_hand o v.walk) (sym may.is)) (waits_next meaning room m views id v x mine may.is k.waits to);
-          promises = k.promises;
-          full = k.full;
-          hands = of_others_set (AreHands meaning rules room m) (AreHands meaning rules room n) views id w
-              (λ other u ne there h.
-              let none_of = not_handed meaning room m views id v x mine may.is k.waits other u ne there in
-              let parts = hand_parts q u.pending u.walk in
-              record {
-                stays = h.stays;
-                absence = h.absence;
-                recorded = h.recorded;
-                stored = h.stored;
-                ends = h.ends;
-                raised = h.raised;
-                pends = pends_next meaning room m q to u.looks u.rights u.pending (omega arith) h.pends;
-                walked = walked_next meaning room m q to u.walk (omega arith) h.walked;
-                awake = h.awake;
-              })
-              k.hands
-              (record {
-                stays = own.stays;
-                absence = own.absence;
-                recorded = own.recorded;
-                stored = own.stored;
-                ends = own.ends;
-                raised = raised_by m.run v.pending w.pending v.rights (sym (ap waiting may.is)) own.raised;
-                pends = record {
-                  has = old.has;
-                  its_wait = old.its_wait;
-                  seen = λ h at.
-                      let s = old.seen h at in
-                      let same : head ≡ h = (let one : Some head ≡ Some h = sym may.seen ∙ at in cc) in
-                      record {
-                        near = s.near;
-                        child_goal = s.child_goal;
-                        is_child = s.is_child;
-                        was_open = λ _. subst (λ y. y < 2 ^ 63) same may.was_open;
-                        links = λ _. put_here m.next q to ∙ ap (λ y. y % 2 ^ 24) same;
-                      };
-                  looked = old.looked;
-                };
-                walked = walked_next meaning room m q to v.walk (not_walked meaning room m views id v x mine may.is k.waits) own.walked;
-                awake = inr (awake_has rules room v some_part own.awake);
-              });
-          parts = total_same (λ (h : Hands R). h.parts) views id v w mine refl ∙ k.parts;
-        });
+        by_kinds = subst (λ k. IsSoundBy meaning rules room k (set views id w))
+            (sym (put_next words q to (omega arith))) (record {
+              cells = k.cells;
+              blank = blank_next meaning room m q to (bit_runs (m.run (q / 8)) (q % 8) bit) k.blank;
+              rights = rights_stay room m.run m.head views id v w mine (λ p. refl) refl k.rights;
+              waits = waits_stay meaning room m.cell m.head n.next m.run views id v w mine
+                  (ap (λ o. in_hand o v.walk) (sym may.is)) (waits_next meaning room m views id v x mine may.is k.waits to);
+              promises = k.promises;
+              full = k.full;
+              hands = of_others_set (AreHands meaning rules room m) (AreHands meaning rules room n) views id w
+                  (λ other u ne there h.
+                  let none_of = not_handed meaning room m views id v x mine may.is k.waits other u ne there in
+                  let parts = hand_parts q u.pending u.walk in
+                  record {
+                    stays = h.stays;
+                    absence = h.absence;
+                    recorded = h.recorded;
+                    stored = h.stored;
+                    ends = h.ends;
+                    raised = h.raised;
+                    pends = pends_next meaning room m q to u.looks u.rights u.pending (omega arith) h.pends;
+                    walked = walked_next meaning room m q to u.walk (omega arith) h.walked;
+                    awake = h.awake;
+                  })
+                  k.hands
+                  (record {
+                    stays = own.stays;
+                    absence = own.absence;
+                    recorded = own.recorded;
+                    stored = own.stored;
+                    ends = own.ends;
+                    raised = raised_by m.run v.pending w.pending v.rights (sym (ap waiting may.is)) own.raised;
+                    pends = record {
+                      has = old.has;
+                      its_wait = old.its_wait;
+                      seen = λ h at.
+                          let s = old.seen h at in
+                          let same : head ≡ h = (let one : Some head ≡ Some h = sym may.seen ∙ at in cc) in
+                          record {
+                            near = s.near;
+                            child_goal = s.child_goal;
+                            is_child = s.is_child;
+                            was_open = λ _. subst (λ y. y < 2 ^ 63) same may.was_open;
+                            links = λ _. put_here m.next q to ∙ ap (λ y. y % 2 ^ 24) same;
+                          };
+                      looked = old.looked;
+                    };
+                    walked = walked_next meaning room m q to v.walk
+                        (not_walked meaning room m views id v x mine may.is k.waits) own.walked;
+                    awake = inr (awake_has rules room v some_part own.awake);
+                  });
+              parts = total_same (λ (h : Hands R). h.parts) views id v w mine refl ∙ k.parts;
+            });
         alone = alone_set words views id (next_word q) to v w mine refl sound.alone;
       }
 
   link_at : (slots id : ℕ) (me : Sat R) (x : Pending) (head : ℕ) → 0 < me.0.parts → MayLink me.0.pending x head
-      → Allows (Holds meaning_of rules room) slots id me (next_word x.waiter) (λ _. head % 2 ^ 24) (λ _. StoresNext meaning_of (step slots (next_word x.waiter) (head % 2 ^ 24) 0 none) me (head % 2 ^ 24))
+      → Allows (Holds meaning_of rules room) slots id me (next_word x.waiter) (λ _. head % 2 ^ 24)
+      (λ _. StoresNext meaning_of (step slots (next_word x.waiter) (head % 2 ^ 24) 0 none) me (head % 2 ^ 24))
   link_at slots id me x head some_part may s sound homes mine fits = (
     next_stored me.0 x head,
     keeps,
@@ -194,9 +211,13 @@ module _ {R : Type 0} (meaning_of : R → Meaning) (rules : R) (room : ℕ) wher
         λ i. (next_stored me.0 (ex i) (eh i), me.1),
   )
 
-  pub link_allowed : (slots id : ℕ) (me : Sat R) (i : ℕ) (x : Pending) (head to : ℕ) → i ≡ next_word x.waiter → to ≡ head % 2 ^ 24 → 0 < me.0.parts → MayLink me.0.pending x head
-      → Allows (Holds meaning_of rules room) slots id me i (λ _. to) (λ _. StoresNext meaning_of (step slots i to 0 none) me to)
+  pub link_allowed : (slots id : ℕ) (me : Sat R) (i : ℕ) (x : Pending) (head to : ℕ) → i ≡ next_word x.waiter
+      → to ≡ head % 2 ^ 24 → 0 < me.0.parts → MayLink me.0.pending x head
+      → Allows (Holds meaning_of rules room) slots id me i (λ _. to)
+      (λ _. StoresNext meaning_of (step slots i to 0 none) me to)
   link_allowed slots id me i x head to is value some_part may =
-      subst (λ j. Allows (Holds meaning_of rules room) slots id me j (λ _. to) (λ _. StoresNext meaning_of (step slots j to 0 none) me to)) (sym is)
-      (subst (λ y. Allows (Holds meaning_of rules room) slots id me (next_word x.waiter) (λ _. y) (λ _. StoresNext meaning_of (step slots (next_word x.waiter) y 0 none) me y)) (sym value)
+      subst (λ j. Allows (Holds meaning_of rules room) slots id me j (λ _. to)
+      (λ _. StoresNext meaning_of (step slots j to 0 none) me to)) (sym is)
+      (subst (λ y. Allows (Holds meaning_of rules room) slots id me (next_word x.waiter) (λ _. y)
+      (λ _. StoresNext meaning_of (step slots (next_word x.waiter) y 0 none) me y)) (sym value)
       (link_at slots id me x head some_part may))

@@ -1,5 +1,6 @@
 -- Lists that change at one place, sums over them, and functions that change at one place.
-use Rattle.std.proofs.Common.{◌≡◌, ℕ, zero, suc, ◌+◌, ◌<◌, ◌≤◌, ◌≢◌, List, [], ◌∷◌, ◌++◌, map, length, set, cond, eqb, eq-eqb, ne_eqb, sym, refl, ap, subst, ◌∙◌, inl, inr, ⊎_elim, arith}
+use Rattle.std.proofs.Common.{◌≡◌, ℕ, zero, suc, ◌+◌, ◌<◌, ◌≤◌, ◌≢◌, List, [], ◌∷◌, ◌++◌, map, length, set, cond, eqb}
+use Rattle.std.proofs.Common.{eq-eqb, ne_eqb, sym, refl, ap, subst, ◌∙◌, inl, inr, ⊎_elim, arith}
 use mathlib.Core.Logic.{dite}
 use native.Mathlib.Decide.{ℕ_discrete}
 use mathlib.Core.Option.{some, some-injective, some-ne-none}
@@ -16,7 +17,8 @@ pub put_else : (f : ℕ → ℕ) (at x p : ℕ) → p ≢ at → put f at x p �
 put_else f at x p ne = ap (λ b. cond b x (f p)) (ne_eqb p at ne)
 
 -- a fact of the new value there, and of the old ones elsewhere, holds of the function
-pub put_cases : (f : ℕ → ℕ) (at x p : ℕ) (Fact : ℕ → Type 0) → (p ≡ at → Fact x) → (p ≢ at → Fact (f p)) → Fact (put f at x p)
+pub put_cases : (f : ℕ → ℕ) (at x p : ℕ) (Fact : ℕ → Type 0) → (p ≡ at → Fact x) → (p ≢ at → Fact (f p))
+    → Fact (put f at x p)
 put_cases f at x p Fact here else =
     dite (ℕ_discrete p at)
     (λ e. subst Fact (sym (ap (λ b. cond b x (f p)) (eq-eqb p at e))) (here e))
@@ -54,19 +56,22 @@ module _ {A : Type 0} where
     among_counts [] a at = absurd at
     among_counts (x ∷ xs) a at =
         ⊎_elim
-        (λ (e : x ≡ a). let one : cond {A = ℕ} (eqb (place_of x) (place_of a)) 1 0 ≡ 1 = ap (λ b. cond b 1 0) (eq-eqb (place_of x) (place_of a) (ap place_of e)) in omega arith)
+        (λ (e : x ≡ a). let one : cond {A = ℕ} (eqb (place_of x) (place_of a)) 1 0 ≡ 1 =
+        ap (λ b. cond b 1 0) (eq-eqb (place_of x) (place_of a) (ap place_of e)) in omega arith)
         (λ (t : Among xs a). omega (arith, among_counts xs a t)) at
 
     -- where a place stands no time in the list, each has another
     pub absent_each : (p : ℕ) (l : List A) → times place_of p l ≡ 0 → Each (λ a. place_of a ≢ p) l
     absent_each p [] none = tt
     absent_each p (x ∷ xs) none = (
-      (λ e. let one : cond {A = ℕ} (eqb (place_of x) p) 1 0 ≡ 1 = ap (λ b. cond b 1 0) (eq-eqb (place_of x) p e) in absurd (omega arith)),
+      (λ e. let one : cond {A = ℕ} (eqb (place_of x) p) 1 0 ≡ 1 = ap (λ b. cond b 1 0) (eq-eqb (place_of x) p e) in
+          absurd (omega arith)),
       absent_each p xs (omega arith),
     )
 
     -- a place that stands once in the list is that of one alone
-    pub only_one : (l : List A) (a b : A) → times place_of (place_of a) l ≤ 1 → place_of b ≡ place_of a → Among l a → Among l b → a ≡ b
+    pub only_one : (l : List A) (a b : A) → times place_of (place_of a) l ≤ 1 → place_of b ≡ place_of a → Among l a
+        → Among l b → a ≡ b
     only_one [] a b few same at bt = absurd at
     only_one (x ∷ xs) a b few same at bt =
         let one : (c : A) → x ≡ c → place_of c ≡ place_of a → cond {A = ℕ} (eqb (place_of x) (place_of a)) 1 0 ≡ 1 =
@@ -88,7 +93,8 @@ module _ {A : Type 0} where
     total-append (x ∷ xs) m = omega (arith, total-append xs m)
 
     -- a sum once one of its terms has changed
-    pub total-set : (l : List A) (j : ℕ) (v w : A) → get_elem? l j ≡ some v → total f (set l j w) + f v ≡ total f l + f w
+    pub total-set : (l : List A) (j : ℕ) (v w : A) → get_elem? l j ≡ some v
+        → total f (set l j w) + f v ≡ total f l + f w
     total-set [] j v w e = absurd (some-ne-none v (sym e))
     total-set (x ∷ xs) zero v w e = omega (arith, ap f (some-injective x v e))
     total-set (x ∷ xs) (suc j) v w e = omega (arith, total-set xs j v w e)
@@ -98,7 +104,8 @@ module _ {A : Type 0} where
     term_le (x ∷ xs) zero v e = omega (arith, ap f (some-injective x v e))
     term_le (x ∷ xs) (suc j) v e = omega (arith, term_le xs j v e)
 
-    pub terms_le : (l : List A) (j k : ℕ) (v u : A) → k ≢ j → get_elem? l j ≡ some v → get_elem? l k ≡ some u → f v + f u ≤ total f l
+    pub terms_le : (l : List A) (j k : ℕ) (v u : A) → k ≢ j → get_elem? l j ≡ some v → get_elem? l k ≡ some u
+        → f v + f u ≤ total f l
     terms_le [] j k v u n e d = absurd (some-ne-none v (sym e))
     terms_le (x ∷ xs) zero zero v u n e d = absurd (n refl)
     terms_le (x ∷ xs) zero (suc k) v u n e d = omega (arith, ap f (some-injective x v e), term_le xs k u d)
@@ -106,5 +113,6 @@ module _ {A : Type 0} where
     terms_le (x ∷ xs) (suc j) (suc k) v u n e d = omega (arith, terms_le xs j k v u (λ h. n (ap suc h)) e d)
 
     -- a sum whose changed term is what it was
-    pub total_same : (l : List A) (j : ℕ) (v w : A) → get_elem? l j ≡ some v → f w ≡ f v → total f (set l j w) ≡ total f l
+    pub total_same : (l : List A) (j : ℕ) (v w : A) → get_elem? l j ≡ some v → f w ≡ f v
+        → total f (set l j w) ≡ total f l
     total_same l j v w e same = omega (arith, total-set l j v w e)

@@ -21,7 +21,8 @@ module _ {R : Type 0} (meaning_of : R → Meaning) (rules : R) (room : ℕ) wher
   Holds s = IsSound (meaning_of rules) rules room s.words s.views
 
   -- a board is sound once a seat has looked at one of its words
-  pub look_keeps : (words : List ℕ) (views : List (Hands R)) (id : ℕ) (v : Hands R) (word : ℕ) → IsSound (meaning_of rules) rules room words views → get_elem? views id ≡ some v → 0 < v.parts
+  pub look_keeps : (words : List ℕ) (views : List (Hands R)) (id : ℕ) (v : Hands R) (word : ℕ)
+      → IsSound (meaning_of rules) rules room words views → get_elem? views id ≡ some v → 0 < v.parts
       → IsSound (meaning_of rules) rules room words (set views id (looked v word (get_or words word 0)))
   look_keeps words views id v word sound mine some_part =
       let w : Hands R = looked v word (get_or words word 0) in
@@ -33,17 +34,23 @@ module _ {R : Type 0} (meaning_of : R → Meaning) (rules : R) (room : ℕ) wher
           cells = k.cells;
           blank = k.blank;
           rights = rights_stay room (mem words).run (mem words).head views id v w mine (λ p. refl) refl k.rights;
-          waits = waits_stay (meaning_of rules) room (mem words).cell (mem words).head (mem words).next (mem words).run views id v w mine refl k.waits;
+          waits = waits_stay (meaning_of rules) room (mem words).cell (mem words).head (mem words).next (mem words).run
+              views id v w mine refl k.waits;
           promises = k.promises;
           full = k.full;
           hands = of_all_set (AreHands (meaning_of rules) rules room (mem words)) views id w k.hands (record {
             stays = look_stays words word v.looks own.stays;
-            absence = ((λ none. forgets_none (meaning_of rules) room (mem words) k.promises v.looks own.stays k.cells word (λ p e. ap (λ n. get_or words n 0) e ∙ none)), own.absence);
+            absence = (
+              (λ none. forgets_none (meaning_of rules) room (mem words) k.promises v.looks own.stays k.cells
+                  word (λ p e. ap (λ n. get_or words n 0) e ∙ none)),
+              own.absence,
+            );
             recorded = own.recorded;
             stored = own.stored;
             ends = own.ends;
             raised = own.raised;
-            pends = pending_looked (meaning_of rules) room (mem words).cell (mem words).next (word, get_or words word 0) v.looks v.rights v.pending own.pends;
+            pends = pending_looked (meaning_of rules) room (mem words).cell (mem words).next (word, get_or words word 0)
+                v.looks v.rights v.pending own.pends;
             walked = own.walked;
             awake = inr (awake_has rules room v some_part own.awake);
           });
@@ -52,12 +59,18 @@ module _ {R : Type 0} (meaning_of : R → Meaning) (rules : R) (room : ℕ) wher
         alone = alone_moved words words views id v w mine (λ kept is. (kept, is, λ e. e)) sound.alone;
       }
 
-  pub look_allowed : (slots id : ℕ) (me : Sat R) (word : ℕ) → 0 < me.0.parts → Allows Holds slots id me word (λ n. n) (Looks meaning_of (step slots word 0 0 none) me)
+  pub look_allowed : (slots id : ℕ) (me : Sat R) (word : ℕ) → 0 < me.0.parts
+      → Allows Holds slots id me word (λ n. n) (Looks meaning_of (step slots word 0 0 none) me)
   look_allowed slots id me word some_part s sound homes mine fits = (
     looked me.0 word (get_or s.words word 0),
     keeps,
     tt,
-    subst (λ (ws : List ℕ). IsSound (meaning_of rules) rules room ws (set s.views id (looked me.0 word (get_or s.words word 0)))) (sym (set-get_or s.words word 0))
+    subst (λ (ws : List ℕ). IsSound (meaning_of rules) rules room ws
+        (set s.views id (looked me.0 word (get_or s.words word 0)))) (sym (set-get_or s.words word 0))
         (look_keeps s.words s.views id me.0 word sound mine some_part),
-    record { hands_are = refl; moment = moment_of meaning_of rules room s.words s.views id me.0 word sound mine some_part },
+    record {
+      hands_are = refl;
+      moment = moment_of meaning_of rules room s.words s.views id me.0 word sound mine
+          some_part;
+    },
   )

@@ -1,5 +1,6 @@
 -- A board is sound at the start.
-use Rattle.std.proofs.Common.{◌/◌, ◌≡◌, ℕ, zero, suc, ◌+◌, ◌*◌, ◌%◌, List, [], ◌∷◌, get_or, replicate, sym, refl, ap, subst, ◌∙◌, inr, arith}
+use Rattle.std.proofs.Common.{◌/◌, ◌≡◌, ℕ, zero, suc, ◌+◌, ◌*◌, ◌%◌, List, [], ◌∷◌, get_or, replicate, sym, refl, ap}
+use Rattle.std.proofs.Common.{subst, ◌∙◌, inr, arith}
 use Rattle.std.proofs.lemmas.List.{length-replicate}
 use mathlib.Core.Option.{some, some-injective, some-ne-none}
 use lib.ListN.{get_elem?}
@@ -29,7 +30,8 @@ only_of a b (suc j) e = absurd (some-ne-none b (sym e))
 
 -- a seat that walks no list
 pub walks_none : (meaning : Meaning) (room : ℕ) (cell head next : ℕ → ℕ) → IsWalked meaning room cell head next no_walk
-walks_none meaning room cell head next = record { chained = tt; read = λ found is. let no : ⊥ = cc in absurd no; waited = tt }
+walks_none meaning room cell head next =
+    record { chained = tt; read = λ found is. let no : ⊥ = cc in absurd no; waited = tt }
 
 module _ {R : Type 0} (meaning_of : R → Meaning) (rules : R) (room : ℕ) where
   -- at the start all words are 0, and one seat has all parts
@@ -41,7 +43,11 @@ module _ {R : Type 0} (meaning_of : R → Meaning) (rules : R) (room : ℕ) wher
       record {
         count = length-replicate (14 * room + 1) 0;
         by_kinds = record {
-          cells = record { enter = λ p near taken. absurd (taken (z (cell_word p))); are_set = empty_is_set room (mem words).cell (λ p _. z (cell_word p)) };
+          cells = record {
+            enter = λ p near taken. absurd (taken (z (cell_word p)));
+            are_set =
+                empty_is_set room (mem words).cell (λ p _. z (cell_word p));
+          };
           blank = λ p near _. record { run = z _; head = z _; cost = z _; node = z _; who = z _; next = λ b _. z _ };
           rights = λ p near. record {
             once = omega arith;
@@ -58,26 +64,35 @@ module _ {R : Type 0} (meaning_of : R → Meaning) (rules : R) (room : ℕ) wher
             chains = λ c near. tt;
             joined = λ c near. tt;
             once = λ q. let none_listed = below_none (λ c. count q []) room (λ p near. refl) in
-                omega (arith, none_listed) ∙ sym (ap (λ n. bit_at n (q % 8)) (z (run_word (q / 8))) ∙ bit_at-zero (q % 8));
-            near = λ q set_bit. let e : wait_bit (mem words).run q ≡ 0 = ap (λ n. bit_at n (q % 8)) (z (run_word (q / 8))) ∙ bit_at-zero (q % 8) in absurd (omega arith);
+                omega (arith, none_listed) ∙ sym (ap (λ n. bit_at n (q % 8)) (z (run_word (q / 8)))
+                ∙ bit_at-zero (q % 8));
+            near = λ q set_bit. let e : wait_bit (mem words).run q ≡ 0 =
+                ap (λ n. bit_at n (q % 8)) (z (run_word (q / 8))) ∙ bit_at-zero (q % 8) in absurd (omega arith);
           };
           promises = record {
             promise = λ p near closed. let e : (mem words).head p ≡ 0 = z _ in absurd (omega arith);
             answer = λ p near closed. let e : (mem words).head p ≡ 0 = z _ in absurd (omega arith);
           };
           full = λ set_full. absurd (set_full (z full_word));
-          hands = λ id u there. subst (AreHands (meaning_of rules) rules room (mem words)) (only_of v u id there) (record {
-            stays = record { cells = λ p found at. absurd at; heads = λ p found at. absurd at; set_full = λ found at. absurd at };
-            absence = tt;
-            recorded = tt;
-            stored = tt;
-            ends = λ p. refl;
-            raised = tt;
-            pends = tt;
-            walked = walks_none (meaning_of rules) room (mem words).cell (mem words).head (mem words).next;
-            awake = inr (omega arith, refl, refl);
-          });
+          hands = λ id u there. subst (AreHands (meaning_of rules) rules room (mem words)) (only_of v u id there)
+              (record {
+                stays = record {
+                  cells = λ p found at. absurd at;
+                  heads = λ p found at. absurd at;
+                  set_full =
+                      λ found at. absurd at;
+                };
+                absence = tt;
+                recorded = tt;
+                stored = tt;
+                ends = λ p. refl;
+                raised = tt;
+                pends = tt;
+                walked = walks_none (meaning_of rules) room (mem words).cell (mem words).head (mem words).next;
+                awake = inr (omega arith, refl, refl);
+              });
           parts = refl;
         };
-        alone = λ id u there. subst (KeepsAlone words (v ∷ [])) (only_of v u id there) (record { every_word = λ kept is. let e : words ≡ kept = cc in sym e; only = λ kept is. refl });
+        alone = λ id u there. subst (KeepsAlone words (v ∷ [])) (only_of v u id there)
+            (record { every_word = λ kept is. let e : words ≡ kept = cc in sym e; only = λ kept is. refl });
       }

@@ -1,5 +1,6 @@
 -- A compare-exchange of an open head to one with one waiter more keeps soundness.
-use Rattle.std.proofs.Common.{length-set, ◌≡◌, ℕ, ◌+◌, ◌/◌, ◌%◌, ◌^◌, ◌<◌, ◌≤◌, false, List, [], ◌∷◌, length, Option, Some, eqb, get_or, set, sym, refl, ap, subst, ◌∙◌, inl, inr, ⊎_elim, arith}
+use Rattle.std.proofs.Common.{length-set, ◌≡◌, ℕ, ◌+◌, ◌/◌, ◌%◌, ◌^◌, ◌<◌, ◌≤◌, false, List, [], ◌∷◌, length, Option}
+use Rattle.std.proofs.Common.{Some, eqb, get_or, set, sym, refl, ap, subst, ◌∙◌, inl, inr, ⊎_elim, arith}
 use mathlib.Core.Option.{some, none}
 use lib.ListN.{get_elem?}
 use lib.Seq.{set-get_or}
@@ -25,30 +26,41 @@ use Rattle.board_rule.proofs.Waits.{pending_at}
 use Rattle.board_rule.proofs.WaitLooks.{wait_look_keeps}
 use Rattle.board_rule.proofs.Claiming.{absence_beside}
 use Rattle.board_rule.proofs.Lengths.{list_length, first_within}
-use Rattle.board_rule.proofs.PushTopics.{promises_push, recorded_push, walked_push, stays_push, blank_push, rights_push, more_waits, same_place, stored_push, raised_push}
+use Rattle.board_rule.proofs.PushTopics.{promises_push, recorded_push, walked_push, stays_push, blank_push, rights_push}
+use Rattle.board_rule.proofs.PushTopics.{more_waits, same_place, stored_push, raised_push}
 use Rattle.board_rule.proofs.Putting.{Leads}
 use Rattle.board_rule.proofs.Looking.{Holds}
 
 -- the number and the first waiter of a head
-head_parts : (l : List ℕ) (h : ℕ) → h ≡ head_of l → first_of l < 2 ^ 24 → (h / 2 ^ 24 ≡ length l) × (h % 2 ^ 24 ≡ first_of l)
+head_parts : (l : List ℕ) (h : ℕ) → h ≡ head_of l → first_of l < 2 ^ 24 → (h / 2 ^ 24 ≡ length l)
+    × (h % 2 ^ 24 ≡ first_of l)
 head_parts l h is few = (omega arith, omega arith)
 
 -- the waiter goes from the seat's hands to the list of the child
-waits_push : {R : Type 0} (meaning : Meaning) (room : ℕ) (m : Mem) (views : List (Hands R)) (id : ℕ) (v w : Hands R) (c q to : ℕ) (old : KeepsWaits meaning room m.cell m.run m.head m.next views)
-    → get_elem? views id ≡ some v → c < room → m.head c < 2 ^ 63 → to < 2 ^ 63 → to ≡ head_of (q ∷ old.lists c) → m.next q ≡ first_of (old.lists c) → meaning.child (m.cell (q / 8)) (m.cell c)
+waits_push : {R : Type 0} (meaning : Meaning) (room : ℕ) (m : Mem) (views : List (Hands R)) (id : ℕ) (v w : Hands R)
+    (c q to : ℕ) (old : KeepsWaits meaning room m.cell m.run m.head m.next views)
+    → get_elem? views id ≡ some v → c < room → m.head c < 2 ^ 63 → to < 2 ^ 63 → to ≡ head_of (q ∷ old.lists c)
+    → m.next q ≡ first_of (old.lists c) → meaning.child (m.cell (q / 8)) (m.cell c)
     → ((p : ℕ) → count p (in_hand v.pending v.walk) ≡ count p (q ∷ []) + count p (in_hand w.pending w.walk))
     → KeepsWaits meaning room m.cell m.run (put m.head c to) m.next (set views id w)
 waits_push meaning room m views id v w c q to old mine near was_open is_open head links is_child one_less = record {
   lists = put_list old.lists c (q ∷ old.lists c);
   none_left = λ p in_room. put_cases m.head c to p (λ x. 2 ^ 63 ≤ x → put_list old.lists c (q ∷ old.lists c) p ≡ [])
       (λ _ closed. absurd (omega arith))
-      (λ ne closed. put_list_cases old.lists c (q ∷ old.lists c) p (λ l. l ≡ []) (λ e. absurd (ne e)) (λ _. old.none_left p in_room closed));
-  heads = λ p in_room. put_cases m.head c to p (λ x. x < 2 ^ 63 → x ≡ head_of (put_list old.lists c (q ∷ old.lists c) p))
-      (λ here _. put_list_cases old.lists c (q ∷ old.lists c) p (λ l. to ≡ head_of l) (λ _. head) (λ ne. absurd (ne here)))
-      (λ ne still_open. put_list_cases old.lists c (q ∷ old.lists c) p (λ l. m.head p ≡ head_of l) (λ e. absurd (ne e)) (λ _. old.heads p in_room still_open));
-  chains = λ p in_room. put_list_cases old.lists c (q ∷ old.lists c) p (IsChain m.next) (λ _. (links, old.chains c near)) (λ _. old.chains p in_room);
-  joined = λ p in_room. put_list_cases old.lists c (q ∷ old.lists c) p (Each (λ a. meaning.child (m.cell (a / 8)) (m.cell p)))
-      (λ here. subst (λ k. Each (λ a. meaning.child (m.cell (a / 8)) (m.cell k)) (q ∷ old.lists c)) (sym here) (is_child, old.joined c near))
+      (λ ne closed. put_list_cases old.lists c (q ∷ old.lists c) p (λ l. l ≡ []) (λ e. absurd (ne e))
+      (λ _. old.none_left p in_room closed));
+  heads = λ p in_room. put_cases m.head c to p (λ x. x < 2 ^ 63
+      → x ≡ head_of (put_list old.lists c (q ∷ old.lists c) p))
+      (λ here _. put_list_cases old.lists c (q ∷ old.lists c) p (λ l. to ≡ head_of l) (λ _. head)
+      (λ ne. absurd (ne here)))
+      (λ ne still_open. put_list_cases old.lists c (q ∷ old.lists c) p (λ l. m.head p ≡ head_of l) (λ e. absurd (ne e))
+      (λ _. old.heads p in_room still_open));
+  chains = λ p in_room. put_list_cases old.lists c (q ∷ old.lists c) p (IsChain m.next)
+      (λ _. (links, old.chains c near)) (λ _. old.chains p in_room);
+  joined = λ p in_room. put_list_cases old.lists c (q ∷ old.lists c) p
+      (Each (λ a. meaning.child (m.cell (a / 8)) (m.cell p)))
+      (λ here. subst (λ k. Each (λ a. meaning.child (m.cell (a / 8)) (m.cell k)) (q ∷ old.lists c)) (sym here)
+      (is_child, old.joined c near))
       (λ _. old.joined p in_room);
   once = λ p.
       let lists = below_put_list old.lists room c (q ∷ old.lists c) p near in
@@ -61,9 +73,11 @@ waits_push meaning room m views id v w c q to old mine near was_open is_open hea
 
 module _ {R : Type 0} (meaning_of : R → Meaning) (rules : R) (room : ℕ) (small : room ≤ 2 ^ 20) where
   -- a board is sound once a seat has put a waiter first into a list
-  push_keeps : (words : List ℕ) (views : List (Hands R)) (id : ℕ) (v : Hands R) (x : Pending) (head : ℕ) → IsSound (meaning_of rules) rules room words views → get_elem? views id ≡ some v
+  push_keeps : (words : List ℕ) (views : List (Hands R)) (id : ℕ) (v : Hands R) (x : Pending) (head : ℕ)
+      → IsSound (meaning_of rules) rules room words views → get_elem? views id ≡ some v
       → 0 < v.parts → MayPush v.pending x head → get_or words (head_word x.child) 0 ≡ head
-      → IsSound (meaning_of rules) rules room (set words (head_word x.child) (pushed head x.waiter)) (set views id (wait_put v x head))
+      → IsSound (meaning_of rules) rules room (set words (head_word x.child) (pushed head x.waiter))
+      (set views id (wait_put v x head))
   push_keeps words views id v x head sound mine some_part may found =
       let meaning : Meaning = meaning_of rules in
       let m : Mem = mem words in
@@ -90,61 +104,71 @@ module _ {R : Type 0} (meaning_of : R → Meaning) (rules : R) (room : ℕ) (sma
       let counts = times_map (more_waits (q / 8)) (same_place (q / 8)) in
       let is = held_by room m.run m.head views id v (q / 8) mine old.has k.rights in
       let more : m.head c / 2 ^ 24 < to / 2 ^ 24 = omega (arith, ap (λ y. y / 2 ^ 24) found) in
-      let less : (p : ℕ) → count p (in_hand v.pending v.walk) ≡ count p (q ∷ []) + count p (in_hand w.pending w.walk) = λ p. ap (λ o. count p (in_hand o v.walk)) may.is ∙ omega arith in
+      let less : (p : ℕ) → count p (in_hand v.pending v.walk) ≡ count p (q ∷ []) + count p (in_hand w.pending w.walk) =
+      λ p. ap (λ o. count p (in_hand o v.walk)) may.is ∙ omega arith in
       record {
         count = length-set words (head_word c) to ∙ total_count;
-        by_kinds = subst (λ k. IsSoundBy meaning rules room k (set views id w)) (sym (put_head words c to (omega arith))) (record {
-          cells = k.cells;
-          blank = blank_push meaning room m c to was_open is_open seen.child_goal k.blank;
-          rights = rights_push meaning room m c to was_open is_open views id v w mine near (λ p. counts p v.rights) refl k.rights;
-          waits = waits_push meaning room m views id v w c q to k.waits mine near was_open is_open (omega (arith, parts.0)) (seen.links may.linked ∙ parts.1) seen.is_child less;
-          promises = promises_push meaning room m c to was_open is_open k.promises;
-          full = k.full;
-          hands = of_others_set (AreHands meaning rules room m) (AreHands meaning rules room n) views id w
-              (λ other u ne there h. record {
-                stays = stays_push meaning room m c to was_open is_open more u.looks h.stays;
-                absence = h.absence;
-                recorded = recorded_push meaning room m c to was_open is_open u.done h.recorded;
-                stored = h.stored;
-                ends = h.ends;
-                raised = h.raised;
-                pends = h.pends;
-                walked = walked_push meaning room m c to was_open is_open u.walk h.walked;
-                awake = h.awake;
-              })
-              k.hands
-              (record {
-                stays = stays_pushed m c head to v.looks head_open (subst (λ y. y / 2 ^ 24 < to / 2 ^ 24) found more) (stays_push meaning room m c to was_open is_open more v.looks own.stays);
-                absence = absence_beside meaning room v.looks (head_word c) head (λ p e. omega arith) own.absence;
-                recorded = recorded_push meaning room m c to was_open is_open v.done own.recorded;
-                stored = stored_push m.cost m.node m.who (q / 8) v.rights own.stored;
-                ends = λ p. omega (arith, own.ends p, counts p v.rights);
-                raised = raised_push m.run x v.rights (omega (arith, is.right_once)) old.its_wait (subst (λ o. Each (IsRaised m.run o) v.rights) may.is own.raised);
-                pends = tt;
-                walked = walked_push meaning room m c to was_open is_open v.walk own.walked;
-                awake = inr (awake_has rules room v some_part own.awake);
-              });
-          parts = total_same (λ (h : Hands R). h.parts) views id v w mine refl ∙ k.parts;
-        });
+        by_kinds = subst (λ k. IsSoundBy meaning rules room k (set views id w))
+            (sym (put_head words c to (omega arith))) (record {
+              cells = k.cells;
+              blank = blank_push meaning room m c to was_open is_open seen.child_goal k.blank;
+              rights = rights_push meaning room m c to was_open is_open views id v w mine near (λ p. counts p v.rights) refl
+                  k.rights;
+              waits = waits_push meaning room m views id v w c q to k.waits mine near was_open is_open
+                  (omega (arith, parts.0)) (seen.links may.linked ∙ parts.1) seen.is_child less;
+              promises = promises_push meaning room m c to was_open is_open k.promises;
+              full = k.full;
+              hands = of_others_set (AreHands meaning rules room m) (AreHands meaning rules room n) views id w
+                  (λ other u ne there h. record {
+                    stays = stays_push meaning room m c to was_open is_open more u.looks h.stays;
+                    absence = h.absence;
+                    recorded = recorded_push meaning room m c to was_open is_open u.done h.recorded;
+                    stored = h.stored;
+                    ends = h.ends;
+                    raised = h.raised;
+                    pends = h.pends;
+                    walked = walked_push meaning room m c to was_open is_open u.walk h.walked;
+                    awake = h.awake;
+                  })
+                  k.hands
+                  (record {
+                    stays = stays_pushed m c head to v.looks head_open (subst (λ y. y / 2 ^ 24 < to / 2 ^ 24) found more)
+                        (stays_push meaning room m c to was_open is_open more v.looks own.stays);
+                    absence = absence_beside meaning room v.looks (head_word c) head (λ p e. omega arith) own.absence;
+                    recorded = recorded_push meaning room m c to was_open is_open v.done own.recorded;
+                    stored = stored_push m.cost m.node m.who (q / 8) v.rights own.stored;
+                    ends = λ p. omega (arith, own.ends p, counts p v.rights);
+                    raised = raised_push m.run x v.rights (omega (arith, is.right_once)) old.its_wait
+                        (subst (λ o. Each (IsRaised m.run o) v.rights) may.is own.raised);
+                    pends = tt;
+                    walked = walked_push meaning room m c to was_open is_open v.walk own.walked;
+                    awake = inr (awake_has rules room v some_part own.awake);
+                  });
+              parts = total_same (λ (h : Hands R). h.parts) views id v w mine refl ∙ k.parts;
+            });
         alone = alone_set words views id (head_word c) to v w mine refl sound.alone;
       }
     where
       -- the seat's own look found the head that it changed
-      stays_pushed : (m : Mem) (c head to : ℕ) (looks : List (ℕ × ℕ)) → head < 2 ^ 63 → head / 2 ^ 24 < to / 2 ^ 24 → Stays m.cell (put m.head c to) m.full looks
+      stays_pushed : (m : Mem) (c head to : ℕ) (looks : List (ℕ × ℕ)) → head < 2 ^ 63 → head / 2 ^ 24 < to / 2 ^ 24
+          → Stays m.cell (put m.head c to) m.full looks
           → Stays m.cell (put m.head c to) m.full ((head_word c, head) ∷ looks)
       stays_pushed m c head to looks was_open more old = record {
         cells = λ p y at some_found. ⊎_elim (λ t. absurd (omega (arith, t.0))) (λ t. old.cells p y t some_found) at;
         heads = λ p y at. ⊎_elim
             (λ t. let here : p ≡ c = omega (arith, t.0) in subst (λ f. IsLater f (put m.head c to p)) t.1
-            (subst (IsLater head) (sym (ap (put m.head c to) here ∙ put_here m.head c to)) (inr (inr (was_open, more)))))
+            (subst (IsLater head) (sym (ap (put m.head c to) here ∙ put_here m.head c to))
+            (inr (inr (was_open, more)))))
             (λ t. old.heads p y t) at;
         set_full = λ y at some_found. ⊎_elim (λ t. absurd (omega (arith, t.0))) (λ t. old.set_full y t some_found) at;
       }
 
   -- what is known of the wait where the head had changed
-  pends_missed : (m : Mem) (looks : List (ℕ × ℕ)) (rights : List Claimed) (pending : Option Pending) (x : Pending) (head found : ℕ) → pending ≡ Some x → x.seen ≡ Some head
+  pends_missed : (m : Mem) (looks : List (ℕ × ℕ)) (rights : List Claimed) (pending : Option Pending) (x : Pending)
+      (head found : ℕ) → pending ≡ Some x → x.seen ≡ Some head
       → ArePending (meaning_of rules) room m.cell m.next looks rights pending
-      → ArePending (meaning_of rules) room m.cell m.next ((head_word x.child, found) ∷ looks) rights (Some (record { waiter = x.waiter; child = x.child; seen = Some found; linked = false }))
+      → ArePending (meaning_of rules) room m.cell m.next ((head_word x.child, found) ∷ looks) rights
+      (Some (record { waiter = x.waiter; child = x.child; seen = Some found; linked = false }))
   pends_missed m looks rights pending x head found is was_seen all =
       let old = pending_at (meaning_of rules) room m.cell m.next looks rights pending x is all in
       let s = old.seen head was_seen in
@@ -162,7 +186,8 @@ module _ {R : Type 0} (meaning_of : R → Meaning) (rules : R) (room : ℕ) (sma
       }
 
   push_at : (slots id : ℕ) (me : Sat R) (x : Pending) (head : ℕ) → 0 < me.0.parts → MayPush me.0.pending x head
-      → Allows (Holds meaning_of rules room) slots id me (head_word x.child) (λ n. either (eqb n head) (pushed head x.waiter) n)
+      → Allows (Holds meaning_of rules room) slots id me (head_word x.child)
+      (λ n. either (eqb n head) (pushed head x.waiter) n)
       (PutsWait meaning_of (step slots (head_word x.child) head (pushed head x.waiter) none) me)
   push_at slots id me x head some_part may s sound homes mine fits =
       let i : ℕ = head_word x.child in
@@ -171,14 +196,16 @@ module _ {R : Type 0} (meaning_of : R → Meaning) (rules : R) (room : ℕ) (sma
       let v : Hands R = me.0 in
       let own = sound.by_kinds.hands id v mine in
       let moment = moment_of meaning_of rules room s.words s.views id v i sound mine some_part in
-      exchanged found head to (Leads meaning_of rules room s i id me (PutsWait meaning_of (step slots i head to none) me))
+      exchanged found head to (Leads meaning_of rules room s i id me
+      (PutsWait meaning_of (step slots i head to none) me))
       (λ hit. (
         wait_put v x head,
         keeps,
         tt,
         push_keeps s.words s.views id v x head sound mine some_part may hit,
         record {
-          hit = λ y is seen _. let one : Some x ≡ Some y = sym may.is ∙ is in let e : x ≡ y = cc in λ j. (wait_put v (e j) head, me.1);
+          hit = λ y is seen _. let one : Some x ≡ Some y = sym may.is ∙ is in let e : x ≡ y = cc in
+              λ j. (wait_put v (e j) head, me.1);
           miss = λ y is miss. absurd (miss hit);
           moment = moment;
         },
@@ -187,19 +214,28 @@ module _ {R : Type 0} (meaning_of : R → Meaning) (rules : R) (room : ℕ) (sma
         head_seen v x x.child found,
         keeps,
         tt,
-        subst (λ (ws : List ℕ). IsSound (meaning_of rules) rules room ws (set s.views id (head_seen v x x.child found))) (sym (set-get_or s.words i 0))
-            (wait_look_keeps meaning_of rules room s.words s.views id v i (Some (record { waiter = x.waiter; child = x.child; seen = Some found; linked = false })) v.walk sound mine some_part
-            (sym (ap waiting may.is)) refl (pends_missed (mem s.words) v.looks v.rights v.pending x head found may.is may.seen own.pends) own.walked),
+        subst (λ (ws : List ℕ). IsSound (meaning_of rules) rules room ws (set s.views id (head_seen v x x.child found)))
+            (sym (set-get_or s.words i 0))
+            (wait_look_keeps meaning_of rules room s.words s.views id v i
+            (Some (record { waiter = x.waiter; child = x.child; seen = Some found; linked = false })) v.walk sound
+            mine some_part
+            (sym (ap waiting may.is)) refl (pends_missed (mem s.words) v.looks v.rights v.pending x head found may.is
+            may.seen own.pends) own.walked),
         record {
           hit = λ y is seen hit. absurd (miss hit);
-          miss = λ y is _. let one : Some x ≡ Some y = sym may.is ∙ is in let e : x ≡ y = cc in λ j. (head_seen v (e j) (e j).child found, me.1);
+          miss = λ y is _. let one : Some x ≡ Some y = sym may.is ∙ is in let e : x ≡ y = cc in
+              λ j. (head_seen v (e j) (e j).child found, me.1);
           moment = moment;
         },
       ))
 
-  pub push_allowed : (slots id : ℕ) (me : Sat R) (i : ℕ) (x : Pending) (head to : ℕ) → i ≡ head_word x.child → to ≡ pushed head x.waiter → 0 < me.0.parts → MayPush me.0.pending x head
-      → Allows (Holds meaning_of rules room) slots id me i (λ n. either (eqb n head) to n) (PutsWait meaning_of (step slots i head to none) me)
+  pub push_allowed : (slots id : ℕ) (me : Sat R) (i : ℕ) (x : Pending) (head to : ℕ) → i ≡ head_word x.child
+      → to ≡ pushed head x.waiter → 0 < me.0.parts → MayPush me.0.pending x head
+      → Allows (Holds meaning_of rules room) slots id me i (λ n. either (eqb n head) to n)
+      (PutsWait meaning_of (step slots i head to none) me)
   push_allowed slots id me i x head to is value some_part may =
-      subst (λ j. Allows (Holds meaning_of rules room) slots id me j (λ n. either (eqb n head) to n) (PutsWait meaning_of (step slots j head to none) me)) (sym is)
-      (subst (λ y. Allows (Holds meaning_of rules room) slots id me (head_word x.child) (λ n. either (eqb n head) y n) (PutsWait meaning_of (step slots (head_word x.child) head y none) me)) (sym value)
+      subst (λ j. Allows (Holds meaning_of rules room) slots id me j (λ n. either (eqb n head) to n)
+      (PutsWait meaning_of (step slots j head to none) me)) (sym is)
+      (subst (λ y. Allows (Holds meaning_of rules room) slots id me (head_word x.child) (λ n. either (eqb n head) y n)
+      (PutsWait meaning_of (step slots (head_word x.child) head y none) me)) (sym value)
       (push_at slots id me x head some_part may))

@@ -1,5 +1,6 @@
 -- The rights of a seat once one was spent, and all rights once those at one place have changed.
-use Rattle.std.proofs.Common.{◌≡◌, ℕ, ◌+◌, ◌^◌, ◌<◌, ◌≤◌, ⊎_elim, set, ◌≢◌, List, [], ◌∷◌, cond, eqb, eq-eqb, ne_eqb, sym, refl, ap, subst, ◌∙◌, arith}
+use Rattle.std.proofs.Common.{◌≡◌, ℕ, ◌+◌, ◌^◌, ◌<◌, ◌≤◌, ⊎_elim, set, ◌≢◌, List, [], ◌∷◌, cond, eqb, eq-eqb, ne_eqb}
+use Rattle.std.proofs.Common.{sym, refl, ap, subst, ◌∙◌, arith}
 use mathlib.Core.Logic.{dite}
 use native.Mathlib.Decide.{ℕ_discrete}
 use mathlib.Core.Option.{some}
@@ -37,7 +38,8 @@ pub counts_none : (p q : ℕ) → p ≢ q → cond {A = ℕ} (eqb p q) 1 0 ≡ 0
 counts_none p q ne = ap (λ b. cond b 1 0) (ne_eqb p q ne)
 
 -- one less at the place of the right that was spent
-pub without_here : (place : ℕ) (rights : List Claimed) → 1 ≤ rights_at place rights → rights_at place (without place rights) + 1 ≡ rights_at place rights
+pub without_here : (place : ℕ) (rights : List Claimed) → 1 ≤ rights_at place rights
+    → rights_at place (without place rights) + 1 ≡ rights_at place rights
 without_here place [] any = absurd (omega arith)
 without_here place (r ∷ rs) any =
     without_cases (λ left. rights_at place left + 1 ≡ rights_at place (r ∷ rs)) place r rs
@@ -45,7 +47,8 @@ without_here place (r ∷ rs) any =
     (λ ne. let none = counts_none r.place place ne in omega (arith, without_here place rs (omega arith)))
 
 -- as often as before at every other place
-pub without_else : (place p : ℕ) (rights : List Claimed) → p ≢ place → rights_at p (without place rights) ≡ rights_at p rights
+pub without_else : (place p : ℕ) (rights : List Claimed) → p ≢ place
+    → rights_at p (without place rights) ≡ rights_at p rights
 without_else place p [] ne = refl
 without_else place p (r ∷ rs) ne =
     without_cases (λ left. rights_at p left ≡ rights_at p (r ∷ rs)) place r rs
@@ -53,7 +56,8 @@ without_else place p (r ∷ rs) ne =
     (λ _. omega (arith, without_else place p rs ne))
 
 -- a fact of all rights holds of those that are left
-pub each_without : (Fact : Claimed → Type 0) (place : ℕ) (rights : List Claimed) → Each Fact rights → Each Fact (without place rights)
+pub each_without : (Fact : Claimed → Type 0) (place : ℕ) (rights : List Claimed) → Each Fact rights
+    → Each Fact (without place rights)
 each_without Fact place [] old = tt
 each_without Fact place (r ∷ rs) old =
     without_cases (Each Fact) place r rs (λ _. old.1) (λ _. (old.0, each_without Fact place rs old.1))
@@ -72,9 +76,11 @@ module _ {R : Type 0} (views : List (Hands R)) (id : ℕ) (v w : Hands R) (mine 
 
   -- the rights are kept where they are kept at the one place that changed
   pub rights_moved : (room : ℕ) (run head new_run new_head : ℕ → ℕ) (place : ℕ)
-      → ((p : ℕ) → p ≢ place → rights_at p w.rights ≡ rights_at p v.rights) → ((p : ℕ) → p ≢ place → done_at p w.done ≡ done_at p v.done)
+      → ((p : ℕ) → p ≢ place → rights_at p w.rights ≡ rights_at p v.rights)
+      → ((p : ℕ) → p ≢ place → done_at p w.done ≡ done_at p v.done)
       → ((p : ℕ) → p ≢ place → new_run p ≡ run p) → ((p : ℕ) → p ≢ place → new_head p ≡ head p)
-      → AreRights new_run new_head (set views id w) place → KeepsRights room run head views → KeepsRights room new_run new_head (set views id w)
+      → AreRights new_run new_head (set views id w) place → KeepsRights room run head views
+      → KeepsRights room new_run new_head (set views id w)
   rights_moved room run head new_run new_head place rights done runs heads here old p near =
       ⊎_elim (λ e. subst (AreRights new_run new_head (set views id w)) (sym e) here)
       (λ ne.
@@ -100,10 +106,12 @@ pub record IsHeld {R : Type 0} (run head : ℕ → ℕ) (views : List (Hands R))
   pub is_open : head place < 2 ^ 63
 
 -- where a seat has the right to a goal, the goal is held, and by no other seat
-pub held_by : {R : Type 0} (room : ℕ) (run head : ℕ → ℕ) (views : List (Hands R)) (id : ℕ) (v : Hands R) (place : ℕ) → get_elem? views id ≡ some v
+pub held_by : {R : Type 0} (room : ℕ) (run head : ℕ → ℕ) (views : List (Hands R)) (id : ℕ) (v : Hands R) (place : ℕ)
+    → get_elem? views id ≡ some v
     → HasRight room v.rights place → KeepsRights room run head views → IsHeld run head views v place
 held_by room run head views id v place mine has old =
-    let own : rights_at place v.rights ≤ held views place = term_le (λ (u : Hands _). rights_at place u.rights) views id v mine in
+    let own : rights_at place v.rights ≤ held views place =
+    term_le (λ (u : Hands _). rights_at place u.rights) views id v mine in
     let was = old place has.near in
     let once = was.once in
     let none_ended : ended views place ≡ 0 = omega (arith, has.held) in
@@ -116,9 +124,11 @@ held_by room run head views id v place mine has old =
     }
 
 -- a goal that is held by a seat stands in its cell
-pub held_stands : (meaning : Meaning) (room : ℕ) (m : Mem) (p : ℕ) → KeepsBlank meaning room m → p < room → m.run p ≢ 0 → m.cell p ≢ 0
+pub held_stands : (meaning : Meaning) (room : ℕ) (m : Mem) (p : ℕ) → KeepsBlank meaning room m → p < room → m.run p ≢ 0
+    → m.cell p ≢ 0
 held_stands meaning room m p blank near runs none = runs (blank p near (λ is. is.0 none)).run
 
 -- a run word with a bit set is not 0
 pub bit_runs : (n i : ℕ) → 1 ≤ bit_at n i → n ≢ 0
-bit_runs n i set_bit none = let zero_bit : bit_at n i ≡ 0 = ap (λ x. bit_at x i) none ∙ bit_at-zero i in absurd (omega arith)
+bit_runs n i set_bit none = let zero_bit : bit_at n i ≡ 0 = ap (λ x. bit_at x i) none ∙ bit_at-zero i in
+    absurd (omega arith)

@@ -1,5 +1,6 @@
 -- A board is sound once a seat was split in two or has taken in another.
-use Rattle.std.proofs.Common.{ne_eqb, None, ◌≡◌, ℕ, ◌<◌, ◌≤◌, ◌≢◌, ◌⊎◌, Bool, true, false, ◌&&◌, ◌||◌, ◌==◌, ◌%◌, cond, List, [], ◌∷◌, ◌++◌, set, Some, sym, refl, ap, subst, ◌∙◌, inl, inr, ⊎_elim, arith}
+use Rattle.std.proofs.Common.{ne_eqb, None, ◌≡◌, ℕ, ◌<◌, ◌≤◌, ◌≢◌, ◌⊎◌, Bool, true, false, ◌&&◌, ◌||◌, ◌==◌, ◌%◌, cond}
+use Rattle.std.proofs.Common.{List, [], ◌∷◌, ◌++◌, set, Some, sym, refl, ap, subst, ◌∙◌, inl, inr, ⊎_elim, arith}
 use mathlib.Core.Option.{some}
 use lib.ListN.{get_elem?}
 use Rattle.atomic_table.specs.Table.{Splits, Joins}
@@ -19,16 +20,21 @@ use Rattle.board_rule.proofs.Looking.{Holds}
 use Rattle.board_rule.proofs.Opening.{walks_none}
 
 -- what was looked at by two seats
-pub looked_append : (ls ms : List (ℕ × ℕ)) (word found : ℕ) → Looked (ls ++ ms) word found → Looked ls word found ⊎ Looked ms word found
+pub looked_append : (ls ms : List (ℕ × ℕ)) (word found : ℕ) → Looked (ls ++ ms) word found → Looked ls word found
+    ⊎ Looked ms word found
 looked_append [] ms word found at = inr at
-looked_append (l ∷ ls) ms word found at = ⊎_elim (λ (t : (l.0 ≡ word) × (l.1 ≡ found)). inl (inl t)) (λ (t : Looked (ls ++ ms) word found). ⊎_elim (λ u. inl (inr u)) (λ u. inr u) (looked_append ls ms word found t)) at
+looked_append (l ∷ ls) ms word found at =
+    ⊎_elim (λ (t : (l.0 ≡ word) × (l.1 ≡ found)). inl (inl t))
+    (λ (t : Looked (ls ++ ms) word found). ⊎_elim (λ u. inl (inr u)) (λ u. inr u) (looked_append ls ms word found t)) at
 
 pub lasting_looked : (ls : List (ℕ × ℕ)) (word found : ℕ) → Looked (lasting ls) word found → Looked ls word found
 lasting_looked [] word found at = at
 lasting_looked (l ∷ ls) word found at = by (lasts l) (lasting_looked ls word found) at
   where
-    by : (b : Bool) → (Looked (lasting ls) word found → Looked ls word found) → Looked (cond b (l ∷ lasting ls) (lasting ls)) word found → Looked (l ∷ ls) word found
-    by true more h = ⊎_elim (λ (t : (l.0 ≡ word) × (l.1 ≡ found)). inl t) (λ (t : Looked (lasting ls) word found). inr (more t)) h
+    by : (b : Bool) → (Looked (lasting ls) word found → Looked ls word found)
+        → Looked (cond b (l ∷ lasting ls) (lasting ls)) word found → Looked (l ∷ ls) word found
+    by true more h = ⊎_elim (λ (t : (l.0 ≡ word) × (l.1 ≡ found)). inl t)
+        (λ (t : Looked (lasting ls) word found). inr (more t)) h
     by false more h = inr (more h)
 
 -- a look at an empty cell tells of the past alone
@@ -43,12 +49,18 @@ lasts_not look p is e =
     none_of false true c h = h
     none_of false false c h = h
 
-absence_append : (meaning : Meaning) (room : ℕ) (ls ms : List (ℕ × ℕ)) → RemembersAbsence meaning room ms → RemembersAbsence meaning room (lasting ls ++ ms)
+absence_append : (meaning : Meaning) (room : ℕ) (ls ms : List (ℕ × ℕ)) → RemembersAbsence meaning room ms
+    → RemembersAbsence meaning room (lasting ls ++ ms)
 absence_append meaning room [] ms h = h
 absence_append meaning room (l ∷ ls) ms h = by (lasts l) refl (absence_append meaning room ls ms h)
   where
-    by : (b : Bool) → lasts l ≡ b → RemembersAbsence meaning room (lasting ls ++ ms) → RemembersAbsence meaning room (cond b (l ∷ lasting ls) (lasting ls) ++ ms)
-    by true is more = ((λ e word p near at shows saw. let no : true ≡ false = sym is ∙ lasts_not l p at e in let bad : ⊥ = cc in bad), more)
+    by : (b : Bool) → lasts l ≡ b → RemembersAbsence meaning room (lasting ls ++ ms)
+        → RemembersAbsence meaning room (cond b (l ∷ lasting ls) (lasting ls) ++ ms)
+    by true is more = (
+      (λ e word p near at shows saw. let no : true ≡ false = sym is ∙ lasts_not l p at e in
+          let bad : ⊥ = cc in bad),
+      more,
+    )
     by false is more = more
 
 -- a look of the second seat is one of both
@@ -58,18 +70,26 @@ looked_right (l ∷ ls) ms word found at = inr (looked_right ls ms word found at
 
 module _ {R : Type 0} where
   -- a seat that is not alone keeps nothing of the words
-  not_alone : (words : List ℕ) (views : List (Hands R)) (u : Hands R) → ((kept : List ℕ) → u.alone ≡ Some kept → ⊥) → KeepsAlone words views u
-  not_alone words views u never = record { every_word = λ kept is. absurd (never kept is); only = λ kept is. absurd (never kept is) }
+  not_alone : (words : List ℕ) (views : List (Hands R)) (u : Hands R) → ((kept : List ℕ) → u.alone ≡ Some kept → ⊥)
+      → KeepsAlone words views u
+  not_alone words views u never = record {
+    every_word = λ kept is. absurd (never kept is);
+    only =
+        λ kept is. absurd (never kept is);
+  }
 
   -- where there are two seats, none is alone
-  none_alone : (words : List ℕ) (views : List (Hands R)) (id other : ℕ) (v w : Hands R) → get_elem? views id ≡ some v → get_elem? views other ≡ some w → other ≢ id
-      → OfAll (KeepsAlone words views) views → (k : ℕ) (u : Hands R) → get_elem? views k ≡ some u → (kept : List ℕ) → u.alone ≡ Some kept → ⊥
+  none_alone : (words : List ℕ) (views : List (Hands R)) (id other : ℕ) (v w : Hands R) → get_elem? views id ≡ some v
+      → get_elem? views other ≡ some w → other ≢ id
+      → OfAll (KeepsAlone words views) views → (k : ℕ) (u : Hands R) → get_elem? views k ≡ some u → (kept : List ℕ)
+      → u.alone ≡ Some kept → ⊥
   none_alone words views id other v w mine its apart old k u there kept is =
       apart (omega (arith, (old k u there).only kept is, some_below views id v mine, some_below views other w its))
 
 module _ {R : Type 0} (meaning_of : R → Meaning) (rules : R) (room : ℕ) where
   -- a board is sound once one of its seats was split
-  split_keeps : (words : List ℕ) (views : List (Hands R)) (id : ℕ) (v : Hands R) → IsSound (meaning_of rules) rules room words views → get_elem? views id ≡ some v → 2 ≤ v.parts
+  split_keeps : (words : List ℕ) (views : List (Hands R)) (id : ℕ) (v : Hands R)
+      → IsSound (meaning_of rules) rules room words views → get_elem? views id ≡ some v → 2 ≤ v.parts
       → IsSound (meaning_of rules) rules room words (set views id (parted v) ++ part v ∷ [])
   split_keeps words views id v sound mine two =
       let k = sound.by_kinds in
@@ -79,42 +99,78 @@ module _ {R : Type 0} (meaning_of : R → Meaning) (rules : R) (room : ℕ) wher
       let right : Hands R = part v in
       let rest : List (Hands R) = set views id left in
       let h : (p : ℕ) → held (rest ++ right ∷ []) p ≡ held views p = λ p.
-      let f : Hands R → ℕ = λ u. times (λ (r : Claimed). r.place) p u.rights in omega (arith, total-append f rest (right ∷ []), total_same f views id v left mine refl) in
+      let f : Hands R → ℕ = λ u. times (λ (r : Claimed). r.place) p u.rights in
+      omega (arith, total-append f rest (right ∷ []), total_same f views id v left mine refl) in
       let d : (p : ℕ) → ended (rest ++ right ∷ []) p ≡ ended views p = λ p.
-      let f : Hands R → ℕ = λ u. times (λ (e : Ended). e.place) p u.done in omega (arith, total-append f rest (right ∷ []), total_same f views id v left mine refl) in
+      let f : Hands R → ℕ = λ u. times (λ (e : Ended). e.place) p u.done in
+      omega (arith, total-append f rest (right ∷ []), total_same f views id v left mine refl) in
       let is_left : AreHands (meaning_of rules) rules room (mem words) left =
-      record { stays = own.stays; absence = own.absence; recorded = own.recorded; stored = own.stored; ends = own.ends; raised = own.raised; pends = own.pends; walked = own.walked; awake = inr (omega arith, has.1, has.2) } in
+      record {
+        stays = own.stays;
+        absence = own.absence;
+        recorded = own.recorded;
+        stored = own.stored;
+        ends =
+            own.ends;
+        raised = own.raised;
+        pends = own.pends;
+        walked = own.walked;
+        awake =
+            inr (omega arith, has.1, has.2);
+      } in
       let is_right : AreHands (meaning_of rules) rules room (mem words) right =
-      record { stays = own.stays; absence = own.absence; recorded = tt; stored = tt; ends = λ p. refl; raised = tt; pends = tt; walked = walks_none (meaning_of rules) room (mem words).cell (mem words).head (mem words).next; awake = inr (omega arith, has.1, has.2) } in
+      record {
+        stays = own.stays;
+        absence = own.absence;
+        recorded = tt;
+        stored = tt;
+        ends = λ p. refl;
+        raised =
+            tt;
+        pends = tt;
+        walked = walks_none (meaning_of rules) room (mem words).cell (mem words).head
+            (mem words).next;
+        awake = inr (omega arith, has.1, has.2);
+      } in
       record {
         count = sound.count;
         by_kinds = record {
           cells = k.cells;
           blank = k.blank;
-          rights = λ p near. are_rights_as (mem words).run (mem words).head views (rest ++ right ∷ []) p (h p) (d p) (k.rights p near);
-          waits = waits_as (meaning_of rules) room (mem words).cell (mem words).head (mem words).next (mem words).run (mem words).run views (rest ++ right ∷ []) (λ p b few. refl)
-              (λ q. let f : Hands R → ℕ = λ u. count q (in_hand u.pending u.walk) in omega (arith, total-append f rest (right ∷ []), total_same f views id v left mine refl)) k.waits;
+          rights = λ p near. are_rights_as (mem words).run (mem words).head views (rest ++ right ∷ []) p (h p) (d p)
+              (k.rights p near);
+          waits = waits_as (meaning_of rules) room (mem words).cell (mem words).head (mem words).next (mem words).run
+              (mem words).run views (rest ++ right ∷ []) (λ p b few. refl)
+              (λ q. let f : Hands R → ℕ = λ u. count q (in_hand u.pending u.walk) in
+              omega (arith, total-append f rest (right ∷ []), total_same f views id v left mine refl)) k.waits;
           promises = k.promises;
           full = k.full;
           hands = λ j u there. ⊎_elim
-              (λ old. of_all_set (AreHands (meaning_of rules) rules room (mem words)) views id left k.hands is_left j u old)
-              (λ e. subst (AreHands (meaning_of rules) rules room (mem words)) e is_right) (at_snoc rest right u j there);
-          parts = let f : Hands R → ℕ = λ u. u.parts in omega (arith, total-append f rest (right ∷ []), total-set f views id v left mine, k.parts);
+              (λ old. of_all_set (AreHands (meaning_of rules) rules room (mem words)) views id left k.hands is_left j u
+              old)
+              (λ e. subst (AreHands (meaning_of rules) rules room (mem words)) e is_right)
+              (at_snoc rest right u j there);
+          parts = let f : Hands R → ℕ = λ u. u.parts in
+              omega (arith, total-append f rest (right ∷ []), total-set f views id v left mine, k.parts);
         };
         alone = λ j u there. not_alone words (rest ++ right ∷ []) u (⊎_elim
             (λ old. ⊎_elim
-            (λ t. subst (λ (x : Hands R). (kept : List ℕ) → x.alone ≡ Some kept → ⊥) t.1 (λ kept is. let no : ⊥ = cc in no))
+            (λ t. subst (λ (x : Hands R). (kept : List ℕ) → x.alone ≡ Some kept → ⊥) t.1 (λ kept is. let no : ⊥ = cc in
+            no))
             (λ t. none_alone words views id j v u mine t.1 t.0 sound.alone j u t.1)
             (at_set views id j left u old))
-            (λ e. subst (λ (x : Hands R). (kept : List ℕ) → x.alone ≡ Some kept → ⊥) e (λ kept is. let no : ⊥ = cc in no))
+            (λ e. subst (λ (x : Hands R). (kept : List ℕ) → x.alone ≡ Some kept → ⊥) e (λ kept is. let no : ⊥ = cc in
+            no))
             (at_snoc rest right u j there));
       }
 
-  pub split_allowed : (id : ℕ) (v : Hands R) → 2 ≤ v.parts → Splits (Holds meaning_of rules room) id v (parted v) (part v)
+  pub split_allowed : (id : ℕ) (v : Hands R) → 2 ≤ v.parts
+      → Splits (Holds meaning_of rules room) id v (parted v) (part v)
   split_allowed id v two s sound mine = split_keeps s.words s.views id v sound mine two
 
   -- a board is sound once one of its seats took in another
-  join_keeps : (words : List ℕ) (views : List (Hands R)) (id other : ℕ) (v w : Hands R) → IsSound (meaning_of rules) rules room words views → get_elem? views id ≡ some v → other ≢ id
+  join_keeps : (words : List ℕ) (views : List (Hands R)) (id other : ℕ) (v w : Hands R)
+      → IsSound (meaning_of rules) rules room words views → get_elem? views id ≡ some v → other ≢ id
       → get_elem? views other ≡ some w → 0 < v.parts → w.rights ≡ [] → w.pending ≡ None → w.walk.waiters ≡ []
       → IsSound (meaning_of rules) rules room words (set (set views id (joined v w)) other spent)
   join_keeps words views id other v w sound mine apart its some_part no_right free walked =
@@ -126,21 +182,33 @@ module _ {R : Type 0} (meaning_of : R → Meaning) (rules : R) (room : ℕ) wher
       let middle : List (Hands R) = set views id both in
       let after : List (Hands R) = set middle other spent in
       let its_still : get_elem? middle other ≡ some w = set_else views id other both apart ∙ its in
-      let none_right : (p : ℕ) → times (λ (r : Claimed). r.place) p w.rights ≡ 0 = λ p. ap (times (λ (r : Claimed). r.place) p) no_right in
+      let none_right : (p : ℕ) → times (λ (r : Claimed). r.place) p w.rights ≡ 0 =
+      λ p. ap (times (λ (r : Claimed). r.place) p) no_right in
       let h : (p : ℕ) → held after p ≡ held views p = λ p.
       let f : Hands R → ℕ = λ u. times (λ (r : Claimed). r.place) p u.rights in
       omega (arith, total-set f middle other w spent its_still, total_same f views id v both mine refl, none_right p) in
       let d : (p : ℕ) → ended after p ≡ ended views p = λ p.
       let f : Hands R → ℕ = λ u. times (λ (e : Ended). e.place) p u.done in
-      omega (arith, total-set f middle other w spent its_still, total-set f views id v both mine, times-append (λ (e : Ended). e.place) p w.done v.done) in
+      omega (
+        arith,
+        total-set f middle other w spent its_still,
+        total-set f views id v both mine,
+        times-append (λ (e : Ended). e.place) p w.done v.done,
+      ) in
       let is_both : AreHands (meaning_of rules) rules room (mem words) both = record {
         stays = record {
-          cells = λ p found at some_found. ⊎_elim (λ t. theirs.stays.cells p found (lasting_looked w.looks _ found t) some_found) (λ t. own.stays.cells p found t some_found) (looked_append (lasting w.looks) v.looks _ found at);
-          heads = λ p found at. ⊎_elim (λ t. theirs.stays.heads p found (lasting_looked w.looks _ found t)) (λ t. own.stays.heads p found t) (looked_append (lasting w.looks) v.looks _ found at);
-          set_full = λ found at some_found. ⊎_elim (λ t. theirs.stays.set_full found (lasting_looked w.looks _ found t) some_found) (λ t. own.stays.set_full found t some_found) (looked_append (lasting w.looks) v.looks _ found at);
+          cells = λ p found at some_found. ⊎_elim (λ t.
+              theirs.stays.cells p found (lasting_looked w.looks _ found t) some_found)
+              (λ t. own.stays.cells p found t some_found) (looked_append (lasting w.looks) v.looks _ found at);
+          heads = λ p found at. ⊎_elim (λ t. theirs.stays.heads p found (lasting_looked w.looks _ found t))
+              (λ t. own.stays.heads p found t) (looked_append (lasting w.looks) v.looks _ found at);
+          set_full = λ found at some_found. ⊎_elim
+              (λ t. theirs.stays.set_full found (lasting_looked w.looks _ found t) some_found)
+              (λ t. own.stays.set_full found t some_found) (looked_append (lasting w.looks) v.looks _ found at);
         };
         absence = absence_append (meaning_of rules) room w.looks v.looks own.absence;
-        recorded = each_append (IsRecorded room (mem words).head (mem words).cost (mem words).node (mem words).who) w.done v.done theirs.recorded own.recorded;
+        recorded = each_append (IsRecorded room (mem words).head (mem words).cost (mem words).node (mem words).who)
+            w.done v.done theirs.recorded own.recorded;
         stored = own.stored;
         ends = λ p. omega (
           arith,
@@ -152,13 +220,25 @@ module _ {R : Type 0} (meaning_of : R → Meaning) (rules : R) (room : ℕ) wher
           times-append (λ (e : Ended). e.place) p w.done v.done,
         );
         raised = own.raised;
-        pends = pending_as (meaning_of rules) room (mem words).cell (mem words).next (mem words).cell (mem words).next v.looks both.looks v.rights v.rights v.pending
-            (λ x is old. record { has = old.has; its_wait = old.its_wait; seen = old.seen; looked = λ head at. looked_right (lasting w.looks) v.looks _ head (old.looked head at) }) own.pends;
+        pends = pending_as (meaning_of rules) room (mem words).cell (mem words).next (mem words).cell (mem words).next
+            v.looks both.looks v.rights v.rights v.pending
+            (λ x is old. record {
+              has = old.has;
+              its_wait = old.its_wait;
+              seen = old.seen;
+              looked =
+                  λ head at. looked_right (lasting w.looks) v.looks _ head (old.looked head at);
+            }) own.pends;
         walked = own.walked;
         awake = inr (omega arith, has.1, has.2);
       } in
       let is_spent : AreHands (meaning_of rules) rules room (mem words) spent = record {
-        stays = record { cells = λ p found at. absurd at; heads = λ p found at. absurd at; set_full = λ found at. absurd at };
+        stays = record {
+          cells = λ p found at. absurd at;
+          heads = λ p found at. absurd at;
+          set_full =
+              λ found at. absurd at;
+        };
         absence = tt;
         recorded = tt;
         stored = tt;
@@ -175,24 +255,35 @@ module _ {R : Type 0} (meaning_of : R → Meaning) (rules : R) (room : ℕ) wher
           cells = k.cells;
           blank = k.blank;
           rights = λ p near. are_rights_as (mem words).run (mem words).head views after p (h p) (d p) (k.rights p near);
-          waits = waits_as (meaning_of rules) room (mem words).cell (mem words).head (mem words).next (mem words).run (mem words).run views after (λ p b few. refl)
+          waits = waits_as (meaning_of rules) room (mem words).cell (mem words).head (mem words).next (mem words).run
+              (mem words).run views after (λ p b few. refl)
               (λ q. let f : Hands R → ℕ = λ u. count q (in_hand u.pending u.walk) in
-              omega (arith, total-set f middle other w spent its_still, total_same f views id v both mine refl, ap (count q) (ap (λ o. in_hand o w.walk) free ∙ walked))) k.waits;
+              omega (
+                arith,
+                total-set f middle other w spent its_still,
+                total_same f views id v both mine refl,
+                ap (count q) (ap (λ o. in_hand o w.walk) free ∙ walked),
+              )) k.waits;
           promises = k.promises;
           full = k.full;
           hands = of_all_set all middle other spent (of_all_set all views id both k.hands is_both) is_spent;
-          parts = let f : Hands R → ℕ = λ u. u.parts in omega (arith, total-set f middle other w spent its_still, total-set f views id v both mine, k.parts);
+          parts = let f : Hands R → ℕ = λ u. u.parts in
+              omega (arith, total-set f middle other w spent its_still, total-set f views id v both mine, k.parts);
         };
         alone = λ j u there. not_alone words after u (⊎_elim
-            (λ t. subst (λ (x : Hands R). (kept : List ℕ) → x.alone ≡ Some kept → ⊥) t.1 (λ kept is. let no : ⊥ = cc in no))
+            (λ t. subst (λ (x : Hands R). (kept : List ℕ) → x.alone ≡ Some kept → ⊥) t.1 (λ kept is. let no : ⊥ = cc in
+            no))
             (λ t. ⊎_elim
-            (λ q. subst (λ (x : Hands R). (kept : List ℕ) → x.alone ≡ Some kept → ⊥) q.1 (none_alone words views id other v w mine its apart sound.alone id v mine))
+            (λ q. subst (λ (x : Hands R). (kept : List ℕ) → x.alone ≡ Some kept → ⊥) q.1
+            (none_alone words views id other v w mine its apart sound.alone id v mine))
             (λ q. none_alone words views id other v w mine its apart sound.alone j u q.1)
             (at_set views id j both u t.1))
             (at_set middle other j spent u there));
       }
 
-  pub join_allowed : (id other : ℕ) (v w : Hands R) → 0 < v.parts → w.rights ≡ [] → w.pending ≡ None → w.walk.waiters ≡ []
+  pub join_allowed : (id other : ℕ) (v w : Hands R) → 0 < v.parts → w.rights ≡ [] → w.pending ≡ None
+      → w.walk.waiters ≡ []
       → Joins (Holds meaning_of rules room) id v other w (joined v w) spent
   join_allowed id other v w some_part no_right free walked s sound mine apart its =
-      join_keeps s.words s.views id other v w sound mine apart (sym (set_else s.views id other (joined v w) apart) ∙ its) some_part no_right free walked
+      join_keeps s.words s.views id other v w sound mine apart (sym (set_else s.views id other (joined v w) apart)
+      ∙ its) some_part no_right free walked

@@ -1,5 +1,6 @@
 -- A fetch-and that clears the held bit of a run word keeps soundness.
-use Rattle.std.proofs.Common.{length-set, ◌≡◌, ℕ, ◌+◌, ◌<◌, List, get_or, set, sym, refl, ap, subst, ◌∙◌, inr, ⊎_elim, arith, bit_and, None}
+use Rattle.std.proofs.Common.{length-set, ◌≡◌, ℕ, ◌+◌, ◌<◌, List, get_or, set, sym, refl, ap, subst, ◌∙◌, inr, ⊎_elim}
+use Rattle.std.proofs.Common.{arith, bit_and, None}
 use mathlib.Core.Option.{some, none}
 use lib.ListN.{get_elem?}
 use Rattle.std.proofs.lemmas.Bool.{cases_eq}
@@ -10,7 +11,8 @@ use Rattle.board_rule.specs.Records.{Paused, Ended}
 use Rattle.board_rule.specs.Words.{Mem, mem, put, run_word}
 use Rattle.board_rule.specs.Waiters.{cleared}
 use Rattle.board_rule.specs.Seats.{times, suspended}
-use Rattle.board_rule.specs.Rule.{KeepsRights, AreHands, IsStored, IsRaised, ArePending, IsSoundBy, IsSound, held, ended}
+use Rattle.board_rule.specs.Rule.{KeepsRights, AreHands, IsStored, IsRaised, ArePending, IsSoundBy, IsSound, held}
+use Rattle.board_rule.specs.Rule.{ended}
 use Rattle.board_rule.specs.May.{HasRight}
 use Rattle.board_rule.specs.Plays.{Sat, Suspends}
 use Rattle.board_rule.specs.declared.hands.Hands.{Hands}
@@ -20,28 +22,34 @@ use Rattle.board_rule.proofs.Frames.{awake_has, of_others_set, alone_set, moment
 use Rattle.board_rule.proofs.Chains.{cleared_same, cleared_other, cleared_none}
 use Rattle.board_rule.proofs.Waits.{SameBits, handed_same, waits_as, raised_as, same_bits_put}
 use Rattle.board_rule.proofs.Looking.{Holds}
-use Rattle.board_rule.proofs.Rights.{bit_runs, held_by, rights_at, without_here, without_else, each_without, counts_one, counts_none, held-set, ended-set, rights_moved}
+use Rattle.board_rule.proofs.Rights.{bit_runs, held_by, rights_at, without_here, without_else, each_without, counts_one}
+use Rattle.board_rule.proofs.Rights.{counts_none, held-set, ended-set, rights_moved}
 use Rattle.board_rule.proofs.Claiming.{stays_beside, absence_beside, blank_running}
 
 -- a held goal that is suspended is held by no seat
-rights_suspended : {R : Type 0} (room : ℕ) (m : Mem) (views : List (Hands R)) (id : ℕ) (v : Hands R) (place : ℕ) → get_elem? views id ≡ some v
+rights_suspended : {R : Type 0} (room : ℕ) (m : Mem) (views : List (Hands R)) (id : ℕ) (v : Hands R) (place : ℕ)
+    → get_elem? views id ≡ some v
     → HasRight room v.rights place → KeepsRights room m.run m.head views
-    → KeepsRights room (put m.run place (cleared (m.run place) 8)) m.head (set views id (suspended v place (m.run place)))
+    → KeepsRights room (put m.run place (cleared (m.run place) 8)) m.head
+    (set views id (suspended v place (m.run place)))
 rights_suspended room m views id v place mine has old =
     let x = cleared (m.run place) 8 in
     let w = suspended v place (m.run place) in
     let was = old place has.near in
     let is = held_by room m.run m.head views id v place mine has old in
     let gone = without_here place v.rights has.held in
-    let h : held (set views id w) place ≡ 0 = omega (arith, held-set views id v w mine place, is.held_once, is.right_once) in
+    let h : held (set views id w) place ≡ 0 =
+    omega (arith, held-set views id v w mine place, is.held_once, is.right_once) in
     let d : ended (set views id w) place ≡ 0 = omega (arith, ended-set views id v w mine place, is.not_ended) in
     rights_moved views id v w mine room m.run m.head (put m.run place x) m.head place
     (λ p ne. without_else place p v.rights ne) (λ _ _. refl)
     (λ p ne. put_else m.run place x p ne) (λ _ _. refl)
     (record {
       once = omega (arith, h, d);
-      running = ap (λ n. bit_at n 8) (put_here m.run place x) ∙ cleared_same (m.run place) 8 (omega arith) ∙ omega (arith, h, d);
-      small = λ i high. ap (λ n. bit_at n i) (put_here m.run place x) ∙ cleared_none (m.run place) 8 i (was.small i high);
+      running = ap (λ n. bit_at n 8) (put_here m.run place x) ∙ cleared_same (m.run place) 8 (omega arith)
+          ∙ omega (arith, h, d);
+      small = λ i high. ap (λ n. bit_at n i) (put_here m.run place x)
+          ∙ cleared_none (m.run place) 8 i (was.small i high);
       closed = λ one_done. absurd (omega arith);
       settled = λ one_done. absurd (omega arith);
       is_open = λ _. is.is_open;
@@ -50,10 +58,12 @@ rights_suspended room m views id v place mine has old =
 
 module _ {R : Type 0} (meaning_of : R → Meaning) (rules : R) (room : ℕ) where
   -- a board is sound once a seat has suspended its goal
-  suspend_keeps : (words : List ℕ) (views : List (Hands R)) (id : ℕ) (v : Hands R) (place : ℕ) → IsSound (meaning_of rules) rules room words views → get_elem? views id ≡ some v
+  suspend_keeps : (words : List ℕ) (views : List (Hands R)) (id : ℕ) (v : Hands R) (place : ℕ)
+      → IsSound (meaning_of rules) rules room words views → get_elem? views id ≡ some v
       → 0 < v.parts → HasRight room v.rights place → v.pending ≡ None
       → let found = get_or words (run_word place) 0 in
-      IsSound (meaning_of rules) rules room (set words (run_word place) (cleared found 8)) (set views id (suspended v place found))
+      IsSound (meaning_of rules) rules room (set words (run_word place) (cleared found 8))
+      (set views id (suspended v place found))
   suspend_keeps words views id v place sound mine some_part has free =
       let meaning : Meaning = meaning_of rules in
       let m : Mem = mem words in
@@ -66,42 +76,67 @@ module _ {R : Type 0} (meaning_of : R → Meaning) (rules : R) (room : ℕ) wher
       let count = sound.count in
       let gone = without_here place v.rights has.held in
       let is = held_by room m.run m.head views id v place mine has k.rights in
-      let same : SameBits m.run n.run = same_bits_put m.run place x (λ b few. cleared_other (m.run place) 8 b (omega arith) (omega arith) (λ e. omega arith)) in
+      let same : SameBits m.run n.run = same_bits_put m.run place x
+      (λ b few. cleared_other (m.run place) 8 b (omega arith) (omega arith) (λ e. omega arith)) in
       record {
         count = length-set words (run_word place) x ∙ count;
-        by_kinds = subst (λ b. IsSoundBy meaning rules room b (set views id w)) (sym (put_run words place x (omega arith))) (record {
-          cells = k.cells;
-          blank = blank_running meaning room m place x (bit_runs (m.run place) 8 (omega (arith, is.runs))) k.blank;
-          rights = rights_suspended room m views id v place mine has k.rights;
-          waits = waits_as meaning room m.cell m.head m.next m.run n.run views (set views id w) same
-              (handed_same views id v w mine refl) k.waits;
-          promises = k.promises;
-          full = k.full;
-          hands = of_others_set (AreHands meaning rules room m) (AreHands meaning rules room n) views id w
-              (λ other u ne there h. record { stays = h.stays; absence = h.absence; recorded = h.recorded; stored = h.stored; ends = h.ends; raised = raised_as m.run n.run u.pending u.rights same h.raised; pends = h.pends; walked = h.walked; awake = h.awake })
-              k.hands
-              (record {
-                stays = stays_beside m.cell m.head m.full v.looks (run_word place) (m.run place) (λ e. omega arith) (λ p e. omega arith) (λ p e. omega arith) own.stays;
-                absence = absence_beside meaning room v.looks (run_word place) (m.run place) (λ p e. omega arith) own.absence;
-                recorded = own.recorded;
-                stored = each_without (IsStored m.cost m.node m.who) place v.rights own.stored;
-                ends = λ p. ⊎_elim
-                    (λ e. subst (λ q. times (λ (c : ℕ). c) q v.claims ≡ times (λ (s : Paused). s.place) q w.suspensions + times (λ (e : Ended). e.place) q v.done + rights_at q w.rights) (sym e)
-                    (omega (arith, own.ends place, gone, counts_one place place refl)))
-                    (λ ne. omega (arith, own.ends p, without_else place p v.rights ne, counts_none place p (λ e. ne (sym e))))
-                    (cases_eq p place);
-                raised = each_without (IsRaised n.run v.pending) place v.rights (raised_as m.run n.run v.pending v.rights same own.raised);
-                pends = subst (λ o. ArePending meaning room m.cell m.next w.looks w.rights o) (sym free) tt;
-                walked = own.walked;
-                awake = inr (awake_has rules room v some_part own.awake);
-              });
-          parts = total_same (λ (h : Hands R). h.parts) views id v w mine refl ∙ k.parts;
-        });
+        by_kinds = subst (λ b. IsSoundBy meaning rules room b (set views id w))
+            (sym (put_run words place x (omega arith))) (record {
+              cells = k.cells;
+              blank = blank_running meaning room m place x (bit_runs (m.run place) 8 (omega (arith, is.runs))) k.blank;
+              rights = rights_suspended room m views id v place mine has k.rights;
+              waits = waits_as meaning room m.cell m.head m.next m.run n.run views (set views id w) same
+                  (handed_same views id v w mine refl) k.waits;
+              promises = k.promises;
+              full = k.full;
+              hands = of_others_set (AreHands meaning rules room m) (AreHands meaning rules room n) views id w
+                  (λ other u ne there h. record {
+                    stays = h.stays;
+                    absence = h.absence;
+                    recorded = h.recorded;
+                    stored =
+                        h.stored;
+                    ends = h.ends;
+                    raised = raised_as m.run n.run u.pending u.rights same h.raised;
+                    pends =
+                        h.pends;
+                    walked = h.walked;
+                    awake = h.awake;
+                  })
+                  k.hands
+                  (record {
+                    stays = stays_beside m.cell m.head m.full v.looks (run_word place) (m.run place) (λ e. omega arith)
+                        (λ p e. omega arith) (λ p e. omega arith) own.stays;
+                    absence = absence_beside meaning room v.looks (run_word place) (m.run place) (λ p e. omega arith)
+                        own.absence;
+                    recorded = own.recorded;
+                    stored = each_without (IsStored m.cost m.node m.who) place v.rights own.stored;
+                    ends = λ p. ⊎_elim
+                        (λ e. subst (λ q. times (λ (c : ℕ). c) q v.claims ≡ times (λ (s : Paused). s.place) q
+                        w.suspensions + times (λ (e : Ended). e.place) q v.done + rights_at q w.rights) (sym e)
+                        (omega (arith, own.ends place, gone, counts_one place place refl)))
+                        (λ ne. omega (
+                          arith,
+                          own.ends p,
+                          without_else place p v.rights ne,
+                          counts_none place p (λ e. ne (sym e)),
+                        ))
+                        (cases_eq p place);
+                    raised = each_without (IsRaised n.run v.pending) place v.rights
+                        (raised_as m.run n.run v.pending v.rights same own.raised);
+                    pends = subst (λ o. ArePending meaning room m.cell m.next w.looks w.rights o) (sym free) tt;
+                    walked = own.walked;
+                    awake = inr (awake_has rules room v some_part own.awake);
+                  });
+              parts = total_same (λ (h : Hands R). h.parts) views id v w mine refl ∙ k.parts;
+            });
         alone = alone_set words views id (run_word place) x v w mine refl sound.alone;
       }
 
-  suspend_at : (slots id : ℕ) (me : Sat R) (place : ℕ) → 0 < me.0.parts → HasRight room me.0.rights place → me.0.pending ≡ None
-      → Allows (Holds meaning_of rules room) slots id me (run_word place) (λ n. bit_and n 18446744073709551359) (Suspends meaning_of (step slots (run_word place) 18446744073709551359 0 none) me)
+  suspend_at : (slots id : ℕ) (me : Sat R) (place : ℕ) → 0 < me.0.parts → HasRight room me.0.rights place
+      → me.0.pending ≡ None
+      → Allows (Holds meaning_of rules room) slots id me (run_word place) (λ n. bit_and n 18446744073709551359)
+      (Suspends meaning_of (step slots (run_word place) 18446744073709551359 0 none) me)
   suspend_at slots id me place some_part has free s sound homes mine fits =
       let found : ℕ = get_or s.words (run_word place) 0 in (
         suspended me.0 place found,
@@ -114,8 +149,11 @@ module _ {R : Type 0} (meaning_of : R → Meaning) (rules : R) (room : ℕ) wher
         },
       )
 
-  pub suspend_allowed : (slots id : ℕ) (me : Sat R) (i place : ℕ) → i ≡ run_word place → 0 < me.0.parts → HasRight room me.0.rights place → me.0.pending ≡ None
-      → Allows (Holds meaning_of rules room) slots id me i (λ n. bit_and n 18446744073709551359) (Suspends meaning_of (step slots i 18446744073709551359 0 none) me)
+  pub suspend_allowed : (slots id : ℕ) (me : Sat R) (i place : ℕ) → i ≡ run_word place → 0 < me.0.parts
+      → HasRight room me.0.rights place → me.0.pending ≡ None
+      → Allows (Holds meaning_of rules room) slots id me i (λ n. bit_and n 18446744073709551359)
+      (Suspends meaning_of (step slots i 18446744073709551359 0 none) me)
   suspend_allowed slots id me i place is some_part has free =
-      subst (λ j. Allows (Holds meaning_of rules room) slots id me j (λ n. bit_and n 18446744073709551359) (Suspends meaning_of (step slots j 18446744073709551359 0 none) me)) (sym is)
+      subst (λ j. Allows (Holds meaning_of rules room) slots id me j (λ n. bit_and n 18446744073709551359)
+      (Suspends meaning_of (step slots j 18446744073709551359 0 none) me)) (sym is)
       (suspend_at slots id me place some_part has free)

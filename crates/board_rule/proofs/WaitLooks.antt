@@ -1,5 +1,6 @@
 -- A look at a child's head for a wait, and one at the first waiter's next word, keep soundness.
-use Rattle.std.proofs.Common.{◌≡◌, ℕ, ◌+◌, ◌*◌, ◌/◌, ◌<◌, ◌≢◌, IsTrue, false, List, ◌∷◌, ◌++◌, Option, Some, get_or, set, sym, refl, ap, subst, ◌∙◌, inl, inr, arith}
+use Rattle.std.proofs.Common.{◌≡◌, ℕ, ◌+◌, ◌*◌, ◌/◌, ◌<◌, ◌≢◌, IsTrue, false, List, ◌∷◌, ◌++◌, Option, Some, get_or}
+use Rattle.std.proofs.Common.{set, sym, refl, ap, subst, ◌∙◌, inl, inr, arith}
 use mathlib.Core.Option.{some, none}
 use lib.ListN.{get_elem?}
 use lib.Seq.{set-get_or}
@@ -20,11 +21,16 @@ use Rattle.board_rule.proofs.Truths.{look_stays, forgets_none}
 use Rattle.board_rule.proofs.Looking.{Holds}
 
 -- rights are raised as before where the waiter of the wait that is being put in is the same
-pub raised_by : (run : ℕ → ℕ) (pending new_pending : Option Pending) (rights : List Claimed) → waiting new_pending ≡ waiting pending
+pub raised_by : (run : ℕ → ℕ) (pending new_pending : Option Pending) (rights : List Claimed)
+    → waiting new_pending ≡ waiting pending
     → Each (IsRaised run pending) rights → Each (IsRaised run new_pending) rights
 raised_by run pending new_pending rights same =
     each_as (IsRaised run pending) (IsRaised run new_pending)
-    (λ r old. record { few = old.few; others = λ b more few. old.others b more few ∙ ap (times (λ (q : ℕ). q) (8 * r.place + b)) (sym same) }) rights
+    (λ r old. record {
+      few = old.few;
+      others = λ b more few. old.others b more few
+          ∙ ap (times (λ (q : ℕ). q) (8 * r.place + b)) (sym same);
+    }) rights
 
 module _ {R : Type 0} (meaning_of : R → Meaning) (rules : R) (room : ℕ) where
   -- a seat after a look, which changed what it knows of its wait and of its walk
@@ -32,12 +38,15 @@ module _ {R : Type 0} (meaning_of : R → Meaning) (rules : R) (room : ℕ) wher
   after_look v word found pending walk = record v { looks = (word, found) ∷ v.looks; pending = pending; walk = walk }
 
   -- a board is sound after such a look
-  pub wait_look_keeps : (words : List ℕ) (views : List (Hands R)) (id : ℕ) (v : Hands R) (word : ℕ) (pending : Option Pending) (walk : Walk)
+  pub wait_look_keeps : (words : List ℕ) (views : List (Hands R)) (id : ℕ) (v : Hands R) (word : ℕ)
+      (pending : Option Pending) (walk : Walk)
       → IsSound (meaning_of rules) rules room words views → get_elem? views id ≡ some v → 0 < v.parts
       → waiting pending ≡ waiting v.pending → walk.waiters ≡ v.walk.waiters
-      → ArePending (meaning_of rules) room (mem words).cell (mem words).next ((word, get_or words word 0) ∷ v.looks) v.rights pending
+      → ArePending (meaning_of rules) room (mem words).cell (mem words).next ((word, get_or words word 0) ∷ v.looks)
+      v.rights pending
       → IsWalked (meaning_of rules) room (mem words).cell (mem words).head (mem words).next walk
-      → IsSound (meaning_of rules) rules room words (set views id (after_look v word (get_or words word 0) pending walk))
+      → IsSound (meaning_of rules) rules room words
+      (set views id (after_look v word (get_or words word 0) pending walk))
   wait_look_keeps words views id v word pending walk sound mine some_part same_waiter same_walk pends walked =
       let meaning : Meaning = meaning_of rules in
       let w : Hands R = after_look v word (get_or words word 0) pending walk in
@@ -49,12 +58,17 @@ module _ {R : Type 0} (meaning_of : R → Meaning) (rules : R) (room : ℕ) wher
           cells = k.cells;
           blank = k.blank;
           rights = rights_stay room (mem words).run (mem words).head views id v w mine (λ p. refl) refl k.rights;
-          waits = waits_stay meaning room (mem words).cell (mem words).head (mem words).next (mem words).run views id v w mine (λ i. same_waiter i ++ same_walk i) k.waits;
+          waits = waits_stay meaning room (mem words).cell (mem words).head (mem words).next (mem words).run views id v
+              w mine (λ i. same_waiter i ++ same_walk i) k.waits;
           promises = k.promises;
           full = k.full;
           hands = of_all_set (AreHands meaning rules room (mem words)) views id w k.hands (record {
             stays = look_stays words word v.looks own.stays;
-            absence = ((λ empty. forgets_none meaning room (mem words) k.promises v.looks own.stays k.cells word (λ p e. ap (λ n. get_or words n 0) e ∙ empty)), own.absence);
+            absence = (
+              (λ empty. forgets_none meaning room (mem words) k.promises v.looks own.stays k.cells word
+                  (λ p e. ap (λ n. get_or words n 0) e ∙ empty)),
+              own.absence,
+            );
             recorded = own.recorded;
             stored = own.stored;
             ends = own.ends;
@@ -69,9 +83,12 @@ module _ {R : Type 0} (meaning_of : R → Meaning) (rules : R) (room : ℕ) wher
       }
 
   -- what is known of a wait once its child's head was seen
-  pub pends_seen : (m : Mem) (looks : List (ℕ × ℕ)) (rights : List Claimed) (pending : Option Pending) (x : Pending) (child found : ℕ) → Stays m.cell m.head m.full looks
-      → MaySee (meaning_of rules) room looks pending x child → ArePending (meaning_of rules) room m.cell m.next looks rights pending
-      → ArePending (meaning_of rules) room m.cell m.next ((head_word child, found) ∷ looks) rights (Some (record { waiter = x.waiter; child = child; seen = Some found; linked = false }))
+  pub pends_seen : (m : Mem) (looks : List (ℕ × ℕ)) (rights : List Claimed) (pending : Option Pending) (x : Pending)
+      (child found : ℕ) → Stays m.cell m.head m.full looks
+      → MaySee (meaning_of rules) room looks pending x child
+      → ArePending (meaning_of rules) room m.cell m.next looks rights pending
+      → ArePending (meaning_of rules) room m.cell m.next ((head_word child, found) ∷ looks) rights
+      (Some (record { waiter = x.waiter; child = child; seen = Some found; linked = false }))
   pends_seen m looks rights pending x child found stays may old =
       let meaning : Meaning = meaning_of rules in
       let was = pending_at meaning room m.cell m.next looks rights pending x may.is old in
@@ -83,15 +100,18 @@ module _ {R : Type 0} (meaning_of : R → Meaning) (rules : R) (room : ℕ) wher
         seen = λ head at. record {
           near = may.near;
           child_goal = subst (λ c. (c ≢ 0) × IsTrue (meaning.goal c)) (sym other) (may.some_other, may.is_goal);
-          is_child = subst (λ g. meaning.child g (m.cell child)) (sym goal) (subst (meaning.child may.goal) (sym other) may.is_child);
+          is_child = subst (λ g. meaning.child g (m.cell child)) (sym goal)
+              (subst (meaning.child may.goal) (sym other) may.is_child);
           was_open = λ linked. let no : ⊥ = cc in absurd no;
           links = λ linked. let no : ⊥ = cc in absurd no;
         };
         looked = λ head at. inl (refl, cc);
       }
 
-  see_at : (slots id : ℕ) (me : Sat R) (x : Pending) (child : ℕ) → 0 < me.0.parts → MaySee (meaning_of rules) room me.0.looks me.0.pending x child
-      → Allows (Holds meaning_of rules room) slots id me (head_word child) (λ n. n) (SeesHead meaning_of (step slots (head_word child) 0 0 none) me)
+  see_at : (slots id : ℕ) (me : Sat R) (x : Pending) (child : ℕ) → 0 < me.0.parts
+      → MaySee (meaning_of rules) room me.0.looks me.0.pending x child
+      → Allows (Holds meaning_of rules room) slots id me (head_word child) (λ n. n)
+      (SeesHead meaning_of (step slots (head_word child) 0 0 none) me)
   see_at slots id me x child some_part may s sound homes mine fits =
       let i : ℕ = head_word child in
       let found : ℕ = get_or s.words i 0 in
@@ -101,9 +121,13 @@ module _ {R : Type 0} (meaning_of : R → Meaning) (rules : R) (room : ℕ) wher
         head_seen v x child found,
         keeps,
         tt,
-        subst (λ (ws : List ℕ). IsSound (meaning_of rules) rules room ws (set s.views id (head_seen v x child found))) (sym (set-get_or s.words i 0))
-            (wait_look_keeps s.words s.views id v i (Some (record { waiter = x.waiter; child = child; seen = Some found; linked = false })) v.walk sound mine some_part
-            (sym (ap waiting may.is)) refl (pends_seen (mem s.words) v.looks v.rights v.pending x child found own.stays may own.pends) own.walked),
+        subst (λ (ws : List ℕ). IsSound (meaning_of rules) rules room ws (set s.views id (head_seen v x child found)))
+            (sym (set-get_or s.words i 0))
+            (wait_look_keeps s.words s.views id v i (Some
+            (record { waiter = x.waiter; child = child; seen = Some found; linked = false })) v.walk sound mine
+            some_part
+            (sym (ap waiting may.is)) refl (pends_seen (mem s.words) v.looks v.rights v.pending x child found own.stays
+            may own.pends) own.walked),
         λ y c is same.
             let one : Some x ≡ Some y = sym may.is ∙ is in
             let ex : x ≡ y = cc in
@@ -115,14 +139,18 @@ module _ {R : Type 0} (meaning_of : R → Meaning) (rules : R) (room : ℕ) wher
       )
 
   -- a load of a child's head, by a seat that puts a wait in
-  pub see_allowed : (slots id : ℕ) (me : Sat R) (i : ℕ) (x : Pending) (child : ℕ) → i ≡ head_word child → 0 < me.0.parts → MaySee (meaning_of rules) room me.0.looks me.0.pending x child
+  pub see_allowed : (slots id : ℕ) (me : Sat R) (i : ℕ) (x : Pending) (child : ℕ) → i ≡ head_word child → 0 < me.0.parts
+      → MaySee (meaning_of rules) room me.0.looks me.0.pending x child
       → Allows (Holds meaning_of rules room) slots id me i (λ n. n) (SeesHead meaning_of (step slots i 0 0 none) me)
   see_allowed slots id me i x child is some_part may =
-      subst (λ j. Allows (Holds meaning_of rules room) slots id me j (λ n. n) (SeesHead meaning_of (step slots j 0 0 none) me)) (sym is) (see_at slots id me x child some_part may)
+      subst (λ j. Allows (Holds meaning_of rules room) slots id me j (λ n. n)
+      (SeesHead meaning_of (step slots j 0 0 none) me)) (sym is) (see_at slots id me x child some_part may)
 
   -- the next word that was read names the waiter after the first
-  walked_read : (m : Mem) (walk : Walk) (waiter : ℕ) (others : List ℕ) → walk.waiters ≡ waiter ∷ others → IsWalked (meaning_of rules) room m.cell m.head m.next walk
-      → IsWalked (meaning_of rules) room m.cell m.head m.next (record { child = walk.child; waiters = walk.waiters; next = Some (m.next waiter) })
+  walked_read : (m : Mem) (walk : Walk) (waiter : ℕ) (others : List ℕ) → walk.waiters ≡ waiter ∷ others
+      → IsWalked (meaning_of rules) room m.cell m.head m.next walk
+      → IsWalked (meaning_of rules) room m.cell m.head m.next
+      (record { child = walk.child; waiters = walk.waiters; next = Some (m.next waiter) })
   walked_read m walk waiter others is old = record {
     chained = old.chained;
     read = λ found at.
@@ -132,8 +160,10 @@ module _ {R : Type 0} (meaning_of : R → Meaning) (rules : R) (room : ℕ) wher
     waited = old.waited;
   }
 
-  read_at : (slots id : ℕ) (me : Sat R) (waiter : ℕ) (others : List ℕ) → 0 < me.0.parts → me.0.walk.waiters ≡ waiter ∷ others
-      → Allows (Holds meaning_of rules room) slots id me (next_word waiter) (λ n. n) (ReadsNext meaning_of (step slots (next_word waiter) 0 0 none) me)
+  read_at : (slots id : ℕ) (me : Sat R) (waiter : ℕ) (others : List ℕ) → 0 < me.0.parts
+      → me.0.walk.waiters ≡ waiter ∷ others
+      → Allows (Holds meaning_of rules room) slots id me (next_word waiter) (λ n. n)
+      (ReadsNext meaning_of (step slots (next_word waiter) 0 0 none) me)
   read_at slots id me waiter others some_part walks s sound homes mine fits =
       let i : ℕ = next_word waiter in
       let found : ℕ = get_or s.words i 0 in
@@ -143,9 +173,12 @@ module _ {R : Type 0} (meaning_of : R → Meaning) (rules : R) (room : ℕ) wher
         next_read v waiter found,
         keeps,
         tt,
-        subst (λ (ws : List ℕ). IsSound (meaning_of rules) rules room ws (set s.views id (next_read v waiter found))) (sym (set-get_or s.words i 0))
-            (wait_look_keeps s.words s.views id v i v.pending (record { child = v.walk.child; waiters = v.walk.waiters; next = Some found }) sound mine some_part
-            refl refl (pending_looked (meaning_of rules) room (mem s.words).cell (mem s.words).next (i, found) v.looks v.rights v.pending own.pends)
+        subst (λ (ws : List ℕ). IsSound (meaning_of rules) rules room ws (set s.views id (next_read v waiter found)))
+            (sym (set-get_or s.words i 0))
+            (wait_look_keeps s.words s.views id v i v.pending
+            (record { child = v.walk.child; waiters = v.walk.waiters; next = Some found }) sound mine some_part
+            refl refl (pending_looked (meaning_of rules) room (mem s.words).cell (mem s.words).next (i, found) v.looks
+            v.rights v.pending own.pends)
             (walked_read (mem s.words) v.walk waiter others walks own.walked)),
         λ q same.
             let e : waiter ≡ q = omega arith in
@@ -156,7 +189,10 @@ module _ {R : Type 0} (meaning_of : R → Meaning) (rules : R) (room : ℕ) wher
       )
 
   -- a load of the first waiter's next word, by the seat that walks
-  pub read_allowed : (slots id : ℕ) (me : Sat R) (i waiter : ℕ) (others : List ℕ) → i ≡ next_word waiter → 0 < me.0.parts → me.0.walk.waiters ≡ waiter ∷ others
+  pub read_allowed : (slots id : ℕ) (me : Sat R) (i waiter : ℕ) (others : List ℕ) → i ≡ next_word waiter
+      → 0 < me.0.parts → me.0.walk.waiters ≡ waiter ∷ others
       → Allows (Holds meaning_of rules room) slots id me i (λ n. n) (ReadsNext meaning_of (step slots i 0 0 none) me)
   read_allowed slots id me i waiter others is some_part walks =
-      subst (λ j. Allows (Holds meaning_of rules room) slots id me j (λ n. n) (ReadsNext meaning_of (step slots j 0 0 none) me)) (sym is) (read_at slots id me waiter others some_part walks)
+      subst (λ j. Allows (Holds meaning_of rules room) slots id me j (λ n. n)
+      (ReadsNext meaning_of (step slots j 0 0 none) me)) (sym is)
+      (read_at slots id me waiter others some_part walks)

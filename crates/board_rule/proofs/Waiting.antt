@@ -1,5 +1,6 @@
 -- A fetch-or that sets the bit of a right's next wait keeps soundness.
-use Rattle.std.proofs.Common.{length-set, ◌≡◌, ℕ, ◌+◌, ◌*◌, ◌/◌, ◌%◌, ◌^◌, ◌<◌, ◌≤◌, ◌≢◌, false, List, [], ◌∷◌, None, Some, bit_or, get_or, set, sym, refl, ap, subst, ◌∙◌, inr, ⊎_elim, arith}
+use Rattle.std.proofs.Common.{length-set, ◌≡◌, ℕ, ◌+◌, ◌*◌, ◌/◌, ◌%◌, ◌^◌, ◌<◌, ◌≤◌, ◌≢◌, false, List, [], ◌∷◌, None}
+use Rattle.std.proofs.Common.{Some, bit_or, get_or, set, sym, refl, ap, subst, ◌∙◌, inr, ⊎_elim, arith}
 use mathlib.Core.Option.{some, none}
 use lib.ListN.{get_elem?}
 use Rattle.std.specs.Int.{bit_at}
@@ -14,7 +15,8 @@ use Rattle.board_rule.specs.Rule.{IsRaised, KeepsRights, KeepsWaits, AreHands, I
 use Rattle.board_rule.specs.May.{HasRight, MayWait, MayBegin}
 use Rattle.board_rule.specs.Plays.{Sat, BeginsWait}
 use Rattle.board_rule.specs.declared.hands.Hands.{Hands}
-use Rattle.board_rule.proofs.Lists.{among_counts, put_here, put_else, put_cases, each_as, total_same, total-set, terms_le}
+use Rattle.board_rule.proofs.Lists.{among_counts, put_here, put_else, put_cases, each_as, total_same, total-set}
+use Rattle.board_rule.proofs.Lists.{terms_le}
 use Rattle.board_rule.proofs.Stores.{put_run}
 use Rattle.board_rule.proofs.Frames.{awake_has, of_others_set, alone_set, moment_of}
 use Rattle.board_rule.proofs.Rights.{rights_at, done_at, bit_runs, held_by, rights_moved}
@@ -24,9 +26,11 @@ use Rattle.board_rule.proofs.Raised.{count_one, count_none, raised_at, raised_el
 use Rattle.board_rule.proofs.Looking.{Holds}
 
 -- a goal of which a wait bit was set is held as before
-rights_begun : {R : Type 0} (room : ℕ) (m : Mem) (views : List (Hands R)) (id : ℕ) (v : Hands R) (place : ℕ) → get_elem? views id ≡ some v → MayWait room v.rights v.pending place
+rights_begun : {R : Type 0} (room : ℕ) (m : Mem) (views : List (Hands R)) (id : ℕ) (v : Hands R) (place : ℕ)
+    → get_elem? views id ≡ some v → MayWait room v.rights v.pending place
     → KeepsRights room m.run m.head views
-    → KeepsRights room (put m.run place (bit_or (m.run place) (2 ^ waits_at place v.rights))) m.head (set views id (wait_begun v place (m.run place)))
+    → KeepsRights room (put m.run place (bit_or (m.run place) (2 ^ waits_at place v.rights))) m.head
+    (set views id (wait_begun v place (m.run place)))
 rights_begun room m views id v place mine may old =
     let b : ℕ = waits_at place v.rights in
     let x : ℕ = bit_or (m.run place) (2 ^ b) in
@@ -35,14 +39,18 @@ rights_begun room m views id v place mine may old =
     let near = may.has.near in
     let was = old place near in
     let is = held_by room m.run m.head views id v place mine may.has old in
-    let h : held (set views id w) place ≡ held views place = total_same (λ (u : Hands _). rights_at place u.rights) views id v w mine refl in
-    let d : ended (set views id w) place ≡ ended views place = total_same (λ (u : Hands _). done_at place u.done) views id v w mine refl in
+    let h : held (set views id w) place ≡ held views place =
+    total_same (λ (u : Hands _). rights_at place u.rights) views id v w mine refl in
+    let d : ended (set views id w) place ≡ ended views place =
+    total_same (λ (u : Hands _). done_at place u.done) views id v w mine refl in
     rights_moved views id v w mine room m.run m.head (put m.run place x) m.head place
     (λ _ _. refl) (λ _ _. refl) (λ p ne. put_else m.run place x p ne) (λ _ _. refl)
     (record {
       once = omega (arith, h, d, was.once);
-      running = ap (λ n. bit_at n 8) (put_here m.run place x) ∙ set_other (m.run place) b 8 (λ e. omega arith) ∙ was.running ∙ omega (arith, h, d);
-      small = λ i high. ap (λ n. bit_at n i) (put_here m.run place x) ∙ set_other (m.run place) b i (λ e. omega arith) ∙ was.small i high;
+      running = ap (λ n. bit_at n 8) (put_here m.run place x) ∙ set_other (m.run place) b 8 (λ e. omega arith)
+          ∙ was.running ∙ omega (arith, h, d);
+      small = λ i high. ap (λ n. bit_at n i) (put_here m.run place x) ∙ set_other (m.run place) b i (λ e. omega arith)
+          ∙ was.small i high;
       closed = λ one. absurd (omega (arith, is.not_ended));
       settled = λ one. absurd (omega (arith, is.not_ended));
       is_open = λ _. is.is_open;
@@ -50,7 +58,8 @@ rights_begun room m views id v place mine may old =
     old
 
 -- the waiter stands in the seat's hands, and its bit is set
-waits_begun : {R : Type 0} (meaning : Meaning) (room : ℕ) (m : Mem) (views : List (Hands R)) (id : ℕ) (v w : Hands R) (place b : ℕ) → get_elem? views id ≡ some v → place < room → b < 8
+waits_begun : {R : Type 0} (meaning : Meaning) (room : ℕ) (m : Mem) (views : List (Hands R)) (id : ℕ) (v w : Hands R)
+    (place b : ℕ) → get_elem? views id ≡ some v → place < room → b < 8
     → bit_at (m.run place) b ≡ 0 → in_hand w.pending w.walk ≡ (8 * place + b) ∷ in_hand v.pending v.walk
     → KeepsWaits meaning room m.cell m.run m.head m.next views
     → KeepsWaits meaning room m.cell (put m.run place (bit_or (m.run place) (2 ^ b))) m.head m.next (set views id w)
@@ -62,7 +71,8 @@ waits_begun meaning room m views id v w place b mine near few unset one_more old
   joined = old.joined;
   once = λ q.
       let hands = total-set (λ (u : Hands _). count q (in_hand u.pending u.walk)) views id v w mine in
-      let more : count q (in_hand w.pending w.walk) ≡ count q ((8 * place + b) ∷ []) + count q (in_hand v.pending v.walk) = ap (count q) one_more ∙ omega arith in
+      let more : count q (in_hand w.pending w.walk) ≡ count q ((8 * place + b) ∷ []) + count q
+      (in_hand v.pending v.walk) = ap (count q) one_more ∙ omega arith in
       let once = old.once q in
       ⊎_elim
       (λ (e : q ≡ 8 * place + b). omega (arith, bits_here q e, zero_here q e, count_one q (8 * place + b) e))
@@ -79,7 +89,8 @@ waits_begun meaning room m views id v w place b mine near few unset one_more old
     bits_here q e =
         let at : q / 8 ≡ place = omega arith in
         let bit : q % 8 ≡ b = omega arith in
-        (λ i. bit_at (put m.run place (bit_or (m.run place) (2 ^ b)) (at i)) (bit i)) ∙ ap (λ n. bit_at n b) (put_here m.run place (bit_or (m.run place) (2 ^ b))) ∙ set_same (m.run place) b
+        (λ i. bit_at (put m.run place (bit_or (m.run place) (2 ^ b)) (at i)) (bit i))
+        ∙ ap (λ n. bit_at n b) (put_here m.run place (bit_or (m.run place) (2 ^ b))) ∙ set_same (m.run place) b
 
     zero_here : (q : ℕ) → q ≡ 8 * place + b → wait_bit m.run q ≡ 0
     zero_here q e =
@@ -87,23 +98,30 @@ waits_begun meaning room m views id v w place b mine near few unset one_more old
         let bit : q % 8 ≡ b = omega arith in
         (λ i. bit_at (m.run (at i)) (bit i)) ∙ unset
 
-    bits_else : (q : ℕ) → q ≢ 8 * place + b → wait_bit (put m.run place (bit_or (m.run place) (2 ^ b))) q ≡ wait_bit m.run q
+    bits_else : (q : ℕ) → q ≢ 8 * place + b → wait_bit (put m.run place (bit_or (m.run place) (2 ^ b))) q ≡ wait_bit
+        m.run q
     bits_else q ne =
         put_cases m.run place (bit_or (m.run place) (2 ^ b)) (q / 8) (λ n. bit_at n (q % 8) ≡ wait_bit m.run q)
-        (λ at. set_other (m.run place) b (q % 8) (λ bit. ne (omega arith)) ∙ ap (λ p. bit_at (m.run p) (q % 8)) (sym at))
+        (λ at. set_other (m.run place) b (q % 8) (λ bit. ne (omega arith))
+        ∙ ap (λ p. bit_at (m.run p) (q % 8)) (sym at))
         (λ _. refl)
 
 -- the rights of the seat, once the bit of a wait of one was set
 raised_begun : (run : ℕ → ℕ) (place b : ℕ) (rights : List Claimed) → b < 8 → Each (IsRaised run None) rights
-    → Each (IsRaised (put run place (bit_or (run place) (2 ^ b))) (Some (record { waiter = 8 * place + b; child = 0; seen = None; linked = false }))) rights
+    → Each (IsRaised (put run place (bit_or (run place) (2 ^ b)))
+    (Some (record { waiter = 8 * place + b; child = 0; seen = None; linked = false }))) rights
 raised_begun run place b rights within =
-    each_as (IsRaised run None) (IsRaised (put run place x) (Some (record { waiter = 8 * place + b; child = 0; seen = None; linked = false })))
+    each_as (IsRaised run None) (IsRaised (put run place x)
+    (Some (record { waiter = 8 * place + b; child = 0; seen = None; linked = false })))
     (λ r old. record {
       few = old.few;
-      others = λ c more few. put_cases run place x r.place (λ n. bit_at n c ≡ count (8 * r.place + c) ((8 * place + b) ∷ []))
+      others = λ c more few. put_cases run place x r.place
+          (λ n. bit_at n c ≡ count (8 * r.place + c) ((8 * place + b) ∷ []))
           (λ at. ⊎_elim
-          (λ same. ap (bit_at x) same ∙ set_same (run place) b ∙ sym (count_one (8 * r.place + c) (8 * place + b) (omega arith)))
-          (λ else. set_other (run place) b c else ∙ ap (λ p. bit_at (run p) c) (sym at) ∙ old.others c more few ∙ sym (count_none (8 * r.place + c) (8 * place + b) (λ e. else (omega arith))))
+          (λ same. ap (bit_at x) same ∙ set_same (run place) b
+          ∙ sym (count_one (8 * r.place + c) (8 * place + b) (omega arith)))
+          (λ else. set_other (run place) b c else ∙ ap (λ p. bit_at (run p) c) (sym at) ∙ old.others c more few
+          ∙ sym (count_none (8 * r.place + c) (8 * place + b) (λ e. else (omega arith))))
           (cases_eq c b))
           (λ ne. old.others c more few ∙ sym (count_none (8 * r.place + c) (8 * place + b) (λ e. ne (omega arith))));
     }) rights
@@ -113,10 +131,12 @@ raised_begun run place b rights within =
 
 module _ {R : Type 0} (meaning_of : R → Meaning) (rules : R) (room : ℕ) where
   -- a board is sound once a seat has set the bit of its right's next wait
-  begin_keeps : (words : List ℕ) (views : List (Hands R)) (id : ℕ) (v : Hands R) (place : ℕ) → IsSound (meaning_of rules) rules room words views → get_elem? views id ≡ some v
+  begin_keeps : (words : List ℕ) (views : List (Hands R)) (id : ℕ) (v : Hands R) (place : ℕ)
+      → IsSound (meaning_of rules) rules room words views → get_elem? views id ≡ some v
       → 0 < v.parts → MayWait room v.rights v.pending place
       → let found = get_or words (run_word place) 0 in
-      IsSound (meaning_of rules) rules room (set words (run_word place) (bit_or found (2 ^ waits_at place v.rights))) (set views id (wait_begun v place found))
+      IsSound (meaning_of rules) rules room (set words (run_word place) (bit_or found (2 ^ waits_at place v.rights)))
+      (set views id (wait_begun v place found))
   begin_keeps words views id v place sound mine some_part may =
       let meaning : Meaning = meaning_of rules in
       let m : Mem = mem words in
@@ -130,67 +150,81 @@ module _ {R : Type 0} (meaning_of : R → Meaning) (rules : R) (room : ℕ) wher
       let within = may.fewer in
       let total_count = sound.count in
       let is = held_by room m.run m.head views id v place mine may.has k.rights in
-      let raised : Each (IsRaised m.run None) v.rights = subst (λ o. Each (IsRaised m.run o) v.rights) may.free own.raised in
-      let unset : bit_at (m.run place) b ≡ 0 = (raised_at m.run None place v.rights may.has.held raised).1 b (omega arith) within in
+      let raised : Each (IsRaised m.run None) v.rights =
+      subst (λ o. Each (IsRaised m.run o) v.rights) may.free own.raised in
+      let unset : bit_at (m.run place) b ≡ 0 =
+      (raised_at m.run None place v.rights may.has.held raised).1 b (omega arith) within in
       let at : (8 * place + b) / 8 ≡ place = omega arith in
       let bit : (8 * place + b) % 8 ≡ b = omega arith in
       record {
         count = length-set words (run_word place) x ∙ total_count;
-        by_kinds = subst (λ k. IsSoundBy meaning rules room k (set views id w)) (sym (put_run words place x (omega arith))) (record {
-          cells = k.cells;
-          blank = blank_running meaning room m place x (bit_runs (m.run place) 8 (omega (arith, is.runs))) k.blank;
-          rights = rights_begun room m views id v place mine may k.rights;
-          waits = waits_begun meaning room m views id v w place b mine near within unset (ap (λ o. (8 * place + b) ∷ in_hand o v.walk) (sym may.free)) k.waits;
-          promises = k.promises;
-          full = k.full;
-          hands = of_others_set (AreHands meaning rules room m) (AreHands meaning rules room n) views id w
-              (λ other u ne there h.
-              let both = terms_le (λ (y : Hands R). rights_at place y.rights) views id other v u ne mine there in
-              record {
-                stays = h.stays;
-                absence = h.absence;
-                recorded = h.recorded;
-                stored = h.stored;
-                ends = h.ends;
-                raised = raised_else m.run n.run place u.pending u.rights (λ p apart. put_else m.run place x p apart) (omega (arith, both, is.held_once, is.right_once)) h.raised;
-                pends = h.pends;
-                walked = h.walked;
-                awake = h.awake;
-              })
-              k.hands
-              (record {
-                stays = stays_beside m.cell m.head m.full v.looks (run_word place) (m.run place) (λ e. omega arith) (λ p e. omega arith) (λ p e. omega arith) own.stays;
-                absence = absence_beside meaning room v.looks (run_word place) (m.run place) (λ p e. omega arith) own.absence;
-                recorded = own.recorded;
-                stored = own.stored;
-                ends = own.ends;
-                raised = raised_begun m.run place b v.rights within raised;
-                pends = record {
-                  has = subst (HasRight room v.rights) (sym at) may.has;
-                  its_wait = ap (λ p. waits_at p v.rights) at ∙ sym bit;
-                  seen = λ head e. let no : ⊥ = cc in absurd no;
-                  looked = λ head e. let no : ⊥ = cc in absurd no;
-                };
-                walked = own.walked;
-                awake = inr (awake_has rules room v some_part own.awake);
-              });
-          parts = total_same (λ (h : Hands R). h.parts) views id v w mine refl ∙ k.parts;
-        });
+        by_kinds = subst (λ k. IsSoundBy meaning rules room k (set views id w))
+            (sym (put_run words place x (omega arith))) (record {
+              cells = k.cells;
+              blank = blank_running meaning room m place x (bit_runs (m.run place) 8 (omega (arith, is.runs))) k.blank;
+              rights = rights_begun room m views id v place mine may k.rights;
+              waits = waits_begun meaning room m views id v w place b mine near within unset
+                  (ap (λ o. (8 * place + b) ∷ in_hand o v.walk) (sym may.free)) k.waits;
+              promises = k.promises;
+              full = k.full;
+              hands = of_others_set (AreHands meaning rules room m) (AreHands meaning rules room n) views id w
+                  (λ other u ne there h.
+                  let both = terms_le (λ (y : Hands R). rights_at place y.rights) views id other v u ne mine there in
+                  record {
+                    stays = h.stays;
+                    absence = h.absence;
+                    recorded = h.recorded;
+                    stored = h.stored;
+                    ends = h.ends;
+                    raised = raised_else m.run n.run place u.pending u.rights (λ p apart. put_else m.run place x p apart)
+                        (omega (arith, both, is.held_once, is.right_once)) h.raised;
+                    pends = h.pends;
+                    walked = h.walked;
+                    awake = h.awake;
+                  })
+                  k.hands
+                  (record {
+                    stays = stays_beside m.cell m.head m.full v.looks (run_word place) (m.run place) (λ e. omega arith)
+                        (λ p e. omega arith) (λ p e. omega arith) own.stays;
+                    absence = absence_beside meaning room v.looks (run_word place) (m.run place) (λ p e. omega arith)
+                        own.absence;
+                    recorded = own.recorded;
+                    stored = own.stored;
+                    ends = own.ends;
+                    raised = raised_begun m.run place b v.rights within raised;
+                    pends = record {
+                      has = subst (HasRight room v.rights) (sym at) may.has;
+                      its_wait = ap (λ p. waits_at p v.rights) at ∙ sym bit;
+                      seen = λ head e. let no : ⊥ = cc in absurd no;
+                      looked = λ head e. let no : ⊥ = cc in absurd no;
+                    };
+                    walked = own.walked;
+                    awake = inr (awake_has rules room v some_part own.awake);
+                  });
+              parts = total_same (λ (h : Hands R). h.parts) views id v w mine refl ∙ k.parts;
+            });
         alone = alone_set words views id (run_word place) x v w mine refl sound.alone;
       }
 
-  begin_at : (slots id : ℕ) (me : Sat R) (r : Claimed) (mask : ℕ) → mask ≡ 2 ^ r.waits → 0 < me.0.parts → MayBegin room me.0.rights me.0.pending r
-      → Allows (Holds meaning_of rules room) slots id me (run_word r.place) (λ n. bit_or n mask) (BeginsWait meaning_of (step slots (run_word r.place) mask 0 none) me)
+  begin_at : (slots id : ℕ) (me : Sat R) (r : Claimed) (mask : ℕ) → mask ≡ 2 ^ r.waits → 0 < me.0.parts
+      → MayBegin room me.0.rights me.0.pending r
+      → Allows (Holds meaning_of rules room) slots id me (run_word r.place) (λ n. bit_or n mask)
+      (BeginsWait meaning_of (step slots (run_word r.place) mask 0 none) me)
   begin_at slots id me r mask is_mask some_part may s sound homes mine fits =
       let found : ℕ = get_or s.words (run_word r.place) 0 in
-      let has : HasRight room me.0.rights r.place = record { near = may.near; held = among_counts (λ (q : Claimed). q.place) me.0.rights r may.held } in
-      let is = held_by room (mem s.words).run (mem s.words).head s.views id me.0 r.place mine has sound.by_kinds.rights in
-      let waits : waits_at r.place me.0.rights ≡ r.waits = waits_known me.0.rights r (omega (arith, is.right_once)) may.held in
-      let full_may : MayWait room me.0.rights me.0.pending r.place = record { has = has; fewer = subst (λ n. n < 8) (sym waits) may.fewer; free = may.free } in (
+      let has : HasRight room me.0.rights r.place =
+      record { near = may.near; held = among_counts (λ (q : Claimed). q.place) me.0.rights r may.held } in
+      let is = held_by room (mem s.words).run (mem s.words).head s.views id me.0 r.place mine has
+      sound.by_kinds.rights in
+      let waits : waits_at r.place me.0.rights ≡ r.waits =
+      waits_known me.0.rights r (omega (arith, is.right_once)) may.held in
+      let full_may : MayWait room me.0.rights me.0.pending r.place =
+      record { has = has; fewer = subst (λ n. n < 8) (sym waits) may.fewer; free = may.free } in (
         wait_begun me.0 r.place found,
         keeps,
         tt,
-        subst (λ k. IsSound (meaning_of rules) rules room (set s.words (run_word r.place) (bit_or found k)) (set s.views id (wait_begun me.0 r.place found))) (ap (λ n. 2 ^ n) waits ∙ sym is_mask)
+        subst (λ k. IsSound (meaning_of rules) rules room (set s.words (run_word r.place) (bit_or found k))
+            (set s.views id (wait_begun me.0 r.place found))) (ap (λ n. 2 ^ n) waits ∙ sym is_mask)
             (begin_keeps s.words s.views id me.0 r.place sound mine some_part full_may),
         λ p same. let e : r.place ≡ p = omega (arith, same) in record {
           hands_are = ap (λ q. (wait_begun me.0 q found, me.1)) e;
@@ -199,8 +233,11 @@ module _ {R : Type 0} (meaning_of : R → Meaning) (rules : R) (room : ℕ) wher
       )
 
   -- the holder of a right sets the bit of its next wait
-  pub begin_allowed : (slots id : ℕ) (me : Sat R) (i : ℕ) (r : Claimed) (mask : ℕ) → i ≡ run_word r.place → mask ≡ 2 ^ r.waits → 0 < me.0.parts → MayBegin room me.0.rights me.0.pending r
-      → Allows (Holds meaning_of rules room) slots id me i (λ n. bit_or n mask) (BeginsWait meaning_of (step slots i mask 0 none) me)
+  pub begin_allowed : (slots id : ℕ) (me : Sat R) (i : ℕ) (r : Claimed) (mask : ℕ) → i ≡ run_word r.place
+      → mask ≡ 2 ^ r.waits → 0 < me.0.parts → MayBegin room me.0.rights me.0.pending r
+      → Allows (Holds meaning_of rules room) slots id me i (λ n. bit_or n mask)
+      (BeginsWait meaning_of (step slots i mask 0 none) me)
   begin_allowed slots id me i r mask is is_mask some_part may =
-      subst (λ j. Allows (Holds meaning_of rules room) slots id me j (λ n. bit_or n mask) (BeginsWait meaning_of (step slots j mask 0 none) me)) (sym is)
+      subst (λ j. Allows (Holds meaning_of rules room) slots id me j (λ n. bit_or n mask)
+      (BeginsWait meaning_of (step slots j mask 0 none) me)) (sym is)
       (begin_at slots id me r mask is_mask some_part may)

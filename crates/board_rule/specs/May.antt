@@ -27,8 +27,10 @@ pub record HasRight (room : ℕ) (rights : List Claimed) (place : ℕ) : Type 0 
   pub near : place < room
   pub held : 1 ≤ times (λ (r : Claimed). r.place) place rights
 
--- the seat has the right to the goal, without waits, and stored its answer and a worker; its looks show the goal's promise
-pub record MayClose (meaning : Meaning) (room : ℕ) (looks : List (ℕ × ℕ)) (rights : List Claimed) (place worker cost node : ℕ) : Type 0 where
+-- the seat has the right to the goal, without waits, and stored its answer and a worker; its looks show the goal's
+-- promise
+pub record MayClose (meaning : Meaning) (room : ℕ) (looks : List (ℕ × ℕ)) (rights : List Claimed)
+    (place worker cost node : ℕ) : Type 0 where
   pub near : place < room
   pub stored : Among rights (answered_right place worker cost node)
   pub few : worker < 64
@@ -53,7 +55,8 @@ pub record MayBegin (room : ℕ) (rights : List Claimed) (pending : Option Pendi
   pub free : pending ≡ None
 
 -- the seat puts a wait in, and its looks found the waiter's goal and a child of it in cells
-pub record MaySee (meaning : Meaning) (room : ℕ) (looks : List (ℕ × ℕ)) (pending : Option Pending) (x : Pending) (child : ℕ) : Type 0 where
+pub record MaySee (meaning : Meaning) (room : ℕ) (looks : List (ℕ × ℕ)) (pending : Option Pending) (x : Pending)
+    (child : ℕ) : Type 0 where
   pub is : pending ≡ Some x
   pub near : child < room
   pub goal : ℕ

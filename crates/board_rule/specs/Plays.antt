@@ -9,7 +9,9 @@ use Rattle.board_rule.specs.Records.{Pending}
 use Rattle.board_rule.specs.Waiters.{head_of}
 use Rattle.board_rule.specs.Rule.{IsSound}
 use Rattle.board_rule.specs.declared.hands.Hands.{Hands}
-use Rattle.board_rule.specs.Seats.{Among, Each, answered_right, looked, placed, claimed, suspended, finished, cost_stored, node_stored, who_stored, filled, wait_begun, head_seen, next_stored, wait_put, next_read, bit_cleared, wait_dropped}
+use Rattle.board_rule.specs.Seats.{Among, Each, answered_right, looked, placed, claimed, suspended, finished}
+use Rattle.board_rule.specs.Seats.{cost_stored, node_stored, who_stored, filled, wait_begun, head_seen, next_stored}
+use Rattle.board_rule.specs.Seats.{wait_put, next_read, bit_cleared, wait_dropped}
 
 -- a seat as the base has it: its hands, and no slot
 abbrev pub Sat : Type 0 → Type 0
@@ -55,30 +57,37 @@ module _ {R : Type 0} (meaning_of : R → Meaning) where
 
   -- a compare-exchange of a cell from 0 to an entry
   abbrev pub Puts : Told
-  Puts s before found after = (place : ℕ) → s.word ≡ cell_word place → TellsTry before after (placed before.0 place s.second) s.word found
+  Puts s before found after = (place : ℕ) → s.word ≡ cell_word place
+      → TellsTry before after (placed before.0 place s.second) s.word found
 
   -- a compare-exchange of a run word from 0 to 256
   abbrev pub Claims : Told
-  Claims s before found after = (place : ℕ) → s.word ≡ run_word place → TellsTry before after (claimed before.0 place) s.word found
+  Claims s before found after = (place : ℕ) → s.word ≡ run_word place
+      → TellsTry before after (claimed before.0 place) s.word found
 
   -- the held bit is cleared
   abbrev pub Suspends : Told
-  Suspends s before found after = (place : ℕ) → s.word ≡ run_word place → Tells before after (suspended before.0 place found) s.word found
+  Suspends s before found after = (place : ℕ) → s.word ≡ run_word place
+      → Tells before after (suspended before.0 place found) s.word found
 
   -- a head is closed
   abbrev pub Closes : Told
-  Closes s before found after = (place worker cost node : ℕ) → s.word ≡ head_word place → Among before.0.rights (answered_right place worker cost node)
+  Closes s before found after = (place worker cost node : ℕ) → s.word ≡ head_word place
+      → Among before.0.rights (answered_right place worker cost node)
       → ClosesList before after place worker cost node s.word found
 
   -- stores of the answer
   abbrev pub StoresCost : Told
-  StoresCost s before found after = (place : ℕ) → s.word ≡ cost_word place → after ≡ (cost_stored before.0 place s.first, before.1)
+  StoresCost s before found after = (place : ℕ) → s.word ≡ cost_word place
+      → after ≡ (cost_stored before.0 place s.first, before.1)
 
   abbrev pub StoresNode : Told
-  StoresNode s before found after = (place : ℕ) → s.word ≡ node_word place → after ≡ (node_stored before.0 place s.first, before.1)
+  StoresNode s before found after = (place : ℕ) → s.word ≡ node_word place
+      → after ≡ (node_stored before.0 place s.first, before.1)
 
   abbrev pub StoresWho : Told
-  StoresWho s before found after = (place : ℕ) → s.word ≡ who_word place → after ≡ (who_stored before.0 place s.first, before.1)
+  StoresWho s before found after = (place : ℕ) → s.word ≡ who_word place
+      → after ≡ (who_stored before.0 place s.first, before.1)
 
   -- the full word is set
   abbrev pub Fills : Told
@@ -86,7 +95,8 @@ module _ {R : Type 0} (meaning_of : R → Meaning) where
 
   -- the bit of the right's next wait is set
   abbrev pub BeginsWait : Told
-  BeginsWait s before found after = (place : ℕ) → s.word ≡ run_word place → Tells before after (wait_begun before.0 place found) s.word found
+  BeginsWait s before found after = (place : ℕ) → s.word ≡ run_word place
+      → Tells before after (wait_begun before.0 place found) s.word found
 
   -- a load of a child's head, for the wait that is being put in
   abbrev pub SeesHead : Told
@@ -95,22 +105,28 @@ module _ {R : Type 0} (meaning_of : R → Meaning) where
 
   -- a store of the waiter's next word, for the head last seen
   abbrev pub StoresNext : Told
-  StoresNext s before found after = (x : Pending) (head : ℕ) → before.0.pending ≡ Some x → x.seen ≡ Some head → after ≡ (next_stored before.0 x head, before.1)
+  StoresNext s before found after = (x : Pending) (head : ℕ) → before.0.pending ≡ Some x → x.seen ≡ Some head
+      → after ≡ (next_stored before.0 x head, before.1)
 
   -- a compare-exchange of the child's head, from the one last seen to one with one waiter more
   pub record PutsWait (s : Step Unit) (before : Sat R) (found : ℕ) (after : Sat R) : Type 0 where
-    pub hit : (x : Pending) → before.0.pending ≡ Some x → x.seen ≡ Some s.first → found ≡ s.first → after ≡ (wait_put before.0 x s.first, before.1)
-    pub miss : (x : Pending) → before.0.pending ≡ Some x → found ≢ s.first → after ≡ (head_seen before.0 x x.child found, before.1)
+    pub hit : (x : Pending) → before.0.pending ≡ Some x → x.seen ≡ Some s.first → found ≡ s.first
+        → after ≡ (wait_put before.0 x s.first, before.1)
+    pub miss : (x : Pending) → before.0.pending ≡ Some x → found ≢ s.first
+        → after ≡ (head_seen before.0 x x.child found, before.1)
     pub moment : Moment before.0 s.word found
 
   -- a load of the first waiter's next word
   abbrev pub ReadsNext : Told
-  ReadsNext s before found after = (waiter : ℕ) → s.word ≡ next_word waiter → Tells before after (next_read before.0 waiter found) s.word found
+  ReadsNext s before found after = (waiter : ℕ) → s.word ≡ next_word waiter
+      → Tells before after (next_read before.0 waiter found) s.word found
 
   -- the bit of the first waiter is cleared, by the seat that walks
   abbrev pub ClearsBit : Told
-  ClearsBit s before found after = (waiter : ℕ) (others : List ℕ) → before.0.walk.waiters ≡ waiter ∷ others → Tells before after (bit_cleared before.0 waiter found) s.word found
+  ClearsBit s before found after = (waiter : ℕ) (others : List ℕ) → before.0.walk.waiters ≡ waiter ∷ others
+      → Tells before after (bit_cleared before.0 waiter found) s.word found
 
   -- the bit of the wait that was being put in is cleared, as its child is finished
   abbrev pub DropsWait : Told
-  DropsWait s before found after = (x : Pending) → before.0.pending ≡ Some x → Tells before after (wait_dropped before.0 x found) s.word found
+  DropsWait s before found after = (x : Pending) → before.0.pending ≡ Some x
+      → Tells before after (wait_dropped before.0 x found) s.word found

@@ -1,4 +1,5 @@
--- What a seat keeps of the goals that it claimed, of those that it finished, and of waiters. A waiter is 8 times its goal's place, plus the number of its wait.
+-- What a seat keeps of the goals that it claimed, of those that it finished, and of waiters. A waiter is 8 times its
+-- goal's place, plus the number of its wait.
 use Rattle.std.specs.Prelude.{ℕ, Bool, List, Option, refl}
 use Rattle.std.specs.Coded.{Coded, code_by, coded_ℕ, coded_bool, coded_list, coded×, coded_option}
 
@@ -22,14 +23,16 @@ pub record Ended : Type 0 where
   pub cost : ℕ
   pub node : ℕ
 
--- a wait that is being put in: the waiter, the child's head as last seen, the child's place then, and whether the waiter's next word was stored for that head
+-- a wait that is being put in: the waiter, the child's head as last seen, the child's place then, and whether the
+-- waiter's next word was stored for that head
 pub record Pending : Type 0 where
   pub waiter : ℕ
   pub child : ℕ
   pub seen : Option ℕ
   pub linked : Bool
 
--- what is left of a list that was closed: the child's place, the waiters, and the first one's next word once it was read
+-- what is left of a list that was closed: the child's place, the waiters, and the first one's next word once it was
+-- read
 pub record Walk : Type 0 where
   pub child : ℕ
   pub waiters : List ℕ
@@ -40,13 +43,15 @@ Known = Option ℕ
 
 abbrev pub claimed_coded : Coded Claimed
 claimed_coded = code_by (ℕ × (ℕ × (Known × (Known × Known))))
-    (coded× coded_ℕ (coded× coded_ℕ (coded× (coded_option coded_ℕ) (coded× (coded_option coded_ℕ) (coded_option coded_ℕ)))))
+    (coded× coded_ℕ (coded× coded_ℕ (coded× (coded_option coded_ℕ)
+    (coded× (coded_option coded_ℕ) (coded_option coded_ℕ)))))
     (λ r. (r.place, (r.waits, (r.cost, (r.node, r.who)))))
     (λ t. record { place = t.0; waits = t.1.0; cost = t.1.1.0; node = t.1.1.1.0; who = t.1.1.1.1 })
     (λ _. refl)
 
 abbrev pub paused_coded : Coded Paused
-paused_coded = code_by (ℕ × ℕ) (coded× coded_ℕ coded_ℕ) (λ p. (p.place, p.waits)) (λ t. record { place = t.0; waits = t.1 }) (λ _. refl)
+paused_coded = code_by (ℕ × ℕ) (coded× coded_ℕ coded_ℕ) (λ p. (p.place, p.waits))
+    (λ t. record { place = t.0; waits = t.1 }) (λ _. refl)
 
 abbrev pub ended_coded : Coded Ended
 ended_coded = code_by (ℕ × (ℕ × (ℕ × ℕ))) (coded× coded_ℕ (coded× coded_ℕ (coded× coded_ℕ coded_ℕ)))
@@ -55,7 +60,8 @@ ended_coded = code_by (ℕ × (ℕ × (ℕ × ℕ))) (coded× coded_ℕ (coded×
     (λ _. refl)
 
 abbrev pub pending_coded : Coded Pending
-pending_coded = code_by (ℕ × (ℕ × (Known × Bool))) (coded× coded_ℕ (coded× coded_ℕ (coded× (coded_option coded_ℕ) coded_bool)))
+pending_coded = code_by (ℕ × (ℕ × (Known × Bool)))
+    (coded× coded_ℕ (coded× coded_ℕ (coded× (coded_option coded_ℕ) coded_bool)))
     (λ x. (x.waiter, (x.child, (x.seen, x.linked))))
     (λ t. record { waiter = t.0; child = t.1.0; seen = t.1.1.0; linked = t.1.1.1 })
     (λ _. refl)

@@ -1,5 +1,7 @@
--- Soundness: what holds of a board's words and of the hands of all its seats between any two steps, one topic after the other.
-use Rattle.std.specs.Prelude.{◌≡◌, ◌≢◌, ◌⊎◌, ℕ, ◌+◌, ◌*◌, ◌/◌, ◌%◌, ◌^◌, ◌<◌, ◌≤◌, true, List, [], length, IsTrue, Option, None, Some}
+-- Soundness: what holds of a board's words and of the hands of all its seats between any two steps, one topic after the
+-- other.
+use Rattle.std.specs.Prelude.{◌≡◌, ◌≢◌, ◌⊎◌, ℕ, ◌+◌, ◌*◌, ◌/◌, ◌%◌, ◌^◌, ◌<◌, ◌≤◌, true, List, [], length, IsTrue}
+use Rattle.std.specs.Prelude.{Option, None, Some}
 use Rattle.std.specs.Int.{bit_at}
 use mathlib.Core.Option.{some}
 use lib.ListN.{get_elem?}
@@ -67,7 +69,8 @@ held views p = total (λ v. times (λ (r : Claimed). r.place) p v.rights) views
 abbrev pub ended : {R : Type 0} → List (Hands R) → ℕ → ℕ
 ended views p = total (λ v. times (λ (e : Ended). e.place) p v.done) views
 
--- what the run word and the head of a place say: its goal is held, or finished, where it stands in one seat's rights, or done, once
+-- what the run word and the head of a place say: its goal is held, or finished, where it stands in one seat's rights,
+-- or done, once
 pub record AreRights {R : Type 0} (run head : ℕ → ℕ) (views : List (Hands R)) (p : ℕ) : Type 0 where
   pub once : held views p + ended views p ≤ 1
   pub running : bit_at (run p) 8 ≡ held views p + ended views p
@@ -83,9 +86,11 @@ KeepsRights room run head views = (p : ℕ) → p < room → AreRights run head 
 -- the waits that a right has not got have no bit set, but for the one that is being put in
 pub record IsRaised (run : ℕ → ℕ) (pending : Option Pending) (r : Claimed) : Type 0 where
   pub few : r.waits ≤ 8
-  pub others : (b : ℕ) → r.waits ≤ b → b < 8 → bit_at (run r.place) b ≡ times (λ (q : ℕ). q) (8 * r.place + b) (waiting pending)
+  pub others : (b : ℕ) → r.waits ≤ b → b < 8
+      → bit_at (run r.place) b ≡ times (λ (q : ℕ). q) (8 * r.place + b) (waiting pending)
 
--- the head that was seen is that of a child of the waiter's goal; where it is linked, it was open, and the waiter's next word names its first waiter
+-- the head that was seen is that of a child of the waiter's goal; where it is linked, it was open, and the waiter's
+-- next word names its first waiter
 pub record IsSeen (meaning : Meaning) (room : ℕ) (cell next : ℕ → ℕ) (x : Pending) (head : ℕ) : Type 0 where
   pub near : x.child < room
   pub child_goal : HoldsGoal meaning room cell x.child
@@ -94,7 +99,8 @@ pub record IsSeen (meaning : Meaning) (room : ℕ) (cell next : ℕ → ℕ) (x 
   pub links : x.linked ≡ true → next x.waiter ≡ head % 2 ^ 24
 
 -- a wait that is being put in is the next one of a right of the seat
-pub record IsPending (meaning : Meaning) (room : ℕ) (cell next : ℕ → ℕ) (looks : List (ℕ × ℕ)) (rights : List Claimed) (x : Pending) : Type 0 where
+pub record IsPending (meaning : Meaning) (room : ℕ) (cell next : ℕ → ℕ) (looks : List (ℕ × ℕ)) (rights : List Claimed)
+    (x : Pending) : Type 0 where
   pub has : HasRight room rights (x.waiter / 8)
   pub its_wait : waits_at (x.waiter / 8) rights ≡ x.waiter % 8
   pub seen : (head : ℕ) → x.seen ≡ Some head → IsSeen meaning room cell next x head
@@ -117,13 +123,15 @@ pub record IsWalked (meaning : Meaning) (room : ℕ) (cell head next : ℕ → �
   pub waited : Each (WaitedFor meaning room cell head walk.child) walk.waiters
 
 -- waits: there is, for each place, the list of its waiters; each wait bit that is set stands once in a list or a hand
-pub record KeepsWaits {R : Type 0} (meaning : Meaning) (room : ℕ) (cell run head next : ℕ → ℕ) (views : List (Hands R)) : Type 0 where
+pub record KeepsWaits {R : Type 0} (meaning : Meaning) (room : ℕ) (cell run head next : ℕ → ℕ)
+    (views : List (Hands R)) : Type 0 where
   pub lists : ℕ → List ℕ
   pub none_left : (c : ℕ) → c < room → 2 ^ 63 ≤ head c → lists c ≡ []
   pub heads : (c : ℕ) → c < room → head c < 2 ^ 63 → head c ≡ head_of (lists c)
   pub chains : (c : ℕ) → c < room → IsChain next (lists c)
   pub joined : (c : ℕ) → c < room → Each (λ q. meaning.child (cell (q / 8)) (cell c)) (lists c)
-  pub once : (q : ℕ) → below (λ c. times (λ (p : ℕ). p) q (lists c)) room + total (λ v. times (λ (p : ℕ). p) q (in_hand v.pending v.walk)) views ≡ wait_bit run q
+  pub once : (q : ℕ) → below (λ c. times (λ (p : ℕ). p) q (lists c)) room + total
+      (λ v. times (λ (p : ℕ). p) q (in_hand v.pending v.walk)) views ≡ wait_bit run q
   pub near : (q : ℕ) → 1 ≤ wait_bit run q → q / 8 < room
 
 -- what was seen stays: a taken cell, a closed head, the number of an open head's waiters, the set full word
@@ -150,7 +158,8 @@ pub record IsStored (cost node who : ℕ → ℕ) (r : Claimed) : Type 0 where
 -- each claim is one of the seat's suspensions, done and rights
 abbrev pub EndsClaims : {R : Type 0} → Hands R → Type 0
 EndsClaims v = (p : ℕ) → times (λ (c : ℕ). c) p v.claims
-    ≡ times (λ (s : Paused). s.place) p v.suspensions + times (λ (e : Ended). e.place) p v.done + times (λ (r : Claimed). r.place) p v.rights
+    ≡ times (λ (s : Paused). s.place) p v.suspensions + times (λ (e : Ended). e.place) p v.done + times
+    (λ (r : Claimed). r.place) p v.rights
 
 -- a seat that is not spent has a part, the board's rules and its room
 abbrev pub IsAwake : {R : Type 0} → R → ℕ → Hands R → Type 0
@@ -178,18 +187,20 @@ pub record KeepsAlone {R : Type 0} (words : List ℕ) (views : List (Hands R)) (
   pub only : (kept : List ℕ) → v.alone ≡ Some kept → length views ≡ 1
 
 -- soundness but for what seats that are alone keep: of the words by their kinds, and the hands of all seats
-pub record IsSoundBy {R : Type 0} (meaning : Meaning) (rules : R) (room : ℕ) (m : Mem) (views : List (Hands R)) : Type 0 where
-  pub cells : AreCells meaning room m.cell
-  pub blank : KeepsBlank meaning room m
-  pub rights : KeepsRights room m.run m.head views
-  pub waits : KeepsWaits meaning room m.cell m.run m.head m.next views
-  pub promises : KeepsPromises meaning room m.cell m.head m.cost m.node
-  pub full : m.full ≢ 0 → IsFull meaning room m.cell
-  pub hands : OfAll (AreHands meaning rules room m) views
-  pub parts : total (λ v. v.parts) views ≡ 64
+pub record IsSoundBy {R : Type 0} (meaning : Meaning) (rules : R) (room : ℕ) (m : Mem) (views : List (Hands R)) : Type 0
+  where
+    pub cells : AreCells meaning room m.cell
+    pub blank : KeepsBlank meaning room m
+    pub rights : KeepsRights room m.run m.head views
+    pub waits : KeepsWaits meaning room m.cell m.run m.head m.next views
+    pub promises : KeepsPromises meaning room m.cell m.head m.cost m.node
+    pub full : m.full ≢ 0 → IsFull meaning room m.cell
+    pub hands : OfAll (AreHands meaning rules room m) views
+    pub parts : total (λ v. v.parts) views ≡ 64
 
 -- soundness
-pub record IsSound {R : Type 0} (meaning : Meaning) (rules : R) (room : ℕ) (words : List ℕ) (views : List (Hands R)) : Type 0 where
+pub record IsSound {R : Type 0} (meaning : Meaning) (rules : R) (room : ℕ) (words : List ℕ) (views : List (Hands R)) :
+    Type 0 where
   pub count : length words ≡ 14 * room + 1
   pub by_kinds : IsSoundBy meaning rules room (mem words) views
   pub alone : OfAll (KeepsAlone words views) views

@@ -1,5 +1,6 @@
 -- What each kind of step does to the hands of the seat that makes it.
-use Rattle.std.specs.Prelude.{◌≡◌, ◌==◌, ℕ, ◌+◌, ◌-◌, ◌*◌, ◌/◌, ◌%◌, ◌^◌, Bool, false, true, not, ◌&&◌, ◌||◌, bit_or, List, [], ◌∷◌, ◌++◌, map, cond, Option, None, Some, slice_set, replicate, ◌⊎◌}
+use Rattle.std.specs.Prelude.{◌≡◌, ◌==◌, ℕ, ◌+◌, ◌-◌, ◌*◌, ◌/◌, ◌%◌, ◌^◌, Bool, false, true, not, ◌&&◌, ◌||◌, bit_or}
+use Rattle.std.specs.Prelude.{List, [], ◌∷◌, ◌++◌, map, cond, Option, None, Some, slice_set, replicate, ◌⊎◌}
 use Rattle.board_rule.specs.Records.{Claimed, Pending, Walk}
 use Rattle.board_rule.specs.Words.{full_word, cell_word, run_word, head_word, cost_word, node_word, who_word, next_word}
 use Rattle.board_rule.specs.Waiters.{waiting, rest_of, no_walk, head_of, pushed, cleared}
@@ -31,7 +32,14 @@ fresh_right place = record { place = place; waits = 0; cost = None; node = None;
 
 -- a right without waits whose answer words are stored
 abbrev pub answered_right : ℕ → ℕ → ℕ → ℕ → Claimed
-answered_right place worker cost node = record { place = place; waits = 0; cost = Some cost; node = Some node; who = Some (worker + 1) }
+answered_right place worker cost node = record {
+  place = place;
+  waits = 0;
+  cost = Some cost;
+  node = Some node;
+  who =
+      Some (worker + 1);
+}
 
 abbrev pub without : ℕ → List Claimed → List Claimed
 without place [] = []
@@ -66,7 +74,8 @@ in_hand pending walk = waiting pending ++ walk.waiters
 
 -- a look that stays true: a taken cell, a head, the set full word
 abbrev pub lasts : ℕ × ℕ → Bool
-lasts look = ((look.0 == full_word) && not (look.1 == 0)) || (((look.0 % 14 == 1) && not (look.1 == 0)) || (look.0 % 14 == 3))
+lasts look = ((look.0 == full_word) && not (look.1 == 0))
+    || (((look.0 % 14 == 1) && not (look.1 == 0)) || (look.0 % 14 == 3))
 
 abbrev pub lasting : List (ℕ × ℕ) → List (ℕ × ℕ)
 lasting [] = []

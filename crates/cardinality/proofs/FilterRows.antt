@@ -1,5 +1,6 @@
 -- The rows of one table with its own predicates.
-use Rattle.std.proofs.Common.{◌≡◌, ℕ, zero, suc, ◌*◌, ◌<◌, ◌≤◌, ◌^◌, Bool, true, false, ◌&&◌, ◌||◌, List, [], ◌∷◌, length, refl, ap, ◌∙◌, arith, inl, inr, IsTrue}
+use Rattle.std.proofs.Common.{◌≡◌, ℕ, zero, suc, ◌*◌, ◌<◌, ◌≤◌, ◌^◌, Bool, true, false, ◌&&◌, ◌||◌, List, [], ◌∷◌}
+use Rattle.std.proofs.Common.{length, refl, ap, ◌∙◌, arith, inl, inr, IsTrue}
 use Rattle.std.specs.Prelude.{nat_le, ◌==◌, slice_get, if◌then◌else◌}
 use Rattle.std.specs.List.{fold, list_all}
 use Rattle.std.specs.Option.{option_map_or}
@@ -16,7 +17,8 @@ use Rattle.query_core.specs.declared.predicate.Operand as operands
 use Rattle.query_core.specs.declared.predicate.Operand.{Operand}
 use Rattle.query_core.specs.declared.query.Query.{Query}
 use Rattle.cardinality.specs.Divisor.{divisor_of}
-use Rattle.cardinality.specs.Rows.{capped, table_rows, is_column_so_far, is_right_so_far, is_right_of, applies, rows_after, rows_with, rows_upto, joined_rows, own_rows}
+use Rattle.cardinality.specs.Rows.{capped, table_rows, is_column_so_far, is_right_so_far, is_right_of, applies}
+use Rattle.cardinality.specs.Rows.{rows_after, rows_with, rows_upto, joined_rows, own_rows}
 
 -- the set of one table has it
 one_has : (t : ℕ) → bit (2 ^ t) t ≡ 1
@@ -35,12 +37,14 @@ so_far_same t u = elim (cases_eq u t) [
   | inr other ↦ rw (one_only t u other, ne_eqb u t other) refl
 ]
 
-column_so_far : (items : List Item) (t number : ℕ) → is_column_so_far items (2 ^ t) t number ≡ is_column_of items t number
+column_so_far : (items : List Item) (t number : ℕ)
+    → is_column_so_far items (2 ^ t) t number ≡ is_column_of items t number
 column_so_far [] t number = refl
 column_so_far (item ∷ items) t zero = so_far_same t item.table
 column_so_far (item ∷ items) t (suc number) = column_so_far items t number
 
-right_so_far : (items : List Item) (t : ℕ) (right : Operand) → is_right_so_far items (2 ^ t) t right ≡ lies_in items t right
+right_so_far : (items : List Item) (t : ℕ) (right : Operand)
+    → is_right_so_far items (2 ^ t) t right ≡ lies_in items t right
 right_so_far items t (operands.TheVariants.Item number) = column_so_far items t number
 right_so_far items t (operands.TheVariants.Int value) = refl
 right_so_far items t (operands.TheVariants.Str text) = refl
@@ -58,15 +62,18 @@ applies_own items t pred =
     (over_left (is_column_of items t pred.left) (is_right_of items t pred.right) (lies_in items t pred.right))
 
 folds_same : (items : List Item) (t rows : ℕ) (preds : List Pred)
-    → fold (rows_after items (2 ^ t) t) rows preds ≡ fold (λ rows pred. if is_own items t pred then div_ceil rows (divisor_of items pred) else rows) rows preds
+    → fold (rows_after items (2 ^ t) t) rows preds ≡ fold
+    (λ rows pred. if is_own items t pred then div_ceil rows (divisor_of items pred) else rows) rows preds
 folds_same items t rows [] = refl
 folds_same items t rows (pred ∷ preds) =
-    rw (applies_own items t pred) (folds_same items t (if is_own items t pred then div_ceil rows (divisor_of items pred) else rows) preds)
+    rw (applies_own items t pred) (folds_same items t
+    (if is_own items t pred then div_ceil rows (divisor_of items pred) else rows) preds)
 
 -- before its turn the table hasn't joined
 rows_before : (q : Query) (t k : ℕ) → k ≤ t → rows_upto q (2 ^ t) k ≡ 1
 rows_before q t zero below = refl
-rows_before q t (suc k) below = rw (one_only t k (λ same. omega (arith, same, below))) (rows_before q t k (omega (arith, below)))
+rows_before q t (suc k) below = rw (one_only t k (λ same. omega (arith, same, below)))
+    (rows_before q t k (omega (arith, below)))
 
 -- after it no other joins
 rows_since : (q : Query) (t k : ℕ) → t < k → rows_upto q (2 ^ t) k ≡ rows_with q (2 ^ t) t 1
@@ -86,7 +93,9 @@ rows_fit (table ∷ tables) (suc t) all = rows_fit tables t (and_parts _ _ all).
 -- the join of one table is what its own predicates leave of it
 pub one_table : (q : Query) (t : ℕ) → t < length q.tables → joined_rows q (2 ^ t) ≡ own_rows q t
 one_table q t there =
-    let whole : capped (1 * table_rows q t) ≡ table_rows q t = omega (arith, rows_fit q.tables t q.tables_valid.rows_fit) in
+    let whole : capped (1 * table_rows q t) ≡ table_rows q t =
+    omega (arith, rows_fit q.tables t q.tables_valid.rows_fit) in
     rows_since q t (length q.tables) there
     ∙ folds_same q.items t (capped (1 * table_rows q t)) q.preds
-    ∙ ap (λ rows. fold (λ rows pred. if is_own q.items t pred then div_ceil rows (divisor_of q.items pred) else rows) rows q.preds) whole
+    ∙ ap (λ rows. fold (λ rows pred. if is_own q.items t pred then div_ceil rows (divisor_of q.items pred) else rows)
+    rows q.preds) whole

@@ -1,5 +1,6 @@
 -- The estimated rows of a group, which depend on its key alone.
-use Rattle.std.specs.Prelude.{ℕ, zero, suc, Bool, true, false, List, ◌&&◌, ◌||◌, ◌==◌, ◌*◌, ◌^◌, min, length, nat_le, slice_get, if◌then◌else◌}
+use Rattle.std.specs.Prelude.{ℕ, zero, suc, Bool, true, false, List, ◌&&◌, ◌||◌, ◌==◌, ◌*◌, ◌^◌, min, length, nat_le}
+use Rattle.std.specs.Prelude.{slice_get, if◌then◌else◌}
 use Rattle.std.specs.Int.{div_ceil}
 use Rattle.std.specs.List.{fold}
 use Rattle.std.specs.Option.{option_map_or}
@@ -25,7 +26,8 @@ table_rows q t = option_map_or (λ table. table.rows) (slice_get q.tables t) 0
 
 -- the item is a column of one of the set's tables up to this one
 abbrev pub is_column_so_far : List Item → ℕ → ℕ → ℕ → Bool
-is_column_so_far items set t number = option_map_or (λ item. (bit set item.table == 1) && nat_le item.table t) (slice_get items number) false
+is_column_so_far items set t number = option_map_or (λ item. (bit set item.table == 1) && nat_le item.table t)
+    (slice_get items number) false
 
 -- a right side that is a column of the table
 abbrev pub is_right_of : List Item → ℕ → Operand → Bool
@@ -43,9 +45,11 @@ is_right_so_far items set t (operands.TheVariants.Item number) = is_column_so_fa
 is_right_so_far items set t (operands.TheVariants.Int value) = true
 is_right_so_far items set t (operands.TheVariants.Str text) = true
 
--- the predicate applies when the table joins those before it: it has a column of the table, and all its columns lie in the set's tables up to this one
+-- the predicate applies when the table joins those before it: it has a column of the table, and all its columns lie in
+-- the set's tables up to this one
 abbrev pub applies : List Item → ℕ → ℕ → Pred → Bool
-applies items set t pred = is_over items t pred && is_column_so_far items set t pred.left && is_right_so_far items set t pred.right
+applies items set t pred = is_over items t pred && is_column_so_far items set t pred.left && is_right_so_far items set t
+    pred.right
 
 -- the rows that are left after a predicate, rounded up
 abbrev pub rows_after : List Item → ℕ → ℕ → ℕ → Pred → ℕ
@@ -90,7 +94,8 @@ grouped_rows q = if length q.group_by == 0 then 1 else min (input_rows q) (combi
 
 -- each segment has at most all groups; without columns it has one
 abbrev pub partial_rows : Query → ℕ
-partial_rows q = if length q.group_by == 0 then q.segments else min (input_rows q) (capped (q.segments * grouped_rows q))
+partial_rows q = if length q.group_by == 0 then q.segments else min (input_rows q)
+    (capped (q.segments * grouped_rows q))
 
 -- the estimated rows of a group
 abbrev pub rows_of : Query → KeyParts → ℕ
@@ -102,4 +107,5 @@ rows_of q Agg = grouped_rows q
 
 -- what the own predicates of a table, one after the other, leave of its rows
 abbrev pub own_rows : Query → ℕ → ℕ
-own_rows q t = fold (λ rows pred. if is_own q.items t pred then div_ceil rows (divisor_of q.items pred) else rows) (table_rows q t) q.preds
+own_rows q t = fold (λ rows pred. if is_own q.items t pred then div_ceil rows (divisor_of q.items pred) else rows)
+    (table_rows q t) q.preds

@@ -26,7 +26,8 @@ pub record AreColumns (columns : List ColumnInfo) : Type 0 where
   pub all_are : All IsColumn columns
   pub differ : all_differ bytes_eq (map (λ c. c.name) columns) ≡ true
 
-column_kept : (t : ℕ) (before : List ColumnInfo) (d : Data) (column : ColumnInfo) → AreColumns before → column_at t before d ≡ Ok column → AreColumns (before ++ column ∷ [])
+column_kept : (t : ℕ) (before : List ColumnInfo) (d : Data) (column : ColumnInfo) → AreColumns before
+    → column_at t before d ≡ Ok column → AreColumns (before ++ column ∷ [])
 unfolding column_at
 column_kept t before d column so_far e =
     let at = length before in
@@ -37,7 +38,8 @@ column_kept t before d column so_far e =
     let made : ColumnInfo = record { name = name.0; ndv = ndv.0 } in
     subst (λ (c : ColumnInfo). AreColumns (before ++ c ∷ [])) {x = made} (ok_is made column ndv.2) (record {
       all_are = All-push IsColumn before made so_far.all_are (record { named = new.0; values = below trillion ndv.0 (number_kept 0 trillion (places.Ndv t at) (get (codes "ndv") object.0) ndv.0 ndv.1) });
-      differ = rw (map_push (λ (c : ColumnInfo). c.name) before made) (differ_push bytes_eq nat_list_eq_equiv.symm (map (λ c. c.name) before) name.0 so_far.differ new.1);
+      differ = rw (map_push (λ (c : ColumnInfo). c.name) before made)
+          (differ_push bytes_eq nat_list_eq_equiv.symm (map (λ c. c.name) before) name.0 so_far.differ new.1);
     })
 
 -- the columns of a table
@@ -45,11 +47,13 @@ pub record AreAllColumns (columns : List ColumnInfo) : Type 0 where
   pub width : within 1 1000 (length columns) ≡ true
   pub are : AreColumns columns
 
-pub columns_kept : (t : ℕ) (found : Option Data) (columns : List ColumnInfo) → columns_at t found ≡ Ok columns → AreAllColumns columns
+pub columns_kept : (t : ℕ) (found : Option Data) (columns : List ColumnInfo) → columns_at t found ≡ Ok columns
+    → AreAllColumns columns
 unfolding columns_at
 columns_kept t found columns e =
     let ds = bind_ok (list_at 1 1000 (places.Columns t) found) (λ ds. each (column_at t) [] ds) columns e in
     record {
       width = rw (each_counts (column_at t) ds.0 columns ds.2) (list_kept 1 1000 (places.Columns t) found ds.0 ds.1);
-      are = all_keep (column_at t) AreColumns (column_kept t) [] ds.0 columns (record { all_are = All-nil IsColumn; differ = refl }) ds.2;
+      are = all_keep (column_at t) AreColumns (column_kept t) [] ds.0 columns
+          (record { all_are = All-nil IsColumn; differ = refl }) ds.2;
     }

@@ -1,5 +1,6 @@
 -- A list of columns that is read has 1 to 8 different places among the table's columns.
-use Rattle.std.proofs.Common.{◌≡◌, All, ◌==◌, ℕ, ◌≤◌, true, List, [], ◌∷◌, ◌++◌, length, position, nat_lt, codes, Option, Some, None, option_and_then, Ok, Err, refl, ◌∙◌, subst, arith}
+use Rattle.std.proofs.Common.{◌≡◌, All, ◌==◌, ℕ, ◌≤◌, true, List, [], ◌∷◌, ◌++◌, length, position, nat_lt, codes}
+use Rattle.std.proofs.Common.{Option, Some, None, option_and_then, Ok, Err, refl, ◌∙◌, subst, arith}
 use Rattle.std.specs.List.{list_all}
 use Rattle.std.specs.Str.{bytes_eq}
 use Rattle.std.specs.Cmp.{nat_eq_equiv}
@@ -16,7 +17,8 @@ use Rattle.catalog_json.specs.declared.place.Place.TheVariants as places
 use Rattle.catalog_json.specs.declared.fault.Fault.TheVariants.{Shape}
 use Rattle.query_core.specs.Differ.{all_differ}
 use Rattle.query_core.specs.Catalog.{IsColumnList, IsPlacing}
-use Rattle.catalog_json.specs.Walk.{Reading, each, index_at, indexes_at, list_at, listed_at, name_at, new_place, places_at, placing_at, placing_by, random_at, seen}
+use Rattle.catalog_json.specs.Walk.{Reading, each, index_at, indexes_at, list_at, listed_at, name_at, new_place}
+use Rattle.catalog_json.specs.Walk.{places_at, placing_at, placing_by, random_at, seen}
 use Rattle.query_core.proofs.Apart.{differ_push}
 use Rattle.orca_base.proofs.Checked.{bind_ok, each_counts, met, ok_is}
 use Rattle.catalog_json.proofs.Steps.{all_keep, list_kept, listed_kept}
@@ -27,7 +29,9 @@ record ArePlaces (columns : ℕ) (places : List ℕ) : Type 0 where
   known : list_all (λ p. nat_lt p columns) places ≡ true
   differ : all_differ (λ p q. q == p) places ≡ true
 
-listed_place_kept : (list : NameList) (names : List (List ℕ)) (before : List ℕ) (d : Data) (i : ℕ) → ArePlaces (length names) before → listed_at list names before d ≡ Ok i → ArePlaces (length names) (before ++ i ∷ [])
+listed_place_kept : (list : NameList) (names : List (List ℕ)) (before : List ℕ) (d : Data) (i : ℕ)
+    → ArePlaces (length names) before → listed_at list names before d ≡ Ok i
+    → ArePlaces (length names) (before ++ i ∷ [])
 unfolding listed_at
 listed_place_kept list names before d i so_far e =
     let at = places.Listed list (length before) in
@@ -38,32 +42,44 @@ listed_place_kept list names before d i so_far e =
       differ = differ_push (λ p q. q == p) (λ p q. nat_eq_equiv.symm q p) before i so_far.differ new.1;
     }
 
-pub places_kept : (list : NameList) (names : List (List ℕ)) (found : Option Data) (places : List ℕ) → places_at list names found ≡ Ok places → IsColumnList (length names) places
+pub places_kept : (list : NameList) (names : List (List ℕ)) (found : Option Data) (places : List ℕ)
+    → places_at list names found ≡ Ok places → IsColumnList (length names) places
 unfolding places_at
 places_kept list names found listed e =
     let ds = bind_ok (list_at 1 8 (places.Names list) found) (λ ds. each (listed_at list names) [] ds) listed e in
-    let are = all_keep (listed_at list names) (ArePlaces (length names)) (listed_place_kept list names) [] ds.0 listed (record { known = refl; differ = refl }) ds.2 in
+    let are = all_keep (listed_at list names) (ArePlaces (length names)) (listed_place_kept list names) [] ds.0 listed
+    (record { known = refl; differ = refl }) ds.2 in
     record {
-      counted = rw (each_counts (listed_at list names) ds.0 listed ds.2) (list_kept 1 8 (places.Names list) found ds.0 ds.1);
+      counted = rw (each_counts (listed_at list names) ds.0 listed ds.2)
+          (list_kept 1 8 (places.Names list) found ds.0 ds.1);
       known = are.known;
       differ = are.differ;
     }
 
 -- ---- where rows lie
 
-random_kept : (at : Place) (text : List ℕ) (columns : ℕ) (placing : Placing) → random_at at text ≡ Ok placing → IsPlacing columns placing
+random_kept : (at : Place) (text : List ℕ) (columns : ℕ) (placing : Placing) → random_at at text ≡ Ok placing
+    → IsPlacing columns placing
 random_kept at text columns placing e = let test = met (bytes_eq text (codes "random")) (Shape at) Random placing e in subst (IsPlacing columns) test.1 tt
 
-hashed_kept : (columns : ℕ) (read : Reading (List ℕ)) (placing : Placing) → ((listed : List ℕ) → read ≡ Ok listed → IsColumnList columns listed) → seen Hashed read ≡ Ok placing → IsPlacing columns placing
-hashed_kept columns (Ok listed) placing kept e = subst (IsPlacing columns) (ok_is (Hashed listed) placing e) (kept listed refl)
+hashed_kept : (columns : ℕ) (read : Reading (List ℕ)) (placing : Placing)
+    → ((listed : List ℕ) → read ≡ Ok listed → IsColumnList columns listed) → seen Hashed read ≡ Ok placing
+    → IsPlacing columns placing
+hashed_kept columns (Ok listed) placing kept e =
+    subst (IsPlacing columns) (ok_is (Hashed listed) placing e) (kept listed refl)
 hashed_kept columns (Err fault) placing kept e = absurd cc
 
-placing_by_kept : (t : ℕ) (names : List (List ℕ)) (found : Option Data) (text : Option (List ℕ)) (placing : Placing) → placing_by t names found text ≡ Ok placing → IsPlacing (length names) placing
+placing_by_kept : (t : ℕ) (names : List (List ℕ)) (found : Option Data) (text : Option (List ℕ)) (placing : Placing)
+    → placing_by t names found text ≡ Ok placing → IsPlacing (length names) placing
 unfolding placing_by
-placing_by_kept t names found (Some text) placing e = random_kept (places.Names (Distribution t)) text (length names) placing e
-placing_by_kept t names found None placing e = hashed_kept (length names) (places_at (Distribution t) names found) placing (places_kept (Distribution t) names found) e
+placing_by_kept t names found (Some text) placing e =
+    random_kept (places.Names (Distribution t)) text (length names) placing e
+placing_by_kept t names found None placing e =
+    hashed_kept (length names) (places_at (Distribution t) names found) placing
+    (places_kept (Distribution t) names found) e
 
-pub placing_kept : (t : ℕ) (names : List (List ℕ)) (found : Option Data) (placing : Placing) → placing_at t names found ≡ Ok placing → IsPlacing (length names) placing
+pub placing_kept : (t : ℕ) (names : List (List ℕ)) (found : Option Data) (placing : Placing)
+    → placing_at t names found ≡ Ok placing → IsPlacing (length names) placing
 placing_kept t names found placing e = placing_by_kept t names found (option_and_then as_str found) placing e
 
 -- ---- indexes
@@ -73,14 +89,20 @@ pub record AreIndexes (columns : ℕ) (indexes : List (List ℕ)) : Type 0 where
   pub count : length indexes ≤ 16
   pub all_are : All (IsColumnList columns) indexes
 
-pub indexes_kept : (t : ℕ) (names : List (List ℕ)) (found : Option Data) (indexes : List (List ℕ)) → indexes_at t names found ≡ Ok indexes → AreIndexes (length names) indexes
+pub indexes_kept : (t : ℕ) (names : List (List ℕ)) (found : Option Data) (indexes : List (List ℕ))
+    → indexes_at t names found ≡ Ok indexes → AreIndexes (length names) indexes
 unfolding indexes_at
-indexes_kept t names None indexes e = subst (AreIndexes (length names)) (ok_is [] indexes e) (record { count = omega arith; all_are = All-nil (IsColumnList (length names)) })
+indexes_kept t names None indexes e = subst (AreIndexes (length names)) (ok_is [] indexes e)
+    (record { count = omega arith; all_are = All-nil (IsColumnList (length names)) })
 indexes_kept t names (Some d) indexes e =
     let ds = bind_ok (list_at 0 16 (places.Indexes t) (Some d)) (λ ds. each (index_at t names) [] ds) indexes e in
-    let one = λ (before : List (List ℕ)) (x : Data) (index : List ℕ) (are : All (IsColumnList (length names)) before) (read : index_at t names before x ≡ Ok index).
-    All-push (IsColumnList (length names)) before index are (places_kept (Index t (length before)) names (Some x) index read) in
+    let one = λ (before : List (List ℕ)) (x : Data) (index : List ℕ) (are : All (IsColumnList (length names)) before)
+    (read : index_at t names before x ≡ Ok index).
+    All-push (IsColumnList (length names)) before index are
+    (places_kept (Index t (length before)) names (Some x) index read) in
     record {
-      count = below 16 (length indexes) (rw (each_counts (index_at t names) ds.0 indexes ds.2) (list_kept 0 16 (places.Indexes t) (Some d) ds.0 ds.1));
-      all_are = all_keep (index_at t names) (All (IsColumnList (length names))) one [] ds.0 indexes (All-nil (IsColumnList (length names))) ds.2;
+      count = below 16 (length indexes) (rw (each_counts (index_at t names) ds.0 indexes ds.2)
+          (list_kept 0 16 (places.Indexes t) (Some d) ds.0 ds.1));
+      all_are = all_keep (index_at t names) (All (IsColumnList (length names))) one [] ds.0 indexes
+          (All-nil (IsColumnList (length names))) ds.2;
     }

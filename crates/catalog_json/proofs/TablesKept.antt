@@ -14,7 +14,8 @@ use Rattle.catalog_json.specs.declared.place.Place.TheVariants as places
 use Rattle.query_core.specs.Catalog.{trillion}
 use Rattle.query_core.specs.Differ.{all_differ}
 use Rattle.query_core.specs.Catalog.{is_catalog_name, IsPlacing, IsTable, IsCatalog}
-use Rattle.catalog_json.specs.Walk.{◌>>=◌, catalog_at, columns_at, each, indexes_at, list_at, lists_at, named_table_at, new_name_at, number_at, object_at, placing_at, table_at, tables_at, version_at}
+use Rattle.catalog_json.specs.Walk.{◌>>=◌, catalog_at, columns_at, each, indexes_at, list_at, lists_at, named_table_at}
+use Rattle.catalog_json.specs.Walk.{new_name_at, number_at, object_at, placing_at, table_at, tables_at, version_at}
 use Rattle.query_core.proofs.Apart.{differ_push}
 use Rattle.orca_base.proofs.Checked.{bind_ok, done, each_counts, ok_is}
 use Rattle.catalog_json.proofs.Steps.{all_keep, list_kept, new_name_kept, number_kept}
@@ -26,12 +27,14 @@ record AreTables (tables : List TableInfo) : Type 0 where
   all_are : All IsTable tables
   differ : all_differ bytes_eq (map (λ t. t.name) tables) ≡ true
 
-lists_kept : (t : ℕ) (names : List (List ℕ)) (d : Data) (lists : Placing × List (List ℕ)) → lists_at t names d ≡ Ok lists → IsPlacing (length names) lists.0 × AreIndexes (length names) lists.1
+lists_kept : (t : ℕ) (names : List (List ℕ)) (d : Data) (lists : Placing × List (List ℕ))
+    → lists_at t names d ≡ Ok lists → IsPlacing (length names) lists.0 × AreIndexes (length names) lists.1
 unfolding lists_at
 lists_kept t names d lists e =
     let placing = bind_ok (placing_at t names (get (codes "distribution") d)) (λ placing. indexes_at t names (get (codes "indexes") d) >>= λ indexes. done (placing, indexes)) lists e in
     let indexes = bind_ok (indexes_at t names (get (codes "indexes") d)) (λ indexes. done (placing.0, indexes)) lists placing.2 in
-    subst (λ (lists : Placing × List (List ℕ)). IsPlacing (length names) lists.0 × AreIndexes (length names) lists.1) (ok_is (placing.0, indexes.0) lists indexes.2)
+    subst (λ (lists : Placing × List (List ℕ)). IsPlacing (length names) lists.0 × AreIndexes (length names) lists.1)
+    (ok_is (placing.0, indexes.0) lists indexes.2)
     (placing_kept t names (get (codes "distribution") d) placing.0 placing.1, indexes_kept t names (get (codes "indexes") d) indexes.0 indexes.1)
 
 -- a table that got a name
@@ -39,17 +42,33 @@ record IsTableNamed (name : List ℕ) (table : TableInfo) : Type 0 where
   is : IsTable table
   called : table.name ≡ name
 
-named_table_kept : (t : ℕ) (name : List ℕ) (d : Data) (table : TableInfo) → is_catalog_name name ≡ true → named_table_at t name d ≡ Ok table → IsTableNamed name table
+named_table_kept : (t : ℕ) (name : List ℕ) (d : Data) (table : TableInfo) → is_catalog_name name ≡ true
+    → named_table_at t name d ≡ Ok table → IsTableNamed name table
 unfolding named_table_at
 named_table_kept t name d table named e =
     let texts = λ (columns : List ColumnInfo). map (λ c. c.name) columns in
     let rows = bind_ok (number_at 0 trillion (places.Rows t) (get (codes "rows") d)) (λ rows. columns_at t (get (codes "columns") d) >>= λ columns. lists_at t (texts columns) d >>= λ lists. done (record { name = name; rows = rows; placing = lists.0; columns = columns; indexes = lists.1 })) table e in
     let columns = bind_ok (columns_at t (get (codes "columns") d)) (λ columns. lists_at t (texts columns) d >>= λ lists. done (record { name = name; rows = rows.0; placing = lists.0; columns = columns; indexes = lists.1 })) table rows.2 in
-    let lists = bind_ok (lists_at t (texts columns.0) d) (λ lists. done (record { name = name; rows = rows.0; placing = lists.0; columns = columns.0; indexes = lists.1 })) table columns.2 in
+    let lists = bind_ok (lists_at t (texts columns.0) d)
+    (λ lists. done (record {
+      name = name;
+      rows = rows.0;
+      placing = lists.0;
+      columns = columns.0;
+      indexes =
+          lists.1;
+    })) table columns.2 in
     let width : length (texts columns.0) ≡ length columns.0 = length-map columns.0 (λ c. c.name) in
     let are = columns_kept t (get (codes "columns") d) columns.0 columns.1 in
     let listed = rw width at (lists_kept t (texts columns.0) d lists.0 lists.1) in
-    let made : TableInfo = record { name = name; rows = rows.0; placing = lists.0.0; columns = columns.0; indexes = lists.0.1 } in
+    let made : TableInfo = record {
+      name = name;
+      rows = rows.0;
+      placing = lists.0.0;
+      columns = columns.0;
+      indexes =
+          lists.0.1;
+    } in
     subst (IsTableNamed name) {x = made} (ok_is made table lists.2) (record {
       is = record {
         named = named;
@@ -64,7 +83,8 @@ named_table_kept t name d table named e =
       called = refl;
     })
 
-table_kept : (before : List TableInfo) (d : Data) (table : TableInfo) → AreTables before → table_at before d ≡ Ok table → AreTables (before ++ table ∷ [])
+table_kept : (before : List TableInfo) (d : Data) (table : TableInfo) → AreTables before → table_at before d ≡ Ok table
+    → AreTables (before ++ table ∷ [])
 unfolding table_at
 table_kept before d table so_far e =
     let t = length before in
@@ -75,7 +95,8 @@ table_kept before d table so_far e =
     let kept = named_table_kept t name.0 object.0 table new.0 name.2 in
     record {
       all_are = All-push IsTable before table so_far.all_are kept.is;
-      differ = rw (map_push (λ (x : TableInfo). x.name) before table, kept.called) (differ_push bytes_eq nat_list_eq_equiv.symm names name.0 so_far.differ new.1);
+      differ = rw (map_push (λ (x : TableInfo). x.name) before table, kept.called)
+          (differ_push bytes_eq nat_list_eq_equiv.symm names name.0 so_far.differ new.1);
     }
 
 -- the tables of a catalogue
@@ -88,8 +109,10 @@ unfolding tables_at
 tables_kept found tables e =
     let ds = bind_ok (list_at 0 1000 places.Tables found) (λ ds. each table_at [] ds) tables e in
     record {
-      count = below 1000 (length tables) (rw (each_counts table_at ds.0 tables ds.2) (list_kept 0 1000 places.Tables found ds.0 ds.1));
-      are = all_keep table_at AreTables table_kept [] ds.0 tables (record { all_are = All-nil IsTable; differ = refl }) ds.2;
+      count = below 1000 (length tables) (rw (each_counts table_at ds.0 tables ds.2)
+          (list_kept 0 1000 places.Tables found ds.0 ds.1));
+      are = all_keep table_at AreTables table_kept [] ds.0 tables (record { all_are = All-nil IsTable; differ = refl })
+          ds.2;
     }
 
 pub catalog_kept : (d : Data) (catalog : Catalog) → catalog_at d ≡ Ok catalog → IsCatalog catalog

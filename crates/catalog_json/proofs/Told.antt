@@ -1,5 +1,6 @@
 -- No fault of the walk is want of memory.
-use Rattle.std.proofs.Common.{◌≢◌, ◌==◌, ℕ, Bool, true, false, cond, List, [], length, map, codes, position, nat_lt, Option, Some, None, option_map, option_and_then, is_some, Ok, Err}
+use Rattle.std.proofs.Common.{◌≢◌, ◌==◌, ℕ, Bool, true, false, cond, List, [], length, map, codes, position, nat_lt}
+use Rattle.std.proofs.Common.{Option, Some, None, option_map, option_and_then, is_some, Ok, Err}
 use Rattle.orca_base.proofs.Checked as checked
 use Rattle.orca_base.proofs.Checked.{either, goes_on, seen_told, each_told}
 use Rattle.std.specs.List.{list_any}
@@ -18,7 +19,10 @@ use Rattle.catalog_json.specs.declared.place.NameList.TheVariants.{Distribution,
 use Rattle.catalog_json.specs.declared.place.Place.{Place}
 use Rattle.catalog_json.specs.declared.place.Place.TheVariants as places
 use Rattle.query_core.specs.Catalog.{trillion, within, is_catalog_name}
-use Rattle.catalog_json.specs.Walk.{Reading, elements, in_limits, whole, number_at, named, name_at, new_name_at, of_length, list_at, object_at, column_at, columns_at, new_place, listed_at, places_at, placing_by, index_at, indexes_at, lists_at, named_table_at, table_at, version_one, tables_at, catalog_at}
+use Rattle.catalog_json.specs.Walk.{Reading, elements, in_limits, whole, number_at, named, name_at, new_name_at}
+use Rattle.catalog_json.specs.Walk.{of_length, list_at, object_at, column_at, columns_at, new_place, listed_at}
+use Rattle.catalog_json.specs.Walk.{places_at, placing_by, index_at, indexes_at, lists_at, named_table_at, table_at}
+use Rattle.catalog_json.specs.Walk.{version_one, tables_at, catalog_at}
 use Rattle.catalog_json.specs.Outcome.{told, told_of, of_value, json_of, most_bytes, reading_of}
 
 -- the reading has a value, or a fault other than want of memory
@@ -29,21 +33,26 @@ IsTold reading = checked.IsTold faults.Memory reading
 
 limits_told : (least most : ℕ) (at : Place) (found : Option ℕ) → IsTold (in_limits least most at found)
 limits_told least most at None = λ same. cc
-limits_told least most at (Some n) = either faults.Memory (within least most n) (Ok n) (Err (faults.Range at)) tt (λ same. cc)
+limits_told least most at (Some n) = either faults.Memory (within least most n) (Ok n) (Err (faults.Range at)) tt
+    (λ same. cc)
 
 named_told : (at : Place) (found : Option (List ℕ)) → IsTold (named at found)
 named_told at None = λ same. cc
-named_told at (Some text) = either faults.Memory (is_catalog_name text) (Ok text) (Err (faults.Shape at)) tt (λ same. cc)
+named_told at (Some text) = either faults.Memory (is_catalog_name text) (Ok text) (Err (faults.Shape at)) tt
+    (λ same. cc)
 
 new_name_told : (at : Place) (before : List (List ℕ)) (found : Option Data) → IsTold (new_name_at at before found)
 unfolding new_name_at
 new_name_told at before found =
-    goes_on faults.Memory (name_at at found) (λ name. cond (list_any (bytes_eq name) before) (Err (faults.Twice at)) (Ok name)) (named_told at (option_and_then as_str found))
+    goes_on faults.Memory (name_at at found)
+    (λ name. cond (list_any (bytes_eq name) before) (Err (faults.Twice at)) (Ok name))
+    (named_told at (option_and_then as_str found))
     (λ name. either faults.Memory (list_any (bytes_eq name) before) (Err (faults.Twice at)) (Ok name) (λ same. cc) tt)
 
 length_told : (least most : ℕ) (at : Place) (found : Option (List Data)) → IsTold (of_length least most at found)
 length_told least most at None = λ same. cc
-length_told least most at (Some ds) = either faults.Memory (within least most (length ds)) (Ok ds) (Err (faults.Range at)) tt (λ same. cc)
+length_told least most at (Some ds) = either faults.Memory (within least most (length ds)) (Ok ds)
+    (Err (faults.Range at)) tt (λ same. cc)
 
 list_told : (least most : ℕ) (at : Place) (found : Option Data) → IsTold (list_at least most at found)
 list_told least most at found = length_told least most at (option_map elements (option_and_then as_array found))
@@ -64,33 +73,41 @@ column_told t before d = goes_on faults.Memory _ _ (object_told (places.Column t
 
 columns_told : (t : ℕ) (found : Option Data) → IsTold (columns_at t found)
 unfolding columns_at
-columns_told t found = goes_on faults.Memory _ _ (list_told 1 1000 (places.Columns t) found) (λ ds. each_told faults.Memory (column_at t) (column_told t) [] ds)
+columns_told t found = goes_on faults.Memory _ _ (list_told 1 1000 (places.Columns t) found)
+    (λ ds. each_told faults.Memory (column_at t) (column_told t) [] ds)
 
 place_told : (at : Place) (before : List ℕ) (found : Option ℕ) → IsTold (new_place at before found)
 place_told at before None = λ same. cc
-place_told at before (Some i) = either faults.Memory (list_any (λ p. p == i) before) (Err (faults.Twice at)) (Ok i) (λ same. cc) tt
+place_told at before (Some i) = either faults.Memory (list_any (λ p. p == i) before) (Err (faults.Twice at)) (Ok i)
+    (λ same. cc) tt
 
-listed_told : (list : NameList) (names : List (List ℕ)) (before : List ℕ) (d : Data) → IsTold (listed_at list names before d)
+listed_told : (list : NameList) (names : List (List ℕ)) (before : List ℕ) (d : Data)
+    → IsTold (listed_at list names before d)
 unfolding listed_at
-listed_told list names before d = goes_on faults.Memory _ _ (named_told (places.Listed list (length before)) (option_and_then as_str (Some d)))
+listed_told list names before d = goes_on faults.Memory _ _
+    (named_told (places.Listed list (length before)) (option_and_then as_str (Some d)))
     (λ name. place_told (places.Listed list (length before)) before (position (bytes_eq name) names))
 
 places_told : (list : NameList) (names : List (List ℕ)) (found : Option Data) → IsTold (places_at list names found)
 unfolding places_at
-places_told list names found = goes_on faults.Memory _ _ (list_told 1 8 (places.Names list) found) (λ ds. each_told faults.Memory (listed_at list names) (listed_told list names) [] ds)
+places_told list names found = goes_on faults.Memory _ _ (list_told 1 8 (places.Names list) found)
+    (λ ds. each_told faults.Memory (listed_at list names) (listed_told list names) [] ds)
 
 -- ---- tables
 
-placing_by_told : (t : ℕ) (names : List (List ℕ)) (found : Option Data) (text : Option (List ℕ)) → IsTold (placing_by t names found text)
+placing_by_told : (t : ℕ) (names : List (List ℕ)) (found : Option Data) (text : Option (List ℕ))
+    → IsTold (placing_by t names found text)
 unfolding placing_by
 placing_by_told t names found (Some text) = either faults.Memory (bytes_eq text (codes "random")) _ _ tt (λ same. cc)
-placing_by_told t names found None = seen_told faults.Memory Hashed (places_at (Distribution t) names found) (places_told (Distribution t) names found)
+placing_by_told t names found None = seen_told faults.Memory Hashed (places_at (Distribution t) names found)
+    (places_told (Distribution t) names found)
 
 indexes_told : (t : ℕ) (names : List (List ℕ)) (found : Option Data) → IsTold (indexes_at t names found)
 unfolding indexes_at
 indexes_told t names None = tt
 indexes_told t names (Some d) = goes_on faults.Memory _ _ (list_told 0 16 (places.Indexes t) (Some d))
-    (λ ds. each_told faults.Memory (index_at t names) (λ before e. places_told (Index t (length before)) names (Some e)) [] ds)
+    (λ ds. each_told faults.Memory (index_at t names) (λ before e. places_told (Index t (length before)) names (Some e))
+    [] ds)
 
 lists_told : (t : ℕ) (names : List (List ℕ)) (d : Data) → IsTold (lists_at t names d)
 unfolding lists_at
@@ -117,7 +134,8 @@ version_told (Some n) = either faults.Memory (n == 1) (Ok n) (Err (faults.Versio
 
 tables_told : (found : Option Data) → IsTold (tables_at found)
 unfolding tables_at
-tables_told found = goes_on faults.Memory _ _ (list_told 0 1000 places.Tables found) (λ ds. each_told faults.Memory table_at table_told [] ds)
+tables_told found = goes_on faults.Memory _ _ (list_told 0 1000 places.Tables found)
+    (λ ds. each_told faults.Memory table_at table_told [] ds)
 
 catalog_told : (d : Data) → IsTold (catalog_at d)
 unfolding catalog_at

@@ -7,7 +7,8 @@ use Rattle.query_core.specs.declared.catalog.Catalog.{Catalog}
 use Rattle.catalog_json.specs.declared.fault.Fault.{Fault}
 use Rattle.catalog_json.specs.declared.fault.Fault.TheVariants as faults
 use Rattle.catalog_json.specs.declared.fault.CatalogFault.{CatalogFault}
-use Rattle.catalog_json.specs.declared.fault.CatalogFault.TheVariants.{TooLong, NotJson, Shape, Version, Range, Twice, UnknownColumn, Memory}
+use Rattle.catalog_json.specs.declared.fault.CatalogFault.TheVariants.{TooLong, NotJson, Shape, Version, Range, Twice}
+use Rattle.catalog_json.specs.declared.fault.CatalogFault.TheVariants.{UnknownColumn, Memory}
 use Rattle.catalog_json.specs.Place.{pointer_of}
 use Rattle.catalog_json.specs.Walk.{Reading, catalog_at}
 

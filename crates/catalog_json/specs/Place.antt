@@ -3,7 +3,9 @@ use Rattle.std.specs.Prelude.{ℕ, List, [], ◌++◌, codes, decimal}
 use Rattle.catalog_json.specs.declared.place.NameList.{NameList}
 use Rattle.catalog_json.specs.declared.place.NameList.TheVariants.{Distribution, Index}
 use Rattle.catalog_json.specs.declared.place.Place.{Place}
-use Rattle.catalog_json.specs.declared.place.Place.TheVariants.{Whole, Version, Segments, Tables, Table, TableName, Rows, Columns, Column, ColumnName, Ndv, Indexes, Names, Listed}
+use Rattle.catalog_json.specs.declared.place.Place.TheVariants.{Whole, Version, Segments, Tables, Table, TableName}
+use Rattle.catalog_json.specs.declared.place.Place.TheVariants.{Rows, Columns, Column, ColumnName, Ndv, Indexes, Names}
+use Rattle.catalog_json.specs.declared.place.Place.TheVariants.{Listed}
 
 -- table t, and then the rest of the pointer
 abbrev pub in_table : ℕ → List ℕ → List ℕ

@@ -1,7 +1,8 @@
 -- Reading the parts of a catalogue in order, up to the first fault.
 pub use Rattle.orca_base.specs.Checked.{◌>>=◌, seen}
 unfoldable pub use Rattle.orca_base.specs.Checked.{each}
-use Rattle.std.specs.Prelude.{ℕ, ◌==◌, List, [], ◌∷◌, length, map, position, codes, if◌then◌else◌, Option, Some, None, option_map, option_and_then, is_some, Result, Ok, Err}
+use Rattle.std.specs.Prelude.{ℕ, ◌==◌, List, [], ◌∷◌, length, map, position, codes, if◌then◌else◌, Option, Some, None}
+use Rattle.std.specs.Prelude.{option_map, option_and_then, is_some, Result, Ok, Err}
 use Rattle.std.specs.List.{list_any}
 use Rattle.std.specs.Str.{bytes_eq}
 use Rattle.orca_base.specs.Checked as checked

@@ -10,7 +10,8 @@ use Rattle.catalog_text.specs.Text.{list_json}
 use Rattle.catalog_text.proofs.Tokens.{list_tokens}
 
 -- what two steps add
-pub both_added : (old mid new : Written) (first second : List Token) → Adds old mid first → Adds mid new second → Adds old new (first ++ second)
+pub both_added : (old mid new : Written) (first second : List Token) → Adds old mid first → Adds mid new second
+    → Adds old new (first ++ second)
 both_added old mid new first second a b = record {
   tokens = b.tokens ∙ ap (λ (ts : List Token). ts ++ second) a.tokens ∙ append_assoc old.tokens first second;
   before = b.before ∙ a.before;
@@ -18,18 +19,22 @@ both_added old mid new first second a b = record {
 
 module _ {E : Type 0} where
   -- a token that is written is added
-  pub token_added : (r : Result (Unit {0}) E) (old new : Written) (t : Token) → Writes r old new t → OnOk r (Adds old new (t ∷ []))
+  pub token_added : (r : Result (Unit {0}) E) (old new : Written) (t : Token) → Writes r old new t
+      → OnOk r (Adds old new (t ∷ []))
   token_added (Ok u) old new t w = record { tokens = w.ok; before = w.room.0 }
   token_added (Err e) old new t w = tt
 
   -- what a step adds and the last one
-  pub last_added : (r : Result (Unit {0}) E) (old mid new : Written) (first second : List Token) → Adds old mid first → OnOk r (Adds mid new second) → OnOk r (Adds old new (first ++ second))
+  pub last_added : (r : Result (Unit {0}) E) (old mid new : Written) (first second : List Token) → Adds old mid first
+      → OnOk r (Adds mid new second) → OnOk r (Adds old new (first ++ second))
   last_added (Ok u) old mid new first second a b = both_added old mid new first second a b
   last_added (Err e) old mid new first second a b = tt
 
   -- a list between its brackets
-  pub list_added : {X : Type 0} (json : X → Json) (xs : List X) (r : Result (Unit {0}) E) (old opened filled new : Written)
-      → Adds old opened (begin_array ∷ []) → Adds opened filled (flat_map (λ x. json_tokens (json x)) xs) → Writes r filled new end_array → OnOk r (Adds old new (json_tokens (list_json json xs)))
+  pub list_added : {X : Type 0} (json : X → Json) (xs : List X) (r : Result (Unit {0}) E)
+      (old opened filled new : Written)
+      → Adds old opened (begin_array ∷ []) → Adds opened filled (flat_map (λ x. json_tokens (json x)) xs)
+      → Writes r filled new end_array → OnOk r (Adds old new (json_tokens (list_json json xs)))
   list_added json xs r old opened filled new begun each ended =
       let elements = flat_map (λ x. json_tokens (json x)) xs in
       subst (λ (ts : List Token). OnOk r (Adds old new (begin_array ∷ ts))) (sym (list_tokens json xs))

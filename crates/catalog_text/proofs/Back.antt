@@ -1,5 +1,7 @@
 -- The text of a catalogue says the catalogue.
-use Rattle.std.proofs.Common.{◌≡◌, ℕ, suc, ◌^◌, ◌<◌, ◌≤◌, List, [], ◌∷◌, map, length, Some, None, Ok, Err, option_and_then, nat_le, nat_lt, IsUtf8, cond, false, refl, sym, ap, ◌∙◌, arith, append-nil}
+use Rattle.std.proofs.Common.{◌≡◌, ℕ, suc, ◌^◌, ◌<◌, ◌≤◌, List, [], ◌∷◌, map, length, Some, None, Ok, Err}
+use Rattle.std.proofs.Common.{option_and_then, nat_le, nat_lt, IsUtf8, cond, false, refl, sym, ap, ◌∙◌, arith}
+use Rattle.std.proofs.Common.{append-nil}
 use Rattle.std.proofs.lemmas.Bool.{leb-true, le-ltb, and_parts}
 use Rattle.std.specs.List.{All}
 use Rattle.std.specs.Str.{is_utf8}
@@ -20,30 +22,42 @@ use Rattle.query_core.specs.declared.catalog.Catalog.{Catalog}
 use Rattle.query_core.specs.Catalog.{IsCatalog}
 use Rattle.catalog_json.specs.Walk.{catalog_at}
 use Rattle.catalog_json.specs.Outcome.{most_bytes, json_of, of_value, told_of, reading_of}
-use Rattle.catalog_text.specs.Text.{items_of, list_json, name_at, column_json, places_json, placing_json, indexes_member, table_json, catalog_json}
+use Rattle.catalog_text.specs.Text.{items_of, list_json, name_at, column_json, places_json, placing_json}
+use Rattle.catalog_text.specs.Text.{indexes_member, table_json, catalog_json}
 use Rattle.catalog_text.proofs.Values.{catalog_data, catalog_value}
 use Rattle.catalog_text.proofs.Walk.{catalog_read}
 
 -- ---- how deep it nests
 
-items_within : {X : Type 0} (written : X → Json) (most : ℕ) (xs : List X) → ((x : X) → depth (written x) ≤ most) → items_depth (items_of (map written xs)) ≤ most
+items_within : {X : Type 0} (written : X → Json) (most : ℕ) (xs : List X) → ((x : X) → depth (written x) ≤ most)
+    → items_depth (items_of (map written xs)) ≤ most
 items_within written most [] h = omega arith
 items_within written most (x ∷ xs) h = omega (arith, h x, items_within written most xs h)
 
 places_within : (columns : List ColumnInfo) (places : List ℕ) → depth (places_json columns places) ≤ 1
-places_within columns places = omega (arith, items_within (λ place. json.string (name_at columns place)) 0 places (λ place. omega arith))
+places_within columns places = omega (
+  arith,
+  items_within (λ place. json.string (name_at columns place)) 0 places (λ place. omega arith),
+)
 
 placing_within : (columns : List ColumnInfo) (placing : Placing) → depth (placing_json columns placing) ≤ 1
 placing_within columns (Hashed places) = places_within columns places
 placing_within columns Random = omega arith
 
-indexes_within : (columns : List ColumnInfo) (indexes : List (List ℕ)) → members_depth (indexes_member columns indexes) ≤ 2
+indexes_within : (columns : List ColumnInfo) (indexes : List (List ℕ))
+    → members_depth (indexes_member columns indexes) ≤ 2
 indexes_within columns [] = omega arith
-indexes_within columns (index ∷ indexes) = omega (arith, items_within (places_json columns) 1 (index ∷ indexes) (places_within columns))
+indexes_within columns (index ∷ indexes) =
+    omega (arith, items_within (places_json columns) 1 (index ∷ indexes) (places_within columns))
 
 table_within : (t : TableInfo) → depth (table_json t) ≤ 3
 table_within t =
-    omega (arith, placing_within t.columns t.placing, items_within column_json 1 t.columns (λ c. omega arith), indexes_within t.columns t.indexes)
+    omega (
+      arith,
+      placing_within t.columns t.placing,
+      items_within column_json 1 t.columns (λ c. omega arith),
+      indexes_within t.columns t.indexes,
+    )
 
 catalog_within : (c : Catalog) → depth (catalog_json c) ≤ max_depth
 catalog_within c = omega (arith, items_within table_json 3 c.tables table_within)
@@ -52,12 +66,17 @@ catalog_within c = omega (arith, items_within table_json 3 c.tables table_within
 
 value_read : (text : List ℕ) (j : Json) → tokens text ≡ json_tokens j → depth j ≤ max_depth → read text ≡ of_json j
 value_read text j e within =
-    ap (λ (ts : List Token). option_and_then of_json (option_and_then (λ p. if_last p.0 p.1) (value max_depth ts))) (e ∙ sym (append-nil (json_tokens j)))
-    ∙ ap (λ p. option_and_then of_json (option_and_then (λ q. if_last q.0 q.1) p)) (value-json_tokens j max_depth [] within)
+    ap (λ (ts : List Token). option_and_then of_json (option_and_then (λ p. if_last p.0 p.1) (value max_depth ts))) (e
+    ∙ sym (append-nil (json_tokens j)))
+    ∙ ap (λ p. option_and_then of_json (option_and_then (λ q. if_last q.0 q.1) p))
+    (value-json_tokens j max_depth [] within)
 
-pub read_back : (text : List ℕ) (c : Catalog) → IsCatalog c → tokens text ≡ json_tokens (catalog_json c) → IsUtf8 text → length text ≤ most_bytes → reading_of text ≡ Ok c
+pub read_back : (text : List ℕ) (c : Catalog) → IsCatalog c → tokens text ≡ json_tokens (catalog_json c) → IsUtf8 text
+    → length text ≤ most_bytes → reading_of text ≡ Ok c
 unfolding reading_of
 read_back text c h e utf8 short =
-    let few : c.segments < 2 ^ 64 = let most : c.segments ≤ 1000 = leb-true c.segments 1000 (and_parts (nat_le 1 c.segments) (nat_le c.segments 1000) h.segment_count).1 in omega arith in
+    let few : c.segments < 2 ^ 64 = let most : c.segments ≤ 1000 =
+    leb-true c.segments 1000 (and_parts (nat_le 1 c.segments) (nat_le c.segments 1000) h.segment_count).1 in
+    omega arith in
     let value = value_read text (catalog_json c) e (catalog_within c) ∙ catalog_value c h few in
     rw (le-ltb most_bytes (length text) short, is_utf8-from_IsUtf8 text utf8, value, catalog_read c h) refl

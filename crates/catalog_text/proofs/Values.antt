@@ -1,5 +1,6 @@
 -- The value that the JSON of a catalogue is read as.
-use Rattle.std.proofs.Common.{◌≡◌, ℕ, suc, ◌^◌, ◌<◌, ◌≤◌, List, [], ◌∷◌, map, codes, decimal, Some, option_map, refl, ap, ◌∙◌, arith}
+use Rattle.std.proofs.Common.{◌≡◌, ℕ, suc, ◌^◌, ◌<◌, ◌≤◌, List, [], ◌∷◌, map, codes, decimal, Some, option_map, refl}
+use Rattle.std.proofs.Common.{ap, ◌∙◌, arith}
 use Rattle.std.specs.List.{All}
 use Rattle.json.specs.Json as json
 use Rattle.serde_json.specs.Data.{Data, string, number, unsigned, array, object, Members, no_members, put}
@@ -12,19 +13,23 @@ use Rattle.query_core.specs.declared.catalog.Placing.TheVariants.{Hashed, Random
 use Rattle.query_core.specs.declared.catalog.TableInfo.{TableInfo}
 use Rattle.query_core.specs.declared.catalog.Catalog.{Catalog}
 use Rattle.query_core.specs.Catalog.{IsColumn, IsTable, IsCatalog, within}
-use Rattle.catalog_text.specs.Text.{items_of, list_json, name_at, column_json, places_json, placing_json, indexes_member, table_json, catalog_json}
+use Rattle.catalog_text.specs.Text.{items_of, list_json, name_at, column_json, places_json, placing_json}
+use Rattle.catalog_text.specs.Text.{indexes_member, table_json, catalog_json}
 
 -- ---- lists
 
 abbrev pub list_data : {X : Type 0} → (X → Data) → List X → Data
 list_data form xs = array (data_items (map form xs))
 
-items_value : {X : Type 0} (written : X → json.Json) (form : X → Data) (xs : List X) → All (λ x. of_json (written x) ≡ Some (form x)) xs
+items_value : {X : Type 0} (written : X → json.Json) (form : X → Data) (xs : List X)
+    → All (λ x. of_json (written x) ≡ Some (form x)) xs
     → of_items (items_of (map written xs)) ≡ Some (data_items (map form xs))
 items_value written form [] h = refl
-items_value written form (x ∷ xs) h = rw (h 0 x (omega arith), items_value written form xs (λ k d l. h (suc k) d (omega arith))) refl
+items_value written form (x ∷ xs) h = rw
+    (h 0 x (omega arith), items_value written form xs (λ k d l. h (suc k) d (omega arith))) refl
 
-list_value : {X : Type 0} (written : X → json.Json) (form : X → Data) (xs : List X) → All (λ x. of_json (written x) ≡ Some (form x)) xs
+list_value : {X : Type 0} (written : X → json.Json) (form : X → Data) (xs : List X)
+    → All (λ x. of_json (written x) ≡ Some (form x)) xs
     → of_json (list_json written xs) ≡ Some (list_data form xs)
 list_value written form xs h = ap (option_map array) (items_value written form xs h)
 
@@ -39,14 +44,17 @@ column_value c fits = rw (number_of-decimal c.ndv fits) refl
 abbrev pub places_data : List ColumnInfo → List ℕ → Data
 places_data columns places = list_data (λ place. string (name_at columns place)) places
 
-places_value : (columns : List ColumnInfo) (places : List ℕ) → of_json (places_json columns places) ≡ Some (places_data columns places)
-places_value columns places = list_value (λ place. json.string (name_at columns place)) (λ place. string (name_at columns place)) places (λ k d l. refl)
+places_value : (columns : List ColumnInfo) (places : List ℕ)
+    → of_json (places_json columns places) ≡ Some (places_data columns places)
+places_value columns places = list_value (λ place. json.string (name_at columns place))
+    (λ place. string (name_at columns place)) places (λ k d l. refl)
 
 abbrev pub placing_data : List ColumnInfo → Placing → Data
 placing_data columns (Hashed places) = places_data columns places
 placing_data columns Random = string (codes "random")
 
-placing_value : (columns : List ColumnInfo) (placing : Placing) → of_json (placing_json columns placing) ≡ Some (placing_data columns placing)
+placing_value : (columns : List ColumnInfo) (placing : Placing)
+    → of_json (placing_json columns placing) ≡ Some (placing_data columns placing)
 placing_value columns (Hashed places) = places_value columns places
 placing_value columns Random = refl
 
@@ -55,7 +63,8 @@ abbrev pub with_indexes : List ColumnInfo → List (List ℕ) → Members → Me
 with_indexes columns [] found = found
 with_indexes columns (index ∷ indexes) found = put (codes "indexes") (list_data (places_data columns) (index ∷ indexes)) found
 
-indexes_value : (columns : List ColumnInfo) (indexes : List (List ℕ)) (found : Members) → of_members (indexes_member columns indexes) found ≡ Some (with_indexes columns indexes found)
+indexes_value : (columns : List ColumnInfo) (indexes : List (List ℕ)) (found : Members)
+    → of_members (indexes_member columns indexes) found ≡ Some (with_indexes columns indexes found)
 indexes_value columns [] found = refl
 indexes_value columns (index ∷ indexes) found =
     rw (list_value (places_json columns) (places_data columns) (index ∷ indexes) (λ k d l. places_value columns _)) refl
@@ -74,9 +83,15 @@ table_data t = object (with_indexes t.columns t.indexes (table_members t))
 
 table_value : (t : TableInfo) → IsTable t → of_json (table_json t) ≡ Some (table_data t)
 table_value t h =
-    let columns = list_value column_json column_data t.columns (λ k d l. column_value _ (let most = (h.each_column k d l).values in omega arith)) in
+    let columns = list_value column_json column_data t.columns
+    (λ k d l. column_value _ (let most = (h.each_column k d l).values in omega arith)) in
     let fits : t.rows < 2 ^ 64 = let most = h.counted in omega arith in
-    rw (number_of-decimal t.rows fits, placing_value t.columns t.placing, columns, indexes_value t.columns t.indexes (table_members t)) refl
+    rw (
+      number_of-decimal t.rows fits,
+      placing_value t.columns t.placing,
+      columns,
+      indexes_value t.columns t.indexes (table_members t),
+    ) refl
 
 abbrev pub catalog_data : Catalog → Data
 catalog_data c = object

@@ -1,5 +1,6 @@
 -- Which rules may be off together, and the set of their bits.
-use Rattle.std.proofs.Common.{◌≡◌, ℕ, ◌+◌, ◌^◌, ◌%◌, ◌<◌, ◌&&◌, ◌↔◌, Bool, true, false, IsTrue, List, [], ◌∷◌, ◌++◌, length, nat_le, Some, refl, sym, ap, ◌∙◌, subst, arith, inl, inr}
+use Rattle.std.proofs.Common.{◌≡◌, ℕ, ◌+◌, ◌^◌, ◌%◌, ◌<◌, ◌&&◌, ◌↔◌, Bool, true, false, IsTrue, List, [], ◌∷◌, ◌++◌}
+use Rattle.std.proofs.Common.{length, nat_le, Some, refl, sym, ap, ◌∙◌, subst, arith, inl, inr}
 use Rattle.std.proofs.lemmas.List.Sums.{sum_by-append}
 use Rattle.std.proofs.Math.Bool.{and-false}
 use Rattle.std.proofs.lemmas.Bool.{cases_eq, false≢true}
@@ -32,7 +33,8 @@ one_more before rule = sum_by-append (λ r. 2 ^ rule_number r) before (rule ∷ 
 -- a rule that has its place behind others
 module _ (before : List Rule) (rule : Rule) (set : ℕ) (is : IsOffSet before set) where
   -- the rule behind the others
-  pub more_rules : (new : ℕ) → can_be_off rule ≡ true → (Has set (rule_number rule) → ⊥) → Adds set (rule_number rule) new → new ≡ set + 2 ^ rule_number rule → IsOffSet (before ++ rule ∷ []) new
+  pub more_rules : (new : ℕ) → can_be_off rule ≡ true → (Has set (rule_number rule) → ⊥)
+      → Adds set (rule_number rule) new → new ≡ set + 2 ^ rule_number rule → IsOffSet (before ++ rule ∷ []) new
   more_rules new can fresh adds grows =
       let n = rule_number rule in
       record {
@@ -43,19 +45,22 @@ module _ (before : List Rule) (rule : Rule) (set : ℕ) (is : IsOffSet before se
 
   -- a rule that must stay on, or that stands there already, refuses the whole
   pub stays_on : (after : List Rule) → can_be_off rule ≡ false → may_be_off (before ++ rule ∷ after) ≡ false
-  stays_on after never = rw (list_all-append, is.can, never) (false_inside (nat_le 1 (length (before ++ rule ∷ after))) _)
+  stays_on after never = rw (list_all-append, is.can, never)
+      (false_inside (nat_le 1 (length (before ++ rule ∷ after))) _)
 
   pub stands_there : (after : List Rule) → Has set (rule_number rule) → may_be_off (before ++ rule ∷ after) ≡ false
   stands_there after has = rw (comes_twice rule_number before rule set is.are_bits after has) (and-false _)
 
 -- rules that have their place are the set of their bits
-pub set_of_rules : (before : List Rule) (rule : Rule) (new : ℕ) → IsOffSet (before ++ rule ∷ []) new → Some new ≡ set_where_off (before ++ rule ∷ [])
+pub set_of_rules : (before : List Rule) (rule : Rule) (new : ℕ) → IsOffSet (before ++ rule ∷ []) new
+    → Some new ≡ set_where_off (before ++ rule ∷ [])
 set_of_rules before rule new is =
     let some : nat_le 1 (length (before ++ rule ∷ [])) ≡ true = rw length-append (grind (arith, nat_tests)) in
     rw (some, is.can, is.are_bits.once) (ap Some is.sum_of)
 
 -- a bit that isn't set yet has room among those from 2 to 14
-pub has_room : (rule : Rule) (set : ℕ) → set < 32768 → set % 4 ≡ 0 → can_be_off rule ≡ true → bit set (rule_number rule) ≡ 0 → (set + 2 ^ rule_number rule < 32768) × ((set + 2 ^ rule_number rule) % 4 ≡ 0)
+pub has_room : (rule : Rule) (set : ℕ) → set < 32768 → set % 4 ≡ 0 → can_be_off rule ≡ true
+    → bit set (rule_number rule) ≡ 0 → (set + 2 ^ rule_number rule < 32768) × ((set + 2 ^ rule_number rule) % 4 ≡ 0)
 unfolding bit
 has_room rules.ExpandNAry set small whole can none = absurd (false≢true can)
 has_room rules.JoinCommute set small whole can none = (omega (arith, small, none), omega (arith, whole))
@@ -81,7 +86,9 @@ unset set n never = elim (cases_eq (bit_at set n) 1) [
 ]
 
 -- what is read of the set, at the rule's number: the bit isn't there, and the new set is the sum of the two
-pub fresh_sum : (set number n new : ℕ) (has : Bool) → number ≡ n → IsTrue has ↔ Has set number → has ≡ false → (bit set number ≡ 0 → new ≡ set + 2 ^ number) → (Has set n → ⊥) × (bit set n ≡ 0) × (new ≡ set + 2 ^ n)
+pub fresh_sum : (set number n new : ℕ) (has : Bool) → number ≡ n → IsTrue has ↔ Has set number → has ≡ false
+    → (bit set number ≡ 0 → new ≡ set + 2 ^ number) → (Has set n → ⊥) × (bit set n ≡ 0) × (new ≡ set + 2 ^ n)
 fresh_sum set number n new has same read unread grows =
-    let fresh : Has set n → ⊥ = λ there. let was : has ≡ true = read.1 (subst (Has set) (sym same) there) in absurd (false≢true (sym unread ∙ was)) in
+    let fresh : Has set n → ⊥ = λ there. let was : has ≡ true = read.1 (subst (Has set) (sym same) there) in
+    absurd (false≢true (sym unread ∙ was)) in
     (fresh, unset set n fresh, subst (λ m. bit set m ≡ 0 → new ≡ set + 2 ^ m) same grows (unset set n fresh))

@@ -19,10 +19,12 @@ option_of_own_word names.ByWorker = refl
 
 -- an option that is found has this word
 pub word_of_found : (word : List ℕ) (option : OptionName) → option_named word ≡ Some option → option_word option ≡ word
-word_of_found word option is = sym ((bytes_eq-Decides word (option_word option)).0 (found_passes (λ o. bytes_eq word (option_word o)) all_options option is))
+word_of_found word option is = sym ((bytes_eq-Decides word (option_word option)).0
+    (found_passes (λ o. bytes_eq word (option_word o)) all_options option is))
 
 -- what is found is what has the word
-pub named_by : (word : List ℕ) (read : Option OptionName) → IfSome read (λ option. option_word option ≡ word) → ((option : OptionName) → option_word option ≡ word → read ≡ Some option) → option_named word ≡ read
+pub named_by : (word : List ℕ) (read : Option OptionName) → IfSome read (λ option. option_word option ≡ word)
+    → ((option : OptionName) → option_word option ≡ word → read ≡ Some option) → option_named word ≡ read
 named_by word None found only = of_found (option_named word) refl
   where
     of_found : (o : Option OptionName) → option_named word ≡ o → option_named word ≡ None

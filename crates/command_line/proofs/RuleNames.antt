@@ -1,5 +1,6 @@
 -- A rule is found by its name.
-use Rattle.std.proofs.Common.{◌≡◌, ℕ, Bool, true, false, cond, List, [], ◌∷◌, Option, None, Some, bytes_eq, refl, sym, ap, ◌∙◌}
+use Rattle.std.proofs.Common.{◌≡◌, ℕ, Bool, true, false, cond, List, [], ◌∷◌, Option, None, Some, bytes_eq, refl, sym}
+use Rattle.std.proofs.Common.{ap, ◌∙◌}
 use Rattle.std.specs.List.{find}
 use Rattle.std.proofs.lemmas.Slice.Eq.{bytes_eq-Decides}
 use Rattle.xform_rules.specs.Rules.{all_rules, rule_name}
@@ -35,7 +36,8 @@ found_passes test (y ∷ ys) x is =
 
 -- the rule of a name has this name
 pub name_of_found : (word : List ℕ) (rule : Rule) → rule_of_name word ≡ Some rule → rule_name rule ≡ word
-name_of_found word rule is = (bytes_eq-Decides (rule_name rule) word).0 (found_passes (λ r. bytes_eq (rule_name r) word) all_rules rule is)
+name_of_found word rule is = (bytes_eq-Decides (rule_name rule) word).0
+    (found_passes (λ r. bytes_eq (rule_name r) word) all_rules rule is)
 
 -- a word that is no rule's name names none
 pub no_rule : (word : List ℕ) → ((rule : Rule) → rule_name rule ≡ word → ⊥) → rule_of_name word ≡ None

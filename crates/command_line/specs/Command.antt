@@ -1,5 +1,6 @@
 -- The commands that the words of a command line may be.
-use Rattle.std.specs.Prelude.{ℕ, ◌-◌, ◌^◌, Bool, false, not, ◌&&◌, IsTrue, List, [], ◌∷◌, ◌++◌, ◌==◌, ◌≡◌, Option, None, Some, codes, decimal, map}
+use Rattle.std.specs.Prelude.{ℕ, ◌-◌, ◌^◌, Bool, false, not, ◌&&◌, IsTrue, List, [], ◌∷◌, ◌++◌, ◌==◌, ◌≡◌, Option, None}
+use Rattle.std.specs.Prelude.{Some, codes, decimal, map}
 use Rattle.std.specs.List.{filter_map, list_all}
 use Rattle.query_core.specs.Differ.{numbers_differ}
 use Rattle.command_line.specs.Options.{option_word, option_number, name_of, takes_option, IsValue, choices_of}
@@ -62,12 +63,14 @@ is_positional (first ∷ others) = not (first == 45)
 -- the words are those of the piece
 pub data IsSpelled : Piece → List (List ℕ) → Type 0 where
   a_name : (word : List ℕ) → IsTrue (is_positional word) → IsSpelled (name word) (word ∷ [])
-  an_option : (given : Setting) (value : List (List ℕ)) → IsValue given value → IsSpelled (setting given) (option_word (name_of given) ∷ value)
+  an_option : (given : Setting) (value : List (List ℕ)) → IsValue given value
+      → IsSpelled (setting given) (option_word (name_of given) ∷ value)
 
 -- the words are those of the pieces, one behind the other
 pub data AreSpelled : List Piece → List (List ℕ) → Type 0 where
   no_more : AreSpelled [] []
-  one_more : (piece : Piece) (pieces : List Piece) (front back : List (List ℕ)) → IsSpelled piece front → AreSpelled pieces back → AreSpelled (piece ∷ pieces) (front ++ back)
+  one_more : (piece : Piece) (pieces : List Piece) (front back : List (List ℕ)) → IsSpelled piece front
+      → AreSpelled pieces back → AreSpelled (piece ∷ pieces) (front ++ back)
 
 -- ---- which command the pieces make
 
@@ -87,7 +90,8 @@ pub record IsInput (input : GenInput) (words : List (List ℕ)) : Type 0 where
   pub tables : IsWithin 1 8 input.tables
   pub are : words ≡ decimal input.number ∷ decimal input.tables ∷ shape_word input.shape ∷ []
 
--- the names are those of the command: of the catalogue's file and of the query's, or what a catalogue and a query are made of
+-- the names are those of the command: of the catalogue's file and of the query's, or what a catalogue and a query are
+-- made of
 abbrev pub AreNames : AnyCommand → List (List ℕ) → Type 0
 AreNames (plan command) names = names ≡ command.files.catalog ∷ command.files.query ∷ []
 AreNames (gen command) names = IsInput command.input names
@@ -103,7 +107,8 @@ number_of given = option_number (name_of given)
 
 -- the command takes each option, and none is given twice
 abbrev pub may_be_given : CommandName → List Setting → Bool
-may_be_given command some = list_all (λ given. takes_option command (name_of given)) some && numbers_differ (map number_of some)
+may_be_given command some = list_all (λ given. takes_option command (name_of given)) some && numbers_differ
+    (map number_of some)
 
 -- the words are this command: its word, and behind it its names and its options, each at most once, in whatever order
 pub record IsSpelledOut (words : List (List ℕ)) (command : AnyCommand) : Type 0 where

@@ -1,5 +1,6 @@
 -- Numbers as words write them.
-use Rattle.std.specs.Prelude.{ℕ, Bool, not, List, [], ◌∷◌, ◌==◌, ◌≡◌, ◌≤◌, ◌&&◌, ◌||◌, Option, None, Some, bytes_eq, decimal, if◌then◌else◌, length, nat_le, slice_index}
+use Rattle.std.specs.Prelude.{ℕ, Bool, not, List, [], ◌∷◌, ◌==◌, ◌≡◌, ◌≤◌, ◌&&◌, ◌||◌, Option, None, Some, bytes_eq}
+use Rattle.std.specs.Prelude.{decimal, if◌then◌else◌, length, nat_le, slice_index}
 use Rattle.std.specs.Str.Parse.{digits_value}
 
 -- the number lies between two others, or is one of them
@@ -20,7 +21,8 @@ is_written low high number word = bytes_eq (decimal number) word && nat_le low n
 
 -- the number within the bounds that the word writes
 abbrev pub number_within : ℕ → ℕ → List ℕ → Option ℕ
-number_within low high word = if is_written low high (digits_value 10 word) word then Some (digits_value 10 word) else None
+number_within low high word = if is_written low high (digits_value 10 word) word then Some (digits_value 10 word) else
+    None
 
 -- no `+` and no zero stands before a number
 abbrev pub is_plain : List ℕ → Bool

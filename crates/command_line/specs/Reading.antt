@@ -1,5 +1,6 @@
 -- How the words of a command line are read.
-use Rattle.std.specs.Prelude.{ℕ, ◌-◌, ◌^◌, Bool, true, false, List, [], ◌∷◌, ◌==◌, Option, None, Some, codes, bytes_eq, if◌then◌else◌, option_map}
+use Rattle.std.specs.Prelude.{ℕ, ◌-◌, ◌^◌, Bool, true, false, List, [], ◌∷◌, ◌==◌, Option, None, Some, codes, bytes_eq}
+use Rattle.std.specs.Prelude.{if◌then◌else◌, option_map}
 use Rattle.std.specs.List.{filter_map, find, slice_split}
 use Rattle.std.specs.Option.{option_and_then, option_map_or}
 use Rattle.query_core.specs.declared.options.RootDist.{RootDist}
@@ -9,7 +10,8 @@ use Rattle.xform_rules.specs.declared.rules.Rule.{Rule}
 use Rattle.command_line.specs.Numbers.{number_within}
 use Rattle.command_line.specs.Rules.{may_be_off, off_set}
 use Rattle.command_line.specs.Options.{option_word, choices_of}
-use Rattle.command_line.specs.Command.{FileNames, AnyCommand, plan, gen, Piece, name, setting, is_positional, name_in, setting_in, may_be_given}
+use Rattle.command_line.specs.Command.{FileNames, AnyCommand, plan, gen, Piece, name, setting, is_positional, name_in}
+use Rattle.command_line.specs.Command.{setting_in, may_be_given}
 use Rattle.command_line.specs.declared.choices.Choices.{Choices}
 use Rattle.command_line.specs.declared.choices.CommandName.{CommandName}
 use Rattle.command_line.specs.declared.choices.CommandName.TheVariants as commands
@@ -34,7 +36,8 @@ rule_of_name word = find (λ rule. bytes_eq (rule_name rule) word) all_rules
 -- the rules of names, where each is one
 abbrev pub rules_of : List (List ℕ) → Option (List Rule)
 rules_of [] = Some []
-rules_of (word ∷ more) = option_and_then (λ rule. option_map (λ others. rule ∷ others) (rules_of more)) (rule_of_name word)
+rules_of (word ∷ more) = option_and_then (λ rule. option_map (λ others. rule ∷ others) (rules_of more))
+    (rule_of_name word)
 
 -- the set of rules, where they may be off
 abbrev pub set_where_off : List Rule → Option ℕ
@@ -110,7 +113,8 @@ valued_piece word value = option_and_then (λ option. option_map setting (with_v
 abbrev pub pieces_of : List (List ℕ) → Option (List Piece)
 pieces_of [] = Some []
 pieces_of (word ∷ []) = if is_valued word then None else in_front (piece_of word) (Some [])
-pieces_of (word ∷ value ∷ more) = if is_valued word then in_front (valued_piece word value) (pieces_of more) else in_front (piece_of word) (pieces_of (value ∷ more))
+pieces_of (word ∷ value ∷ more) = if is_valued word then in_front (valued_piece word value) (pieces_of more) else
+    in_front (piece_of word) (pieces_of (value ∷ more))
 
 -- ---- commands
 
@@ -129,24 +133,30 @@ shape_of word =
 -- what the words of a number, of a count of tables and of a shape say
 abbrev pub input_with : Option ℕ → Option ℕ → Option GenShape → Option GenInput
 input_with number tables shape =
-    option_and_then (λ n. option_and_then (λ t. option_map (λ s. record { number = n; tables = t; shape = s }) shape) tables) number
+    option_and_then (λ n. option_and_then (λ t. option_map (λ s. record { number = n; tables = t; shape = s }) shape)
+    tables) number
 
 -- three names are those of a number, of how many tables there are, and of a shape
 abbrev pub input_of : List (List ℕ) → Option GenInput
 input_of [] = None
 input_of (number ∷ []) = None
 input_of (number ∷ tables ∷ []) = None
-input_of (number ∷ tables ∷ shape ∷ []) = input_with (number_within 0 (2 ^ 64 - 1) number) (number_within 1 8 tables) (shape_of shape)
+input_of (number ∷ tables ∷ shape ∷ []) =
+    input_with (number_within 0 (2 ^ 64 - 1) number) (number_within 1 8 tables) (shape_of shape)
 input_of (number ∷ tables ∷ shape ∷ fourth ∷ more) = None
 
 -- the command of these names, with what is chosen
 abbrev pub command_with : CommandName → List (List ℕ) → Choices → Option AnyCommand
-command_with commands.Plan names choices = option_map (λ files. plan (record { files = files; choices = choices })) (files_of names)
-command_with commands.Gen names choices = option_map (λ input. gen (record { input = input; workers = choices.workers; capacity = choices.capacity })) (input_of names)
+command_with commands.Plan names choices =
+    option_map (λ files. plan (record { files = files; choices = choices })) (files_of names)
+command_with commands.Gen names choices =
+    option_map (λ input. gen (record { input = input; workers = choices.workers; capacity = choices.capacity }))
+    (input_of names)
 
 -- the command of these names and of these settings
 abbrev pub command_made : CommandName → List (List ℕ) → List Setting → Option AnyCommand
-command_made command names some = if may_be_given command some then command_with command names (choices_of some) else None
+command_made command names some = if may_be_given command some then command_with command names (choices_of some) else
+    None
 
 -- the command that the pieces make behind its name
 abbrev pub command_from : CommandName → List Piece → Option AnyCommand

@@ -5,7 +5,9 @@ use Rattle.std.specs.Int.{div_ceil, leading_zeros, w64}
 use Rattle.cost_units.specs.declared.shape.Class.{Class}
 use Rattle.cost_units.specs.declared.shape.Class.TheVariants.{Spread, One, Copies}
 use Rattle.cost_units.specs.declared.shape.CostShape.{CostShape}
-use Rattle.cost_units.specs.declared.shape.CostShape.TheVariants.{Scan, IndexScan, IndexSeek, Filter, HashJoin, MergeJoin, LoopJoin, HashAgg, StreamAgg, PartialAgg, Sort, Gather, GatherMerge, Redistribute, Broadcast}
+use Rattle.cost_units.specs.declared.shape.CostShape.TheVariants.{Scan, IndexScan, IndexSeek, Filter, HashJoin}
+use Rattle.cost_units.specs.declared.shape.CostShape.TheVariants.{MergeJoin, LoopJoin, HashAgg, StreamAgg, PartialAgg}
+use Rattle.cost_units.specs.declared.shape.CostShape.TheVariants.{Sort, Gather, GatherMerge, Redistribute, Broadcast}
 
 -- how many of the rows the busiest segment has: where they are shared out, an equal part, rounded up
 abbrev pub share : ℕ → Class → ℕ → ℕ

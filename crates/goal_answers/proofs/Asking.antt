@@ -1,5 +1,6 @@
 -- What an expression asks in its modes, and the answers to that.
-use Rattle.std.proofs.Common.{◌≡◌, ◌⊎◌, ℕ, ◌+◌, ◌<◌, ◌≤◌, Option, None, Some, List, [], ◌∷◌, refl, sym, subst, inl, inr, arith}
+use Rattle.std.proofs.Common.{◌≡◌, ◌⊎◌, ℕ, ◌+◌, ◌<◌, ◌≤◌, Option, None, Some, List, [], ◌∷◌, refl, sym, subst, inl, inr}
+use Rattle.std.proofs.Common.{arith}
 use Rattle.std.proofs.lemmas.Bool.{cases_eq}
 use Rattle.query_core.specs.Expressions.{physical_children}
 use Rattle.query_core.specs.Keys.{Names}
@@ -30,9 +31,11 @@ use Rattle.goal_answers.proofs.Trying.{best_of_none}
 -- ---- what one alternative asks
 
 -- what is asked is asked by a child where its goal is one
-asked_child : (q : Query) (goal : GoalKind) (asked : Option (Key × Request)) (group : KeyParts) (below : Request) → Asks q asked group below → IsChildGoal (IsMember q) q goal (Opt group below) → IsAskedByChild q goal asked
+asked_child : (q : Query) (goal : GoalKind) (asked : Option (Key × Request)) (group : KeyParts) (below : Request)
+    → Asks q asked group below → IsChildGoal (IsMember q) q goal (Opt group below) → IsAskedByChild q goal asked
 asked_child q goal None group below asks child = absurd asks
-asked_child q goal (Some asked) group below asks child = (group, asks.0, subst (λ (r : Request). IsChildGoal (IsMember q) q goal (Opt group r)) (sym asks.1) child)
+asked_child q goal (Some asked) group below asks child =
+    (group, asks.0, subst (λ (r : Request). IsChildGoal (IsMember q) q goal (Opt group r)) (sym asks.1) child)
 
 none_child : (q : Query) (goal : GoalKind) (asked : Option (Key × Request)) → asked ≡ None → IsAskedByChild q goal asked
 none_child q goal asked none = subst (IsAskedByChild q goal) (sym none) tt
@@ -40,11 +43,16 @@ none_child q goal asked none = subst (IsAskedByChild q goal) (sym none) tt
 module _ (q : Query) (alt : Alt) (goal : GoalKind) where
   -- so it is of what an alternative asks of both children
   asked_children : (groups : List KeyParts) (wishes : List Request) → AreAsked q alt groups wishes
-      → ((group : KeyParts) (below : Request) → IsAsked groups wishes group below → IsChildGoal (IsMember q) q goal (Opt group below)) → IsAskedByChild q goal alt.left × IsAskedByChild q goal alt.right
+      → ((group : KeyParts) (below : Request) → IsAsked groups wishes group below
+      → IsChildGoal (IsMember q) q goal (Opt group below)) → IsAskedByChild q goal alt.left
+      × IsAskedByChild q goal alt.right
   asked_children [] [] are child = (none_child q goal alt.left are.0, none_child q goal alt.right are.1)
   asked_children [] (wish ∷ wishes) are child = absurd are
   asked_children (group ∷ []) [] are child = absurd are
-  asked_children (group ∷ []) (wish ∷ []) are child = (asked_child q goal alt.left group wish are.0 (child group wish (inl (refl, refl))), none_child q goal alt.right are.1)
+  asked_children (group ∷ []) (wish ∷ []) are child = (
+    asked_child q goal alt.left group wish are.0 (child group wish (inl (refl, refl))),
+    none_child q goal alt.right are.1,
+  )
   asked_children (group ∷ []) (wish ∷ other ∷ wishes) are child = absurd are
   asked_children (group ∷ second ∷ []) [] are child = absurd are
   asked_children (group ∷ second ∷ []) (wish ∷ []) are child = absurd are
@@ -57,12 +65,26 @@ module _ (q : Query) (alt : Alt) (goal : GoalKind) where
 
 module _ (q : Query) (e : PhysicalExpr) (wanted : Request) (mode : ℕ) where
   -- what the alternative of a mode asks is asked by children of the expression's goal
-  pub children_asked : (alt : Alt) (line : Line) → IsAltBy q e wanted mode alt line → IsAskedByChild q (OptE e wanted) alt.left × IsAskedByChild q (OptE e wanted) alt.right
-  children_asked alt line is = asked_children q alt (OptE e wanted) (groups_of (physical_children e.operator)) (asked_of line wanted) is.asks
-      (λ group below asked. (group, below, record { mode = mode; line = line; is_alternative = is.is_alternative; is_asked = asked }, refl))
+  pub children_asked : (alt : Alt) (line : Line) → IsAltBy q e wanted mode alt line
+      → IsAskedByChild q (OptE e wanted) alt.left × IsAskedByChild q (OptE e wanted) alt.right
+  children_asked alt line is = asked_children q alt (OptE e wanted) (groups_of (physical_children e.operator))
+      (asked_of line wanted) is.asks
+      (λ group below asked. (
+        group,
+        below,
+        record {
+          mode = mode;
+          line = line;
+          is_alternative =
+              is.is_alternative;
+          is_asked = asked;
+        },
+        refl,
+      ))
 
   -- the best answer of the node is that of the mode
-  pub best_in_one : (answer : Option Best) → IsBest q e.group wanted (one_node (nodes.Native e mode)) answer → IsBestInMode q e wanted mode answer
+  pub best_in_one : (answer : Option Best) → IsBest q e.group wanted (one_node (nodes.Native e mode)) answer
+      → IsBestInMode q e wanted mode answer
   best_in_one answer best = record {
     set = one_node (nodes.Native e mode);
     has = λ node is. is.1;
@@ -71,13 +93,17 @@ module _ (q : Query) (e : PhysicalExpr) (wanted : Request) (mode : ℕ) where
   }
 
   -- where the mode isn't there for the request, it has no answer
-  pub best_in_none : NoneIsBest q → ((line : Line) → IsAlternative q e wanted mode line → ⊥) → IsBestInMode q e wanted mode None
-  best_in_none none_best none = best_of_none q e.group wanted (IsModeOf e) none_best (IsInMode q e wanted mode) (λ node is. none is.0.0 is.0.1)
+  pub best_in_none : NoneIsBest q → ((line : Line) → IsAlternative q e wanted mode line → ⊥)
+      → IsBestInMode q e wanted mode None
+  best_in_none none_best none = best_of_none q e.group wanted (IsModeOf e) none_best (IsInMode q e wanted mode)
+      (λ node is. none is.0.0 is.0.1)
 
 -- a key is that of one group, so what is asked of the key is asked of the group
-pub child_of_key : (q : Query) (key : Key) (wanted : Request) (group : KeyParts) → ((other : KeyParts) → Names q key other → other ≡ group) → (goal : GoalKind)
+pub child_of_key : (q : Query) (key : Key) (wanted : Request) (group : KeyParts)
+    → ((other : KeyParts) → Names q key other → other ≡ group) → (goal : GoalKind)
     → IsAskedByChild q goal (Some (key, wanted)) → IsChildGoal (IsMember q) q goal (Opt group wanted)
-child_of_key q key wanted group only goal asked = subst (λ (g : KeyParts). IsChildGoal (IsMember q) q goal (Opt g wanted)) (only asked.0 asked.1) asked.2
+child_of_key q key wanted group only goal asked =
+    subst (λ (g : KeyParts). IsChildGoal (IsMember q) q goal (Opt g wanted)) (only asked.0 asked.1) asked.2
 
 -- ---- the modes so far
 
@@ -90,14 +116,17 @@ module _ (q : Query) (e : PhysicalExpr) (wanted : Request) where
   none_below node (mode, below, is) = omega (arith, below)
 
   -- a mode below the next one is below this one, or is it
-  pub below_or_here : (bound : ℕ) (node : NodeKind) → IsInModeBelow (bound + 1) node → IsInModeBelow bound node ⊎ IsInMode q e wanted bound node
+  pub below_or_here : (bound : ℕ) (node : NodeKind) → IsInModeBelow (bound + 1) node → IsInModeBelow bound node
+      ⊎ IsInMode q e wanted bound node
   below_or_here bound node (mode, below, is) = elim (cases_eq mode bound) [
     | inl same ↦ inr (subst (λ m. IsInMode q e wanted m node) same is)
     | inr other ↦ inl (mode, omega (arith, below, other), is)
   ]
 
   -- where the expression has modes below an end only, the best answer of all these is that of the expression
-  pub best_of_modes : CoveredIsBest q → (end : ℕ) → ((mode : ℕ) (line : Line) → IsAlternative q e wanted mode line → mode < end) → (bound : ℕ) → end ≤ bound → (answer : Option Best) → IsBestAmong q e.group wanted (IsInModeBelow bound) (IsModeOf e) answer
+  pub best_of_modes : CoveredIsBest q → (end : ℕ)
+      → ((mode : ℕ) (line : Line) → IsAlternative q e wanted mode line → mode < end) → (bound : ℕ) → end ≤ bound
+      → (answer : Option Best) → IsBestAmong q e.group wanted (IsInModeBelow bound) (IsModeOf e) answer
       → IsBest q e.group wanted (modes_of e) answer
   best_of_modes covered end few bound most answer best = covered e.group wanted best.set (modes_of e) answer (record {
     within = best.within;
@@ -105,5 +134,9 @@ module _ (q : Query) (e : PhysicalExpr) (wanted : Request) where
     members = λ other mode line member of_group same alternative.
         subst (λ (x : PhysicalExpr). IsIn best.set (nodes.Native x mode)) (sym same)
         (let own = subst (λ (x : PhysicalExpr). IsAlternative q x wanted mode line) same alternative in
-        best.has (nodes.Native e mode) (mode, (let below = few mode line own in omega (arith, below, most)), ((line, own), refl)));
+        best.has (nodes.Native e mode) (
+          mode,
+          (let below = few mode line own in omega (arith, below, most)),
+          ((line, own), refl),
+        ));
   }) best.is_best

@@ -18,7 +18,8 @@ use Rattle.goal_space.specs.declared.goals.GoalKind.{GoalKind}
 use Rattle.goal_space.specs.declared.goals.GoalKind.TheVariants.{OptE}
 
 -- the best answer of a set of nodes, in which are all of the first kind, and none but those of the second
-pub record IsBestAmong (q : Query) (group : KeyParts) (wanted : Request) (These Those : NodeKind → Type 0) (answer : Option Best) : Type 0 where
+pub record IsBestAmong (q : Query) (group : KeyParts) (wanted : Request) (These Those : NodeKind → Type 0)
+    (answer : Option Best) : Type 0 where
   pub set : Nodes
   pub has : (node : NodeKind) → These node → IsIn set node
   pub within : (node : NodeKind) → IsIn set node → Those node
@@ -31,11 +32,13 @@ IsAnyNode node = ⊤
 
 -- the node of the enforcer for the request at this place
 abbrev pub IsEnforcerAt : Request → ℕ → NodeKind → Type 0
-IsEnforcerAt wanted place node = (e : EnforcedBy) × (slice_get (enforcers_of wanted) place ≡ Some e) × (node ≡ nodes.Enforcer e.node)
+IsEnforcerAt wanted place node = (e : EnforcedBy) × (slice_get (enforcers_of wanted) place ≡ Some e)
+    × (node ≡ nodes.Enforcer e.node)
 
 -- the node of a member that may serve the request, in some mode
 abbrev pub IsOfMember : Query → KeyParts → Request → NodeKind → Type 0
-IsOfMember q group wanted node = (e : PhysicalExpr) × (mode : ℕ) × CanServe (IsMember q) q group wanted e × (node ≡ nodes.Native e mode)
+IsOfMember q group wanted node = (e : PhysicalExpr) × (mode : ℕ) × CanServe (IsMember q) q group wanted e
+    × (node ≡ nodes.Native e mode)
 
 -- the node of a member whose goal this is, in some mode
 abbrev pub IsOfGoal : Request → GoalKind → NodeKind → Type 0
@@ -43,7 +46,8 @@ IsOfGoal wanted goal node = (e : PhysicalExpr) × (mode : ℕ) × (goal ≡ OptE
 
 -- the node of a member whose goal is one of these, in some mode
 abbrev pub IsOfGoals : Request → List GoalKind → NodeKind → Type 0
-IsOfGoals wanted goals node = (e : PhysicalExpr) × (mode : ℕ) × Contains goals (OptE e wanted) × (node ≡ nodes.Native e mode)
+IsOfGoals wanted goals node = (e : PhysicalExpr) × (mode : ℕ) × Contains goals (OptE e wanted)
+    × (node ≡ nodes.Native e mode)
 
 -- the best answer of the enforcer at this place, if there are so many
 abbrev pub IsBestOfEnforcer : Query → KeyParts → Request → ℕ → Option Best → Type 0

@@ -60,7 +60,8 @@ pub record IsAnswered (q : Query) (answers : List Answered) (goal : GoalKind) : 
 -- the goal of what is asked, if something is, is a child of this one
 abbrev pub IsAskedByChild : Query → GoalKind → Option (Key × Request) → Type 0
 IsAskedByChild q goal None = ⊤
-IsAskedByChild q goal (Some asked) = (group : KeyParts) × Names q asked.0 group × IsChildGoal (IsMember q) q goal (Opt group asked.1)
+IsAskedByChild q goal (Some asked) = (group : KeyParts) × Names q asked.0 group
+    × IsChildGoal (IsMember q) q goal (Opt group asked.1)
 
 -- the props of the query, and the words of all its members
 pub record AreOf (q : Query) (props : Props) (members : List ℕ) : Type 0 where

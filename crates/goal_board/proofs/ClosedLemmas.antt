@@ -1,5 +1,6 @@
 -- The lists that are read of a board's words, one place after the other.
-use Rattle.std.proofs.Common.{◌≡◌, ◌==◌, ℕ, zero, suc, ◌+◌, ◌-◌, ◌^◌, nat_le, List, [], ◌∷◌, ◌++◌, get_or, cond, sym, subst, ap, ◌∙◌, arith}
+use Rattle.std.proofs.Common.{◌≡◌, ◌==◌, ℕ, zero, suc, ◌+◌, ◌-◌, ◌^◌, nat_le, List, [], ◌∷◌, ◌++◌, get_or, cond, sym}
+use Rattle.std.proofs.Common.{subst, ap, ◌∙◌, arith}
 use mathlib.Core.Option.{some, some-injective, some-ne-none}
 use lib.ListN.{get_elem?}
 use Rattle.board_rule.specs.Words.{Mem}
@@ -15,19 +16,26 @@ word_read (y ∷ ys) (suc i) x e = word_read ys i x e
 pub word_at : (l : List ℕ) (i at x : ℕ) → i ≡ at → get_elem? l i ≡ some x → get_or l at 0 ≡ x
 word_at l i at x is read = subst (λ k. get_or l k 0 ≡ x) is (word_read l i x read)
 
-pub cells_next : (m : Mem) (n word : ℕ) (cells after : List ℕ) → cells ≡ cells_below m n → m.cell n ≡ word → after ≡ cond (word == 0) cells (cells ++ word ∷ []) → after ≡ cells_below m (n + 1)
+pub cells_next : (m : Mem) (n word : ℕ) (cells after : List ℕ) → cells ≡ cells_below m n → m.cell n ≡ word
+    → after ≡ cond (word == 0) cells (cells ++ word ∷ []) → after ≡ cells_below m (n + 1)
 cells_next m n word cells after so_far is made =
     let e : n + 1 ≡ suc n = omega arith in
-    made ∙ ap (λ x. cond (x == 0) cells (cells ++ x ∷ [])) (sym is) ∙ ap (λ l. cond (m.cell n == 0) l (l ++ m.cell n ∷ [])) so_far ∙ sym (ap (cells_below m) e)
+    made ∙ ap (λ x. cond (x == 0) cells (cells ++ x ∷ [])) (sym is)
+    ∙ ap (λ l. cond (m.cell n == 0) l (l ++ m.cell n ∷ [])) so_far ∙ sym (ap (cells_below m) e)
 
-pub answers_next : (m : Mem) (n head goal : ℕ) (answer : Answer) (answers after : List (ℕ × Answer)) → answers ≡ answers_below m n → m.head n ≡ head → m.cell n ≡ goal
-    → m.cost n ≡ answer.cost → m.node n ≡ answer.node → after ≡ cond (nat_le (2 ^ 63) head) (answers ++ (goal, answer) ∷ []) answers → after ≡ answers_below m (n + 1)
+pub answers_next : (m : Mem) (n head goal : ℕ) (answer : Answer) (answers after : List (ℕ × Answer))
+    → answers ≡ answers_below m n → m.head n ≡ head → m.cell n ≡ goal
+    → m.cost n ≡ answer.cost → m.node n ≡ answer.node
+    → after ≡ cond (nat_le (2 ^ 63) head) (answers ++ (goal, answer) ∷ []) answers → after ≡ answers_below m (n + 1)
 answers_next m n head goal answer answers after so_far is_head is_goal is_cost is_node made =
     let e : n + 1 ≡ suc n = omega arith in
-    made ∙ (λ i. cond (nat_le (2 ^ 63) (sym is_head i)) (answers ++ (sym is_goal i, record { cost = sym is_cost i; node = sym is_node i }) ∷ []) answers)
-    ∙ ap (λ l. cond (nat_le (2 ^ 63) (m.head n)) (l ++ (m.cell n, record { cost = m.cost n; node = m.node n }) ∷ []) l) so_far ∙ sym (ap (answers_below m) e)
+    made ∙ (λ i. cond (nat_le (2 ^ 63) (sym is_head i))
+    (answers ++ (sym is_goal i, record { cost = sym is_cost i; node = sym is_node i }) ∷ []) answers)
+    ∙ ap (λ l. cond (nat_le (2 ^ 63) (m.head n)) (l ++ (m.cell n, record { cost = m.cost n; node = m.node n }) ∷ []) l)
+    so_far ∙ sym (ap (answers_below m) e)
 
-pub who_next : (m : Mem) (n head who : ℕ) (workers after : List ℕ) → workers ≡ who_below m n → m.head n ≡ head → m.who n ≡ who
+pub who_next : (m : Mem) (n head who : ℕ) (workers after : List ℕ) → workers ≡ who_below m n → m.head n ≡ head
+    → m.who n ≡ who
     → after ≡ cond (nat_le (2 ^ 63) head) (workers ++ (who - 1) ∷ []) workers → after ≡ who_below m (n + 1)
 who_next m n head who workers after so_far is_head is_who made =
     let e : n + 1 ≡ suc n = omega arith in

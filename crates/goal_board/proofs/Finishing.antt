@@ -1,10 +1,12 @@
 -- A right whose answer words are stored one after the other.
-use Rattle.std.proofs.Common.{◌≡◌, ℕ, ◌+◌, ◌^◌, ◌<◌, ◌≤◌, ◌≢◌, List, [], ◌∷◌, map, get_or, set, get_or-set_other, cond, eq-eqb, ne_eqb, Some, sym, refl, ap, subst, ◌∙◌, ⊎_elim, ◌==◌, arith}
+use Rattle.std.proofs.Common.{◌≡◌, ℕ, ◌+◌, ◌^◌, ◌<◌, ◌≤◌, ◌≢◌, List, [], ◌∷◌, map, get_or, set, get_or-set_other, cond}
+use Rattle.std.proofs.Common.{eq-eqb, ne_eqb, Some, sym, refl, ap, subst, ◌∙◌, ⊎_elim, ◌==◌, arith}
 use Rattle.std.proofs.lemmas.Bool.{cases_eq}
 use Rattle.board_rule.specs.Meaning.{Meaning}
 use Rattle.board_rule.specs.Records.{Claimed}
 use Rattle.board_rule.specs.Words.{mem, head_word, cost_word, node_word, who_word}
-use Rattle.board_rule.specs.Seats.{Among, changed, fresh_right, answered_right, without, with_cost, with_node, with_who, cost_stored, node_stored, who_stored}
+use Rattle.board_rule.specs.Seats.{Among, changed, fresh_right, answered_right, without, with_cost, with_node, with_who}
+use Rattle.board_rule.specs.Seats.{cost_stored, node_stored, who_stored}
 use Rattle.board_rule.specs.May.{HasRight}
 use Rattle.board_rule.specs.Plays.{Moment}
 use Rattle.board_rule.specs.declared.hands.Hands.{Hands}
@@ -20,23 +22,29 @@ changed_at place change rights = map (λ r. cond (r.place == place) (change r) r
 
 module _ (place : ℕ) (change : Claimed → Claimed) (same_place : (r : Claimed) → (change r).place ≡ r.place) where
   -- a right is changed where it is of the place, and else stays
-  change_cases : (Fact : Claimed → Type 0) (r : Claimed) → (r.place ≡ place → Fact (change r)) → (r.place ≢ place → Fact r) → Fact (cond (r.place == place) (change r) r)
+  change_cases : (Fact : Claimed → Type 0) (r : Claimed) → (r.place ≡ place → Fact (change r))
+      → (r.place ≢ place → Fact r) → Fact (cond (r.place == place) (change r) r)
   change_cases Fact r here else = ⊎_elim
       (λ e. subst (λ b. Fact (cond b (change r) r)) (sym (eq-eqb r.place place e)) (here e))
       (λ ne. subst (λ b. Fact (cond b (change r) r)) (sym (ne_eqb r.place place ne)) (else ne))
       (cases_eq r.place place)
 
   -- the changed right is among the changed rights
-  pub among_changed : (rights : List Claimed) (r : Claimed) → r.place ≡ place → Among rights r → Among (changed_at place change rights) (change r)
+  pub among_changed : (rights : List Claimed) (r : Claimed) → r.place ≡ place → Among rights r
+      → Among (changed_at place change rights) (change r)
   among_changed rights r here at =
-      subst (λ b. Among (changed_at place change rights) (cond b (change r) r)) (eq-eqb r.place place here) (among_map (λ (q : Claimed). cond (q.place == place) (change q) q) rights r at)
+      subst (λ b. Among (changed_at place change rights) (cond b (change r) r)) (eq-eqb r.place place here)
+      (among_map (λ (q : Claimed). cond (q.place == place) (change q) q) rights r at)
 
   -- each place stands as often in them
-  pub times_changed : (p : ℕ) (rights : List Claimed) → rights_at p (changed_at place change rights) ≡ rights_at p rights
+  pub times_changed : (p : ℕ) (rights : List Claimed)
+      → rights_at p (changed_at place change rights) ≡ rights_at p rights
   times_changed p [] = refl
   times_changed p (r ∷ rs) =
       change_cases (λ q. cond (q.place == p) 1 0 + rights_at p (changed_at place change rs) ≡ rights_at p (r ∷ rs)) r
-      (λ _. let e : (change r).place ≡ r.place = same_place r in let t = times_changed p rs in ap (λ x. cond (x == p) 1 0 + rights_at p (changed_at place change rs)) e ∙ ap (λ n. cond (r.place == p) 1 0 + n) t)
+      (λ _. let e : (change r).place ≡ r.place = same_place r in let t = times_changed p rs in
+      ap (λ x. cond (x == p) 1 0 + rights_at p (changed_at place change rs)) e
+      ∙ ap (λ n. cond (r.place == p) 1 0 + n) t)
       (λ _. ap (λ n. cond (r.place == p) 1 0 + n) (times_changed p rs))
 
   -- rights that are all of other places stay
@@ -44,31 +52,39 @@ module _ (place : ℕ) (change : Claimed → Claimed) (same_place : (r : Claimed
   unchanged [] none = refl
   unchanged (r ∷ rs) none =
       change_cases (λ q. q ∷ changed_at place change rs ≡ r ∷ rs) r
-      (λ e. let one : cond {A = ℕ} (r.place == place) 1 0 ≡ 1 = ap (λ b. cond b 1 0) (eq-eqb r.place place e) in absurd (omega arith))
+      (λ e. let one : cond {A = ℕ} (r.place == place) 1 0 ≡ 1 = ap (λ b. cond b 1 0) (eq-eqb r.place place e) in
+      absurd (omega arith))
       (λ _. ap (λ l. r ∷ l) (unchanged rs (omega arith)))
 
   -- without the one of the place, the rights are as they were
-  pub without_changed : (rights : List Claimed) → rights_at place rights ≤ 1 → without place (changed_at place change rights) ≡ without place rights
+  pub without_changed : (rights : List Claimed) → rights_at place rights ≤ 1
+      → without place (changed_at place change rights) ≡ without place rights
   without_changed [] few = refl
   without_changed (r ∷ rs) few =
       ⊎_elim
       (λ e.
       let one : cond {A = ℕ} (r.place == place) 1 0 ≡ 1 = ap (λ b. cond b 1 0) (eq-eqb r.place place e) in
       let left : without place (changed_at place change (r ∷ rs)) ≡ changed_at place change rs =
-      change_cases (λ q. cond (q.place == place) (changed_at place change rs) (q ∷ without place (changed_at place change rs)) ≡ changed_at place change rs) r
-      (λ _. ap (λ b. cond b (changed_at place change rs) (change r ∷ without place (changed_at place change rs))) (eq-eqb (change r).place place (same_place r ∙ e)))
+      change_cases (λ q. cond (q.place == place) (changed_at place change rs)
+      (q ∷ without place (changed_at place change rs)) ≡ changed_at place change rs) r
+      (λ _. ap (λ b. cond b (changed_at place change rs) (change r ∷ without place (changed_at place change rs)))
+      (eq-eqb (change r).place place (same_place r ∙ e)))
       (λ ne. absurd (ne e)) in
       left ∙ unchanged rs (omega arith) ∙ sym (ap (λ b. cond b rs (r ∷ without place rs)) (eq-eqb r.place place e)))
       (λ ne.
       let left : without place (changed_at place change (r ∷ rs)) ≡ r ∷ without place (changed_at place change rs) =
-      change_cases (λ q. cond (q.place == place) (changed_at place change rs) (q ∷ without place (changed_at place change rs)) ≡ r ∷ without place (changed_at place change rs)) r
+      change_cases (λ q. cond (q.place == place) (changed_at place change rs)
+      (q ∷ without place (changed_at place change rs)) ≡ r ∷ without place (changed_at place change rs)) r
       (λ e. absurd (ne e))
-      (λ _. ap (λ b. cond b (changed_at place change rs) (r ∷ without place (changed_at place change rs))) (ne_eqb r.place place ne)) in
-      left ∙ ap (λ l. r ∷ l) (without_changed rs (omega arith)) ∙ sym (ap (λ b. cond b rs (r ∷ without place rs)) (ne_eqb r.place place ne)))
+      (λ _. ap (λ b. cond b (changed_at place change rs) (r ∷ without place (changed_at place change rs)))
+      (ne_eqb r.place place ne)) in
+      left ∙ ap (λ l. r ∷ l) (without_changed rs (omega arith))
+      ∙ sym (ap (λ b. cond b rs (r ∷ without place rs)) (ne_eqb r.place place ne)))
       (cases_eq r.place place)
 
 -- a right without waits is as it was claimed
-pub held_fresh : (rights : List Claimed) (place waits : ℕ) → waits ≡ 0 → Among rights (waiting_right place waits) → Among rights (fresh_right place)
+pub held_fresh : (rights : List Claimed) (place waits : ℕ) → waits ≡ 0 → Among rights (waiting_right place waits)
+    → Among rights (fresh_right place)
 held_fresh rights place waits none held = subst (λ n. Among rights (waiting_right place n)) none held
 
 -- a right with the cost, then with the node, then with the worker
@@ -78,22 +94,32 @@ with_first place cost = record (fresh_right place) { cost = Some cost }
 abbrev pub with_second : ℕ → ℕ → ℕ → Claimed
 with_second place cost node = record (with_first place cost) { node = Some node }
 
-pub cost_among : (rights : List Claimed) (place cost : ℕ) → Among rights (fresh_right place) → Among (with_cost place cost rights) (with_first place cost)
-cost_among rights place cost at = among_changed place (λ r. record r { cost = Some cost }) (λ _. refl) rights (fresh_right place) refl at
+pub cost_among : (rights : List Claimed) (place cost : ℕ) → Among rights (fresh_right place)
+    → Among (with_cost place cost rights) (with_first place cost)
+cost_among rights place cost at = among_changed place (λ r. record r { cost = Some cost }) (λ _. refl) rights
+    (fresh_right place) refl at
 
-pub node_among : (rights : List Claimed) (place cost node : ℕ) → Among rights (with_first place cost) → Among (with_node place node rights) (with_second place cost node)
-node_among rights place cost node at = among_changed place (λ r. record r { node = Some node }) (λ _. refl) rights (with_first place cost) refl at
+pub node_among : (rights : List Claimed) (place cost node : ℕ) → Among rights (with_first place cost)
+    → Among (with_node place node rights) (with_second place cost node)
+node_among rights place cost node at = among_changed place (λ r. record r { node = Some node }) (λ _. refl) rights
+    (with_first place cost) refl at
 
-pub who_among : (rights : List Claimed) (place worker cost node : ℕ) → Among rights (with_second place cost node) → Among (with_who place (worker + 1) rights) (answered_right place worker cost node)
-who_among rights place worker cost node at = among_changed place (λ r. record r { who = Some (worker + 1) }) (λ _. refl) rights (with_second place cost node) refl at
+pub who_among : (rights : List Claimed) (place worker cost node : ℕ) → Among rights (with_second place cost node)
+    → Among (with_who place (worker + 1) rights) (answered_right place worker cost node)
+who_among rights place worker cost node at =
+    among_changed place (λ r. record r { who = Some (worker + 1) }) (λ _. refl) rights (with_second place cost node)
+    refl at
 
 -- a right that is among a seat's is one that it has
-pub has_right : (room : ℕ) (rights : List Claimed) (r : Claimed) → r.place < room → Among rights r → HasRight room rights r.place
+pub has_right : (room : ℕ) (rights : List Claimed) (r : Claimed) → r.place < room → Among rights r
+    → HasRight room rights r.place
 has_right room rights r near at = record { near = near; held = among_counts (λ (q : Claimed). q.place) rights r at }
 
 -- the rights that are left once the answer was stored and the right was spent
-pub left_over : (rights : List Claimed) (place worker cost node : ℕ) → rights_at place (with_who place (worker + 1) (with_node place node (with_cost place cost rights))) ≤ 1
-    → without place (with_who place (worker + 1) (with_node place node (with_cost place cost rights))) ≡ without place rights
+pub left_over : (rights : List Claimed) (place worker cost node : ℕ)
+    → rights_at place (with_who place (worker + 1) (with_node place node (with_cost place cost rights))) ≤ 1
+    → without place (with_who place (worker + 1) (with_node place node (with_cost place cost rights))) ≡ without place
+    rights
 left_over rights place worker cost node few =
     let first : List Claimed = with_cost place cost rights in
     let second : List Claimed = with_node place node first in
@@ -105,15 +131,22 @@ left_over rights place worker cost node few =
     ∙ without_changed place (λ r. record r { cost = Some cost }) (λ _. refl) rights (omega arith)
 
 -- a seat has the right to a goal once
-pub once_held : {R : Type 0} (meaning_of : R → Meaning) (rules : R) (room : ℕ) (v : Hands R) (word value place : ℕ) → AreHandsOver meaning_of rules room v → Moment meaning_of v word value
+pub once_held : {R : Type 0} (meaning_of : R → Meaning) (rules : R) (room : ℕ) (v : Hands R) (word value place : ℕ)
+    → AreHandsOver meaning_of rules room v → Moment meaning_of v word value
     → place < room → rights_at place v.rights ≤ 1
 once_held meaning_of rules room v word value place over moment near =
     let s = (sound_at meaning_of rules room v word value over moment).0 in
-    omega (arith, term_le (λ (u : Hands _). rights_at place u.rights) s.views s.id v s.mine, (s.sound.by_kinds.rights place near).once)
+    omega (
+      arith,
+      term_le (λ (u : Hands _). rights_at place u.rights) s.views s.id v s.mine,
+      (s.sound.by_kinds.rights place near).once,
+    )
 
 -- the goal whose right is spent was not finished, by the words that are kept before its answer was stored
-pub open_before : {R : Type 0} (meaning_of : R → Meaning) (rules : R) (room : ℕ) (v u : Hands R) (place worker cost node found : ℕ) → AreHandsOver meaning_of rules room u
-    → u ≡ who_stored (node_stored (cost_stored v place cost) place node) place (worker + 1) → Moment meaning_of u (head_word place) found → place < room → Among v.rights (fresh_right place)
+pub open_before : {R : Type 0} (meaning_of : R → Meaning) (rules : R) (room : ℕ) (v u : Hands R)
+    (place worker cost node found : ℕ) → AreHandsOver meaning_of rules room u
+    → u ≡ who_stored (node_stored (cost_stored v place cost) place node) place (worker + 1)
+    → Moment meaning_of u (head_word place) found → place < room → Among v.rights (fresh_right place)
     → (kept : List ℕ) → v.alone ≡ Some kept → (mem kept).head place < 2 ^ 63
 open_before meaning_of rules room v u place worker cost node found over stored moment near held kept is =
     let s = (sound_at meaning_of rules room u (head_word place) found over moment).0 in
@@ -122,12 +155,15 @@ open_before meaning_of rules room v u place worker cost node found over stored m
     let second : List Claimed = with_node place node first in
     let has : HasRight room u.rights place = subst (λ (h : Hands _). HasRight room h.rights place) (sym stored)
     (has_right room (with_who place (worker + 1) second) (answered_right place worker cost node) near
-    (who_among second place worker cost node (node_among first place cost node (cost_among v.rights place cost held)))) in
+    (who_among second place worker cost node
+    (node_among first place cost node (cost_among v.rights place cost held)))) in
     let is_open = (held_by room m.run m.head s.views s.id u place s.mine has s.sound.by_kinds.rights).is_open in
     let with_first_word : List ℕ = set kept (cost_word place) cost in
     let with_both : List ℕ = set with_first_word (node_word place) node in
     let alone : u.alone ≡ Some (set with_both (who_word place) (worker + 1)) =
-    ap (λ (h : Hands _). h.alone) stored ∙ ap (λ o. changed (who_word place) (worker + 1) (changed (node_word place) node (changed (cost_word place) cost o))) is in
+    ap (λ (h : Hands _). h.alone) stored ∙ ap
+    (λ o. changed (who_word place) (worker + 1) (changed (node_word place) node (changed (cost_word place) cost o)))
+    is in
     let same = (s.sound.alone s.id u s.mine).every_word (set with_both (who_word place) (worker + 1)) alone in
     subst (λ n. n < 2 ^ 63)
     (sym (ap (λ ws. get_or ws (head_word place) 0) same)

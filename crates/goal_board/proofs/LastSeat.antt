@@ -1,5 +1,6 @@
 -- A board whose last seat has all parts.
-use Rattle.std.proofs.Common.{◌≡◌, ◌≢◌, ℕ, zero, suc, ◌+◌, ◌^◌, ◌<◌, ◌≤◌, List, [], ◌∷◌, cond, eqb, ne_eqb, true, false, not, IsTrue, sym, refl, ap, subst, ◌∙◌, inl, inr, ⊎_elim, arith}
+use Rattle.std.proofs.Common.{◌≡◌, ◌≢◌, ℕ, zero, suc, ◌+◌, ◌^◌, ◌<◌, ◌≤◌, List, [], ◌∷◌, cond, eqb, ne_eqb, true, false}
+use Rattle.std.proofs.Common.{not, IsTrue, sym, refl, ap, subst, ◌∙◌, inl, inr, ⊎_elim, arith}
 use Rattle.std.proofs.lemmas.Bool.{cases_eq}
 use mathlib.Core.Option.{some, some-injective, some-ne-none}
 use lib.ListN.{get_elem?}
@@ -21,28 +22,42 @@ module _ {A : Type 0} (f : A → ℕ) where
   none_at_all (x ∷ xs) zeros = omega (arith, zeros 0 x refl, none_at_all xs (λ k u e. zeros (suc k) u e))
 
   -- a sum of which only one term is not 0
-  one_term : (l : List A) (id : ℕ) (v : A) → get_elem? l id ≡ some v → ((k : ℕ) (u : A) → k ≢ id → get_elem? l k ≡ some u → f u ≡ 0) → total f l ≡ f v
+  one_term : (l : List A) (id : ℕ) (v : A) → get_elem? l id ≡ some v
+      → ((k : ℕ) (u : A) → k ≢ id → get_elem? l k ≡ some u → f u ≡ 0) → total f l ≡ f v
   one_term [] id v mine zeros = absurd (some-ne-none v (sym mine))
-  one_term (x ∷ xs) zero v mine zeros = omega (arith, ap f (some-injective x v mine), none_at_all xs (λ k u e. zeros (suc k) u (λ d. omega arith) e))
+  one_term (x ∷ xs) zero v mine zeros = omega
+      (arith, ap f (some-injective x v mine), none_at_all xs (λ k u e. zeros (suc k) u (λ d. omega arith) e))
   one_term (x ∷ xs) (suc id) v mine zeros =
-      omega (arith, zeros 0 x (λ d. omega arith) refl, one_term xs id v mine (λ k u apart e. zeros (suc k) u (λ d. apart (omega arith)) e))
+      omega (
+        arith,
+        zeros 0 x (λ d. omega arith) refl,
+        one_term xs id v mine (λ k u apart e. zeros (suc k) u (λ d. apart (omega arith)) e),
+      )
 
 -- a place that stands in the list is that of one of it
-counted_among : {A : Type 0} → (place_of : A → ℕ) (p : ℕ) (l : List A) → 1 ≤ times place_of p l → (a : A) × Among l a × (place_of a ≡ p)
+counted_among : {A : Type 0} → (place_of : A → ℕ) (p : ℕ) (l : List A) → 1 ≤ times place_of p l → (a : A) × Among l a
+    × (place_of a ≡ p)
 counted_among place_of p [] some_one = absurd (omega arith)
 counted_among place_of p (x ∷ xs) some_one =
     ⊎_elim
     (λ e. (x, inl refl, e))
-    (λ ne. let none_here : cond {A = ℕ} (eqb (place_of x) p) 1 0 ≡ 0 = ap (λ b. cond b 1 0) (ne_eqb (place_of x) p ne) in
+    (λ ne. let none_here : cond {A = ℕ} (eqb (place_of x) p) 1 0 ≡ 0 =
+    ap (λ b. cond b 1 0) (ne_eqb (place_of x) p ne) in
     let t = counted_among place_of p xs (omega arith) in (t.0, inr t.1, t.2))
     (cases_eq (place_of x) p)
 
-module _ {R : Type 0} (meaning : Meaning) (rules : R) (room : ℕ) (words : List ℕ) (views : List (Hands R)) (sound : IsSound meaning rules room words views)
+module _ {R : Type 0} (meaning : Meaning) (rules : R) (room : ℕ) (words : List ℕ) (views : List (Hands R))
+    (sound : IsSound meaning rules room words views)
     (id : ℕ) (v : Hands R) (mine : get_elem? views id ≡ some v) (all : v.parts ≡ 64) where
   -- every other seat is spent
   others_spent : (k : ℕ) (u : Hands R) → k ≢ id → get_elem? views k ≡ some u → u ≡ spent
   others_spent k u apart there = ⊎_elim (λ e. e)
-      (λ t. absurd (omega (arith, t.0, terms_le (λ (h : Hands R). h.parts) views id k v u apart mine there, sound.by_kinds.parts)))
+      (λ t. absurd (omega (
+        arith,
+        t.0,
+        terms_le (λ (h : Hands R). h.parts) views id k v u apart mine there,
+        sound.by_kinds.parts,
+      )))
       (sound.by_kinds.hands k u there).awake
 
   last_sum : (f : Hands R → ℕ) → f spent ≡ 0 → total f views ≡ f v
@@ -50,13 +65,21 @@ module _ {R : Type 0} (meaning : Meaning) (rules : R) (room : ℕ) (words : List
 
   -- what is finished was finished by the seat, or by one that it took in
   pub finished_by : (p : ℕ) → p < room → 2 ^ 63 ≤ (mem words).head p
-      → (e : Ended) × Among v.done e × (e.place ≡ p) × IsRecorded room (mem words).head (mem words).cost (mem words).node (mem words).who e
+      → (e : Ended) × Among v.done e × (e.place ≡ p)
+      × IsRecorded room (mem words).head (mem words).cost (mem words).node (mem words).who e
   finished_by p near closed =
       let some_one : 1 ≤ times (λ (e : Ended). e.place) p v.done =
-      let was = sound.by_kinds.rights p near in ⊎_elim (λ none_ended. let is_open = was.is_open none_ended in absurd (omega arith))
-      (λ some_end. omega (arith, last_sum (λ (h : Hands R). times (λ (e : Ended). e.place) p h.done) refl)) (cases_eq (ended views p) 0) in
-      let t = counted_among (λ (e : Ended). e.place) p v.done some_one in
-      (t.0, t.1, t.2, each_at (IsRecorded room (mem words).head (mem words).cost (mem words).node (mem words).who) v.done t.0 (sound.by_kinds.hands id v mine).recorded t.1)
+      let was = sound.by_kinds.rights p near in
+      ⊎_elim (λ none_ended. let is_open = was.is_open none_ended in absurd (omega arith))
+      (λ some_end. omega (arith, last_sum (λ (h : Hands R). times (λ (e : Ended). e.place) p h.done) refl))
+      (cases_eq (ended views p) 0) in
+      let t = counted_among (λ (e : Ended). e.place) p v.done some_one in (
+        t.0,
+        t.1,
+        t.2,
+        each_at (IsRecorded room (mem words).head (mem words).cost (mem words).node (mem words).who)
+            v.done t.0 (sound.by_kinds.hands id v mine).recorded t.1,
+      )
 
   pub has_workers : HasWorkers (mem words) room
   has_workers p near closed =
@@ -65,29 +88,41 @@ module _ {R : Type 0} (meaning : Meaning) (rules : R) (room : ℕ) (words : List
       let few = t.3.few in (omega arith, omega arith)
 
   -- where no goal is ready and the seat holds no right, every goal is finished
-  pub all_finished : v.rights ≡ [] → IsFree v → ((goal child : ℕ) → meaning.entry goal → meaning.child goal child → IsTrue (meaning.goal child))
+  pub all_finished : v.rights ≡ [] → IsFree v
+      → ((goal child : ℕ) → meaning.entry goal → meaning.child goal child → IsTrue (meaning.goal child))
       → (rank : ℕ → ℕ) → ((goal child : ℕ) → meaning.child goal child → rank child < rank goal)
-      → ((p : ℕ) → p < room → IsReadyAt meaning (mem words) p → ⊥) → (p : ℕ) → p < room → HoldsGoal meaning room (mem words).cell p → 2 ^ 63 ≤ (mem words).head p
+      → ((p : ℕ) → p < room → IsReadyAt meaning (mem words) p → ⊥) → (p : ℕ) → p < room
+      → HoldsGoal meaning room (mem words).cell p → 2 ^ 63 ≤ (mem words).head p
   all_finished no_right free children rank falls none_ready =
-      no_wake_up_lost meaning rules room (mem words) views id v sound.by_kinds mine all no_right free.no_wait free.no_walk children rank falls
+      no_wake_up_lost meaning rules room (mem words) views id v sound.by_kinds mine all no_right free.no_wait
+      free.no_walk children rank falls
       (λ p near holds ready. none_ready p near (record { some_goal = holds.0; is_goal = holds.1; ready = ready }))
 
 -- what is said of a board that was closed
-pub closes_with : {R : Type 0} → (meaning_of : R → Meaning) (rules : R) (room : ℕ) (words : List ℕ) (views : List (Hands R)) (sound : IsSound (meaning_of rules) rules room words views)
+pub closes_with : {R : Type 0} → (meaning_of : R → Meaning) (rules : R) (room : ℕ) (words : List ℕ)
+    (views : List (Hands R)) (sound : IsSound (meaning_of rules) rules room words views)
     (id : ℕ) (v : Hands R) (mine : get_elem? views id ≡ some v) (all : v.parts ≡ 64) → v.rights ≡ [] → IsFree v
-    → ((goal child : ℕ) → (meaning_of rules).entry goal → (meaning_of rules).child goal child → IsTrue ((meaning_of rules).goal child))
-    → (rank : ℕ → ℕ) → ((goal child : ℕ) → (meaning_of rules).child goal child → rank child < rank goal) → (closed : Closed) → ReadsBoard (meaning_of rules) room (mem words) closed
+    → ((goal child : ℕ) → (meaning_of rules).entry goal → (meaning_of rules).child goal child
+    → IsTrue ((meaning_of rules).goal child))
+    → (rank : ℕ → ℕ) → ((goal child : ℕ) → (meaning_of rules).child goal child → rank child < rank goal)
+    → (closed : Closed) → ReadsBoard (meaning_of rules) room (mem words) closed
     → ClosesWith meaning_of rules room v closed
-closes_with meaning_of rules room words views sound id v mine all no_right free children rank falls closed reads = record {
-  words = words;
-  views = views;
-  id = id;
-  sound = sound;
-  mine = mine;
-  reads = reads;
-  none_ready = λ none. all_finished (meaning_of rules) rules room words views sound id v mine all no_right free children rank falls (subst (IsFirstReady (meaning_of rules) (mem words) room) none reads.ready);
-  finished_by = finished_by (meaning_of rules) rules room words views sound id v mine all;
-  registered = λ c q near at. registered_not_ready (meaning_of rules) room (mem words) views sound.by_kinds.waits c q near (among_counts (λ (p : ℕ). p) (sound.by_kinds.waits.lists c) q at);
-  filled = λ shows. reads.full ∙ ap not (ne_eqb (mem words).full 0 ((sound.by_kinds.hands id v mine).stays.set_full shows.0 shows.1 shows.2));
-  left_out = λ is_full. sound.by_kinds.full (λ none. let unset : not (eqb (mem words).full 0) ≡ false = ap (λ x. not (eqb x 0)) none in let set : not (eqb (mem words).full 0) ≡ true = sym reads.full ∙ is_full in let no_way : ⊥ = cc in no_way);
-}
+closes_with meaning_of rules room words views sound id v mine all no_right free children rank falls closed reads =
+    record {
+      words = words;
+      views = views;
+      id = id;
+      sound = sound;
+      mine = mine;
+      reads = reads;
+      none_ready = λ none. all_finished (meaning_of rules) rules room words views sound id v mine all no_right free children
+          rank falls (subst (IsFirstReady (meaning_of rules) (mem words) room) none reads.ready);
+      finished_by = finished_by (meaning_of rules) rules room words views sound id v mine all;
+      registered = λ c q near at. registered_not_ready (meaning_of rules) room (mem words) views sound.by_kinds.waits c q
+          near (among_counts (λ (p : ℕ). p) (sound.by_kinds.waits.lists c) q at);
+      filled = λ shows. reads.full ∙ ap not (ne_eqb (mem words).full 0
+          ((sound.by_kinds.hands id v mine).stays.set_full shows.0 shows.1 shows.2));
+      left_out = λ is_full. sound.by_kinds.full (λ none. let unset : not (eqb (mem words).full 0) ≡ false =
+          ap (λ x. not (eqb x 0)) none in let set : not (eqb (mem words).full 0) ≡ true = sym reads.full ∙ is_full in
+          let no_way : ⊥ = cc in no_way);
+    }

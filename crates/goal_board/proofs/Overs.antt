@@ -1,5 +1,6 @@
 -- Hands over a board's rules stay so, and what a step's moment says of them.
-use Rattle.std.proofs.Common.{◌≡◌, ℕ, ◌+◌, ◌*◌, ◌≢◌, List, ◌∷◌, length, length-set, get_or, Option, Some, sym, ap, subst, ◌∙◌, ⊎_elim}
+use Rattle.std.proofs.Common.{◌≡◌, ℕ, ◌+◌, ◌*◌, ◌≢◌, List, ◌∷◌, length, length-set, get_or, Option, Some, sym, ap}
+use Rattle.std.proofs.Common.{subst, ◌∙◌, ⊎_elim}
 use mathlib.Core.Option.{some}
 use lib.ListN.{get_elem?}
 use Rattle.board_rule.specs.Meaning.{Meaning}
@@ -23,8 +24,11 @@ pub record SoundWith {R : Type 0} (meaning_of : R → Meaning) (rules : R) (room
   pub mine : get_elem? views id ≡ some v
 
 -- as many words are kept once one has changed
-pub all_changed : (room word x : ℕ) (o : Option (List ℕ)) → ((kept : List ℕ) → o ≡ Some kept → length kept ≡ 14 * room + 1) → (kept : List ℕ) → changed word x o ≡ Some kept → length kept ≡ 14 * room + 1
-all_changed room word x o all kept is = let t = changed_from word x o kept is in ap (length {A = ℕ}) (sym t.2) ∙ length-set t.0 word x ∙ all t.0 t.1
+pub all_changed : (room word x : ℕ) (o : Option (List ℕ))
+    → ((kept : List ℕ) → o ≡ Some kept → length kept ≡ 14 * room + 1) → (kept : List ℕ) → changed word x o ≡ Some kept
+    → length kept ≡ 14 * room + 1
+all_changed room word x o all kept is = let t = changed_from word x o kept is in ap (length {A = ℕ}) (sym t.2)
+    ∙ length-set t.0 word x ∙ all t.0 t.1
 
 module _ {R : Type 0} (meaning_of : R → Meaning) (rules : R) (room : ℕ) where
   -- the board at a step
@@ -37,27 +41,31 @@ module _ {R : Type 0} (meaning_of : R → Meaning) (rules : R) (room : ℕ) wher
           words = m.words;
           views = m.views;
           id = m.id;
-          sound = subst (λ n. IsSound (meaning_of rules) rules n m.words m.views) over.its_room (subst (λ r. IsSound (meaning_of r) r v.room m.words m.views) same m.sound);
+          sound = subst (λ n. IsSound (meaning_of rules) rules n m.words m.views) over.its_room
+              (subst (λ r. IsSound (meaning_of r) r v.room m.words m.views) same m.sound);
           mine = m.mine;
         },
         m.value,
       )
 
   -- a look keeps hands over the rules
-  pub over_looked : (v : Hands R) (word value : ℕ) → AreHandsOver meaning_of rules room v → Moment meaning_of v word value → AreHandsOver meaning_of rules room (looked v word value)
+  pub over_looked : (v : Hands R) (word value : ℕ) → AreHandsOver meaning_of rules room v
+      → Moment meaning_of v word value → AreHandsOver meaning_of rules room (looked v word value)
   over_looked v word value over m = let t = sound_at v word value over m in record {
     its_rules = over.its_rules;
     its_room = over.its_room;
     entries = λ place found near at is_word. ⊎_elim
         (λ (e : (word ≡ cell_word place) × (value ≡ found)).
         let there : (mem t.0.words).cell place ≡ found = ap (λ k. get_or t.0.words k 0) (sym e.0) ∙ sym t.1 ∙ e.1 in
-        subst (meaning_of rules).entry there (t.0.sound.by_kinds.cells.enter place near (λ none. is_word (sym there ∙ none))))
+        subst (meaning_of rules).entry there (t.0.sound.by_kinds.cells.enter place near
+        (λ none. is_word (sym there ∙ none))))
         (λ (old : Looked v.looks (cell_word place) found). over.entries place found near old is_word) at;
     all = over.all;
   }
 
   -- so do hands whose looks at cells found entries
-  pub over_placed : (v : Hands R) (place word : ℕ) → AreHandsOver meaning_of rules room v → (meaning_of rules).entry word → AreHandsOver meaning_of rules room (placed v place word)
+  pub over_placed : (v : Hands R) (place word : ℕ) → AreHandsOver meaning_of rules room v
+      → (meaning_of rules).entry word → AreHandsOver meaning_of rules room (placed v place word)
   over_placed v place word over enters = record {
     its_rules = over.its_rules;
     its_room = over.its_room;
@@ -70,7 +78,8 @@ module _ {R : Type 0} (meaning_of : R → Meaning) (rules : R) (room : ℕ) wher
   }
 
   -- and hands whose only new look is at no cell
-  pub over_beside : (v w : Hands R) (word value : ℕ) → w.rules ≡ v.rules → w.room ≡ v.room → w.looks ≡ (word, value) ∷ v.looks → ((p : ℕ) → word ≢ cell_word p)
+  pub over_beside : (v w : Hands R) (word value : ℕ) → w.rules ≡ v.rules → w.room ≡ v.room
+      → w.looks ≡ (word, value) ∷ v.looks → ((p : ℕ) → word ≢ cell_word p)
       → KeepsAll room w → AreHandsOver meaning_of rules room v → AreHandsOver meaning_of rules room w
   over_beside v w word value rules_same room_same looks apart all over = record {
     its_rules = rules_same ∙ over.its_rules;
@@ -83,16 +92,19 @@ module _ {R : Type 0} (meaning_of : R → Meaning) (rules : R) (room : ℕ) wher
   }
 
   -- and hands with the same looks
-  pub over_same : (v w : Hands R) → w.rules ≡ v.rules → w.room ≡ v.room → w.looks ≡ v.looks → KeepsAll room w → AreHandsOver meaning_of rules room v → AreHandsOver meaning_of rules room w
+  pub over_same : (v w : Hands R) → w.rules ≡ v.rules → w.room ≡ v.room → w.looks ≡ v.looks → KeepsAll room w
+      → AreHandsOver meaning_of rules room v → AreHandsOver meaning_of rules room w
   over_same v w rules_same room_same looks all over = record {
     its_rules = rules_same ∙ over.its_rules;
     its_room = room_same ∙ over.its_room;
-    entries = λ p found near at is_word. over.entries p found near (subst (λ ls. Looked ls (cell_word p) found) looks at) is_word;
+    entries = λ p found near at is_word. over.entries p found near
+        (subst (λ ls. Looked ls (cell_word p) found) looks at) is_word;
     all = all;
   }
 
   -- and hands that took in others
-  pub over_joined : (v other : Hands R) → AreHandsOver meaning_of rules room v → AreHandsOver meaning_of rules room other → AreHandsOver meaning_of rules room (joined v other)
+  pub over_joined : (v other : Hands R) → AreHandsOver meaning_of rules room v
+      → AreHandsOver meaning_of rules room other → AreHandsOver meaning_of rules room (joined v other)
   over_joined v other over theirs = record {
     its_rules = over.its_rules;
     its_room = over.its_room;

@@ -1,5 +1,6 @@
 -- A wait that is put in: what each turn of its loop leaves.
-use Rattle.std.proofs.Common.{◌≡◌, ℕ, ◌+◌, ◌-◌, ◌*◌, ◌/◌, ◌%◌, ◌^◌, ◌<◌, ◌≤◌, ◌≢◌, false, List, ◌++◌, Some, sym, ap, subst, ◌∙◌, ⊎_elim, arith, bit_or, Option, refl}
+use Rattle.std.proofs.Common.{◌≡◌, ℕ, ◌+◌, ◌-◌, ◌*◌, ◌/◌, ◌%◌, ◌^◌, ◌<◌, ◌≤◌, ◌≢◌, false, List, ◌++◌, Some, sym, ap}
+use Rattle.std.proofs.Common.{subst, ◌∙◌, ⊎_elim, arith, bit_or, Option, refl}
 use Rattle.std.specs.Int.{bit_at}
 use Rattle.std.proofs.lemmas.Nat.Bits.{bit_at-zero}
 use Rattle.board_rule.specs.Meaning.{Meaning}
@@ -38,22 +39,34 @@ pub record IsPutting {R : Type 0} (room : ℕ) (v : Hands R) (waiter child head 
   pub quiet : (value : ℕ) → Looked more full_word value → ⊥
   pub saw : Looked more (head_word child) head
   pub bound : head < 2 ^ 63 → head / 2 ^ 24 ≤ 8 * room
-  pub hands_are : w ≡ record v { alone = w.alone; looks = more ++ v.looks; pending = Some (seen_wait waiter child head) }
+  pub hands_are : w ≡ record v {
+    alone = w.alone;
+    looks = more ++ v.looks;
+    pending =
+        Some (seen_wait waiter child head);
+  }
   pub kept : Begun waiter v.alone w.alone
 
 module _ {R : Type 0} (meaning_of : R → Meaning) (rules : R) (room : ℕ) where
   -- a right's number of waits, as the seat has it
-  pub its_waits : (v : Hands R) (word value place waits : ℕ) → AreHandsOver meaning_of rules room v → Moment meaning_of v word value → place < room → Among v.rights (waiting_right place waits)
+  pub its_waits : (v : Hands R) (word value place waits : ℕ) → AreHandsOver meaning_of rules room v
+      → Moment meaning_of v word value → place < room → Among v.rights (waiting_right place waits)
       → waits_at place v.rights ≡ waits
   its_waits v word value place waits over moment near at =
       let s = (sound_at meaning_of rules room v word value over moment).0 in
       let m = mem s.words in
-      let has : HasRight room v.rights place = record { near = near; held = among_counts (λ (q : Claimed). q.place) v.rights (waiting_right place waits) at } in
+      let has : HasRight room v.rights place =
+      record {
+        near = near;
+        held = among_counts (λ (q : Claimed). q.place) v.rights (waiting_right place waits)
+            at;
+      } in
       let is = held_by room m.run m.head s.views s.id v place s.mine has s.sound.by_kinds.rights in
       waits_known v.rights (waiting_right place waits) (omega (arith, is.right_once)) at
 
   -- an open head that was found names no more waiters than there are
-  pub head_bound : (v : Hands R) (child head : ℕ) → room ≤ 2 ^ 20 → child < room → AreHandsOver meaning_of rules room v → Moment meaning_of v (head_word child) head → head < 2 ^ 63 → head / 2 ^ 24 ≤ 8 * room
+  pub head_bound : (v : Hands R) (child head : ℕ) → room ≤ 2 ^ 20 → child < room → AreHandsOver meaning_of rules room v
+      → Moment meaning_of v (head_word child) head → head < 2 ^ 63 → head / 2 ^ 24 ≤ 8 * room
   head_bound v child head small near over moment is_open =
       let t = sound_at meaning_of rules room v (head_word child) head over moment in
       let s = t.0 in
@@ -66,14 +79,16 @@ module _ {R : Type 0} (meaning_of : R → Meaning) (rules : R) (room : ℕ) wher
       omega arith
 
   -- the head that is found comes later than the one that was seen
-  pub head_later : (v : Hands R) (child head found : ℕ) → AreHandsOver meaning_of rules room v → Moment meaning_of v (head_word child) found → Looked v.looks (head_word child) head → IsLater head found
+  pub head_later : (v : Hands R) (child head found : ℕ) → AreHandsOver meaning_of rules room v
+      → Moment meaning_of v (head_word child) found → Looked v.looks (head_word child) head → IsLater head found
   head_later v child head found over moment saw =
       let t = sound_at meaning_of rules room v (head_word child) found over moment in
       let s = t.0 in
       subst (IsLater head) (sym t.1) ((s.sound.by_kinds.hands s.id v s.mine).stays.heads child head saw)
 
   -- the goal whose bit is cleared is held, so that it is not made ready
-  pub stays_held : (v : Hands R) (q value : ℕ) → AreHandsOver meaning_of rules room v → Moment meaning_of v (run_word (q / 8)) value → HasRight room v.rights (q / 8) → cleared value (q % 8) ≢ 0
+  pub stays_held : (v : Hands R) (q value : ℕ) → AreHandsOver meaning_of rules room v
+      → Moment meaning_of v (run_word (q / 8)) value → HasRight room v.rights (q / 8) → cleared value (q % 8) ≢ 0
   stays_held v q value over moment has gone =
       let t = sound_at meaning_of rules room v (run_word (q / 8)) value over moment in
       let s = t.0 in
@@ -81,40 +96,50 @@ module _ {R : Type 0} (meaning_of : R → Meaning) (rules : R) (room : ℕ) wher
       let is = held_by room m.run m.head s.views s.id v (q / 8) s.mine has s.sound.by_kinds.rights in
       let few : q % 8 < 8 = omega arith in
       let one : bit_at value 8 ≡ 1 = ap (λ n. bit_at n 8) t.1 ∙ is.runs in
-      let kept : bit_at (cleared value (q % 8)) 8 ≡ bit_at value 8 = cleared_other value (q % 8) 8 (omega arith) (omega arith) (λ e. omega arith) in
+      let kept : bit_at (cleared value (q % 8)) 8 ≡ bit_at value 8 =
+      cleared_other value (q % 8) 8 (omega arith) (omega arith) (λ e. omega arith) in
       let none_left : bit_at (cleared value (q % 8)) 8 ≡ 0 = ap (λ n. bit_at n 8) gone ∙ bit_at-zero 8 in
       absurd (omega arith)
 
 -- a head that comes later and is another is nearer to the end
-pub nearer : (room head found : ℕ) → room ≤ 2 ^ 20 → head < 2 ^ 63 → head / 2 ^ 24 ≤ 8 * room → IsLater head found → found ≢ head → 8 * room + 1 - found / 2 ^ 24 < 8 * room + 1 - head / 2 ^ 24
-nearer room head found small is_open bound later ne = ⊎_elim (λ closed. omega arith) (⊎_elim (λ same. absurd (ne same)) (λ t. let more = t.1 in omega arith)) later
+pub nearer : (room head found : ℕ) → room ≤ 2 ^ 20 → head < 2 ^ 63 → head / 2 ^ 24 ≤ 8 * room → IsLater head found
+    → found ≢ head → 8 * room + 1 - found / 2 ^ 24 < 8 * room + 1 - head / 2 ^ 24
+nearer room head found small is_open bound later ne =
+    ⊎_elim (λ closed. omega arith) (⊎_elim (λ same. absurd (ne same)) (λ t. let more = t.1 in omega arith)) later
 
 -- the place and the number of a waiter
 pub waiter_parts : (place waits : ℕ) → waits < 8 → ((8 * place + waits) / 8 ≡ place) × ((8 * place + waits) % 8 ≡ waits)
 waiter_parts place waits few = (omega arith, omega arith)
 
 -- the right is the seat's still, with one wait more
-pub right_registered : {R : Type 0} (meaning : Meaning) (room : ℕ) (v w : Hands R) (right : Right) (words : Option (List ℕ)) (more : List (ℕ × ℕ)) → right.waits < 8
-    → w ≡ record v { alone = words; looks = more ++ v.looks; rights = with_wait right.place v.rights } → IsRightOf meaning room v right → IsRightOf meaning room w (record right { waits = right.waits + 1 })
-right_registered meaning room v w right words more few is old = subst (λ (h : Hands _). IsRightOf meaning room h (record right { waits = right.waits + 1 })) (sym is) (record {
-  near = old.near;
-  held = among_changed right.place (λ r. record r { waits = r.waits + 1 }) (λ _. refl) v.rights (waiting_right right.place right.waits) refl old.held;
-  few = omega arith;
-  stands = looked_earlier more v.looks (cell_word right.place) right.goal old.stands;
-  some_goal = old.some_goal;
-  is_goal = old.is_goal;
-  enters = old.enters;
-})
+pub right_registered : {R : Type 0} (meaning : Meaning) (room : ℕ) (v w : Hands R) (right : Right)
+    (words : Option (List ℕ)) (more : List (ℕ × ℕ)) → right.waits < 8
+    → w ≡ record v { alone = words; looks = more ++ v.looks; rights = with_wait right.place v.rights }
+    → IsRightOf meaning room v right → IsRightOf meaning room w (record right { waits = right.waits + 1 })
+right_registered meaning room v w right words more few is old =
+    subst (λ (h : Hands _). IsRightOf meaning room h (record right { waits = right.waits + 1 })) (sym is) (record {
+      near = old.near;
+      held = among_changed right.place (λ r. record r { waits = r.waits + 1 }) (λ _. refl) v.rights
+          (waiting_right right.place right.waits) refl old.held;
+      few = omega arith;
+      stands = looked_earlier more v.looks (cell_word right.place) right.goal old.stands;
+      some_goal = old.some_goal;
+      is_goal = old.is_goal;
+      enters = old.enters;
+    })
 
 -- or as it was, where the child was finished
-pub right_kept : {R : Type 0} (meaning : Meaning) (room : ℕ) (v w : Hands R) (right : Right) (words : Option (List ℕ)) (more : List (ℕ × ℕ))
-    → w ≡ record v { alone = words; looks = more ++ v.looks } → IsRightOf meaning room v right → IsRightOf meaning room w right
-right_kept meaning room v w right words more is old = subst (λ (h : Hands _). IsRightOf meaning room h right) (sym is) (record {
-  near = old.near;
-  held = old.held;
-  few = old.few;
-  stands = looked_earlier more v.looks (cell_word right.place) right.goal old.stands;
-  some_goal = old.some_goal;
-  is_goal = old.is_goal;
-  enters = old.enters;
-})
+pub right_kept : {R : Type 0} (meaning : Meaning) (room : ℕ) (v w : Hands R) (right : Right) (words : Option (List ℕ))
+    (more : List (ℕ × ℕ))
+    → w ≡ record v { alone = words; looks = more ++ v.looks } → IsRightOf meaning room v right
+    → IsRightOf meaning room w right
+right_kept meaning room v w right words more is old =
+    subst (λ (h : Hands _). IsRightOf meaning room h right) (sym is) (record {
+      near = old.near;
+      held = old.held;
+      few = old.few;
+      stands = looked_earlier more v.looks (cell_word right.place) right.goal old.stands;
+      some_goal = old.some_goal;
+      is_goal = old.is_goal;
+      enters = old.enters;
+    })

@@ -27,29 +27,37 @@ module _ {R : Type 0} (s : Seat R) where
   still_awake told awake = subst IsAwake (sym told) (record { bare = s.bare; awake = awake })
 
   -- and after one that left it one or other hands
-  pub awake_either_way : {after : Sat R} {won lost : Hands R} {value head : ℕ} → (value ≡ head → after ≡ (won, s.seat.me.1)) → (value ≢ head → after ≡ (lost, s.seat.me.1))
+  pub awake_either_way : {after : Sat R} {won lost : Hands R} {value head : ℕ}
+      → (value ≡ head → after ≡ (won, s.seat.me.1)) → (value ≢ head → after ≡ (lost, s.seat.me.1))
       → 0 < won.parts → 0 < lost.parts → IsAwake after
-  awake_either_way hit miss if_won if_lost = either_way IsAwake hit miss (record { bare = s.bare; awake = if_won }) (record { bare = s.bare; awake = if_lost })
+  awake_either_way hit miss if_won if_lost =
+      either_way IsAwake hit miss (record { bare = s.bare; awake = if_won }) (record { bare = s.bare; awake = if_lost })
 
 -- what holds of the board's rules and cells holds of those by its table's law
-pub lawful : {R : Type 0} (b : Board R) (Fact : R → ℕ → Type 0) → Fact b.key.rules b.key.room → Fact b.table.shared.key.rules b.table.shared.key.room
+pub lawful : {R : Type 0} (b : Board R) (Fact : R → ℕ → Type 0) → Fact b.key.rules b.key.room
+    → Fact b.table.shared.key.rules b.table.shared.key.room
 lawful b Fact holds = subst (λ (k : Key _). Fact k.rules k.room) (sym b.keyed) holds
 
 -- as a right to a goal
-pub lawful_right : {R : Type 0} (b : Board R) {rights : List Claimed} {place : ℕ} → HasRight b.key.room rights place → HasRight b.table.shared.key.room rights place
+pub lawful_right : {R : Type 0} (b : Board R) {rights : List Claimed} {place : ℕ} → HasRight b.key.room rights place
+    → HasRight b.table.shared.key.room rights place
 lawful_right b {rights} {place} has = lawful b (λ _ room. HasRight room rights place) has
 
-module _ {R : Type 0} {meaning_of : R → Meaning} {b : Board R} {t : Seat R} (same_table : t.seat.table_id ≡ b.table.shared.table_id) where
+module _ {R : Type 0} {meaning_of : R → Meaning} {b : Board R} {t : Seat R}
+    (same_table : t.seat.table_id ≡ b.table.shared.table_id) where
   -- hands with the same looks leave the seat in its call
-  pub in_call_same : {v left : Hands R} → hands t ≡ left → left.rules ≡ v.rules → left.room ≡ v.room → left.looks ≡ v.looks → KeepsAll b.key.room left
+  pub in_call_same : {v left : Hands R} → hands t ≡ left → left.rules ≡ v.rules → left.room ≡ v.room
+      → left.looks ≡ v.looks → KeepsAll b.key.room left
       → AreHandsOver meaning_of b.key.rules b.key.room v → IsInCall meaning_of b t
   in_call_same {v} {left} left_is rules_same room_same looks all over = record {
     same_table = same_table;
-    over = subst (AreHandsOver meaning_of b.key.rules b.key.room) (sym left_is) (over_same meaning_of b.key.rules b.key.room v left rules_same room_same looks all over);
+    over = subst (AreHandsOver meaning_of b.key.rules b.key.room) (sym left_is)
+        (over_same meaning_of b.key.rules b.key.room v left rules_same room_same looks all over);
   }
 
   -- and so do hands whose only new look is at no cell
-  pub in_call_beside : {v left : Hands R} {word value : ℕ} → hands t ≡ left → left.rules ≡ v.rules → left.room ≡ v.room → left.looks ≡ (word, value) ∷ v.looks → ((p : ℕ) → word ≢ cell_word p)
+  pub in_call_beside : {v left : Hands R} {word value : ℕ} → hands t ≡ left → left.rules ≡ v.rules → left.room ≡ v.room
+      → left.looks ≡ (word, value) ∷ v.looks → ((p : ℕ) → word ≢ cell_word p)
       → KeepsAll b.key.room left → AreHandsOver meaning_of b.key.rules b.key.room v → IsInCall meaning_of b t
   in_call_beside {v} {left} {word} {value} left_is rules_same room_same looks apart all over = record {
     same_table = same_table;
@@ -58,24 +66,35 @@ module _ {R : Type 0} {meaning_of : R → Meaning} {b : Board R} {t : Seat R} (s
   }
 
   -- free hands of this kind leave a seat of the board
-  pub seat_beside : {v left : Hands R} {word value : ℕ} → hands t ≡ left → left.rules ≡ v.rules → left.room ≡ v.room → left.looks ≡ (word, value) ∷ v.looks → ((p : ℕ) → word ≢ cell_word p)
-      → KeepsAll b.key.room left → IsFree left → AreHandsOver meaning_of b.key.rules b.key.room v → IsSeatOf meaning_of b t
+  pub seat_beside : {v left : Hands R} {word value : ℕ} → hands t ≡ left → left.rules ≡ v.rules → left.room ≡ v.room
+      → left.looks ≡ (word, value) ∷ v.looks → ((p : ℕ) → word ≢ cell_word p)
+      → KeepsAll b.key.room left → IsFree left → AreHandsOver meaning_of b.key.rules b.key.room v
+      → IsSeatOf meaning_of b t
   seat_beside left_is rules_same room_same looks apart all free over =
       let call : IsInCall meaning_of b t = in_call_beside left_is rules_same room_same looks apart all over in
       record { same_table = same_table; over = call.over; free = subst IsFree (sym left_is) free }
 
   -- a store by the holder of a right does so
-  pub seat_stored : {v : Hands R} (word x : ℕ) {rights : List Claimed} → hands t ≡ record v { alone = changed word x v.alone; rights = rights }
+  pub seat_stored : {v : Hands R} (word x : ℕ) {rights : List Claimed}
+      → hands t ≡ record v { alone = changed word x v.alone; rights = rights }
       → AreHandsOver meaning_of b.key.rules b.key.room v → IsFree v → IsSeatOf meaning_of b t
   seat_stored {v} word x told over free =
-      let call : IsInCall meaning_of b t = in_call_same told refl refl refl (all_changed b.key.room word x v.alone over.all) over in
-      record { same_table = same_table; over = call.over; free = subst IsFree (sym told) (record { no_wait = free.no_wait; no_walk = free.no_walk }) }
+      let call : IsInCall meaning_of b t = in_call_same told refl refl refl
+      (all_changed b.key.room word x v.alone over.all) over in
+      record {
+        same_table = same_table;
+        over = call.over;
+        free =
+            subst IsFree (sym told) (record { no_wait = free.no_wait; no_walk = free.no_walk });
+      }
 
   -- and so does a compare-exchange from 0 that leaves such hands where it found 0
-  pub seat_tried : {v won : Hands R} {word value : ℕ} → Tries meaning_of v word value won (hands t) → AreHandsOver meaning_of b.key.rules b.key.room won → IsFree won
+  pub seat_tried : {v won : Hands R} {word value : ℕ} → Tries meaning_of v word value won (hands t)
+      → AreHandsOver meaning_of b.key.rules b.key.room won → IsFree won
       → AreHandsOver meaning_of b.key.rules b.key.room v → IsFree v → IsSeatOf meaning_of b t
   seat_tried {v} {won} {word} {value} told won_over won_free over free = record {
     same_table = same_table;
-    over = either_way (AreHandsOver meaning_of b.key.rules b.key.room) told.hit told.miss won_over (over_looked meaning_of b.key.rules b.key.room v word value over told.moment);
+    over = either_way (AreHandsOver meaning_of b.key.rules b.key.room) told.hit told.miss won_over
+        (over_looked meaning_of b.key.rules b.key.room v word value over told.moment);
     free = either_way IsFree told.hit told.miss won_free (record { no_wait = free.no_wait; no_walk = free.no_walk });
   }

@@ -5,7 +5,8 @@ use Rattle.word_table.proofs.Steps.{all_passed_as}
 use Rattle.atomic_table.proofs.Lists.{set_here}
 use Rattle.board_rule.specs.Meaning.{Meaning}
 use Rattle.board_rule.specs.Words.{full_word, cell_word}
-use Rattle.board_rule.specs.Looks.{Looked, SawOther, SawOthers, ShowsFinished, seen_closed, child_of, ShowsEntry, seen_there, asked_by, finished}
+use Rattle.board_rule.specs.Looks.{Looked, SawOther, SawOthers, ShowsFinished, seen_closed, child_of, ShowsEntry}
+use Rattle.board_rule.specs.Looks.{seen_there, asked_by, finished}
 use Rattle.board_rule.specs.Seats.{looked}
 use Rattle.board_rule.specs.Plays.{Moment}
 use Rattle.board_rule.specs.declared.hands.Hands.{Hands}
@@ -16,43 +17,61 @@ use Rattle.goal_board.specs.Calls.{seen, AgreesAlone, IsSeen}
 use Rattle.goal_board.proofs.Overs.{SoundWith, sound_at}
 
 -- a look of the later ones, and of the earlier ones
-pub looked_later : (more looks : List (ℕ × ℕ)) (word found : ℕ) → Looked more word found → Looked (more ++ looks) word found
+pub looked_later : (more looks : List (ℕ × ℕ)) (word found : ℕ) → Looked more word found
+    → Looked (more ++ looks) word found
 looked_later [] looks word found at = absurd at
-looked_later (l ∷ more) looks word found at = ⊎_elim (λ (e : (l.0 ≡ word) × (l.1 ≡ found)). inl e) (λ (t : Looked more word found). inr (looked_later more looks word found t)) at
+looked_later (l ∷ more) looks word found at =
+    ⊎_elim (λ (e : (l.0 ≡ word) × (l.1 ≡ found)). inl e)
+    (λ (t : Looked more word found). inr (looked_later more looks word found t)) at
 
-pub looked_earlier : (more looks : List (ℕ × ℕ)) (word found : ℕ) → Looked looks word found → Looked (more ++ looks) word found
+pub looked_earlier : (more looks : List (ℕ × ℕ)) (word found : ℕ) → Looked looks word found
+    → Looked (more ++ looks) word found
 looked_earlier [] looks word found at = at
 looked_earlier (l ∷ more) looks word found at = inr (looked_earlier more looks word found at)
 
-pub finished_earlier : (meaning : Meaning) (room : ℕ) (more looks : List (ℕ × ℕ)) (goal : ℕ) → ShowsFinished meaning room looks goal → ShowsFinished meaning room (more ++ looks) goal
+pub finished_earlier : (meaning : Meaning) (room : ℕ) (more looks : List (ℕ × ℕ)) (goal : ℕ)
+    → ShowsFinished meaning room looks goal → ShowsFinished meaning room (more ++ looks) goal
 finished_earlier meaning room more looks _ (seen_closed goal p near some_goal at closed) =
-    seen_closed goal p near some_goal (looked_earlier more looks _ goal at) (closed.0, looked_earlier more looks _ closed.0 closed.1, closed.2)
-finished_earlier meaning room more looks _ (child_of goal child shows is) = child_of goal child (finished_earlier meaning room more looks goal shows) is
+    seen_closed goal p near some_goal (looked_earlier more looks _ goal at)
+    (closed.0, looked_earlier more looks _ closed.0 closed.1, closed.2)
+finished_earlier meaning room more looks _ (child_of goal child shows is) =
+    child_of goal child (finished_earlier meaning room more looks goal shows) is
 
-pub entry_earlier : (meaning : Meaning) (room : ℕ) (more looks : List (ℕ × ℕ)) (word : ℕ) → ShowsEntry meaning room looks word → ShowsEntry meaning room (more ++ looks) word
-entry_earlier meaning room more looks _ (seen_there word p near some_word at) = seen_there word p near some_word (looked_earlier more looks _ word at)
-entry_earlier meaning room more looks _ (asked_by goal word shows is) = asked_by goal word (finished_earlier meaning room more looks goal shows) is
-entry_earlier meaning room more looks _ (finished goal shows) = finished goal (finished_earlier meaning room more looks goal shows)
+pub entry_earlier : (meaning : Meaning) (room : ℕ) (more looks : List (ℕ × ℕ)) (word : ℕ)
+    → ShowsEntry meaning room looks word → ShowsEntry meaning room (more ++ looks) word
+entry_earlier meaning room more looks _ (seen_there word p near some_word at) =
+    seen_there word p near some_word (looked_earlier more looks _ word at)
+entry_earlier meaning room more looks _ (asked_by goal word shows is) =
+    asked_by goal word (finished_earlier meaning room more looks goal shows) is
+entry_earlier meaning room more looks _ (finished goal shows) =
+    finished goal (finished_earlier meaning room more looks goal shows)
 
 -- other words that the later looks found
-pub saw_later : (more looks : List (ℕ × ℕ)) (word place : ℕ) → SawOther more word place → SawOther (more ++ looks) word place
+pub saw_later : (more looks : List (ℕ × ℕ)) (word place : ℕ) → SawOther more word place
+    → SawOther (more ++ looks) word place
 saw_later more looks word place t = (t.0, looked_later more looks _ t.0 t.1, t.2, t.3)
 
-pub saw_all_later : (room : ℕ) (more looks : List (ℕ × ℕ)) (word steps : ℕ) → SawOthers room more word steps → SawOthers room (more ++ looks) word steps
+pub saw_all_later : (room : ℕ) (more looks : List (ℕ × ℕ)) (word steps : ℕ) → SawOthers room more word steps
+    → SawOthers room (more ++ looks) word steps
 saw_all_later room more looks word steps =
-    all_passed_as room (home_of word room) steps (SawOther more word) (SawOther (more ++ looks) word) (λ p _ t. saw_later more looks word p t)
+    all_passed_as room (home_of word room) steps (SawOther more word) (SawOther (more ++ looks) word)
+    (λ p _ t. saw_later more looks word p t)
 
 module _ {R : Type 0} (meaning_of : R → Meaning) (rules : R) (room : ℕ) where
   -- a look found what a seat that is alone keeps
-  pub agrees_at : (v : Hands R) (word value : ℕ) → AreHandsOver meaning_of rules room v → Moment meaning_of v word value → AgreesAlone v ((word, value) ∷ [])
+  pub agrees_at : (v : Hands R) (word value : ℕ) → AreHandsOver meaning_of rules room v → Moment meaning_of v word value
+      → AgreesAlone v ((word, value) ∷ [])
   agrees_at v word value over m =
       let t = sound_at meaning_of rules room v word value over m in
       λ kept is at found looks. ⊎_elim
-      (λ (e : (word ≡ at) × (value ≡ found)). ap (λ ws. get_or ws at 0) ((t.0.sound.alone t.0.id v t.0.mine).every_word kept is) ∙ ap (λ k. get_or t.0.words k 0) (sym e.0) ∙ sym t.1 ∙ e.1)
+      (λ (e : (word ≡ at) × (value ≡ found)). ap (λ ws. get_or ws at 0)
+      ((t.0.sound.alone t.0.id v t.0.mine).every_word kept is) ∙ ap (λ k. get_or t.0.words k 0) (sym e.0) ∙ sym t.1
+      ∙ e.1)
       (λ (no_look : ⊥). absurd no_look) looks
 
   -- the board is sound after a look
-  pub sound_looked : (v : Hands R) (word value : ℕ) → AreHandsOver meaning_of rules room v → Moment meaning_of v word value → 0 < v.parts → SoundWith meaning_of rules room (looked v word value)
+  pub sound_looked : (v : Hands R) (word value : ℕ) → AreHandsOver meaning_of rules room v
+      → Moment meaning_of v word value → 0 < v.parts → SoundWith meaning_of rules room (looked v word value)
   sound_looked v word value over m some_part =
       let t = sound_at meaning_of rules room v word value over m in
       subst (λ x. SoundWith meaning_of rules room (looked v word x)) (sym t.1) (record {
@@ -60,42 +79,53 @@ module _ {R : Type 0} (meaning_of : R → Meaning) (rules : R) (room : ℕ) wher
         views = set t.0.views t.0.id (looked v word (get_or t.0.words word 0));
         id = t.0.id;
         sound = look_keeps meaning_of rules room t.0.words t.0.views t.0.id v word t.0.sound t.0.mine some_part;
-        mine = set_here t.0.views t.0.id (looked v word (get_or t.0.words word 0)) (some_below t.0.views t.0.id v t.0.mine);
+        mine = set_here t.0.views t.0.id (looked v word (get_or t.0.words word 0))
+            (some_below t.0.views t.0.id v t.0.mine);
       })
 
 module _ {R : Type 0} where
   -- one look more
-  pub agrees_more : (v w : Hands R) (look : ℕ × ℕ) (more : List (ℕ × ℕ)) → w.alone ≡ v.alone → AgreesAlone v more → AgreesAlone w (look ∷ []) → AgreesAlone v (look ∷ more)
+  pub agrees_more : (v w : Hands R) (look : ℕ × ℕ) (more : List (ℕ × ℕ)) → w.alone ≡ v.alone → AgreesAlone v more
+      → AgreesAlone w (look ∷ []) → AgreesAlone v (look ∷ more)
   agrees_more v w look more same old new kept is word value at =
-      ⊎_elim (λ (e : (look.0 ≡ word) × (look.1 ≡ value)). new kept (same ∙ is) word value (inl e)) (λ (t : Looked more word value). old kept is word value t) at
+      ⊎_elim (λ (e : (look.0 ≡ word) × (look.1 ≡ value)). new kept (same ∙ is) word value (inl e))
+      (λ (t : Looked more word value). old kept is word value t) at
 
   -- a look found what the seat keeps, if it is alone, and what it saw before
   pub record SawAt (w : Hands R) (look : ℕ × ℕ) : Type 0 where
     pub alone : AgreesAlone w (look ∷ [])
-    pub stays : (place word : ℕ) → Looked w.looks (cell_word place) word → word ≢ 0 → look.0 ≡ cell_word place → look.1 ≡ word
+    pub stays : (place word : ℕ) → Looked w.looks (cell_word place) word → word ≢ 0 → look.0 ≡ cell_word place
+        → look.1 ≡ word
 
-  pub seen_more : (v w : Hands R) (look : ℕ × ℕ) (more : List (ℕ × ℕ)) → w ≡ seen more v → look.0 ≢ full_word → IsSeen v more → SawAt w look → IsSeen v (look ∷ more)
+  pub seen_more : (v w : Hands R) (look : ℕ × ℕ) (more : List (ℕ × ℕ)) → w ≡ seen more v → look.0 ≢ full_word
+      → IsSeen v more → SawAt w look → IsSeen v (look ∷ more)
   seen_more v w look more is beside old new = record {
-    quiet = λ value at. ⊎_elim (λ (e : (look.0 ≡ full_word) × (look.1 ≡ value)). beside e.0) (λ (t : Looked more full_word value). old.quiet value t) at;
+    quiet = λ value at. ⊎_elim (λ (e : (look.0 ≡ full_word) × (look.1 ≡ value)). beside e.0)
+        (λ (t : Looked more full_word value). old.quiet value t) at;
     alone = agrees_more v w look more (ap (λ (h : Hands R). h.alone) is) old.alone new.alone;
     stays = λ place word value saw is_word at. ⊎_elim
         (λ (e : (look.0 ≡ cell_word place) × (look.1 ≡ value)).
-        sym e.1 ∙ new.stays place word (subst (λ (h : Hands R). Looked h.looks (cell_word place) word) (sym is) (looked_earlier more v.looks (cell_word place) word saw)) is_word e.0)
+        sym e.1 ∙ new.stays place word (subst (λ (h : Hands R). Looked h.looks (cell_word place) word) (sym is)
+        (looked_earlier more v.looks (cell_word place) word saw)) is_word e.0)
         (λ (t : Looked more (cell_word place) value). old.stays place word value saw is_word t) at;
   }
 
   pub seen_one : (v : Hands R) (look : ℕ × ℕ) → look.0 ≢ full_word → SawAt v look → IsSeen v (look ∷ [])
   seen_one v look beside new = record {
-    quiet = λ value at. ⊎_elim (λ (e : (look.0 ≡ full_word) × (look.1 ≡ value)). beside e.0) (λ (no_look : ⊥). absurd no_look) at;
+    quiet = λ value at. ⊎_elim (λ (e : (look.0 ≡ full_word) × (look.1 ≡ value)). beside e.0)
+        (λ (no_look : ⊥). absurd no_look) at;
     alone = new.alone;
     stays = λ place word value saw is_word at. ⊎_elim
-        (λ (e : (look.0 ≡ cell_word place) × (look.1 ≡ value)). sym e.1 ∙ new.stays place word saw is_word e.0) (λ (no_look : ⊥). absurd no_look) at;
+        (λ (e : (look.0 ≡ cell_word place) × (look.1 ≡ value)). sym e.1 ∙ new.stays place word saw is_word e.0)
+        (λ (no_look : ⊥). absurd no_look) at;
   }
 
 -- a step's look, of a sound board
-pub saw_at : {R : Type 0} → (meaning_of : R → Meaning) (rules : R) (room : ℕ) (v : Hands R) (word value : ℕ) → AreHandsOver meaning_of rules room v → Moment meaning_of v word value → SawAt v (word, value)
+pub saw_at : {R : Type 0} → (meaning_of : R → Meaning) (rules : R) (room : ℕ) (v : Hands R) (word value : ℕ)
+    → AreHandsOver meaning_of rules room v → Moment meaning_of v word value → SawAt v (word, value)
 saw_at meaning_of rules room v word value over m =
     let t = sound_at meaning_of rules room v word value over m in record {
       alone = agrees_at meaning_of rules room v word value over m;
-      stays = λ place found saw is_word at. t.1 ∙ ap (λ k. get_or t.0.words k 0) at ∙ (t.0.sound.by_kinds.hands t.0.id v t.0.mine).stays.cells place found saw is_word;
+      stays = λ place found saw is_word at. t.1 ∙ ap (λ k. get_or t.0.words k 0) at
+          ∙ (t.0.sound.by_kinds.hands t.0.id v t.0.mine).stays.cells place found saw is_word;
     }

@@ -1,5 +1,6 @@
 -- What each call does to the hands of its seat, and what its answer means.
-use Rattle.std.specs.Prelude.{◌≡◌, ◌≢◌, ◌⊎◌, ℕ, ◌+◌, ◌^◌, ◌<◌, ◌≤◌, List, [], ◌∷◌, ◌++◌, length, bit_or, slice_index, Option, Some, None, is_some, Bool, false, IsTrue}
+use Rattle.std.specs.Prelude.{◌≡◌, ◌≢◌, ◌⊎◌, ℕ, ◌+◌, ◌^◌, ◌<◌, ◌≤◌, List, [], ◌∷◌, ◌++◌, length, bit_or, slice_index}
+use Rattle.std.specs.Prelude.{Option, Some, None, is_some, Bool, false, IsTrue}
 use Rattle.word_table.specs.Probing.{home_of, steps_to}
 use Rattle.word_table.specs.declared.outcome.Inserted.{Inserted}
 use Rattle.word_table.specs.declared.outcome.Inserted.TheVariants.{Fresh, Known, Full}
@@ -8,7 +9,8 @@ use Rattle.board_rule.specs.Records.{Claimed, Walk}
 use Rattle.board_rule.specs.Words.{mem, full_word, cell_word, run_word, head_word, cost_word, node_word, who_word}
 use Rattle.board_rule.specs.Looks.{Looked, SawOther, SawOthers, ShowsFinished, ShowsEntry, ShowsFull, ShowsClosed}
 use Rattle.board_rule.specs.Waiters.{head_of, cleared}
-use Rattle.board_rule.specs.Seats.{Among, Each, without, changed, looked, placed, claimed, suspended, filled, waits_at, with_wait}
+use Rattle.board_rule.specs.Seats.{Among, Each, without, changed, looked, placed, claimed, suspended, filled, waits_at}
+use Rattle.board_rule.specs.Seats.{with_wait}
 use Rattle.board_rule.specs.declared.hands.Hands.{Hands}
 use Rattle.goal_board.specs.Alone.{KeepsAll, StaysAlone, ChangesRuns, KeepsBoard, HasWait}
 use Rattle.goal_board.specs.declared.board.Right.{Right}
@@ -25,13 +27,15 @@ seen more v = record v { looks = more ++ v.looks }
 
 -- where the seat was alone, these looks found the words that it kept
 abbrev pub AgreesAlone : {R : Type 0} → Hands R → List (ℕ × ℕ) → Type 0
-AgreesAlone v looks = (kept : List ℕ) → v.alone ≡ Some kept → (word value : ℕ) → Looked looks word value → slice_index kept word ≡ value
+AgreesAlone v looks = (kept : List ℕ) → v.alone ≡ Some kept → (word value : ℕ) → Looked looks word value
+    → slice_index kept word ≡ value
 
 -- a call's looks: none at the full word, as the words that were kept, and what was seen in a cell stays
 pub record IsSeen {R : Type 0} (v : Hands R) (looks : List (ℕ × ℕ)) : Type 0 where
   pub quiet : (value : ℕ) → Looked looks full_word value → ⊥
   pub alone : AgreesAlone v looks
-  pub stays : (place word value : ℕ) → Looked v.looks (cell_word place) word → word ≢ 0 → Looked looks (cell_word place) value → value ≡ word
+  pub stays : (place word value : ℕ) → Looked v.looks (cell_word place) word → word ≢ 0
+      → Looked looks (cell_word place) value → value ≡ word
 
 -- every cell was found taken by another word
 abbrev pub SawAllOthers : ℕ → List (ℕ × ℕ) → ℕ → Type 0
@@ -189,7 +193,8 @@ waited Finished right = right
 -- the words that a seat keeps while it is alone, once it has finished a goal
 abbrev pub ended_words : ℕ → ℕ → ℕ → ℕ → Option (List ℕ) → Option (List ℕ)
 ended_words place worker cost node words =
-    changed (head_word place) (2 ^ 63) (changed (who_word place) (worker + 1) (changed (node_word place) node (changed (cost_word place) cost words)))
+    changed (head_word place) (2 ^ 63) (changed (who_word place) (worker + 1)
+    (changed (node_word place) node (changed (cost_word place) cost words)))
 
 -- the goal went from the seat's rights to what it finished, and the seat walks the list of its waiters
 abbrev pub finishes : {R : Type 0} → Hands R → ℕ → ℕ → ℕ → ℕ → List ℕ → Hands R
@@ -201,7 +206,8 @@ finishes v place worker cost node waiters = record v {
   walk = record { child = place; waiters = waiters; next = None };
 }
 
--- the seat has walked its list to the end: each waiter's bit was cleared, and those goals that this made ready are counted
+-- the seat has walked its list to the end: each waiter's bit was cleared, and those goals that this made ready are
+-- counted
 pub record Wakes {R : Type 0} (room : ℕ) (v : Hands R) (woken : Woken) (w : Hands R) : Type 0 where
   pub more : List (ℕ × ℕ)
   pub words : Option (List ℕ)
@@ -217,7 +223,8 @@ pub record Wakes {R : Type 0} (room : ℕ) (v : Hands R) (woken : Woken) (w : Ha
   pub one : (place : ℕ) → woken.one ≡ Some place → Among gained place
 
 -- the goal was finished with this answer, and its waiters were woken
-pub record FinishesGoal {R : Type 0} (room : ℕ) (v : Hands R) (place worker cost node : ℕ) (woken : Woken) (w : Hands R) : Type 0 where
+pub record FinishesGoal {R : Type 0} (room : ℕ) (v : Hands R) (place worker cost node : ℕ) (woken : Woken)
+    (w : Hands R) : Type 0 where
   pub waiters : List ℕ
   pub wakes : Wakes room (finishes v place worker cost node waiters) woken w
   -- the goal was not finished before, where the seat is alone
@@ -232,7 +239,8 @@ pub record IsReadyIn (meaning : Meaning) (room : ℕ) (words : List ℕ) (place 
 
 -- where the looks show the full word set, some entry isn't shown by them
 abbrev pub LeavesOut : Meaning → ℕ → List (ℕ × ℕ) → Type 0
-LeavesOut meaning room looks = ShowsFull looks → (word : ℕ) × meaning.entry word × (ShowsEntry meaning room looks word → ⊥)
+LeavesOut meaning room looks = ShowsFull looks → (word : ℕ) × meaning.entry word
+    × (ShowsEntry meaning room looks word → ⊥)
 
 module _ {R : Type 0} (meaning : Meaning) (room : ℕ) (v : Hands R) (at : ℕ) where
   -- the head was found closed, and the answer words then
@@ -240,7 +248,8 @@ module _ {R : Type 0} (meaning : Meaning) (room : ℕ) (v : Hands R) (at : ℕ) 
     pub head : ℕ
     pub closed : 2 ^ 63 ≤ head
     pub looks : IsSeen v ((node_word at, answer.node) ∷ ((cost_word at, answer.cost) ∷ ((head_word at, head) ∷ [])))
-    pub hands_are : w ≡ seen ((node_word at, answer.node) ∷ ((cost_word at, answer.cost) ∷ ((head_word at, head) ∷ []))) v
+    pub hands_are : w ≡ seen ((node_word at, answer.node) ∷ ((cost_word at, answer.cost) ∷ ((head_word at, head) ∷ [])))
+        v
     -- it is an answer of the goal that a look found there
     pub exact : (goal : ℕ) → goal ≢ 0 → Looked v.looks (cell_word at) goal → meaning.answer goal answer.cost answer.node
     pub left_out : LeavesOut meaning room w.looks
@@ -252,9 +261,11 @@ module _ {R : Type 0} (meaning : Meaning) (room : ℕ) (v : Hands R) (at : ℕ) 
     pub looks : IsSeen v ((head_word at, head) ∷ [])
     pub hands_are : w ≡ looked v (head_word at) head
     -- the looks don't show the goal finished
-    pub unfinished : (goal : ℕ) → goal ≢ 0 → Looked v.looks (cell_word at) goal → ShowsFinished meaning room v.looks goal → ⊥
+    pub unfinished : (goal : ℕ) → goal ≢ 0 → Looked v.looks (cell_word at) goal
+        → ShowsFinished meaning room v.looks goal → ⊥
     -- a seat that is alone and holds no right keeps some ready goal
-    pub ready : (kept : List ℕ) → v.alone ≡ Some kept → v.rights ≡ [] → (goal : ℕ) → goal ≢ 0 → Looked v.looks (cell_word at) goal → IsTrue (meaning.goal goal)
+    pub ready : (kept : List ℕ) → v.alone ≡ Some kept → v.rights ≡ [] → (goal : ℕ) → goal ≢ 0
+        → Looked v.looks (cell_word at) goal → IsTrue (meaning.goal goal)
         → (place : ℕ) × IsReadyIn meaning room kept place
 
   abbrev pub Reads : Option Answer → Hands R → Type 0
@@ -262,11 +273,12 @@ module _ {R : Type 0} (meaning : Meaning) (room : ℕ) (v : Hands R) (at : ℕ) 
   Reads None w = FindsOpen w
 
 -- one look at the full word
-pub record ReadsFull {R : Type 0} (meaning : Meaning) (room : ℕ) (v : Hands R) (full : Bool) (w : Hands R) : Type 0 where
-  pub value : ℕ
-  pub hands_are : w ≡ looked v full_word value
-  pub set : IsTrue full → value ≢ 0
-  pub unset : full ≡ false → value ≡ 0
-  pub stays : ShowsFull v.looks → IsTrue full
-  pub alone : AgreesAlone v ((full_word, value) ∷ [])
-  pub left_out : LeavesOut meaning room w.looks
+pub record ReadsFull {R : Type 0} (meaning : Meaning) (room : ℕ) (v : Hands R) (full : Bool) (w : Hands R) : Type 0
+  where
+    pub value : ℕ
+    pub hands_are : w ≡ looked v full_word value
+    pub set : IsTrue full → value ≢ 0
+    pub unset : full ≡ false → value ≡ 0
+    pub stays : ShowsFull v.looks → IsTrue full
+    pub alone : AgreesAlone v ((full_word, value) ∷ [])
+    pub left_out : LeavesOut meaning room w.looks

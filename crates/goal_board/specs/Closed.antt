@@ -1,5 +1,6 @@
 -- What is read of a board's words once no thread shares it any more.
-use Rattle.std.specs.Prelude.{◌≡◌, ◌≢◌, ◌==◌, ℕ, zero, suc, ◌-◌, ◌/◌, ◌^◌, ◌<◌, ◌≤◌, nat_le, List, [], ◌∷◌, ◌++◌, cond, true, not, Option, Some, None, IsTrue}
+use Rattle.std.specs.Prelude.{◌≡◌, ◌≢◌, ◌==◌, ℕ, zero, suc, ◌-◌, ◌/◌, ◌^◌, ◌<◌, ◌≤◌, nat_le, List, [], ◌∷◌, ◌++◌, cond}
+use Rattle.std.specs.Prelude.{true, not, Option, Some, None, IsTrue}
 use mathlib.Core.Option.{some}
 use lib.ListN.{get_elem?}
 use Rattle.board_rule.specs.Meaning.{Meaning}
@@ -24,7 +25,8 @@ with_closed head items item = cond (nat_le (2 ^ 63) head) (items ++ item ∷ [])
 -- the goals at these places whose heads are closed, each with its answer words
 abbrev pub answers_below : Mem → ℕ → List (ℕ × Answer)
 answers_below m zero = []
-answers_below m (suc n) = with_closed (m.head n) (answers_below m n) (m.cell n, record { cost = m.cost n; node = m.node n })
+answers_below m (suc n) = with_closed (m.head n) (answers_below m n)
+    (m.cell n, record { cost = m.cost n; node = m.node n })
 
 -- the workers of these goals
 abbrev pub who_below : Mem → ℕ → List ℕ
@@ -49,7 +51,8 @@ ReadsReady meaning m p (Some goal) = IsReadyAt meaning m p × (m.cell p ≡ goal
 -- the goal in the least place that is ready, or none where there is none
 abbrev pub IsFirstReady : Meaning → Mem → ℕ → Option ℕ → Type 0
 IsFirstReady meaning m room None = (p : ℕ) → p < room → IsReadyAt meaning m p → ⊥
-IsFirstReady meaning m room (Some goal) = (p : ℕ) × (p < room) × (m.cell p ≡ goal) × IsReadyAt meaning m p × ((q : ℕ) → q < p → IsReadyAt meaning m q → ⊥)
+IsFirstReady meaning m room (Some goal) = (p : ℕ) × (p < room) × (m.cell p ≡ goal) × IsReadyAt meaning m p
+    × ((q : ℕ) → q < p → IsReadyAt meaning m q → ⊥)
 
 -- what was read of the words
 pub record ReadsBoard (meaning : Meaning) (room : ℕ) (m : Mem) (closed : Closed) : Type 0 where
@@ -60,7 +63,8 @@ pub record ReadsBoard (meaning : Meaning) (room : ℕ) (m : Mem) (closed : Close
   pub ready : IsFirstReady meaning m room closed.ready
 
 -- The last board was sound, the seat had these hands, and this was read of it
-pub record ClosesWith {R : Type 0} (meaning_of : R → Meaning) (rules : R) (room : ℕ) (v : Hands R) (closed : Closed) : Type 0 where
+pub record ClosesWith {R : Type 0} (meaning_of : R → Meaning) (rules : R) (room : ℕ) (v : Hands R) (closed : Closed) :
+    Type 0 where
   pub words : List ℕ
   pub views : List (Hands R)
   pub id : ℕ
@@ -68,10 +72,12 @@ pub record ClosesWith {R : Type 0} (meaning_of : R → Meaning) (rules : R) (roo
   pub mine : get_elem? views id ≡ some v
   pub reads : ReadsBoard (meaning_of rules) room (mem words) closed
   -- no wake-up is lost: where no goal is ready, every goal in the cells is finished
-  pub none_ready : closed.ready ≡ None → (p : ℕ) → p < room → HoldsGoal (meaning_of rules) room (mem words).cell p → 2 ^ 63 ≤ (mem words).head p
+  pub none_ready : closed.ready ≡ None → (p : ℕ) → p < room → HoldsGoal (meaning_of rules) room (mem words).cell p
+      → 2 ^ 63 ≤ (mem words).head p
   -- what is finished stands in the seat's done, with its worker and its answer
   pub finished_by : (p : ℕ) → p < room → 2 ^ 63 ≤ (mem words).head p
-      → (e : Ended) × Among v.done e × (e.place ≡ p) × IsRecorded room (mem words).head (mem words).cost (mem words).node (mem words).who e
+      → (e : Ended) × Among v.done e × (e.place ≡ p)
+      × IsRecorded room (mem words).head (mem words).cost (mem words).node (mem words).who e
   -- a goal that is registered with a child, which is then not finished, is not ready
   pub registered : (c q : ℕ) → c < room → Among (sound.by_kinds.waits.lists c) q → (mem words).run (q / 8) ≢ 0
   -- a look that found the full word set, and what a full board lacks

@@ -11,11 +11,13 @@ use Rattle.goal_board.specs.declared.board.Board.{Board}
 abbrev pub hands : {R : Type 0} → Seat R → Hands R
 hands s = s.seat.me.0
 
--- hands over these rules and that many cells, whose looks found entries alone, and which keep all words where the seat is alone
+-- hands over these rules and that many cells, whose looks found entries alone, and which keep all words where the seat
+-- is alone
 pub record AreHandsOver {R : Type 0} (meaning_of : R → Meaning) (rules : R) (room : ℕ) (v : Hands R) : Type 0 where
   pub its_rules : v.rules ≡ Some rules
   pub its_room : v.room ≡ room
-  pub entries : (place word : ℕ) → place < room → Looked v.looks (cell_word place) word → word ≢ 0 → (meaning_of rules).entry word
+  pub entries : (place word : ℕ) → place < room → Looked v.looks (cell_word place) word → word ≢ 0
+      → (meaning_of rules).entry word
   pub all : KeepsAll room v
 
 -- between two calls a seat puts no wait in, and has no list half walked

@@ -5,7 +5,8 @@ use Rattle.board_rule.specs.Records.{Pending}
 use Rattle.board_rule.specs.Words.{cell_word, run_word, head_word, next_word}
 use Rattle.board_rule.specs.Waiters.{head_of}
 use Rattle.board_rule.specs.May.{MayPut, MayClaim, MayClose, MayBegin, MaySee}
-use Rattle.board_rule.specs.Seats.{Each, looked, placed, claimed, suspended, finished, wait_begun, head_seen, wait_put, next_read, bit_cleared, wait_dropped}
+use Rattle.board_rule.specs.Seats.{Each, looked, placed, claimed, suspended, finished, wait_begun, head_seen, wait_put}
+use Rattle.board_rule.specs.Seats.{next_read, bit_cleared, wait_dropped}
 use Rattle.board_rule.specs.Plays.{Moment}
 use Rattle.board_rule.specs.declared.hands.Hands.{Hands}
 use Rattle.goal_board.specs.Calls.{waiting_right}

@@ -1,4 +1,5 @@
--- What is asked of a child, for a request that has numbers, has numbers too, whether or not the request lies in the group.
+-- What is asked of a child, for a request that has numbers, has numbers too, whether or not the request lies in the
+-- group.
 use Rattle.std.proofs.Common.{ℕ, zero, suc, sym, subst, inl, inr, arith}
 use Rattle.query_core.specs.Expressions.{expr_of, physical_children, IsCandidate}
 use Rattle.query_core.specs.declared.query.Query.{Query}
@@ -19,7 +20,8 @@ use Rattle.plan_space.specs.declared.lines.LeftOrder.{LeftOrder}
 use Rattle.plan_space.specs.declared.lines.LeftOrder.TheVariants as left_orders
 use Rattle.plan_space.specs.declared.lines.Line.{Line}
 use Rattle.plan_space.specs.declared.lines.Line.TheVariants as lines
-use Rattle.plan_space.specs.Alternatives.{dist_asked, left_asked, asked_of, DistServes, OrderServes, LeftServes, LineServes, IsAlternative}
+use Rattle.plan_space.specs.Alternatives.{dist_asked, left_asked, asked_of, DistServes, OrderServes, LeftServes}
+use Rattle.plan_space.specs.Alternatives.{LineServes, IsAlternative}
 use Rattle.plan_space.specs.Choices.{groups_of}
 use Rattle.plan_space.specs.Enforcers.{EnforcedBy, movers_of, enforcers_by, enforcers_of, Among}
 use Rattle.plan_space.specs.Laws.{RequestsFit, AsksWhatFits}
@@ -50,7 +52,12 @@ plain_request (lines.Beside dist order right) = request (plain_dist dist) 0
 
 module _ (q : Query) where
   unordered_fits : (group : KeyParts) (dist : Dist) → DistFits q group dist → Fits q group (request dist 0)
-  unordered_fits group dist fits = record { dist = fits; numbered = omega arith; order = λ k d below. absurd (omega (arith, below)) }
+  unordered_fits group dist fits = record {
+    dist = fits;
+    numbered = omega arith;
+    order =
+        λ k d below. absurd (omega (arith, below));
+  }
 
   plain_of_fits : (group : KeyParts) (dist : GivenDist) → Fits q group (request (plain_of dist) 0)
   plain_of_fits group given.One = unordered_fits group dists.One tt
@@ -84,29 +91,34 @@ module _ (q : Query) where
   no_order_served (left_orders.Fixed gives asked) = tt
   no_order_served left_orders.Same = tt
 
-  plain_left_served : (dist : LeftDist) (order : LeftOrder) (wanted : Request) → LeftServes q dist order wanted → LeftServes q dist order (request (plain_dist dist) 0)
+  plain_left_served : (dist : LeftDist) (order : LeftOrder) (wanted : Request) → LeftServes q dist order wanted
+      → LeftServes q dist order (request (plain_dist dist) 0)
   plain_left_served dist order wanted serves = record {
     dist_served = plain_dist_served dist wanted.dist serves.dist_served;
     order_served = no_order_served order;
   }
 
   -- what is asked of the left child fits it then as well
-  plain_dist_asked : (left : KeyParts) (dist : LeftDist) (wanted : Dist) → DistFits q left (dist_asked dist wanted) → DistFits q left (dist_asked dist (plain_dist dist))
+  plain_dist_asked : (left : KeyParts) (dist : LeftDist) (wanted : Dist) → DistFits q left (dist_asked dist wanted)
+      → DistFits q left (dist_asked dist (plain_dist dist))
   plain_dist_asked left (left_dists.Fixed gives asked) wanted fits = fits
   plain_dist_asked left (left_dists.Grouped list) wanted fits = fits
   plain_dist_asked left left_dists.Same wanted fits = tt
   plain_dist_asked left left_dists.SameSpread wanted fits = tt
 
-  plain_asked : (left : KeyParts) (dist : LeftDist) (order : LeftOrder) (wanted : Request) → Fits q left (left_asked dist order wanted)
+  plain_asked : (left : KeyParts) (dist : LeftDist) (order : LeftOrder) (wanted : Request)
+      → Fits q left (left_asked dist order wanted)
       → Fits q left (left_asked dist order (request (plain_dist dist) 0))
   plain_asked left dist (left_orders.Fixed gives asked) wanted fits = record {
     dist = plain_dist_asked left dist wanted.dist fits.dist;
     numbered = fits.numbered;
     order = fits.order;
   }
-  plain_asked left dist left_orders.Same wanted fits = unordered_fits left (dist_asked dist (plain_dist dist)) (plain_dist_asked left dist wanted.dist fits.dist)
+  plain_asked left dist left_orders.Same wanted fits =
+      unordered_fits left (dist_asked dist (plain_dist dist)) (plain_dist_asked left dist wanted.dist fits.dist)
 
-  plain_served : (line : Line) (children : Children) (wanted : Request) → LineServes q line children wanted → LineServes q line children (plain_request line)
+  plain_served : (line : Line) (children : Children) (wanted : Request) → LineServes q line children wanted
+      → LineServes q line children (plain_request line)
   plain_served (lines.Alone given.One order) arities.Zero wanted serves = record { dist = tt; order = tt }
   plain_served (lines.Alone (given.Hashed list) order) arities.Zero wanted serves = record { dist = tt; order = tt }
   plain_served (lines.Alone given.Random order) arities.Zero wanted serves = record { dist = tt; order = tt }
@@ -134,22 +146,27 @@ module _ (q : Query) where
   pub fitting_request : (group : KeyParts) (wanted : Request) → Fits q group wanted → IsNumberedRequest q wanted
   fitting_request group wanted fits = record { dist = fitting_dist group wanted.dist fits.dist; order = fits.numbered }
 
-  left_dist_numbered : (child : KeyParts) (dist : LeftDist) (wanted : Dist) → IsDistNumbered q wanted → DistFits q child (dist_asked dist (plain_dist dist))
+  left_dist_numbered : (child : KeyParts) (dist : LeftDist) (wanted : Dist) → IsDistNumbered q wanted
+      → DistFits q child (dist_asked dist (plain_dist dist))
       → IsDistNumbered q (dist_asked dist wanted)
   left_dist_numbered child (left_dists.Fixed gives asked) wanted numbered fits = fitting_dist child asked fits
   left_dist_numbered child (left_dists.Grouped list) wanted numbered fits = fitting_dist child (dists.Hashed list) fits
   left_dist_numbered child left_dists.Same wanted numbered fits = numbered
   left_dist_numbered child left_dists.SameSpread wanted numbered fits = numbered
 
-  left_numbered : (child : KeyParts) (dist : LeftDist) (order : LeftOrder) (wanted : Request) → IsNumberedRequest q wanted
-      → Fits q child (left_asked dist order (request (plain_dist dist) 0)) → IsNumberedRequest q (left_asked dist order wanted)
+  left_numbered : (child : KeyParts) (dist : LeftDist) (order : LeftOrder) (wanted : Request)
+      → IsNumberedRequest q wanted
+      → Fits q child (left_asked dist order (request (plain_dist dist) 0))
+      → IsNumberedRequest q (left_asked dist order wanted)
   left_numbered child dist (left_orders.Fixed gives asked) wanted numbered fits =
       record { dist = left_dist_numbered child dist wanted.dist numbered.dist fits.dist; order = fits.numbered }
   left_numbered child dist left_orders.Same wanted numbered fits =
       record { dist = left_dist_numbered child dist wanted.dist numbered.dist fits.dist; order = numbered.order }
 
-  wish_numbered : (line : Line) (children : Children) (wanted : Request) (group : KeyParts) (below : Request) → IsNumberedRequest q wanted
-      → RequestsFit q (groups_of children) (asked_of line (plain_request line)) → IsAsked (groups_of children) (asked_of line wanted) group below
+  wish_numbered : (line : Line) (children : Children) (wanted : Request) (group : KeyParts) (below : Request)
+      → IsNumberedRequest q wanted
+      → RequestsFit q (groups_of children) (asked_of line (plain_request line))
+      → IsAsked (groups_of children) (asked_of line wanted) group below
       → IsNumberedRequest q below
   wish_numbered line arities.Zero wanted group below numbered fit asked = absurd asked
   wish_numbered (lines.Alone dist order) (arities.One child) wanted group below numbered fit asked = absurd asked
@@ -161,18 +178,25 @@ module _ (q : Query) where
   wish_numbered (lines.Beside dist order other) (arities.One child) wanted group below numbered fit asked = absurd fit.1
   wish_numbered (lines.Beside dist order other) (arities.Two left right) wanted group below numbered fit (inl same) =
       subst (IsNumberedRequest q) (sym same.1) (left_numbered left dist order wanted numbered fit.0)
-  wish_numbered (lines.Beside dist order other) (arities.Two left right) wanted group below numbered fit (inr (inl same)) =
+  wish_numbered (lines.Beside dist order other) (arities.Two left right) wanted group below numbered fit
+      (inr (inl same)) =
       subst (IsNumberedRequest q) (sym same.1) (fitting_request right other fit.1.0)
-  wish_numbered (lines.Beside dist order other) (arities.Two left right) wanted group below numbered fit (inr (inr none)) = absurd none
+  wish_numbered (lines.Beside dist order other) (arities.Two left right) wanted group below numbered fit
+      (inr (inr none)) = absurd none
 
   -- what an alternative asks for has numbers
-  pub asks_numbered : AsksWhatFits q → (e : PhysicalExpr) (wanted : Request) (group : KeyParts) (below : Request) → IsCandidate q (expr_of e)
+  pub asks_numbered : AsksWhatFits q → (e : PhysicalExpr) (wanted : Request) (group : KeyParts) (below : Request)
+      → IsCandidate q (expr_of e)
       → IsNumberedRequest q wanted → AsksOf q e wanted group below → IsNumberedRequest q below
   asks_numbered asks_what_fits e wanted group below candidate numbered asks =
       let line = asks.line in
       let children = physical_children e.operator in
       let alternative : IsAlternative q e (plain_request line) asks.mode line =
-      record { is_line = asks.is_alternative.is_line; serves = plain_served line children wanted asks.is_alternative.serves } in
+      record {
+        is_line = asks.is_alternative.is_line;
+        serves =
+            plain_served line children wanted asks.is_alternative.serves;
+      } in
       let fit = asks_what_fits e asks.mode line (plain_request line) candidate (plain_fits e.group line) alternative in
       wish_numbered line children wanted group below numbered fit asks.is_asked
 
@@ -182,15 +206,19 @@ module _ (q : Query) where
   unordered_numbered dist numbered = record { dist = numbered; order = omega arith }
 
   mover_numbered : (dist : Dist) (e : EnforcedBy) → Among e (movers_of dist) → IsNumberedRequest q e.below
-  mover_numbered dists.One e (inl same) = subst (λ (x : EnforcedBy). IsNumberedRequest q x.below) (sym same) (unordered_numbered dists.Spread tt)
+  mover_numbered dists.One e (inl same) = subst (λ (x : EnforcedBy). IsNumberedRequest q x.below) (sym same)
+      (unordered_numbered dists.Spread tt)
   mover_numbered dists.One e (inr none) = absurd none
   mover_numbered dists.Spread e none = absurd none
-  mover_numbered dists.Copies e (inl same) = subst (λ (x : EnforcedBy). IsNumberedRequest q x.below) (sym same) (unordered_numbered dists.Spread tt)
+  mover_numbered dists.Copies e (inl same) =
+      subst (λ (x : EnforcedBy). IsNumberedRequest q x.below) (sym same) (unordered_numbered dists.Spread tt)
   mover_numbered dists.Copies e (inr none) = absurd none
-  mover_numbered (dists.Hashed list) e (inl same) = subst (λ (x : EnforcedBy). IsNumberedRequest q x.below) (sym same) (unordered_numbered dists.Spread tt)
+  mover_numbered (dists.Hashed list) e (inl same) =
+      subst (λ (x : EnforcedBy). IsNumberedRequest q x.below) (sym same) (unordered_numbered dists.Spread tt)
   mover_numbered (dists.Hashed list) e (inr none) = absurd none
 
-  enforcer_by_numbered : (dist : Dist) (order : ℕ) (e : EnforcedBy) → IsNumberedRequest q (request dist order) → Among e (enforcers_by dist order)
+  enforcer_by_numbered : (dist : Dist) (order : ℕ) (e : EnforcedBy) → IsNumberedRequest q (request dist order)
+      → Among e (enforcers_by dist order)
       → IsNumberedRequest q e.below
   enforcer_by_numbered dist zero e numbered among = mover_numbered dist e among
   enforcer_by_numbered dist (suc place) e numbered (inl same) =
@@ -203,5 +231,6 @@ module _ (q : Query) where
   enforcer_by_numbered (dists.Hashed list) (suc place) e numbered (inr none) = absurd none
 
   -- what an enforcer asks for has numbers
-  pub enforcer_numbered : (wanted : Request) (e : EnforcedBy) → IsNumberedRequest q wanted → Among e (enforcers_of wanted) → IsNumberedRequest q e.below
+  pub enforcer_numbered : (wanted : Request) (e : EnforcedBy) → IsNumberedRequest q wanted
+      → Among e (enforcers_of wanted) → IsNumberedRequest q e.below
   enforcer_numbered wanted e numbered among = enforcer_by_numbered wanted.dist wanted.order e numbered among

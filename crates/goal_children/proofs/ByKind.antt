@@ -42,7 +42,8 @@ module _ (q : Query) (words : List ℕ) (group : KeyParts) (wanted : Request) (b
   enforced_kind k (e, can, is) = ap kind_number is
 
   -- the implementation comes before both
-  pub imp_is_first : (goal : GoalKind) → FitsGoal (parts_of goal) → IsLeastFrom (λ k. k ≡ Imp group) bound goal → IsLeastFrom (IsChildIn q words (Opt group wanted)) bound goal
+  pub imp_is_first : (goal : GoalKind) → FitsGoal (parts_of goal) → IsLeastFrom (λ k. k ≡ Imp group) bound goal
+      → IsLeastFrom (IsChildIn q words (Opt group wanted)) bound goal
   imp_is_first goal fits first =
       let kind : kind_number goal ≡ 3 = ap kind_number first.is in
       finds_left (λ k. k ≡ Imp group) (λ k. Served k ⊎ Enforced k) bound goal first (λ k cases above. elim cases [
@@ -51,63 +52,81 @@ module _ (q : Query) (words : List ℕ) (group : KeyParts) (wanted : Request) (b
       ])
 
   -- what is asked for comes before members
-  pub request_is_first : (goal : GoalKind) → FitsGoal (parts_of goal) → FindsFrom (λ k. k ≡ Imp group) bound None → IsLeastFrom Enforced bound goal
+  pub request_is_first : (goal : GoalKind) → FitsGoal (parts_of goal) → FindsFrom (λ k. k ≡ Imp group) bound None
+      → IsLeastFrom Enforced bound goal
       → IsLeastFrom (IsChildIn q words (Opt group wanted)) bound goal
   request_is_first goal fits none first =
       let kind : kind_number goal ≡ 5 = enforced_kind goal first.is in
       let early : IsLeastFrom (λ k. Enforced k ⊎ Served k) bound goal =
-      finds_left Enforced Served bound goal first (λ k served above. kind_first goal k fits (omega (arith, kind, served_kind k served))) in
+      finds_left Enforced Served bound goal first
+      (λ k served above. kind_first goal k fits (omega (arith, kind, served_kind k served))) in
       finds_right (λ k. k ≡ Imp group) (λ k. Served k ⊎ Enforced k) bound (Some goal) none
       (finds_as (λ k. Enforced k ⊎ Served k) (λ k. Served k ⊎ Enforced k) bound (Some goal)
-      (λ k cases. elim cases [ inl is ↦ inr is | inr is ↦ inl is ]) (λ k cases. elim cases [ inl is ↦ inr is | inr is ↦ inl is ]) early)
+      (λ k cases. elim cases [ inl is ↦ inr is | inr is ↦ inl is ])
+      (λ k cases. elim cases [ inl is ↦ inr is | inr is ↦ inl is ]) early)
 
   -- and members come last
-  pub member_is_first : (found : Option GoalKind) → FindsFrom (λ k. k ≡ Imp group) bound None → FindsFrom Enforced bound None → FindsFrom Served bound found
+  pub member_is_first : (found : Option GoalKind) → FindsFrom (λ k. k ≡ Imp group) bound None
+      → FindsFrom Enforced bound None → FindsFrom Served bound found
       → FindsFrom (IsChildIn q words (Opt group wanted)) bound found
   member_is_first found none nothing first =
       finds_right (λ k. k ≡ Imp group) (λ k. Served k ⊎ Enforced k) bound found none
       (finds_as (λ k. Enforced k ⊎ Served k) (λ k. Served k ⊎ Enforced k) bound found
-      (λ k cases. elim cases [ inl is ↦ inr is | inr is ↦ inl is ]) (λ k cases. elim cases [ inl is ↦ inr is | inr is ↦ inl is ])
+      (λ k cases. elim cases [ inl is ↦ inr is | inr is ↦ inl is ])
+      (λ k cases. elim cases [ inl is ↦ inr is | inr is ↦ inl is ])
       (finds_right Enforced Served bound found nothing first))
 
 -- ---- kinds of children that come to a list, one behind the other
 
 module _ (q : Query) (words : List ℕ) (group : KeyParts) where
   -- the exploration of a group, and the members that it implements
-  pub implemented_added : (old middle new : List GoalKind) → FitsGoal (parts_of (Exp group)) → AppendsGoals (λ k. k ≡ Exp group) old middle
-      → AppendsGoals (IsOfMembers q words group (Transform Implementation)) middle new → AppendsGoals (IsChildIn q words (Imp group)) old new
+  pub implemented_added : (old middle new : List GoalKind) → FitsGoal (parts_of (Exp group))
+      → AppendsGoals (λ k. k ≡ Exp group) old middle
+      → AppendsGoals (IsOfMembers q words group (Transform Implementation)) middle new
+      → AppendsGoals (IsChildIn q words (Imp group)) old new
   implemented_added old middle new fits first second =
-      appends_more (λ k. k ≡ Exp group) (IsOfMembers q words group (Transform Implementation)) (IsChildIn q words (Imp group)) old middle new
-      (λ k l is (e, is_in, also). kind_before k l (subst (λ (g : GoalKind). FitsGoal (parts_of g)) (sym is) fits) (omega (arith, ap kind_number is, ap kind_number also)))
+      appends_more (λ k. k ≡ Exp group) (IsOfMembers q words group (Transform Implementation))
+      (IsChildIn q words (Imp group)) old middle new
+      (λ k l is (e, is_in, also). kind_before k l (subst (λ (g : GoalKind). FitsGoal (parts_of g)) (sym is) fits)
+      (omega (arith, ap kind_number is, ap kind_number also)))
       (λ k cases. cases) (λ k cases. cases) first second
 
-  module _ (wanted : Request) (fits : (k : GoalKind) → IsChildIn q words (Opt group wanted) k → FitsGoal (parts_of k)) where
-    -- what stands beside the members, and the members that serve
-    pub chosen_added : (old middle new : List GoalKind) → AppendsGoals (IsBesideMembers q group wanted) old middle
-        → AppendsGoals (IsOfMembers q words group (Serve wanted)) middle new → AppendsGoals (IsChildIn q words (Opt group wanted)) old new
-    chosen_added old middle new beside served =
-        let Child = IsChildIn q words (Opt group wanted) in
-        let Served = IsOfMembers q words group (Serve wanted) in
-        let Beside = IsBesideMembers q group wanted in
-        appends_more Beside Served Child old middle new
-        (λ k l early (e, can, also). elim early [
-          | inl is ↦ kind_before k l (fits k (inl is)) (omega (arith, ap kind_number is, ap kind_number also))
-          | inr (f, may, is) ↦ kind_before k l (fits k (inr (inr (f, may, is)))) (omega (arith, ap kind_number is, ap kind_number also))
-        ])
-        (λ k cases. elim cases as (λ _. Child k) [
-          | inl early ↦ elim early as (λ _. Child k) [ inl is ↦ inl is | inr asked ↦ inr (inr asked) ]
-          | inr serves ↦ inr (inl serves)
-        ])
-        (λ k is. elim is as (λ _. Beside k ⊎ Served k) [
-          | inl same ↦ inl (inl same)
-          | inr later ↦ elim later as (λ _. Beside k ⊎ Served k) [ inl serves ↦ inr serves | inr asked ↦ inl (inr asked) ]
-        ])
-        beside served
+  module _ (wanted : Request) (fits : (k : GoalKind) → IsChildIn q words (Opt group wanted) k → FitsGoal (parts_of k))
+    where
+      -- what stands beside the members, and the members that serve
+      pub chosen_added : (old middle new : List GoalKind) → AppendsGoals (IsBesideMembers q group wanted) old middle
+          → AppendsGoals (IsOfMembers q words group (Serve wanted)) middle new
+          → AppendsGoals (IsChildIn q words (Opt group wanted)) old new
+      chosen_added old middle new beside served =
+          let Child = IsChildIn q words (Opt group wanted) in
+          let Served = IsOfMembers q words group (Serve wanted) in
+          let Beside = IsBesideMembers q group wanted in
+          appends_more Beside Served Child old middle new
+          (λ k l early (e, can, also). elim early [
+            | inl is ↦ kind_before k l (fits k (inl is)) (omega (arith, ap kind_number is, ap kind_number also))
+            | inr (f, may, is) ↦ kind_before k l (fits k (inr (inr (f, may, is))))
+                (omega (arith, ap kind_number is, ap kind_number also))
+          ])
+          (λ k cases. elim cases as (λ _. Child k) [
+            | inl early ↦ elim early as (λ _. Child k) [ inl is ↦ inl is | inr asked ↦ inr (inr asked) ]
+            | inr serves ↦ inr (inl serves)
+          ])
+          (λ k is. elim is as (λ _. Beside k ⊎ Served k) [
+            | inl same ↦ inl (inl same)
+            | inr later ↦ elim later as (λ _. Beside k ⊎ Served k) [
+              | inl serves ↦ inr serves
+              | inr asked ↦
+                  inl (inr asked)
+            ]
+          ])
+          beside served
 
 -- the implementation of a group, and what enforcers ask for
-pub beside_added : (q : Query) (group : KeyParts) (wanted : Request) (old middle new : List GoalKind) → FitsGoal (parts_of (Imp group)) → AppendsGoals (λ k. k ≡ Imp group) old middle
+pub beside_added : (q : Query) (group : KeyParts) (wanted : Request) (old middle new : List GoalKind)
+    → FitsGoal (parts_of (Imp group)) → AppendsGoals (λ k. k ≡ Imp group) old middle
     → InsertsGoals (IsOfEnforcer q group wanted) middle new → AppendsGoals (IsBesideMembers q group wanted) old new
 beside_added q group wanted old middle new fits imp enforced =
     appends_both (λ k. k ≡ Imp group) (IsOfEnforcer q group wanted) old middle new
-    (λ k l is (e, can, also). kind_before k l (subst (λ (g : GoalKind). FitsGoal (parts_of g)) (sym is) fits) (omega (arith, ap kind_number is, ap kind_number also)))
+    (λ k l is (e, can, also). kind_before k l (subst (λ (g : GoalKind). FitsGoal (parts_of g)) (sym is) fits)
+    (omega (arith, ap kind_number is, ap kind_number also)))
     imp (appends_inserted (IsOfEnforcer q group wanted) middle new enforced)

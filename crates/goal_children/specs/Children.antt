@@ -20,10 +20,12 @@ IsBehind None goal = ⊤
 IsBehind (Some before) goal = before.0 < goal_word goal
 
 -- a child behind the one before, and none lies between the two
-pub record IsNextChild (q : Query) (words : List ℕ) (goal : GoalKind) (before : Option Goal) (next : GoalKind) : Type 0 where
-  pub is_child : IsChildIn q words goal next
-  pub behind : IsBehind before next
-  pub least : (other : GoalKind) → IsChildIn q words goal other → IsBehind before other → goal_word next ≤ goal_word other
+pub record IsNextChild (q : Query) (words : List ℕ) (goal : GoalKind) (before : Option Goal) (next : GoalKind) : Type 0
+  where
+    pub is_child : IsChildIn q words goal next
+    pub behind : IsBehind before next
+    pub least : (other : GoalKind) → IsChildIn q words goal other → IsBehind before other
+        → goal_word next ≤ goal_word other
 
 -- no child comes later
 abbrev pub IsLastChild : Query → List ℕ → GoalKind → Option Goal → Type 0
@@ -37,7 +39,8 @@ pub record AreChildren (q : Query) (words : List ℕ) (goal : GoalKind) (childre
   pub exact : (child : GoalKind) → Contains children child ↔ IsChildIn q words goal child
 
 -- the same of those whose words are below a limit
-pub record AreChildrenBelow (q : Query) (words : List ℕ) (goal : GoalKind) (limit : ℕ) (children : List GoalKind) : Type 0 where
+pub record AreChildrenBelow (q : Query) (words : List ℕ) (goal : GoalKind) (limit : ℕ) (children : List GoalKind) : Type
+    0 where
   pub rises : IsStrictlyIncreasing (map goal_word children)
   pub exact : (child : GoalKind) → Contains children child ↔ (IsChildIn q words goal child × (goal_word child < limit))
 

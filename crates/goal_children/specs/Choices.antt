@@ -25,11 +25,13 @@ IsBesideMembers q group wanted goal = (goal ≡ Imp group) ⊎ IsOfEnforcer q gr
 
 -- the goal of a group for what the expression asks of it
 abbrev pub IsOfAlternatives : Query → PhysicalExpr → Request → GoalKind → Type 0
-IsOfAlternatives q e wanted goal = (group : KeyParts) × (below : Request) × AsksOf q e wanted group below × (goal ≡ Opt group below)
+IsOfAlternatives q e wanted goal = (group : KeyParts) × (below : Request) × AsksOf q e wanted group below
+    × (goal ≡ Opt group below)
 
 -- the goal of one of the groups for the request at its place
 abbrev pub IsOfWishes : List KeyParts → List Request → GoalKind → Type 0
-IsOfWishes groups wishes goal = (group : KeyParts) × (below : Request) × IsAsked groups wishes group below × (goal ≡ Opt group below)
+IsOfWishes groups wishes goal = (group : KeyParts) × (below : Request) × IsAsked groups wishes group below
+    × (goal ≡ Opt group below)
 
 -- the goal of the group for the request, if there is one
 abbrev pub IsOfRequest : KeyParts → Option Request → GoalKind → Type 0
@@ -44,7 +46,8 @@ IsOfAsked (arities.Two left right) first second goal = IsOfRequest left first go
 -- the goal of a group for what the expression asks of it in this mode
 abbrev pub IsOfMode : Query → PhysicalExpr → Request → ℕ → GoalKind → Type 0
 IsOfMode q e wanted mode goal =
-    (line : Line) × IsAlternative q e wanted mode line × IsOfWishes (groups_of (physical_children e.operator)) (asked_of line wanted) goal
+    (line : Line) × IsAlternative q e wanted mode line
+    × IsOfWishes (groups_of (physical_children e.operator)) (asked_of line wanted) goal
 
 -- the same in some mode below the limit
 abbrev pub IsOfModesBelow : Query → PhysicalExpr → Request → ℕ → GoalKind → Type 0

@@ -1,4 +1,5 @@
--- How the next child is found, the least word of each kind of child and of several kinds; and how kinds of children come to a list.
+-- How the next child is found, the least word of each kind of child and of several kinds; and how kinds of children
+-- come to a list.
 use Rattle.std.specs.Prelude.{ℕ, ◌≡◌, ◌<◌, ◌≤◌, ◌⊎◌, ◌↔◌, List, All, Option, None, Some, map, nat_lt, if◌then◌else◌}
 use Rattle.std.specs.List.{Contains}
 use Rattle.query_core.specs.declared.query.Query.{Query}
@@ -70,5 +71,7 @@ IsOfLeft e rule children goal = (group : KeyParts) × IsTrue (binds rule) × IsL
 
 -- the goal of a job of a member of the group
 abbrev pub IsOfMembers : Query → List ℕ → KeyParts → MemberJob → GoalKind → Type 0
-IsOfMembers q words group (Transform phase) goal = (e : ExprParts) × IsLogicalIn (IsListedIn q words) group e × (goal ≡ phase_goal_of_expr phase e)
-IsOfMembers q words group (Serve wanted) goal = (e : PhysicalExpr) × CanServe (IsListedIn q words) q group wanted e × (goal ≡ OptE e wanted)
+IsOfMembers q words group (Transform phase) goal = (e : ExprParts) × IsLogicalIn (IsListedIn q words) group e
+    × (goal ≡ phase_goal_of_expr phase e)
+IsOfMembers q words group (Serve wanted) goal = (e : PhysicalExpr) × CanServe (IsListedIn q words) q group wanted e
+    × (goal ≡ OptE e wanted)

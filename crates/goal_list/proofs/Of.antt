@@ -16,7 +16,8 @@ use Rattle.goal_children.specs.Laws.{ClosureHasChildren, GoalsAreOver, GoalsOver
 use Rattle.goal_list.specs.Passes.{ContainsWordOf, HasChildren}
 
 -- the goals of a query have words
-pub goals_in_range : (q : Query) → length (lists_of q) ≤ 60 → length (orders_of q) ≤ 60 → GoalsOverHaveWords q → GoalsAreOver q → (goal : GoalKind) → IsGoal q goal → IsInRange goal
+pub goals_in_range : (q : Query) → length (lists_of q) ≤ 60 → length (orders_of q) ≤ 60 → GoalsOverHaveWords q
+    → GoalsAreOver q → (goal : GoalKind) → IsGoal q goal → IsInRange goal
 goals_in_range q few_lists few_orders words over goal is = words few_lists few_orders goal (over goal is)
 
 module _ (q : Query) (in_range : (goal : GoalKind) → IsGoal q goal → IsInRange goal) where
@@ -27,9 +28,11 @@ module _ (q : Query) (in_range : (goal : GoalKind) → IsGoal q goal → IsInRan
   module _ (word : ℕ) (known : GoalKind) (only : (goal : GoalKind) → HasWord goal word → goal ≡ known) where
     -- which is a goal of the query
     pub known_goal : IsGoalWord q word → IsGoal q known
-    known_goal (goal, names) = subst (IsGoal q) (only goal (record { in_range = in_range goal names.is_goal; number = names.number })) names.is_goal
+    known_goal (goal, names) = subst (IsGoal q)
+        (only goal (record { in_range = in_range goal names.is_goal; number = names.number })) names.is_goal
 
-    module _ (members : List ℕ) (closure : IsClosureOf q members) (closure_has : ClosureHasChildren q) (children : List GoalKind) (are : AreChildren q members known children) where
+    module _ (members : List ℕ) (closure : IsClosureOf q members) (closure_has : ClosureHasChildren q)
+        (children : List GoalKind) (are : AreChildren q members known children) where
       -- its children are goals of the query
       pub children_are_goals : IsGoalWord q word → All (IsGoal q) children
       children_are_goals is k d within =
@@ -39,9 +42,12 @@ module _ (q : Query) (in_range : (goal : GoalKind) → IsGoal q goal → IsInRan
           child_goal known child (known_goal is) is_child
 
       -- and where these are found, all its children are
-      pub children_found : (found : List ℕ) → All (ContainsWordOf found) children → (goal : GoalKind) → IsGoal q goal → goal_word goal ≡ word → HasChildren q found goal
+      pub children_found : (found : List ℕ) → All (ContainsWordOf found) children → (goal : GoalKind) → IsGoal q goal
+          → goal_word goal ≡ word → HasChildren q found goal
       children_found found there goal is number child is_child =
           let same : goal ≡ known = only goal (record { in_range = in_range goal is; number = number }) in
-          let of_known : IsChildGoal (IsMember q) q known child = subst (λ (g : GoalKind). IsChildGoal (IsMember q) q g child) same is_child in
-          let listed : Contains children child = (are.exact child).1 ((closure_has members known child closure).1 of_known) in
+          let of_known : IsChildGoal (IsMember q) q known child =
+          subst (λ (g : GoalKind). IsChildGoal (IsMember q) q g child) same is_child in
+          let listed : Contains children child = (are.exact child).1
+          ((closure_has members known child closure).1 of_known) in
           All-contains (ContainsWordOf found) children child there listed

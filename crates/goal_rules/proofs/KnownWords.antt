@@ -20,11 +20,14 @@ apart : (goal : GoalKind) (word : ℕ) → FitsExpr word → goal_word goal ≡ 
 apart goal word small same = let high = goal_high goal in absurd (omega (arith, small, same, high))
 
 -- where words are those of one expression
-pub entries_members : (q : Query) → ((e f : ExprParts) → IsPacked e → IsPacked f → word_of e ≡ word_of f → e ≡ f) → ((e : ExprParts) → IsPacked e → FitsExpr (word_of e))
-    → ((e : ExprParts) → IsCandidate q e → IsPacked e) → ((e : ExprParts) → IsMember q e → IsCandidate q e) → EntriesAreMembers q
+pub entries_members : (q : Query) → ((e f : ExprParts) → IsPacked e → IsPacked f → word_of e ≡ word_of f → e ≡ f)
+    → ((e : ExprParts) → IsPacked e → FitsExpr (word_of e))
+    → ((e : ExprParts) → IsCandidate q e → IsPacked e) → ((e : ExprParts) → IsMember q e → IsCandidate q e)
+    → EntriesAreMembers q
 entries_members q one_expr small packed candidates e known (inl (other, member, is)) =
     subst (IsMember q) (one_expr other e (packed other (candidates other member)) (packed e known) is) member
-entries_members q one_expr small packed candidates e known (inr (goal, names)) = absurd (apart goal (word_of e) (small e (packed e known)) names.number)
+entries_members q one_expr small packed candidates e known (inr (goal, names)) =
+    absurd (apart goal (word_of e) (small e (packed e known)) names.number)
 
 -- where words are those of one goal
 module _ (q : Query) (
@@ -44,7 +47,21 @@ module _ (q : Query) (
   pub known_word : IsKnownWord q goal
   known_word = record {
     entry = entry_goal;
-    child = λ word is. (is.other, subst (λ (g : GoalKind). IsChildGoal (IsMember q) q g is.other) (named is.goal is.names) is.is_child, is.number);
-    asked = λ word is. (is.member, subst (λ (g : GoalKind). AsksFor q g is.member) (named is.goal is.names) is.asks, is.number);
-    answer = λ cost node is. (is.answer, subst (λ (g : GoalKind). IsAnswerTo q g is.answer) (named is.goal is.names) is.is_answer, is.words);
+    child = λ word is. (
+      is.other,
+      subst (λ (g : GoalKind). IsChildGoal (IsMember q) q g is.other)
+          (named is.goal is.names) is.is_child,
+      is.number,
+    );
+    asked = λ word is. (
+      is.member,
+      subst (λ (g : GoalKind). AsksFor q g is.member) (named is.goal is.names) is.asks,
+      is.number,
+    );
+    answer = λ cost node is. (
+      is.answer,
+      subst (λ (g : GoalKind). IsAnswerTo q g is.answer) (named is.goal is.names)
+          is.is_answer,
+      is.words,
+    );
   }

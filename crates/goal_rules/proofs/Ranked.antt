@@ -29,18 +29,26 @@ level_ranked : (g : KeyParts) → keys.IsInRange g → level_by (key_number g) �
 level_ranked (groups.Get t) known = rw (lt-ltb t (key_number (groups.Filter 0)) (omega (arith, known)))
 level_ranked (groups.Filter t) known =
     let key = key_number (groups.Filter t) in
-    rw (le-ltb key (key_number (groups.Filter 0)) (omega arith), lt-ltb key (key_number (groups.Join 0)) (omega (arith, known)))
+    rw (
+      le-ltb key (key_number (groups.Filter 0)) (omega arith),
+      lt-ltb key (key_number (groups.Join 0)) (omega (arith, known)),
+    )
 level_ranked (groups.Join set) known =
     let key = key_number (groups.Join set) in
     let same : key - key_number (groups.Join 0) ≡ set = omega arith in
-    rw (le-ltb key (key_number (groups.Filter 0)) (omega arith), le-ltb key (key_number (groups.Join 0)) (omega arith), lt-ltb key (key_number groups.Partial) (omega (arith, known)))
+    rw (
+      le-ltb key (key_number (groups.Filter 0)) (omega arith),
+      le-ltb key (key_number (groups.Join 0)) (omega arith),
+      lt-ltb key (key_number groups.Partial) (omega (arith, known)),
+    )
     (ap (λ (s : ℕ). 1 + table_count s) same)
 level_ranked groups.Partial known = refl
 level_ranked groups.Agg known = refl
 
 -- and so for an expression
 expr_ranked : (e : ExprParts) → IsPacked e → expr_level_by (word_of e) ≡ level_of e.group
-expr_ranked e packed = ap level_by (key_read e (word_of e) (record { packed = packed; number = refl })) ∙ level_ranked e.group packed.group
+expr_ranked e packed = ap level_by (key_read e (word_of e) (record { packed = packed; number = refl }))
+    ∙ level_ranked e.group packed.group
 
 -- ---- requests
 
@@ -52,19 +60,22 @@ dist_ranked dists.Copies = refl
 dist_ranked (dists.Hashed list) = rw (ne_eqb (3 + list) 1 (λ same. omega (arith, same))) refl
 
 -- the rank by a request's code is that of the request
-request_ranked : (wanted : Request) → requests.IsInRange wanted → dist_rank_by (code_of wanted / 64) + order_rank (code_of wanted % 64) ≡ request_rank wanted
+request_ranked : (wanted : Request) → requests.IsInRange wanted
+    → dist_rank_by (code_of wanted / 64) + order_rank (code_of wanted % 64) ≡ request_rank wanted
 request_ranked wanted in_range =
     let few = in_range.numbered in
     let dist_is : code_of wanted / 64 ≡ dist_code wanted.dist = omega arith in
     let order_is : code_of wanted % 64 ≡ wanted.order = omega arith in
-    let by_dist : dist_rank_by (code_of wanted / 64) ≡ dist_rank wanted.dist = ap dist_rank_by dist_is ∙ dist_ranked wanted.dist in
+    let by_dist : dist_rank_by (code_of wanted / 64) ≡ dist_rank wanted.dist = ap dist_rank_by dist_is
+    ∙ dist_ranked wanted.dist in
     let by_order : order_rank (code_of wanted % 64) ≡ order_rank wanted.order = ap order_rank order_is in
     omega (arith, by_dist, by_order)
 
 -- ---- goals
 
 -- where a goal has the fields of its word
-module _ (fields : (p : GoalParts) → FitsGoal p → goal_fields (goal_number p) ≡ p) (fits : (k : GoalKind) → IsInRange k → FitsGoal (parts_of k)) where
+module _ (fields : (p : GoalParts) → FitsGoal p → goal_fields (goal_number p) ≡ p) (fits : (k : GoalKind) → IsInRange k
+    → FitsGoal (parts_of k)) where
   by_parts : (k : GoalKind) → IsInRange k → rank_of_word (goal_word k) ≡ rank_of_parts (parts_of k)
   by_parts k known = ap rank_of_parts (fields (parts_of k) (fits k known))
 

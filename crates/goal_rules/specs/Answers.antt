@@ -22,5 +22,6 @@ pub record IsAnswerWord (q : Query) (word cost node : ℕ) : Type 0 where
 -- a goal has one answer at most
 abbrev pub AnswersAreOne : Query → Type 0
 AnswersAreOne q =
-    (word cost node other_cost other_node : ℕ) → IsAnswerWord q word cost node → IsAnswerWord q word other_cost other_node
+    (word cost node other_cost other_node : ℕ) → IsAnswerWord q word cost node
+    → IsAnswerWord q word other_cost other_node
     → (cost ≡ other_cost) × (node ≡ other_node)

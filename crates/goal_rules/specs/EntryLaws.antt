@@ -17,10 +17,12 @@ goal_high goal = omega arith
 
 pub zero_is_none : (q : Query) (word : ℕ) → IsEntry q word → word ≢ 0
 zero_is_none q word (inl (e, member, is)) none = absurd (omega (arith, word_some e, is, none))
-zero_is_none q word (inr (goal, names)) none = let high = goal_high goal in let is = names.number in absurd (omega arith)
+zero_is_none q word (inr (goal, names)) none = let high = goal_high goal in let is = names.number in
+    absurd (omega arith)
 
 -- a child is an entry and a goal
-pub child_enters : (q : Query) (word child : ℕ) → IsEntry q word → IsChildWord q word child → IsEntry q child × IsTrue (has_goal_bit child)
+pub child_enters : (q : Query) (word child : ℕ) → IsEntry q word → IsChildWord q word child → IsEntry q child
+    × IsTrue (has_goal_bit child)
 child_enters q word child enters is =
     let high = goal_high is.other in (
       inr (is.other, record { is_goal = child_goal is.goal is.other is.names.is_goal is.is_child; number = is.number }),
@@ -28,5 +30,7 @@ child_enters q word child enters is =
     )
 
 -- what a goal asks for is an entry
-pub asked_enters : (q : Query) (word asked : ℕ) → IsEntry q word → IsTrue (has_goal_bit word) → IsAskedWord q word asked → IsEntry q asked
-asked_enters q word asked enters is_goal is = inl (is.member, asked_are_members q is.goal is.member is.names.is_goal is.asks, is.number)
+pub asked_enters : (q : Query) (word asked : ℕ) → IsEntry q word → IsTrue (has_goal_bit word) → IsAskedWord q word asked
+    → IsEntry q asked
+asked_enters q word asked enters is_goal is =
+    inl (is.member, asked_are_members q is.goal is.member is.names.is_goal is.asks, is.number)

@@ -31,14 +31,18 @@ origin_word q group = word_of (origin_of q group)
 -- the origin's word, and the logical ones that a child of the exploration of one that is found asks for
 pub data IsExploredWord (q : Query) (group : KeyParts) : ℕ → Type 0 where
   origin_found : IsExploredWord q group (origin_word q group)
-  asked_found : (word child other : ℕ) → IsExploredWord q group word → IsChildWord q (explored word) child → IsAskedWord q child other → IsLogicalWord q group other
+  asked_found : (word child other : ℕ) → IsExploredWord q group word → IsChildWord q (explored word) child
+      → IsAskedWord q child other → IsLogicalWord q group other
       → IsExploredWord q group other
 
--- the exploration of the group asks for the origin and for words that are found from it, and waits for the exploration of what it asks for
+-- the exploration of the group asks for the origin and for words that are found from it, and waits for the exploration
+-- of what it asks for
 pub record IsExplorationOf (q : Query) (group : KeyParts) : Type 0 where
   pub origin_held : IsLogicalWord q group (origin_word q group)
   pub origin_asked : IsAskedWord q (goal_word (Exp group)) (origin_word q group)
   pub asked_held : (word : ℕ) → IsAskedWord q (goal_word (Exp group)) word → IsLogicalWord q group word
   pub asked_is_found : (word : ℕ) → IsAskedWord q (goal_word (Exp group)) word → IsExploredWord q group word
-  pub children : (child : ℕ) → IsChildWord q (goal_word (Exp group)) child → (word : ℕ) × IsAskedWord q (goal_word (Exp group)) word × (child ≡ explored word)
-  pub explores : (word : ℕ) → IsLogicalWord q group word → IsEntry q word → IsChildWord q (goal_word (Exp group)) (explored word)
+  pub children : (child : ℕ) → IsChildWord q (goal_word (Exp group)) child → (word : ℕ)
+      × IsAskedWord q (goal_word (Exp group)) word × (child ≡ explored word)
+  pub explores : (word : ℕ) → IsLogicalWord q group word → IsEntry q word
+      → IsChildWord q (goal_word (Exp group)) (explored word)

@@ -26,9 +26,11 @@ EntriesAreMembers q = (e : ExprParts) → IsCandidate q e → IsEntry q (word_of
 -- what is known of the word of a goal
 pub record IsKnownWord (q : Query) (goal : GoalKind) : Type 0 where
   pub entry : IsEntry q (goal_word goal) → IsGoal q goal
-  pub child : (word : ℕ) → IsChildWord q (goal_word goal) word → (other : GoalKind) × IsChildGoal (IsMember q) q goal other × (goal_word other ≡ word)
+  pub child : (word : ℕ) → IsChildWord q (goal_word goal) word → (other : GoalKind)
+      × IsChildGoal (IsMember q) q goal other × (goal_word other ≡ word)
   pub asked : (word : ℕ) → IsAskedWord q (goal_word goal) word → (e : ExprParts) × AsksFor q goal e × (word_of e ≡ word)
-  pub answer : (cost node : ℕ) → IsAnswerWord q (goal_word goal) cost node → (answer : Option Best) × IsAnswerTo q goal answer × AreWordsOf answer cost node
+  pub answer : (cost node : ℕ) → IsAnswerWord q (goal_word goal) cost node → (answer : Option Best)
+      × IsAnswerTo q goal answer × AreWordsOf answer cost node
 
 -- where a query has props, the word of a goal tells the goal
 abbrev pub GoalWordsAreKnown : Query → Type 0
@@ -36,4 +38,5 @@ GoalWordsAreKnown q = (props : Props) → IsProps q props → (goal : GoalKind) 
 
 -- and so the exploration of a group is known
 abbrev pub ExplorationsAreKnown : Query → Type 0
-ExplorationsAreKnown q = (props : Props) → IsProps q props → (group : KeyParts) → IsGoal q (Exp group) → IsExplorationOf q group
+ExplorationsAreKnown q = (props : Props) → IsProps q props → (group : KeyParts) → IsGoal q (Exp group)
+    → IsExplorationOf q group

@@ -1,4 +1,5 @@
--- The search of a query as the rules of a board: its entries, the goals among them, and what a goal waits for, asks for and answers.
+-- The search of a query as the rules of a board: its entries, the goals among them, and what a goal waits for, asks for
+-- and answers.
 use Rattle.query_core.specs.Goals.{has_goal_bit}
 use Rattle.query_core.specs.declared.query.Query.{Query}
 use Rattle.board_rule.specs.Meaning.{Meaning}

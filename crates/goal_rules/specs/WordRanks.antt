@@ -13,7 +13,8 @@ use Rattle.goal_space.specs.Ranks.{order_rank, rank_of}
 use Rattle.goal_space.specs.Entries.{IsChildWord}
 use Rattle.goal_space.specs.declared.goals.GoalKind.{GoalKind}
 
--- the level of the group whose key has this number: of a table, of one with own predicates, of a join of tables, and of the two of a grouped query
+-- the level of the group whose key has this number: of a table, of one with own predicates, of a join of tables, and of
+-- the two of a grouped query
 abbrev pub level_by : ℕ → ℕ
 level_by key =
     if nat_lt key (key_number (Filter 0)) then 1
@@ -36,7 +37,8 @@ rank_of_parts (goals.ExpE expr) = 100 * expr_level_by expr.0 + 10
 rank_of_parts (goals.Xf expr rule) = 100 * expr_level_by expr.0
 rank_of_parts (goals.Imp key) = 100 * level_by key.0 + 40
 rank_of_parts (goals.ImpE expr) = 100 * expr_level_by expr.0 + 30
-rank_of_parts (goals.Opt key request) = 100 * level_by key.0 + 60 + (dist_rank_by (request / 64) + order_rank (request % 64))
+rank_of_parts (goals.Opt key request) = 100 * level_by
+    key.0 + 60 + (dist_rank_by (request / 64) + order_rank (request % 64))
 rank_of_parts (goals.OptE expr request) = 100 * expr_level_by expr.0 + 50
 
 -- the rank of the goal whose fields the number has

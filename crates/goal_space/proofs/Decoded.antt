@@ -32,7 +32,8 @@ pub none_of : (p o : GoalParts) → p ≡ o → StandsForNone o → StandsForNon
 none_of p o same none = subst StandsForNone (sym same) none
 
 -- where the word is that of a logical expression or of none, no goal has it for a request
-pub no_expr : (word : Expr) (code : ℕ) → ((e : PhysicalExpr) → IsPacked (expr_of e) → word_of (expr_of e) ≡ word.0 → ⊥) → StandsForNone (parts.OptE word code)
+pub no_expr : (word : Expr) (code : ℕ) → ((e : PhysicalExpr) → IsPacked (expr_of e) → word_of (expr_of e) ≡ word.0 → ⊥)
+    → StandsForNone (parts.OptE word code)
 no_expr word code none (OptE e wanted) known same =
     let word_is : expr_word (expr_of e) ≡ word = cc in
     none e known.0 (ap (λ (w : Expr). w.0) word_is)
@@ -44,14 +45,16 @@ key_is group key same = ap (λ (n : ℕ). let made : Key = record { 0 = n } in m
 word_is : (e : ExprParts) (word : Expr) → word_of e ≡ word.0 → expr_word e ≡ word
 word_is e word same = ap (λ (n : ℕ). let made : Expr = record { 0 = n } in made) same
 
-pub opt_parts : (p : GoalParts) (key : Key) (code : ℕ) (group : KeyParts) (wanted : Request) → key_number group ≡ key.0 → code_of wanted ≡ code → p ≡ parts.Opt key code
+pub opt_parts : (p : GoalParts) (key : Key) (code : ℕ) (group : KeyParts) (wanted : Request) → key_number group ≡ key.0
+    → code_of wanted ≡ code → p ≡ parts.Opt key code
     → parts_of (Opt group wanted) ≡ p
 opt_parts p key code group wanted number code_is is =
     let same_key = key_is group key number in
     let made : parts_of (Opt group wanted) ≡ parts.Opt key code = cc in
     made ∙ sym is
 
-pub opt_e_parts : (p : GoalParts) (word : Expr) (code : ℕ) (e : PhysicalExpr) (wanted : Request) → word_of (expr_of e) ≡ word.0 → code_of wanted ≡ code
+pub opt_e_parts : (p : GoalParts) (word : Expr) (code : ℕ) (e : PhysicalExpr) (wanted : Request)
+    → word_of (expr_of e) ≡ word.0 → code_of wanted ≡ code
     → p ≡ parts.OptE word code → parts_of (OptE e wanted) ≡ p
 opt_e_parts p word code e wanted number code_is is =
     let same_word = word_is (expr_of e) word number in
@@ -69,15 +72,18 @@ module _ (
     ) (word : ℕ) (p : GoalParts) (has : HasGoalWord word p) where
   -- a goal with the word has the parts
   word_parts : (k : GoalKind) → HasWord k word → parts_of k ≡ p
-  word_parts k has_word = one_parts (parts_of k) p (fits k has_word.in_range) has.fits (has_word.number ∙ sym has.number)
+  word_parts k has_word = one_parts (parts_of k) p (fits k has_word.in_range) has.fits (has_word.number
+      ∙ sym has.number)
 
-  found_of : (found : Option GoalKind) → MatchOption found (StandsForNone p) (StandsFor p) → (k : GoalKind) → HasWord k word → found ≡ Some k
+  found_of : (found : Option GoalKind) → MatchOption found (StandsForNone p) (StandsFor p) → (k : GoalKind)
+      → HasWord k word → found ≡ Some k
   found_of None none k has_word = absurd (none k has_word.in_range (word_parts k has_word))
   found_of (Some l) is k has_word =
       let same : l ≡ k = one l k is.0 has_word.in_range (ap goal_number is.1 ∙ has.number ∙ sym has_word.number) in
       ap Some same
 
-  word_of_found : (found : Option GoalKind) → MatchOption found (StandsForNone p) (StandsFor p) → (k : GoalKind) → found ≡ Some k → HasWord k word
+  word_of_found : (found : Option GoalKind) → MatchOption found (StandsForNone p) (StandsFor p) → (k : GoalKind)
+      → found ≡ Some k → HasWord k word
   word_of_found None none k same = cc
   word_of_found (Some l) is k same =
       let l_is : l ≡ k = cc in
@@ -85,5 +91,6 @@ module _ (
       subst (λ (g : GoalKind). HasWord g word) l_is has_word
 
   -- what is found by the parts is the goal of the word
-  pub found_exactly : (found : Option GoalKind) → MatchOption found (StandsForNone p) (StandsFor p) → (k : GoalKind) → HasWord k word ↔ (found ≡ Some k)
+  pub found_exactly : (found : Option GoalKind) → MatchOption found (StandsForNone p) (StandsFor p) → (k : GoalKind)
+      → HasWord k word ↔ (found ≡ Some k)
   found_exactly found is k = (found_of found is k, word_of_found found is k)

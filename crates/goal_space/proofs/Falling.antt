@@ -46,7 +46,8 @@ mover_less dists.Copies e (inr none) = absurd none
 mover_less (dists.Hashed list) e (inl same) = less_by 1 e _ same (omega arith)
 mover_less (dists.Hashed list) e (inr none) = absurd none
 
-sorter_less : (dist : Dist) (place : ℕ) (e : EnforcedBy) → Among e (enforcers_by dist (suc place)) → AsksLess (dist_rank dist + 1) e
+sorter_less : (dist : Dist) (place : ℕ) (e : EnforcedBy) → Among e (enforcers_by dist (suc place))
+    → AsksLess (dist_rank dist + 1) e
 sorter_less dist place e (inl same) = less_by (dist_rank dist + 1) e _ same (omega arith)
 sorter_less dists.One place e (inr (inl same)) = less_by 2 e _ same (omega arith)
 sorter_less dists.One place e (inr (inr none)) = absurd none
@@ -55,11 +56,13 @@ sorter_less dists.Copies place e (inr none) = absurd none
 sorter_less (dists.Hashed list) place e (inr none) = absurd none
 
 -- an enforcer asks for less than it gives
-enforcer_by : (dist : Dist) (order : ℕ) (e : EnforcedBy) → Among e (enforcers_by dist order) → AsksLess (dist_rank dist + order_rank order) e
+enforcer_by : (dist : Dist) (order : ℕ) (e : EnforcedBy) → Among e (enforcers_by dist order)
+    → AsksLess (dist_rank dist + order_rank order) e
 enforcer_by dist zero e among = mover_less dist e among
 enforcer_by dist (suc place) e among = sorter_less dist place e among
 
-enforcer_less : (wanted : Request) (e : EnforcedBy) → Among e (enforcers_of wanted) → request_rank e.below < request_rank wanted
+enforcer_less : (wanted : Request) (e : EnforcedBy) → Among e (enforcers_of wanted)
+    → request_rank e.below < request_rank wanted
 enforcer_less wanted e among = enforcer_by wanted.dist wanted.order e among
 
 -- ---- goals
@@ -69,21 +72,30 @@ as_goal : (goal child other : GoalKind) → child ≡ other → rank_of other < 
 as_goal goal child other same less = subst (λ (g : GoalKind). rank_of g < rank_of goal) (sym same) less
 
 module _ (fewer : FewerTables) (Member : ExprParts → Type 0) (q : Query) where
-  pub rank_falls : (goal child : GoalKind) → IsOfCandidate q goal → IsChildGoal Member q goal child → rank_of child < rank_of goal
-  rank_falls (Exp group) child known (e, is_in, is) = as_goal (Exp group) child (ExpE e) is (omega (arith, ap level_of is_in.of_group))
-  rank_falls (ExpE e) child known (inl (group, below, is)) = as_goal (ExpE e) child (Exp group) is (omega (arith, child_below fewer q e group known below))
-  rank_falls (ExpE e) child known (inr (rule, (kind, applies), is)) = as_goal (ExpE e) child (Xf e rule) is (omega arith)
+  pub rank_falls : (goal child : GoalKind) → IsOfCandidate q goal → IsChildGoal Member q goal child
+      → rank_of child < rank_of goal
+  rank_falls (Exp group) child known (e, is_in, is) =
+      as_goal (Exp group) child (ExpE e) is (omega (arith, ap level_of is_in.of_group))
+  rank_falls (ExpE e) child known (inl (group, below, is)) =
+      as_goal (ExpE e) child (Exp group) is (omega (arith, child_below fewer q e group known below))
+  rank_falls (ExpE e) child known (inr (rule, (kind, applies), is)) =
+      as_goal (ExpE e) child (Xf e rule) is (omega arith)
   rank_falls (Xf e rule) child known (group, associates, left, is) =
-      as_goal (Xf e rule) child (Exp group) is (omega (arith, child_below fewer q e group known (left_child (children_of e.operator) group left)))
+      as_goal (Xf e rule) child (Exp group) is
+      (omega (arith, child_below fewer q e group known (left_child (children_of e.operator) group left)))
   rank_falls (Imp group) child known (inl is) = as_goal (Imp group) child (Exp group) is (omega arith)
-  rank_falls (Imp group) child known (inr (e, is_in, is)) = as_goal (Imp group) child (ImpE e) is (omega (arith, ap level_of is_in.of_group))
-  rank_falls (ImpE e) child known (inl (group, below, is)) = as_goal (ImpE e) child (Imp group) is (omega (arith, child_below fewer q e group known below))
-  rank_falls (ImpE e) child known (inr (rule, (kind, applies), is)) = as_goal (ImpE e) child (Xf e rule) is (omega arith)
+  rank_falls (Imp group) child known (inr (e, is_in, is)) =
+      as_goal (Imp group) child (ImpE e) is (omega (arith, ap level_of is_in.of_group))
+  rank_falls (ImpE e) child known (inl (group, below, is)) =
+      as_goal (ImpE e) child (Imp group) is (omega (arith, child_below fewer q e group known below))
+  rank_falls (ImpE e) child known (inr (rule, (kind, applies), is)) =
+      as_goal (ImpE e) child (Xf e rule) is (omega arith)
   rank_falls (Opt group wanted) child known (inl is) = as_goal (Opt group wanted) child (Imp group) is (omega arith)
   rank_falls (Opt group wanted) child known (inr (inl (e, can, is))) =
       as_goal (Opt group wanted) child (OptE e wanted) is (omega (arith, ap level_of can.of_group))
   rank_falls (Opt group wanted) child known (inr (inr (e, can, is))) =
       as_goal (Opt group wanted) child (Opt group e.below) is (omega (arith, enforcer_less wanted e can.among))
   rank_falls (OptE e wanted) child known (group, below, asks, is) =
-      let lower = child_below fewer q (expr_of e) group known (asked_child (children_of (expr_of e).operator) _ group below asks.is_asked) in
+      let lower = child_below fewer q (expr_of e) group known
+      (asked_child (children_of (expr_of e).operator) _ group below asks.is_asked) in
       as_goal (OptE e wanted) child (Opt group below) is (omega (arith, lower, few_request below))

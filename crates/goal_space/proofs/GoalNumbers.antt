@@ -32,7 +32,8 @@ rule_there rules.PartialToHash = refl
 
 pub rule_one : (rule other : Rule) → rule_number rule ≡ rule_number other → rule ≡ other
 rule_one rule other same =
-    let there : Some rule ≡ Some other = sym (rule_there rule) ∙ ap (λ (n : ℕ). slice_get all_rules (n - 1)) same ∙ rule_there other in
+    let there : Some rule ≡ Some other = sym (rule_there rule) ∙ ap (λ (n : ℕ). slice_get all_rules (n - 1)) same
+    ∙ rule_there other in
     cc
 
 pub rule_some : (rule : Rule) → 1 ≤ rule_number rule
@@ -96,7 +97,8 @@ dist_one (dists.Hashed list) (dists.Hashed other) same = ap dists.Hashed (omega 
 pub code_small : (wanted : Request) → requests.IsInRange wanted → FitsCode (code_of wanted)
 code_small wanted in_range = omega (arith, dist_small wanted.dist in_range.list, in_range.numbered)
 
-pub request_one : (wanted other : Request) → requests.IsInRange wanted → requests.IsInRange other → code_of wanted ≡ code_of other → wanted ≡ other
+pub request_one : (wanted other : Request) → requests.IsInRange wanted → requests.IsInRange other
+    → code_of wanted ≡ code_of other → wanted ≡ other
 request_one wanted other in_range other_in_range same =
     let few = in_range.numbered in
     let fewer = other_in_range.numbered in

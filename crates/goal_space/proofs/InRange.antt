@@ -20,7 +20,8 @@ use Rattle.goal_space.specs.declared.goals.GoalKind.{GoalKind}
 use Rattle.goal_space.specs.declared.goals.GoalKind.TheVariants.{Exp, ExpE, Xf, Imp, ImpE, Opt, OptE}
 
 -- members are candidates
-pub of_candidate : (q : Query) → ((e : ExprParts) → IsMember q e → IsCandidate q e) → (goal : GoalKind) → IsOfMember q goal → IsOfCandidate q goal
+pub of_candidate : (q : Query) → ((e : ExprParts) → IsMember q e → IsCandidate q e) → (goal : GoalKind)
+    → IsOfMember q goal → IsOfCandidate q goal
 of_candidate q candidates (Exp group) known = (candidates _ known).known
 of_candidate q candidates (ExpE e) known = candidates e known.member
 of_candidate q candidates (Xf e rule) known = candidates e known.0
@@ -30,13 +31,15 @@ of_candidate q candidates (Opt group wanted) known = (candidates _ known).known
 of_candidate q candidates (OptE e wanted) known = candidates (expr_of e) known.1
 
 -- a list of the query has one of 60 numbers
-dist_in_range : (q : Query) (group : KeyParts) (dist : Dist) → length (lists_of q) ≤ 60 → DistFits q group dist → requests.IsDistInRange dist
+dist_in_range : (q : Query) (group : KeyParts) (dist : Dist) → length (lists_of q) ≤ 60 → DistFits q group dist
+    → requests.IsDistInRange dist
 dist_in_range q group dists.One few fits = tt
 dist_in_range q group dists.Spread few fits = tt
 dist_in_range q group dists.Copies few fits = tt
 dist_in_range q group (dists.Hashed list) few fits = omega (arith, few, fits.numbered)
 
-pub request_in_range : (q : Query) (group : KeyParts) (wanted : Request) → length (lists_of q) ≤ 60 → length (orders_of q) ≤ 60 → Fits q group wanted
+pub request_in_range : (q : Query) (group : KeyParts) (wanted : Request) → length (lists_of q) ≤ 60
+    → length (orders_of q) ≤ 60 → Fits q group wanted
     → requests.IsInRange wanted
 request_in_range q group wanted few_lists few_orders fits = record {
   list = dist_in_range q group wanted.dist few_lists fits.dist;
@@ -54,5 +57,7 @@ module _ (q : Query) (few_lists : length (lists_of q) ≤ 60) (few_orders : leng
   goal_in_range (Xf e rule) known fits = packed e known
   goal_in_range (Imp group) known fits = known_group group known
   goal_in_range (ImpE e) known fits = packed e known
-  goal_in_range (Opt group wanted) known fits = (known_group group known, request_in_range q group wanted few_lists few_orders fits)
-  goal_in_range (OptE e wanted) known fits = (packed (expr_of e) known, request_in_range q e.group wanted few_lists few_orders fits)
+  goal_in_range (Opt group wanted) known fits =
+      (known_group group known, request_in_range q group wanted few_lists few_orders fits)
+  goal_in_range (OptE e wanted) known fits =
+      (packed (expr_of e) known, request_in_range q e.group wanted few_lists few_orders fits)

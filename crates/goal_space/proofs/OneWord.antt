@@ -79,4 +79,5 @@ module _ (
   -- so are goals of the same word
   pub word_one : ((p o : GoalParts) → FitsGoal p → FitsGoal o → goal_number p ≡ goal_number o → p ≡ o)
       → (k l : GoalKind) → IsInRange k → IsInRange l → goal_word k ≡ goal_word l → k ≡ l
-  word_one one_parts k l known other same = parts_one k l known other (one_parts (parts_of k) (parts_of l) (goal_fits k known) (goal_fits l other) same)
+  word_one one_parts k l known other same =
+      parts_one k l known other (one_parts (parts_of k) (parts_of l) (goal_fits k known) (goal_fits l other) same)

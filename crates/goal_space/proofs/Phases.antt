@@ -11,7 +11,8 @@ use Rattle.goal_space.specs.declared.phase.Phase.{Phase}
 use Rattle.goal_space.specs.declared.phase.Phase.TheVariants.{Exploration, Implementation}
 
 module _ (q : Query) where
-  pub children_in_phase : (Member : ExprParts → Type 0) (phase : Phase) (e : ExprParts) (child : GoalKind) → IsChildGoal Member q (phase_goal_of_expr phase e) child ↔ IsOfExpression q phase e child
+  pub children_in_phase : (Member : ExprParts → Type 0) (phase : Phase) (e : ExprParts) (child : GoalKind)
+      → IsChildGoal Member q (phase_goal_of_expr phase e) child ↔ IsOfExpression q phase e child
   children_in_phase Member Exploration e child = (λ is. is, λ is. is)
   children_in_phase Member Implementation e child = (λ is. is, λ is. is)
 

@@ -19,9 +19,11 @@ IsResultOf q rule e other =
 
 -- the expression, or the origin of a group that it stands on
 abbrev pub IsBroughtBy : Query → ExprParts → ExprParts → Type 0
-IsBroughtBy q e other = (other ≡ e) ⊎ ((group : KeyParts) × IsChild (children_of e.operator) group × (other ≡ origin_of q group))
+IsBroughtBy q e other = (other ≡ e) ⊎ ((group : KeyParts) × IsChild (children_of e.operator) group
+    × (other ≡ origin_of q group))
 
--- the goal asks for the member: exploration for those that are logical, implementation for all, and a rule for its results and the origins of the groups that these stand on
+-- the goal asks for the member: exploration for those that are logical, implementation for all, and a rule for its
+-- results and the origins of the groups that these stand on
 abbrev pub AsksFor : Query → GoalKind → ExprParts → Type 0
 AsksFor q (Exp group) e = IsLogicalIn (IsMember q) group e
 AsksFor q (ExpE x) e = ⊥

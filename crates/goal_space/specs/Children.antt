@@ -1,7 +1,8 @@
 -- The children of a goal, which have to be finished before it: the table, one row a kind of goal.
 use Rattle.std.specs.Prelude.{ℕ, ◌≡◌, ◌⊎◌, IsTrue, List, [], ◌∷◌}
 use Rattle.std.specs.List.{Contains}
-use Rattle.query_core.specs.Expressions.{children_of, physical_children, expr_of, is_logical, word_of, IsCandidate, IsChild}
+use Rattle.query_core.specs.Expressions.{children_of, physical_children, expr_of, is_logical, word_of, IsCandidate}
+use Rattle.query_core.specs.Expressions.{IsChild}
 use Rattle.query_core.specs.declared.query.Query.{Query}
 use Rattle.query_core.specs.declared.words.KeyParts.{KeyParts}
 use Rattle.query_core.specs.declared.expressions.Children.{Children}
@@ -31,7 +32,8 @@ IsLeft (arities.Two left right) group = group ≡ left
 abbrev pub IsAsked : List KeyParts → List Request → KeyParts → Request → Type 0
 IsAsked [] wishes group wanted = ⊥
 IsAsked (first ∷ groups) [] group wanted = ⊥
-IsAsked (first ∷ groups) (wish ∷ wishes) group wanted = ((group ≡ first) × (wanted ≡ wish)) ⊎ IsAsked groups wishes group wanted
+IsAsked (first ∷ groups) (wish ∷ wishes) group wanted = ((group ≡ first) × (wanted ≡ wish))
+    ⊎ IsAsked groups wishes group wanted
 
 -- a logical member of the group
 pub record IsLogicalIn (Member : ExprParts → Type 0) (group : KeyParts) (e : ExprParts) : Type 0 where
@@ -40,7 +42,8 @@ pub record IsLogicalIn (Member : ExprParts → Type 0) (group : KeyParts) (e : E
   pub logical : IsTrue (is_logical e.operator)
 
 -- a physical member of the group that may serve the request
-pub record CanServe (Member : ExprParts → Type 0) (q : Query) (group : KeyParts) (wanted : Request) (e : PhysicalExpr) : Type 0 where
+pub record CanServe (Member : ExprParts → Type 0) (q : Query) (group : KeyParts) (wanted : Request) (e : PhysicalExpr) :
+    Type 0 where
   pub member : Member (expr_of e)
   pub of_group : e.group ≡ group
   pub mode : ℕ
@@ -64,7 +67,8 @@ IsChildGoal Member q (Exp group) child = (e : ExprParts) × IsLogicalIn Member g
 IsChildGoal Member q (ExpE e) child =
     ((group : KeyParts) × IsChild (children_of e.operator) group × (child ≡ Exp group))
     ⊎ IsRuleAt q Exploration e child
-IsChildGoal Member q (Xf e rule) child = (group : KeyParts) × IsTrue (binds rule) × IsLeft (children_of e.operator) group × (child ≡ Exp group)
+IsChildGoal Member q (Xf e rule) child = (group : KeyParts) × IsTrue (binds rule)
+    × IsLeft (children_of e.operator) group × (child ≡ Exp group)
 IsChildGoal Member q (Imp group) child =
     (child ≡ Exp group)
     ⊎ ((e : ExprParts) × IsLogicalIn Member group e × (child ≡ ImpE e))
@@ -75,7 +79,8 @@ IsChildGoal Member q (Opt group wanted) child =
     (child ≡ Imp group)
     ⊎ (((e : PhysicalExpr) × CanServe Member q group wanted e × (child ≡ OptE e wanted))
     ⊎ ((e : EnforcedBy) × CanEnforce q group wanted e × (child ≡ Opt group e.below)))
-IsChildGoal Member q (OptE e wanted) child = (group : KeyParts) × (below : Request) × AsksOf q e wanted group below × (child ≡ Opt group below)
+IsChildGoal Member q (OptE e wanted) child = (group : KeyParts) × (below : Request) × AsksOf q e wanted group below
+    × (child ≡ Opt group below)
 
 -- the expression is one of the candidates whose words are listed
 pub record IsListedIn (q : Query) (words : List ℕ) (e : ExprParts) : Type 0 where

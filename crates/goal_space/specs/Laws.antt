@@ -38,11 +38,13 @@ HasFittingRequest q (OptE e wanted) = Fits q e.group wanted
 
 -- a child of a goal has a smaller rank, over the members of the query's groups
 abbrev pub RanksFall : Query → Type 0
-RanksFall q = (goal child : GoalKind) → IsOfCandidate q goal → IsChildGoal (IsMember q) q goal child → rank_of child < rank_of goal
+RanksFall q = (goal child : GoalKind) → IsOfCandidate q goal → IsChildGoal (IsMember q) q goal child
+    → rank_of child < rank_of goal
 
 -- the same over any listed members
 abbrev pub ListedRanksFall : Query → Type 0
-ListedRanksFall q = (words : List ℕ) (goal child : GoalKind) → IsOfCandidate q goal → IsChildGoal (IsListedIn q words) q goal child → rank_of child < rank_of goal
+ListedRanksFall q = (words : List ℕ) (goal child : GoalKind) → IsOfCandidate q goal
+    → IsChildGoal (IsListedIn q words) q goal child → rank_of child < rank_of goal
 
 -- the goals of a query are about its members
 abbrev pub GoalsAreOfMembers : Query → Type 0
@@ -58,7 +60,8 @@ GoalRequestsFit q = (goal : GoalKind) → IsGoal q goal → HasFittingRequest q 
 
 -- where a query has at most 60 hashed lists and orders, its goals have words
 abbrev pub GoalsHaveWords : Query → Type 0
-GoalsHaveWords q = length (lists_of q) ≤ 60 → length (orders_of q) ≤ 60 → (goal : GoalKind) → IsGoal q goal → IsInRange goal
+GoalsHaveWords q = length (lists_of q) ≤ 60 → length (orders_of q) ≤ 60 → (goal : GoalKind) → IsGoal q goal
+    → IsInRange goal
 
 -- what a goal of the query asks for are members
 abbrev pub AskedAreMembers : Query → Type 0

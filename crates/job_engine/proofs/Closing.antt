@@ -1,5 +1,6 @@
 -- What a closed board gives, of an engine's scheduler and its last worker.
-use Rattle.std.proofs.Common.{ℕ, ◌+◌, ◌<◌, ◌≤◌, ◌^◌, zero, suc, nat_le, Bool, true, false, cond, List, [], ◌∷◌, ◌++◌, length, ap, subst, ◌∙◌, arith}
+use Rattle.std.proofs.Common.{ℕ, ◌+◌, ◌<◌, ◌≤◌, ◌^◌, zero, suc, nat_le, Bool, true, false, cond, List, [], ◌∷◌, ◌++◌}
+use Rattle.std.proofs.Common.{length, ap, subst, ◌∙◌, arith}
 use Rattle.std.proofs.lemmas.List.{length-append}
 use Rattle.query_core.specs.declared.query.Query.{Query}
 use Rattle.board_rule.specs.Words.{Mem, mem, cell_word}
@@ -19,7 +20,8 @@ use Rattle.job_engine.specs.declared.engine.Engine.{Engine}
 
 module _ (e : Engine) (v : Hands Rules) (closed : Closed) where
   -- the board of the engine's scheduler is that of the query's search
-  pub closes_search : Looked v.looks (cell_word e.scheduler.root) e.scheduler.goal → ClosesWith rules_mean e.scheduler.board.key.rules e.scheduler.board.key.room v closed
+  pub closes_search : Looked v.looks (cell_word e.scheduler.root) e.scheduler.goal
+      → ClosesWith rules_mean e.scheduler.board.key.rules e.scheduler.board.key.room v closed
       → ClosesSearch (query_of e) e.cap e.scheduler.root v closed
   closes_search root closes = record {
     rules = e.scheduler.board.key.rules;
@@ -42,7 +44,8 @@ full_ends (Full room) is = tt
 full_ends (Unfinished goal) is = absurd is
 
 -- there are no more answers than places
-one_more : {A : Type 0} → (head : ℕ) (items : List A) (item : A) → length (with_closed head items item) ≤ length items + 1
+one_more : {A : Type 0} → (head : ℕ) (items : List A) (item : A)
+    → length (with_closed head items item) ≤ length items + 1
 one_more {A} head items item = by_closed (nat_le (2 ^ 63) head)
   where
     by_closed : (b : Bool) → length (cond b (items ++ item ∷ []) items) ≤ length items + 1
@@ -51,17 +54,24 @@ one_more {A} head items item = by_closed (nat_le (2 ^ 63) head)
 
 answers_few : (m : Mem) (n : ℕ) → length (answers_below m n) ≤ n
 answers_few m zero = omega arith
-answers_few m (suc n) = omega (arith, answers_few m n, one_more (m.head n) (answers_below m n) (m.cell n, record { cost = m.cost n; node = m.node n }))
+answers_few m (suc n) = omega (
+  arith,
+  answers_few m n,
+  one_more (m.head n) (answers_below m n) (m.cell n, record { cost = m.cost n; node = m.node n }),
+)
 
-answers_fit : (q : Query) (cap place : ℕ) (v : Hands Rules) (closed : Closed) → ClosesSearch q cap place v closed → length closed.answers ≤ cap
+answers_fit : (q : Query) (cap place : ℕ) (v : Hands Rules) (closed : Closed) → ClosesSearch q cap place v closed
+    → length closed.answers ≤ cap
 answers_fit q cap place v closed its =
     let few = answers_few (mem its.closes.words) cap in
     let same = ap (λ (l : List (ℕ × Answer)). length l) its.closes.reads.answers in
     omega (arith, few, same)
 
 -- and no more goals were finished than the board has cells
-pub finished_few : (q : Query) (cap place : ℕ) (v : Hands Rules) (closed : Closed) (its : ClosesSearch q cap place v closed) (outcome : Outcome)
+pub finished_few : (q : Query) (cap place : ℕ) (v : Hands Rules) (closed : Closed)
+    (its : ClosesSearch q cap place v closed) (outcome : Outcome)
     → IsOutcome q cap (mem its.closes.words).cell v.done closed outcome → finished_count closed outcome ≤ cap
-finished_few q cap place v closed its (Done members goals answers who) is = let few = is.1.fits.few in omega (arith, few)
+finished_few q cap place v closed its (Done members goals answers who) is = let few = is.1.fits.few in
+    omega (arith, few)
 finished_few q cap place v closed its (Full room) is = answers_fit q cap place v closed its
 finished_few q cap place v closed its (Unfinished goal) is = answers_fit q cap place v closed its

@@ -21,12 +21,15 @@ use Rattle.job_engine.proofs.Closing.{closes_search, done_ends, full_ends, finis
 
 -- each finished goal has one worker, which the seat has in its list
 pub record AreKnown : Type 0 where
-  pub each : (cell : ℕ → ℕ) (done : List Ended) (goals who : List ℕ) → AreFinishers cell done goals who → length who ≡ length goals
-  pub below : (cell : ℕ → ℕ) (done : List Ended) (goals who : List ℕ) (n : ℕ) → AreFinishers cell done goals who → Each (λ (e : Ended). e.worker < n) done
+  pub each : (cell : ℕ → ℕ) (done : List Ended) (goals who : List ℕ) → AreFinishers cell done goals who
+      → length who ≡ length goals
+  pub below : (cell : ℕ → ℕ) (done : List Ended) (goals who : List ℕ) (n : ℕ) → AreFinishers cell done goals who
+      → Each (λ (e : Ended). e.worker < n) done
       → All (λ (worker : ℕ). worker < n) who
 
 -- what n workers finished, in the words of a run
-pub run_ends : (known : AreKnown) (q : Query) (cap n : ℕ) (outcome : Outcome) (last : Option (ℕ × ℕ × ℕ)) → IsRun q cap n outcome last → RunEnds q cap n outcome
+pub run_ends : (known : AreKnown) (q : Query) (cap n : ℕ) (outcome : Outcome) (last : Option (ℕ × ℕ × ℕ))
+    → IsRun q cap n outcome last → RunEnds q cap n outcome
 run_ends known q cap n (Done members goals answers who) last run =
     let cell = (mem run.gives.its.closes.words).cell in
     let whole = run.gives.is.1 in
@@ -41,14 +44,16 @@ run_ends known q cap n (Full room) last run = record { capacity = run.gives.is.c
 run_ends known q cap n (Unfinished goal) last run = absurd run.ended
 
 -- the note counts all goals where all are finished
-pub is_noted : (q : Query) (cap n : ℕ) (outcome : Outcome) (last : Option (ℕ × ℕ × ℕ)) → IsRun q cap n outcome last → IsNoted cap n outcome last
+pub is_noted : (q : Query) (cap n : ℕ) (outcome : Outcome) (last : Option (ℕ × ℕ × ℕ)) → IsRun q cap n outcome last
+    → IsNoted cap n outcome last
 is_noted q cap n (Done members goals answers who) last run = run.noted
 is_noted q cap n (Full room) last run = (length run.gives.closed.answers, run.noted)
 is_noted q cap n (Unfinished goal) last run = absurd run.ended
 
 module _ (e : Engine) (n : ℕ) (w : Worker Rules) (is_last : IsLast e n w) (closed : Closed) where
   -- the last worker of a crew closed the board of the query's search
-  pub last_closes : ClosesWith rules_mean e.scheduler.board.key.rules e.scheduler.board.key.room (hands w.seat) closed → ClosesSearch (query_of e) e.cap e.scheduler.root (hands w.seat) closed
+  pub last_closes : ClosesWith rules_mean e.scheduler.board.key.rules e.scheduler.board.key.room (hands w.seat) closed
+      → ClosesSearch (query_of e) e.cap e.scheduler.root (hands w.seat) closed
   last_closes closes = closes_search e (hands w.seat) closed is_last.its.its.its.root_shown.stands closes
 
   module _ (outcome : Outcome) (its : ClosesSearch (query_of e) e.cap e.scheduler.root (hands w.seat) closed)
@@ -58,7 +63,8 @@ module _ (e : Engine) (n : ℕ) (w : Worker Rules) (is_last : IsLast e n w) (clo
     few_finished = finished_few (query_of e) e.cap e.scheduler.root (hands w.seat) closed its outcome is
 
     -- it has seen the end, so this is what the run gave
-    pub last_run : (ShowsClosed (hands w.seat).looks e.scheduler.root → IsDoneCase outcome) → (ShowsFull (hands w.seat).looks → IsFullCase outcome)
+    pub last_run : (ShowsClosed (hands w.seat).looks e.scheduler.root → IsDoneCase outcome)
+        → (ShowsFull (hands w.seat).looks → IsFullCase outcome)
         → (finished : ℕ) → finished ≡ finished_count closed outcome
         → IsRun (query_of e) e.cap n outcome (Some (e.cap, n, finished))
     last_run if_done if_full finished counted = record {

@@ -9,7 +9,8 @@ use Rattle.goal_space.specs.Laws.{MembersAreAsked}
 use Rattle.goal_space.specs.declared.goals.GoalKind.{GoalKind}
 use Rattle.goal_rules.specs.Meaning.{meaning_of}
 use Rattle.goal_rules.specs.declared.rules.Rules.{Rules}
-use Rattle.board_rule.specs.Looks.{ShowsFull, ShowsClosed, ShowsFinished, seen_closed, child_of, ShowsEntry, asked_by, finished}
+use Rattle.board_rule.specs.Looks.{ShowsFull, ShowsClosed, ShowsFinished, seen_closed, child_of, ShowsEntry, asked_by}
+use Rattle.board_rule.specs.Looks.{finished}
 use Rattle.board_rule.specs.declared.hands.Hands.{Hands}
 use Rattle.goal_board.specs.Calls.{LeavesOut}
 use Rattle.job_scheduler.specs.Workers.{Later, ShowsGoal}
@@ -27,34 +28,57 @@ module _ (q : Query) (room : ℕ) (looks : List (ℕ × ℕ)) where
   goals_shown root _ root_goal = root
   goals_shown root _ (child_goal goal child is_goal is_child) =
       child_of (goal_word goal) (goal_word child) (goals_shown root goal is_goal)
-      (record { goal = goal; other = child; names = record { is_goal = is_goal; number = refl }; is_child = is_child; number = refl })
+      (record {
+        goal = goal;
+        other = child;
+        names = record { is_goal = is_goal; number = refl };
+        is_child =
+            is_child;
+        number = refl;
+      })
 
   -- each member is asked for by a finished goal
-  entries_shown : Shows (root_goal_of q) → MembersAreAsked q → (word : ℕ) → IsEntry q word → ShowsEntry (meaning_of q) room looks word
+  entries_shown : Shows (root_goal_of q) → MembersAreAsked q → (word : ℕ) → IsEntry q word
+      → ShowsEntry (meaning_of q) room looks word
   entries_shown root asked word (inl (e, member, is)) =
       let (goal, is_goal, asks) = asked e member in
       subst (ShowsEntry (meaning_of q) room looks) is
       (asked_by (goal_word goal) (word_of e) (goals_shown root goal is_goal)
-      (record { goal = goal; member = e; names = record { is_goal = is_goal; number = refl }; asks = asks; number = refl }))
+      (record {
+        goal = goal;
+        member = e;
+        names = record { is_goal = is_goal; number = refl };
+        asks = asks;
+        number =
+            refl;
+      }))
   entries_shown root asked word (inr (goal, names)) =
-      subst (ShowsEntry (meaning_of q) room looks) names.number (finished (goal_word goal) (goals_shown root goal names.is_goal))
+      subst (ShowsEntry (meaning_of q) room looks) names.number
+      (finished (goal_word goal) (goals_shown root goal names.is_goal))
 
   -- so no entry is left out
   pub not_both : MembersAreAsked q → Shows (root_goal_of q) → LeavesOut (meaning_of q) room looks → ShowsFull looks → ⊥
-  not_both asked root left_out full = let (word, enters, not_shown) = left_out full in not_shown (entries_shown root asked word enters)
+  not_both asked root left_out full = let (word, enters, not_shown) = left_out full in
+      not_shown (entries_shown root asked word enters)
 
 module _ (q : Query) (room root number : ℕ) (near : root < room) (asked : MembersAreAsked q) (v w : Hands Rules) where
   -- a step that found the root finished would have left out an entry
-  never_done : ShowsFull v.looks → Later v.looks w.looks → ShowsGoal (meaning_of q) w.looks root (goal_word (root_goal_of q)) → IsDone (meaning_of q) room root v w → ⊥
+  never_done : ShowsFull v.looks → Later v.looks w.looks
+      → ShowsGoal (meaning_of q) w.looks root (goal_word (root_goal_of q)) → IsDone (meaning_of q) room root v w → ⊥
   never_done full later shown done =
       let (found, look, set) = full in
       let (head, closed_look, high) = closed_later done.looks.more v.looks root done.closed in
-      let closed : ShowsClosed w.looks root = subst (λ (h : Hands Rules). ShowsClosed h.looks root) (sym done.looks.hands_are) (head, closed_look, high) in
-      not_both q room w.looks asked (seen_closed (goal_word (root_goal_of q)) root near shown.some_goal shown.stands closed) done.left_out (found, later _ found look, set)
+      let closed : ShowsClosed w.looks root = subst (λ (h : Hands Rules). ShowsClosed h.looks root)
+      (sym done.looks.hands_are) (head, closed_look, high) in
+      not_both q room w.looks asked (seen_closed (goal_word (root_goal_of q)) root near shown.some_goal shown.stands
+      closed) done.left_out (found, later _ found look, set)
 
   -- where the full word was seen set, the answer of a step is that the board is full
-  pub full_again : (result : Stepped) → ShowsFull v.looks → Later v.looks w.looks → ShowsGoal (meaning_of q) w.looks root (goal_word (root_goal_of q))
+  pub full_again : (result : Stepped) → ShowsFull v.looks → Later v.looks w.looks
+      → ShowsGoal (meaning_of q) w.looks root (goal_word (root_goal_of q))
       → Steps (meaning_of q) room root number v result w
       → (result ≡ stepped.Full) ⊎ (result ≡ stepped.Done) → result ≡ stepped.Full
   full_again result full later shown steps (inl is) = is
-  full_again result full later shown steps (inr is) = absurd (never_done full later shown (subst (λ (s : Stepped). Steps (meaning_of q) room root number v s w) is steps))
+  full_again result full later shown steps (inr is) =
+      absurd (never_done full later shown (subst (λ (s : Stepped). Steps (meaning_of q) room root number v s w) is
+      steps))

@@ -40,5 +40,6 @@ turns_wider Adds Wider wider room v right worker turned.Full w t = record {
 
 -- no word that a turn may put in is 0
 pub adds_some : (q : Query) (goal : GoalKind) (word : ℕ) → Adds q goal word → word ≢ 0
-adds_some q goal word (inl (child, is_child, number)) none = let high = goal_high child in omega (arith, high, number, none)
+adds_some q goal word (inl (child, is_child, number)) none = let high = goal_high child in
+    omega (arith, high, number, none)
 adds_some q goal word (inr (e, brings, number)) none = let some = word_some e in omega (arith, some, number, none)

@@ -1,5 +1,7 @@
 -- How many members and goals there are, and that a query has not more entries than fit.
-use Rattle.std.proofs.Common.{◌≡◌, ◌≢◌, ℕ, zero, suc, ◌+◌, ◌^◌, ◌<◌, ◌≤◌, nat_eq, Bool, true, false, cond, List, [], ◌∷◌, ◌++◌, length, All, Contains, filter, refl, sym, subst, ap, ◌∙◌, arith, inl, inr, le-leb, eqb-true, not}
+use Rattle.std.proofs.Common.{◌≡◌, ◌≢◌, ℕ, zero, suc, ◌+◌, ◌^◌, ◌<◌, ◌≤◌, nat_eq, Bool, true, false, cond, List, []}
+use Rattle.std.proofs.Common.{◌∷◌, ◌++◌, length, All, Contains, filter, refl, sym, subst, ap, ◌∙◌, arith, inl, inr}
+use Rattle.std.proofs.Common.{le-leb, eqb-true, not}
 use Rattle.std.specs.List.{list_any}
 use Rattle.std.proofs.lemmas.List.{length-append}
 use Rattle.std.proofs.lemmas.List.Elements.{filter-append, Contains-append_left, Contains-append_right}
@@ -28,18 +30,22 @@ one_by false word = omega arith
 -- a word more is one member more at most
 one_more : (cells : List ℕ) (word : ℕ) → members_in (cells ++ word ∷ []) ≤ members_in cells + 1
 one_more cells word =
-    let counted = ap length (filter-append is_member_word cells (word ∷ [])) ∙ length-append (filter is_member_word cells) (filter is_member_word (word ∷ [])) in
+    let counted = ap length (filter-append is_member_word cells (word ∷ []))
+    ∙ length-append (filter is_member_word cells) (filter is_member_word (word ∷ [])) in
     omega (arith, counted, one_by (is_member_word word) word)
 
 -- and none where it is not below the words of goals
 none_more : (cells : List ℕ) (word : ℕ) → goal_bit ≤ word → members_in (cells ++ word ∷ []) ≤ members_in cells
 none_more cells word high =
-    let counted = ap length (filter-append is_member_word cells (word ∷ [])) ∙ length-append (filter is_member_word cells) (filter is_member_word (word ∷ [])) in
-    let none : length (filter is_member_word (word ∷ [])) ≡ 0 = ap (λ (b : Bool). length (cond b (word ∷ []) [])) (ap not (le-leb goal_bit word high)) in
+    let counted = ap length (filter-append is_member_word cells (word ∷ []))
+    ∙ length-append (filter is_member_word cells) (filter is_member_word (word ∷ [])) in
+    let none : length (filter is_member_word (word ∷ [])) ≡ 0 =
+    ap (λ (b : Bool). length (cond b (word ∷ []) [])) (ap not (le-leb goal_bit word high)) in
     omega (arith, counted, none)
 
 -- members and finished goals stand in different cells
-pub few_below : (m : Mem) (room : ℕ) → ((p : ℕ) → p < room → 2 ^ 63 ≤ m.head p → goal_bit ≤ m.cell p) → (n : ℕ) → n ≤ room
+pub few_below : (m : Mem) (room : ℕ) → ((p : ℕ) → p < room → 2 ^ 63 ≤ m.head p → goal_bit ≤ m.cell p) → (n : ℕ)
+    → n ≤ room
     → members_in (cells_below m n) + length (finished_below m n) ≤ n
 few_below m room high zero few = omega arith
 few_below m room high (suc n) few =
@@ -49,12 +55,18 @@ few_below m room high (suc n) few =
     by_head (λ l. members_in (cells_below m (suc n)) + length l ≤ suc n) (m.head n) finished (finished_at m n)
     (λ closed. by_cell (λ l. members_in l + length (finished ++ finished_at m n ∷ []) ≤ suc n) (m.cell n) cells
     (λ _. omega (arith, before, length-append finished (finished_at m n ∷ [])))
-    (λ _. omega (arith, before, length-append finished (finished_at m n ∷ []), none_more cells (m.cell n) (high n (omega (arith, few)) closed))))
+    (λ _. omega (
+      arith,
+      before,
+      length-append finished (finished_at m n ∷ []),
+      none_more cells (m.cell n) (high n (omega (arith, few)) closed),
+    )))
     (λ _. by_cell (λ l. members_in l + length finished ≤ suc n) (m.cell n) cells (λ _. omega (arith, before))
     (λ _. omega (arith, before, one_more cells (m.cell n))))
 
 -- where every cell is taken there are as many words as cells
-pub cells_all : (m : Mem) (room : ℕ) → ((p : ℕ) → p < room → m.cell p ≢ 0) → (n : ℕ) → n ≤ room → length (cells_below m n) ≡ n
+pub cells_all : (m : Mem) (room : ℕ) → ((p : ℕ) → p < room → m.cell p ≢ 0) → (n : ℕ) → n ≤ room
+    → length (cells_below m n) ≡ n
 cells_all m room taken zero few = refl
 cells_all m room taken (suc n) few =
     let before = cells_all m room taken n (omega (arith, few)) in
@@ -62,14 +74,16 @@ cells_all m room taken (suc n) few =
     (λ _. omega (arith, before, length-append (cells_below m n) (m.cell n ∷ [])))
 
 -- each entry is in one of the two lists
-entry_listed : (q : Query) (members goals : List ℕ) → IsClosureOf q members → AreGoalsOf q goals → (word : ℕ) → IsEntry q word → Contains (members ++ goals) word
+entry_listed : (q : Query) (members goals : List ℕ) → IsClosureOf q members → AreGoalsOf q goals → (word : ℕ)
+    → IsEntry q word → Contains (members ++ goals) word
 entry_listed q members goals closure all word (inl (e, member, is)) =
     Contains-append_left members goals word (subst (Contains members) is (closure.complete e member))
 entry_listed q members goals closure all word (inr (goal, names)) =
     Contains-append_right members goals word (subst (Contains goals) names.number (all.complete goal names.is_goal))
 
 -- a word that a test finds in the list is an entry
-found_enters : (q : Query) (words : List ℕ) (word : ℕ) → All (IsEntry q) words → list_any (nat_eq word) words ≡ true → IsEntry q word
+found_enters : (q : Query) (words : List ℕ) (word : ℕ) → All (IsEntry q) words → list_any (nat_eq word) words ≡ true
+    → IsEntry q word
 found_enters q words word enter found =
     let (k, x, within, at, passes) = Any-from_list_any (nat_eq word) words found in
     subst (IsEntry q) (at ∙ sym (eqb-true word x passes)) (enter k x within)

@@ -1,11 +1,14 @@
--- Where the root's goal is finished, the lists in the order of words are those of all members, goals, answers and workers.
-use Rattle.std.proofs.Common.{◌≡◌, ℕ, ◌+◌, ◌-◌, ◌^◌, ◌<◌, ◌≤◌, nat_eq, List, [], ◌∷◌, map, length, All, Contains, filter, refl, sym, subst, ap, ◌∙◌, arith, IsPermutation, leb-false, not}
+-- Where the root's goal is finished, the lists in the order of words are those of all members, goals, answers and
+-- workers.
+use Rattle.std.proofs.Common.{◌≡◌, ℕ, ◌+◌, ◌-◌, ◌^◌, ◌<◌, ◌≤◌, nat_eq, List, [], ◌∷◌, map, length, All, Contains}
+use Rattle.std.proofs.Common.{filter, refl, sym, subst, ap, ◌∙◌, arith, IsPermutation, leb-false, not}
 use Rattle.std.proofs.lemmas.Bool.{lt-leb, not-true}
 use Rattle.std.specs.List.{AllZip, IsDistinct}
 use Rattle.std.specs.List.Sorted.{IsNonDecreasing, IsNonDecreasingBy, IsStrictlyIncreasing}
 use Rattle.std.proofs.lemmas.List.{get_or-map, length-map}
 use Rattle.std.proofs.lemmas.List.Elements.{All-filter, All-map, filter_passes, recursion_from_All}
-use Rattle.std.proofs.lemmas.List.Sorted.{All-permutation, Contains-permutation, IsNonDecreasingBy-from_default, IsPermutation-map, length_permutation}
+use Rattle.std.proofs.lemmas.List.Sorted.{All-permutation, Contains-permutation, IsNonDecreasingBy-from_default}
+use Rattle.std.proofs.lemmas.List.Sorted.{IsPermutation-map, length_permutation}
 use Rattle.std.proofs.lemmas.Map.Keys.{IsDistinct-IsPermutation, IsStrictlyIncreasing-from_distinct}
 use Rattle.std.proofs.lemmas.Cmp.{nat_eq_equiv}
 use Rattle.query_core.specs.Expressions.{word_of}
@@ -28,7 +31,8 @@ use Rattle.job_outcome.specs.Outcomes.{HasFinishedRoot, IsFinisher, IsDone}
 use Rattle.job_outcome.specs.Finished.{is_member_word, pairs_of, told_of, IsOrdered}
 use Rattle.job_outcome.specs.declared.finished.Finished.{Finished}
 use Rattle.job_outcome.proofs.Lists.{all_zip_maps, contains_filter, contains_map, distinct_filter}
-use Rattle.job_outcome.proofs.Places.{all_below, all_cells, cells_differ, contains_below, contains_cell, finished_at, finished_below, goal_in, goals_differ, pairs_below}
+use Rattle.job_outcome.proofs.Places.{all_below, all_cells, cells_differ, contains_below, contains_cell, finished_at}
+use Rattle.job_outcome.proofs.Places.{finished_below, goal_in, goals_differ, pairs_below}
 use Rattle.job_outcome.proofs.Finishing.{all_finished, all_stand, goal_at, high_at, member_entry, taken_at}
 use Rattle.job_outcome.proofs.Told.{tells}
 use Rattle.job_outcome.proofs.Counting.{few_below}
@@ -53,35 +57,49 @@ words_of_told (f ∷ finished) = ap (λ l. f.goal ∷ l) (words_of_told finished
 
 -- different words in an order that doesn't fall ascend
 ascending : (xs ys : List ℕ) → IsPermutation xs ys → IsDistinct nat_eq xs → IsNonDecreasing ys → IsStrictlyIncreasing ys
-ascending xs ys same differ rise = IsStrictlyIncreasing-from_distinct ys rise (IsDistinct-IsPermutation nat_eq nat_eq_equiv.symm xs ys same differ)
+ascending xs ys same differ rise = IsStrictlyIncreasing-from_distinct ys rise
+    (IsDistinct-IsPermutation nat_eq nat_eq_equiv.symm xs ys same differ)
 
-module _ (q : Query) (cap place : ℕ) (m : Mem) (done : List Ended) (closed : Closed) (its : ReadsSearch q cap place m done closed) (has : HasFinishedRoot q closed) where
+module _ (q : Query) (cap place : ℕ) (m : Mem) (done : List Ended) (closed : Closed)
+    (its : ReadsSearch q cap place m done closed) (has : HasFinishedRoot q closed) where
   -- ---- the goals
 
   module _ (finished : List Finished) (same : IsPermutation (pairs_of closed.answers closed.who) finished) where
     moved : IsPermutation (finished_below m cap) finished
-    moved = subst (λ (l : List Finished). IsPermutation l finished) ((λ i. pairs_of (its.answers i) (its.who i)) ∙ pairs_below m cap) same
+    moved = subst (λ (l : List Finished). IsPermutation l finished) ((λ i. pairs_of (its.answers i) (its.who i))
+        ∙ pairs_below m cap) same
 
     -- what holds of each goal with a closed head holds of each in the list
-    each_goal : (Fact : Finished → Type 0) → ((p : ℕ) → p < cap → 2 ^ 63 ≤ m.head p → Fact (finished_at m p)) → All Fact finished
+    each_goal : (Fact : Finished → Type 0) → ((p : ℕ) → p < cap → 2 ^ 63 ≤ m.head p → Fact (finished_at m p))
+        → All Fact finished
     each_goal Fact each = All-permutation Fact (finished_below m cap) finished moved (all_below m Fact cap each)
 
     goals_of_query : IsNonDecreasingBy goal_in finished → AreGoalsOf q (map goal_in finished)
     goals_of_query rise = record {
-      ascending = ascending (map goal_in (finished_below m cap)) (map goal_in finished) (IsPermutation-map goal_in (finished_below m cap) finished moved)
-          (goals_differ m cap its.searched.cells.are_set (taken_at q cap m its.searched) cap (omega arith)) (rising_words finished rise);
-      sound = All-map (IsGoalWord q) goal_in finished (each_goal (λ f. IsGoalWord q f.goal) (goal_at q cap m its.searched));
+      ascending = ascending (map goal_in (finished_below m cap)) (map goal_in finished)
+          (IsPermutation-map goal_in (finished_below m cap) finished moved)
+          (goals_differ m cap its.searched.cells.are_set (taken_at q cap m its.searched) cap (omega arith))
+          (rising_words finished rise);
+      sound = All-map (IsGoalWord q) goal_in finished
+          (each_goal (λ f. IsGoalWord q f.goal) (goal_at q cap m its.searched));
       complete = λ goal is_goal.
-          let (p, near, some, at, head) = all_finished q cap m its.searched (root_finished q cap place m done closed its has) goal is_goal in
+          let (p, near, some, at, head) = all_finished q cap m its.searched
+          (root_finished q cap place m done closed its has) goal is_goal in
           subst (Contains (map goal_in finished)) at
-          (contains_map goal_in (finished_at m p) finished (Contains-permutation (finished_below m cap) finished (finished_at m p) moved (contains_below m cap p near head)));
+          (contains_map goal_in (finished_at m p) finished
+          (Contains-permutation (finished_below m cap) finished (finished_at m p) moved
+          (contains_below m cap p near head)));
     }
 
-    answers_of_query : BestsFit q → GoalRequestsFit q → AreGoalsOf q (map goal_in finished) → AreAnswers q (map told_of finished)
+    answers_of_query : BestsFit q → GoalRequestsFit q → AreGoalsOf q (map goal_in finished)
+        → AreAnswers q (map told_of finished)
     answers_of_query fit requests goals = record {
       ascending = subst IsStrictlyIncreasing (sym (words_of_told finished)) goals.ascending;
-      sound = All-map (TellsAnswer q) told_of finished (each_goal (λ f. TellsAnswer q (told_of f)) (λ p near head. tells q fit requests (finished_at m p) (its.searched.promises.answer p near head)));
-      complete = λ goal is_goal. subst (λ (l : List ℕ). Contains l (goal_word goal)) (sym (words_of_told finished)) (goals.complete goal is_goal);
+      sound = All-map (TellsAnswer q) told_of finished
+          (each_goal (λ f. TellsAnswer q (told_of f))
+          (λ p near head. tells q fit requests (finished_at m p) (its.searched.promises.answer p near head)));
+      complete = λ goal is_goal. subst (λ (l : List ℕ). Contains l (goal_word goal)) (sym (words_of_told finished))
+          (goals.complete goal is_goal);
     }
 
     -- the worker of a goal is that of the seat's record of it
@@ -89,47 +107,65 @@ module _ (q : Query) (cap place : ℕ) (m : Mem) (done : List Ended) (closed : C
     finisher_at p near head =
         let (e, among, at, recorded) = its.finished_by p near head in
         let stored : m.who p ≡ e.worker + 1 = ap m.who (sym at) ∙ recorded.who_is in
-        record { ended = e; among = among; its_goal = ap m.cell at; its_worker = omega (arith, stored); few = omega (arith, stored, recorded.few) }
+        record {
+          ended = e;
+          among = among;
+          its_goal = ap m.cell at;
+          its_worker = omega (arith, stored);
+          few =
+              omega (arith, stored, recorded.few);
+        }
 
     finishers : AllZip (IsFinisher m.cell done) (map goal_in finished) (map (λ (f : Finished). f.who) finished)
     finishers = all_zip_maps (IsFinisher m.cell done) goal_in (λ f. f.who) finished
-        (recursion_from_All (λ (f : Finished). IsFinisher m.cell done f.goal f.who) finished (each_goal (λ f. IsFinisher m.cell done f.goal f.who) finisher_at))
+        (recursion_from_All (λ (f : Finished). IsFinisher m.cell done f.goal f.who) finished
+        (each_goal (λ f. IsFinisher m.cell done f.goal f.who) finisher_at))
 
   -- ---- the members
 
-  module _ (small : (e : ExprParts) → IsMember q e → FitsExpr (word_of e)) (members : List ℕ) (same : IsPermutation (filter is_member_word closed.cells) members) where
+  module _ (small : (e : ExprParts) → IsMember q e → FitsExpr (word_of e)) (members : List ℕ)
+      (same : IsPermutation (filter is_member_word closed.cells) members) where
     sorted : IsPermutation (filter is_member_word (cells_below m cap)) members
     sorted = subst (λ (l : List ℕ). IsPermutation (filter is_member_word l) members) its.cells same
 
     members_sound : All (IsMemberWord q) (filter is_member_word (cells_below m cap))
     members_sound k d within =
-        let enters = All-filter is_member_word (IsEntry q) (cells_below m cap) (all_cells m (IsEntry q) cap its.searched.cells.enter) k d within in
-        member_entry q _ enters (leb-false goal_bit _ (not-true _ (filter_passes is_member_word (cells_below m cap) k d within)))
+        let enters = All-filter is_member_word (IsEntry q) (cells_below m cap)
+        (all_cells m (IsEntry q) cap its.searched.cells.enter) k d within in
+        member_entry q _ enters (leb-false goal_bit _
+        (not-true _ (filter_passes is_member_word (cells_below m cap) k d within)))
 
     closure : MembersAreAsked q → IsNonDecreasing members → IsClosureOf q members
     closure asked rise = record {
       ascending = ascending (filter is_member_word (cells_below m cap)) members sorted
-          (distinct_filter is_member_word (cells_below m cap) (cells_differ m cap its.searched.cells.are_set cap (omega arith))) rise;
+          (distinct_filter is_member_word (cells_below m cap)
+          (cells_differ m cap its.searched.cells.are_set cap (omega arith))) rise;
       sound = All-permutation (IsMemberWord q) (filter is_member_word (cells_below m cap)) members sorted members_sound;
       complete = λ e member.
-          let (p, near, some, at) = all_stand q cap m its.searched (root_finished q cap place m done closed its has) asked e member in
+          let (p, near, some, at) = all_stand q cap m its.searched (root_finished q cap place m done closed its has)
+          asked e member in
           let low = small e member in
-          let there = subst (Contains (cells_below m cap)) at (contains_cell m cap p near (λ empty. some (sym at ∙ empty))) in
+          let there = subst (Contains (cells_below m cap)) at
+          (contains_cell m cap p near (λ empty. some (sym at ∙ empty))) in
           Contains-permutation (filter is_member_word (cells_below m cap)) members (word_of e) sorted
-          (contains_filter is_member_word (word_of e) (cells_below m cap) (ap not (lt-leb goal_bit (word_of e) (omega (arith, low)))) there);
+          (contains_filter is_member_word (word_of e) (cells_below m cap)
+          (ap not (lt-leb goal_bit (word_of e) (omega (arith, low)))) there);
     }
 
   -- ---- all of it
 
-  pub is_done : BestsFit q → GoalRequestsFit q → MembersAreAsked q → ((e : ExprParts) → IsMember q e → FitsExpr (word_of e))
-      → (members goals : List ℕ) (answers : List Answered) (who : List ℕ) → IsOrdered closed members goals answers who → IsDone q cap m.cell done members goals answers who
+  pub is_done : BestsFit q → GoalRequestsFit q → MembersAreAsked q
+      → ((e : ExprParts) → IsMember q e → FitsExpr (word_of e))
+      → (members goals : List ℕ) (answers : List Answered) (who : List ℕ) → IsOrdered closed members goals answers who
+      → IsDone q cap m.cell done members goals answers who
   is_done fit requests asked small members goals answers who ordered =
       let finished = ordered.finished in
       let all_goals = goals_of_query finished ordered.same ordered.ascending in
       let all_answers = answers_of_query finished ordered.same fit requests all_goals in
       let few = few_below m cap (high_at q cap m its.searched) cap (omega arith) in
       let as_many = length_permutation (finished_below m cap) finished (moved finished ordered.same) in
-      let as_many_members = length_permutation (filter is_member_word (cells_below m cap)) members (sorted small members ordered.same_members) in
+      let as_many_members = length_permutation (filter is_member_word (cells_below m cap)) members
+      (sorted small members ordered.same_members) in
       let as_many_goals = ap length ordered.goals_are ∙ length-map finished goal_in in
       record {
         fits = record {
@@ -139,7 +175,9 @@ module _ (q : Query) (cap place : ℕ) (m : Mem) (done : List Ended) (closed : C
         };
         are_answers = subst (AreAnswers q) (sym ordered.answers_are) all_answers;
         in_order = ap words_told ordered.answers_are ∙ words_of_told finished ∙ sym ordered.goals_are;
-        finishers = (λ (goals_are : map goal_in finished ≡ goals) (who_are : map (λ (f : Finished). f.who) finished ≡ who).
+        finishers = (λ (goals_are : map goal_in finished ≡ goals)
+            (who_are : map (λ (f : Finished). f.who) finished ≡ who).
             subst (λ (l : List ℕ). AllZip (IsFinisher m.cell done) l who) goals_are
-            (subst (AllZip (IsFinisher m.cell done) (map goal_in finished)) who_are (finishers finished ordered.same))) (sym ordered.goals_are) (sym ordered.who_are);
+            (subst (AllZip (IsFinisher m.cell done) (map goal_in finished)) who_are (finishers finished ordered.same)))
+            (sym ordered.goals_are) (sym ordered.who_are);
       }

@@ -14,7 +14,8 @@ each_among Fact (y ∷ ys) x each (inr there) = each_among Fact ys x each.1 ther
 
 module _ (cell : ℕ → ℕ) (done : List Ended) (n : ℕ) (below : Each (λ (e : Ended). e.worker < n) done) where
   below_one : (goal worker : ℕ) → IsFinisher cell done goal worker → worker < n
-  below_one goal worker is = subst (λ (w : ℕ). w < n) is.its_worker (each_among (λ (e : Ended). e.worker < n) done is.ended below is.among)
+  below_one goal worker is = subst (λ (w : ℕ). w < n) is.its_worker
+      (each_among (λ (e : Ended). e.worker < n) done is.ended below is.among)
 
   each_below : (goals who : List ℕ) → AreFinishers cell done goals who → AllByRecursion (λ (w : ℕ). w < n) who
   each_below [] [] are = tt

@@ -35,15 +35,30 @@ module _ (q : Query) (room : ℕ) (m : Mem) (its : Searched q room m) where
   all_finished root _ (child_goal goal child is_goal is_child) =
       let (p, near, some, at, closed) = all_finished root goal is_goal in
       (its.promises.promise p near closed).children (goal_word child)
-      (record { goal = goal; other = child; names = record { is_goal = is_goal; number = sym at }; is_child = is_child; number = refl })
+      (record {
+        goal = goal;
+        other = child;
+        names = record { is_goal = is_goal; number = sym at };
+        is_child =
+            is_child;
+        number = refl;
+      })
 
   -- each member is asked for by a finished goal
-  pub all_stand : Finishes q room m (root_goal_of q) → MembersAreAsked q → (e : ExprParts) → IsMember q e → Stands (meaning_of q) room m.cell (word_of e)
+  pub all_stand : Finishes q room m (root_goal_of q) → MembersAreAsked q → (e : ExprParts) → IsMember q e
+      → Stands (meaning_of q) room m.cell (word_of e)
   all_stand root asked e member =
       let (goal, is_goal, asks) = asked e member in
       let (p, near, some, at, closed) = all_finished root goal is_goal in
       (its.promises.promise p near closed).asked (word_of e)
-      (record { goal = goal; member = e; names = record { is_goal = is_goal; number = sym at }; asks = asks; number = refl })
+      (record {
+        goal = goal;
+        member = e;
+        names = record { is_goal = is_goal; number = sym at };
+        asks = asks;
+        number =
+            refl;
+      })
 
   -- a closed head is that of a goal of the query
   pub goal_at : (p : ℕ) → p < room → 2 ^ 63 ≤ m.head p → IsGoalWord q (m.cell p)
@@ -61,6 +76,7 @@ member_entry q word (inl member) low = member
 member_entry q word (inr goal) low = absurd (omega (arith, low, goal_word_high q word goal))
 
 -- and from there on a goal's, as members have smaller words
-pub goal_entry : (q : Query) (word : ℕ) → ((e : ExprParts) → IsMember q e → FitsExpr (word_of e)) → IsEntry q word → goal_bit ≤ word → IsGoalWord q word
+pub goal_entry : (q : Query) (word : ℕ) → ((e : ExprParts) → IsMember q e → FitsExpr (word_of e)) → IsEntry q word
+    → goal_bit ≤ word → IsGoalWord q word
 goal_entry q word small (inl (e, member, is)) high = absurd (omega (arith, high, is, small e member))
 goal_entry q word small (inr goal) high = goal

@@ -1,5 +1,6 @@
 -- The outcome by its three cases.
-use Rattle.std.proofs.Common.{◌≡◌, ℕ, nat_eq, true, false, List, ◌∷◌, Some, refl, sym, subst, arith, leb-true, ne_eqb, map, Contains, ◌∙◌}
+use Rattle.std.proofs.Common.{◌≡◌, ℕ, nat_eq, true, false, List, ◌∷◌, Some, refl, sym, subst, arith, leb-true, ne_eqb}
+use Rattle.std.proofs.Common.{map, Contains, ◌∙◌}
 use Rattle.std.proofs.lemmas.Bool.{false_from_ne_true}
 use Rattle.std.proofs.lemmas.List.Elements.{All-cons, recursion_from_All}
 use Rattle.std.proofs.lemmas.Map.Keys.{IsDistinct-cons}
@@ -19,7 +20,8 @@ use Rattle.board_rule.specs.Words.{Mem}
 use Rattle.goal_board.specs.Closed.{cells_below, IsFirstReady}
 use Rattle.goal_board.specs.declared.answers.Answer.{Answer}
 use Rattle.goal_board.specs.declared.answers.Closed.{Closed}
-use Rattle.job_outcome.specs.Outcomes.{HasFinishedRoot, HasMoreEntries, FitsIn, IsFinished, IsFullFor, IsOutcome, IsUnfinished, IsFullCase}
+use Rattle.job_outcome.specs.Outcomes.{HasFinishedRoot, HasMoreEntries, FitsIn, IsFinished, IsFullFor, IsOutcome}
+use Rattle.job_outcome.specs.Outcomes.{IsUnfinished, IsFullCase}
 use Rattle.job_outcome.specs.Finished.{Orders}
 use Rattle.job_outcome.specs.declared.outcome.Outcome.{Outcome}
 use Rattle.job_outcome.specs.declared.outcome.Outcome.TheVariants.{Done, Full, Unfinished}
@@ -29,7 +31,8 @@ use Rattle.job_outcome.proofs.Counting.{cells_all, fit_or_not}
 use Rattle.job_outcome.proofs.Reading.{ReadsSearch}
 use Rattle.job_outcome.proofs.Ending.{is_done}
 
-module _ (q : Query) (cap place : ℕ) (m : Mem) (done : List Ended) (closed : Closed) (its : ReadsSearch q cap place m done closed) where
+module _ (q : Query) (cap place : ℕ) (m : Mem) (done : List Ended) (closed : Closed)
+    (its : ReadsSearch q cap place m done closed) where
   -- the entry that stands in no cell, and those that stand in all
   more_entries : closed.full ≡ true → HasMoreEntries q cap
   more_entries full =
@@ -41,7 +44,8 @@ module _ (q : Query) (cap place : ℕ) (m : Mem) (done : List Ended) (closed : C
         enter = All-cons (IsEntry q) word cells enters (all_cells m (IsEntry q) cap its.searched.cells.enter);
         differ = IsDistinct-cons nat_eq word cells
             (recursion_from_All (λ x. nat_eq word x ≡ false) cells
-            (all_cells m (λ x. nat_eq word x ≡ false) cap (λ p near taken. ne_eqb word (m.cell p) (λ same. nowhere p near (sym same)))))
+            (all_cells m (λ x. nat_eq word x ≡ false) cap
+            (λ p near taken. ne_eqb word (m.cell p) (λ same. nowhere p near (sym same)))))
             (cells_differ m cap its.searched.cells.are_set cap (omega arith));
         more = let all = cells_all m cap is_full.taken cap (omega arith) in omega (arith, all);
       }
@@ -50,7 +54,8 @@ module _ (q : Query) (cap place : ℕ) (m : Mem) (done : List Ended) (closed : C
   is_full open_root full = record { open_root = open_root; full = full; capacity = refl; more = more_entries full }
 
   -- the goal that is ready stands in a cell, so it is an entry
-  pub is_unfinished : ((e : ExprParts) → IsMember q e → FitsExpr (word_of e)) → (HasFinishedRoot q closed → ⊥) → closed.full ≡ false → (goal : ℕ) → closed.ready ≡ Some goal
+  pub is_unfinished : ((e : ExprParts) → IsMember q e → FitsExpr (word_of e)) → (HasFinishedRoot q closed → ⊥)
+      → closed.full ≡ false → (goal : ℕ) → closed.ready ≡ Some goal
       → IsUnfinished q closed goal
   is_unfinished small open_root some_room goal ready =
       let (p, near, at, is_ready, first) = subst (IsFirstReady (meaning_of q) m cap) ready its.ready in
@@ -58,7 +63,8 @@ module _ (q : Query) (cap place : ℕ) (m : Mem) (done : List Ended) (closed : C
         open_root = open_root;
         some_room = some_room;
         is_ready = ready;
-        is_goal = subst (IsGoalWord q) at (goal_entry q (m.cell p) small (its.searched.cells.enter p near is_ready.some_goal) (leb-true goal_bit (m.cell p) is_ready.is_goal));
+        is_goal = subst (IsGoalWord q) at (goal_entry q (m.cell p) small
+            (its.searched.cells.enter p near is_ready.some_goal) (leb-true goal_bit (m.cell p) is_ready.is_goal));
       }
 
   -- entries that fit are not more than the cells
@@ -69,29 +75,38 @@ module _ (q : Query) (cap place : ℕ) (m : Mem) (done : List Ended) (closed : C
   }
 
   -- what was put in order is the outcome where the root's goal is finished
-  pub done_outcome : HasFinishedRoot q closed → BestsFit q → GoalRequestsFit q → MembersAreAsked q → ((e : ExprParts) → IsMember q e → FitsExpr (word_of e))
+  pub done_outcome : HasFinishedRoot q closed → BestsFit q → GoalRequestsFit q → MembersAreAsked q
+      → ((e : ExprParts) → IsMember q e → FitsExpr (word_of e))
       → (outcome : Outcome) → Orders closed outcome → IsOutcome q cap m.cell done closed outcome
   done_outcome has fit requests asked small (Done members goals answers who) ordered =
-      let is = is_done q cap place m done closed its has fit requests asked small members goals answers.list who ordered in
+      let is = is_done q cap place m done closed its has fit requests asked small members goals answers.list who
+      ordered in
       (is_finished has members goals is.fits, is)
   done_outcome has fit requests asked small (Full room) none = absurd none
   done_outcome has fit requests asked small (Unfinished goal) none = absurd none
 
 -- a board that was full has no other outcome
-pub full_case : (q : Query) (cap : ℕ) (cell : ℕ → ℕ) (done : List Ended) (closed : Closed) → closed.full ≡ true → (outcome : Outcome)
+pub full_case : (q : Query) (cap : ℕ) (cell : ℕ → ℕ) (done : List Ended) (closed : Closed) → closed.full ≡ true
+    → (outcome : Outcome)
     → IsOutcome q cap cell done closed outcome → IsFullCase outcome
-full_case q cap cell done closed full (Done members goals answers who) is = absurd (let no : false ≡ true = sym is.0.some_room ∙ full in cc)
+full_case q cap cell done closed full (Done members goals answers who) is =
+    absurd (let no : false ≡ true = sym is.0.some_room ∙ full in cc)
 full_case q cap cell done closed full (Full room) is = tt
-full_case q cap cell done closed full (Unfinished goal) is = absurd (let no : false ≡ true = sym is.some_room ∙ full in cc)
+full_case q cap cell done closed full (Unfinished goal) is =
+    absurd (let no : false ≡ true = sym is.some_room ∙ full in cc)
 
 -- the root's goal was found among those that are finished
-pub has_root : (q : Query) (closed : Closed) (answers : List (ℕ × Answer)) (root : ℕ) → answers ≡ closed.answers → root ≡ goal_word (root_goal_of q)
+pub has_root : (q : Query) (closed : Closed) (answers : List (ℕ × Answer)) (root : ℕ) → answers ≡ closed.answers
+    → root ≡ goal_word (root_goal_of q)
     → Contains (map (λ (x : ℕ × Answer). x.0) answers) root → HasFinishedRoot q closed
 has_root q closed answers root same is has =
-    subst (Contains (map (λ (x : ℕ × Answer). x.0) closed.answers)) is (subst (λ (l : List (ℕ × Answer)). Contains (map (λ (x : ℕ × Answer). x.0) l) root) same has)
+    subst (Contains (map (λ (x : ℕ × Answer). x.0) closed.answers)) is
+    (subst (λ (l : List (ℕ × Answer)). Contains (map (λ (x : ℕ × Answer). x.0) l) root) same has)
 
 -- or it was not
-pub has_no_root : (q : Query) (closed : Closed) (answers : List (ℕ × Answer)) (root : ℕ) → answers ≡ closed.answers → root ≡ goal_word (root_goal_of q)
+pub has_no_root : (q : Query) (closed : Closed) (answers : List (ℕ × Answer)) (root : ℕ) → answers ≡ closed.answers
+    → root ≡ goal_word (root_goal_of q)
     → (Contains (map (λ (x : ℕ × Answer). x.0) answers) root → ⊥) → HasFinishedRoot q closed → ⊥
 has_no_root q closed answers root same is none has =
-    none (subst (λ (l : List (ℕ × Answer)). Contains (map (λ (x : ℕ × Answer). x.0) l) root) (sym same) (subst (Contains (map (λ (x : ℕ × Answer). x.0) closed.answers)) (sym is) has))
+    none (subst (λ (l : List (ℕ × Answer)). Contains (map (λ (x : ℕ × Answer). x.0) l) root) (sym same)
+    (subst (Contains (map (λ (x : ℕ × Answer). x.0) closed.answers)) (sym is) has))

@@ -1,5 +1,7 @@
 -- What is read of a board's words, one place after the other.
-use Rattle.std.proofs.Common.{◌≡◌, ◌≢◌, ◌==◌, ℕ, zero, suc, ◌+◌, ◌-◌, ◌^◌, ◌<◌, ◌≤◌, nat_le, nat_eq, Bool, true, false, cond, List, [], ◌∷◌, ◌++◌, map, length, get_or, take, All, Contains, refl, sym, subst, ap, ◌∙◌, arith, ◌⊎◌, inl, inr, leb-true, leb-false, eqb-true, ne_eqb}
+use Rattle.std.proofs.Common.{◌≡◌, ◌≢◌, ◌==◌, ℕ, zero, suc, ◌+◌, ◌-◌, ◌^◌, ◌<◌, ◌≤◌, nat_le, nat_eq, Bool, true, false}
+use Rattle.std.proofs.Common.{cond, List, [], ◌∷◌, ◌++◌, map, length, get_or, take, All, Contains, refl, sym, subst, ap}
+use Rattle.std.proofs.Common.{◌∙◌, arith, ◌⊎◌, inl, inr, leb-true, leb-false, eqb-true, ne_eqb}
 use Rattle.std.specs.List.{IsDistinct}
 use Rattle.std.proofs.lemmas.List.{length-append, length-take-le, map-append, take_more}
 use Rattle.std.proofs.lemmas.List.Elements.{All-nil, All-push, All-map, Contains-push, Contains-append_left}
@@ -30,73 +32,107 @@ goal_in f = f.goal
 -- ---- goals with their answers and workers
 
 pairs_push : (answers : List (ℕ × Answer)) (who : List ℕ) (x : ℕ × Answer) (worker : ℕ) → length answers ≡ length who
-    → pairs_of (answers ++ x ∷ []) (who ++ worker ∷ []) ≡ pairs_of answers who ++ record { goal = x.0; answer = x.1; who = worker } ∷ []
+    → pairs_of (answers ++ x ∷ []) (who ++ worker ∷ []) ≡ pairs_of answers who ++ record {
+      goal = x.0;
+      answer =
+          x.1;
+      who = worker;
+    } ∷ []
 pairs_push [] [] x worker same = refl
 pairs_push [] (w ∷ who) x worker same = absurd (omega (arith, same))
 pairs_push (y ∷ answers) [] x worker same = absurd (omega (arith, same))
-pairs_push (y ∷ answers) (w ∷ who) x worker same = ap (λ l. record { goal = y.0; answer = y.1; who = w } ∷ l) (pairs_push answers who x worker (omega (arith, same)))
+pairs_push (y ∷ answers) (w ∷ who) x worker same =
+    ap (λ l. record { goal = y.0; answer = y.1; who = w } ∷ l) (pairs_push answers who x worker (omega (arith, same)))
 
 -- what is made of the first of each list, and then of the next ones
-pub pairs_next : (answers : List (ℕ × Answer)) (who : List ℕ) (i : ℕ) (x : ℕ × Answer) (worker : ℕ) (made after : List Finished) → length who ≡ length answers → i < length answers
+pub pairs_next : (answers : List (ℕ × Answer)) (who : List ℕ) (i : ℕ) (x : ℕ × Answer) (worker : ℕ)
+    (made after : List Finished) → length who ≡ length answers → i < length answers
     → made ≡ pairs_of (take i answers) (take i who)
-    → after ≡ made ++ record { goal = (get_or answers i x).0; answer = (get_or answers i x).1; who = get_or who i worker } ∷ []
+    → after ≡ made ++ record {
+      goal = (get_or answers i x).0;
+      answer = (get_or answers i x).1;
+      who =
+          get_or who i worker;
+    } ∷ []
     → after ≡ pairs_of (take (i + 1) answers) (take (i + 1) who)
 pairs_next answers who i x worker made after same within so_far is =
     let first = length-take-le i answers (omega (arith, within)) in
     let second = length-take-le i who (omega (arith, within, same)) in
-    is ∙ ap (λ l. l ++ record { goal = (get_or answers i x).0; answer = (get_or answers i x).1; who = get_or who i worker } ∷ []) so_far
+    is ∙ ap (λ l. l ++ record {
+      goal = (get_or answers i x).0;
+      answer = (get_or answers i x).1;
+      who =
+          get_or who i worker;
+    } ∷ []) so_far
     ∙ sym (pairs_push (take i answers) (take i who) (get_or answers i x) (get_or who i worker) (first ∙ sym second))
     ∙ sym (λ j. pairs_of (take_more answers i x within j) (take_more who i worker (omega (arith, within, same)) j))
 
 -- as many answers as workers are read
-lengths_by : (b : Bool) (answers : List (ℕ × Answer)) (who : List ℕ) (x : ℕ × Answer) (worker : ℕ) → length answers ≡ length who
+lengths_by : (b : Bool) (answers : List (ℕ × Answer)) (who : List ℕ) (x : ℕ × Answer) (worker : ℕ)
+    → length answers ≡ length who
     → length (cond b (answers ++ x ∷ []) answers) ≡ length (cond b (who ++ worker ∷ []) who)
-lengths_by true answers who x worker same = length-append answers (x ∷ []) ∙ ap (λ n. n + 1) same ∙ sym (length-append who (worker ∷ []))
+lengths_by true answers who x worker same = length-append answers (x ∷ []) ∙ ap (λ n. n + 1) same
+    ∙ sym (length-append who (worker ∷ []))
 lengths_by false answers who x worker same = same
 
 pub lengths_below : (m : Mem) (n : ℕ) → length (answers_below m n) ≡ length (who_below m n)
 lengths_below m zero = refl
-lengths_below m (suc n) = lengths_by (nat_le (2 ^ 63) (m.head n)) (answers_below m n) (who_below m n) _ _ (lengths_below m n)
+lengths_below m (suc n) = lengths_by (nat_le (2 ^ 63) (m.head n)) (answers_below m n) (who_below m n) _ _
+    (lengths_below m n)
 
-pairs_by : (b : Bool) (answers : List (ℕ × Answer)) (who : List ℕ) (finished : List Finished) (x : ℕ × Answer) (worker : ℕ) → length answers ≡ length who → pairs_of answers who ≡ finished
-    → pairs_of (cond b (answers ++ x ∷ []) answers) (cond b (who ++ worker ∷ []) who) ≡ cond b (finished ++ record { goal = x.0; answer = x.1; who = worker } ∷ []) finished
-pairs_by true answers who finished x worker same is = pairs_push answers who x worker same ∙ ap (λ l. l ++ record { goal = x.0; answer = x.1; who = worker } ∷ []) is
+pairs_by : (b : Bool) (answers : List (ℕ × Answer)) (who : List ℕ) (finished : List Finished) (x : ℕ × Answer)
+    (worker : ℕ) → length answers ≡ length who → pairs_of answers who ≡ finished
+    → pairs_of (cond b (answers ++ x ∷ []) answers) (cond b (who ++ worker ∷ []) who) ≡ cond b
+    (finished ++ record { goal = x.0; answer = x.1; who = worker } ∷ []) finished
+pairs_by true answers who finished x worker same is = pairs_push answers who x worker same
+    ∙ ap (λ l. l ++ record { goal = x.0; answer = x.1; who = worker } ∷ []) is
 pairs_by false answers who finished x worker same is = is
 
 -- the answers and workers that are read are those of the finished goals
 pub pairs_below : (m : Mem) (n : ℕ) → pairs_of (answers_below m n) (who_below m n) ≡ finished_below m n
 pairs_below m zero = refl
-pairs_below m (suc n) = pairs_by (nat_le (2 ^ 63) (m.head n)) (answers_below m n) (who_below m n) (finished_below m n) _ _ (lengths_below m n) (pairs_below m n)
+pairs_below m (suc n) = pairs_by (nat_le (2 ^ 63) (m.head n)) (answers_below m n) (who_below m n) (finished_below m n) _
+    _ (lengths_below m n) (pairs_below m n)
 
-goals_by : (b : Bool) (answers : List (ℕ × Answer)) (finished : List Finished) (x : ℕ × Answer) (f : Finished) → x.0 ≡ f.goal → map (λ (y : ℕ × Answer). y.0) answers ≡ map goal_in finished
-    → map (λ (y : ℕ × Answer). y.0) (cond b (answers ++ x ∷ []) answers) ≡ map goal_in (cond b (finished ++ f ∷ []) finished)
+goals_by : (b : Bool) (answers : List (ℕ × Answer)) (finished : List Finished) (x : ℕ × Answer) (f : Finished)
+    → x.0 ≡ f.goal → map (λ (y : ℕ × Answer). y.0) answers ≡ map goal_in finished
+    → map (λ (y : ℕ × Answer). y.0) (cond b (answers ++ x ∷ []) answers) ≡ map goal_in
+    (cond b (finished ++ f ∷ []) finished)
 goals_by true answers finished x f same is =
-    map-append (λ (y : ℕ × Answer). y.0) answers (x ∷ []) ∙ (λ i. is i ++ same i ∷ []) ∙ sym (map-append goal_in finished (f ∷ []))
+    map-append (λ (y : ℕ × Answer). y.0) answers (x ∷ []) ∙ (λ i. is i ++ same i ∷ [])
+    ∙ sym (map-append goal_in finished (f ∷ []))
 goals_by false answers finished x f same is = is
 
 -- so are the goals
-pub goals_below : (m : Mem) (n : ℕ) → map (λ (y : ℕ × Answer). y.0) (answers_below m n) ≡ map goal_in (finished_below m n)
+pub goals_below : (m : Mem) (n : ℕ) → map (λ (y : ℕ × Answer). y.0) (answers_below m n) ≡ map goal_in
+    (finished_below m n)
 goals_below m zero = refl
-goals_below m (suc n) = goals_by (nat_le (2 ^ 63) (m.head n)) (answers_below m n) (finished_below m n) _ (finished_at m n) refl (goals_below m n)
+goals_below m (suc n) = goals_by (nat_le (2 ^ 63) (m.head n)) (answers_below m n) (finished_below m n) _
+    (finished_at m n) refl (goals_below m n)
 
 -- ---- by the head of a place, and by its cell
 
-by_test : {A : Type 0} (Fact : List A → Type 0) (head : ℕ) (items more : List A) (b : Bool) → nat_le (2 ^ 63) head ≡ b → (2 ^ 63 ≤ head → Fact more) → (head < 2 ^ 63 → Fact items)
+by_test : {A : Type 0} (Fact : List A → Type 0) (head : ℕ) (items more : List A) (b : Bool) → nat_le (2 ^ 63) head ≡ b
+    → (2 ^ 63 ≤ head → Fact more) → (head < 2 ^ 63 → Fact items)
     → Fact (cond b more items)
 by_test Fact head items more true is closed low = closed (leb-true (2 ^ 63) head is)
 by_test Fact head items more false is closed low = low (leb-false (2 ^ 63) head is)
 
 -- what holds whether the head is closed or open
-pub by_head : {A : Type 0} (Fact : List A → Type 0) (head : ℕ) (items : List A) (item : A) → (2 ^ 63 ≤ head → Fact (items ++ item ∷ [])) → (head < 2 ^ 63 → Fact items)
+pub by_head : {A : Type 0} (Fact : List A → Type 0) (head : ℕ) (items : List A) (item : A)
+    → (2 ^ 63 ≤ head → Fact (items ++ item ∷ [])) → (head < 2 ^ 63 → Fact items)
     → Fact (with_closed head items item)
-by_head Fact head items item closed low = by_test Fact head items (items ++ item ∷ []) (nat_le (2 ^ 63) head) refl closed low
+by_head Fact head items item closed low =
+    by_test Fact head items (items ++ item ∷ []) (nat_le (2 ^ 63) head) refl closed low
 
-by_zero : (Fact : List ℕ → Type 0) (word : ℕ) (cells more : List ℕ) (b : Bool) → (word == 0) ≡ b → (word ≡ 0 → Fact cells) → (word ≢ 0 → Fact more) → Fact (cond b cells more)
+by_zero : (Fact : List ℕ → Type 0) (word : ℕ) (cells more : List ℕ) (b : Bool) → (word == 0) ≡ b
+    → (word ≡ 0 → Fact cells) → (word ≢ 0 → Fact more) → Fact (cond b cells more)
 by_zero Fact word cells more true is empty taken = empty (eqb-true word 0 is)
 by_zero Fact word cells more false is empty taken = taken (eqb-false word 0 is)
 
 -- what holds whether the cell is empty or taken
-pub by_cell : (Fact : List ℕ → Type 0) (word : ℕ) (cells : List ℕ) → (word ≡ 0 → Fact cells) → (word ≢ 0 → Fact (cells ++ word ∷ [])) → Fact (cond (word == 0) cells (cells ++ word ∷ []))
+pub by_cell : (Fact : List ℕ → Type 0) (word : ℕ) (cells : List ℕ) → (word ≡ 0 → Fact cells)
+    → (word ≢ 0 → Fact (cells ++ word ∷ [])) → Fact (cond (word == 0) cells (cells ++ word ∷ []))
 by_cell Fact word cells empty taken = by_zero Fact word cells (cells ++ word ∷ []) (word == 0) refl empty taken
 
 -- a place below the next number is below this one, or is it
@@ -104,16 +140,23 @@ pub below_or_at : (p n : ℕ) → p < suc n → (p < n) ⊎ (p ≡ n)
 below_or_at zero zero within = inr refl
 below_or_at zero (suc n) within = inl (omega arith)
 below_or_at (suc p) zero within = absurd (omega (arith, within))
-below_or_at (suc p) (suc n) within = elim (below_or_at p n (omega (arith, within))) [ inl below ↦ inl (omega (arith, below)) | inr at ↦ inr (ap suc at) ]
+below_or_at (suc p) (suc n) within = elim (below_or_at p n (omega (arith, within))) [
+  | inl below ↦
+      inl (omega (arith, below))
+  | inr at ↦ inr (ap suc at)
+]
 
 -- ---- finished goals
 
 -- what holds of each finished goal
-pub all_below : (m : Mem) (Fact : Finished → Type 0) (n : ℕ) → ((p : ℕ) → p < n → 2 ^ 63 ≤ m.head p → Fact (finished_at m p)) → All Fact (finished_below m n)
+pub all_below : (m : Mem) (Fact : Finished → Type 0) (n : ℕ)
+    → ((p : ℕ) → p < n → 2 ^ 63 ≤ m.head p → Fact (finished_at m p)) → All Fact (finished_below m n)
 all_below m Fact zero each = All-nil Fact
 all_below m Fact (suc n) each =
     let before = all_below m Fact n (λ p within. each p (omega (arith, within))) in
-    by_head (All Fact) (m.head n) (finished_below m n) (finished_at m n) (λ closed. All-push Fact (finished_below m n) (finished_at m n) before (each n (omega arith) closed)) (λ _. before)
+    by_head (All Fact) (m.head n) (finished_below m n) (finished_at m n)
+    (λ closed. All-push Fact (finished_below m n) (finished_at m n) before (each n (omega arith) closed))
+    (λ _. before)
 
 -- each goal with a closed head is there
 pub contains_below : (m : Mem) (n p : ℕ) → p < n → 2 ^ 63 ≤ m.head p → Contains (finished_below m n) (finished_at m p)
@@ -122,50 +165,71 @@ contains_below m (suc n) p within closed =
     let earlier = λ (below : p < n). contains_below m n p below closed in
     elim (below_or_at p n within) [
       | inl below ↦ by_head (λ l. Contains l (finished_at m p)) (m.head n) (finished_below m n) (finished_at m n)
-          (λ _. Contains-append_left (finished_below m n) (finished_at m n ∷ []) (finished_at m p) (earlier below)) (λ _. earlier below)
+          (λ _. Contains-append_left (finished_below m n) (finished_at m n ∷ []) (finished_at m p) (earlier below))
+          (λ _. earlier below)
       | inr at ↦ by_head (λ l. Contains l (finished_at m p)) (m.head n) (finished_below m n) (finished_at m n)
-          (λ _. subst (λ (k : ℕ). Contains (finished_below m n ++ finished_at m n ∷ []) (finished_at m k)) (sym at) (Contains-push (finished_below m n) (finished_at m n)))
+          (λ _. subst (λ (k : ℕ). Contains (finished_below m n ++ finished_at m n ∷ []) (finished_at m k)) (sym at)
+          (Contains-push (finished_below m n) (finished_at m n)))
           (λ low. absurd (omega (arith, low, closed, subst (λ (k : ℕ). 2 ^ 63 ≤ m.head k) at closed)))
     ]
 
 -- they differ, as no word stands in two cells
-pub goals_differ : (m : Mem) (room : ℕ) → IsWordSet room m.cell → ((p : ℕ) → p < room → 2 ^ 63 ≤ m.head p → m.cell p ≢ 0) → (n : ℕ) → n ≤ room → IsDistinct nat_eq (map goal_in (finished_below m n))
+pub goals_differ : (m : Mem) (room : ℕ) → IsWordSet room m.cell
+    → ((p : ℕ) → p < room → 2 ^ 63 ≤ m.head p → m.cell p ≢ 0) → (n : ℕ) → n ≤ room
+    → IsDistinct nat_eq (map goal_in (finished_below m n))
 goals_differ m room set taken zero few = distinct_nil
 goals_differ m room set taken (suc n) few =
     let before = goals_differ m room set taken n (omega (arith, few)) in
     let apart = λ (p : ℕ) (within : p < n) (closed : 2 ^ 63 ≤ m.head p). ne_eqb (m.cell n) (m.cell p)
-    (λ same. absurd (omega (arith, within, set.once p n (omega (arith, within, few)) (omega (arith, few)) (taken p (omega (arith, within, few)) closed) (sym same)))) in
+    (λ same. absurd (omega (
+      arith,
+      within,
+      set.once p n (omega (arith, within, few)) (omega (arith, few))
+          (taken p (omega (arith, within, few)) closed) (sym same),
+    ))) in
     by_head (λ l. IsDistinct nat_eq (map goal_in l)) (m.head n) (finished_below m n) (finished_at m n)
     (λ _. subst (IsDistinct nat_eq) (sym (map-append goal_in (finished_below m n) (finished_at m n ∷ [])))
     (IsDistinct-push nat_eq_equiv (map goal_in (finished_below m n)) (m.cell n) before
     (list_any_none (nat_eq (m.cell n)) (map goal_in (finished_below m n))
-    (All-map (λ x. nat_eq (m.cell n) x ≡ false) goal_in (finished_below m n) (all_below m (λ f. nat_eq (m.cell n) f.goal ≡ false) n apart)))))
+    (All-map (λ x. nat_eq (m.cell n) x ≡ false) goal_in (finished_below m n)
+    (all_below m (λ f. nat_eq (m.cell n) f.goal ≡ false) n apart)))))
     (λ _. before)
 
 -- ---- taken cells
 
-pub all_cells : (m : Mem) (Fact : ℕ → Type 0) (n : ℕ) → ((p : ℕ) → p < n → m.cell p ≢ 0 → Fact (m.cell p)) → All Fact (cells_below m n)
+pub all_cells : (m : Mem) (Fact : ℕ → Type 0) (n : ℕ) → ((p : ℕ) → p < n → m.cell p ≢ 0 → Fact (m.cell p))
+    → All Fact (cells_below m n)
 all_cells m Fact zero each = All-nil Fact
 all_cells m Fact (suc n) each =
     let before = all_cells m Fact n (λ p within. each p (omega (arith, within))) in
-    by_cell (All Fact) (m.cell n) (cells_below m n) (λ _. before) (λ taken. All-push Fact (cells_below m n) (m.cell n) before (each n (omega arith) taken))
+    by_cell (All Fact) (m.cell n) (cells_below m n) (λ _. before)
+    (λ taken. All-push Fact (cells_below m n) (m.cell n) before (each n (omega arith) taken))
 
 pub contains_cell : (m : Mem) (n p : ℕ) → p < n → m.cell p ≢ 0 → Contains (cells_below m n) (m.cell p)
 contains_cell m zero p within taken = absurd (omega (arith, within))
 contains_cell m (suc n) p within taken =
     elim (below_or_at p n within) [
-      | inl below ↦ by_cell (λ l. Contains l (m.cell p)) (m.cell n) (cells_below m n) (λ _. contains_cell m n p below taken)
+      | inl below ↦ by_cell (λ l. Contains l (m.cell p)) (m.cell n) (cells_below m n)
+          (λ _. contains_cell m n p below taken)
           (λ _. Contains-append_left (cells_below m n) (m.cell n ∷ []) (m.cell p) (contains_cell m n p below taken))
-      | inr at ↦ by_cell (λ l. Contains l (m.cell p)) (m.cell n) (cells_below m n) (λ empty. absurd (taken (ap m.cell at ∙ empty)))
-          (λ _. subst (λ (k : ℕ). Contains (cells_below m n ++ m.cell n ∷ []) (m.cell k)) (sym at) (Contains-push (cells_below m n) (m.cell n)))
+      | inr at ↦ by_cell (λ l. Contains l (m.cell p)) (m.cell n) (cells_below m n)
+          (λ empty. absurd (taken (ap m.cell at ∙ empty)))
+          (λ _. subst (λ (k : ℕ). Contains (cells_below m n ++ m.cell n ∷ []) (m.cell k)) (sym at)
+          (Contains-push (cells_below m n) (m.cell n)))
     ]
 
-pub cells_differ : (m : Mem) (room : ℕ) → IsWordSet room m.cell → (n : ℕ) → n ≤ room → IsDistinct nat_eq (cells_below m n)
+pub cells_differ : (m : Mem) (room : ℕ) → IsWordSet room m.cell → (n : ℕ) → n ≤ room
+    → IsDistinct nat_eq (cells_below m n)
 cells_differ m room set zero few = distinct_nil
 cells_differ m room set (suc n) few =
     let before = cells_differ m room set n (omega (arith, few)) in
     let apart = λ (p : ℕ) (within : p < n) (taken : m.cell p ≢ 0). ne_eqb (m.cell n) (m.cell p)
-    (λ same. absurd (omega (arith, within, set.once p n (omega (arith, within, few)) (omega (arith, few)) taken (sym same)))) in
+    (λ same. absurd (omega (
+      arith,
+      within,
+      set.once p n (omega (arith, within, few)) (omega (arith, few)) taken
+          (sym same),
+    ))) in
     by_cell (IsDistinct nat_eq) (m.cell n) (cells_below m n) (λ _. before)
     (λ _. IsDistinct-push nat_eq_equiv (cells_below m n) (m.cell n) before
     (list_any_none (nat_eq (m.cell n)) (cells_below m n) (all_cells m (λ x. nat_eq (m.cell n) x ≡ false) n apart)))

@@ -1,5 +1,6 @@
 -- What was read of the closed board of a query's search, and the words that it was read of.
-use Rattle.std.proofs.Common.{◌≡◌, ◌≢◌, ℕ, ◌^◌, ◌<◌, ◌≤◌, true, List, map, length, Contains, None, refl, sym, subst, ap, ◌∙◌, arith, inl, inr, IsTrue, le-leb}
+use Rattle.std.proofs.Common.{◌≡◌, ◌≢◌, ℕ, ◌^◌, ◌<◌, ◌≤◌, true, List, map, length, Contains, None, refl, sym, subst, ap}
+use Rattle.std.proofs.Common.{◌∙◌, arith, inl, inr, IsTrue, le-leb}
 use Rattle.query_core.specs.Goals.{goal_bit, has_goal_bit}
 use Rattle.query_core.specs.declared.query.Query.{Query}
 use Rattle.goal_space.specs.Words.{goal_word}
@@ -20,7 +21,8 @@ use Rattle.goal_board.specs.declared.answers.Closed.{Closed}
 use Rattle.job_outcome.specs.Outcomes.{ClosesSearch, HasFinishedRoot}
 use Rattle.job_outcome.specs.declared.finished.Finished.{Finished}
 use Rattle.job_outcome.proofs.Lists.{contains_map, contains_unmap}
-use Rattle.job_outcome.proofs.Places.{all_below, contains_below, finished_at, finished_below, goal_in, goals_below, lengths_below}
+use Rattle.job_outcome.proofs.Places.{all_below, contains_below, finished_at, finished_below, goal_in, goals_below}
+use Rattle.job_outcome.proofs.Places.{lengths_below}
 use Rattle.job_outcome.proofs.Finishing.{Finishes, Searched}
 use Rattle.std.proofs.lemmas.List.Elements.{All-contains}
 
@@ -31,7 +33,8 @@ pub record ReadsSearch (q : Query) (cap place : ℕ) (m : Mem) (done : List Ende
   pub root : m.cell place ≡ goal_word (root_goal_of q)
   pub full : closed.full ≡ true → IsFull (meaning_of q) cap m.cell
   pub none_ready : closed.ready ≡ None → (p : ℕ) → p < cap → HoldsGoal (meaning_of q) cap m.cell p → 2 ^ 63 ≤ m.head p
-  pub finished_by : (p : ℕ) → p < cap → 2 ^ 63 ≤ m.head p → (e : Ended) × Among done e × (e.place ≡ p) × IsRecorded cap m.head m.cost m.node m.who e
+  pub finished_by : (p : ℕ) → p < cap → 2 ^ 63 ≤ m.head p → (e : Ended) × Among done e × (e.place ≡ p)
+      × IsRecorded cap m.head m.cost m.node m.who e
   pub cells : closed.cells ≡ cells_below m cap
   pub answers : closed.answers ≡ answers_below m cap
   pub who : closed.who ≡ who_below m cap
@@ -59,7 +62,8 @@ module _ (q : Query) (cap place : ℕ) (v : Hands Rules) (closed : Closed) (its 
       record {
         searched = record {
           cells = subst (λ (x : Query). AreCells (meaning_of x) cap m.cell) same by_kinds.cells;
-          promises = subst (λ (x : Query). KeepsPromises (meaning_of x) cap m.cell m.head m.cost m.node) same by_kinds.promises;
+          promises = subst (λ (x : Query). KeepsPromises (meaning_of x) cap m.cell m.head m.cost m.node) same
+              by_kinds.promises;
         };
         near = its.near;
         root = stays.cells place (goal_word (root_goal_of q)) its.root (goal_some q);
@@ -74,9 +78,11 @@ module _ (q : Query) (cap place : ℕ) (v : Hands Rules) (closed : Closed) (its 
 
   -- a head that was found closed is closed
   pub shown_closed : ShowsClosed v.looks place → 2 ^ 63 ≤ (mem its.closes.words).head place
-  shown_closed (found, looked, closed_then) = later found ((mem its.closes.words).head place) closed_then (stays.heads place found looked)
+  shown_closed (found, looked, closed_then) =
+      later found ((mem its.closes.words).head place) closed_then (stays.heads place found looked)
 
-module _ (q : Query) (cap place : ℕ) (m : Mem) (done : List Ended) (closed : Closed) (its : ReadsSearch q cap place m done closed) where
+module _ (q : Query) (cap place : ℕ) (m : Mem) (done : List Ended) (closed : Closed)
+    (its : ReadsSearch q cap place m done closed) where
   -- the goals that were read are those of the finished ones
   pub goals_read : map (λ (x : ℕ × Answer). x.0) closed.answers ≡ map goal_in (finished_below m cap)
   goals_read = ap (map (λ (x : ℕ × Answer). x.0)) its.answers ∙ goals_below m cap
@@ -91,18 +97,26 @@ module _ (q : Query) (cap place : ℕ) (m : Mem) (done : List Ended) (closed : C
   -- where the root's goal is among them it is finished
   pub root_finished : HasFinishedRoot q closed → Finishes q cap m (root_goal_of q)
   root_finished has =
-      let (f, there, is) = contains_unmap goal_in (goal_word (root_goal_of q)) (finished_below m cap) (subst (λ (l : List ℕ). Contains l (goal_word (root_goal_of q))) goals_read has) in
-      let (p, near, head, at) = All-contains IsPlaced (finished_below m cap) f (all_below m IsPlaced cap (λ p near head. (p, near, head, refl))) there in
+      let (f, there, is) = contains_unmap goal_in (goal_word (root_goal_of q)) (finished_below m cap)
+      (subst (λ (l : List ℕ). Contains l (goal_word (root_goal_of q))) goals_read has) in
+      let (p, near, head, at) = All-contains IsPlaced (finished_below m cap) f
+      (all_below m IsPlaced cap (λ p near head. (p, near, head, refl))) there in
       (p, near, goal_some q, sym at ∙ is, head)
 
   -- and it is among them where its head is closed
   pub finished_root : 2 ^ 63 ≤ m.head place → HasFinishedRoot q closed
   finished_root head =
       subst (λ (l : List ℕ). Contains l (goal_word (root_goal_of q))) (sym goals_read)
-      (subst (Contains (map goal_in (finished_below m cap))) its.root (contains_map goal_in (finished_at m place) (finished_below m cap) (contains_below m cap place its.near head)))
+      (subst (Contains (map goal_in (finished_below m cap))) its.root
+      (contains_map goal_in (finished_at m place) (finished_below m cap)
+      (contains_below m cap place its.near head)))
 
   -- as where no goal is ready
   pub none_left : closed.ready ≡ None → HasFinishedRoot q closed
   none_left none =
       let high = goal_high (root_goal_of q) in
-      finished_root (its.none_ready none place its.near (λ empty. absurd (goal_some q (sym its.root ∙ empty)), subst (λ (x : ℕ). IsTrue (has_goal_bit x)) (sym its.root) (le-leb goal_bit (goal_word (root_goal_of q)) high)))
+      finished_root (its.none_ready none place its.near (
+        λ empty. absurd (goal_some q (sym its.root ∙ empty)),
+        subst (λ (x : ℕ). IsTrue (has_goal_bit x)) (sym its.root)
+            (le-leb goal_bit (goal_word (root_goal_of q)) high),
+      ))

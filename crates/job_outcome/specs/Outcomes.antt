@@ -39,7 +39,8 @@ pub record FitsIn (q : Query) (cap : ℕ) (members goals : List ℕ) : Type 0 wh
 
 -- ---- the board of a query's search
 
--- a seat with these hands closed the board of the query's search, which has that many cells; its looks show the root's goal
+-- a seat with these hands closed the board of the query's search, which has that many cells; its looks show the root's
+-- goal
 pub record ClosesSearch (q : Query) (cap place : ℕ) (v : Hands Rules) (closed : Closed) : Type 0 where
   pub rules : Rules
   pub its_query : rules.query.now ≡ q

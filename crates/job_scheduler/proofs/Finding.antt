@@ -1,5 +1,6 @@
 -- What comes of claims, sweeps and looks at the root goal, one after the other.
-use Rattle.std.proofs.Common.{◌≡◌, ℕ, ◌+◌, ◌<◌, ◌≤◌, [], ◌∷◌, Bool, true, false, Option, None, Some, true≢false, sym, refl, subst, inl, inr, ⊎_elim, arith}
+use Rattle.std.proofs.Common.{◌≡◌, ℕ, ◌+◌, ◌<◌, ◌≤◌, [], ◌∷◌, Bool, true, false, Option, None, Some, true≢false, sym}
+use Rattle.std.proofs.Common.{refl, subst, inl, inr, ⊎_elim, arith}
 use Rattle.std.proofs.lemmas.Bool.{cases_lt}
 use mathlib.Core.Logic.{dite}
 use native.Mathlib.Decide.{ℕ_discrete}
@@ -11,36 +12,55 @@ use Rattle.goal_board.specs.declared.board.Right.{Right}
 use Rattle.goal_board.specs.declared.answers.Answer.{Answer}
 use Rattle.goal_board.specs.Calls.{ShowsBusy, ClaimsGoal, Claims, Reads, ReadsFull}
 use Rattle.job_scheduler.specs.Workers.{OnlyLooked, ShowsGoal, Later}
-use Rattle.job_scheduler.specs.Claims.{LooksAndClaims, MayClaimOne, FindsAllBusy, FindsRootOpen, FindsRootClosed, FindsFullSet}
+use Rattle.job_scheduler.specs.Claims.{LooksAndClaims, MayClaimOne, FindsAllBusy, FindsRootOpen, FindsRootClosed}
+use Rattle.job_scheduler.specs.Claims.{FindsFullSet}
 use Rattle.job_scheduler.specs.Claims.{Seeks}
 use Rattle.job_scheduler.specs.declared.sought.Sought.{Sought}
 use Rattle.job_scheduler.specs.declared.sought.Sought.TheVariants as sought
-use Rattle.job_scheduler.proofs.Looking.{busy_later, busy_earlier, closed_later, full_later, no_look, looks_both, looks_later}
+use Rattle.job_scheduler.proofs.Looking.{busy_later, busy_earlier, closed_later, full_later, no_look, looks_both}
+use Rattle.job_scheduler.proofs.Looking.{looks_later}
 
 module _ {R : Type 0} (meaning : Meaning) (room : ℕ) where
   -- one claim
-  pub claims_one : (v : Hands R) (at : ℕ) (result : Option Right) (w : Hands R) → Claims meaning room v at result w → MayClaimOne meaning room v result w
-  claims_one v at (Some right) w t = record { middle = v; looks = no_look v; claims = subst (λ p. ClaimsGoal meaning room v p right w) (sym t.there) t }
+  pub claims_one : (v : Hands R) (at : ℕ) (result : Option Right) (w : Hands R) → Claims meaning room v at result w
+      → MayClaimOne meaning room v result w
+  claims_one v at (Some right) w t = record {
+    middle = v;
+    looks = no_look v;
+    claims =
+        subst (λ p. ClaimsGoal meaning room v p right w) (sym t.there) t;
+  }
   claims_one v at None w t = record { more = t.more; hands_are = t.hands_are; alone = t.looks.alone }
 
   -- a claim after looks
-  pub claims_after : (u v : Hands R) (right : Right) (w : Hands R) → OnlyLooked u v → LooksAndClaims meaning room v right w → LooksAndClaims meaning room u right w
-  claims_after u v right w a t = record { middle = t.middle; looks = looks_both u v t.middle a t.looks; claims = t.claims }
+  pub claims_after : (u v : Hands R) (right : Right) (w : Hands R) → OnlyLooked u v
+      → LooksAndClaims meaning room v right w → LooksAndClaims meaning room u right w
+  claims_after u v right w a t = record {
+    middle = t.middle;
+    looks = looks_both u v t.middle a t.looks;
+    claims =
+        t.claims;
+  }
 
-  pub may_claim_after : (u v : Hands R) (result : Option Right) (w : Hands R) → OnlyLooked u v → MayClaimOne meaning room v result w → MayClaimOne meaning room u result w
+  pub may_claim_after : (u v : Hands R) (result : Option Right) (w : Hands R) → OnlyLooked u v
+      → MayClaimOne meaning room v result w → MayClaimOne meaning room u result w
   may_claim_after u v (Some right) w a t = claims_after u v right w a t
   may_claim_after u v None w a t = looks_both u v w a t
 
   -- what was seen was seen
-  pub claims_later : (v : Hands R) (right : Right) (w : Hands R) → LooksAndClaims meaning room v right w → Later v.looks w.looks
+  pub claims_later : (v : Hands R) (right : Right) (w : Hands R) → LooksAndClaims meaning room v right w
+      → Later v.looks w.looks
   claims_later v right w t word found look =
-      subst (λ (h : Hands R). Looked h.looks word found) (sym t.claims.hands_are) (inr (inr (looks_later v t.middle t.looks word found look)))
+      subst (λ (h : Hands R). Looked h.looks word found) (sym t.claims.hands_are)
+      (inr (inr (looks_later v t.middle t.looks word found look)))
 
-  pub may_claim_later : (v : Hands R) (result : Option Right) (w : Hands R) → MayClaimOne meaning room v result w → Later v.looks w.looks
+  pub may_claim_later : (v : Hands R) (result : Option Right) (w : Hands R) → MayClaimOne meaning room v result w
+      → Later v.looks w.looks
   may_claim_later v (Some right) w t = claims_later v right w t
   may_claim_later v None w t = looks_later v w t
 
-  pub claim_later : (v : Hands R) (at : ℕ) (result : Option Right) (w : Hands R) → Claims meaning room v at result w → Later v.looks w.looks
+  pub claim_later : (v : Hands R) (at : ℕ) (result : Option Right) (w : Hands R) → Claims meaning room v at result w
+      → Later v.looks w.looks
   claim_later v at result w t = may_claim_later v result w (claims_one v at result w t)
 
   -- no place was looked at
@@ -48,7 +68,8 @@ module _ {R : Type 0} (meaning : Meaning) (room : ℕ) where
   none_busy v from = record { looks = no_look v; busy = λ at above below. absurd (omega arith) }
 
   -- one place more
-  pub busy_more : (u v w : Hands R) (from at : ℕ) → FindsAllBusy meaning room u from at v → Claims meaning room v at None w → FindsAllBusy meaning room u from (at + 1) w
+  pub busy_more : (u v w : Hands R) (from at : ℕ) → FindsAllBusy meaning room u from at v
+      → Claims meaning room v at None w → FindsAllBusy meaning room u from (at + 1) w
   busy_more u v w from at a t =
       let one : OnlyLooked v w = record { more = t.more; hands_are = t.hands_are; alone = t.looks.alone } in record {
         looks = looks_both u v w a.looks one;
@@ -58,14 +79,16 @@ module _ {R : Type 0} (meaning : Meaning) (room : ℕ) where
       }
 
   -- further looks
-  pub busy_after : (u v w : Hands R) (from to : ℕ) → FindsAllBusy meaning room u from to v → OnlyLooked v w → FindsAllBusy meaning room u from to w
+  pub busy_after : (u v w : Hands R) (from to : ℕ) → FindsAllBusy meaning room u from to v → OnlyLooked v w
+      → FindsAllBusy meaning room u from to w
   busy_after u v w from to a b = record {
     looks = looks_both u v w a.looks b;
     busy = λ p above below. busy_earlier meaning b.more a.looks.more p (a.busy p above below);
   }
 
   -- the places before, and those from there on, in whatever order they were swept
-  pub busy_both : (u v w : Hands R) (from mid to : ℕ) → FindsAllBusy meaning room u from mid v → FindsAllBusy meaning room v mid to w → FindsAllBusy meaning room u from to w
+  pub busy_both : (u v w : Hands R) (from mid to : ℕ) → FindsAllBusy meaning room u from mid v
+      → FindsAllBusy meaning room v mid to w → FindsAllBusy meaning room u from to w
   busy_both u v w from mid to a b = record {
     looks = looks_both u v w a.looks b.looks;
     busy = λ p above below. ⊎_elim
@@ -74,7 +97,8 @@ module _ {R : Type 0} (meaning : Meaning) (room : ℕ) where
         (cases_lt p mid);
   }
 
-  pub busy_round : (u v w : Hands R) (mid to : ℕ) → FindsAllBusy meaning room u mid to v → FindsAllBusy meaning room v 0 mid w → FindsAllBusy meaning room u 0 to w
+  pub busy_round : (u v w : Hands R) (mid to : ℕ) → FindsAllBusy meaning room u mid to v
+      → FindsAllBusy meaning room v 0 mid w → FindsAllBusy meaning room u 0 to w
   busy_round u v w mid to a b = record {
     looks = looks_both u v w a.looks b.looks;
     busy = λ p above below. ⊎_elim
@@ -84,14 +108,31 @@ module _ {R : Type 0} (meaning : Meaning) (room : ℕ) where
   }
 
   -- a look at the root goal
-  pub answer_looks : (v : Hands R) (at : ℕ) (result : Option Answer) (w : Hands R) → Reads meaning room v at result w → OnlyLooked v w
+  pub answer_looks : (v : Hands R) (at : ℕ) (result : Option Answer) (w : Hands R) → Reads meaning room v at result w
+      → OnlyLooked v w
   answer_looks v at (Some answer) w t =
-      record { more = (_, answer.node) ∷ ((_, answer.cost) ∷ ((head_word at, t.head) ∷ [])); hands_are = t.hands_are; alone = t.looks.alone }
-  answer_looks v at None w t = record { more = (head_word at, t.head) ∷ []; hands_are = t.hands_are; alone = t.looks.alone }
+      record {
+        more = (_, answer.node) ∷ ((_, answer.cost) ∷ ((head_word at, t.head) ∷ []));
+        hands_are =
+            t.hands_are;
+        alone = t.looks.alone;
+      }
+  answer_looks v at None w t = record {
+    more = (head_word at, t.head) ∷ [];
+    hands_are = t.hands_are;
+    alone =
+        t.looks.alone;
+  }
 
-  pub answer_closed : (v : Hands R) (at : ℕ) (answer : Answer) (w : Hands R) → Reads meaning room v at (Some answer) w → FindsRootClosed meaning room v at w
+  pub answer_closed : (v : Hands R) (at : ℕ) (answer : Answer) (w : Hands R) → Reads meaning room v at (Some answer) w
+      → FindsRootClosed meaning room v at w
   answer_closed v at answer w t = record {
-    looks = record { more = (_, answer.node) ∷ ((_, answer.cost) ∷ ((head_word at, t.head) ∷ [])); hands_are = t.hands_are; alone = t.looks.alone };
+    looks = record {
+      more = (_, answer.node) ∷ ((_, answer.cost) ∷ ((head_word at, t.head) ∷ []));
+      hands_are =
+          t.hands_are;
+      alone = t.looks.alone;
+    };
     closed = (t.head, inr (inr (inl (refl, refl))), t.closed);
     left_out = t.left_out;
   }
@@ -107,37 +148,54 @@ module _ {R : Type 0} (meaning : Meaning) (room : ℕ) where
   }
 
   -- the root goal was found open, and then the full word not set
-  pub root_open : (u v w : Hands R) (at goal : ℕ) → ShowsGoal meaning u.looks at goal → Reads meaning room u at None v → ReadsFull meaning room v false w → FindsRootOpen meaning room u at w
+  pub root_open : (u v w : Hands R) (at goal : ℕ) → ShowsGoal meaning u.looks at goal → Reads meaning room u at None v
+      → ReadsFull meaning room v false w → FindsRootOpen meaning room u at w
   root_open u v w at goal shown t f =
-      let one : OnlyLooked u v = record { more = (head_word at, t.head) ∷ []; hands_are = t.hands_are; alone = t.looks.alone } in record {
+      let one : OnlyLooked u v = record {
+        more = (head_word at, t.head) ∷ [];
+        hands_are = t.hands_are;
+        alone =
+            t.looks.alone;
+      } in record {
         looks = looks_both u v w one (full_looks v false w f);
         root_open = (t.head, inr (inl (refl, refl)), t.not_closed);
         ready = λ kept is free. t.ready kept is free goal shown.some_goal shown.stands shown.is_goal;
       }
 
   -- a goal whose head was seen closed isn't found open
-  pub not_open : (v w : Hands R) (at goal : ℕ) → at < room → ShowsGoal meaning v.looks at goal → ShowsClosed v.looks at → Reads meaning room v at None w → ⊥
-  not_open v w at goal near shown closed t = t.unfinished goal shown.some_goal shown.stands (seen_closed goal at near shown.some_goal shown.stands closed)
+  pub not_open : (v w : Hands R) (at goal : ℕ) → at < room → ShowsGoal meaning v.looks at goal → ShowsClosed v.looks at
+      → Reads meaning room v at None w → ⊥
+  not_open v w at goal near shown closed t =
+      t.unfinished goal shown.some_goal shown.stands (seen_closed goal at near shown.some_goal shown.stands closed)
 
   -- a part of the places
-  pub busy_within : (u v : Hands R) (from to at : ℕ) → to ≤ at → FindsAllBusy meaning room u from at v → FindsAllBusy meaning room u from to v
+  pub busy_within : (u v : Hands R) (from to at : ℕ) → to ≤ at → FindsAllBusy meaning room u from at v
+      → FindsAllBusy meaning room u from to v
   busy_within u v from to at le a = record { looks = a.looks; busy = λ p above below. a.busy p above (omega arith) }
 
   -- after looks
-  pub closed_after : (u v : Hands R) (root : ℕ) (w : Hands R) → OnlyLooked u v → FindsRootClosed meaning room v root w → FindsRootClosed meaning room u root w
-  closed_after u v root w a t = record { looks = looks_both u v w a t.looks; closed = closed_later t.looks.more a.more root t.closed; left_out = t.left_out }
+  pub closed_after : (u v : Hands R) (root : ℕ) (w : Hands R) → OnlyLooked u v → FindsRootClosed meaning room v root w
+      → FindsRootClosed meaning room u root w
+  closed_after u v root w a t = record {
+    looks = looks_both u v w a t.looks;
+    closed =
+        closed_later t.looks.more a.more root t.closed;
+    left_out = t.left_out;
+  }
 
   pub full_after : (u v w : Hands R) → OnlyLooked u v → FindsFullSet meaning room v w → FindsFullSet meaning room u w
   full_after u v w a t = record { looks = looks_both u v w a t.looks; full = full_later t.looks.more a.more t.full }
 
   -- what ends a search ends one that began earlier
-  pub seeks_on : (u v w : Hands R) (root at end from to : ℕ) (answer : Sought) → (answer ≡ sought.Busy → ⊥) → OnlyLooked u v → Seeks meaning room v root at end answer w → Seeks meaning room u root from to answer w
+  pub seeks_on : (u v w : Hands R) (root at end from to : ℕ) (answer : Sought) → (answer ≡ sought.Busy → ⊥)
+      → OnlyLooked u v → Seeks meaning room v root at end answer w → Seeks meaning room u root from to answer w
   seeks_on u v w root at end from to (sought.Claimed right) some a t = claims_after u v right w a t
   seeks_on u v w root at end from to sought.Busy some a t = absurd (some refl)
   seeks_on u v w root at end from to sought.Done some a t = closed_after u v root w a t
   seeks_on u v w root at end from to sought.Full some a t = full_after u v w a t
 
-  pub seeks_after : (u v w : Hands R) (root from to : ℕ) (answer : Sought) → OnlyLooked u v → Seeks meaning room v root from to answer w → Seeks meaning room u root from to answer w
+  pub seeks_after : (u v w : Hands R) (root from to : ℕ) (answer : Sought) → OnlyLooked u v
+      → Seeks meaning room v root from to answer w → Seeks meaning room u root from to answer w
   seeks_after u v w root from to (sought.Claimed right) a t = claims_after u v right w a t
   seeks_after u v w root from to sought.Busy a t = record {
     looks = looks_both u v w a t.looks;
@@ -147,7 +205,9 @@ module _ {R : Type 0} (meaning : Meaning) (room : ℕ) where
   seeks_after u v w root from to sought.Full a t = full_after u v w a t
 
   -- the places from one on were found busy, and then those before it were looked at
-  pub seeks_round : (u v w : Hands R) (root mid end to : ℕ) (answer : Sought) → to ≤ end → FindsAllBusy meaning room u mid end v → Seeks meaning room v root 0 mid answer w → Seeks meaning room u root 0 to answer w
+  pub seeks_round : (u v w : Hands R) (root mid end to : ℕ) (answer : Sought) → to ≤ end
+      → FindsAllBusy meaning room u mid end v → Seeks meaning room v root 0 mid answer w
+      → Seeks meaning room u root 0 to answer w
   seeks_round u v w root mid end to (sought.Claimed right) le a t = claims_after u v right w a.looks t
   seeks_round u v w root mid end to sought.Busy le a t = busy_round u v w mid to (busy_within u v mid to end le a) t
   seeks_round u v w root mid end to sought.Done le a t = closed_after u v root w a.looks t

@@ -1,5 +1,6 @@
 -- Looks add up, and what they show stays shown.
-use Rattle.std.proofs.Common.{◌≡◌, ℕ, ◌<◌, ◌≤◌, List, [], ◌++◌, append_assoc, sym, refl, ap, ◌∙◌, subst, inl, inr, ⊎_elim}
+use Rattle.std.proofs.Common.{◌≡◌, ℕ, ◌<◌, ◌≤◌, List, [], ◌++◌, append_assoc, sym, refl, ap, ◌∙◌, subst, inl, inr}
+use Rattle.std.proofs.Common.{⊎_elim}
 use Rattle.board_rule.specs.Meaning.{Meaning}
 use Rattle.board_rule.specs.Words.{cell_word, run_word, head_word, full_word}
 use Rattle.board_rule.specs.Looks.{Looked, ShowsFull, ShowsClosed}
@@ -14,13 +15,19 @@ use Rattle.job_scheduler.specs.Claims.{ShowsOpen}
 use Rattle.job_scheduler.specs.declared.worker.Worker.{Worker}
 
 -- a place that was found busy, by further looks or by earlier ones
-pub busy_later : (meaning : Meaning) (more looks : List (ℕ × ℕ)) (at : ℕ) → ShowsBusy meaning more at → ShowsBusy meaning (more ++ looks) at
-busy_later meaning more looks at (inl (word, look, none)) = inl (word, looked_later more looks (cell_word at) word look, none)
-busy_later meaning more looks at (inr (value, look, taken)) = inr (value, looked_later more looks (run_word at) value look, taken)
+pub busy_later : (meaning : Meaning) (more looks : List (ℕ × ℕ)) (at : ℕ) → ShowsBusy meaning more at
+    → ShowsBusy meaning (more ++ looks) at
+busy_later meaning more looks at (inl (word, look, none)) =
+    inl (word, looked_later more looks (cell_word at) word look, none)
+busy_later meaning more looks at (inr (value, look, taken)) =
+    inr (value, looked_later more looks (run_word at) value look, taken)
 
-pub busy_earlier : (meaning : Meaning) (more looks : List (ℕ × ℕ)) (at : ℕ) → ShowsBusy meaning looks at → ShowsBusy meaning (more ++ looks) at
-busy_earlier meaning more looks at (inl (word, look, none)) = inl (word, looked_earlier more looks (cell_word at) word look, none)
-busy_earlier meaning more looks at (inr (value, look, taken)) = inr (value, looked_earlier more looks (run_word at) value look, taken)
+pub busy_earlier : (meaning : Meaning) (more looks : List (ℕ × ℕ)) (at : ℕ) → ShowsBusy meaning looks at
+    → ShowsBusy meaning (more ++ looks) at
+busy_earlier meaning more looks at (inl (word, look, none)) =
+    inl (word, looked_earlier more looks (cell_word at) word look, none)
+busy_earlier meaning more looks at (inr (value, look, taken)) =
+    inr (value, looked_earlier more looks (run_word at) value look, taken)
 
 -- so for a head and the full word
 pub open_earlier : (more looks : List (ℕ × ℕ)) (at : ℕ) → ShowsOpen looks at → ShowsOpen (more ++ looks) at
@@ -36,13 +43,17 @@ pub full_later : (more looks : List (ℕ × ℕ)) → ShowsFull more → ShowsFu
 full_later more looks t = (t.0, looked_later more looks full_word t.0 t.1, t.2)
 
 module _ {R : Type 0} where
-  pub agrees_both : (v : Hands R) (first second : List (ℕ × ℕ)) → AgreesAlone v first → AgreesAlone v second → AgreesAlone v (second ++ first)
+  pub agrees_both : (v : Hands R) (first second : List (ℕ × ℕ)) → AgreesAlone v first → AgreesAlone v second
+      → AgreesAlone v (second ++ first)
   agrees_both v first second a b kept is word value look =
-      ⊎_elim (λ (l : Looked second word value). b kept is word value l) (λ (l : Looked first word value). a kept is word value l) (looked_append second first word value look)
+      ⊎_elim (λ (l : Looked second word value). b kept is word value l)
+      (λ (l : Looked first word value). a kept is word value l) (looked_append second first word value look)
 
-  pub seen_both : (u v w : Hands R) (first second : List (ℕ × ℕ)) → v ≡ seen first u → w ≡ seen second v → w ≡ seen (second ++ first) u
+  pub seen_both : (u v w : Hands R) (first second : List (ℕ × ℕ)) → v ≡ seen first u → w ≡ seen second v
+      → w ≡ seen (second ++ first) u
   seen_both u v w first second a b =
-      b ∙ (ap (λ (h : Hands R). seen second h) a ∙ ap (λ (l : List (ℕ × ℕ)). record u { looks = l }) (sym (append_assoc second first u.looks)))
+      b ∙ (ap (λ (h : Hands R). seen second h) a
+      ∙ ap (λ (l : List (ℕ × ℕ)). record u { looks = l }) (sym (append_assoc second first u.looks)))
 
   -- no look
   abbrev pub no_look : (v : Hands R) → OnlyLooked v v
@@ -61,15 +72,23 @@ module _ {R : Type 0} where
   }
 
   pub looks_later : (u v : Hands R) → OnlyLooked u v → Later u.looks v.looks
-  looks_later u v a word found look = subst (λ (h : Hands R). Looked h.looks word found) (sym a.hands_are) (looked_earlier a.more u.looks word found look)
+  looks_later u v a word found look = subst (λ (h : Hands R). Looked h.looks word found) (sym a.hands_are)
+      (looked_earlier a.more u.looks word found look)
 
   -- a worker that made further looks, or kept those that it had, and is otherwise the same
-  pub worker_after : (meaning_of : R → Meaning) (b : Board R) (root goal : ℕ) (v w : Worker R) → IsWorkerOf meaning_of b root goal v
-      → IsSeatOf meaning_of b w.seat → Later (hands v.seat).looks (hands w.seat).looks → w.hints ≡ b.key.room → w.next ≤ b.key.room → w.number ≡ v.number
+  pub worker_after : (meaning_of : R → Meaning) (b : Board R) (root goal : ℕ) (v w : Worker R)
+      → IsWorkerOf meaning_of b root goal v
+      → IsSeatOf meaning_of b w.seat → Later (hands v.seat).looks (hands w.seat).looks → w.hints ≡ b.key.room
+      → w.next ≤ b.key.room → w.number ≡ v.number
       → IsWorkerOf meaning_of b root goal w
   worker_after meaning_of b root goal v w its seat later hints next number = record {
     seat = seat;
-    root_shown = record { some_goal = its.root_shown.some_goal; is_goal = its.root_shown.is_goal; stands = later (cell_word root) goal its.root_shown.stands };
+    root_shown = record {
+      some_goal = its.root_shown.some_goal;
+      is_goal = its.root_shown.is_goal;
+      stands =
+          later (cell_word root) goal its.root_shown.stands;
+    };
     hints = hints;
     next = next;
     number = subst (λ n. n < 64) (sym number) its.number;

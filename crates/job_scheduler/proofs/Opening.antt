@@ -12,10 +12,12 @@ module _ {R : Type 0} (rules : R) (room : ℕ) (v : Hands R) (is : v ≡ opening
 
   -- no look finds the goal
   pub not_known : (goal at : ℕ) (w : Hands R) → goal ≢ 0 → FindsAt room v goal at w → ⊥
-  not_known goal at w some t = some (sym (t.looks.alone (replicate (14 * room + 1) 0) (ap (λ (h : Hands R). h.alone) is) (cell_word at) goal t.stands) ∙ kept_zero at t.near)
+  not_known goal at w some t = some (sym (t.looks.alone (replicate (14 * room + 1) 0) (ap (λ (h : Hands R). h.alone) is)
+      (cell_word at) goal t.stands) ∙ kept_zero at t.near)
 
   -- no look finds a cell taken
   pub not_full : (goal : ℕ) (w : Hands R) → 0 < room → FindsFull room v goal w → ⊥
   not_full goal w some t =
       let other = t.others 0 some in
-      other.2 (sym (t.looks.alone (replicate (14 * room + 1) 0) (ap (λ (h : Hands R). h.alone) is) (cell_word 0) other.0 other.1) ∙ kept_zero 0 some)
+      other.2 (sym (t.looks.alone (replicate (14 * room + 1) 0) (ap (λ (h : Hands R). h.alone) is) (cell_word 0) other.0
+      other.1) ∙ kept_zero 0 some)

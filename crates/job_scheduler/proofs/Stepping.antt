@@ -1,5 +1,7 @@
 -- What a step does, from what its parts did.
-use Rattle.std.proofs.Common.{◌≡◌, ◌⊎◌, ℕ, ◌+◌, ◌*◌, ◌<◌, ◌≤◌, List, [], ◌∷◌, ◌++◌, true, false, Some, slice_index, slice_set, true≢false, mul-le-mul_right, append_assoc, sym, refl, ap, ◌∙◌, subst, inl, inr, ⊎_elim, arith}
+use Rattle.std.proofs.Common.{◌≡◌, ◌⊎◌, ℕ, ◌+◌, ◌*◌, ◌<◌, ◌≤◌, List, [], ◌∷◌, ◌++◌, true, false, Some, slice_index}
+use Rattle.std.proofs.Common.{slice_set, true≢false, mul-le-mul_right, append_assoc, sym, refl, ap, ◌∙◌, subst, inl}
+use Rattle.std.proofs.Common.{inr, ⊎_elim, arith}
 use Rattle.board_rule.specs.Meaning.{Meaning}
 use Rattle.board_rule.specs.Words.{mem, cell_word, run_word}
 use Rattle.board_rule.specs.Looks.{Looked}
@@ -7,44 +9,55 @@ use Rattle.board_rule.specs.Seats.{fresh_right, changed}
 use Rattle.board_rule.specs.declared.hands.Hands.{Hands}
 use Rattle.goal_board.specs.declared.board.Right.{Right}
 use Rattle.goal_board.specs.Calls.{ShowsBusy, IsReadyIn}
-use Rattle.board_moves.specs.Counts.{empty_count, open_count, Advances, AdvancesAlone, finishes, fills, waits, has_ready}
+use Rattle.board_moves.specs.Counts.{empty_count, open_count, Advances, AdvancesAlone, finishes, fills, waits}
+use Rattle.board_moves.specs.Counts.{has_ready}
 use Rattle.board_moves.proofs.CountLemmas.{number_at_most, CountsClaim, claim_counts}
 use Rattle.job_scheduler.specs.Workers.{OnlyLooked}
 use Rattle.job_scheduler.specs.Claims.{LooksAndClaims, FindsAllBusy, FindsRootOpen, FindsRootClosed, FindsFullSet}
-use Rattle.job_scheduler.specs.Steps.{Keeps, TurnKeeps, FinishesOne, SuspendsOne, RunsOne, RunsOut, Runs, IsIdle, IsDone, IsFull, Steps, StepsAlone, work_left}
+use Rattle.job_scheduler.specs.Steps.{Keeps, TurnKeeps, FinishesOne, SuspendsOne, RunsOne, RunsOut, Runs, IsIdle}
+use Rattle.job_scheduler.specs.Steps.{IsDone, IsFull, Steps, StepsAlone, work_left}
 use Rattle.job_scheduler.specs.declared.stepped.Stepped.{Stepped}
 use Rattle.job_scheduler.specs.declared.stepped.Stepped.TheVariants as stepped
 use Rattle.job_scheduler.proofs.Looking.{busy_later, open_earlier, full_later, looks_both, looks_later, alone_stays}
 use Rattle.job_scheduler.proofs.Finding.{claims_later}
 
 -- a turn that advances leaves less to do than there was before the claim
-pub advances_less : (meaning : Meaning) (room : ℕ) (before middle after : List ℕ) → CountsClaim meaning room before middle → Advances meaning room middle after
+pub advances_less : (meaning : Meaning) (room : ℕ) (before middle after : List ℕ)
+    → CountsClaim meaning room before middle → Advances meaning room middle after
     → work_left meaning room after < work_left meaning room before
 advances_less meaning room before middle after c (finishes fewer same) =
     let few = number_at_most (has_ready meaning (mem after)) room in
-    let less : (open_count room after + empty_count room after + 1) * (room + 1) ≤ (open_count room before + empty_count room before) * (room + 1) =
+    let less : (open_count room after + empty_count room after + 1) * (room + 1) ≤ (open_count room before + empty_count
+    room before) * (room + 1) =
     mul-le-mul_right (room + 1) (omega (arith, c.same_empty, c.same_open, fewer, same)) in
     omega (arith, less, few)
 advances_less meaning room before middle after c (fills same fewer) =
     let few = number_at_most (has_ready meaning (mem after)) room in
-    let less : (open_count room after + empty_count room after + 1) * (room + 1) ≤ (open_count room before + empty_count room before) * (room + 1) =
+    let less : (open_count room after + empty_count room after + 1) * (room + 1) ≤ (open_count room before + empty_count
+    room before) * (room + 1) =
     mul-le-mul_right (room + 1) (omega (arith, c.same_empty, c.same_open, fewer, same)) in
     omega (arith, less, few)
 advances_less meaning room before middle after c (waits same same_empty same_ready) =
-    let less : (open_count room after + empty_count room after) * (room + 1) ≤ (open_count room before + empty_count room before) * (room + 1) =
+    let less : (open_count room after + empty_count room after) * (room + 1) ≤ (open_count room before + empty_count
+    room before) * (room + 1) =
     mul-le-mul_right (room + 1) (omega (arith, c.same_empty, c.same_open, same, same_empty)) in
     omega (arith, less, c.fewer_ready, same_ready)
 
 -- what was found busy isn't ready in the words that were kept
-busy_unready : (meaning : Meaning) (room : ℕ) (kept : List ℕ) (looks : List (ℕ × ℕ)) (at : ℕ) → ((word value : ℕ) → Looked looks word value → slice_index kept word ≡ value) → ShowsBusy meaning looks at → IsReadyIn meaning room kept at → ⊥
+busy_unready : (meaning : Meaning) (room : ℕ) (kept : List ℕ) (looks : List (ℕ × ℕ)) (at : ℕ)
+    → ((word value : ℕ) → Looked looks word value → slice_index kept word ≡ value) → ShowsBusy meaning looks at
+    → IsReadyIn meaning room kept at → ⊥
 busy_unready meaning room kept looks at agrees (inl (word, look, none)) ready =
     let is : slice_index kept (cell_word at) ≡ word = agrees (cell_word at) word look in
-    ⊎_elim (λ (e : word ≡ 0). ready.some_goal (is ∙ e)) (λ (e : meaning.goal word ≡ false). true≢false (sym ready.is_goal ∙ (ap meaning.goal is ∙ e))) none
-busy_unready meaning room kept looks at agrees (inr (value, look, taken)) ready = taken (sym (agrees (run_word at) value look) ∙ ready.ready)
+    ⊎_elim (λ (e : word ≡ 0). ready.some_goal (is ∙ e))
+    (λ (e : meaning.goal word ≡ false). true≢false (sym ready.is_goal ∙ (ap meaning.goal is ∙ e))) none
+busy_unready meaning room kept looks at agrees (inr (value, look, taken)) ready =
+    taken (sym (agrees (run_word at) value look) ∙ ready.ready)
 
 module _ {R : Type 0} where
   -- what came of a turn, by the same number
-  pub runs_as : (number other place : ℕ) (v : Hands R) (result : Stepped) (w : Hands R) → number ≡ other → Runs number place v result w → Runs other place v result w
+  pub runs_as : (number other place : ℕ) (v : Hands R) (result : Stepped) (w : Hands R) → number ≡ other
+      → Runs number place v result w → Runs other place v result w
   runs_as number other place v result w same r = subst (λ n. Runs n place v result w) same r
 
   -- a seat that only looked
@@ -62,10 +75,13 @@ module _ {R : Type 0} (meaning : Meaning) (room : ℕ) where
   -- what a claim leaves as it was, and what it adds
   module _ (u : Hands R) (right : Right) (v : Hands R) (t : LooksAndClaims meaning room u right v) where
     pub claim_only : u.rights ≡ [] → v.rights ≡ fresh_right right.place ∷ []
-    claim_only free = ap (λ (h : Hands R). h.rights) t.claims.hands_are ∙ (ap (λ (h : Hands R). fresh_right right.place ∷ h.rights) t.looks.hands_are ∙ ap (λ rights. fresh_right right.place ∷ rights) free)
+    claim_only free = ap (λ (h : Hands R). h.rights) t.claims.hands_are
+        ∙ (ap (λ (h : Hands R). fresh_right right.place ∷ h.rights) t.looks.hands_are
+        ∙ ap (λ rights. fresh_right right.place ∷ rights) free)
 
     claim_claims : v.claims ≡ right.place ∷ u.claims
-    claim_claims = ap (λ (h : Hands R). h.claims) t.claims.hands_are ∙ ap (λ (h : Hands R). right.place ∷ h.claims) t.looks.hands_are
+    claim_claims = ap (λ (h : Hands R). h.claims) t.claims.hands_are
+        ∙ ap (λ (h : Hands R). right.place ∷ h.claims) t.looks.hands_are
 
     claim_parts : v.parts ≡ u.parts
     claim_parts = ap (λ (h : Hands R). h.parts) t.claims.hands_are ∙ ap (λ (h : Hands R). h.parts) t.looks.hands_are
@@ -74,24 +90,33 @@ module _ {R : Type 0} (meaning : Meaning) (room : ℕ) where
     claim_done = ap (λ (h : Hands R). h.done) t.claims.hands_are ∙ ap (λ (h : Hands R). h.done) t.looks.hands_are
 
     claim_suspensions : v.suspensions ≡ u.suspensions
-    claim_suspensions = ap (λ (h : Hands R). h.suspensions) t.claims.hands_are ∙ ap (λ (h : Hands R). h.suspensions) t.looks.hands_are
+    claim_suspensions = ap (λ (h : Hands R). h.suspensions) t.claims.hands_are
+        ∙ ap (λ (h : Hands R). h.suspensions) t.looks.hands_are
 
     -- the looks of the claim and of those before it
     abbrev claim_more : List (ℕ × ℕ)
     claim_more = (run_word right.place, 0) ∷ ((cell_word right.place, right.goal) ∷ t.looks.more)
 
     claim_looks : v.looks ≡ claim_more ++ u.looks
-    claim_looks = ap (λ (h : Hands R). h.looks) t.claims.hands_are ∙ ap (λ (h : Hands R). (run_word right.place, 0) ∷ ((cell_word right.place, right.goal) ∷ h.looks)) t.looks.hands_are
+    claim_looks = ap (λ (h : Hands R). h.looks) t.claims.hands_are
+        ∙ ap (λ (h : Hands R). (run_word right.place, 0) ∷ ((cell_word right.place, right.goal) ∷ h.looks))
+        t.looks.hands_are
 
     -- of the words that a seat keeps while it is alone, one ready goal less is ready
-    pub claim_alone : (kept : List ℕ) → u.alone ≡ Some kept → (v.alone ≡ Some (slice_set kept (run_word right.place) 256)) × CountsClaim meaning room kept (slice_set kept (run_word right.place) 256)
+    pub claim_alone : (kept : List ℕ) → u.alone ≡ Some kept
+        → (v.alone ≡ Some (slice_set kept (run_word right.place) 256))
+        × CountsClaim meaning room kept (slice_set kept (run_word right.place) 256)
     claim_alone kept is =
         let c = t.claims in
         let middle_is : t.middle.alone ≡ Some kept = alone_stays u t.middle t.looks ∙ is in
-        let cell_is : slice_index kept (cell_word right.place) ≡ right.goal = c.looks.alone kept middle_is (cell_word right.place) right.goal (inr (inl (refl, refl))) in
-        let run_is : slice_index kept (run_word right.place) ≡ 0 = c.looks.alone kept middle_is (run_word right.place) 0 (inl (refl, refl)) in (
+        let cell_is : slice_index kept (cell_word right.place) ≡ right.goal =
+        c.looks.alone kept middle_is (cell_word right.place) right.goal (inr (inl (refl, refl))) in
+        let run_is : slice_index kept (run_word right.place) ≡ 0 =
+        c.looks.alone kept middle_is (run_word right.place) 0 (inl (refl, refl)) in (
           ap (λ (h : Hands R). h.alone) c.hands_are ∙ ap (changed (run_word right.place) 256) middle_is,
-          claim_counts meaning room right.place kept c.its.near (c.all kept middle_is) (λ e. c.its.some_goal (sym cell_is ∙ e)) (subst (λ g. meaning.goal g ≡ true) (sym cell_is) c.its.is_goal) run_is,
+          claim_counts meaning room right.place kept c.its.near (c.all kept middle_is)
+              (λ e. c.its.some_goal (sym cell_is ∙ e)) (subst (λ g. meaning.goal g ≡ true) (sym cell_is) c.its.is_goal)
+              run_is,
         )
 
     -- a turn after the claim
@@ -102,14 +127,21 @@ module _ {R : Type 0} (meaning : Meaning) (room : ℕ) where
       looks = λ word found look. k.looks word found (claims_later meaning room u right v t word found look);
     }
 
-    runs_one : (number : ℕ) (w : Hands R) → TurnKeeps v w right.place → FinishesOne v w number right.place ⊎ SuspendsOne v w right.place → RunsOne u w number
+    runs_one : (number : ℕ) (w : Hands R) → TurnKeeps v w right.place → FinishesOne v w number right.place
+        ⊎ SuspendsOne v w right.place → RunsOne u w number
     runs_one number w k (inl f) = record {
       place = right.place;
       claims = k.claims ∙ claim_claims;
       ends = inl (record {
         cost = f.cost;
         node = f.node;
-        done = f.done ∙ ap (λ done. record { place = right.place; worker = number; cost = f.cost; node = f.node } ∷ done) claim_done;
+        done = f.done ∙ ap (λ done. record {
+          place = right.place;
+          worker = number;
+          cost = f.cost;
+          node =
+              f.node;
+        } ∷ done) claim_done;
         suspensions = f.suspensions ∙ claim_suspensions;
       });
     }
@@ -119,7 +151,8 @@ module _ {R : Type 0} (meaning : Meaning) (room : ℕ) where
       ends = inr (record {
         waits = f.waits;
         some_wait = f.some_wait;
-        suspensions = f.suspensions ∙ ap (λ suspensions. record { place = right.place; waits = f.waits } ∷ suspensions) claim_suspensions;
+        suspensions = f.suspensions ∙ ap (λ suspensions. record { place = right.place; waits = f.waits } ∷ suspensions)
+            claim_suspensions;
         done = f.done ∙ claim_done;
       });
     }
@@ -135,13 +168,16 @@ module _ {R : Type 0} (meaning : Meaning) (room : ℕ) where
       claims = inr (right.place, k.claims ∙ claim_claims);
     }
 
-    pub turn_steps : (root number : ℕ) (result : Stepped) (w : Hands R) → TurnKeeps v w right.place → Runs number right.place v result w → Steps meaning room root number u result w
+    pub turn_steps : (root number : ℕ) (result : Stepped) (w : Hands R) → TurnKeeps v w right.place
+        → Runs number right.place v result w → Steps meaning room root number u result w
     turn_steps root number stepped.Ran w k r = runs_one number w k r
     turn_steps root number stepped.Idle w k r = absurd r
     turn_steps root number stepped.Done w k r = absurd r
-    turn_steps root number stepped.Full w k r = let f = turn_full w k r in record { runs_out = f.runs_out; claims = f.claims }
+    turn_steps root number stepped.Full w k r = let f = turn_full w k r in
+        record { runs_out = f.runs_out; claims = f.claims }
 
-    pub turn_alone : (number : ℕ) (result : Stepped) (w : Hands R) → Runs number right.place v result w → (result ≡ stepped.Ran → AdvancesAlone meaning room v w) → StepsAlone meaning room u result w
+    pub turn_alone : (number : ℕ) (result : Stepped) (w : Hands R) → Runs number right.place v result w
+        → (result ≡ stepped.Ran → AdvancesAlone meaning room v w) → StepsAlone meaning room u result w
     turn_alone number stepped.Ran w r advances = λ kept is.
         let c = claim_alone kept is in
         let a = advances refl (slice_set kept (run_word right.place) 256) c.0 in
@@ -165,7 +201,8 @@ module _ {R : Type 0} (meaning : Meaning) (room : ℕ) where
   }
 
   -- the root goal was found open, and then no goal ready
-  pub step_idle : (root : ℕ) (u v w : Hands R) → FindsRootOpen meaning room u root v → FindsAllBusy meaning room v 0 room w → IsIdle meaning room root u w
+  pub step_idle : (root : ℕ) (u v w : Hands R) → FindsRootOpen meaning room u root v
+      → FindsAllBusy meaning room v 0 room w → IsIdle meaning room root u w
   step_idle root u v w a t = record {
     looks = looks_both u v w a.looks t.looks;
     busy = λ at below. busy_later meaning t.looks.more a.looks.more at (t.busy at (omega arith) below);
@@ -173,7 +210,10 @@ module _ {R : Type 0} (meaning : Meaning) (room : ℕ) where
   }
 
   -- so a seat that is alone, without a right, finds some goal ready
-  pub idle_alone : (root : ℕ) (u v w : Hands R) → u.rights ≡ [] → FindsRootOpen meaning room u root v → FindsAllBusy meaning room v 0 room w → (kept : List ℕ) → u.alone ≡ Some kept → ⊥
+  pub idle_alone : (root : ℕ) (u v w : Hands R) → u.rights ≡ [] → FindsRootOpen meaning room u root v
+      → FindsAllBusy meaning room v 0 room w → (kept : List ℕ) → u.alone ≡ Some kept → ⊥
   idle_alone root u v w free a t kept is =
       let r = a.ready kept is free in
-      busy_unready meaning room kept t.looks.more r.0 (λ word value look. t.looks.alone kept (alone_stays u v a.looks ∙ is) word value look) (t.busy r.0 (omega arith) r.1.near) r.1
+      busy_unready meaning room kept t.looks.more r.0
+      (λ word value look. t.looks.alone kept (alone_stays u v a.looks ∙ is) word value look)
+      (t.busy r.0 (omega arith) r.1.near) r.1

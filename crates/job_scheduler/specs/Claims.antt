@@ -49,7 +49,8 @@ module _ {R : Type 0} (meaning : Meaning) (room : ℕ) (v : Hands R) where
   Sweeps from to None w = FindsAllBusy from to w
   Sweeps from to (Some right) w = LooksAndClaims right w
 
-  -- the head at the place was found open, and where the seat is alone and holds no right, some goal that it keeps is ready
+  -- the head at the place was found open, and where the seat is alone and holds no right, some goal that it keeps is
+  -- ready
   pub record FindsRootOpen (root : ℕ) (w : Hands R) : Type 0 where
     pub looks : OnlyLooked v w
     pub root_open : ShowsOpen looks.more root
@@ -83,7 +84,8 @@ module _ {R : Type 0} (meaning : Meaning) (room : ℕ) (v : Hands R) where
 module _ {R : Type 0} (meaning_of : R → Meaning) (b : Board R) (worker : Worker R) where
   -- it claimed a goal, or only looked
   abbrev pub WorkerClaims : Option Right → Worker R → Type 0
-  WorkerClaims found after = MayClaimOne (meaning_of b.key.rules) b.key.room (hands worker.seat) found (hands after.seat)
+  WorkerClaims found after = MayClaimOne (meaning_of b.key.rules) b.key.room (hands worker.seat) found
+      (hands after.seat)
 
   -- it claimed a goal, or found all these places busy
   abbrev pub WorkerSweeps : (from to : ℕ) → Option Right → Worker R → Type 0

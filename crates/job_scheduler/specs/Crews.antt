@@ -19,20 +19,23 @@ abbrev pub AreDoneBelow : ℕ → List Ended → Type 0
 AreDoneBelow n done = Each (λ (e : Ended). e.worker < n) done
 
 -- a worker of a crew of n
-pub record IsOfCrew {R : Type 0} (meaning_of : R → Meaning) (b : Board R) (root goal n : ℕ) (w : Worker R) : Type 0 where
-  pub its : IsFreeWorkerOf meaning_of b root goal w
-  pub number : w.number < n
-  pub done : AreDoneBelow n (hands w.seat).done
+pub record IsOfCrew {R : Type 0} (meaning_of : R → Meaning) (b : Board R) (root goal n : ℕ) (w : Worker R) : Type 0
+  where
+    pub its : IsFreeWorkerOf meaning_of b root goal w
+    pub number : w.number < n
+    pub done : AreDoneBelow n (hands w.seat).done
 
 -- a worker came back, with its parts, once it had seen the end
-pub record Worked {R : Type 0} (meaning_of : R → Meaning) (b : Board R) (root goal n : ℕ) (v w : Worker R) : Type 0 where
-  pub its : IsOfCrew meaning_of b root goal n w
-  pub parts : (hands w.seat).parts ≡ (hands v.seat).parts
-  pub ended : ShowsEnd (hands w.seat).looks root
+pub record Worked {R : Type 0} (meaning_of : R → Meaning) (b : Board R) (root goal n : ℕ) (v w : Worker R) : Type 0
+  where
+    pub its : IsOfCrew meaning_of b root goal n w
+    pub parts : (hands w.seat).parts ≡ (hands v.seat).parts
+    pub ended : ShowsEnd (hands w.seat).looks root
 
 -- all of these workers are of the crew, and have seen the end
 abbrev pub AreWorked : {R : Type 0} → (R → Meaning) → Board R → (root goal n : ℕ) → List (Worker R) → Type 0
-AreWorked meaning_of b root goal n workers = All (λ w. IsOfCrew meaning_of b root goal n w × ShowsEnd (hands w.seat).looks root) workers
+AreWorked meaning_of b root goal n workers =
+    All (λ w. IsOfCrew meaning_of b root goal n w × ShowsEnd (hands w.seat).looks root) workers
 
 -- how much is left to do for a worker that is alone
 abbrev pub work_alone_left : Meaning → ℕ → Option (List ℕ) → ℕ

@@ -3,7 +3,8 @@ use Rattle.std.specs.Prelude.{◌≡◌, ℕ, ◌+◌, ◌*◌, [], ◌∷◌, S
 use Rattle.board_rule.specs.Words.{cell_word}
 use Rattle.board_rule.specs.declared.hands.Hands.{Hands}
 
--- the first worker has put in the root goal and done nothing else; all other words of the board are 0, so the goal is ready
+-- the first worker has put in the root goal and done nothing else; all other words of the board are 0, so the goal is
+-- ready
 pub record IsOpening {R : Type 0} (room root goal : ℕ) (v : Hands R) : Type 0 where
   pub parts : v.parts ≡ 64
   pub puts : v.puts ≡ goal ∷ []

@@ -70,13 +70,15 @@ module _ {R : Type 0} (meaning : Meaning) (room root : ℕ) (v w : Hands R) wher
     pub busy : (at : ℕ) → at < room → ShowsBusy meaning looks.more at
     pub root_open : ShowsOpen looks.more root
 
-  -- nothing was claimed, and in this call the root goal was found finished; where the full word was seen set by then, some entry was shown by no look
+  -- nothing was claimed, and in this call the root goal was found finished; where the full word was seen set by then,
+  -- some entry was shown by no look
   pub record IsDone : Type 0 where
     pub looks : OnlyLooked v w
     pub closed : ShowsClosed looks.more root
     pub left_out : LeavesOut meaning room w.looks
 
-  -- in this call the full word was found set, by a look or by an insert; one goal at most was claimed, and none finished
+  -- in this call the full word was found set, by a look or by an insert; one goal at most was claimed, and none
+  -- finished
   pub record IsFull : Type 0 where
     pub runs_out : RunsOut v w
     pub claims : (w.claims ≡ v.claims) ⊎ ((place : ℕ) × (w.claims ≡ place ∷ v.claims))
@@ -91,12 +93,14 @@ module _ {R : Type 0} (meaning : Meaning) (room root number : ℕ) (v : Hands R)
 
 -- how much is left to do, which each turn brings down
 abbrev pub work_left : Meaning → ℕ → List ℕ → ℕ
-work_left meaning room words = (open_count room words + empty_count room words) * (room + 1) + ready_count meaning room words
+work_left meaning room words = (open_count room words + empty_count room words) * (room + 1) + ready_count meaning room
+    words
 
 module _ {R : Type 0} (meaning : Meaning) (room : ℕ) (v : Hands R) where
   -- a worker that is alone never finds nothing to do, and each turn leaves less to do
   abbrev pub StepsAlone : Stepped → Hands R → Type 0
-  StepsAlone stepped.Ran w = (kept : List ℕ) → v.alone ≡ Some kept → (words : List ℕ) × (w.alone ≡ Some words) × (work_left meaning room words < work_left meaning room kept)
+  StepsAlone stepped.Ran w = (kept : List ℕ) → v.alone ≡ Some kept → (words : List ℕ) × (w.alone ≡ Some words)
+      × (work_left meaning room words < work_left meaning room kept)
   StepsAlone stepped.Idle w = (kept : List ℕ) → v.alone ≡ Some kept → ⊥
   StepsAlone stepped.Done w = Unit {0}
   StepsAlone stepped.Full w = Unit {0}

@@ -16,17 +16,19 @@ pub record ShowsGoal (meaning : Meaning) (looks : List (ℕ × ℕ)) (at goal : 
   pub stands : Looked looks (cell_word at) goal
 
 -- the worker is one of this board, whose root goal stands at a place
-pub record IsWorkerOf {R : Type 0} (meaning_of : R → Meaning) (b : Board R) (root goal : ℕ) (w : Worker R) : Type 0 where
-  pub seat : IsSeatOf meaning_of b w.seat
-  pub root_shown : ShowsGoal (meaning_of b.key.rules) (hands w.seat).looks root goal
-  pub hints : w.hints ≡ b.key.room
-  pub next : w.next ≤ b.key.room
-  pub number : w.number < 64
+pub record IsWorkerOf {R : Type 0} (meaning_of : R → Meaning) (b : Board R) (root goal : ℕ) (w : Worker R) : Type 0
+  where
+    pub seat : IsSeatOf meaning_of b w.seat
+    pub root_shown : ShowsGoal (meaning_of b.key.rules) (hands w.seat).looks root goal
+    pub hints : w.hints ≡ b.key.room
+    pub next : w.next ≤ b.key.room
+    pub number : w.number < 64
 
 -- and it holds no goal, as between two calls
-pub record IsFreeWorkerOf {R : Type 0} (meaning_of : R → Meaning) (b : Board R) (root goal : ℕ) (w : Worker R) : Type 0 where
-  pub its : IsWorkerOf meaning_of b root goal w
-  pub free : (hands w.seat).rights ≡ []
+pub record IsFreeWorkerOf {R : Type 0} (meaning_of : R → Meaning) (b : Board R) (root goal : ℕ) (w : Worker R) : Type 0
+  where
+    pub its : IsWorkerOf meaning_of b root goal w
+    pub free : (hands w.seat).rights ≡ []
 
 -- the seat looked, and no more; where it is alone, it found the words that it keeps
 pub record OnlyLooked {R : Type 0} (v w : Hands R) : Type 0 where

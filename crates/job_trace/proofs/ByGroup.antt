@@ -1,5 +1,7 @@
 -- Members that stand group by group: passing them once gives each group with its members.
-use Rattle.std.proofs.Common.{◌≡◌, ℕ, ◌+◌, ◌<◌, ◌≤◌, cond, inl, inr, List, [], ◌∷◌, ◌++◌, ◌==◌, Option, Some, None, refl, sym, ap, subst, ◌∙◌, arith, filter, get_or, suc, flat_map, map, length, eq-eqb, ne_eqb, if◌then◌else◌}
+use Rattle.std.proofs.Common.{◌≡◌, ℕ, ◌+◌, ◌<◌, ◌≤◌, cond, inl, inr, List, [], ◌∷◌, ◌++◌, ◌==◌, Option, Some, None}
+use Rattle.std.proofs.Common.{refl, sym, ap, subst, ◌∙◌, arith, filter, get_or, suc, flat_map, map, length, eq-eqb}
+use Rattle.std.proofs.Common.{ne_eqb, if◌then◌else◌}
 use Rattle.std.specs.List.{dedup_from}
 use Rattle.std.specs.List.Sorted.{IsNonDecreasingBy}
 use Rattle.std.proofs.lemmas.Bool.{cases_eq}
@@ -41,7 +43,8 @@ count_from before [] = 0
 count_from before (e ∷ es) = (if begins before (key_of e) then 1 else 0) + count_from (Some (key_of e)) es
 
 -- the first group stays, and the others follow
-pub each_once : (g : KeyParts) (es : List ExprParts) → dedup_from is_same g (map (λ e. e.group) es) ≡ g ∷ others (key_number g) es
+pub each_once : (g : KeyParts) (es : List ExprParts)
+    → dedup_from is_same g (map (λ e. e.group) es) ≡ g ∷ others (key_number g) es
 each_once g [] = refl
 each_once g (e ∷ es) = elim (cases_eq (key_of e) (key_number g)) [
   | inl same ↦ rw (eq-eqb _ _ same) (each_once g es)
@@ -77,18 +80,22 @@ module _ (q : Query) where
     | inl same ↦ rw (eq-eqb _ _ same) (unchanged e all k fs below (subst (λ x. AreFrom x fs) same from.1))
     | inr other ↦
         let apart : key_of e ≡ key_of f → ⊥ = λ same. other (omega (arith, same, below, from.0)) in
-        rw (ne_eqb _ _ other, ne_eqb _ _ apart) (ap (λ rest. group_lines q all f.group ++ rest) (unchanged e all (key_of f) fs (omega (arith, below, from.0)) from.1))
+        rw (ne_eqb _ _ other, ne_eqb _ _ apart) (ap (λ rest. group_lines q all f.group ++ rest)
+        (unchanged e all (key_of f) fs (omega (arith, below, from.0)) from.1))
   ]
 
   -- the lines of the members that are left, where those of their first key come first
   abbrev IsByGroup : ℕ → List ExprParts → Type 0
-  IsByGroup k es = lines_from q (Some k) es ≡ map (member_line q) (of_key k es) ++ flat_map (group_lines q es) (others k es)
+  IsByGroup k es = lines_from q (Some k) es ≡ map (member_line q) (of_key k es) ++ flat_map (group_lines q es)
+      (others k es)
 
   -- a member that begins its group
   begun : (e : ExprParts) (es : List ExprParts) → AreFrom (key_of e) es → IsByGroup (key_of e) es
-      → group_line q e.group ∷ (member_line q e ∷ lines_from q (Some (key_of e)) es) ≡ flat_map (group_lines q (e ∷ es)) (e.group ∷ others (key_of e) es)
+      → group_line q e.group ∷ (member_line q e ∷ lines_from q (Some (key_of e)) es) ≡ flat_map (group_lines q (e ∷ es))
+      (e.group ∷ others (key_of e) es)
   begun e es from after =
-      let rest = after ∙ ap (λ lines. map (member_line q) (of_key (key_of e) es) ++ lines) (sym (unchanged e es (key_of e) es (omega arith) from)) in
+      let rest = after ∙ ap (λ lines. map (member_line q) (of_key (key_of e) es) ++ lines)
+      (sym (unchanged e es (key_of e) es (omega arith) from)) in
       rw (eq-eqb (key_of e) (key_of e) refl) (ap (λ lines. group_line q e.group ∷ (member_line q e ∷ lines)) rest)
 
   -- behind members of a key come those of this key, and then the other groups
@@ -98,25 +105,31 @@ module _ (q : Query) where
     | inl same ↦
         let above = subst (λ x. AreFrom x es) same from.1 in
         let after = ap (λ x. lines_from q (Some x) es) same ∙ by_group k es above in
-        let rest = after ∙ ap (λ lines. map (member_line q) (of_key k es) ++ lines) (sym (unchanged e es k es (omega (arith, same)) above)) in
+        let rest = after ∙ ap (λ lines. map (member_line q) (of_key k es) ++ lines)
+        (sym (unchanged e es k es (omega (arith, same)) above)) in
         rw (eq-eqb _ _ same) (ap (λ lines. member_line q e ∷ lines) rest)
     | inr other ↦
         let below : k < key_of e = omega (arith, other, from.0) in
-        rw (ne_eqb _ _ other, none_below k (key_of e) es below from.1) (begun e es from.1 (by_group (key_of e) es from.1))
+        rw (ne_eqb _ _ other, none_below k (key_of e) es below from.1)
+        (begun e es from.1 (by_group (key_of e) es from.1))
   ]
 
   -- from the first member on, the lines are those of all groups
-  pub all_by_group : (es : List ExprParts) → AreFrom 0 es → lines_from q None es ≡ flat_map (group_lines q es) (groups_of es)
+  pub all_by_group : (es : List ExprParts) → AreFrom 0 es
+      → lines_from q None es ≡ flat_map (group_lines q es) (groups_of es)
   all_by_group [] from = refl
   all_by_group (e ∷ es) from =
-      begun e es from.1 (by_group (key_of e) es from.1) ∙ ap (flat_map (group_lines q (e ∷ es))) (sym (each_once e.group es))
+      begun e es from.1 (by_group (key_of e) es from.1)
+      ∙ ap (flat_map (group_lines q (e ∷ es))) (sym (each_once e.group es))
 
 -- keys that do not fall, none below the limit
-from_each : (low : ℕ) (es : List ExprParts) → ((j : ℕ) (d : ExprParts) → j < length es → low ≤ key_of (get_or es j d)) → IsNonDecreasingBy key_of es → AreFrom low es
+from_each : (low : ℕ) (es : List ExprParts) → ((j : ℕ) (d : ExprParts) → j < length es → low ≤ key_of (get_or es j d))
+    → IsNonDecreasingBy key_of es → AreFrom low es
 from_each low [] above sorted = tt
 from_each low (e ∷ es) above sorted = (
   above 0 e (omega arith),
-  from_each (key_of e) es (λ j d within. sorted 0 (suc j) d (omega arith) (omega (arith, within))) (λ i j d order within. sorted (suc i) (suc j) d (omega (arith, order)) (omega (arith, within))),
+  from_each (key_of e) es (λ j d within. sorted 0 (suc j) d (omega arith) (omega (arith, within)))
+      (λ i j d order within. sorted (suc i) (suc j) d (omega (arith, order)) (omega (arith, within))),
 )
 
 pub are_from : (es : List ExprParts) → IsNonDecreasingBy key_of es → AreFrom 0 es

@@ -24,8 +24,13 @@ key_rises ordered e f in_e in_f less = elim (cases_lt (key_of f) (key_of e)) [
 ]
 
 -- where the parts of candidates fit, members have their words
-pub have_words : (q : Query) (words : List ℕ) (es : List ExprParts) → ((e : ExprParts) → IsCandidate q e → IsPacked e) → AreMembers q words es → AreOfWords words es
-have_words q words es packed are = record { numbers = are.numbers; packed = λ k d within. packed _ (are.candidates k d within) }
+pub have_words : (q : Query) (words : List ℕ) (es : List ExprParts) → ((e : ExprParts) → IsCandidate q e → IsPacked e)
+    → AreMembers q words es → AreOfWords words es
+have_words q words es packed are = record {
+  numbers = are.numbers;
+  packed =
+      λ k d within. packed _ (are.candidates k d within);
+}
 
 module _ (words : List ℕ) (es : List ExprParts) (have : AreOfWords words es) where
   -- as many words as expressions
@@ -46,12 +51,16 @@ module _ (words : List ℕ) (es : List ExprParts) (have : AreOfWords words es) w
     | inr apart ↦
         let first = word_at i d (omega (arith, order, within)) in
         let second = word_at j d within in
-        let less : get_or words i 0 < get_or words j 0 = AllPairs-from_increasing words ascending i j 0 (omega (arith, order, apart)) (omega (arith, as_many, within)) in
-        key_rises ordered (get_or es i d) (get_or es j d) first.packed second.packed (omega (arith, first.number, second.number, less))
+        let less : get_or words i 0 < get_or words j 0 =
+        AllPairs-from_increasing words ascending i j 0 (omega (arith, order, apart))
+        (omega (arith, as_many, within)) in
+        key_rises ordered (get_or es i d) (get_or es j d) first.packed second.packed
+        (omega (arith, first.number, second.number, less))
   ]
 
 -- so members of ascending words stand group by group
-pub stand_by_group : (q : Query) (words : List ℕ) (es : List ExprParts) → ((e : ExprParts) → IsCandidate q e → IsPacked e) → AreOrdered → AreMembers q words es → StandByGroup q es
+pub stand_by_group : (q : Query) (words : List ℕ) (es : List ExprParts)
+    → ((e : ExprParts) → IsCandidate q e → IsPacked e) → AreOrdered → AreMembers q words es → StandByGroup q es
 stand_by_group q words es packed ordered are = record {
   candidates = are.candidates;
   ascending = keys_ascend words es (have_words q words es packed are) ordered are.ascending;

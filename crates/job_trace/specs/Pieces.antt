@@ -10,7 +10,8 @@ use Rattle.job_trace.specs.declared.pieces.Piece.{Piece}
 use Rattle.job_trace.specs.declared.pieces.Piece.TheVariants.{Child, Member, Wanted}
 use Rattle.job_trace.specs.declared.pieces.Written.{Written}
 
--- the whole line of a child; an expression, with all that stands before the request; and a request, with the end of its line
+-- the whole line of a child; an expression, with all that stands before the request; and a request, with the end of its
+-- line
 abbrev pub piece_text : Query → Piece → List ℕ
 piece_text q (Child group wanted) = child_line q (Opt group wanted)
 piece_text q (Member e) = codes "OptE " ++ member_text q (expr_of e) ++ codes " "

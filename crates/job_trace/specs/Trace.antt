@@ -1,4 +1,5 @@
--- The texts in which the goals of a search are printed: each with its children, and each with the worker that finished it.
+-- The texts in which the goals of a search are printed: each with its children, and each with the worker that finished
+-- it.
 use Rattle.std.specs.Prelude.{ℕ, ◌≡◌, ◌==◌, List, [], ◌∷◌, ◌++◌, All, codes, count_by, decimal, flat_map, length, map}
 use Rattle.std.specs.List.{concat}
 use Rattle.std.specs.List.Sorted.{IsStrictlyIncreasing}

@@ -20,21 +20,27 @@ use Rattle.goal_space.proofs.Enforced.{can_enforce}
 use Rattle.job_turns.specs.Requests.{enforcer_alone, first_enforcers, IsEnforcerGoalAt, IsEnforcerGoal}
 
 -- the enforcer at a place is alone there
-alone_at : (found : Option EnforcedBy) (e : EnforcedBy) → found ≡ Some e → IsIn (enforcer_alone found) (nodes.Enforcer e.node)
+alone_at : (found : Option EnforcedBy) (e : EnforcedBy) → found ≡ Some e
+    → IsIn (enforcer_alone found) (nodes.Enforcer e.node)
 alone_at found e is = subst (λ (x : Option EnforcedBy). IsIn (enforcer_alone x) (nodes.Enforcer e.node)) (sym is) refl
 
 module _ (wanted : Request) where
   -- each enforcer for the request is one of the first two
-  pub first_has : (e : EnforcedBy) → Among e (enforcers_of wanted) → IsIn (first_enforcers wanted) (nodes.Enforcer e.node)
+  pub first_has : (e : EnforcedBy) → Among e (enforcers_of wanted)
+      → IsIn (first_enforcers wanted) (nodes.Enforcer e.node)
   first_has e among =
-      ⊎_elim (λ (first : slice_get (enforcers_of wanted) 0 ≡ Some e). inl (alone_at (slice_get (enforcers_of wanted) 0) e first))
-      (λ (second : slice_get (enforcers_of wanted) 1 ≡ Some e). inr (alone_at (slice_get (enforcers_of wanted) 1) e second))
+      ⊎_elim (λ (first : slice_get (enforcers_of wanted) 0 ≡ Some e).
+      inl (alone_at (slice_get (enforcers_of wanted) 0) e first))
+      (λ (second : slice_get (enforcers_of wanted) 1 ≡ Some e).
+      inr (alone_at (slice_get (enforcers_of wanted) 1) e second))
       (first_or_second wanted e among)
 
   -- and so is its goal
-  pub goal_of_first : (q : Query) (group : KeyParts) (child : GoalKind) → IsEnforcerGoal q group wanted child → IsEnforcerGoalAt group wanted 0 child ⊎ IsEnforcerGoalAt group wanted 1 child
+  pub goal_of_first : (q : Query) (group : KeyParts) (child : GoalKind) → IsEnforcerGoal q group wanted child
+      → IsEnforcerGoalAt group wanted 0 child ⊎ IsEnforcerGoalAt group wanted 1 child
   goal_of_first q group child (e, can, is) =
-      ⊎_elim (λ (first : slice_get (enforcers_of wanted) 0 ≡ Some e). inl (e, first, is)) (λ (second : slice_get (enforcers_of wanted) 1 ≡ Some e). inr (e, second, is))
+      ⊎_elim (λ (first : slice_get (enforcers_of wanted) 0 ≡ Some e). inl (e, first, is))
+      (λ (second : slice_get (enforcers_of wanted) 1 ≡ Some e). inr (e, second, is))
       (first_or_second wanted e can.among)
 
 -- the enforcer that was found at a place
@@ -45,7 +51,8 @@ pub record IsFoundAt (q : Query) (group : KeyParts) (wanted : Request) (place : 
   pub is : IsEnforcedBy wanted found e
 
 module _ (q : Query) (group : KeyParts) (wanted : Request) (place : ℕ) where
-  pub found_at : Fits q group wanted → (found : Enforced) → IsEnforced (Some found) (slice_get (enforcers_of wanted) place) → IsFoundAt q group wanted place found
+  pub found_at : Fits q group wanted → (found : Enforced)
+      → IsEnforced (Some found) (slice_get (enforcers_of wanted) place) → IsFoundAt q group wanted place found
   found_at fits found is =
       let there = some_enforced found (slice_get (enforcers_of wanted) place) is in
       let among = among_at (enforcers_of wanted) place there.0 there.1 in
@@ -57,15 +64,18 @@ module _ (q : Query) (group : KeyParts) (wanted : Request) (place : ℕ) where
       }
 
   -- its goal is the one that is asked for at that place
-  pub goal_found : (found : Enforced) → IsFoundAt q group wanted place found → (child : GoalKind) → IsEnforcerGoalAt group wanted place child → child ≡ Opt group found.below
+  pub goal_found : (found : Enforced) → IsFoundAt q group wanted place found → (child : GoalKind)
+      → IsEnforcerGoalAt group wanted place child → child ≡ Opt group found.below
   goal_found found t child (other, is_there, is) =
       let both : Some other ≡ Some t.e = sym is_there ∙ t.is_there in
       let same : other ≡ t.e = cc in
       is ∙ ap (λ (e : EnforcedBy). Opt group e.below) same ∙ ap (λ (r : Request). Opt group r) (sym t.is.is.1)
 
   -- no enforcer is there
-  pub no_goal : IsEnforced None (slice_get (enforcers_of wanted) place) → (child : GoalKind) → IsEnforcerGoalAt group wanted place child → ⊥
-  no_goal is child (e, is_there, same) = let never : None ≡ Some e = sym (none_enforced (slice_get (enforcers_of wanted) place) is) ∙ is_there in cc
+  pub no_goal : IsEnforced None (slice_get (enforcers_of wanted) place) → (child : GoalKind)
+      → IsEnforcerGoalAt group wanted place child → ⊥
+  no_goal is child (e, is_there, same) = let never : None ≡ Some e =
+      sym (none_enforced (slice_get (enforcers_of wanted) place) is) ∙ is_there in cc
 
   pub no_node : IsEnforced None (slice_get (enforcers_of wanted) place) → slice_get (enforcers_of wanted) place ≡ None
   no_node is = none_enforced (slice_get (enforcers_of wanted) place) is

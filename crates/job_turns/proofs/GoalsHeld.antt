@@ -13,18 +13,31 @@ use Rattle.job_turns.specs.Laws.{IsSmall}
 
 module _ (q : Query) where
   -- the word of a member lacks the bit of goals
-  pub held_goal : ((e : ExprParts) → IsMember q e → FitsExpr (word_of e)) → (word : ℕ) → IsEntry q word → goal_bit ≤ word → IsGoalWord q word
+  pub held_goal : ((e : ExprParts) → IsMember q e → FitsExpr (word_of e)) → (word : ℕ) → IsEntry q word
+      → goal_bit ≤ word → IsGoalWord q word
   held_goal small word (inl (e, member, is)) high = let low = small e member in absurd (omega arith)
   held_goal small word (inr named) high = named
 
   -- the goal of a word that is told
-  pub kind_is : GoalsHaveWords q → IsSmall q → (word : ℕ) → IsGoalWord q word → (found : Option GoalKind) → ((k : GoalKind) → HasWord k word ↔ (found ≡ Some k)) → (goal : GoalKind) × NamesGoal q word goal × (found ≡ Some goal)
-  kind_is words small word (goal, names) found exact = (goal, names, (exact goal).0 (record { in_range = words small.few_lists small.few_orders goal names.is_goal; number = names.number }))
+  pub kind_is : GoalsHaveWords q → IsSmall q → (word : ℕ) → IsGoalWord q word → (found : Option GoalKind)
+      → ((k : GoalKind) → HasWord k word ↔ (found ≡ Some k)) → (goal : GoalKind) × NamesGoal q word goal
+      × (found ≡ Some goal)
+  kind_is words small word (goal, names) found exact = (
+    goal,
+    names,
+    (exact goal).0 (record {
+      in_range =
+          words small.few_lists small.few_orders goal names.is_goal;
+      number = names.number;
+    }),
+  )
 
 -- an option is not both
 pub not_both : (found : Option GoalKind) (k : GoalKind) → found ≡ None → found ≡ Some k → ⊥
 not_both found k none some = let bad : ⊥ = cc in bad
 
 -- what is told is the goal that the word names
-pub names_told : (q : Query) (word : ℕ) (found : Option GoalKind) (told : GoalKind) → found ≡ Some told → ((k : GoalKind) × NamesGoal q word k × (found ≡ Some k)) → NamesGoal q word told
-names_told q word found told is (k, names, also) = let same : k ≡ told = cc in subst (λ (x : GoalKind). NamesGoal q word x) same names
+pub names_told : (q : Query) (word : ℕ) (found : Option GoalKind) (told : GoalKind) → found ≡ Some told
+    → ((k : GoalKind) × NamesGoal q word k × (found ≡ Some k)) → NamesGoal q word told
+names_told q word found told is (k, names, also) = let same : k ≡ told = cc in
+    subst (λ (x : GoalKind). NamesGoal q word x) same names

@@ -12,7 +12,8 @@ use Rattle.board_moves.proofs.OneChild.{right_looked, right_put}
 use Rattle.goal_rules.specs.declared.rules.Rules.{Rules}
 use Rattle.job_turns.specs.Searches.{rules_mean, IsSeat, HasJob}
 
-module _ (q : Query) (b : Board Rules) (s t : Seat Rules) (job : Job) (is_seat : IsSeat b t) (has_job : HasJob q b s job) where
+module _ (q : Query) (b : Board Rules) (s t : Seat Rules) (job : Job) (is_seat : IsSeat b t)
+    (has_job : HasJob q b s job) where
   -- a seat has its job after it looks
   pub job_looked : OnlyLooks (hands s) (hands t) → HasJob q b t job
   job_looked looks = record {
@@ -26,5 +27,6 @@ module _ (q : Query) (b : Board Rules) (s t : Seat Rules) (job : Job) (is_seat :
   job_put word answer inserts = record {
     board = has_job.board;
     seat = is_seat;
-    right = right_put (rules_mean b.key.rules) b.key.room job.right (hands s) word answer (hands t) inserts has_job.right;
+    right = right_put (rules_mean b.key.rules) b.key.room job.right (hands s) word answer (hands t) inserts
+        has_job.right;
   }

@@ -16,17 +16,27 @@ abbrev pub WordsAreOne : Type 0
 WordsAreOne = (k l : GoalKind) → IsInRange k → IsInRange l → goal_word k ≡ goal_word l → k ≡ l
 
 module _ (q : Query) where
-  same_goal : WordsAreOne → GoalsHaveWords q → IsSmall q → (word : ℕ) (goal other : GoalKind) → NamesGoal q word goal → NamesGoal q word other → other ≡ goal
+  same_goal : WordsAreOne → GoalsHaveWords q → IsSmall q → (word : ℕ) (goal other : GoalKind) → NamesGoal q word goal
+      → NamesGoal q word other → other ≡ goal
   same_goal one words small word goal other names also =
-      one other goal (words small.few_lists small.few_orders other also.is_goal) (words small.few_lists small.few_orders goal names.is_goal) (also.number ∙ sym names.number)
+      one other goal (words small.few_lists small.few_orders other also.is_goal)
+      (words small.few_lists small.few_orders goal names.is_goal) (also.number ∙ sym names.number)
 
   pub children_known : WordsAreOne → GoalsHaveWords q → ChildrenAreKnown q
-  children_known one words small goal word child names is =
-      (is.other, subst (λ k. IsChildGoal (IsMember q) q k is.other) (same_goal one words small word goal is.goal names is.names) is.is_child, is.number)
+  children_known one words small goal word child names is = (
+    is.other,
+    subst (λ k. IsChildGoal (IsMember q) q k is.other)
+        (same_goal one words small word goal is.goal names is.names) is.is_child,
+    is.number,
+  )
 
   pub asked_known : WordsAreOne → GoalsHaveWords q → AskedAreKnown q
-  asked_known one words small goal word asked names is =
-      (is.member, subst (λ k. AsksFor q k is.member) (same_goal one words small word goal is.goal names is.names) is.asks, is.number)
+  asked_known one words small goal word asked names is = (
+    is.member,
+    subst (λ k. AsksFor q k is.member) (same_goal one words small word goal is.goal names is.names)
+        is.asks,
+    is.number,
+  )
 
   pub children_worded : GoalsHaveWords q → ChildrenHaveWords q
   children_worded words small goal other word names is_child = (

@@ -23,7 +23,9 @@ module _ (q : Query) (group : KeyParts) (before : Option ℕ) where
   candidate_of word (e, logical, is) = (e, logical.candidate, logical.of_group, is)
 
   -- the next candidate is logical
-  pub next_is : (next : Expr) → IsNext q group (as_expr before) next.0 → ((e : ExprParts) → IsCandidate q e → word_of e ≡ next.0 → IsTrue (is_logical e.operator)) → IsNextOf (IsLogicalWord q group) before (Some next.0)
+  pub next_is : (next : Expr) → IsNext q group (as_expr before) next.0
+      → ((e : ExprParts) → IsCandidate q e → word_of e ≡ next.0 → IsTrue (is_logical e.operator))
+      → IsNextOf (IsLogicalWord q group) before (Some next.0)
   next_is next is logical =
       let (e, candidate, of_group, number) = is.candidate in
       record {
@@ -33,10 +35,13 @@ module _ (q : Query) (group : KeyParts) (before : Option ℕ) where
       }
 
   -- it is physical, and so are all after it
-  pub none_after : LogicalComeFirst q → (next : Expr) → IsNext q group (as_expr before) next.0 → ((e : ExprParts) → IsCandidate q e → word_of e ≡ next.0 → IsTrue (is_logical e.operator) → ⊥) → IsNextOf (IsLogicalWord q group) before None
+  pub none_after : LogicalComeFirst q → (next : Expr) → IsNext q group (as_expr before) next.0
+      → ((e : ExprParts) → IsCandidate q e → word_of e ≡ next.0 → IsTrue (is_logical e.operator) → ⊥)
+      → IsNextOf (IsLogicalWord q group) before None
   none_after first next is physical word (x, held, number_is) above =
       let (e, candidate, of_group, number) = is.candidate in
-      let less = first x e held.candidate candidate (held.of_group ∙ sym of_group) held.logical (physical e candidate number) in
+      let less = first x e held.candidate candidate (held.of_group ∙ sym of_group) held.logical
+      (physical e candidate number) in
       let least = is.least word (candidate_of word (x, held, number_is)) (above_after before word above) in
       absurd (omega arith)
 

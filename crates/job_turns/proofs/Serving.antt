@@ -1,5 +1,6 @@
 -- The members of a group that may serve a request, tried one after the other.
-use Rattle.std.proofs.Common.{◌≡◌, ◌⊎◌, ℕ, List, [], ◌∷◌, ◌++◌, ◌+◌, ◌<◌, length, get_or, take, Option, None, refl, sym, ap, subst, ◌∙◌, inl, inr, ⊎_elim, arith}
+use Rattle.std.proofs.Common.{◌≡◌, ◌⊎◌, ℕ, List, [], ◌∷◌, ◌++◌, ◌+◌, ◌<◌, length, get_or, take, Option, None, refl, sym}
+use Rattle.std.proofs.Common.{ap, subst, ◌∙◌, inl, inr, ⊎_elim, arith}
 use Rattle.std.specs.List.{Contains}
 use Rattle.std.proofs.lemmas.List.{take_more}
 use Rattle.std.proofs.lemmas.List.Elements.{Contains-push_cases}
@@ -37,12 +38,14 @@ use Rattle.job_turns.proofs.Finding.{finds_both, finds_others}
 module _ (q : Query) (group : KeyParts) (wanted : Request) where
   -- the goal of a member among these
   abbrev pub IsMemberGoalAmong : List PhysicalCandidate → GoalKind → Type 0
-  IsMemberGoalAmong tried child = (e : PhysicalExpr) × Contains tried (with_word e) × CanServe (IsMember q) q group wanted e × (child ≡ OptE e wanted)
+  IsMemberGoalAmong tried child = (e : PhysicalExpr) × Contains tried (with_word e)
+      × CanServe (IsMember q) q group wanted e × (child ≡ OptE e wanted)
 
   -- the best answer of some nodes, among them all members among these in all modes
   pub record IsBestAmong (tried : List PhysicalCandidate) (best : Option Best) : Type 0 where
     pub set : Nodes
-    pub has : (e : PhysicalExpr) (mode : ℕ) → Contains tried (with_word e) → CanServe (IsMember q) q group wanted e → IsIn set (nodes.Native e mode)
+    pub has : (e : PhysicalExpr) (mode : ℕ) → Contains tried (with_word e) → CanServe (IsMember q) q group wanted e
+        → IsIn set (nodes.Native e mode)
     pub is_best : IsBest q group wanted set best
 
   -- no member is among none
@@ -50,58 +53,85 @@ module _ (q : Query) (group : KeyParts) (wanted : Request) where
   member_goal_none child (e, (k, within, is), can, is_goal) = omega (arith, within)
 
   pub best_none : NoneIsBest q → IsBestAmong [] None
-  best_none none_best = record { set = no_nodes; has = λ e mode (k, within, is) can. absurd (omega (arith, within)); is_best = none_best group wanted }
+  best_none none_best = record {
+    set = no_nodes;
+    has =
+        λ e mode (k, within, is) can. absurd (omega (arith, within));
+    is_best = none_best group wanted;
+  }
 
   module _ (tried : List PhysicalCandidate) (new : PhysicalCandidate) where
     -- a member among these and one more is that, or among those before
-    same_or_before : (e : PhysicalExpr) → Contains (tried ++ new ∷ []) (with_word e) → CanServe (IsMember q) q group wanted e
+    same_or_before : (e : PhysicalExpr) → Contains (tried ++ new ∷ []) (with_word e)
+        → CanServe (IsMember q) q group wanted e
         → ((e ≡ new.expr) × CanServe (IsMember q) q new.expr.group wanted new.expr) ⊎ Contains tried (with_word e)
     same_or_before e there can = ⊎_elim (λ (old : Contains tried (with_word e)). inr old)
         (λ (last : new ≡ with_word e).
         let same : e ≡ new.expr = sym (ap (λ (c : PhysicalCandidate). c.expr) last) in
-        let own : CanServe (IsMember q) q e.group wanted e = record { member = can.member; of_group = refl; mode = can.mode; serves = can.serves } in
-        inl (same, subst (λ (x : PhysicalExpr). CanServe (IsMember q) q x.group wanted x) same own)) (Contains-push_cases tried new (with_word e) there)
+        let own : CanServe (IsMember q) q e.group wanted e =
+        record { member = can.member; of_group = refl; mode = can.mode; serves = can.serves } in
+        inl (same, subst (λ (x : PhysicalExpr). CanServe (IsMember q) q x.group wanted x) same own))
+        (Contains-push_cases tried new (with_word e) there)
 
     -- one member more
-    pub member_goal_more : (child : GoalKind) → IsMemberGoalAmong (tried ++ new ∷ []) child → IsMemberGoalAmong tried child ⊎ IsGoalOfMember q new.expr wanted child
+    pub member_goal_more : (child : GoalKind) → IsMemberGoalAmong (tried ++ new ∷ []) child
+        → IsMemberGoalAmong tried child ⊎ IsGoalOfMember q new.expr wanted child
     member_goal_more child (e, there, can, is_goal) =
-        ⊎_elim (λ (last : (e ≡ new.expr) × CanServe (IsMember q) q new.expr.group wanted new.expr). inr (last.1, is_goal ∙ ap (λ (x : PhysicalExpr). OptE x wanted) last.0))
+        ⊎_elim (λ (last : (e ≡ new.expr) × CanServe (IsMember q) q new.expr.group wanted new.expr).
+        inr (last.1, is_goal ∙ ap (λ (x : PhysicalExpr). OptE x wanted) last.0))
         (λ (old : Contains tried (with_word e)). inl (e, old, can, is_goal)) (same_or_before e there can)
 
-    pub best_more : LesserIsBest q → (props : Props) → IsProps q props → Fits q group wanted → new.expr.group ≡ group → (first second : Option Best) → IsBestAmong tried first → IsBestOfMember q new.expr wanted second
+    pub best_more : LesserIsBest q → (props : Props) → IsProps q props → Fits q group wanted → new.expr.group ≡ group
+        → (first second : Option Best) → IsBestAmong tried first → IsBestOfMember q new.expr wanted second
         → IsBestAmong (tried ++ new ∷ []) (lesser first second)
     best_more lesser_best props is_props fits of_group first second old last = record {
       set = both_of old.set last.set;
       has = λ e mode there can.
-          ⊎_elim (λ (this : (e ≡ new.expr) × CanServe (IsMember q) q new.expr.group wanted new.expr). inr (subst (λ (x : PhysicalExpr). IsIn last.set (nodes.Native x mode)) (sym this.0) (last.has mode this.1)))
+          ⊎_elim (λ (this : (e ≡ new.expr) × CanServe (IsMember q) q new.expr.group wanted new.expr).
+          inr (subst (λ (x : PhysicalExpr). IsIn last.set (nodes.Native x mode)) (sym this.0)
+          (last.has mode this.1)))
           (λ (before : Contains tried (with_word e)). inl (old.has e mode before can)) (same_or_before e there can);
-      is_best = lesser_best props is_props group wanted old.set last.set first second fits old.is_best (subst (λ (g : KeyParts). IsBest q g wanted last.set second) of_group last.is_best);
+      is_best = lesser_best props is_props group wanted old.set last.set first second fits old.is_best
+          (subst (λ (g : KeyParts). IsBest q g wanted last.set second) of_group last.is_best);
     }
 
-  module _ (candidates : List PhysicalCandidate) (are : ArePhysicalOf q group candidates) (i : ℕ) (d : PhysicalCandidate) (within : i < length candidates) where
+  module _ (candidates : List PhysicalCandidate) (are : ArePhysicalOf q group candidates) (i : ℕ)
+      (d : PhysicalCandidate) (within : i < length candidates) where
     -- what holds of the group holds of that of each candidate
     pub of_candidate : (Holds : KeyParts → Type 0) → Holds group → Holds (get_or candidates i d).expr.group
     of_candidate Holds holds = subst Holds (sym (are.sound i d within).of_group) holds
 
     pub candidate_here : IsPhysicalOf q (get_or candidates i d).expr.group (get_or candidates i d)
-    candidate_here = let is = are.sound i d within in record { candidate = is.candidate; of_group = refl; number = is.number }
+    candidate_here = let is = are.sound i d within in
+        record { candidate = is.candidate; of_group = refl; number = is.number }
 
     -- one candidate more was tried
-    pub finds_more : (room : ℕ) (v : Hands Rules) (before : Right) → LesserIsBest q → (props : Props) → IsProps q props → Fits q group wanted → (one other : Choice) (u : Hands Rules) (middle : Right) (w : Hands Rules) (after : Right)
-        → FindsChoice q room v before (IsMemberGoalAmong (take i candidates)) (IsBestAmong (take i candidates)) one u middle
-        → FindsChoice q room u middle (IsGoalOfMember q (get_or candidates i d).expr wanted) (IsBestOfMember q (get_or candidates i d).expr wanted) other w after
-        → FindsChoice q room v before (IsMemberGoalAmong (take (i + 1) candidates)) (IsBestAmong (take (i + 1) candidates)) (choice_of_both one other) w after
+    pub finds_more : (room : ℕ) (v : Hands Rules) (before : Right) → LesserIsBest q → (props : Props) → IsProps q props
+        → Fits q group wanted → (one other : Choice) (u : Hands Rules) (middle : Right) (w : Hands Rules)
+        (after : Right)
+        → FindsChoice q room v before (IsMemberGoalAmong (take i candidates)) (IsBestAmong (take i candidates)) one u
+        middle
+        → FindsChoice q room u middle (IsGoalOfMember q (get_or candidates i d).expr wanted)
+        (IsBestOfMember q (get_or candidates i d).expr wanted) other w after
+        → FindsChoice q room v before (IsMemberGoalAmong (take (i + 1) candidates))
+        (IsBestAmong (take (i + 1) candidates)) (choice_of_both one other) w after
     finds_more room v before lesser_best props is_props fits one other u middle w after so_far last =
         let new = get_or candidates i d in
         let tried = take i candidates in
         let more = tried ++ new ∷ [] in
-        let both = finds_both q room v before (IsMemberGoalAmong tried) (IsGoalOfMember q new.expr wanted) (IsBestAmong tried) (IsBestOfMember q new.expr wanted) (IsBestAmong more)
-        (best_more tried new lesser_best props is_props fits (are.sound i d within).of_group) one other u middle w after so_far last in
-        subst (λ (list : List PhysicalCandidate). FindsChoice q room v before (IsMemberGoalAmong list) (IsBestAmong list) (choice_of_both one other) w after) (sym (take_more candidates i d within))
-        (finds_others q room v before (λ (child : GoalKind). IsMemberGoalAmong tried child ⊎ IsGoalOfMember q new.expr wanted child) (IsMemberGoalAmong more) (IsBestAmong more) (IsBestAmong more)
+        let both = finds_both q room v before (IsMemberGoalAmong tried) (IsGoalOfMember q new.expr wanted)
+        (IsBestAmong tried) (IsBestOfMember q new.expr wanted) (IsBestAmong more)
+        (best_more tried new lesser_best props is_props fits (are.sound i d within).of_group) one other u middle w after
+        so_far last in
+        subst (λ (list : List PhysicalCandidate).
+        FindsChoice q room v before (IsMemberGoalAmong list) (IsBestAmong list) (choice_of_both one other) w after)
+        (sym (take_more candidates i d within))
+        (finds_others q room v before (λ (child : GoalKind). IsMemberGoalAmong tried child
+        ⊎ IsGoalOfMember q new.expr wanted child) (IsMemberGoalAmong more) (IsBestAmong more) (IsBestAmong more)
         (member_goal_more tried new) (λ best is. is) (choice_of_both one other) w after both)
 
-  module _ (members : (e : ExprParts) → IsMember q e → IsCandidate q e) (candidates : List PhysicalCandidate) (are : ArePhysicalOf q group candidates) where
+  module _ (members : (e : ExprParts) → IsMember q e → IsCandidate q e) (candidates : List PhysicalCandidate)
+      (are : ArePhysicalOf q group candidates) where
     -- each member is among the group's candidates
     member_there : (e : PhysicalExpr) → CanServe (IsMember q) q group wanted e → Contains candidates (with_word e)
     member_there e can = are.complete e (members (expr_of e) can.member) can.of_group
@@ -110,22 +140,44 @@ module _ (q : Query) (group : KeyParts) (wanted : Request) where
     member_goal_all child (e, can, is) = (e, member_there e can, can, is)
 
     pub best_all : (best : Option Best) → IsBestAmong candidates best → IsBestOfMembers q group wanted best
-    best_all best so_far = record { set = so_far.set; has = λ e mode can. so_far.has e mode (member_there e can) can; is_best = so_far.is_best }
+    best_all best so_far = record {
+      set = so_far.set;
+      has =
+          λ e mode can. so_far.has e mode (member_there e can) can;
+      is_best = so_far.is_best;
+    }
 
   -- the answer of an expression that is no such member is none
-  pub best_without : NoneIsBest q → (e : PhysicalExpr) → (CanServe (IsMember q) q e.group wanted e → ⊥) → IsBestOfMember q e wanted None
-  best_without none_best e none = record { set = no_nodes; has = λ mode can. none can; is_best = none_best e.group wanted }
+  pub best_without : NoneIsBest q → (e : PhysicalExpr) → (CanServe (IsMember q) q e.group wanted e → ⊥)
+      → IsBestOfMember q e wanted None
+  best_without none_best e none = record {
+    set = no_nodes;
+    has = λ mode can. none can;
+    is_best =
+        none_best e.group wanted;
+  }
 
   -- and that of one that is is its goal's
-  pub best_with : (e : PhysicalExpr) (best : Option Best) → IsAnswerTo q (OptE e wanted) best → IsBestOfMember q e wanted best
+  pub best_with : (e : PhysicalExpr) (best : Option Best) → IsAnswerTo q (OptE e wanted) best
+      → IsBestOfMember q e wanted best
   best_with e best is = record { set = modes_of e; has = λ mode can. refl; is_best = is }
 
   -- the lesser answer of enforcers and members is that of all nodes
-  pub best_of_all : LesserIsBest q → CoveredIsBest q → (props : Props) → IsProps q props → Fits q group wanted → (first second : Option Best) → IsBest q group wanted (first_enforcers wanted) first → IsBestOfMembers q group wanted second
+  pub best_of_all : LesserIsBest q → CoveredIsBest q → (props : Props) → IsProps q props → Fits q group wanted
+      → (first second : Option Best) → IsBest q group wanted (first_enforcers wanted) first
+      → IsBestOfMembers q group wanted second
       → IsBest q group wanted all_nodes (lesser first second)
   best_of_all lesser_best covered props is_props fits first second enforcers members =
       covered group wanted (both_of (first_enforcers wanted) members.set) all_nodes (lesser first second) (record {
         within = λ node at. tt;
         enforcers = λ e among at. inl (first_has wanted e among);
-        members = λ e mode line member of_group at alternative. inr (members.has e mode (record { member = member; of_group = of_group; mode = mode; serves = (line, alternative) }));
-      }) (lesser_best props is_props group wanted (first_enforcers wanted) members.set first second fits enforcers members.is_best)
+        members = λ e mode line member of_group at alternative.
+            inr (members.has e mode (record {
+              member = member;
+              of_group = of_group;
+              mode = mode;
+              serves =
+                  (line, alternative);
+            }));
+      }) (lesser_best props is_props group wanted (first_enforcers wanted) members.set first second fits enforcers
+      members.is_best)

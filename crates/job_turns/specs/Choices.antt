@@ -54,7 +54,8 @@ pub record TellsAnswer (q : Query) (goal : GoalKind) (cost node : ℕ) : Type 0 
 
 -- the words of the answer of a goal of the query tell it
 abbrev pub AnswersAreKnown : Query → Type 0
-AnswersAreKnown q = IsSmall q → (goal : GoalKind) (word cost node : ℕ) → NamesGoal q word goal → IsAnswerWord q word cost node → TellsAnswer q goal cost node
+AnswersAreKnown q = IsSmall q → (goal : GoalKind) (word cost node : ℕ) → NamesGoal q word goal
+    → IsAnswerWord q word cost node → TellsAnswer q goal cost node
 
 -- ---- choices
 
@@ -69,7 +70,8 @@ abbrev pub IsChoice : (Option Best → Type 0) → Right → Choice → Type 0
 IsChoice Is right (Known best) = Is best
 IsChoice Is right Open = 1 ≤ right.waits
 
-module _ (q : Query) (room : ℕ) (v : Hands Rules) (before : Right) (Wanted : GoalKind → Type 0) (Is : Option Best → Type 0) where
+module _ (q : Query) (room : ℕ) (v : Hands Rules) (before : Right) (Wanted : GoalKind → Type 0) (Is : Option Best
+    → Type 0) where
   -- these goals were awaited, and the answer over theirs is one of these
   pub record FindsChoice (choice : Choice) (w : Hands Rules) (after : Right) : Type 0 where
     pub awaited : HasAwaited q room v before Wanted w after
@@ -85,9 +87,11 @@ abbrev pub PutsChildren : Query → ℕ → Hands Rules → Right → Bool → H
 PutsChildren q room v right true w = Proceeds (IsChildWord q right.goal) v right w right
 PutsChildren q room v right false w = RunsOut (IsChildWord q right.goal) v right room w right
 
--- complete with the words of what is known where the right has no wait, and else waiting; full where a goal found no cell
+-- complete with the words of what is known where the right has no wait, and else waiting; full where a goal found no
+-- cell
 abbrev pub IsProgressOf : Right → Option Choice → Progress → Type 0
-IsProgressOf right (Some (Known best)) (progress.Complete answer) = (right.waits ≡ 0) × AreWordsOf best answer.cost answer.node
+IsProgressOf right (Some (Known best)) (progress.Complete answer) = (right.waits ≡ 0)
+    × AreWordsOf best answer.cost answer.node
 IsProgressOf right (Some (Known best)) progress.Waiting = 1 ≤ right.waits
 IsProgressOf right (Some (Known best)) progress.Full = ⊥
 IsProgressOf right (Some Open) result = result ≡ progress.Waiting
@@ -110,7 +114,8 @@ IsAskedByChild q word (Some asked) = (group : KeyParts) × Names q asked.0 group
 
 -- the goal of what is asked
 abbrev pub IsGoalAsked : Query → Option (Key × Request) → GoalKind → Type 0
-IsGoalAsked q asked child = (group : KeyParts) × (below : Request) × Asks q asked group below × (child ≡ Opt group below)
+IsGoalAsked q asked child = (group : KeyParts) × (below : Request) × Asks q asked group below
+    × (child ≡ Opt group below)
 
 -- the goal of what the expression asks in the mode, to serve the request
 pub record IsGoalIn (q : Query) (e : PhysicalExpr) (wanted : Request) (mode : ℕ) (child : GoalKind) : Type 0 where

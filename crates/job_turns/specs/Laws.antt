@@ -28,5 +28,6 @@ AskedAreKnown q = IsSmall q → (goal : GoalKind) (word asked : ℕ) → NamesGo
 
 -- a goal of the query has a word
 abbrev pub ChildrenHaveWords : Query → Type 0
-ChildrenHaveWords q = IsSmall q → (goal other : GoalKind) (word : ℕ) → NamesGoal q word goal → IsChildGoal (IsMember q) q goal other
+ChildrenHaveWords q = IsSmall q → (goal other : GoalKind) (word : ℕ) → NamesGoal q word goal
+    → IsChildGoal (IsMember q) q goal other
     → IsChildWord q word (goal_word other) × IsInRange other

@@ -28,7 +28,8 @@ pub record IsImplemented (q : Query) (room : ℕ) (looks : List (ℕ × ℕ)) (g
 
 -- the goal of a member of the group that may serve the request
 abbrev pub IsMemberGoal : Query → KeyParts → Request → GoalKind → Type 0
-IsMemberGoal q group wanted child = (e : PhysicalExpr) × CanServe (IsMember q) q group wanted e × (child ≡ OptE e wanted)
+IsMemberGoal q group wanted child = (e : PhysicalExpr) × CanServe (IsMember q) q group wanted e
+    × (child ≡ OptE e wanted)
 
 -- the best answer of some nodes, among them all such members in all modes
 pub record IsBestOfMembers (q : Query) (group : KeyParts) (wanted : Request) (best : Option Best) : Type 0 where
@@ -68,7 +69,8 @@ first_enforcers wanted = both_of (enforcer_at wanted 0) (enforcer_at wanted 1)
 
 -- the goal of what the enforcer at this place asks
 abbrev pub IsEnforcerGoalAt : KeyParts → Request → ℕ → GoalKind → Type 0
-IsEnforcerGoalAt group wanted place child = (e : EnforcedBy) × (slice_get (enforcers_of wanted) place ≡ Some e) × (child ≡ Opt group e.below)
+IsEnforcerGoalAt group wanted place child = (e : EnforcedBy) × (slice_get (enforcers_of wanted) place ≡ Some e)
+    × (child ≡ Opt group e.below)
 
 -- the goal of what an enforcer for the request asks
 abbrev pub IsEnforcerGoal : Query → KeyParts → Request → GoalKind → Type 0

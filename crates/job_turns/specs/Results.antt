@@ -25,7 +25,8 @@ IsBroughtBelow q rule e bound below other = (n : ℕ) × (n < below) × IsBrough
 
 -- the same with some logical member of the group bound
 abbrev pub IsBroughtFrom : Query → Rule → ExprParts → KeyParts → ExprParts → Type 0
-IsBroughtFrom q rule e group other = (bound : ExprParts) × IsLogicalIn (IsMember q) group bound × IsBroughtWith q rule e (Some bound) other
+IsBroughtFrom q rule e group other = (bound : ExprParts) × IsLogicalIn (IsMember q) group bound
+    × IsBroughtWith q rule e (Some bound) other
 
 -- the rule binds a member of the left child's group, which is this one
 abbrev pub IsLeftOf : ExprParts → Rule → KeyParts → Type 0

@@ -40,7 +40,8 @@ module _ (q : Query) (b : Board Rules) (s : Seat Rules) (job : Job) where
 
   -- these goals were awaited, or one of them found no cell
   abbrev pub SeatAwaits : (Wanted : GoalKind → Type 0) → Bool → Seat Rules → Job → Type 0
-  SeatAwaits Wanted room_left t after = AwaitsGoals q b.key.room (hands s) job.right Wanted room_left (hands t) after.right
+  SeatAwaits Wanted room_left t after = AwaitsGoals q b.key.room (hands s) job.right Wanted room_left (hands t)
+      after.right
 
   -- these members were put in, or one of them found no cell
   abbrev pub SeatPuts : (Wanted : ExprParts → Type 0) → Bool → Seat Rules → Type 0
@@ -54,4 +55,5 @@ module _ (q : Query) (b : Board Rules) (s : Seat Rules) (group : KeyParts) where
   -- what the double collection of the group found
   abbrev pub SeatSettles : Settled → Seat Rules → Type 0
   SeatSettles settled t =
-      Settles (meaning_of q) b.key.room (IsLogicalWord q group) explored (hands s) (goal_word (Exp group)) settled (hands t)
+      Settles (meaning_of q) b.key.room (IsLogicalWord q group) explored (hands s) (goal_word (Exp group)) settled
+      (hands t)

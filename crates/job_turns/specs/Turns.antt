@@ -10,8 +10,10 @@ use Rattle.goal_space.specs.declared.goals.GoalKind.{GoalKind}
 use Rattle.goal_rules.specs.declared.rules.Rules.{Rules}
 use Rattle.job_turns.specs.Works.{Adds}
 
--- the turn of the right's goal; what it puts in is a child of that goal, a member that the goal's rule brings, or the origin of the group that the goal explores
-pub record TurnsGoal (q : Query) (room : ℕ) (v : Hands Rules) (right : Right) (worker : ℕ) (turned : Turned) (w : Hands Rules) : Type 0 where
+-- the turn of the right's goal; what it puts in is a child of that goal, a member that the goal's rule brings, or the
+-- origin of the group that the goal explores
+pub record TurnsGoal (q : Query) (room : ℕ) (v : Hands Rules) (right : Right) (worker : ℕ) (turned : Turned)
+    (w : Hands Rules) : Type 0 where
   pub goal : GoalKind
   pub names : NamesGoal q right.goal goal
   pub turns : Turns room (Adds q goal) v right worker turned w

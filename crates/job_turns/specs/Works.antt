@@ -44,7 +44,8 @@ module _ (q : Query) (room : ℕ) (v : Hands Rules) (before : Right) where
   -- these goals were awaited: they are finished, unless the right has a wait
   pub record HasAwaited (Wanted : GoalKind → Type 0) (w : Hands Rules) (after : Right) : Type 0 where
     pub proceeds : Proceeds (IsChildWord q before.goal) v before w after
-    pub finished : after.waits ≡ 0 → (child : GoalKind) → Wanted child → ShowsFinished (meaning_of q) room w.looks (goal_word child)
+    pub finished : after.waits ≡ 0 → (child : GoalKind) → Wanted child
+        → ShowsFinished (meaning_of q) room w.looks (goal_word child)
 
   -- or one of them found no cell
   abbrev pub AwaitsGoals : (Wanted : GoalKind → Type 0) → Bool → Hands Rules → Right → Type 0

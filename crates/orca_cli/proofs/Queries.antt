@@ -18,8 +18,10 @@ use Rattle.query_core.specs.Grouping.{IsGrouping}
 use Rattle.query_core.specs.Results.{IsOutput, IsOrder, AreOptions}
 use Rattle.query_core.specs.declared.query.Query.{Query}
 
-query_same : (q r : Query) → q.segments ≡ r.segments → q.tables ≡ r.tables → q.items ≡ r.items → q.preds ≡ r.preds → q.links ≡ r.links → q.grouped ≡ r.grouped
-    → q.group_by ≡ r.group_by → q.aggs ≡ r.aggs → q.output ≡ r.output → q.order ≡ r.order → q.options ≡ r.options → q ≡ r
+query_same : (q r : Query) → q.segments ≡ r.segments → q.tables ≡ r.tables → q.items ≡ r.items → q.preds ≡ r.preds
+    → q.links ≡ r.links → q.grouped ≡ r.grouped
+    → q.group_by ≡ r.group_by → q.aggs ≡ r.aggs → q.output ≡ r.output → q.order ≡ r.order → q.options ≡ r.options
+    → q ≡ r
 query_same q r segments tables items preds links grouped group_by aggs output order options = λ i. record {
   segments = segments i;
   tables = tables i;
@@ -36,11 +38,16 @@ query_same q r segments tables items preds links grouped group_by aggs output or
   segments_fit = is_prop→PathP (λ j. segments j ≤ 1000) (λ j. hlevel props) q.segments_fit r.segments_fit i;
   tables_valid = is_prop→PathP (λ j. AreTables (tables j)) (λ j. hlevel props) q.tables_valid r.tables_valid i;
   items_valid = is_prop→PathP (λ j. AreItems (tables j) (items j)) (λ j. hlevel props) q.items_valid r.items_valid i;
-  preds_valid = is_prop→PathP (λ j. ArePredicates (items j) (preds j)) (λ j. hlevel props) q.preds_valid r.preds_valid i;
-  links_valid = is_prop→PathP (λ j. AreLinks (tables j) (items j) (preds j) (links j)) (λ j. hlevel props) q.links_valid r.links_valid i;
-  grouping_valid = is_prop→PathP (λ j. IsGrouping (items j) (grouped j) (group_by j) (aggs j)) (λ j. hlevel props) q.grouping_valid r.grouping_valid i;
-  output_valid = is_prop→PathP (λ j. IsOutput (items j) (grouped j) (group_by j) (aggs j) (output j)) (λ j. hlevel props) q.output_valid r.output_valid i;
-  order_valid = is_prop→PathP (λ j. IsOrder (items j) (grouped j) (group_by j) (aggs j) (order j)) (λ j. hlevel props) q.order_valid r.order_valid i;
+  preds_valid = is_prop→PathP (λ j. ArePredicates (items j) (preds j)) (λ j. hlevel props) q.preds_valid r.preds_valid
+      i;
+  links_valid = is_prop→PathP (λ j. AreLinks (tables j) (items j) (preds j) (links j)) (λ j. hlevel props) q.links_valid
+      r.links_valid i;
+  grouping_valid = is_prop→PathP (λ j. IsGrouping (items j) (grouped j) (group_by j) (aggs j)) (λ j. hlevel props)
+      q.grouping_valid r.grouping_valid i;
+  output_valid = is_prop→PathP (λ j. IsOutput (items j) (grouped j) (group_by j) (aggs j) (output j))
+      (λ j. hlevel props) q.output_valid r.output_valid i;
+  order_valid = is_prop→PathP (λ j. IsOrder (items j) (grouped j) (group_by j) (aggs j) (order j)) (λ j. hlevel props)
+      q.order_valid r.order_valid i;
   options_valid = is_prop→PathP (λ j. AreOptions (options j)) (λ j. hlevel props) q.options_valid r.options_valid i;
 }
 
@@ -58,7 +65,8 @@ pub record AreAlike (q r : Query) : Type 0 where
   pub options : q.options ≡ r.options
 
 -- queries of the same parts are alike
-pub alike_of : (parts : Parts) (catalog : Catalog) (options : Options) (q r : Query) → IsQueryOf parts catalog options q → IsQueryOf parts catalog options r → AreAlike q r
+pub alike_of : (parts : Parts) (catalog : Catalog) (options : Options) (q r : Query) → IsQueryOf parts catalog options q
+    → IsQueryOf parts catalog options r → AreAlike q r
 alike_of parts catalog options q r is again = record {
   segments = is.segments ∙ sym again.segments;
   tables = is.tables ∙ sym again.tables;
@@ -74,13 +82,18 @@ alike_of parts catalog options q r is again = record {
 
 -- what the layer of bound queries promises: the links are determined by the tables, the items and the predicates
 abbrev pub OneLinks : Type 0
-OneLinks = (tables : List QueryTable) (items : List Item) (preds : List Pred) (links others : List Link) → AreLinks tables items preds links → AreLinks tables items preds others → others ≡ links
+OneLinks = (tables : List QueryTable) (items : List Item) (preds : List Pred) (links others : List Link)
+    → AreLinks tables items preds links → AreLinks tables items preds others → others ≡ links
 
 -- queries that are alike are the same
 pub alike_same : OneLinks → (q r : Query) → AreAlike q r → q ≡ r
 alike_same one q r same =
-    let by_preds : AreLinks q.tables q.items r.preds q.links = subst (λ preds. AreLinks q.tables q.items preds q.links) same.preds q.links_valid in
-    let by_items : AreLinks q.tables r.items r.preds q.links = subst (λ items. AreLinks q.tables items r.preds q.links) same.items by_preds in
-    let by_tables : AreLinks r.tables r.items r.preds q.links = subst (λ tables. AreLinks tables r.items r.preds q.links) same.tables by_items in
+    let by_preds : AreLinks q.tables q.items r.preds q.links =
+    subst (λ preds. AreLinks q.tables q.items preds q.links) same.preds q.links_valid in
+    let by_items : AreLinks q.tables r.items r.preds q.links =
+    subst (λ items. AreLinks q.tables items r.preds q.links) same.items by_preds in
+    let by_tables : AreLinks r.tables r.items r.preds q.links =
+    subst (λ tables. AreLinks tables r.items r.preds q.links) same.tables by_items in
     let links : q.links ≡ r.links = one r.tables r.items r.preds r.links q.links r.links_valid by_tables in
-    query_same q r same.segments same.tables same.items same.preds links same.grouped same.group_by same.aggs same.output same.order same.options
+    query_same q r same.segments same.tables same.items same.preds links same.grouped same.group_by same.aggs
+    same.output same.order same.options

@@ -8,8 +8,10 @@ use Rattle.orca_cli.specs.Puts.{IsPut}
 use Rattle.orca_cli.specs.Run.{IsAskedBy, IsSearched, searched, answered, IsRun, Ends}
 use Rattle.orca_cli.specs.Serves.{IsEnded, Serves, ServesWords}
 use Rattle.orca_cli.specs.declared.status.Status.{Status}
-use Rattle.orca_cli.specs.declared.status.Status.TheVariants.{Planned, NoPlan, Usage, QueryRefused, CatalogRefused, TooManyEntries, ReadFault, WriteFault, Memory}
-use Rattle.orca_cli.proofs.Causes.{OneAnswer, usage_cause, read_cause, write_cause, completed, overflowed, refused_there}
+use Rattle.orca_cli.specs.declared.status.Status.TheVariants.{Planned, NoPlan, Usage, QueryRefused, CatalogRefused}
+use Rattle.orca_cli.specs.declared.status.Status.TheVariants.{TooManyEntries, ReadFault, WriteFault, Memory}
+use Rattle.orca_cli.proofs.Causes.{OneAnswer, usage_cause, read_cause, write_cause, completed, overflowed}
+use Rattle.orca_cli.proofs.Causes.{refused_there}
 use Rattle.orca_cli.proofs.Others.{never}
 use Rattle.orca_cli.proofs.Puts.{put_ends}
 
@@ -30,17 +32,30 @@ module _ (command : PlanCommand) (held : List ℕ → Option (List ℕ)) (empty 
 
   module _ (before after : List ℕ → ℕ) (status : Status) (text : List ℕ) where
     -- the run ends with the search of the query for which its files ask
-    pub searched_ended : (query : Query) → IsAskedBy command held query → IsSearched command.choices query status text → NotesSearch command.choices query note status → IsEnded command held before after empty note status text
+    pub searched_ended : (query : Query) → IsAskedBy command held query → IsSearched command.choices query status text
+        → NotesSearch command.choices query note status → IsEnded command held before after empty note status text
     searched_ended query asked is search = record {
-      ending = answered asked.catalog asked.offers (record { asked = asked.asked.asked; told = asked.asked.told; answer = searched query asked.asked.asks is });
-      notes = noted_run status (record { command = command; is_named = refl; query = query; asked = asked; search = search });
+      ending = answered asked.catalog asked.offers
+          (record { asked = asked.asked.asked; told = asked.asked.told; answer = searched query asked.asked.asks is });
+      notes = noted_run status (record {
+        command = command;
+        is_named = refl;
+        query = query;
+        asked = asked;
+        search =
+            search;
+      });
     }
 
 -- ---- the call
 
-module _ (one : OneAnswer) (named : Option PlanCommand) (held : List ℕ → Option (List ℕ)) (reads_before reads_after : List ℕ → ℕ) (old new : Option (List ℕ)) (before after : ℕ) (empty note : Note) (status : Status) where
+module _ (one : OneAnswer) (named : Option PlanCommand) (held : List ℕ → Option (List ℕ))
+    (reads_before reads_after : List ℕ → ℕ) (old new : Option (List ℕ)) (before after : ℕ) (empty note : Note)
+    (status : Status) where
   -- all of it follows from the status, its text and its note
-  serves : Ends (IsRun named held reads_before reads_after) old new before after status → Notes named held empty note status → Serves named held reads_before reads_after old new before after empty note status
+  serves : Ends (IsRun named held reads_before reads_after) old new before after status
+      → Notes named held empty note status → Serves named held reads_before reads_after old new before after empty note
+      status
   serves ends notes = record {
     ends = ends;
     usage = usage_cause named held reads_before reads_after old new before after status ends;
@@ -52,29 +67,41 @@ module _ (one : OneAnswer) (named : Option PlanCommand) (held : List ℕ → Opt
     notes = notes;
   }
 
-module _ (one : OneAnswer) (command : PlanCommand) (held : List ℕ → Option (List ℕ)) (reads_before reads_after : List ℕ → ℕ) (old new : Option (List ℕ)) (before after : ℕ) (empty note : Note) (result : Status) where
+module _ (one : OneAnswer) (command : PlanCommand) (held : List ℕ → Option (List ℕ)) (reads_before reads_after : List ℕ
+    → ℕ) (old new : Option (List ℕ)) (before after : ℕ) (empty note : Note) (result : Status) where
   -- the note after the text was put
-  put_notes : (status : Status) (text : List ℕ) → IsPut status text old new before after result → Notes (Some command) held empty note status → Notes (Some command) held empty note result
+  put_notes : (status : Status) (text : List ℕ) → IsPut status text old new before after result
+      → Notes (Some command) held empty note status → Notes (Some command) held empty note result
   put_notes status text (inl taken) notes = subst (Notes (Some command) held empty note) (sym taken.same) notes
   put_notes status text (inr cut) notes = subst (Notes (Some command) held empty note) (sym cut.fault) tt
 
   -- the text of an ending was put
-  pub put_served : (status : Status) (text : List ℕ) → IsEnded command held reads_before reads_after empty note status text → IsPut status text old new before after result
+  pub put_served : (status : Status) (text : List ℕ)
+      → IsEnded command held reads_before reads_after empty note status text
+      → IsPut status text old new before after result
       → Serves (Some command) held reads_before reads_after old new before after empty note result
   put_served status text is put =
       serves one (Some command) held reads_before reads_after old new before after empty note result
-      (put_ends (IsRun (Some command) held reads_before reads_after) (λ t e. never command held reads_before reads_after WriteFault t e tt) (λ t e. never command held reads_before reads_after Memory t e tt) old new before after status text result is.ending put) (put_notes status text put is.notes)
+      (put_ends (IsRun (Some command) held reads_before reads_after)
+      (λ t e. never command held reads_before reads_after WriteFault t e tt)
+      (λ t e. never command held reads_before reads_after Memory t e tt) old new before after status text result
+      is.ending put) (put_notes status text put is.notes)
 
   -- memory ran out before a text was made
-  pub memory_served : result ≡ Memory → Keeps old new → Serves (Some command) held reads_before reads_after old new before after empty note result
+  pub memory_served : result ≡ Memory → Keeps old new
+      → Serves (Some command) held reads_before reads_after old new before after empty note result
   memory_served is kept =
       serves one (Some command) held reads_before reads_after old new before after empty note result
-      (subst (Ends (IsRun (Some command) held reads_before reads_after) old new before after) (sym is) kept) (subst (Notes (Some command) held empty note) (sym is) tt)
+      (subst (Ends (IsRun (Some command) held reads_before reads_after) old new before after) (sym is) kept)
+      (subst (Notes (Some command) held empty note) (sym is) tt)
 
 -- ---- words that are one
 
 -- what is served for a command is served for the words that name it
-pub named_served : (named : Option AnyCommand) (command : AnyCommand) (held : List ℕ → Option (List ℕ)) (reads_before reads_after : List ℕ → ℕ) (old new : Option (List ℕ)) (before after : ℕ) (empty note : Note) (status : Status)
-    → named ≡ Some command → ServesWords (Some command) held reads_before reads_after old new before after empty note status → ServesWords named held reads_before reads_after old new before after empty note status
+pub named_served : (named : Option AnyCommand) (command : AnyCommand) (held : List ℕ → Option (List ℕ))
+    (reads_before reads_after : List ℕ → ℕ) (old new : Option (List ℕ)) (before after : ℕ) (empty note : Note)
+    (status : Status)
+    → named ≡ Some command → ServesWords (Some command) held reads_before reads_after old new before after empty note
+    status → ServesWords named held reads_before reads_after old new before after empty note status
 named_served named command held reads_before reads_after old new before after empty note status is serves =
     subst (λ n. ServesWords n held reads_before reads_after old new before after empty note status) (sym is) serves

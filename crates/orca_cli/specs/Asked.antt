@@ -74,4 +74,5 @@ pub record IsUnnumbered (catalog : Catalog) (options : Options) (text cause : Li
 
 -- the text is refused, and this is the cause
 abbrev pub IsRefused : Catalog → Options → List ℕ → List ℕ → Type 0
-IsRefused catalog options text cause = IsUnread text cause ⊎ IsUnbound catalog text cause ⊎ IsUnnumbered catalog options text cause
+IsRefused catalog options text cause = IsUnread text cause ⊎ IsUnbound catalog text cause
+    ⊎ IsUnnumbered catalog options text cause

@@ -8,20 +8,23 @@ use Rattle.orca_cli.specs.Asked.{SaysCatalog, Asks, IsRefused}
 use Rattle.orca_cli.specs.Run.{HasRoom}
 use Rattle.command_line.specs.Command.{FileNames, PlanCommand}
 use Rattle.orca_cli.specs.declared.status.Status.{Status}
-use Rattle.orca_cli.specs.declared.status.Status.TheVariants.{Planned, NoPlan, Usage, QueryRefused, CatalogRefused, TooManyEntries, ReadFault, WriteFault, Memory}
+use Rattle.orca_cli.specs.declared.status.Status.TheVariants.{Planned, NoPlan, Usage, QueryRefused, CatalogRefused}
+use Rattle.orca_cli.specs.declared.status.Status.TheVariants.{TooManyEntries, ReadFault, WriteFault, Memory}
 
 -- the count of one of the two files rose
 abbrev pub ReadRose : Option PlanCommand → (List ℕ → ℕ) → (List ℕ → ℕ) → Type 0
 ReadRose None before after = ⊥
 ReadRose (Some command) before after =
-    Rose (before command.files.catalog) (after command.files.catalog) ⊎ Rose (before command.files.query) (after command.files.query)
+    Rose (before command.files.catalog) (after command.files.catalog)
+    ⊎ Rose (before command.files.query) (after command.files.query)
 
 -- the shelf tells bytes that say this catalogue, and this text
-pub record Holds (files : FileNames) (held : List ℕ → Option (List ℕ)) (catalog : Catalog) (text : List ℕ) : Type 0 where
-  pub bytes : List ℕ
-  pub bytes_told : held files.catalog ≡ Some bytes
-  pub says : SaysCatalog bytes catalog
-  pub text_told : held files.query ≡ Some text
+pub record Holds (files : FileNames) (held : List ℕ → Option (List ℕ)) (catalog : Catalog) (text : List ℕ) : Type 0
+  where
+    pub bytes : List ℕ
+    pub bytes_told : held files.catalog ≡ Some bytes
+    pub says : SaysCatalog bytes catalog
+    pub text_told : held files.query ≡ Some text
 
 -- the shelf tells a catalogue, and a text that asks for a query over it
 pub record HoldsQuery (command : PlanCommand) (held : List ℕ → Option (List ℕ)) : Type 0 where
@@ -52,9 +55,11 @@ IsSettled WriteFault = ⊥
 IsSettled Memory = ⊤
 
 -- a run over files that ask for a query with room, in which neither file's count rose nor the sink's, is answered
-abbrev pub Completes : Option PlanCommand → (List ℕ → Option (List ℕ)) → (List ℕ → ℕ) → (List ℕ → ℕ) → ℕ → ℕ → Status → Type 0
+abbrev pub Completes : Option PlanCommand → (List ℕ → Option (List ℕ)) → (List ℕ → ℕ) → (List ℕ → ℕ) → ℕ → ℕ → Status
+    → Type 0
 Completes named held reads_before reads_after before after status =
-    (command : PlanCommand) → named ≡ Some command → (q : HoldsQuery command held) → HasRoom q.query command.choices.capacity
+    (command : PlanCommand) → named ≡ Some command → (q : HoldsQuery command held)
+    → HasRoom q.query command.choices.capacity
     → (ReadRose (Some command) reads_before reads_after → ⊥) → (Rose before after → ⊥) → IsSettled status
 
 -- the run ended for want of room, or of memory
@@ -71,9 +76,11 @@ IsOverflow Memory = ⊤
 
 -- a run over files that ask for a query with more entries than the capacity, in which no count rose, ends for want
 -- of room
-abbrev pub Overflows : Option PlanCommand → (List ℕ → Option (List ℕ)) → (List ℕ → ℕ) → (List ℕ → ℕ) → ℕ → ℕ → Status → Type 0
+abbrev pub Overflows : Option PlanCommand → (List ℕ → Option (List ℕ)) → (List ℕ → ℕ) → (List ℕ → ℕ) → ℕ → ℕ → Status
+    → Type 0
 Overflows named held reads_before reads_after before after status =
-    (command : PlanCommand) → named ≡ Some command → (q : HoldsQuery command held) → HasMoreEntries q.query command.choices.capacity
+    (command : PlanCommand) → named ≡ Some command → (q : HoldsQuery command held)
+    → HasMoreEntries q.query command.choices.capacity
     → (ReadRose (Some command) reads_before reads_after → ⊥) → (Rose before after → ⊥) → IsOverflow status
 
 -- the run ended with the query refused, or for want of memory
@@ -89,6 +96,8 @@ IsRefusal WriteFault = ⊥
 IsRefusal Memory = ⊤
 
 -- a run over files whose query is refused, in which neither file's count rose nor the sink's, refuses it
-abbrev pub Refuses : Option PlanCommand → (List ℕ → Option (List ℕ)) → (List ℕ → ℕ) → (List ℕ → ℕ) → ℕ → ℕ → Status → Type 0
+abbrev pub Refuses : Option PlanCommand → (List ℕ → Option (List ℕ)) → (List ℕ → ℕ) → (List ℕ → ℕ) → ℕ → ℕ → Status
+    → Type 0
 Refuses named held reads_before reads_after before after status =
-    (command : PlanCommand) → named ≡ Some command → HoldsRefused command held → (ReadRose (Some command) reads_before reads_after → ⊥) → (Rose before after → ⊥) → IsRefusal status
+    (command : PlanCommand) → named ≡ Some command → HoldsRefused command held
+    → (ReadRose (Some command) reads_before reads_after → ⊥) → (Rose before after → ⊥) → IsRefusal status

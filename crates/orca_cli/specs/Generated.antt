@@ -16,7 +16,8 @@ use Rattle.orca_cli.specs.Notes.{Note, NotesSearch}
 use Rattle.orca_cli.specs.Run.{HasRoom, IsSearchEnd, Ends}
 use Rattle.orca_cli.specs.Sections.{Tells}
 use Rattle.orca_cli.specs.declared.status.Status.{Status}
-use Rattle.orca_cli.specs.declared.status.Status.TheVariants.{Planned, NoPlan, Usage, QueryRefused, CatalogRefused, TooManyEntries, ReadFault, WriteFault, Memory}
+use Rattle.orca_cli.specs.declared.status.Status.TheVariants.{Planned, NoPlan, Usage, QueryRefused, CatalogRefused}
+use Rattle.orca_cli.specs.declared.status.Status.TheVariants.{TooManyEntries, ReadFault, WriteFault, Memory}
 
 -- what `gen` chooses: all rules are on, and the result is at one place
 abbrev pub gen_choices : GenCommand → Choices
@@ -25,7 +26,8 @@ gen_choices command = record usual { workers = command.workers; capacity = comma
 -- the catalogue and the query that are made of the input ask for this query
 abbrev pub IsGenerated : GenInput → Query → Type 0
 IsGenerated input query =
-    Asks (catalog_of input.number input.tables) usual.options (canonical_text (select_of input.shape input.tables)) query
+    Asks (catalog_of input.number input.tables) usual.options (canonical_text (select_of input.shape input.tables))
+    query
 
 -- the status and the text of a run of `gen`
 pub record IsGenEnding (command : GenCommand) (status : Status) (text : List ℕ) : Type 0 where
@@ -69,13 +71,16 @@ IsFinished WriteFault = ⊥
 IsFinished Memory = ⊤
 
 -- the call serves `gen`: what the sink took, the count of its faults, and the note
-pub record ServesGen (command : GenCommand) (old new : Option (List ℕ)) (before after : ℕ) (note : Note) (status : Status) : Type 0 where
+pub record ServesGen (command : GenCommand) (old new : Option (List ℕ)) (before after : ℕ) (note : Note)
+    (status : Status) : Type 0 where
   -- the status, and what the sink took of its text
   pub ends : Ends (IsGenEnding command) old new before after status
   pub write_fault : status ≡ WriteFault → Rose before after
   -- where the sink didn't fail the query that is made is searched: it is answered, or has too many entries
   pub finishes : (Rose before after → ⊥) → IsFinished status
-  pub completes : (query : Query) → IsGenerated command.input query → HasRoom query command.capacity → (Rose before after → ⊥) → IsSettled status
-  pub overflows : (query : Query) → IsGenerated command.input query → HasMoreEntries query command.capacity → (Rose before after → ⊥) → IsOverflow status
+  pub completes : (query : Query) → IsGenerated command.input query → HasRoom query command.capacity
+      → (Rose before after → ⊥) → IsSettled status
+  pub overflows : (query : Query) → IsGenerated command.input query → HasMoreEntries query command.capacity
+      → (Rose before after → ⊥) → IsOverflow status
   -- what the note says of the search
   pub notes : NotesGen command note status

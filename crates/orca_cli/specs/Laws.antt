@@ -8,7 +8,8 @@ use Rattle.orca_cli.specs.Generated.{IsGenEnding}
 use Rattle.orca_cli.specs.Run.{IsEnding}
 use Rattle.orca_cli.specs.Sections.{IsByWorker}
 use Rattle.orca_cli.specs.declared.status.Status.{Status}
-use Rattle.orca_cli.specs.declared.status.Status.TheVariants.{Planned, NoPlan, Usage, QueryRefused, CatalogRefused, TooManyEntries, ReadFault, WriteFault, Memory}
+use Rattle.orca_cli.specs.declared.status.Status.TheVariants.{Planned, NoPlan, Usage, QueryRefused, CatalogRefused}
+use Rattle.orca_cli.specs.declared.status.Status.TheVariants.{TooManyEntries, ReadFault, WriteFault, Memory}
 
 -- the run ended by what the files hold
 abbrev pub IsOutcome : Status → Type 0
@@ -23,7 +24,8 @@ IsOutcome WriteFault = ⊥
 IsOutcome Memory = ⊥
 
 -- a run over files that hold these bytes ends so, whatever its counts of faults are
-pub record Outcome (files : FileNames) (choices : Choices) (held : List ℕ → Option (List ℕ)) (catalog query : List ℕ) (status : Status) (text : List ℕ) : Type 0 where
+pub record Outcome (files : FileNames) (choices : Choices) (held : List ℕ → Option (List ℕ)) (catalog query : List ℕ)
+    (status : Status) (text : List ℕ) : Type 0 where
   pub before : List ℕ → ℕ
   pub after : List ℕ → ℕ
   pub catalog_told : held files.catalog ≡ Some catalog
@@ -59,12 +61,15 @@ pub record Same (choices : Choices) (workers more : ℕ) (first second : Status)
 -- the status and the text are a function of the bytes, and of what the command chooses but for the workers; only the
 -- numbers in the lines by worker may differ
 abbrev pub OneOutcome : Type 0
-OneOutcome = (files others : FileNames) (choices : Choices) (workers more : ℕ) (held told : List ℕ → Option (List ℕ)) (catalog query : List ℕ) (first second : Status) (text other : List ℕ)
-    → Outcome files (by workers choices) held catalog query first text → Outcome others (by more choices) told catalog query second other
+OneOutcome = (files others : FileNames) (choices : Choices) (workers more : ℕ) (held told : List ℕ → Option (List ℕ))
+    (catalog query : List ℕ) (first second : Status) (text other : List ℕ)
+    → Outcome files (by workers choices) held catalog query first text
+    → Outcome others (by more choices) told catalog query second other
     → Same choices workers more first second text other
 
 -- those of `gen` are a function of the input and of the capacity
 abbrev pub OneGenerated : Type 0
 OneGenerated = (input : GenInput) (capacity workers more : ℕ) (first second : Status) (text other : List ℕ)
     → IsGenEnding (record { input = input; workers = workers; capacity = capacity }) first text
-    → IsGenEnding (record { input = input; workers = more; capacity = capacity }) second other → (first ≡ second) × (text ≡ other)
+    → IsGenEnding (record { input = input; workers = more; capacity = capacity }) second other → (first ≡ second)
+    × (text ≡ other)

@@ -6,7 +6,8 @@ use Rattle.command_line.specs.Command.{PlanCommand}
 use Rattle.command_line.specs.declared.choices.Choices.{Choices}
 use Rattle.orca_cli.specs.Run.{IsAskedBy}
 use Rattle.orca_cli.specs.declared.status.Status.{Status}
-use Rattle.orca_cli.specs.declared.status.Status.TheVariants.{Planned, NoPlan, Usage, QueryRefused, CatalogRefused, TooManyEntries, ReadFault, WriteFault, Memory}
+use Rattle.orca_cli.specs.declared.status.Status.TheVariants.{Planned, NoPlan, Usage, QueryRefused, CatalogRefused}
+use Rattle.orca_cli.specs.declared.status.Status.TheVariants.{TooManyEntries, ReadFault, WriteFault, Memory}
 
 -- the capacity, the number of workers, and how many goals were finished, where a search has run
 abbrev pub Note : Type 0
@@ -35,7 +36,8 @@ NotesSearch choices query told WriteFault = ⊥
 NotesSearch choices query told Memory = ⊥
 
 -- the note is that of the search of a query for which the command's files ask
-pub record NotesRun (named : Option PlanCommand) (held : List ℕ → Option (List ℕ)) (note : Note) (status : Status) : Type 0 where
+pub record NotesRun (named : Option PlanCommand) (held : List ℕ → Option (List ℕ)) (note : Note) (status : Status) :
+    Type 0 where
   pub command : PlanCommand
   pub is_named : named ≡ Some command
   pub query : Query

@@ -18,4 +18,5 @@ pub record IsCut (text : List ℕ) (old new : Option (List ℕ)) (before after :
   pub taken : TakesPrefix old new text
 
 abbrev pub IsPut : Status → List ℕ → Option (List ℕ) → Option (List ℕ) → ℕ → ℕ → Status → Type 0
-IsPut status text old new before after result = IsTaken text status old new result ⊎ IsCut text old new before after result
+IsPut status text old new before after result = IsTaken text status old new result
+    ⊎ IsCut text old new before after result

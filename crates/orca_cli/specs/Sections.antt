@@ -1,5 +1,6 @@
 -- The sections that may stand behind the plan.
-use Rattle.std.specs.Prelude.{◌≡◌, ◌<◌, ℕ, All, Bool, true, false, List, [], ◌∷◌, ◌++◌, ◌==◌, Option, None, Some, codes, decimal, if◌then◌else◌, length}
+use Rattle.std.specs.Prelude.{◌≡◌, ◌<◌, ℕ, All, Bool, true, false, List, [], ◌∷◌, ◌++◌, ◌==◌, Option, None, Some, codes}
+use Rattle.std.specs.Prelude.{decimal, if◌then◌else◌, length}
 use Rattle.query_core.specs.declared.query.Query.{Query}
 use Rattle.xform_rules.specs.Closure.{IsClosureOf}
 use Rattle.goal_children.specs.Listed.{AreGoalsOf}
@@ -79,7 +80,8 @@ pub record IsBehind (choices : Choices) (query : Query) (section : Section) (fro
 -- and so with one section after the other
 abbrev pub AreBehind : Choices → Query → List Section → List ℕ → List ℕ → Type 0
 AreBehind choices query [] front text = text ≡ front
-AreBehind choices query (section ∷ more) front text = (middle : List ℕ) × IsBehind choices query section front middle × AreBehind choices query more middle text
+AreBehind choices query (section ∷ more) front text = (middle : List ℕ) × IsBehind choices query section front middle
+    × AreBehind choices query more middle text
 
 -- the text goes on behind the front with all sections that are asked for
 abbrev pub GoesOn : Choices → Query → List ℕ → List ℕ → Type 0
@@ -110,7 +112,8 @@ pub record HasFirstLines (input : GenInput) (query : Query) (plan text : List �
 
 -- ---- what is printed of a search
 
--- the text that is printed where the plan has this text: first lines where the query was generated, and else the plan and the sections that are
+-- the text that is printed where the plan has this text: first lines where the query was generated, and else the plan
+-- and the sections that are
 -- asked for
 abbrev pub Tells : Option GenInput → Choices → Query → List ℕ → List ℕ → Type 0
 Tells None choices query plan text = GoesOn choices query plan text

@@ -16,7 +16,8 @@ AsksForOne (Some (plan command)) = command.choices.workers ≡ 1
 AsksForOne (Some (gen command)) = command.workers ≡ 1
 
 -- how the run of a command ends, before its text is put
-pub record IsEnded (command : PlanCommand) (held : List ℕ → Option (List ℕ)) (before after : List ℕ → ℕ) (empty note : Note) (status : Status) (text : List ℕ) : Type 0 where
+pub record IsEnded (command : PlanCommand) (held : List ℕ → Option (List ℕ)) (before after : List ℕ → ℕ)
+    (empty note : Note) (status : Status) (text : List ℕ) : Type 0 where
   pub ending : IsEnding command held before after status text
   pub notes : Notes (Some command) held empty note status
 

@@ -15,7 +15,8 @@ use Rattle.orca_cli.specs.Views.{EndsAs, text_of}
 use Rattle.orca_cli.specs.declared.asked.Asked.{Asked}
 use Rattle.orca_cli.specs.declared.asked.Asked.TheVariants as askeds
 use Rattle.orca_cli.specs.declared.status.Status.{Status}
-use Rattle.orca_cli.specs.declared.status.Status.TheVariants.{Planned, NoPlan, Usage, QueryRefused, CatalogRefused, TooManyEntries, ReadFault, WriteFault, Memory}
+use Rattle.orca_cli.specs.declared.status.Status.TheVariants.{Planned, NoPlan, Usage, QueryRefused, CatalogRefused}
+use Rattle.orca_cli.specs.declared.status.Status.TheVariants.{TooManyEntries, ReadFault, WriteFault, Memory}
 
 -- the query's least plan, or that it has none
 pub data IsPlanOf (query : Query) (status : Status) (text : List ℕ) : Type 0 where
@@ -28,14 +29,19 @@ status_for (Least plan cost) = Planned
 status_for found.NoPlan = NoPlan
 
 -- the run over a catalogue, with the reading of the query's file
-pub data IsEndingAt (catalog : Catalog) (choices : Choices) (name : List ℕ) (held : Option (List ℕ)) (before after : List ℕ → ℕ) (status : Status) (text : List ℕ) : Type 0 where
+pub data IsEndingAt (catalog : Catalog) (choices : Choices) (name : List ℕ) (held : Option (List ℕ))
+    (before after : List ℕ → ℕ) (status : Status) (text : List ℕ) : Type 0 where
   answered : IsAnswered catalog choices held status text → IsEndingAt catalog choices name held before after status text
-  unread : status ≡ ReadFault → IsReadFault name before after text → IsEndingAt catalog choices name held before after status text
+  unread : status ≡ ReadFault → IsReadFault name before after text
+      → IsEndingAt catalog choices name held before after status text
 
 -- the run over the bytes of a catalogue, with the reading of the query's file
-pub data IsEndingOver (bytes : List ℕ) (choices : Choices) (name : List ℕ) (held : Option (List ℕ)) (before after : List ℕ → ℕ) (status : Status) (text : List ℕ) : Type 0 where
-  over : (catalog : Catalog) → SaysCatalog bytes catalog → IsEndingAt catalog choices name held before after status text → IsEndingOver bytes choices name held before after status text
-  refused : status ≡ CatalogRefused → (cause : List ℕ) → IsNoCatalog bytes cause → text ≡ catalog_refused cause → IsEndingOver bytes choices name held before after status text
+pub data IsEndingOver (bytes : List ℕ) (choices : Choices) (name : List ℕ) (held : Option (List ℕ))
+    (before after : List ℕ → ℕ) (status : Status) (text : List ℕ) : Type 0 where
+  over : (catalog : Catalog) → SaysCatalog bytes catalog → IsEndingAt catalog choices name held before after status text
+      → IsEndingOver bytes choices name held before after status text
+  refused : status ≡ CatalogRefused → (cause : List ℕ) → IsNoCatalog bytes cause → text ≡ catalog_refused cause
+      → IsEndingOver bytes choices name held before after status text
 
 -- a search was done
 abbrev pub IsDone : Status → Type 0

@@ -1,7 +1,8 @@
 -- The numbers of the statuses.
 use Rattle.std.specs.Prelude.{ℕ}
 use Rattle.orca_cli.specs.declared.status.Status.{Status}
-use Rattle.orca_cli.specs.declared.status.Status.TheVariants.{Planned, NoPlan, Usage, QueryRefused, CatalogRefused, TooManyEntries, ReadFault, WriteFault, Memory}
+use Rattle.orca_cli.specs.declared.status.Status.TheVariants.{Planned, NoPlan, Usage, QueryRefused, CatalogRefused}
+use Rattle.orca_cli.specs.declared.status.Status.TheVariants.{TooManyEntries, ReadFault, WriteFault, Memory}
 
 -- the number with which the program ends
 abbrev pub number_of : Status → ℕ

@@ -1,5 +1,6 @@
 -- What a shelf in memory holds and counts, and what its calls do to that.
-use Rattle.std.specs.Prelude.{◌≡◌, ◌≢◌, ℕ, ◌<◌, Bool, ◌&&◌, ◌||◌, ◌==◌, if◌then◌else◌, IsFalse, List, [], ◌∷◌, ◌++◌, length, ⊤, Option, Some, option_map, is_none, IfSome, bytes_eq}
+use Rattle.std.specs.Prelude.{◌≡◌, ◌≢◌, ℕ, ◌<◌, Bool, ◌&&◌, ◌||◌, ◌==◌, if◌then◌else◌, IsFalse, List, [], ◌∷◌, ◌++◌}
+use Rattle.std.specs.Prelude.{length, ⊤, Option, Some, option_map, is_none, IfSome, bytes_eq}
 use Rattle.std.specs.Option.{option_map_or}
 use Rattle.std.specs.List.{list_any}
 use Rattle.std.specs.BTreeMap.{get_by_text}
@@ -46,7 +47,8 @@ shares_count shelf name other = bytes_eq name other || (is_none (held_by shelf n
 
 -- the count of a name after one fault more at the name that was asked for
 abbrev pub faults_after : MemShelf → List ℕ → List ℕ → ℕ
-faults_after shelf asked name = if shares_count shelf asked name then next (faults_of shelf name) else faults_of shelf name
+faults_after shelf asked name = if shares_count shelf asked name then next (faults_of shelf name) else faults_of shelf
+    name
 
 -- the readings made, and those named to fail, are the same
 pub record KeepsCalls (old new : MemShelf) : Type 0 where

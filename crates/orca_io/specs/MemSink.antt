@@ -1,5 +1,6 @@
 -- What a sink in memory has taken, and what a call does to it.
-use Rattle.std.specs.Prelude.{ℕ, ◌+◌, Bool, ◌&&◌, ◌==◌, if◌then◌else◌, nat_le, List, ◌++◌, length, take, find, Option, option_map, is_none}
+use Rattle.std.specs.Prelude.{ℕ, ◌+◌, Bool, ◌&&◌, ◌==◌, if◌then◌else◌, nat_le, List, ◌++◌, length, take, find, Option}
+use Rattle.std.specs.Prelude.{option_map, is_none}
 use Rattle.std.specs.Option.{option_map_or}
 use Rattle.orca_io.specs.Count.{next}
 

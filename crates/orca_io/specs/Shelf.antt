@@ -35,7 +35,8 @@ pub record OnlyTooLong (seen : ℕ) (held : Option (List ℕ)) (limit before now
   pub too_long : IsTooLong seen held limit
   pub no_fault : now ≡ before
 
--- why a reading was refused: the name's count of faults rose, or there was no fault and more is held than the limit, or memory is short
+-- why a reading was refused: the name's count of faults rose, or there was no fault and more is held than the limit, or
+-- memory is short
 abbrev pub HasCause : ShelfError → Option (List ℕ) → ℕ → ℕ → ℕ → Type 0
 HasCause Failed held limit before now = Rose before now
 HasCause (TooLong seen) held limit before now = OnlyTooLong seen held limit before now

@@ -1,5 +1,7 @@
 -- The first and the last place where a fact is lacking: in lists of two parts, and that each is one.
-use Rattle.std.proofs.Common.{◌≡◌, ℕ, suc, ◌+◌, ◌-◌, ◌<◌, ◌↔◌, Bool, true, false, IsTrue, List, [], ◌∷◌, ◌++◌, length, get_or, Option, None, Some, refl, sym, ap, subst, ◌∙◌, append_assoc, length-append, arith, inl, inr}
+use Rattle.std.proofs.Common.{◌≡◌, ℕ, suc, ◌+◌, ◌-◌, ◌<◌, ◌↔◌, Bool, true, false, IsTrue, List, [], ◌∷◌, ◌++◌, length}
+use Rattle.std.proofs.Common.{get_or, Option, None, Some, refl, sym, ap, subst, ◌∙◌, append_assoc, length-append, arith}
+use Rattle.std.proofs.Common.{inl, inr}
 use Rattle.std.specs.List.{All}
 use Rattle.std.proofs.Math.Seq.{get_or-append_seam}
 use Rattle.std.proofs.lemmas.Bool.{cases_lt}
@@ -37,19 +39,23 @@ module _ {X : Type 0} (Fact : X → Type 0) where
   }
 
   -- what stands in a front part stands at the same place of all
-  front_part : (xs ys before : List X) (x : X) (behind : List X) → xs ≡ before ++ x ∷ behind → xs ++ ys ≡ before ++ x ∷ (behind ++ ys)
+  front_part : (xs ys before : List X) (x : X) (behind : List X) → xs ≡ before ++ x ∷ behind
+      → xs ++ ys ≡ before ++ x ∷ (behind ++ ys)
   front_part xs ys before x behind parts = ap (λ zs. zs ++ ys) parts ∙ append_assoc before (x ∷ behind) ys
 
   -- what stands in a part behind stands behind the front part
-  back_part : (xs ys before : List X) (x : X) (behind : List X) → ys ≡ before ++ x ∷ behind → xs ++ ys ≡ (xs ++ before) ++ x ∷ behind
+  back_part : (xs ys before : List X) (x : X) (behind : List X) → ys ≡ before ++ x ∷ behind
+      → xs ++ ys ≡ (xs ++ before) ++ x ∷ behind
   back_part xs ys before x behind parts = ap (λ zs. xs ++ zs) parts ∙ sym (append_assoc xs before (x ∷ behind))
 
   -- and so many places later
-  back_place : (xs before : List X) (count place : ℕ) → count ≡ length xs → place ≡ length before → count + place ≡ length (xs ++ before)
+  back_place : (xs before : List X) (count place : ℕ) → count ≡ length xs → place ≡ length before
+      → count + place ≡ length (xs ++ before)
   back_place xs before count place many at = let both = length-append xs before in omega arith
 
   -- the first place of all is that of the front part, or else that of the part behind
-  pub first_joined : (xs ys : List X) (left : Option ℕ) (count : ℕ) (right : Option ℕ) → count ≡ length xs → IsFirst Fact xs left → IsFirst Fact ys right
+  pub first_joined : (xs ys : List X) (left : Option ℕ) (count : ℕ) (right : Option ℕ) → count ≡ length xs
+      → IsFirst Fact xs left → IsFirst Fact ys right
       → IsFirst Fact (xs ++ ys) (sooner_of left count right)
   first_joined xs ys (Some place) count right many first second = record {
     before = first.before;
@@ -72,7 +78,8 @@ module _ {X : Type 0} (Fact : X → Type 0) where
   }
 
   -- the last place of all is that of the part behind, or else that of the front part
-  pub last_joined : (xs ys : List X) (left : Option ℕ) (count : ℕ) (right : Option ℕ) → count ≡ length xs → IsLast Fact xs left → IsLast Fact ys right
+  pub last_joined : (xs ys : List X) (left : Option ℕ) (count : ℕ) (right : Option ℕ) → count ≡ length xs
+      → IsLast Fact xs left → IsLast Fact ys right
       → IsLast Fact (xs ++ ys) (later_of left count right)
   last_joined xs ys None count None many first second = All-append Fact xs ys first second
   last_joined xs ys (Some place) count None many first second = record {
@@ -97,55 +104,72 @@ module _ {X : Type 0} (Fact : X → Type 0) where
   -- ---- a list as a node and those below it: none, those of one plan, and those of two
 
   -- the first place, by those of the parts
-  pub first_of_one : (list : List X) (x : X) (right : Bool) (own : Option ℕ) → list ≡ x ∷ [] → (IsTrue right ↔ Fact x) → own ≡ own_place_of right
+  pub first_of_one : (list : List X) (x : X) (right : Bool) (own : Option ℕ) → list ≡ x ∷ [] → (IsTrue right ↔ Fact x)
+      → own ≡ own_place_of right
       → IsFirst Fact list own
   first_of_one list x right own parts tells own_is =
-      subst (λ zs. IsFirst Fact zs own) (sym parts) (subst (λ place. IsFirst Fact (x ∷ []) place) (sym own_is) (first_alone x right tells))
+      subst (λ zs. IsFirst Fact zs own) (sym parts)
+      (subst (λ place. IsFirst Fact (x ∷ []) place) (sym own_is) (first_alone x right tells))
 
-  pub first_of_more : (list : List X) (x : X) (ys : List X) (right : Bool) (own below found : Option ℕ) → list ≡ x ∷ ys → (IsTrue right ↔ Fact x)
+  pub first_of_more : (list : List X) (x : X) (ys : List X) (right : Bool) (own below found : Option ℕ) → list ≡ x ∷ ys
+      → (IsTrue right ↔ Fact x)
       → own ≡ own_place_of right → IsFirst Fact ys below → found ≡ sooner_of own 1 below → IsFirst Fact list found
   first_of_more list x ys right own below found parts tells own_is first found_is =
       let root = first_of_one (x ∷ []) x right own refl tells own_is in
       let all = first_joined (x ∷ []) ys own 1 below (omega arith) root first in
       subst (λ zs. IsFirst Fact zs found) (sym parts) (subst (λ place. IsFirst Fact (x ∷ ys) place) (sym found_is) all)
 
-  pub first_of_both : (list : List X) (x : X) (ys zs : List X) (right : Bool) (own left second below found : Option ℕ) (count : ℕ) → list ≡ x ∷ (ys ++ zs)
-      → (IsTrue right ↔ Fact x) → own ≡ own_place_of right → count ≡ length ys → IsFirst Fact ys left → IsFirst Fact zs second
+  pub first_of_both : (list : List X) (x : X) (ys zs : List X) (right : Bool) (own left second below found : Option ℕ)
+      (count : ℕ) → list ≡ x ∷ (ys ++ zs)
+      → (IsTrue right ↔ Fact x) → own ≡ own_place_of right → count ≡ length ys → IsFirst Fact ys left
+      → IsFirst Fact zs second
       → below ≡ sooner_of left count second → found ≡ sooner_of own 1 below → IsFirst Fact list found
-  first_of_both list x ys zs right own left second below found count parts tells own_is many first other below_is found_is =
+  first_of_both list x ys zs right own left second below found count parts tells own_is many first other below_is
+      found_is =
       let joined = first_joined ys zs left count second many first other in
-      first_of_more list x (ys ++ zs) right own below found parts tells own_is (subst (λ place. IsFirst Fact (ys ++ zs) place) (sym below_is) joined) found_is
+      first_of_more list x (ys ++ zs) right own below found parts tells own_is
+      (subst (λ place. IsFirst Fact (ys ++ zs) place) (sym below_is) joined) found_is
 
   -- the last place, by those of the parts
-  pub last_of_one : (list : List X) (x : X) (right : Bool) (own : Option ℕ) → list ≡ x ∷ [] → (IsTrue right ↔ Fact x) → own ≡ own_place_of right
+  pub last_of_one : (list : List X) (x : X) (right : Bool) (own : Option ℕ) → list ≡ x ∷ [] → (IsTrue right ↔ Fact x)
+      → own ≡ own_place_of right
       → IsLast Fact list own
   last_of_one list x right own parts tells own_is =
-      subst (λ zs. IsLast Fact zs own) (sym parts) (subst (λ place. IsLast Fact (x ∷ []) place) (sym own_is) (last_alone x right tells))
+      subst (λ zs. IsLast Fact zs own) (sym parts)
+      (subst (λ place. IsLast Fact (x ∷ []) place) (sym own_is) (last_alone x right tells))
 
-  pub last_of_more : (list : List X) (x : X) (ys : List X) (right : Bool) (own below found : Option ℕ) → list ≡ x ∷ ys → (IsTrue right ↔ Fact x)
+  pub last_of_more : (list : List X) (x : X) (ys : List X) (right : Bool) (own below found : Option ℕ) → list ≡ x ∷ ys
+      → (IsTrue right ↔ Fact x)
       → own ≡ own_place_of right → IsLast Fact ys below → found ≡ later_of own 1 below → IsLast Fact list found
   last_of_more list x ys right own below found parts tells own_is last found_is =
       let root = last_of_one (x ∷ []) x right own refl tells own_is in
       let all = last_joined (x ∷ []) ys own 1 below (omega arith) root last in
       subst (λ zs. IsLast Fact zs found) (sym parts) (subst (λ place. IsLast Fact (x ∷ ys) place) (sym found_is) all)
 
-  pub last_of_both : (list : List X) (x : X) (ys zs : List X) (right : Bool) (own left second below found : Option ℕ) (count : ℕ) → list ≡ x ∷ (ys ++ zs)
-      → (IsTrue right ↔ Fact x) → own ≡ own_place_of right → count ≡ length ys → IsLast Fact ys left → IsLast Fact zs second
+  pub last_of_both : (list : List X) (x : X) (ys zs : List X) (right : Bool) (own left second below found : Option ℕ)
+      (count : ℕ) → list ≡ x ∷ (ys ++ zs)
+      → (IsTrue right ↔ Fact x) → own ≡ own_place_of right → count ≡ length ys → IsLast Fact ys left
+      → IsLast Fact zs second
       → below ≡ later_of left count second → found ≡ later_of own 1 below → IsLast Fact list found
-  last_of_both list x ys zs right own left second below found count parts tells own_is many last other below_is found_is =
+  last_of_both list x ys zs right own left second below found count parts tells own_is many last other below_is
+      found_is =
       let joined = last_joined ys zs left count second many last other in
-      last_of_more list x (ys ++ zs) right own below found parts tells own_is (subst (λ place. IsLast Fact (ys ++ zs) place) (sym below_is) joined) found_is
+      last_of_more list x (ys ++ zs) right own below found parts tells own_is
+      (subst (λ place. IsLast Fact (ys ++ zs) place) (sym below_is) joined) found_is
 
   -- ---- there is one
 
   -- the element that is told stands at the place
-  stands_at : (xs before : List X) (x : X) (behind : List X) → xs ≡ before ++ x ∷ behind → get_or xs (length before) x ≡ x
-  stands_at xs before x behind parts = ap (λ zs. get_or zs (length before) x) parts ∙ get_or-append_seam before x behind x
+  stands_at : (xs before : List X) (x : X) (behind : List X) → xs ≡ before ++ x ∷ behind
+      → get_or xs (length before) x ≡ x
+  stands_at xs before x behind parts = ap (λ zs. get_or zs (length before) x) parts
+      ∙ get_or-append_seam before x behind x
 
   -- where the fact holds of all, it holds of the element that is told
   has_all : (xs before : List X) (x : X) (behind : List X) → xs ≡ before ++ x ∷ behind → All Fact xs → Fact x
   has_all xs before x behind parts all =
-      let long : length xs ≡ length before + length (x ∷ behind) = ap length parts ∙ length-append before (x ∷ behind) in
+      let long : length xs ≡ length before + length (x ∷ behind) = ap length parts
+      ∙ length-append before (x ∷ behind) in
       subst Fact (stands_at xs before x behind parts) (all (length before) x (omega arith))
 
   -- so no place is told where it does
@@ -156,16 +180,19 @@ module _ {X : Type 0} (Fact : X → Type 0) where
   last_not_all xs place last all = last.lacks (has_all xs last.before last.element last.behind last.parts all)
 
   -- no element before the first lacks the fact
-  none_before : (xs : List X) (place other : ℕ) → IsFirstWithout Fact xs place → IsFirstWithout Fact xs other → place < other → ⊥
+  none_before : (xs : List X) (place other : ℕ) → IsFirstWithout Fact xs place → IsFirstWithout Fact xs other
+      → place < other → ⊥
   none_before xs place other first second less =
       let sooner : length first.before < length second.before = omega (arith, first.count, second.count) in
       let x = first.element in
       let there = stands_at xs first.before x first.behind first.parts in
       let front : get_or xs (length first.before) x ≡ get_or second.before (length first.before) x =
-      ap (λ zs. get_or zs (length first.before) x) second.parts ∙ get_or_append_left second.before (second.element ∷ second.behind) x (length first.before) sooner in
+      ap (λ zs. get_or zs (length first.before) x) second.parts
+      ∙ get_or_append_left second.before (second.element ∷ second.behind) x (length first.before) sooner in
       first.lacks (subst Fact (sym front ∙ there) (second.others (length first.before) x sooner))
 
-  pub first_one : (xs : List X) (place other : ℕ) → IsFirstWithout Fact xs place → IsFirstWithout Fact xs other → place ≡ other
+  pub first_one : (xs : List X) (place other : ℕ) → IsFirstWithout Fact xs place → IsFirstWithout Fact xs other
+      → place ≡ other
   first_one xs place other first second = elim (cases_lt place other) [
     | inl less ↦ absurd (none_before xs place other first second less)
     | inr most ↦ elim (cases_lt other place) [
@@ -175,13 +202,15 @@ module _ {X : Type 0} (Fact : X → Type 0) where
   ]
 
   -- no element behind the last lacks the fact
-  none_behind : (xs : List X) (place other : ℕ) → IsLastWithout Fact xs place → IsLastWithout Fact xs other → other < place → ⊥
+  none_behind : (xs : List X) (place other : ℕ) → IsLastWithout Fact xs place → IsLastWithout Fact xs other
+      → other < place → ⊥
   none_behind xs place other first second less =
       let x = first.element in
       let n = length first.before - (length second.before + 1) in
       let at : length first.before ≡ length second.before + suc n = omega (arith, first.count, second.count) in
       let there = stands_at xs first.before x first.behind first.parts in
-      let long : length xs ≡ length first.before + length (x ∷ first.behind) = ap length first.parts ∙ length-append first.before (x ∷ first.behind) in
+      let long : length xs ≡ length first.before + length (x ∷ first.behind) = ap length first.parts
+      ∙ length-append first.before (x ∷ first.behind) in
       let also : length xs ≡ length second.before + length (second.element ∷ second.behind) =
       ap length second.parts ∙ length-append second.before (second.element ∷ second.behind) in
       let back : get_or xs (length first.before) x ≡ get_or second.behind n x =
@@ -190,7 +219,8 @@ module _ {X : Type 0} (Fact : X → Type 0) where
       ∙ get_or-append-add second.before (second.element ∷ second.behind) (suc n) x in
       first.lacks (subst Fact (sym back ∙ there) (second.others n x (omega (arith, at, long, also))))
 
-  pub last_one : (xs : List X) (place other : ℕ) → IsLastWithout Fact xs place → IsLastWithout Fact xs other → place ≡ other
+  pub last_one : (xs : List X) (place other : ℕ) → IsLastWithout Fact xs place → IsLastWithout Fact xs other
+      → place ≡ other
   last_one xs place other first second = elim (cases_lt place other) [
     | inl less ↦ absurd (none_behind xs other place second first less)
     | inr most ↦ elim (cases_lt other place) [

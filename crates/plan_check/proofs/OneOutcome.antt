@@ -14,7 +14,8 @@ use Rattle.plan_check.specs.Places.{IsFirstWithout, IsLastWithout}
 use Rattle.plan_check.specs.Preorder.{nodes_of, plans_in}
 use Rattle.plan_check.specs.Nodes.{IsNodeOf}
 use Rattle.plan_check.specs.Kids.{RootHasKids, RootFits}
-use Rattle.plan_check.specs.Outcome.{IsSmall, IsTooLarge, HasShapeFault, IsTreeOf, HasKidsFault, HasNeedsFault, IsUnsatisfied, IsGood, HasFault, IsOutcome}
+use Rattle.plan_check.specs.Outcome.{IsSmall, IsTooLarge, HasShapeFault, IsTreeOf, HasKidsFault, HasNeedsFault}
+use Rattle.plan_check.specs.Outcome.{IsUnsatisfied, IsGood, HasFault, IsOutcome}
 use Rattle.plan_check.specs.declared.fault.PlanFault.{PlanFault}
 use Rattle.plan_check.specs.declared.fault.PlanFault.TheVariants.{TooLarge, Shape, Kids, Needs, Unsatisfied}
 use Rattle.plan_check.proofs.FirstAndLast.{first_not_all, last_not_all, first_one, last_one}
@@ -33,30 +34,38 @@ module _ (one : NodesAreOne) (q : Query) (plan : Plan) (request : Request) where
   shape_not_known : (node : ℕ) (tree : Tree) → HasShapeFault q plan node → IsTreeOf q plan tree → ⊥
   shape_not_known node tree fault is_tree = first_not_all (IsNodeOf q) (nodes_of plan) node fault.first is_tree.known
 
-  kids_not_right : (node : ℕ) (tree : Tree) → HasKidsFault q plan node → IsTreeOf q plan tree → All (RootHasKids q) (plans_in tree) → ⊥
+  kids_not_right : (node : ℕ) (tree : Tree) → HasKidsFault q plan node → IsTreeOf q plan tree
+      → All (RootHasKids q) (plans_in tree) → ⊥
   kids_not_right node tree fault is_tree all =
       let same = same_tree tree fault.tree is_tree fault.is_tree in
-      last_not_all (RootHasKids q) (plans_in fault.tree) node fault.last (subst (λ (t : Tree). All (RootHasKids q) (plans_in t)) same all)
+      last_not_all (RootHasKids q) (plans_in fault.tree) node fault.last
+      (subst (λ (t : Tree). All (RootHasKids q) (plans_in t)) same all)
 
-  needs_not_met : (node : ℕ) (tree : Tree) → HasNeedsFault q plan node → IsTreeOf q plan tree → IsValid (IsCandidate q) q tree → ⊥
+  needs_not_met : (node : ℕ) (tree : Tree) → HasNeedsFault q plan node → IsTreeOf q plan tree
+      → IsValid (IsCandidate q) q tree → ⊥
   needs_not_met node tree fault is_tree valid =
       let same = same_tree tree fault.tree is_tree fault.is_tree in
-      first_not_all (RootFits q) (plans_in fault.tree) node fault.first (subst (λ (t : Tree). All (RootFits q) (plans_in t)) same (valid_fits q tree valid))
+      first_not_all (RootFits q) (plans_in fault.tree) node fault.first
+      (subst (λ (t : Tree). All (RootFits q) (plans_in t)) same (valid_fits q tree valid))
 
-  unmet_not_met : (tree : Tree) → IsUnsatisfied q plan request → IsTreeOf q plan tree → Satisfies q (gives q tree) request → ⊥
+  unmet_not_met : (tree : Tree) → IsUnsatisfied q plan request → IsTreeOf q plan tree
+      → Satisfies q (gives q tree) request → ⊥
   unmet_not_met tree fault is_tree met =
-      fault.unmet (subst (λ (t : Tree). Satisfies q (gives q t) request) (same_tree tree fault.tree is_tree fault.is_tree) met)
+      fault.unmet (subst (λ (t : Tree). Satisfies q (gives q t) request)
+      (same_tree tree fault.tree is_tree fault.is_tree) met)
 
   -- a fault is told at one node, and there is one cost
   kids_one : (node other : ℕ) → HasKidsFault q plan node → HasKidsFault q plan other → node ≡ other
   kids_one node other x y =
       let same = same_tree x.tree y.tree x.is_tree y.is_tree in
-      last_one (RootHasKids q) (plans_in y.tree) node other (subst (λ (t : Tree). IsLastWithout (RootHasKids q) (plans_in t) node) same x.last) y.last
+      last_one (RootHasKids q) (plans_in y.tree) node other
+      (subst (λ (t : Tree). IsLastWithout (RootHasKids q) (plans_in t) node) same x.last) y.last
 
   needs_one : (node other : ℕ) → HasNeedsFault q plan node → HasNeedsFault q plan other → node ≡ other
   needs_one node other x y =
       let same = same_tree x.tree y.tree x.is_tree y.is_tree in
-      first_one (RootFits q) (plans_in y.tree) node other (subst (λ (t : Tree). IsFirstWithout (RootFits q) (plans_in t) node) same x.first) y.first
+      first_one (RootFits q) (plans_in y.tree) node other
+      (subst (λ (t : Tree). IsFirstWithout (RootFits q) (plans_in t) node) same x.first) y.first
 
   cost_one : (cost other : ℕ) → IsGood q plan request cost → IsGood q plan request other → cost ≡ other
   cost_one cost other x y = x.costs ∙ ap (cost_of q) (same_tree x.tree y.tree x.is_tree y.is_tree) ∙ sym y.costs
@@ -98,13 +107,18 @@ module _ (one : NodesAreOne) (q : Query) (plan : Plan) (request : Request) where
   good_no_fault cost Unsatisfied x y = unmet_not_met x.tree y x.is_tree x.satisfies
 
   -- so there is one outcome
-  one_outcome : (result other : Result ℕ PlanFault) → IsOutcome q plan request result → IsOutcome q plan request other → result ≡ other
+  one_outcome : (result other : Result ℕ PlanFault) → IsOutcome q plan request result → IsOutcome q plan request other
+      → result ≡ other
   one_outcome (Ok cost) (Ok other) x y = ap Ok (cost_one cost other x y)
   one_outcome (Ok cost) (Err fault) x y = absurd (good_no_fault cost fault x y)
   one_outcome (Err fault) (Ok cost) x y = absurd (good_no_fault cost fault y x)
   one_outcome (Err fault) (Err other) x y = ap Err (one_fault fault other x y)
 
   -- so an answer is given exactly where it is the outcome
-  pub is_outcome : (result other : Result ℕ PlanFault) → IsOutcome q plan request result → (result ≡ other) ↔ IsOutcome q plan request other
-  is_outcome result other is =
-      (λ same. subst (λ (r : Result ℕ PlanFault). IsOutcome q plan request r) same is, λ also. one_outcome result other is also)
+  pub is_outcome : (result other : Result ℕ PlanFault) → IsOutcome q plan request result → (result ≡ other)
+      ↔ IsOutcome q plan request other
+  is_outcome result other is = (
+    λ same. subst (λ (r : Result ℕ PlanFault). IsOutcome q plan request r) same is,
+    λ also.
+        one_outcome result other is also,
+  )

@@ -23,8 +23,10 @@ use Rattle.plan_check.proofs.Lists.{all_left, all_right}
 -- a tree is valid where each root in it may stand over its kids
 pub fits_valid : (q : Query) (tree : Tree) → All (RootFits q) (plans_in tree) → IsValid (IsCandidate q) q tree
 fits_valid q (leaf node) all = All-head (RootFits q) (leaf node) [] all
-fits_valid q (over node kid) all =
-    (fits_valid q kid (All-tail (RootFits q) (over node kid) (plans_in kid) all), All-head (RootFits q) (over node kid) (plans_in kid) all)
+fits_valid q (over node kid) all = (
+  fits_valid q kid (All-tail (RootFits q) (over node kid) (plans_in kid) all),
+  All-head (RootFits q) (over node kid) (plans_in kid) all,
+)
 fits_valid q (two node left right) all =
     let below = All-tail (RootFits q) (two node left right) (plans_in left ++ plans_in right) all in (
       fits_valid q left (all_left (RootFits q) (plans_in left) (plans_in right) below),
@@ -35,7 +37,8 @@ fits_valid q (two node left right) all =
 -- and where it is valid, each may
 pub valid_fits : (q : Query) (tree : Tree) → IsValid (IsCandidate q) q tree → All (RootFits q) (plans_in tree)
 valid_fits q (leaf node) valid = All-cons (RootFits q) (leaf node) [] valid (All-nil (RootFits q))
-valid_fits q (over node kid) (below, fits) = All-cons (RootFits q) (over node kid) (plans_in kid) fits (valid_fits q kid below)
+valid_fits q (over node kid) (below, fits) =
+    All-cons (RootFits q) (over node kid) (plans_in kid) fits (valid_fits q kid below)
 valid_fits q (two node left right) (first, second, fits) =
     All-cons (RootFits q) (two node left right) (plans_in left ++ plans_in right) fits
     (All-append (RootFits q) (plans_in left) (plans_in right) (valid_fits q left first) (valid_fits q right second))
@@ -47,7 +50,8 @@ over_one Fact (kid ∷ []) fits = tt
 over_one Fact (kid ∷ other ∷ others) fits = absurd fits
 
 -- a line stands over plans of the children
-line_kids : (q : Query) (found : Option Line) (children : Children) (kids : List Kid) → FitsBy q found children kids → AreOf (groups_of children) kids
+line_kids : (q : Query) (found : Option Line) (children : Children) (kids : List Kid) → FitsBy q found children kids
+    → AreOf (groups_of children) kids
 line_kids q None children kids fits = absurd fits
 line_kids q (Some (Alone dist order)) children kids fits = rw (fits.0, fits.1) tt
 line_kids q (Some (Above dist order)) children [] fits = absurd fits
@@ -55,7 +59,8 @@ line_kids q (Some (Above dist order)) children (kid ∷ []) fits = rw fits.of_ch
 line_kids q (Some (Above dist order)) children (kid ∷ other ∷ others) fits = absurd fits
 line_kids q (Some (Beside dist order request)) children [] fits = absurd fits
 line_kids q (Some (Beside dist order request)) children (kid ∷ []) fits = absurd fits
-line_kids q (Some (Beside dist order request)) children (left ∷ right ∷ []) fits = rw fits.of_children (refl, (refl, tt))
+line_kids q (Some (Beside dist order request)) children (left ∷ right ∷ []) fits =
+    rw fits.of_children (refl, (refl, tt))
 line_kids q (Some (Beside dist order request)) children (left ∷ right ∷ other ∷ others) fits = absurd fits
 
 -- a node that may stand over its kids has the right ones
@@ -66,4 +71,5 @@ fits_kids q (nodes.Enforcer e) kids fits = over_one (EnforcerFits q e) kids fits
 -- so a valid tree has the right kids everywhere
 pub valid_kids : (q : Query) (tree : Tree) → IsValid (IsCandidate q) q tree → All (RootHasKids q) (plans_in tree)
 valid_kids q tree valid =
-    All-weaker (RootFits q) (RootHasKids q) (λ plan fits. fits_kids q (root_node plan) (kids_of q plan) fits) (plans_in tree) (valid_fits q tree valid)
+    All-weaker (RootFits q) (RootHasKids q) (λ plan fits. fits_kids q (root_node plan) (kids_of q plan) fits)
+    (plans_in tree) (valid_fits q tree valid)

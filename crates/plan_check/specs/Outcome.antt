@@ -46,7 +46,8 @@ pub record HasKidsFault (q : Query) (plan : Plan) (node : ℕ) : Type 0 where
   pub is_tree : IsTreeOf q plan tree
   pub last : IsLastWithout (RootHasKids q) (plans_in tree) node
 
--- in a tree with the right kids this is the first node whose kids don't give what it needs, or whose order or list doesn't lie in its group
+-- in a tree with the right kids this is the first node whose kids don't give what it needs, or whose order or list
+-- doesn't lie in its group
 pub record HasNeedsFault (q : Query) (plan : Plan) (node : ℕ) : Type 0 where
   pub tree : Tree
   pub is_tree : IsTreeOf q plan tree

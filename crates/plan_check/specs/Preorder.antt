@@ -1,4 +1,5 @@
--- The nodes of a plan and the plans in it, in preorder: each before those below it, and those on the left before those on the right.
+-- The nodes of a plan and the plans in it, in preorder: each before those below it, and those on the left before those
+-- on the right.
 use Rattle.std.specs.Prelude.{List, [], ◌∷◌, ◌++◌}
 use Rattle.plan_space.specs.Nodes.{Tree, leaf, over, two}
 use Rattle.plan_tree.specs.declared.node.Node.{Node}

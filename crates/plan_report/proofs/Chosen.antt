@@ -31,24 +31,30 @@ use Rattle.plan_report.specs.Links.{IsChosen, IsLeastAt, IsLeastFor, IsOver}
 -- ---- what is told
 
 -- the answer that is told with this cost
-pub some_told : (answer : Option Best) (told : Answered) (cost : ℕ) → told.cost ≡ Some cost → told.cost ≡ option_map (λ best. best.cost) answer
-    → told.node.0 ≡ option_map_or (λ best. best.node.0) answer 0 → Some (record { cost = cost; node = told.node }) ≡ answer
+pub some_told : (answer : Option Best) (told : Answered) (cost : ℕ) → told.cost ≡ Some cost
+    → told.cost ≡ option_map (λ best. best.cost) answer
+    → told.node.0 ≡ option_map_or (λ best. best.node.0) answer 0
+    → Some (record { cost = cost; node = told.node }) ≡ answer
 some_told None told cost is costs node = let never : Some cost ≡ None = sym is ∙ costs in cc
 some_told (Some best) told cost is costs node =
     let same : Some cost ≡ Some best.cost = sym is ∙ costs in
     let cost_is : cost ≡ best.cost = cc in
-    ap (λ n. Some (record { cost = cost; node = record { 0 = n } })) node ∙ ap (λ x. Some (record { cost = x; node = best.node })) cost_is
+    ap (λ n. Some (record { cost = cost; node = record { 0 = n } })) node
+    ∙ ap (λ x. Some (record { cost = x; node = best.node })) cost_is
 
 -- the answer that is told without a cost
-pub none_told : (answer : Option Best) (told : Answered) → told.cost ≡ None → told.cost ≡ option_map (λ best. best.cost) answer → None ≡ answer
+pub none_told : (answer : Option Best) (told : Answered) → told.cost ≡ None
+    → told.cost ≡ option_map (λ best. best.cost) answer → None ≡ answer
 none_told None told is costs = refl
 none_told (Some best) told is costs = let never : None ≡ Some best.cost = sym is ∙ costs in cc
 
 -- ---- the least plan
 
 module _ (q : Query) (at : Linked) (fits : Fits q at.group at.wanted) where
-  chosen_of : (props : Props) → IsProps q props → RootsHaveNumbers q → (best : Best) (plan : Option Tree) → IsLeastIn q at.group at.wanted all_nodes plan
-      → IsAnswer (IsMember q) q at.group at.wanted plan → Some best ≡ option_map (answer_of q) plan → (found : Tree) × IsChosen q at best.node found × (best.cost ≡ cost_of q found)
+  chosen_of : (props : Props) → IsProps q props → RootsHaveNumbers q → (best : Best) (plan : Option Tree)
+      → IsLeastIn q at.group at.wanted all_nodes plan
+      → IsAnswer (IsMember q) q at.group at.wanted plan → Some best ≡ option_map (answer_of q) plan → (found : Tree)
+      × IsChosen q at best.node found × (best.cost ≡ cost_of q found)
   chosen_of props is_props roots best None least answer is = cc
   chosen_of props is_props roots best (Some plan) least answer is =
       let same : best ≡ answer_of q plan = cc in (
@@ -56,24 +62,31 @@ module _ (q : Query) (at : Linked) (fits : Fits q at.group at.wanted) where
         record {
           least = answer;
           choice = least.choice.0;
-          is_node = record { number = ap (λ b. b.node.0) same; in_range = roots props is_props at.group at.wanted plan fits least.choice.0 };
+          is_node = record {
+            number = ap (λ b. b.node.0) same;
+            in_range =
+                roots props is_props at.group at.wanted plan fits least.choice.0;
+          };
         },
         ap (λ b. b.cost) same,
       )
 
   -- what is answered is of the least plan, with its root
-  pub best_chosen : (props : Props) → IsProps q props → RootsHaveNumbers q → BestIsLeast q → (best : Best) → IsBest q at.group at.wanted all_nodes (Some best)
+  pub best_chosen : (props : Props) → IsProps q props → RootsHaveNumbers q → BestIsLeast q → (best : Best)
+      → IsBest q at.group at.wanted all_nodes (Some best)
       → (found : Tree) × IsChosen q at best.node found × (best.cost ≡ cost_of q found)
   best_chosen props is_props roots least best is =
       let (plan, is_least, answer, told) = least at.group at.wanted (Some best) fits is in
       chosen_of props is_props roots best plan is_least answer told
 
-  none_of : (plan : Option Tree) → IsAnswer (IsMember q) q at.group at.wanted plan → None ≡ option_map (answer_of q) plan → HasNoPlan (IsMember q) q at.group at.wanted
+  none_of : (plan : Option Tree) → IsAnswer (IsMember q) q at.group at.wanted plan
+      → None ≡ option_map (answer_of q) plan → HasNoPlan (IsMember q) q at.group at.wanted
   none_of None answer is = answer
   none_of (Some plan) answer is = cc
 
   -- where nothing is answered there is no plan
-  pub none_chosen : BestIsLeast q → IsBest q at.group at.wanted all_nodes None → HasNoPlan (IsMember q) q at.group at.wanted
+  pub none_chosen : BestIsLeast q → IsBest q at.group at.wanted all_nodes None
+      → HasNoPlan (IsMember q) q at.group at.wanted
   none_chosen least is =
       let (plan, is_least, answer, told) = least at.group at.wanted None fits is in
       none_of plan answer told
@@ -98,12 +111,14 @@ pub record IsMadeOverTwo (q : Query) (at : Linked) (node : Node) (first second :
   pub spells_too : Spells second right
   pub least : IsLeastAt q at (two root left right)
 
-module _ (q : Query) (one : (group : KeyParts) (wanted : Request) (plan other : Tree) → IsLeast (IsMember q) q group wanted plan → IsLeast (IsMember q) q group wanted other → other ≡ plan)
+module _ (q : Query) (one : (group : KeyParts) (wanted : Request) (plan other : Tree)
+    → IsLeast (IsMember q) q group wanted plan → IsLeast (IsMember q) q group wanted other → other ≡ plan)
     (at : Linked) (node : Node) (plan : Tree) (chosen : IsChosen q at node plan) where
   pub made_zero : IsOver q Zero plan → IsLeastAt q at (leaf (root_node plan))
   made_zero is = subst (IsLeastAt q at) is chosen.least
 
-  pub made_one : (below : Linked) (made : Plan) → IsOver q (One below) plan → IsLeastFor q below made → IsMadeOverOne q at node made
+  pub made_one : (below : Linked) (made : Plan) → IsOver q (One below) plan → IsLeastFor q below made
+      → IsMadeOverOne q at node made
   made_one below made (kid, least, is) (tree, spells, least_too) =
       let same : tree ≡ kid = one below.group below.wanted kid tree least least_too in
       record {
@@ -114,9 +129,11 @@ module _ (q : Query) (one : (group : KeyParts) (wanted : Request) (plan other : 
         least = subst (IsLeastAt q at) is chosen.least;
       }
 
-  pub made_two : (first second : Linked) (made made_too : Plan) → IsOver q (Two first second) plan → IsLeastFor q first made → IsLeastFor q second made_too
+  pub made_two : (first second : Linked) (made made_too : Plan) → IsOver q (Two first second) plan
+      → IsLeastFor q first made → IsLeastFor q second made_too
       → IsMadeOverTwo q at node made made_too
-  made_two first second made made_too (left, right, least, least_too, is) (tree, spells, tree_least) (tree_too, spells_too, tree_least_too) =
+  made_two first second made made_too (left, right, least, least_too, is) (tree, spells, tree_least)
+      (tree_too, spells_too, tree_least_too) =
       let same : tree ≡ left = one first.group first.wanted left tree least tree_least in
       let same_too : tree_too ≡ right = one second.group second.wanted right tree_too least_too tree_least_too in
       record {

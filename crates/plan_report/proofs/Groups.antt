@@ -17,7 +17,8 @@ use Rattle.plan_report.specs.Groups.{HasGroups}
 -- ---- plans of groups that the query has
 
 -- an enforcer stays in the group below it
-group_above : (q : Query) (node : NodeKind) (kids : List Kid) → HasGroup q node → IsGroup q (first_group kids) → IsGroup q (node_group node kids)
+group_above : (q : Query) (node : NodeKind) (kids : List Kid) → HasGroup q node → IsGroup q (first_group kids)
+    → IsGroup q (node_group node kids)
 group_above q (nodes.Native e mode) kids has first = has
 group_above q (nodes.Enforcer e) kids has first = first
 
@@ -44,5 +45,8 @@ module _ (q : Query) (known : (e : ExprParts) → IsMember q e → IsCandidate q
   pub valid_groups : (tree : Tree) → IsValid (IsMember q) q tree → HasGroups q tree
   valid_groups (leaf node) valid = fits_group node [] valid
   valid_groups (over node kid) valid = (fits_group node (kid_of q kid ∷ []) valid.1, valid_groups kid valid.0)
-  valid_groups (two node left right) valid =
-      (fits_group node (kid_of q left ∷ kid_of q right ∷ []) valid.2, valid_groups left valid.0, valid_groups right valid.1)
+  valid_groups (two node left right) valid = (
+    fits_group node (kid_of q left ∷ kid_of q right ∷ []) valid.2,
+    valid_groups left valid.0,
+    valid_groups right valid.1,
+  )

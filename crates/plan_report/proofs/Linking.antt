@@ -29,7 +29,8 @@ use Rattle.plan_report.specs.Links.{goal_of, groups_linked, wishes_linked, AreLi
 
 -- ---- least plans
 
-over_by : (q : Query) (found : Links) (node : NodeKind) (kids : List Tree) (plan : Tree) → AreLeast (IsMember q) q (groups_linked found) (wishes_linked found) kids
+over_by : (q : Query) (found : Links) (node : NodeKind) (kids : List Tree) (plan : Tree)
+    → AreLeast (IsMember q) q (groups_linked found) (wishes_linked found) kids
     → IsNodeOver node kids plan → root_node plan ≡ node → IsOver q found plan
 over_by q links.Zero node [] plan least is root = is ∙ ap leaf (sym root)
 over_by q links.Zero node (kid ∷ kids) plan least is root = absurd least
@@ -38,48 +39,87 @@ over_by q (links.One below) node (kid ∷ []) plan least is root = (kid, least.0
 over_by q (links.One below) node (kid ∷ other ∷ kids) plan least is root = absurd least.1
 over_by q (links.Two first second) node [] plan least is root = absurd least
 over_by q (links.Two first second) node (left ∷ []) plan least is root = absurd least.1
-over_by q (links.Two first second) node (left ∷ right ∷ []) plan least is root = (left, right, least.0, least.1.0, is ∙ ap (λ n. two n left right) (sym root))
+over_by q (links.Two first second) node (left ∷ right ∷ []) plan least is root =
+    (left, right, least.0, least.1.0, is ∙ ap (λ n. two n left right) (sym root))
 over_by q (links.Two first second) node (left ∷ right ∷ other ∷ kids) plan least is root = absurd least.1.1
 
 -- the node stands over the least plans of what it is linked to
-pub over_linked : (q : Query) (groups : List KeyParts) (wishes : List Request) (found : Links) (node : NodeKind) (kids : List Tree) (plan : Tree) → AreLinked groups wishes found
-    → AreLeast (IsMember q) q groups wishes kids → IsNodeOver node kids plan → root_node plan ≡ node → IsOver q found plan
+pub over_linked : (q : Query) (groups : List KeyParts) (wishes : List Request) (found : Links) (node : NodeKind)
+    (kids : List Tree) (plan : Tree) → AreLinked groups wishes found
+    → AreLeast (IsMember q) q groups wishes kids → IsNodeOver node kids plan → root_node plan ≡ node
+    → IsOver q found plan
 over_linked q groups wishes found node kids plan linked least is root =
-    over_by q found node kids plan (subst (λ g. AreLeast (IsMember q) q g (wishes_linked found) kids) (sym linked.groups_are) (subst (λ w. AreLeast (IsMember q) q groups w kids) (sym linked.wishes_are) least)) is root
+    over_by q found node kids plan (subst (λ g. AreLeast (IsMember q) q g (wishes_linked found) kids)
+    (sym linked.groups_are) (subst (λ w. AreLeast (IsMember q) q groups w kids) (sym linked.wishes_are) least)) is
+    root
 
 -- ---- goals
 
-module _ (q : Query) (falls : RanksFall q) (at : Linked) (goal : IsGoal q (goal_of at)) (known : IsGroup q at.group) where
-  -- what an enforcer for the request asks is a goal of a lesser rank
-  pub enforcer_lower : (e : EnforcedBy) → Fits q at.group at.wanted → Among e (enforcers_of at.wanted) → IsLower q (rank_of (goal_of at)) (record { group = at.group; wanted = e.below })
-  enforcer_lower e fits among =
-      let can = can_enforce q at.group at.wanted e fits among in
-      record {
-        is_goal = child_goal (goal_of at) (Opt at.group e.below) goal (inr (inr (e, can, refl)));
-        lower = falls (goal_of at) (Opt at.group e.below) known (inr (inr (e, can, refl)));
-      }
-
-  module _ (e : PhysicalExpr) (mode : ℕ) (line : Line) (member : IsMember q (expr_of e)) (candidate : IsCandidate q (expr_of e)) (of_group : e.group ≡ at.group)
-      (alternative : IsAlternative q e at.wanted mode line) where
-    asked_lower : (group : KeyParts) (wanted : Request) → IsAsked (groups_of (physical_children e.operator)) (asked_of line at.wanted) group wanted
-        → IsLower q (rank_of (goal_of at)) (record { group = group; wanted = wanted })
-    asked_lower group wanted asked =
-        let first = falls (goal_of at) (OptE e at.wanted) known (inr (inl (e, record { member = member; of_group = of_group; mode = mode; serves = (line, alternative) }, refl))) in
-        let second = falls (OptE e at.wanted) (Opt group wanted) candidate (group, wanted, record { mode = mode; line = line; is_alternative = alternative; is_asked = asked }, refl) in
+module _ (q : Query) (falls : RanksFall q) (at : Linked) (goal : IsGoal q (goal_of at)) (known : IsGroup q at.group)
+  where
+    -- what an enforcer for the request asks is a goal of a lesser rank
+    pub enforcer_lower : (e : EnforcedBy) → Fits q at.group at.wanted → Among e (enforcers_of at.wanted)
+        → IsLower q (rank_of (goal_of at)) (record { group = at.group; wanted = e.below })
+    enforcer_lower e fits among =
+        let can = can_enforce q at.group at.wanted e fits among in
         record {
-          is_goal = child_goal (OptE e at.wanted) (Opt group wanted)
-              (child_goal (goal_of at) (OptE e at.wanted) goal (inr (inl (e, record { member = member; of_group = of_group; mode = mode; serves = (line, alternative) }, refl))))
-              (group, wanted, record { mode = mode; line = line; is_alternative = alternative; is_asked = asked }, refl);
-          lower = omega (arith, first, second);
+          is_goal = child_goal (goal_of at) (Opt at.group e.below) goal (inr (inr (e, can, refl)));
+          lower = falls (goal_of at) (Opt at.group e.below) known (inr (inr (e, can, refl)));
         }
 
-    lower_by : (found : Links) → ((group : KeyParts) (wanted : Request) → IsAsked (groups_linked found) (wishes_linked found) group wanted
-        → IsLower q (rank_of (goal_of at)) (record { group = group; wanted = wanted })) → AreLower q (rank_of (goal_of at)) found
-    lower_by links.Zero lower = tt
-    lower_by (links.One below) lower = lower below.group below.wanted (inl (refl, refl))
-    lower_by (links.Two first second) lower = (lower first.group first.wanted (inl (refl, refl)), lower second.group second.wanted (inr (inl (refl, refl))))
+    module _ (e : PhysicalExpr) (mode : ℕ) (line : Line) (member : IsMember q (expr_of e))
+        (candidate : IsCandidate q (expr_of e)) (of_group : e.group ≡ at.group)
+        (alternative : IsAlternative q e at.wanted mode line) where
+      asked_lower : (group : KeyParts) (wanted : Request)
+          → IsAsked (groups_of (physical_children e.operator)) (asked_of line at.wanted) group wanted
+          → IsLower q (rank_of (goal_of at)) (record { group = group; wanted = wanted })
+      asked_lower group wanted asked =
+          let first = falls (goal_of at) (OptE e at.wanted) known
+          (inr (inl (
+            e,
+            record { member = member; of_group = of_group; mode = mode; serves = (line, alternative) },
+            refl,
+          ))) in
+          let second = falls (OptE e at.wanted) (Opt group wanted) candidate (
+            group,
+            wanted,
+            record { mode = mode; line = line; is_alternative = alternative; is_asked = asked },
+            refl,
+          ) in
+          record {
+            is_goal = child_goal (OptE e at.wanted) (Opt group wanted)
+                (child_goal (goal_of at) (OptE e at.wanted) goal
+                (inr (inl (
+                  e,
+                  record {
+                    member = member;
+                    of_group = of_group;
+                    mode = mode;
+                    serves =
+                        (line, alternative);
+                  },
+                  refl,
+                )))) (
+                  group,
+                  wanted,
+                  record { mode = mode; line = line; is_alternative = alternative; is_asked = asked },
+                  refl,
+                );
+            lower = omega (arith, first, second);
+          }
 
-    -- so is what an expression in a mode asks
-    pub native_lower : (found : Links) → AreLinked (groups_of (physical_children e.operator)) (asked_of line at.wanted) found → AreLower q (rank_of (goal_of at)) found
-    native_lower found linked = lower_by found (λ group wanted asked.
-        asked_lower group wanted (subst (λ g. IsAsked g (asked_of line at.wanted) group wanted) linked.groups_are (subst (λ w. IsAsked (groups_linked found) w group wanted) linked.wishes_are asked)))
+      lower_by : (found : Links) → ((group : KeyParts) (wanted : Request)
+          → IsAsked (groups_linked found) (wishes_linked found) group wanted
+          → IsLower q (rank_of (goal_of at)) (record { group = group; wanted = wanted }))
+          → AreLower q (rank_of (goal_of at)) found
+      lower_by links.Zero lower = tt
+      lower_by (links.One below) lower = lower below.group below.wanted (inl (refl, refl))
+      lower_by (links.Two first second) lower =
+          (lower first.group first.wanted (inl (refl, refl)), lower second.group second.wanted (inr (inl (refl, refl))))
+
+      -- so is what an expression in a mode asks
+      pub native_lower : (found : Links) → AreLinked (groups_of (physical_children e.operator)) (asked_of line at.wanted)
+          found → AreLower q (rank_of (goal_of at)) found
+      native_lower found linked = lower_by found (λ group wanted asked.
+          asked_lower group wanted (subst (λ g. IsAsked g (asked_of line at.wanted) group wanted) linked.groups_are
+          (subst (λ w. IsAsked (groups_linked found) w group wanted) linked.wishes_are asked)))

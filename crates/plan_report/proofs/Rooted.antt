@@ -47,10 +47,13 @@ pub record IsEnforcedRoot (q : Query) (at : Linked) (enforcer : Enforcer) (plan 
   pub is : plan ≡ over (nodes.Enforcer e.node) kid
 
 module _ (q : Query) (at : Linked) (plan : Tree) where
-  native_by : (e : PhysicalExpr) (mode : ℕ) → IsChoice (IsMember q) q at.group at.wanted plan → root_node plan ≡ nodes.Native e mode → IsNativeRoot q at e mode plan
-  native_by e mode (enforced_choice f kid among least is) root = let never : nodes.Enforcer f.node ≡ nodes.Native e mode = sym (ap root_node is) ∙ root in cc
+  native_by : (e : PhysicalExpr) (mode : ℕ) → IsChoice (IsMember q) q at.group at.wanted plan
+      → root_node plan ≡ nodes.Native e mode → IsNativeRoot q at e mode plan
+  native_by e mode (enforced_choice f kid among least is) root =
+      let never : nodes.Enforcer f.node ≡ nodes.Native e mode = sym (ap root_node is) ∙ root in cc
   native_by e mode (native_choice f other line kids member of_group alternative least is) root =
-      let node : nodes.Native f other ≡ nodes.Native e mode = sym (root_over (nodes.Native f other) kids plan is) ∙ root in
+      let node : nodes.Native f other ≡ nodes.Native e mode = sym (root_over (nodes.Native f other) kids plan is)
+      ∙ root in
       let expr : f ≡ e = cc in
       let mode_is : other ≡ mode = cc in
       subst (λ m. IsNativeRoot q at e m plan) mode_is (subst (λ x. IsNativeRoot q at x other plan) expr (record {
@@ -63,21 +66,26 @@ module _ (q : Query) (at : Linked) (plan : Tree) where
         is = is;
       }))
 
-  enforced_by : (enforcer : Enforcer) → IsChoice (IsMember q) q at.group at.wanted plan → root_node plan ≡ nodes.Enforcer enforcer → IsEnforcedRoot q at enforcer plan
+  enforced_by : (enforcer : Enforcer) → IsChoice (IsMember q) q at.group at.wanted plan
+      → root_node plan ≡ nodes.Enforcer enforcer → IsEnforcedRoot q at enforcer plan
   enforced_by enforcer (enforced_choice e kid among least is) root =
       let node : nodes.Enforcer e.node ≡ nodes.Enforcer enforcer = sym (ap root_node is) ∙ root in
       record { e = e; kid = kid; among = among; node = cc; least = least; is = is }
   enforced_by enforcer (native_choice f mode line kids member of_group alternative least is) root =
-      let never : nodes.Native f mode ≡ nodes.Enforcer enforcer = sym (root_over (nodes.Native f mode) kids plan is) ∙ root in cc
+      let never : nodes.Native f mode ≡ nodes.Enforcer enforcer = sym (root_over (nodes.Native f mode) kids plan is)
+      ∙ root in cc
 
-  pub native_root : (e : PhysicalExpr) (mode : ℕ) → IsRooted q at (nodes.Native e mode) plan → IsNativeRoot q at e mode plan
+  pub native_root : (e : PhysicalExpr) (mode : ℕ) → IsRooted q at (nodes.Native e mode) plan
+      → IsNativeRoot q at e mode plan
   native_root e mode rooted = native_by e mode rooted.choice rooted.root
 
-  pub enforced_root : (enforcer : Enforcer) → IsRooted q at (nodes.Enforcer enforcer) plan → IsEnforcedRoot q at enforcer plan
+  pub enforced_root : (enforcer : Enforcer) → IsRooted q at (nodes.Enforcer enforcer) plan
+      → IsEnforcedRoot q at enforcer plan
   enforced_root enforcer rooted = enforced_by enforcer rooted.choice rooted.root
 
   -- the node that the number is stands at the root
-  pub chosen_rooted : (node : Node) (kind : NodeKind) (found : Option NodeKind) → ((k : NodeKind) → IsNode node k ↔ (found ≡ Some k)) → found ≡ Some kind → IsChosen q at node plan
+  pub chosen_rooted : (node : Node) (kind : NodeKind) (found : Option NodeKind)
+      → ((k : NodeKind) → IsNode node k ↔ (found ≡ Some k)) → found ≡ Some kind → IsChosen q at node plan
       → IsRooted q at kind plan
   chosen_rooted node kind found exact is chosen =
       let same : Some (root_node plan) ≡ Some kind = sym ((exact (root_node plan)).0 chosen.is_node) ∙ is in

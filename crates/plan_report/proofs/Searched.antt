@@ -1,5 +1,6 @@
 -- What a binary search finds among answers that ascend by their goals' words.
-use Rattle.std.proofs.Common.{◌≡◌, ℕ, zero, suc, ◌+◌, ◌-◌, ◌<◌, ◌≤◌, List, length, get_or, Ok, Err, None, sym, ◌∙◌, inl, inr, subst, arith}
+use Rattle.std.proofs.Common.{◌≡◌, ℕ, zero, suc, ◌+◌, ◌-◌, ◌<◌, ◌≤◌, List, length, get_or, Ok, Err, None, sym, ◌∙◌, inl}
+use Rattle.std.proofs.Common.{inr, subst, arith}
 use Rattle.std.specs.List.{Contains, HoldsAt}
 use Rattle.std.specs.List.Sorted.{IsStrictlyIncreasing, IsBinarySearchResult, IsNonDecreasingBy}
 use Rattle.std.specs.Ordering.{nat_cmp, ordering_index}
@@ -12,8 +13,10 @@ use Rattle.plan_tree.specs.declared.answers.Answered.{Answered}
 use Rattle.goal_space.specs.Answers.{words_told}
 
 -- each number is below all later ones
-increases : (xs : List ℕ) → IsStrictlyIncreasing xs → (i n : ℕ) → i + n + 1 < length xs → get_or xs i 0 < get_or xs (i + n + 1) 0
-increases xs rises i zero within = subst (λ k. get_or xs i 0 < get_or xs k 0) (omega arith) (rises i (omega (arith, within)))
+increases : (xs : List ℕ) → IsStrictlyIncreasing xs → (i n : ℕ) → i + n + 1 < length xs
+    → get_or xs i 0 < get_or xs (i + n + 1) 0
+increases xs rises i zero within = subst (λ k. get_or xs i 0 < get_or xs k 0) (omega arith)
+    (rises i (omega (arith, within)))
 increases xs rises i (suc n) within =
     let before = increases xs rises i n (omega (arith, within)) in
     let next = rises (i + n + 1) (omega (arith, within)) in
@@ -44,21 +47,28 @@ module _ (list : List Answered) (rises : IsStrictlyIncreasing (words_told list))
   index_rises a b most = grind (arith, nat_tests)
 
   comparisons_rise : IsNonDecreasingBy (λ answered. ordering_index (nat_cmp answered.goal.0 word)) list
-  comparisons_rise i j d most within = index_rises (get_or list i d).goal.0 (get_or list j d).goal.0 (words_rise i j d most within)
+  comparisons_rise i j d most within = index_rises (get_or list i d).goal.0 (get_or list j d).goal.0
+      (words_rise i j d most within)
 
   -- what is found has the word
-  pub found_there : (place : ℕ) → IsBinarySearchResult (λ answered. nat_cmp answered.goal.0 word) list (Ok place) → HoldsAt (λ answered. answered.goal.0 ≡ word) list place
+  pub found_there : (place : ℕ) → IsBinarySearchResult (λ answered. nat_cmp answered.goal.0 word) list (Ok place)
+      → HoldsAt (λ answered. answered.goal.0 ≡ word) list place
   found_there place equal d = ranked _ word _ (sym (equal d))
 
   -- a word that is there is found
-  pub there_found : (gap : ℕ) → Contains (words_told list) word → IsBinarySearchResult (λ answered. nat_cmp answered.goal.0 word) list (Err gap) → ⊥
+  pub there_found : (gap : ℕ) → Contains (words_told list) word
+      → IsBinarySearchResult (λ answered. nat_cmp answered.goal.0 word) list (Err gap) → ⊥
   there_found gap (place, near, at) parted =
       let some : Answered = record { goal = record { 0 = 0 }; node = record { 0 = 0 }; cost = None } in
       let many = words_many in
       let within : place < length list = omega (arith, near, many) in
-      let here : get_or (words_told list) place word ≡ (get_or list place some).goal.0 = get_or-map (λ answered. answered.goal.0) list place some word within in
+      let here : get_or (words_told list) place word ≡ (get_or list place some).goal.0 =
+      get_or-map (λ answered. answered.goal.0) list place some word within in
       let is : (get_or list place some).goal.0 ≡ word = sym here ∙ at in
       elim (cases_lt place gap) [
-        | inl before ↦ let less : (get_or list place some).goal.0 < word = ranked _ word _ (sym ((parted comparisons_rise).0 place some (omega arith) before)) in omega (arith, less, is)
-        | inr behind ↦ let more : word < (get_or list place some).goal.0 = ranked _ word _ (sym ((parted comparisons_rise).1 place some behind within)) in omega (arith, more, is)
+        | inl before ↦ let less : (get_or list place some).goal.0 < word =
+            ranked _ word _ (sym ((parted comparisons_rise).0 place some (omega arith) before)) in
+            omega (arith, less, is)
+        | inr behind ↦ let more : word < (get_or list place some).goal.0 =
+            ranked _ word _ (sym ((parted comparisons_rise).1 place some behind within)) in omega (arith, more, is)
       ]

@@ -15,7 +15,8 @@ use Rattle.plan_report.specs.Text.{plan_section, no_plan_section}
 -- the bytes are the lines of the valid plan tree that the plan is, where the cost is that tree's
 abbrev pub IsLeastText : Query → Plan → ℕ → List ℕ → Type 0
 IsLeastText q plan cost text =
-    (tree : Tree) → Spells plan tree → IsValid (IsMember q) q tree → cost ≡ cost_of q tree → text ≡ concat (plan_section q tree)
+    (tree : Tree) → Spells plan tree → IsValid (IsMember q) q tree → cost ≡ cost_of q tree
+    → text ≡ concat (plan_section q tree)
 
 -- the bytes of the lines of the least plan, or of the line that says there is none
 abbrev pub IsFoundText : Query → Found → List ℕ → Type 0

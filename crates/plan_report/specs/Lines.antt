@@ -16,7 +16,8 @@ use Rattle.plan_report.specs.Groups.{HasGroups}
 -- the bytes are the node's line behind the spaces, over plans that are seen so, where the groups are the query's
 abbrev pub IsKindLine : Query → List ℕ → NodeKind → Below → List ℕ → Type 0
 IsKindLine q spaces kind below line =
-    (depth : ℕ) → spaces ≡ indent depth → HasGroup q kind → HaveGroups q below → line ≡ node_line q depth kind (kids_seen below)
+    (depth : ℕ) → spaces ≡ indent depth → HasGroup q kind → HaveGroups q below
+    → line ≡ node_line q depth kind (kids_seen below)
 
 -- the same of whichever node the program's node is
 abbrev pub IsNodeLine : Query → List ℕ → Node → Below → List ℕ → Type 0
@@ -30,4 +31,5 @@ AddsNode q spaces node below before after =
 -- the lines of whichever tree the plan is were added to the text, behind the spaces
 abbrev pub AddsPlan : Query → List ℕ → Plan → List ℕ → List ℕ → Type 0
 AddsPlan q spaces plan before after =
-    (depth : ℕ) (tree : Tree) → spaces ≡ indent depth → Spells plan tree → HasGroups q tree → after ≡ before ++ concat (plan_lines q depth tree)
+    (depth : ℕ) (tree : Tree) → spaces ≡ indent depth → Spells plan tree → HasGroups q tree
+    → after ≡ before ++ concat (plan_lines q depth tree)

@@ -62,7 +62,8 @@ pub record AreLinked (groups : List KeyParts) (wishes : List Request) (links : L
 abbrev pub IsOver : Query → Links → Tree → Type 0
 IsOver q Zero plan = plan ≡ leaf (root_node plan)
 IsOver q (One below) plan = (kid : Tree) × IsLeastAt q below kid × (plan ≡ over (root_node plan) kid)
-IsOver q (Two first second) plan = (left right : Tree) × IsLeastAt q first left × IsLeastAt q second right × (plan ≡ two (root_node plan) left right)
+IsOver q (Two first second) plan = (left right : Tree) × IsLeastAt q first left × IsLeastAt q second right
+    × (plan ≡ two (root_node plan) left right)
 
 -- a goal of the query with a rank below this one
 pub record IsLower (q : Query) (rank : ℕ) (at : Linked) : Type 0 where

@@ -24,7 +24,8 @@ use Rattle.plan_space.specs.Cost.{shape_of, cost_of}
 
 -- ---- nodes
 
--- how a hash join works: on one segment, with copies of the right side, or on rows hashed alike by the equality of this number
+-- how a hash join works: on one segment, with copies of the right side, or on rows hashed alike by the equality of this
+-- number
 abbrev pub hash_mode_text : Mode → List ℕ
 hash_mode_text (modes.One number) = codes "one"
 hash_mode_text (modes.Copied number) = codes "copied"

@@ -16,7 +16,8 @@ abbrev number_at : List EnforcedBy → ℕ → ℕ
 number_at list n = option_map_or (λ e. number_of (nodes.Enforcer e.node)) (slice_get list n) (2 ^ 56)
 
 -- the next enforcer has a greater number
-next_at : (dist : Dist) (order n : ℕ) (e : EnforcedBy) → order ≤ 60 → slice_get (enforcers_by dist order) n ≡ Some e → number_of (nodes.Enforcer e.node) + 1 ≤ 2 ^ 56
+next_at : (dist : Dist) (order n : ℕ) (e : EnforcedBy) → order ≤ 60 → slice_get (enforcers_by dist order) n ≡ Some e
+    → number_of (nodes.Enforcer e.node) + 1 ≤ 2 ^ 56
     → number_of (nodes.Enforcer e.node) + 1 ≤ number_at (enforcers_by dist order) (suc n)
 next_at One zero zero e few is small = small
 next_at One zero (suc n) e few is small = cc
@@ -25,7 +26,8 @@ next_at Copies zero zero e few is small = small
 next_at Copies zero (suc n) e few is small = cc
 next_at (Hashed list) zero zero e few is small = small
 next_at (Hashed list) zero (suc n) e few is small = cc
-next_at One (suc o) zero e few is small = let same : enforced (enforcing.Sort (suc o)) (request One 0) ≡ e = cc in subst (λ x. number_of (nodes.Enforcer x.node) + 1 ≤ 128 + suc o) same (omega arith)
+next_at One (suc o) zero e few is small = let same : enforced (enforcing.Sort (suc o)) (request One 0) ≡ e = cc in
+    subst (λ x. number_of (nodes.Enforcer x.node) + 1 ≤ 128 + suc o) same (omega arith)
 next_at One (suc o) (suc zero) e few is small = small
 next_at One (suc o) (suc (suc n)) e few is small = cc
 next_at Spread (suc o) zero e few is small = small
@@ -47,15 +49,19 @@ module _ (wanted : Request) (n : ℕ) where
       let next : suc n ≡ n + 1 = omega arith in
       let none = none_next (enforcers_of wanted) n is in
       subst (λ m. enforcer_number wanted n ≤ enforcer_number wanted m) next
-      (subst (λ x. enforcer_number wanted n ≤ option_map_or (λ e. number_of (nodes.Enforcer e.node)) x (2 ^ 56)) (sym none)
+      (subst (λ x. enforcer_number wanted n ≤ option_map_or (λ e. number_of (nodes.Enforcer e.node)) x (2 ^ 56))
+      (sym none)
       (subst (λ x. option_map_or (λ e. number_of (nodes.Enforcer e.node)) x (2 ^ 56) ≤ 2 ^ 56) (sym is) (omega arith)))
 
-  pub next_number_at : (e : EnforcedBy) → wanted.order ≤ 60 → slice_get (enforcers_of wanted) n ≡ Some e → number_of (nodes.Enforcer e.node) < 2 ^ 56
-      → (enforcer_number wanted n ≡ number_of (nodes.Enforcer e.node)) × (number_of (nodes.Enforcer e.node) + 1 ≤ enforcer_number wanted (n + 1))
+  pub next_number_at : (e : EnforcedBy) → wanted.order ≤ 60 → slice_get (enforcers_of wanted) n ≡ Some e
+      → number_of (nodes.Enforcer e.node) < 2 ^ 56
+      → (enforcer_number wanted n ≡ number_of (nodes.Enforcer e.node))
+      × (number_of (nodes.Enforcer e.node) + 1 ≤ enforcer_number wanted (n + 1))
   next_number_at e few is small =
       let next : suc n ≡ n + 1 = omega arith in (
         ap (λ x. option_map_or (λ e. number_of (nodes.Enforcer e.node)) x (2 ^ 56)) is,
-        subst (λ m. number_of (nodes.Enforcer e.node) + 1 ≤ enforcer_number wanted m) next (next_at wanted.dist wanted.order n e few is (omega (arith, small))),
+        subst (λ m. number_of (nodes.Enforcer e.node) + 1 ≤ enforcer_number wanted m) next
+            (next_at wanted.dist wanted.order n e few is (omega (arith, small))),
       )
 
 -- there are no more than two enforcers

@@ -30,10 +30,12 @@ use Rattle.plan_search.specs.declared.choice.PlansBelow.{PlansBelow}
 use Rattle.plan_search.specs.declared.choice.Choice.{Choice}
 use Rattle.plan_search.specs.Places.{place_of}
 use Rattle.plan_search.specs.KeptPlans.{IsAnswered, AreAnswered, kept_at, cost_at, IsPlanAt}
-use Rattle.plan_search.specs.BestSoFar.{IsChosen, choice_over, cheaper_of, GoesOverPlace, GoesOverEnforcers, IsPlaceSettled, AreEnforcersSettled, enforcer_number}
+use Rattle.plan_search.specs.BestSoFar.{IsChosen, choice_over, cheaper_of, GoesOverPlace, GoesOverEnforcers}
+use Rattle.plan_search.specs.BestSoFar.{IsPlaceSettled, AreEnforcersSettled, enforcer_number}
 use Rattle.plan_search.proofs.EnforcerNumbers.{next_number_at, two_numbers}
 use Rattle.plan_search.proofs.Answered.{none_case, some_case, cost_small}
-use Rattle.plan_search.proofs.Scanning.{IsOrder, IsStable, goes_on, goes_as, goes_to, goes_from, goes_not, goes_by_one, enforcer_stable}
+use Rattle.plan_search.proofs.Scanning.{IsOrder, IsStable, goes_on, goes_as, goes_to, goes_from, goes_not, goes_by_one}
+use Rattle.plan_search.proofs.Scanning.{enforcer_stable}
 
 -- what an enforcer for the request asks for comes before it, and the enforcer has a number of its own
 pub record IsBelow (q : Query) (group : KeyParts) (wanted : Request) (e : EnforcedBy) : Type 0 where
@@ -43,14 +45,16 @@ pub record IsBelow (q : Query) (group : KeyParts) (wanted : Request) (e : Enforc
 
 module _ (q : Query) (props : Props) (is_props : IsProps q props) (group : KeyParts) where
   -- a sort, over the same distribution in no order
-  sort_below : (dist : Dist) (o : ℕ) (e : EnforcedBy) → Fits q group (request dist (suc o)) → e ≡ enforced (enforcing.Sort (suc o)) (request dist 0) → IsBelow q group (request dist (suc o)) e
+  sort_below : (dist : Dist) (o : ℕ) (e : EnforcedBy) → Fits q group (request dist (suc o))
+      → e ≡ enforced (enforcing.Sort (suc o)) (request dist 0) → IsBelow q group (request dist (suc o)) e
   sort_below dist o e fits is = subst (IsBelow q group (request dist (suc o))) (sym is) (record {
     place = omega arith;
     in_range = record { some = omega arith; few = omega (arith, fits.numbered, is_props.few_orders) };
     small = omega (arith, fits.numbered, is_props.few_orders);
   })
 
-  pub below_facts : (dist : Dist) (order : ℕ) (e : EnforcedBy) → Fits q group (request dist order) → Among e (enforcers_by dist order) → IsBelow q group (request dist order) e
+  pub below_facts : (dist : Dist) (order : ℕ) (e : EnforcedBy) → Fits q group (request dist order)
+      → Among e (enforcers_by dist order) → IsBelow q group (request dist order) e
   below_facts One zero e fits (inl is) = subst (IsBelow q group (request One 0)) (sym is) (record {
     place = omega arith;
     in_range = tt;
@@ -89,74 +93,95 @@ module _ (q : Query) (answers : KeptPlans) (group : KeyParts) (wanted : Request)
   place_stable n best other improves settled e is = enforcer_stable q group e best other improves (settled e is)
 
   -- the two places are all
-  pub both_settled : (best : Option Tree) → IsPlaceSettled q group wanted 0 best × IsPlaceSettled q group wanted 1 best → AreEnforcersSettled q group (enforcers_of wanted) best
+  pub both_settled : (best : Option Tree) → IsPlaceSettled q group wanted 0 best × IsPlaceSettled q group wanted 1 best
+      → AreEnforcersSettled q group (enforcers_of wanted) best
   both_settled best settled e among =
-      ⊎_elim (λ (first : slice_get (enforcers_of wanted) 0 ≡ Some e). settled.0 e first) (λ (second : slice_get (enforcers_of wanted) 1 ≡ Some e). settled.1 e second)
+      ⊎_elim (λ (first : slice_get (enforcers_of wanted) 0 ≡ Some e). settled.0 e first)
+      (λ (second : slice_get (enforcers_of wanted) 1 ≡ Some e). settled.1 e second)
       (first_or_second wanted e among)
 
   -- both places, one after the other
-  pub both_go : (old new newer : Option Choice) → GoesOverPlace q answers group wanted 0 old new → GoesOverPlace q answers group wanted 1 new newer
+  pub both_go : (old new newer : Option Choice) → GoesOverPlace q answers group wanted 0 old new
+      → GoesOverPlace q answers group wanted 1 new newer
       → GoesOverEnforcers q answers group wanted old newer
   both_go old new newer first second =
-      goes_from q answers group wanted 0 (enforcer_number wanted 0) (2 ^ 56) (AreEnforcersSettled q group (enforcers_of wanted)) old newer (omega arith)
-      (goes_to q answers group wanted (enforcer_number wanted 0) (enforcer_number wanted 2) (2 ^ 56) (AreEnforcersSettled q group (enforcers_of wanted)) old newer (two_numbers wanted)
-      (goes_as q answers group wanted (enforcer_number wanted 0) (enforcer_number wanted 2) (λ best. IsPlaceSettled q group wanted 0 best × IsPlaceSettled q group wanted 1 best)
+      goes_from q answers group wanted 0 (enforcer_number wanted 0) (2 ^ 56)
+      (AreEnforcersSettled q group (enforcers_of wanted)) old newer (omega arith)
+      (goes_to q answers group wanted (enforcer_number wanted 0) (enforcer_number wanted 2) (2 ^ 56)
+      (AreEnforcersSettled q group (enforcers_of wanted)) old newer (two_numbers wanted)
+      (goes_as q answers group wanted (enforcer_number wanted 0) (enforcer_number wanted 2)
+      (λ best. IsPlaceSettled q group wanted 0 best × IsPlaceSettled q group wanted 1 best)
       (AreEnforcersSettled q group (enforcers_of wanted)) old newer both_settled
-      (goes_on q answers group wanted (enforcer_number wanted 0) (enforcer_number wanted 1) (enforcer_number wanted 2) (IsPlaceSettled q group wanted 0) (IsPlaceSettled q group wanted 1)
+      (goes_on q answers group wanted (enforcer_number wanted 0) (enforcer_number wanted 1) (enforcer_number wanted 2)
+      (IsPlaceSettled q group wanted 0) (IsPlaceSettled q group wanted 1)
       old new newer (place_stable 0) first second)))
 
-  module _ (props : Props) (is_props : IsProps q props) (known : IsGroup q group) (fits : Fits q group wanted) (answered : AreAnswered q answers (place_of group wanted))
-      (asks : EnforcersAskWhatFits q) (n : ℕ) (e : EnforcedBy) (is_at : slice_get (enforcers_of wanted) n ≡ Some e) where
-    pub among : Among e (enforcers_of wanted)
-    among = among_at (enforcers_of wanted) n e is_at
+  module _ (props : Props) (is_props : IsProps q props) (known : IsGroup q group) (fits : Fits q group wanted)
+      (answered : AreAnswered q answers (place_of group wanted))
+      (asks : EnforcersAskWhatFits q) (n : ℕ) (e : EnforcedBy) (is_at : slice_get (enforcers_of wanted) n ≡ Some e)
+    where
+      pub among : Among e (enforcers_of wanted)
+      among = among_at (enforcers_of wanted) n e is_at
 
-    pub facts : IsBelow q group wanted e
-    facts = below_facts q props is_props group wanted.dist wanted.order e fits among
+      pub facts : IsBelow q group wanted e
+      facts = below_facts q props is_props group wanted.dist wanted.order e fits among
 
-    below_fits : Fits q group e.below
-    below_fits = asks group wanted e fits among
+      below_fits : Fits q group e.below
+      below_fits = asks group wanted e fits among
 
-    pub below_answered : IsAnswered q answers group e.below
-    below_answered = answered group e.below known below_fits facts.place
+      pub below_answered : IsAnswered q answers group e.below
+      below_answered = answered group e.below known below_fits facts.place
 
-    numbers : (enforcer_number wanted n ≡ number_of (nodes.Enforcer e.node)) × (number_of (nodes.Enforcer e.node) + 1 ≤ enforcer_number wanted (n + 1))
-    numbers = next_number_at wanted n e (omega (arith, fits.numbered, is_props.few_orders)) is_at facts.small
+      numbers : (enforcer_number wanted n ≡ number_of (nodes.Enforcer e.node))
+          × (number_of (nodes.Enforcer e.node) + 1 ≤ enforcer_number wanted (n + 1))
+      numbers = next_number_at wanted n e (omega (arith, fits.numbered, is_props.few_orders)) is_at facts.small
 
-    only_this : (best : Option Tree) → IsEnforcerSettled (IsMember q) q group e best → IsPlaceSettled q group wanted n best
-    only_this best settled other is = let same : Some e ≡ Some other = sym is_at ∙ is in let equal : e ≡ other = cc in subst (λ x. IsEnforcerSettled (IsMember q) q group x best) equal settled
+      only_this : (best : Option Tree) → IsEnforcerSettled (IsMember q) q group e best
+          → IsPlaceSettled q group wanted n best
+      only_this best settled other is = let same : Some e ≡ Some other = sym is_at ∙ is in let equal : e ≡ other = cc in
+          subst (λ x. IsEnforcerSettled (IsMember q) q group x best) equal settled
 
-    -- the plan below costs no more than any plan
-    pub below_small : LeastCostsFit q → cost_at answers (place_of group e.below) ≤ most_of_all
-    below_small costs = cost_small q answers group e.below costs below_fits below_answered
+      -- the plan below costs no more than any plan
+      pub below_small : LeastCostsFit q → cost_at answers (place_of group e.below) ≤ most_of_all
+      below_small costs = cost_small q answers group e.below costs below_fits below_answered
 
-    -- where what it asks for has no plan
-    pub lacking_goes : (best : Option Choice) → kept_at answers (place_of group e.below) ≡ None → GoesOverPlace q answers group wanted n best best
-    lacking_goes best none =
-        goes_not q answers group wanted (enforcer_number wanted n) (enforcer_number wanted (n + 1)) (IsPlaceSettled q group wanted n) best (omega (arith, numbers.0, numbers.1))
-        (λ tree. only_this tree (inr (none_case q answers group e.below below_answered none)))
+      -- where what it asks for has no plan
+      pub lacking_goes : (best : Option Choice) → kept_at answers (place_of group e.below) ≡ None
+          → GoesOverPlace q answers group wanted n best best
+      lacking_goes best none =
+          goes_not q answers group wanted (enforcer_number wanted n) (enforcer_number wanted (n + 1))
+          (IsPlaceSettled q group wanted n) best (omega (arith, numbers.0, numbers.1))
+          (λ tree. only_this tree (inr (none_case q answers group e.below below_answered none)))
 
-    -- the enforcer is offered over the plan for what it asks
-    pub enforcer_goes : IsOrder q → ChoicesServe q → (node : Node) → kinds.IsNode node (nodes.Enforcer e.node) → (local : ℕ) → IsCostAmong q e.node group wanted local
-        → (below : PlansBelow) (old : Option Choice) → IsPlanAt answers (place_of group e.below) below
-        → GoesOverPlace q answers group wanted n old (Some (cheaper_of old (choice_over node local below)))
-    enforcer_goes order serve node is_node local cost below old (kept, at, is) =
-        let found = some_case q answers group e.below kept below_answered at in
-        let kid = found.0 in
-        let holds = found.1 in
-        let plan = over (nodes.Enforcer e.node) kid in
-        let choice = choice_over node local below in
-        let local_is : local ≡ local_cost (shape_of q (nodes.Enforcer e.node) (kid_of q kid ∷ [])) =
-        cost e among refl (kid_of q kid) holds.least.serves.of_group holds.least.serves.satisfies in
-        let chosen : IsChosen q answers group wanted (choice_over node local below) (nodes.Enforcer e.node) plan =
-        subst (λ b. IsChosen q answers group wanted (choice_over node local b) (nodes.Enforcer e.node) plan) (sym is) (record {
-          is_node = is_node;
-          built = (kid, facts.place, holds.stands, refl);
-          serves = serve group wanted plan fits (enforced_choice e kid among holds.least refl);
-          cost = omega (arith, local_is, holds.cost);
-        }) in
-        goes_from q answers group wanted (enforcer_number wanted n) (number_of (nodes.Enforcer e.node)) (enforcer_number wanted (n + 1)) (IsPlaceSettled q group wanted n) old (Some (cheaper_of old choice))
-        (omega (arith, numbers.0))
-        (goes_to q answers group wanted (number_of (nodes.Enforcer e.node)) (number_of (nodes.Enforcer e.node) + 1) (enforcer_number wanted (n + 1)) (IsPlaceSettled q group wanted n) old (Some (cheaper_of old choice)) numbers.1
-        (goes_as q answers group wanted (number_of (nodes.Enforcer e.node)) (number_of (nodes.Enforcer e.node) + 1) (λ best. Beats q best plan) (IsPlaceSettled q group wanted n) old (Some (cheaper_of old choice))
-        (λ best beats. only_this best (inl (kid, holds.least, beats)))
-        (goes_by_one q answers group wanted order (number_of (nodes.Enforcer e.node)) (nodes.Enforcer e.node) choice plan old chosen refl)))
+      -- the enforcer is offered over the plan for what it asks
+      pub enforcer_goes : IsOrder q → ChoicesServe q → (node : Node) → kinds.IsNode node (nodes.Enforcer e.node)
+          → (local : ℕ) → IsCostAmong q e.node group wanted local
+          → (below : PlansBelow) (old : Option Choice) → IsPlanAt answers (place_of group e.below) below
+          → GoesOverPlace q answers group wanted n old (Some (cheaper_of old (choice_over node local below)))
+      enforcer_goes order serve node is_node local cost below old (kept, at, is) =
+          let found = some_case q answers group e.below kept below_answered at in
+          let kid = found.0 in
+          let holds = found.1 in
+          let plan = over (nodes.Enforcer e.node) kid in
+          let choice = choice_over node local below in
+          let local_is : local ≡ local_cost (shape_of q (nodes.Enforcer e.node) (kid_of q kid ∷ [])) =
+          cost e among refl (kid_of q kid) holds.least.serves.of_group holds.least.serves.satisfies in
+          let chosen : IsChosen q answers group wanted (choice_over node local below) (nodes.Enforcer e.node) plan =
+          subst (λ b. IsChosen q answers group wanted (choice_over node local b) (nodes.Enforcer e.node) plan) (sym is)
+          (record {
+            is_node = is_node;
+            built = (kid, facts.place, holds.stands, refl);
+            serves = serve group wanted plan fits (enforced_choice e kid among holds.least refl);
+            cost = omega (arith, local_is, holds.cost);
+          }) in
+          goes_from q answers group wanted (enforcer_number wanted n) (number_of (nodes.Enforcer e.node))
+          (enforcer_number wanted (n + 1)) (IsPlaceSettled q group wanted n) old (Some (cheaper_of old choice))
+          (omega (arith, numbers.0))
+          (goes_to q answers group wanted (number_of (nodes.Enforcer e.node)) (number_of (nodes.Enforcer e.node) + 1)
+          (enforcer_number wanted (n + 1)) (IsPlaceSettled q group wanted n) old (Some (cheaper_of old choice))
+          numbers.1
+          (goes_as q answers group wanted (number_of (nodes.Enforcer e.node)) (number_of (nodes.Enforcer e.node) + 1)
+          (λ best. Beats q best plan) (IsPlaceSettled q group wanted n) old (Some (cheaper_of old choice))
+          (λ best beats. only_this best (inl (kid, holds.least, beats)))
+          (goes_by_one q answers group wanted order (number_of (nodes.Enforcer e.node)) (nodes.Enforcer e.node) choice
+          plan old chosen refl)))

@@ -29,7 +29,8 @@ use Rattle.plan_search.specs.declared.native.Native.{Native}
 use Rattle.plan_search.specs.Places.{dist_place, request_place, first_place, place_of}
 use Rattle.plan_search.specs.KeptPlans.{kept_at, IsKept, IsAnswerFor, IsAnswered, answer_at, AreAnswered}
 use Rattle.plan_search.specs.Natives.{AreListedFor, HasMode}
-use Rattle.plan_search.specs.BestSoFar.{IsBestChoice, IsBestSoFar, GoesOverEnforcers, GoesOverAll, AreEnforcersSettled, AreSettledIn}
+use Rattle.plan_search.specs.BestSoFar.{IsBestChoice, IsBestSoFar, GoesOverEnforcers, GoesOverAll, AreEnforcersSettled}
+use Rattle.plan_search.specs.BestSoFar.{AreSettledIn}
 use Rattle.plan_search.proofs.RequestPlaces.{request_small}
 use Rattle.plan_search.proofs.Able.{serves_gives}
 use Rattle.plan_search.proofs.Standing.{stands_on, built_stands}
@@ -38,7 +39,8 @@ use Rattle.query_core.specs.Expressions.{physical_children}
 
 module _ (q : Query) (answers : KeptPlans) (group : KeyParts) (wanted : Request) where
   -- the best so far meets the request
-  best_serves : (choice : Option Choice) (best : Option Tree) → IsBestSoFar q answers group wanted choice best → BestServes (IsMember q) q group wanted best
+  best_serves : (choice : Option Choice) (best : Option Tree) → IsBestSoFar q answers group wanted choice best
+      → BestServes (IsMember q) q group wanted best
   best_serves None None is = tt
   best_serves None (Some tree) is = absurd is
   best_serves (Some choice) None is = absurd is
@@ -48,17 +50,21 @@ module _ (q : Query) (answers : KeptPlans) (group : KeyParts) (wanted : Request)
   enforcers_stable best other improves settled e among = enforcer_stable q group e best other improves (settled e among)
 
   -- a mode that the list has is settled
-  settled_at : (list : List Native) (best : Option Tree) (e : PhysicalExpr) (mode : ℕ) → AreSettledIn q wanted list best → HasMode e mode list
+  settled_at : (list : List Native) (best : Option Tree) (e : PhysicalExpr) (mode : ℕ) → AreSettledIn q wanted list best
+      → HasMode e mode list
       → IsModeSettled (IsMember q) q wanted e mode best
   settled_at list best e mode settled (p, among, is_expr, is_mode) =
-      subst (λ f. IsModeSettled (IsMember q) q wanted f mode best) is_expr (subst (λ m. IsModeSettled (IsMember q) q wanted p.expr m best) is_mode (settled p among))
+      subst (λ f. IsModeSettled (IsMember q) q wanted f mode best) is_expr
+      (subst (λ m. IsModeSettled (IsMember q) q wanted p.expr m best) is_mode (settled p among))
 
   -- once all nodes are offered, the best is the least plan, and where there is none there is no plan
-  pub best_is_answer : (list : List Native) (some all : Option Choice) → SettledIsLeast q → Fits q group wanted → AreListedFor q group wanted.dist list
+  pub best_is_answer : (list : List Native) (some all : Option Choice) → SettledIsLeast q → Fits q group wanted
+      → AreListedFor q group wanted.dist list
       → GoesOverEnforcers q answers group wanted None some → GoesOverAll q answers group wanted list some all
       → IsBestChoice q answers group wanted all
   best_is_answer list some all least fits listed first second =
-      let both = goes_on q answers group wanted 0 (2 ^ 56) (2 ^ 57) (AreEnforcersSettled q group (enforcers_of wanted)) (AreSettledIn q wanted list) None some all enforcers_stable first second None tt tt in
+      let both = goes_on q answers group wanted 0 (2 ^ 56) (2 ^ 57) (AreEnforcersSettled q group (enforcers_of wanted))
+      (AreSettledIn q wanted list) None some all enforcers_stable first second None tt tt in
       let best = both.0 in (
         best,
         both.1.is_best,
@@ -66,31 +72,44 @@ module _ (q : Query) (answers : KeptPlans) (group : KeyParts) (wanted : Request)
           best_serves = best_serves all best both.1.is_best;
           enforcers = both.1.done.0;
           members = λ e mode member of_group line alternative.
-              settled_at list best e mode both.1.done.1 (listed.complete e mode line member of_group alternative.is_line (serves_gives q line (physical_children e.operator) wanted alternative.serves)) line alternative;
+              settled_at list best e mode both.1.done.1
+              (listed.complete e mode line member of_group alternative.is_line
+              (serves_gives q line (physical_children e.operator) wanted alternative.serves)) line alternative;
         }),
       )
 
   -- the best choice, put at the request's place, is its answer
-  pub best_answers : (new : KeptPlans) (choice : Option Choice) → ((place : ℕ) → place < place_of group wanted → answer_at new place ≡ answer_at answers place)
-      → answer_at new (place_of group wanted) ≡ Some choice → IsBestChoice q answers group wanted choice → IsAnswerFor q new group wanted choice
+  pub best_answers : (new : KeptPlans) (choice : Option Choice)
+      → ((place : ℕ) → place < place_of group wanted → answer_at new place ≡ answer_at answers place)
+      → answer_at new (place_of group wanted) ≡ Some choice → IsBestChoice q answers group wanted choice
+      → IsAnswerFor q new group wanted choice
   best_answers new None kept at (None, is, answer) = answer
   best_answers new None kept at (Some tree, is, answer) = absurd is
   best_answers new (Some choice) kept at (None, is, answer) = absurd is
   best_answers new (Some choice) kept at (Some tree, (node, chosen), answer) = (
     tree,
     record {
-      stands = built_stands answers new (place_of group wanted) kept choice choice.kids node tree refl (record { at = at; is_node = chosen.is_node }) chosen.built;
+      stands = built_stands answers new (place_of group wanted) kept choice choice.kids node tree refl
+          (record { at = at; is_node = chosen.is_node }) chosen.built;
       least = answer;
       cost = chosen.cost;
     },
   )
 
 -- an answer stays one where what stands before a greater place stays
-answer_stays : (q : Query) (old new : KeptPlans) (bound : ℕ) → ((place : ℕ) → place < bound → answer_at new place ≡ answer_at old place) → (g : KeyParts) (r : Request)
+answer_stays : (q : Query) (old new : KeptPlans) (bound : ℕ)
+    → ((place : ℕ) → place < bound → answer_at new place ≡ answer_at old place) → (g : KeyParts) (r : Request)
     → place_of g r < bound → (answer : Option Choice) → IsAnswerFor q old g r answer → IsAnswerFor q new g r answer
 answer_stays q old new bound kept g r before None is = is
-answer_stays q old new bound kept g r before (Some choice) (tree, is) =
-    (tree, record { stands = stands_on old new bound kept tree (place_of g r) before is.stands; least = is.least; cost = is.cost })
+answer_stays q old new bound kept g r before (Some choice) (tree, is) = (
+  tree,
+  record {
+    stands = stands_on old new bound kept tree (place_of g r) before is.stands;
+    least = is.least;
+    cost =
+        is.cost;
+  },
+)
 
 differ : (x y : ℕ) → (x ≡ y → ⊥) → is_eq (nat_cmp x y) ≡ false
 differ x y not_same = elim (cases_order x y) [
@@ -128,22 +147,27 @@ request_is_one r s few also is =
     let make : Dist → ℕ → Request = λ d o. record { dist = d; order = o } in
     ap (λ d. make d r.order) dist ∙ ap (λ o. make s.dist o) order
 
-module _ (q : Query) (props : Props) (is_props : IsProps q props) (in_range : (g : KeyParts) → IsGroup q g → IsInRange g)
+module _ (q : Query) (props : Props) (is_props : IsProps q props) (in_range : (g : KeyParts) → IsGroup q g
+    → IsInRange g)
     (groups_one : (p g : KeyParts) → IsInRange p → IsInRange g → key_number p ≡ key_number g → p ≡ g) where
   -- a place is that of one group and one request
-  pub place_is_one : (g h : KeyParts) (r s : Request) → IsGroup q g → IsGroup q h → Fits q g r → Fits q h s → place_of g r ≡ place_of h s → (g ≡ h) × (r ≡ s)
+  pub place_is_one : (g h : KeyParts) (r s : Request) → IsGroup q g → IsGroup q h → Fits q g r → Fits q h s
+      → place_of g r ≡ place_of h s → (g ≡ h) × (r ≡ s)
   place_is_one g h r s known also fits fits_too is =
       let small = request_small q g props r is_props fits in
       let small_too = request_small q h props s is_props fits_too in
       let key : key_number g ≡ key_number h = omega (arith, small, small_too, is) in
       let place : request_place r ≡ request_place s = omega (arith, key, is) in (
         groups_one g h (in_range g known) (in_range h also) key,
-        request_is_one r s (omega (arith, fits.numbered, is_props.few_orders)) (omega (arith, fits_too.numbered, is_props.few_orders)) place,
+        request_is_one r s (omega (arith, fits.numbered, is_props.few_orders))
+            (omega (arith, fits_too.numbered, is_props.few_orders)) place,
       )
 
   -- one more answer
-  pub answered_more : (old new : KeptPlans) (group : KeyParts) (wanted : Request) (choice : Option Choice) → IsGroup q group → Fits q group wanted → AreAnswered q old (place_of group wanted)
-      → IsBestChoice q old group wanted choice → Updates nat_cmp old.map new.map (place_of group wanted) (Some choice) → AreAnswered q new (place_of group wanted + 1)
+  pub answered_more : (old new : KeptPlans) (group : KeyParts) (wanted : Request) (choice : Option Choice)
+      → IsGroup q group → Fits q group wanted → AreAnswered q old (place_of group wanted)
+      → IsBestChoice q old group wanted choice → Updates nat_cmp old.map new.map (place_of group wanted) (Some choice)
+      → AreAnswered q new (place_of group wanted + 1)
   answered_more old new group wanted choice known fits answered best updates g r known_too fits_too less =
       let others : (place : ℕ) → place < place_of group wanted → answer_at new place ≡ answer_at old place =
       λ place before. updates.2 place (differ (place_of group wanted) place (λ is. omega (arith, before, is))) in
@@ -153,30 +177,39 @@ module _ (q : Query) (props : Props) (is_props : IsProps q props) (in_range : (g
             let is = best_answers q old group wanted new choice others updates.1 best in (
               choice,
               ap (λ p. answer_at new p) same ∙ updates.1,
-              subst (λ h. IsAnswerFor q new h r choice) (sym one.0) (subst (λ s. IsAnswerFor q new group s choice) (sym one.1) is),
+              subst (λ h. IsAnswerFor q new h r choice) (sym one.0)
+                  (subst (λ s. IsAnswerFor q new group s choice) (sym one.1) is),
             )
         | inr other ↦
             let earlier : place_of g r < place_of group wanted = omega (arith, less, other) in
-            let before = answered g r known_too fits_too earlier in
-            (before.0, others (place_of g r) earlier ∙ before.1, answer_stays q old new (place_of group wanted) others g r earlier before.0 before.2)
+            let before = answered g r known_too fits_too earlier in (
+              before.0,
+              others (place_of g r) earlier
+                  ∙ before.1,
+              answer_stays q old new (place_of group wanted) others g r earlier before.0 before.2,
+            )
       ]
 
   -- a request that doesn't fit has a place that no other has, so all before the next place are answered
-  pub answered_past : (answers : KeptPlans) (group : KeyParts) (at : Request) → IsGroup q group → request_place at < 4096 → at.order < 64
-      → (Fits q group at → ⊥) → AreAnswered q answers (place_of group at) → AreAnswered q answers (place_of group at + 1)
+  pub answered_past : (answers : KeptPlans) (group : KeyParts) (at : Request) → IsGroup q group
+      → request_place at < 4096 → at.order < 64
+      → (Fits q group at → ⊥) → AreAnswered q answers (place_of group at)
+      → AreAnswered q answers (place_of group at + 1)
   answered_past answers group at known few small fits_not answered g r known_too fits less =
       let small_too = request_small q g props r is_props fits in
       elim (cases_eq (place_of g r) (place_of group at)) [
         | inl same ↦
             let key : key_number g ≡ key_number group = omega (arith, small_too, few, same) in
             let equal : g ≡ group = groups_one g group (in_range g known_too) (in_range group known) key in
-            let request : r ≡ at = request_is_one r at (omega (arith, fits.numbered, is_props.few_orders)) small (omega (arith, same, key)) in
+            let request : r ≡ at = request_is_one r at (omega (arith, fits.numbered, is_props.few_orders)) small
+            (omega (arith, same, key)) in
             absurd (fits_not (subst (λ h. Fits q h at) equal (subst (λ s. Fits q g s) request fits)))
         | inr other ↦ answered g r known_too fits (omega (arith, less, other))
       ]
 
 -- where no group has the key, all below the next key are answered
-pub answered_key : (q : Query) (props : Props) → IsProps q props → (answers : KeptPlans) (key : ℕ) → ((g : KeyParts) → IsGroup q g → key_number g ≡ key → ⊥)
+pub answered_key : (q : Query) (props : Props) → IsProps q props → (answers : KeptPlans) (key : ℕ)
+    → ((g : KeyParts) → IsGroup q g → key_number g ≡ key → ⊥)
     → AreAnswered q answers (first_place key) → AreAnswered q answers (first_place (key + 1))
 answered_key q props is_props answers key none answered g r known fits less =
     let small = request_small q g props r is_props fits in
@@ -188,22 +221,30 @@ answered_key q props is_props answers key none answered g r known fits less =
 -- ---- all requests
 
 -- where all requests of groups with keys below a bound are answered, each of them is
-all_answered : (q : Query) (props : Props) → IsProps q props → (answers : KeptPlans) (group : KeyParts) (wanted : Request) (bound : ℕ) → key_number group < bound
-    → AreAnswered q answers (first_place bound) → IsGroup q group → Fits q group wanted → IsAnswered q answers group wanted
+all_answered : (q : Query) (props : Props) → IsProps q props
+    → (answers : KeptPlans) (group : KeyParts) (wanted : Request) (bound : ℕ) → key_number group < bound
+    → AreAnswered q answers (first_place bound) → IsGroup q group → Fits q group wanted
+    → IsAnswered q answers group wanted
 all_answered q props is_props answers group wanted bound below answered known fits =
     let small = request_small q group props wanted is_props fits in
     answered group wanted known fits (omega (arith, small, below))
 
 -- so the plan that is kept at its place is the least for it
-pub kept_found : (q : Query) (props : Props) → IsProps q props → (answers : KeptPlans) (kept : Choice) (group : KeyParts) (wanted : Request) (bound : ℕ)
-    → key_number group < bound → AreAnswered q answers (first_place bound) → IsGroup q group → Fits q group wanted → kept_at answers (place_of group wanted) ≡ Some kept
+pub kept_found : (q : Query) (props : Props) → IsProps q props
+    → (answers : KeptPlans) (kept : Choice) (group : KeyParts) (wanted : Request) (bound : ℕ)
+    → key_number group < bound → AreAnswered q answers (first_place bound) → IsGroup q group → Fits q group wanted
+    → kept_at answers (place_of group wanted) ≡ Some kept
     → (tree : Tree) × IsKept q answers group wanted kept tree
 kept_found q props is_props answers kept group wanted bound below answered known fits at =
-    some_case q answers group wanted kept (all_answered q props is_props answers group wanted bound below answered known fits) at
+    some_case q answers group wanted kept (all_answered q props is_props answers group wanted bound below answered known
+    fits) at
 
 -- and where none is kept there is none
-pub none_found : (q : Query) (props : Props) → IsProps q props → (answers : KeptPlans) (group : KeyParts) (wanted : Request) (bound : ℕ) → key_number group < bound
-    → AreAnswered q answers (first_place bound) → IsGroup q group → Fits q group wanted → kept_at answers (place_of group wanted) ≡ None
+pub none_found : (q : Query) (props : Props) → IsProps q props
+    → (answers : KeptPlans) (group : KeyParts) (wanted : Request) (bound : ℕ) → key_number group < bound
+    → AreAnswered q answers (first_place bound) → IsGroup q group → Fits q group wanted
+    → kept_at answers (place_of group wanted) ≡ None
     → HasNoPlan (IsMember q) q group wanted
 none_found q props is_props answers group wanted bound below answered known fits at =
-    none_case q answers group wanted (all_answered q props is_props answers group wanted bound below answered known fits) at
+    none_case q answers group wanted (all_answered q props is_props answers group wanted bound below answered known
+    fits) at

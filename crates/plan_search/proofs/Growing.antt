@@ -54,7 +54,8 @@ module _ (q : Query) where
   }
 
   -- a member's word that comes is found
-  pub added : (old new : List ℕ) (word : ℕ) (e : ExprParts) → word ≡ word_of e → IsMember q e → new ≡ insert_key nat_cmp old word
+  pub added : (old new : List ℕ) (word : ℕ) (e : ExprParts) → word ≡ word_of e → IsMember q e
+      → new ≡ insert_key nat_cmp old word
       → GrowsTo q (λ words. ContainsWordOf words e) old new
   added old new word e is member comes = subst (GrowsTo q (λ words. ContainsWordOf words e) old) (sym comes) (record {
     grows = grows_by_one old word (e, member, sym is);
@@ -81,7 +82,8 @@ module _ (q : Query) (Done : ℕ → List ℕ → Type 0) where
   }
 
   -- what is done at one place more leaves what was done
-  pub one_more : ((k : ℕ) → Stays q (Done k)) → (n : ℕ) (xs ys zs : List ℕ) → GrowsTo q (Before Done n) xs ys → GrowsTo q (Done n) ys zs
+  pub one_more : ((k : ℕ) → Stays q (Done k)) → (n : ℕ) (xs ys zs : List ℕ) → GrowsTo q (Before Done n) xs ys
+      → GrowsTo q (Done n) ys zs
       → GrowsTo q (Before Done (n + 1)) xs zs
   one_more stays n xs ys zs before this = record {
     grows = grows_on q xs ys zs before.grows this.grows;
@@ -104,17 +106,21 @@ HoldsOfAll q Fact words found = (e : ExprParts) → IsMember q e → ContainsWor
 module _ (q : Query) (Fact : ExprParts → List ℕ → Type 0) (words : List ℕ) where
   -- the word at one place more is that of this member
   pub one_member_more : ((e : ExprParts) → Stays q (Fact e)) → (n : ℕ) (m : ExprParts) (xs ys zs : List ℕ)
-      → ((e : ExprParts) → IsMember q e → word_of e ≡ slice_index words n → e ≡ m) → GrowsTo q (Before (HoldsAt q Fact words) n) xs ys → GrowsTo q (Fact m) ys zs
+      → ((e : ExprParts) → IsMember q e → word_of e ≡ slice_index words n → e ≡ m)
+      → GrowsTo q (Before (HoldsAt q Fact words) n) xs ys → GrowsTo q (Fact m) ys zs
       → GrowsTo q (Before (HoldsAt q Fact words) (n + 1)) xs zs
   one_member_more stays n m xs ys zs only before this =
-      one_more q (HoldsAt q Fact words) (λ k xs ys grows holds e member is. stays e xs ys grows (holds e member is)) n xs ys zs before (record {
+      one_more q (HoldsAt q Fact words) (λ k xs ys grows holds e member is. stays e xs ys grows (holds e member is)) n
+      xs ys zs before (record {
         grows = this.grows;
         holds = λ e member is. subst (λ x. Fact x zs) (sym (only e member is)) this.holds;
       })
 
   -- all words have been gone over
-  pub all_members : (n : ℕ) (xs ys : List ℕ) → length words ≤ n → GrowsTo q (Before (HoldsAt q Fact words) n) xs ys → GrowsTo q (HoldsOfAll q Fact words) xs ys
+  pub all_members : (n : ℕ) (xs ys : List ℕ) → length words ≤ n → GrowsTo q (Before (HoldsAt q Fact words) n) xs ys
+      → GrowsTo q (HoldsOfAll q Fact words) xs ys
   all_members n xs ys end before = record {
     grows = before.grows;
-    holds = λ e member (k, within, is). before.holds k (omega (arith, within, end)) e member (sym (get_or_default words k 0 (word_of e) within ∙ is));
+    holds = λ e member (k, within, is). before.holds k (omega (arith, within, end)) e member
+        (sym (get_or_default words k 0 (word_of e) within ∙ is));
   }

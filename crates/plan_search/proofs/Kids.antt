@@ -43,7 +43,8 @@ pub record AreLaws (q : Query) : Type 0 where
   pub choice : ChoiceCostsFit q
 
 -- what is known where an alternative is looked at
-pub record IsAsked (q : Query) (answers : KeptPlans) (e : PhysicalExpr) (wanted : Request) (mode : ℕ) (alt : Alt) : Type 0 where
+pub record IsAsked (q : Query) (answers : KeptPlans) (e : PhysicalExpr) (wanted : Request) (mode : ℕ) (alt : Alt) : Type
+    0 where
   pub props : Props
   pub is_props : IsProps q props
   pub laws : AreLaws q
@@ -56,9 +57,11 @@ pub record IsAsked (q : Query) (answers : KeptPlans) (e : PhysicalExpr) (wanted 
   pub answered : AreAnswered q answers (place_of e.group wanted)
 
 -- it is known of a member in its mode
-pub asked_here : (q : Query) (answers : KeptPlans) (p : Native) (wanted : Request) (alt : Alt) (props : Props) → IsProps q props → AreLaws q
+pub asked_here : (q : Query) (answers : KeptPlans) (p : Native) (wanted : Request) (alt : Alt) (props : Props)
+    → IsProps q props → AreLaws q
     → ((e : ExprParts) → IsMember q e → IsCandidate q e) → IsNative q p.expr.group p → Fits q p.expr.group wanted
-    → AreAnswered q answers (place_of p.expr.group wanted) → IsAltIn q p.expr wanted p.mode (Some alt) → IsAsked q answers p.expr wanted p.mode alt
+    → AreAnswered q answers (place_of p.expr.group wanted) → IsAltIn q p.expr wanted p.mode (Some alt)
+    → IsAsked q answers p.expr wanted p.mode alt
 asked_here q answers p wanted alt props is_props laws candidates is fits answered alt_in = record {
   props = props;
   is_props = is_props;
@@ -72,13 +75,18 @@ asked_here q answers p wanted alt props is_props laws candidates is fits answere
   answered = answered;
 }
 
-module _ (q : Query) (answers : KeptPlans) (e : PhysicalExpr) (wanted : Request) (mode : ℕ) (alt : Alt) (known : IsAsked q answers e wanted mode alt) where
+module _ (q : Query) (answers : KeptPlans) (e : PhysicalExpr) (wanted : Request) (mode : ℕ) (alt : Alt)
+    (known : IsAsked q answers e wanted mode alt) where
   -- a mode has one line
   pub line_is : (other : Line) → IsAlternative q e wanted mode other → other ≡ known.line
-  line_is other alternative = let same : Some other ≡ Some known.line = sym alternative.is_line ∙ known.alt_of.is_alternative.is_line in cc
+  line_is other alternative = let same : Some other ≡ Some known.line = sym alternative.is_line
+      ∙ known.alt_of.is_alternative.is_line in cc
 
-  requests_fit : (c : Children) (asked : List Request) → physical_children e.operator ≡ c → asked_of known.line wanted ≡ asked → RequestsFit q (groups_of c) asked
-  requests_fit c asked is are = subst (λ a. RequestsFit q (groups_of c) a) are (subst (λ d. RequestsFit q (groups_of d) (asked_of known.line wanted)) is (known.laws.asks e mode known.line wanted known.candidate known.fits known.alt_of.is_alternative))
+  requests_fit : (c : Children) (asked : List Request) → physical_children e.operator ≡ c
+      → asked_of known.line wanted ≡ asked → RequestsFit q (groups_of c) asked
+  requests_fit c asked is are = subst (λ a. RequestsFit q (groups_of c) a) are
+      (subst (λ d. RequestsFit q (groups_of d) (asked_of known.line wanted)) is
+      (known.laws.asks e mode known.line wanted known.candidate known.fits known.alt_of.is_alternative))
 
   -- a child's group has a lesser key
   key_falls : (g : KeyParts) → IsChild (physical_children e.operator) g → key_number g < key_number e.group
@@ -95,7 +103,8 @@ module _ (q : Query) (answers : KeptPlans) (e : PhysicalExpr) (wanted : Request)
 
   pub one_kid : (kid : Key × Request) → alt.left ≡ Some kid → alt.right ≡ None → (g : KeyParts) × OneKid kid g
   one_kid kid left right =
-      let found = asked_one q alt (physical_children e.operator) (asked_of known.line wanted) kid left right known.alt_of.asks in
+      let found = asked_one q alt (physical_children e.operator) (asked_of known.line wanted) kid left right
+      known.alt_of.asks in
       let g = found.0 in
       let key = key_falls g (subst (λ c. IsChild c g) (sym found.1) refl) in
       let fit = (requests_fit (One g) (kid.1 ∷ []) found.1 found.2).0 in
@@ -105,8 +114,14 @@ module _ (q : Query) (answers : KeptPlans) (e : PhysicalExpr) (wanted : Request)
           children = found.1;
           asked = found.2;
           place = place;
-          is_answered = kid_answered q answers known.props known.is_props e.group wanted known.answered g kid.1 found.3.known fit key;
-          before = omega (arith, place, kid_before q answers known.props known.is_props e.group wanted known.answered g kid.1 fit key);
+          is_answered = kid_answered q answers known.props known.is_props e.group wanted known.answered g kid.1
+              found.3.known fit key;
+          before = omega (
+            arith,
+            place,
+            kid_before q answers known.props known.is_props e.group wanted known.answered g
+                kid.1 fit key,
+          );
           fits = fit;
         },
       )
@@ -124,9 +139,11 @@ module _ (q : Query) (answers : KeptPlans) (e : PhysicalExpr) (wanted : Request)
     pub fits : Fits q g first.1
     pub other_fits : Fits q h second.1
 
-  pub two_kids : (first second : Key × Request) → alt.left ≡ Some first → alt.right ≡ Some second → (g h : KeyParts) × TwoKids first second g h
+  pub two_kids : (first second : Key × Request) → alt.left ≡ Some first → alt.right ≡ Some second → (g h : KeyParts)
+      × TwoKids first second g h
   two_kids first second left right =
-      let found = asked_two q alt (physical_children e.operator) (asked_of known.line wanted) first second left right known.alt_of.asks in
+      let found = asked_two q alt (physical_children e.operator) (asked_of known.line wanted) first second left right
+      known.alt_of.asks in
       let g = found.0 in
       let h = found.1 in
       let key = key_falls g (subst (λ c. IsChild c g) (sym found.2) (inl refl)) in
@@ -141,25 +158,40 @@ module _ (q : Query) (answers : KeptPlans) (e : PhysicalExpr) (wanted : Request)
           asked = found.3;
           place = place;
           other_place = other_place;
-          is_answered = kid_answered q answers known.props known.is_props e.group wanted known.answered g first.1 found.4.known fit.0 key;
-          other_answered = kid_answered q answers known.props known.is_props e.group wanted known.answered h second.1 found.5.known fit.1.0 other_key;
-          before = omega (arith, place, kid_before q answers known.props known.is_props e.group wanted known.answered g first.1 fit.0 key);
-          other_before = omega (arith, other_place, kid_before q answers known.props known.is_props e.group wanted known.answered h second.1 fit.1.0 other_key);
+          is_answered = kid_answered q answers known.props known.is_props e.group wanted known.answered g first.1
+              found.4.known fit.0 key;
+          other_answered = kid_answered q answers known.props known.is_props e.group wanted known.answered h second.1
+              found.5.known fit.1.0 other_key;
+          before = omega (
+            arith,
+            place,
+            kid_before q answers known.props known.is_props e.group wanted known.answered g
+                first.1 fit.0 key,
+          );
+          other_before = omega (
+            arith,
+            other_place,
+            kid_before q answers known.props known.is_props e.group wanted known.answered h second.1 fit.1.0
+                other_key,
+          );
           fits = fit.0;
           other_fits = fit.1.0;
         },
       )
 
   -- the one child's plan costs no more than any plan
-  pub one_small : (kid : Key × Request) → alt.left ≡ Some kid → alt.right ≡ None → cost_at answers (place_at kid.0.0 kid.1) ≤ most_of_all
+  pub one_small : (kid : Key × Request) → alt.left ≡ Some kid → alt.right ≡ None
+      → cost_at answers (place_at kid.0.0 kid.1) ≤ most_of_all
   one_small kid left right =
       let found = one_kid kid left right in
       subst (λ p. cost_at answers p ≤ most_of_all) (sym found.1.place)
       (cost_small q answers found.0 kid.1 known.laws.least found.1.fits found.1.is_answered)
 
   -- where one of the two places is empty, the other's plan is all
-  sum_small : (first second : Key × Request) (g h : KeyParts) → TwoKids first second g h → (x y : Option Choice) → kept_at answers (place_of g first.1) ≡ x
-      → kept_at answers (place_of h second.1) ≡ y → cost_at answers (place_of g first.1) + cost_at answers (place_of h second.1) ≤ most_of_all
+  sum_small : (first second : Key × Request) (g h : KeyParts) → TwoKids first second g h → (x y : Option Choice)
+      → kept_at answers (place_of g first.1) ≡ x
+      → kept_at answers (place_of h second.1) ≡ y
+      → cost_at answers (place_of g first.1) + cost_at answers (place_of h second.1) ≤ most_of_all
   sum_small first second g h both None y is also =
       let none = ap (λ kept. option_map_or (λ k. k.cost) kept 0) is in
       omega (arith, none, cost_small q answers h second.1 known.laws.least both.other_fits both.other_answered)
@@ -170,11 +202,13 @@ module _ (q : Query) (answers : KeptPlans) (e : PhysicalExpr) (wanted : Request)
       let left = some_case q answers g first.1 a both.is_answered is in
       let right = some_case q answers h second.1 b both.other_answered also in
       let kids = left.0 ∷ right.0 ∷ [] in
-      let are_least : AreLeast (IsMember q) q (groups_of (physical_children e.operator)) (asked_of known.line wanted) kids =
+      let are_least : AreLeast (IsMember q) q (groups_of (physical_children e.operator)) (asked_of known.line wanted)
+      kids =
       subst (λ c. AreLeast (IsMember q) q (groups_of c) (asked_of known.line wanted) kids) (sym both.children)
       (subst (λ a. AreLeast (IsMember q) q (g ∷ h ∷ []) a kids) (sym both.asked) (left.1.least, (right.1.least, tt))) in
       let plan = two (nodes.Native e mode) left.0 right.0 in
-      let most = known.laws.choice e.group wanted plan known.fits (native_choice e mode known.line kids known.member refl known.alt_of.is_alternative are_least refl) in
+      let most = known.laws.choice e.group wanted plan known.fits
+      (native_choice e mode known.line kids known.member refl known.alt_of.is_alternative are_least refl) in
       let first_cost = ap (λ kept. option_map_or (λ k. k.cost) kept 0) is in
       let second_cost = ap (λ kept. option_map_or (λ k. k.cost) kept 0) also in
       omega (arith, most, first_cost, second_cost, left.1.cost, right.1.cost)
@@ -187,9 +221,11 @@ module _ (q : Query) (answers : KeptPlans) (e : PhysicalExpr) (wanted : Request)
       let both = found.2 in
       subst (λ p. cost_at answers p + cost_at answers (place_at second.0.0 second.1) ≤ most_of_all) (sym both.place)
       (subst (λ p. cost_at answers (place_of found.0 first.1) + cost_at answers p ≤ most_of_all) (sym both.other_place)
-      (sum_small first second found.0 found.1 both (kept_at answers (place_of found.0 first.1)) (kept_at answers (place_of found.1 second.1)) refl refl))
+      (sum_small first second found.0 found.1 both (kept_at answers (place_of found.0 first.1))
+      (kept_at answers (place_of found.1 second.1)) refl refl))
 
-  cost_below : (left right : Option (Key × Request)) → alt.left ≡ left → alt.right ≡ right → asked_cost answers left right ≤ most_of_all
+  cost_below : (left right : Option (Key × Request)) → alt.left ≡ left → alt.right ≡ right
+      → asked_cost answers left right ≤ most_of_all
   cost_below None right is also = omega arith
   cost_below (Some left) None is also = one_small left is also
   cost_below (Some left) (Some right) is also = two_small left right is also

@@ -20,7 +20,8 @@ use Rattle.plan_space.specs.Lines.{line_of}
 use Rattle.plan_tree.specs.Costs.{AreRowsOf}
 use Rattle.plan_tree.specs.Walks.{AreNone}
 use Rattle.plan_search.specs.declared.native.Native.{Native}
-use Rattle.plan_search.specs.Natives.{IsNative, AreNative, RisesFrom, mode_number, IsIn, HasMode, IsInMode, AreInModes, AreModesOf, AddsModes, AreListed}
+use Rattle.plan_search.specs.Natives.{IsNative, AreNative, RisesFrom, mode_number, IsIn, HasMode, IsInMode, AreInModes}
+use Rattle.plan_search.specs.Natives.{AreModesOf, AddsModes, AreListed}
 use Rattle.plan_search.proofs.Tried.{rises_less}
 
 -- an expression has lines in modes below 192 only
@@ -36,11 +37,14 @@ below_more : (bound more : ℕ) (list : List Native) → bound ≤ more → AreB
 below_more bound more [] less below = tt
 below_more bound more (p ∷ ps) less below = (omega (arith, less, below.0), below_more bound more ps less below.1)
 
-rises_push : (from : ℕ) (list : List Native) (p : Native) → from ≤ mode_number p → RisesFrom from list → AreBelow (mode_number p) list → RisesFrom from (list ++ p ∷ [])
+rises_push : (from : ℕ) (list : List Native) (p : Native) → from ≤ mode_number p → RisesFrom from list
+    → AreBelow (mode_number p) list → RisesFrom from (list ++ p ∷ [])
 rises_push from [] p least rises below = (least, tt)
-rises_push from (first ∷ others) p least rises below = (rises.0, rises_push (mode_number first + 1) others p (omega (arith, below.0)) rises.1 below.1)
+rises_push from (first ∷ others) p least rises below =
+    (rises.0, rises_push (mode_number first + 1) others p (omega (arith, below.0)) rises.1 below.1)
 
-below_push : (bound : ℕ) (list : List Native) (p : Native) → mode_number p < bound → AreBelow bound list → AreBelow bound (list ++ p ∷ [])
+below_push : (bound : ℕ) (list : List Native) (p : Native) → mode_number p < bound → AreBelow bound list
+    → AreBelow bound (list ++ p ∷ [])
 below_push bound [] p less below = (less, tt)
 below_push bound (first ∷ others) p less below = (below.0, below_push bound others p less below.1)
 
@@ -60,37 +64,53 @@ in_end (first ∷ others) p = inr (in_end others p)
 module _ (q : Query) (e : PhysicalExpr) where
   are_more : (bound more : ℕ) (list : List Native) → bound ≤ more → AreInModes q e bound list → AreInModes q e more list
   are_more bound more [] less are = tt
-  are_more bound more (p ∷ ps) less are =
-      (record { expr = are.0.expr; below = omega (arith, are.0.below, less); line = are.0.line; rows = are.0.rows }, are_more bound more ps less are.1)
+  are_more bound more (p ∷ ps) less are = (
+    record { expr = are.0.expr; below = omega (arith, are.0.below, less); line = are.0.line; rows = are.0.rows },
+    are_more bound more ps less are.1,
+  )
 
-  are_behind : (bound : ℕ) (list : List Native) (p : Native) → AreInModes q e bound list → IsInMode q e bound p → AreInModes q e bound (list ++ p ∷ [])
+  are_behind : (bound : ℕ) (list : List Native) (p : Native) → AreInModes q e bound list → IsInMode q e bound p
+      → AreInModes q e bound (list ++ p ∷ [])
   are_behind bound [] p are is = (is, tt)
   are_behind bound (first ∷ others) p are is = (are.0, are_behind bound others p are.1 is)
 
-  numbers_below : (bound : ℕ) (list : List Native) → AreInModes q e bound list → AreBelow (number_of (nodes.Native e bound)) list
+  numbers_below : (bound : ℕ) (list : List Native) → AreInModes q e bound list
+      → AreBelow (number_of (nodes.Native e bound)) list
   numbers_below bound [] are = tt
-  numbers_below bound (p ∷ ps) are = let number : word_of (expr_of p.expr) ≡ word_of (expr_of e) = ap (λ x. word_of (expr_of x)) are.0.expr in (omega (arith, number, are.0.below), numbers_below bound ps are.1)
+  numbers_below bound (p ∷ ps) are = let number : word_of (expr_of p.expr) ≡ word_of (expr_of e) =
+      ap (λ x. word_of (expr_of x)) are.0.expr in (omega (arith, number, are.0.below), numbers_below bound ps are.1)
 
   pub modes_none : AreModesOf q e 0 []
   modes_none = record { are = tt; rises = tt; complete = λ mode line less. absurd (omega (arith, less)) }
 
   module _ (m : ℕ) (modes : List Native) (so_far : AreModesOf q e m modes) where
     -- a mode that has a line is added
-    pub mode_pushed : (p : Native) → p.expr ≡ e → p.mode ≡ m → line_of q e m ≡ Some p.line → AreRowsOf q e p.rows → AreModesOf q e (m + 1) (modes ++ p ∷ [])
+    pub mode_pushed : (p : Native) → p.expr ≡ e → p.mode ≡ m → line_of q e m ≡ Some p.line → AreRowsOf q e p.rows
+        → AreModesOf q e (m + 1) (modes ++ p ∷ [])
     mode_pushed p is_expr is_mode is_line rows =
-        let number : mode_number p ≡ number_of (nodes.Native e m) = ap (λ x. number_of (nodes.Native x p.mode)) is_expr ∙ ap (λ n. number_of (nodes.Native e n)) is_mode in
+        let number : mode_number p ≡ number_of (nodes.Native e m) = ap (λ x. number_of (nodes.Native x p.mode)) is_expr
+        ∙ ap (λ n. number_of (nodes.Native e n)) is_mode in
         record {
           are = are_behind (m + 1) modes p (are_more m (m + 1) modes (omega arith) so_far.are)
-              (record { expr = is_expr; below = omega (arith, is_mode); line = ap (λ n. line_of q e n) is_mode ∙ is_line; rows = rows });
-          rises = rises_push (number_of (nodes.Native e 0)) modes p (omega (arith, number)) so_far.rises (subst (λ n. AreBelow n modes) (sym number) (numbers_below m modes so_far.are));
+              (record {
+                expr = is_expr;
+                below = omega (arith, is_mode);
+                line = ap (λ n. line_of q e n) is_mode
+                    ∙ is_line;
+                rows = rows;
+              });
+          rises = rises_push (number_of (nodes.Native e 0)) modes p (omega (arith, number)) so_far.rises
+              (subst (λ n. AreBelow n modes) (sym number) (numbers_below m modes so_far.are));
           complete = λ mode line less has. elim (cases_eq mode m) [
             | inl same ↦ (p, in_end modes p, is_expr, is_mode ∙ sym same)
-            | inr other ↦ let there = so_far.complete mode line (omega (arith, less, other)) has in (there.0, in_front there.0 modes (p ∷ []) there.1, there.2, there.3)
+            | inr other ↦ let there = so_far.complete mode line (omega (arith, less, other)) has in
+                (there.0, in_front there.0 modes (p ∷ []) there.1, there.2, there.3)
           ];
         }
 
   -- modes without a line are passed over
-  pub modes_passed : (from to : ℕ) (modes : List Native) → from ≤ to → AreNone q e from to → AreModesOf q e from modes → AreModesOf q e to modes
+  pub modes_passed : (from to : ℕ) (modes : List Native) → from ≤ to → AreNone q e from to → AreModesOf q e from modes
+      → AreModesOf q e to modes
   modes_passed from to modes later none so_far = record {
     are = are_more from to modes later so_far.are;
     rises = so_far.rises;
@@ -101,7 +121,8 @@ module _ (q : Query) (e : PhysicalExpr) where
   }
 
 module _ (q : Query) (group : KeyParts) where
-  are_push : (list : List Native) (p : Native) → IsNative q group p → AreNative q group list → AreNative q group (list ++ p ∷ [])
+  are_push : (list : List Native) (p : Native) → IsNative q group p → AreNative q group list
+      → AreNative q group (list ++ p ∷ [])
   are_push [] p is are = (is, tt)
   are_push (first ∷ others) p is are = (are.0, are_push others p is are.1)
 
@@ -112,18 +133,26 @@ module _ (q : Query) (group : KeyParts) where
     pub below : AreBelow bound list
 
   pub up_to_more : (bound more : ℕ) (list : List Native) → bound ≤ more → AreUpTo bound list → AreUpTo more list
-  up_to_more bound more list less up_to = record { are = up_to.are; rises = up_to.rises; below = below_more bound more list less up_to.below }
+  up_to_more bound more list less up_to = record {
+    are = up_to.are;
+    rises = up_to.rises;
+    below =
+        below_more bound more list less up_to.below;
+  }
 
-  up_to_push : (bound : ℕ) (list : List Native) (p : Native) → 2 ^ 56 ≤ mode_number p → bound ≤ mode_number p → IsNative q group p → AreUpTo bound list
+  up_to_push : (bound : ℕ) (list : List Native) (p : Native) → 2 ^ 56 ≤ mode_number p → bound ≤ mode_number p
+      → IsNative q group p → AreUpTo bound list
       → AreUpTo (mode_number p + 1) (list ++ p ∷ [])
   up_to_push bound list p least less is up_to = record {
     are = are_push list p is up_to.are;
     rises = rises_push (2 ^ 56) list p least up_to.rises (below_more bound (mode_number p) list less up_to.below);
-    below = below_push (mode_number p + 1) list p (omega arith) (below_more bound (mode_number p + 1) list (omega (arith, less)) up_to.below);
+    below = below_push (mode_number p + 1) list p (omega arith)
+        (below_more bound (mode_number p + 1) list (omega (arith, less)) up_to.below);
   }
 
   -- an expression's modes come behind lesser ones
-  module _ (e : PhysicalExpr) (member : IsMember q (expr_of e)) (of_group : e.group ≡ group) (small : FitsExpr (word_of (expr_of e))) where
+  module _ (e : PhysicalExpr) (member : IsMember q (expr_of e)) (of_group : e.group ≡ group)
+      (small : FitsExpr (word_of (expr_of e))) where
     is_native_in : (p : Native) → IsInMode q e 192 p → IsNative q group p
     is_native_in p is =
         let number : word_of (expr_of p.expr) ≡ word_of (expr_of e) = ap (λ x. word_of (expr_of x)) is.expr in
@@ -136,47 +165,66 @@ module _ (q : Query) (group : KeyParts) where
           small = omega (arith, number, small, is.below);
         }
 
-    up_to_modes : (bound : ℕ) (list modes : List Native) → 2 ^ 56 ≤ bound → bound ≤ 2 ^ 56 + word_of (expr_of e) * 2 ^ 8 + 192 → AreUpTo bound list → AreInModes q e 192 modes → RisesFrom bound modes
+    up_to_modes : (bound : ℕ) (list modes : List Native) → 2 ^ 56 ≤ bound
+        → bound ≤ 2 ^ 56 + word_of (expr_of e) * 2 ^ 8 + 192 → AreUpTo bound list → AreInModes q e 192 modes
+        → RisesFrom bound modes
         → AreUpTo (2 ^ 56 + word_of (expr_of e) * 2 ^ 8 + 192) (list ++ modes)
     up_to_modes bound list [] least most up_to are rises =
-        subst (λ l. AreUpTo (2 ^ 56 + word_of (expr_of e) * 2 ^ 8 + 192) l) (sym (append-nil list)) (up_to_more bound (2 ^ 56 + word_of (expr_of e) * 2 ^ 8 + 192) list most up_to)
+        subst (λ l. AreUpTo (2 ^ 56 + word_of (expr_of e) * 2 ^ 8 + 192) l) (sym (append-nil list))
+        (up_to_more bound (2 ^ 56 + word_of (expr_of e) * 2 ^ 8 + 192) list most up_to)
     up_to_modes bound list (p ∷ ps) least most up_to are rises =
         let is = are.0 in
         let number : word_of (expr_of p.expr) ≡ word_of (expr_of e) = ap (λ x. word_of (expr_of x)) is.expr in
         subst (λ l. AreUpTo (2 ^ 56 + word_of (expr_of e) * 2 ^ 8 + 192) l) (append_assoc list (p ∷ []) ps)
-        (up_to_modes (mode_number p + 1) (list ++ p ∷ []) ps (omega (arith, least, rises.0)) (omega (arith, number, is.below))
+        (up_to_modes (mode_number p + 1) (list ++ p ∷ []) ps (omega (arith, least, rises.0))
+        (omega (arith, number, is.below))
         (up_to_push bound list p (omega (arith, least, rises.0)) rises.0 (is_native_in p is) up_to) are.1 rises.1)
 
   -- the members with the first so many words, in all modes in which they have a line
   pub record AreMade (words : List ℕ) (i : ℕ) (list : List Native) : Type 0 where
     pub up_to : AreUpTo (2 ^ 56 + slice_index_or words i EXPRS * 2 ^ 8) list
-    pub complete : (k : ℕ) → k < i → (e : PhysicalExpr) (mode : ℕ) (line : Line) → IsMember q (expr_of e) → word_of (expr_of e) ≡ slice_index words k → line_of q e mode ≡ Some line
+    pub complete : (k : ℕ) → k < i → (e : PhysicalExpr) (mode : ℕ) (line : Line) → IsMember q (expr_of e)
+        → word_of (expr_of e) ≡ slice_index words k → line_of q e mode ≡ Some line
         → HasMode e mode list
 
   pub made_none : (words : List ℕ) → AreMade words 0 []
-  made_none words = record { up_to = record { are = tt; rises = tt; below = tt }; complete = λ k less. absurd (omega (arith, less)) }
+  made_none words = record {
+    up_to = record { are = tt; rises = tt; below = tt };
+    complete =
+        λ k less. absurd (omega (arith, less));
+  }
 
   module _ (words : List ℕ) (ascending : IsStrictlyIncreasing words) where
-    next_base : (i : ℕ) → i < length words → FitsExpr (slice_index words i) → slice_index words i + 1 ≤ slice_index_or words (i + 1) EXPRS
+    next_base : (i : ℕ) → i < length words → FitsExpr (slice_index words i)
+        → slice_index words i + 1 ≤ slice_index_or words (i + 1) EXPRS
     next_base i within small = elim (cases_lt (i + 1) (length words)) [
       | inl more ↦ let same = get_or_default words (i + 1) 0 EXPRS more in omega (arith, ascending i more, same)
       | inr end ↦ let last = get_or-eq_default words EXPRS end in omega (arith, small, last)
     ]
 
-    pub made_more : HasFewModes q → (i : ℕ) (e : PhysicalExpr) (list new : List Native) → i < length words → IsMember q (expr_of e) → e.group ≡ group → FitsExpr (word_of (expr_of e))
-        → word_of (expr_of e) ≡ slice_index words i → ((f : PhysicalExpr) → IsMember q (expr_of f) → word_of (expr_of f) ≡ word_of (expr_of e) → f ≡ e) → AreMade words i list → AddsModes q e list new → AreMade words (i + 1) new
+    pub made_more : HasFewModes q → (i : ℕ) (e : PhysicalExpr) (list new : List Native) → i < length words
+        → IsMember q (expr_of e) → e.group ≡ group → FitsExpr (word_of (expr_of e))
+        → word_of (expr_of e) ≡ slice_index words i
+        → ((f : PhysicalExpr) → IsMember q (expr_of f) → word_of (expr_of f) ≡ word_of (expr_of e) → f ≡ e)
+        → AreMade words i list → AddsModes q e list new → AreMade words (i + 1) new
     made_more few i e list new within member of_group small is one made (modes, of_expr, added) =
-        let here : slice_index_or words i EXPRS ≡ word_of (expr_of e) = get_or_default words i EXPRS 0 within ∙ sym is in
+        let here : slice_index_or words i EXPRS ≡ word_of (expr_of e) = get_or_default words i EXPRS 0 within
+        ∙ sym is in
         let before = subst (λ w. AreUpTo (2 ^ 56 + w * 2 ^ 8) list) here made.up_to in
-        let rises : RisesFrom (2 ^ 56 + word_of (expr_of e) * 2 ^ 8) modes = rises_less (2 ^ 56 + word_of (expr_of e) * 2 ^ 8 + 0) (2 ^ 56 + word_of (expr_of e) * 2 ^ 8) modes (omega arith) of_expr.rises in
-        let up_to = up_to_modes e member of_group small (2 ^ 56 + word_of (expr_of e) * 2 ^ 8) list modes (omega arith) (omega arith) before of_expr.are rises in
+        let rises : RisesFrom (2 ^ 56 + word_of (expr_of e) * 2 ^ 8) modes =
+        rises_less (2 ^ 56 + word_of (expr_of e) * 2 ^ 8 + 0) (2 ^ 56 + word_of (expr_of e) * 2 ^ 8) modes
+        (omega arith) of_expr.rises in
+        let up_to = up_to_modes e member of_group small (2 ^ 56 + word_of (expr_of e) * 2 ^ 8) list modes (omega arith)
+        (omega arith) before of_expr.are rises in
         subst (AreMade words (i + 1)) (sym added) (record {
-          up_to = up_to_more (2 ^ 56 + word_of (expr_of e) * 2 ^ 8 + 192) (2 ^ 56 + slice_index_or words (i + 1) EXPRS * 2 ^ 8) (list ++ modes)
+          up_to = up_to_more (2 ^ 56 + word_of (expr_of e) * 2 ^ 8 + 192)
+              (2 ^ 56 + slice_index_or words (i + 1) EXPRS * 2 ^ 8) (list ++ modes)
               (omega (arith, next_base i within (omega (arith, is, small)), is)) up_to;
           complete = λ k less f mode line is_member of_word has. elim (cases_eq k i) [
             | inl same ↦
                 let equal : f ≡ e = one f is_member (of_word ∙ ap (λ n. slice_index words n) same ∙ sym is) in
-                let here_too = of_expr.complete mode line (few f mode line has) (subst (λ x. line_of q x mode ≡ Some line) equal has) in
+                let here_too = of_expr.complete mode line (few f mode line has)
+                (subst (λ x. line_of q x mode ≡ Some line) equal has) in
                 (here_too.0, in_behind here_too.0 list modes here_too.1, here_too.2 ∙ sym equal, here_too.3)
             | inr other ↦
                 let there = made.complete k (omega (arith, less, other)) f mode line is_member of_word has in
@@ -185,11 +233,15 @@ module _ (q : Query) (group : KeyParts) where
         })
 
     -- a logical expression adds nothing
-    pub made_past : (i : ℕ) (e : ExprParts) (list : List Native) → i < length words → FitsExpr (word_of e) → word_of e ≡ slice_index words i
-        → ((f : PhysicalExpr) → IsMember q (expr_of f) → word_of (expr_of f) ≡ word_of e → ⊥) → AreMade words i list → AreMade words (i + 1) list
+    pub made_past : (i : ℕ) (e : ExprParts) (list : List Native) → i < length words → FitsExpr (word_of e)
+        → word_of e ≡ slice_index words i
+        → ((f : PhysicalExpr) → IsMember q (expr_of f) → word_of (expr_of f) ≡ word_of e → ⊥) → AreMade words i list
+        → AreMade words (i + 1) list
     made_past i e list within small is never made = record {
-      up_to = up_to_more (2 ^ 56 + slice_index_or words i EXPRS * 2 ^ 8) (2 ^ 56 + slice_index_or words (i + 1) EXPRS * 2 ^ 8) list
-          (omega (arith, next_base i within (omega (arith, is, small)), get_or_default words i EXPRS 0 within)) made.up_to;
+      up_to = up_to_more (2 ^ 56 + slice_index_or words i EXPRS * 2 ^ 8)
+          (2 ^ 56 + slice_index_or words (i + 1) EXPRS * 2 ^ 8) list
+          (omega (arith, next_base i within (omega (arith, is, small)), get_or_default words i EXPRS 0 within))
+          made.up_to;
       complete = λ k less f mode line is_member of_word has. elim (cases_eq k i) [
         | inl same ↦ absurd (never f is_member (of_word ∙ ap (λ n. slice_index words n) same ∙ sym is))
         | inr other ↦ made.complete k (omega (arith, less, other)) f mode line is_member of_word has
@@ -197,12 +249,14 @@ module _ (q : Query) (group : KeyParts) where
     }
 
     -- at the end they are all that the group has
-    pub made_all : (i : ℕ) (list : List Native) → length words ≤ i → ((e : ExprParts) → IsMember q e → e.group ≡ group → Contains words (word_of e)) → AreMade words i list
+    pub made_all : (i : ℕ) (list : List Native) → length words ≤ i
+        → ((e : ExprParts) → IsMember q e → e.group ≡ group → Contains words (word_of e)) → AreMade words i list
         → AreListed q group list
     made_all i list end all made = record {
       are = made.up_to.are;
       rises = made.up_to.rises;
       complete = λ e mode line member of_group has.
           let found = all (expr_of e) member of_group in
-          made.complete found.0 (omega (arith, end, found.1)) e mode line member (sym found.2 ∙ get_or_default words found.0 (word_of (expr_of e)) 0 found.1) has;
+          made.complete found.0 (omega (arith, end, found.1)) e mode line member (sym found.2
+          ∙ get_or_default words found.0 (word_of (expr_of e)) 0 found.1) has;
     }

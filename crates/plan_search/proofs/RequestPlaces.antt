@@ -11,7 +11,8 @@ use Rattle.request_props.specs.Fitting.{Fits, DistFits}
 use Rattle.plan_search.specs.Places.{dist_place, request_place}
 
 -- those that fit have one of 4,096
-pub request_small : (q : Query) (group : KeyParts) (props : Props) (wanted : Request) → IsProps q props → Fits q group wanted → request_place wanted < 4096
+pub request_small : (q : Query) (group : KeyParts) (props : Props) (wanted : Request) → IsProps q props
+    → Fits q group wanted → request_place wanted < 4096
 request_small q group props wanted is fits =
     let dist : dist_place wanted.dist ≤ 62 = dist_small wanted.dist fits.dist in
     omega (arith, dist, fits.numbered, is.few_orders)

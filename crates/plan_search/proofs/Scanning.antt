@@ -20,7 +20,8 @@ use Rattle.plan_search.specs.declared.choice.Kids.TheVariants as kids
 use Rattle.plan_search.specs.declared.kept_plans.KeptPlans.{KeptPlans}
 use Rattle.plan_search.specs.declared.choice.Choice.{Choice}
 use Rattle.plan_search.specs.Places.{place_of}
-use Rattle.plan_search.specs.BestSoFar.{IsBuilt, IsMade, IsChosen, IsRootBelow, root_number, Improves, IsLater, Goes, cheaper_of}
+use Rattle.plan_search.specs.BestSoFar.{IsBuilt, IsMade, IsChosen, IsRootBelow, root_number, Improves, IsLater, Goes}
+use Rattle.plan_search.specs.BestSoFar.{cheaper_of}
 
 -- plans are in order
 pub record IsOrder (q : Query) : Type 0 where
@@ -57,7 +58,8 @@ module _ (q : Query) where
     beats_along (Some best) a b beats at_most = order.along best a b beats at_most
 
     -- a plan that is at most the best so far is better
-    pub at_most_improves : (best : Tree) → (before : Option Tree) → Improves q before (Some best) → (plan : Tree) → Beats q before plan → IsAtMost q best plan
+    pub at_most_improves : (best : Tree) → (before : Option Tree) → Improves q before (Some best) → (plan : Tree)
+        → Beats q before plan → IsAtMost q best plan
     at_most_improves best before improves plan beats = improves plan beats
 
   pub improves_itself : (best : Option Tree) → Improves q best best
@@ -68,7 +70,8 @@ module _ (q : Query) where
 
   module _ (answers : KeptPlans) (group : KeyParts) (wanted : Request) where
     -- after some nodes and then some more
-    pub goes_on : (from mid to : ℕ) → (First Second : Option Tree → Type 0) → (old new newer : Option Choice) → IsStable q First
+    pub goes_on : (from mid to : ℕ) → (First Second : Option Tree → Type 0) → (old new newer : Option Choice)
+        → IsStable q First
         → Goes q answers group wanted from mid First old new → Goes q answers group wanted mid to Second new newer
         → Goes q answers group wanted from to (λ best. First best × Second best) old newer
     goes_on from mid to First Second old new newer stable first second before is below =
@@ -84,7 +87,8 @@ module _ (q : Query) where
         )
 
     -- the same fact in other words
-    pub goes_as : (from to : ℕ) → (First Second : Option Tree → Type 0) → (old new : Option Choice) → ((best : Option Tree) → First best → Second best)
+    pub goes_as : (from to : ℕ) → (First Second : Option Tree → Type 0) → (old new : Option Choice)
+        → ((best : Option Tree) → First best → Second best)
         → Goes q answers group wanted from to First old new → Goes q answers group wanted from to Second old new
     goes_as from to First Second old new other_words goes before is below =
         let one = goes before is below in (
@@ -118,10 +122,12 @@ module _ (q : Query) where
     -- the same from a lesser bound
     pub goes_from : (lesser from to : ℕ) → (Fact : Option Tree → Type 0) → (old new : Option Choice) → lesser ≤ from
         → Goes q answers group wanted from to Fact old new → Goes q answers group wanted lesser to Fact old new
-    goes_from lesser from to Fact old new less goes before is below = goes before is (root_below_more before lesser from less below)
+    goes_from lesser from to Fact old new less goes before is below =
+        goes before is (root_below_more before lesser from less below)
 
     -- where nothing is offered
-    pub goes_not : (from to : ℕ) → (Fact : Option Tree → Type 0) → (best : Option Choice) → from ≤ to → ((tree : Option Tree) → Fact tree)
+    pub goes_not : (from to : ℕ) → (Fact : Option Tree → Type 0) → (best : Option Choice) → from ≤ to
+        → ((tree : Option Tree) → Fact tree)
         → Goes q answers group wanted from to Fact best best
     goes_not from to Fact best more fact before is below = (
       before,
@@ -134,7 +140,8 @@ module _ (q : Query) where
     )
 
     -- a choice is offered, whose root has a greater number than the best so far
-    pub goes_by_one : IsOrder q → (from : ℕ) → (node : NodeKind) → (choice : Choice) → (tree : Tree) → (old : Option Choice)
+    pub goes_by_one : IsOrder q → (from : ℕ) → (node : NodeKind) → (choice : Choice) → (tree : Tree)
+        → (old : Option Choice)
         → IsChosen q answers group wanted choice node tree → root_number tree ≡ from
         → Goes q answers group wanted from (from + 1) (λ best. Beats q best tree) old (Some (cheaper_of old choice))
     goes_by_one order from node choice tree None chosen root None is below = (
@@ -148,52 +155,66 @@ module _ (q : Query) where
     )
     goes_by_one order from node choice tree None chosen root (Some before) is below = absurd is
     goes_by_one order from node choice tree (Some best) chosen root None is below = absurd is
-    goes_by_one order from node choice tree (Some best) chosen root (Some before) is below = elim (cases_lt choice.cost best.cost) [
-      | inl less ↦ subst (λ c. (after : Option Tree) × IsLater q answers group wanted (Some before) (from + 1) (λ b. Beats q b tree) (Some c) after)
-          (cond_below choice.cost best.cost choice best less) (
-            Some tree,
-            record {
-              is_best = (node, chosen);
-              improves = λ plan beats. order.along tree before plan (inl (omega (arith, less, chosen.cost, is.1.cost))) beats;
-              root_below = omega (arith, root);
-              done = order.itself tree;
-            },
-          )
-      | inr more ↦ subst (λ c. (after : Option Tree) × IsLater q answers group wanted (Some before) (from + 1) (λ b. Beats q b tree) (Some c) after)
-          (cond_above choice.cost best.cost choice best best more refl) (
-            Some before,
-            record {
-              is_best = is;
-              improves = improves_itself (Some before);
-              root_below = omega (arith, below);
-              done = no_more before tree (omega (arith, more, chosen.cost, is.1.cost)) (omega (arith, below, root));
-            },
-          )
-    ]
+    goes_by_one order from node choice tree (Some best) chosen root (Some before) is below =
+        elim (cases_lt choice.cost best.cost) [
+          | inl less ↦ subst (λ c. (after : Option Tree)
+              × IsLater q answers group wanted (Some before) (from + 1) (λ b. Beats q b tree) (Some c) after)
+              (cond_below choice.cost best.cost choice best less) (
+                Some tree,
+                record {
+                  is_best = (node, chosen);
+                  improves = λ plan beats. order.along tree before plan (inl (omega (arith, less, chosen.cost, is.1.cost)))
+                      beats;
+                  root_below = omega (arith, root);
+                  done = order.itself tree;
+                },
+              )
+          | inr more ↦ subst (λ c. (after : Option Tree)
+              × IsLater q answers group wanted (Some before) (from + 1) (λ b. Beats q b tree) (Some c) after)
+              (cond_above choice.cost best.cost choice best best more refl) (
+                Some before,
+                record {
+                  is_best = is;
+                  improves = improves_itself (Some before);
+                  root_below = omega (arith, below);
+                  done = no_more before tree (omega (arith, more, chosen.cost, is.1.cost)) (omega (arith, below, root));
+                },
+              )
+        ]
 
 -- the number at the root of a plan that is built so
-pub built_root : (answers : KeptPlans) (bound : ℕ) (below : Kids) (node : NodeKind) (tree : Tree) → IsBuilt answers bound below node tree → root_number tree ≡ number_of node
+pub built_root : (answers : KeptPlans) (bound : ℕ) (below : Kids) (node : NodeKind) (tree : Tree)
+    → IsBuilt answers bound below node tree → root_number tree ≡ number_of node
 built_root answers bound kids.Zero node tree is = ap root_number is
 built_root answers bound (kids.One place) node tree (kid, before, stands, is) = ap root_number is
-built_root answers bound (kids.Two first second) node tree (left, right, before, other_before, stands, also, is) = ap root_number is
+built_root answers bound (kids.Two first second) node tree (left, right, before, other_before, stands, also, is) =
+    ap root_number is
 
 module _ (q : Query) (order : IsOrder q) (answers : KeptPlans) where
   -- a member in a mode is offered, over least plans
-  pub made_goes : (e : PhysicalExpr) (wanted : Request) (mode : ℕ) (choice : Choice) (old : Option Choice) → IsMade q answers wanted e mode choice
-      → Goes q answers e.group wanted (number_of (nodes.Native e mode)) (number_of (nodes.Native e mode) + 1) (IsModeSettled (IsMember q) q wanted e mode) old (Some (cheaper_of old choice))
+  pub made_goes : (e : PhysicalExpr) (wanted : Request) (mode : ℕ) (choice : Choice) (old : Option Choice)
+      → IsMade q answers wanted e mode choice
+      → Goes q answers e.group wanted (number_of (nodes.Native e mode)) (number_of (nodes.Native e mode) + 1)
+      (IsModeSettled (IsMember q) q wanted e mode) old (Some (cheaper_of old choice))
   made_goes e wanted mode choice old (tree, chosen, least) =
       let node = nodes.Native e mode in
-      goes_as q answers e.group wanted (number_of node) (number_of node + 1) (λ best. Beats q best tree) (IsModeSettled (IsMember q) q wanted e mode) old (Some (cheaper_of old choice))
-      (λ best beats line alternative. let over_kids = least line alternative in inl (over_kids.0, tree, over_kids.1, over_kids.2, beats))
-      (goes_by_one q answers e.group wanted order (number_of node) node choice tree old chosen (built_root answers (place_of e.group wanted) choice.kids node tree chosen.built))
+      goes_as q answers e.group wanted (number_of node) (number_of node + 1) (λ best. Beats q best tree)
+      (IsModeSettled (IsMember q) q wanted e mode) old (Some (cheaper_of old choice))
+      (λ best beats line alternative. let over_kids = least line alternative in
+      inl (over_kids.0, tree, over_kids.1, over_kids.2, beats))
+      (goes_by_one q answers e.group wanted order (number_of node) node choice tree old chosen
+      (built_root answers (place_of e.group wanted) choice.kids node tree chosen.built))
 
 -- what is settled stays so with a better plan
-pub mode_stable : (q : Query) (wanted : Request) (e : PhysicalExpr) (mode : ℕ) → IsStable q (IsModeSettled (IsMember q) q wanted e mode)
+pub mode_stable : (q : Query) (wanted : Request) (e : PhysicalExpr) (mode : ℕ)
+    → IsStable q (IsModeSettled (IsMember q) q wanted e mode)
 mode_stable q wanted e mode best other improves settled line alternative = elim (settled line alternative) [
   | inl (plans, plan, least, over_plans, beats) ↦ inl (plans, plan, least, over_plans, improves plan beats)
   | inr lacks ↦ inr lacks
 ]
 
-pub enforcer_stable : (q : Query) (group : KeyParts) (e : EnforcedBy) → IsStable q (IsEnforcerSettled (IsMember q) q group e)
-enforcer_stable q group e best other improves (inl (kid, least, beats)) = inl (kid, least, improves (over (nodes.Enforcer e.node) kid) beats)
+pub enforcer_stable : (q : Query) (group : KeyParts) (e : EnforcedBy)
+    → IsStable q (IsEnforcerSettled (IsMember q) q group e)
+enforcer_stable q group e best other improves (inl (kid, least, beats)) =
+    inl (kid, least, improves (over (nodes.Enforcer e.node) kid) beats)
 enforcer_stable q group e best other improves (inr none) = inr none

@@ -1,5 +1,6 @@
 -- The members of a list in their modes, offered one after the other.
-use Rattle.std.proofs.Common.{◌≡◌, ℕ, zero, suc, ◌<◌, ◌≤◌, ◌+◌, refl, subst, sym, ◌∙◌, ap, inl, inr, ◌⊎◌, arith, get_or, take_all}
+use Rattle.std.proofs.Common.{◌≡◌, ℕ, zero, suc, ◌<◌, ◌≤◌, ◌+◌, refl, subst, sym, ◌∙◌, ap, inl, inr, ◌⊎◌, arith, get_or}
+use Rattle.std.proofs.Common.{take_all}
 use Rattle.std.specs.Prelude.{◌^◌, List, [], ◌∷◌, ◌++◌, length, take, drop, Option}
 use Rattle.std.proofs.Math.Seq.{drop-cons}
 use Rattle.std.proofs.lemmas.List.{drop_all}
@@ -17,7 +18,8 @@ use Rattle.plan_search.specs.BestSoFar.{AreSettledIn, Goes, GoesOver, GoesOverAl
 use Rattle.plan_search.proofs.Scanning.{IsStable, goes_on, goes_to, goes_as, goes_not, mode_stable}
 
 -- each of the list is such a member
-pub is_native_at : (q : Query) (group : KeyParts) (list : List Native) (i : ℕ) (d : Native) → i < length list → AreNative q group list → IsNative q group (get_or list i d)
+pub is_native_at : (q : Query) (group : KeyParts) (list : List Native) (i : ℕ) (d : Native) → i < length list
+    → AreNative q group list → IsNative q group (get_or list i d)
 is_native_at q group [] i d within are = absurd (omega (arith, within))
 is_native_at q group (p ∷ ps) zero d within are = are.0
 is_native_at q group (p ∷ ps) (suc i) d within are = is_native_at q group ps i d (omega (arith, within)) are.1
@@ -49,7 +51,8 @@ first_from bound [] most rises = most
 first_from bound (p ∷ ps) most rises = rises.0
 
 -- one more of a list's first elements
-pub take_more : (list : List Native) (i : ℕ) (d : Native) → i < length list → take (suc i) list ≡ take i list ++ get_or list i d ∷ []
+pub take_more : (list : List Native) (i : ℕ) (d : Native) → i < length list
+    → take (suc i) list ≡ take i list ++ get_or list i d ∷ []
 take_more [] i d within = absurd (omega (arith, within))
 take_more (p ∷ ps) zero d within = refl
 take_more (p ∷ ps) (suc i) d within = ap (λ x. p ∷ x) (take_more ps i d (omega (arith, within)))
@@ -65,9 +68,11 @@ in_append p last (first ∷ others) (inr later) = elim (in_append p last others 
 
 module _ (q : Query) (wanted : Request) where
   pub settled_stable : (list : List Native) → IsStable q (AreSettledIn q wanted list)
-  settled_stable list best other improves settled p among = mode_stable q wanted p.expr p.mode best other improves (settled p among)
+  settled_stable list best other improves settled p among =
+      mode_stable q wanted p.expr p.mode best other improves (settled p among)
 
-  settled_more : (list : List Native) (last : Native) (best : Option Tree) → AreSettledIn q wanted list best × IsModeSettled (IsMember q) q wanted last.expr last.mode best
+  settled_more : (list : List Native) (last : Native) (best : Option Tree) → AreSettledIn q wanted list best
+      × IsModeSettled (IsMember q) q wanted last.expr last.mode best
       → AreSettledIn q wanted (list ++ last ∷ []) best
   settled_more list last best settled p among = elim (in_append p last list among) [
     | inl before ↦ settled.0 p before
@@ -77,44 +82,63 @@ module _ (q : Query) (wanted : Request) where
   module _ (answers : KeptPlans) (group : KeyParts) (list : List Native) where
     -- the bests so far, where the first so many of the list are settled
     pub record AreTried (i : ℕ) (old new : Option Choice) : Type 0 where
-      pub goes : Goes q answers group wanted (2 ^ 56) (next_number (drop i list)) (AreSettledIn q wanted (take i list)) old new
+      pub goes : Goes q answers group wanted (2 ^ 56) (next_number (drop i list)) (AreSettledIn q wanted (take i list))
+          old new
       pub rises : RisesFrom 0 (drop i list)
 
     pub tried_none : (best : Option Choice) → RisesFrom (2 ^ 56) list → AreTried 0 best best
     tried_none best rises = record {
-      goes = goes_not q answers group wanted (2 ^ 56) (next_number list) (AreSettledIn q wanted []) best (first_from (2 ^ 56) list (omega arith) rises) (λ tree p among. absurd among);
+      goes = goes_not q answers group wanted (2 ^ 56) (next_number list) (AreSettledIn q wanted []) best
+          (first_from (2 ^ 56) list (omega arith) rises) (λ tree p among. absurd among);
       rises = rises_less (2 ^ 56) 0 list (omega arith) rises;
     }
 
-    tried_next : (i : ℕ) (d p : Native) (old new newer : Option Choice) → i < length list → p ≡ get_or list i d → IsNative q group p → AreTried i old new
+    tried_next : (i : ℕ) (d p : Native) (old new newer : Option Choice) → i < length list → p ≡ get_or list i d
+        → IsNative q group p → AreTried i old new
         → GoesOver q answers p wanted new newer → AreTried (suc i) old newer
     tried_next i d p old new newer within is physical tried goes =
-        let here : drop i list ≡ p ∷ drop (suc i) list = drop-cons list i d within ∙ ap (λ x. x ∷ drop (suc i) list) (sym is) in
+        let here : drop i list ≡ p ∷ drop (suc i) list = drop-cons list i d within
+        ∙ ap (λ x. x ∷ drop (suc i) list) (sym is) in
         let rises : RisesFrom 0 (p ∷ drop (suc i) list) = subst (RisesFrom 0) here tried.rises in
-        let before : Goes q answers group wanted (2 ^ 56) (mode_number p) (AreSettledIn q wanted (take i list)) old new =
-        subst (λ l. Goes q answers group wanted (2 ^ 56) (next_number l) (AreSettledIn q wanted (take i list)) old new) here tried.goes in
-        let this : Goes q answers group wanted (mode_number p) (mode_number p + 1) (IsModeSettled (IsMember q) q wanted p.expr p.mode) new newer =
-        subst (λ g. Goes q answers g wanted (mode_number p) (mode_number p + 1) (IsModeSettled (IsMember q) q wanted p.expr p.mode) new newer) physical.of_group goes in
-        let taken : take (suc i) list ≡ take i list ++ p ∷ [] = take_more list i d within ∙ ap (λ x. take i list ++ x ∷ []) (sym is) in
+        let before : Goes q answers group wanted (2 ^ 56) (mode_number p) (AreSettledIn q wanted (take i list)) old
+        new =
+        subst (λ l. Goes q answers group wanted (2 ^ 56) (next_number l) (AreSettledIn q wanted (take i list)) old new)
+        here tried.goes in
+        let this : Goes q answers group wanted (mode_number p) (mode_number p + 1)
+        (IsModeSettled (IsMember q) q wanted p.expr p.mode) new newer =
+        subst (λ g. Goes q answers g wanted (mode_number p) (mode_number p + 1)
+        (IsModeSettled (IsMember q) q wanted p.expr p.mode) new newer) physical.of_group goes in
+        let taken : take (suc i) list ≡ take i list ++ p ∷ [] = take_more list i d within
+        ∙ ap (λ x. take i list ++ x ∷ []) (sym is) in
         record {
-          goes = subst (λ l. Goes q answers group wanted (2 ^ 56) (next_number (drop (suc i) list)) (AreSettledIn q wanted l) old newer) (sym taken)
-              (goes_to q answers group wanted (2 ^ 56) (mode_number p + 1) (next_number (drop (suc i) list)) (AreSettledIn q wanted (take i list ++ p ∷ [])) old newer
+          goes = subst (λ l. Goes q answers group wanted (2 ^ 56) (next_number (drop (suc i) list))
+              (AreSettledIn q wanted l) old newer) (sym taken)
+              (goes_to q answers group wanted (2 ^ 56) (mode_number p + 1) (next_number (drop (suc i) list))
+              (AreSettledIn q wanted (take i list ++ p ∷ [])) old newer
               (first_from (mode_number p + 1) (drop (suc i) list) physical.small rises.1)
-              (goes_as q answers group wanted (2 ^ 56) (mode_number p + 1) (λ best. AreSettledIn q wanted (take i list) best × IsModeSettled (IsMember q) q wanted p.expr p.mode best)
+              (goes_as q answers group wanted (2 ^ 56) (mode_number p + 1)
+              (λ best. AreSettledIn q wanted (take i list) best
+              × IsModeSettled (IsMember q) q wanted p.expr p.mode best)
               (AreSettledIn q wanted (take i list ++ p ∷ [])) old newer (settled_more (take i list) p)
-              (goes_on q answers group wanted (2 ^ 56) (mode_number p) (mode_number p + 1) (AreSettledIn q wanted (take i list)) (IsModeSettled (IsMember q) q wanted p.expr p.mode)
+              (goes_on q answers group wanted (2 ^ 56) (mode_number p) (mode_number p + 1)
+              (AreSettledIn q wanted (take i list)) (IsModeSettled (IsMember q) q wanted p.expr p.mode)
               old new newer (settled_stable (take i list)) before this)));
           rises = rises_less (mode_number p + 1) 0 (drop (suc i) list) (omega arith) rises.1;
         }
 
-    pub tried_more : (i : ℕ) (d : Native) (old new newer : Option Choice) → i < length list → AreNative q group list → AreTried i old new
+    pub tried_more : (i : ℕ) (d : Native) (old new newer : Option Choice) → i < length list → AreNative q group list
+        → AreTried i old new
         → GoesOver q answers (get_or list i d) wanted new newer → AreTried (i + 1) old newer
     tried_more i d old new newer within are tried goes =
         let next : suc i ≡ i + 1 = omega arith in
-        subst (λ n. AreTried n old newer) next (tried_next i d (get_or list i d) old new newer within refl (is_native_at q group list i d within are) tried goes)
+        subst (λ n. AreTried n old newer) next (tried_next i d (get_or list i d) old new newer within refl
+        (is_native_at q group list i d within are) tried goes)
 
     -- at the end each of the list is settled
-    pub tried_all : (i : ℕ) (old new : Option Choice) → length list ≤ i → AreTried i old new → GoesOverAll q answers group wanted list old new
+    pub tried_all : (i : ℕ) (old new : Option Choice) → length list ≤ i → AreTried i old new
+        → GoesOverAll q answers group wanted list old new
     tried_all i old new end tried =
-        subst (λ l. Goes q answers group wanted (2 ^ 56) (2 ^ 57) (AreSettledIn q wanted l) old new) (take_all i list end)
-        (subst (λ l. Goes q answers group wanted (2 ^ 56) (next_number l) (AreSettledIn q wanted (take i list)) old new) (drop_all i list end) tried.goes)
+        subst (λ l. Goes q answers group wanted (2 ^ 56) (2 ^ 57) (AreSettledIn q wanted l) old new)
+        (take_all i list end)
+        (subst (λ l. Goes q answers group wanted (2 ^ 56) (next_number l) (AreSettledIn q wanted (take i list)) old new)
+        (drop_all i list end) tried.goes)

@@ -35,12 +35,15 @@ use Rattle.plan_search.specs.Natives.{mode_number, IsIn}
 -- the tree is the node over what stands at these places, which come before the bound
 abbrev pub IsBuilt : KeptPlans → ℕ → Kids → NodeKind → Tree → Type 0
 IsBuilt answers bound kids.Zero node tree = tree ≡ leaf node
-IsBuilt answers bound (kids.One place) node tree = (kid : Tree) × (place < bound) × StandsAt answers place kid × (tree ≡ over node kid)
+IsBuilt answers bound (kids.One place) node tree = (kid : Tree) × (place < bound) × StandsAt answers place kid
+    × (tree ≡ over node kid)
 IsBuilt answers bound (kids.Two first second) node tree =
-    (left right : Tree) × (first < bound) × (second < bound) × StandsAt answers first left × StandsAt answers second right × (tree ≡ two node left right)
+    (left right : Tree) × (first < bound) × (second < bound) × StandsAt answers first left
+    × StandsAt answers second right × (tree ≡ two node left right)
 
 -- the choice is this tree, with its cost, and meets the request
-pub record IsChosen (q : Query) (answers : KeptPlans) (group : KeyParts) (wanted : Request) (choice : Choice) (node : NodeKind) (tree : Tree) : Type 0 where
+pub record IsChosen (q : Query) (answers : KeptPlans) (group : KeyParts) (wanted : Request) (choice : Choice)
+    (node : NodeKind) (tree : Tree) : Type 0 where
   pub is_node : IsNode choice.node node
   pub built : IsBuilt answers (place_of group wanted) choice.kids node tree
   pub serves : Serves (IsMember q) q group wanted tree
@@ -57,11 +60,13 @@ abbrev pub IsBestSoFar : Query → KeptPlans → KeyParts → Request → Option
 IsBestSoFar q answers group wanted None None = ⊤
 IsBestSoFar q answers group wanted None (Some tree) = ⊥
 IsBestSoFar q answers group wanted (Some choice) None = ⊥
-IsBestSoFar q answers group wanted (Some choice) (Some tree) = (node : NodeKind) × IsChosen q answers group wanted choice node tree
+IsBestSoFar q answers group wanted (Some choice) (Some tree) = (node : NodeKind)
+    × IsChosen q answers group wanted choice node tree
 
 -- the choice is the least plan for the request, over what stands at lesser places, or there is none
 abbrev pub IsBestChoice : Query → KeptPlans → KeyParts → Request → Option Choice → Type 0
-IsBestChoice q answers group wanted choice = (best : Option Tree) × IsBestSoFar q answers group wanted choice best × IsAnswer (IsMember q) q group wanted best
+IsBestChoice q answers group wanted choice = (best : Option Tree) × IsBestSoFar q answers group wanted choice best
+    × IsAnswer (IsMember q) q group wanted best
 
 -- ---- one choice more
 
@@ -84,14 +89,16 @@ abbrev pub Improves : Query → Option Tree → Option Tree → Type 0
 Improves q best other = (plan : Tree) → Beats q best plan → Beats q other plan
 
 -- the best choice after some nodes more, all with lesser numbers than the bound, of which the fact holds
-pub record IsLater (q : Query) (answers : KeptPlans) (group : KeyParts) (wanted : Request) (before : Option Tree) (bound : ℕ) (Done : Option Tree → Type 0) (best : Option Choice) (after : Option Tree) : Type 0 where
+pub record IsLater (q : Query) (answers : KeptPlans) (group : KeyParts) (wanted : Request) (before : Option Tree)
+    (bound : ℕ) (Done : Option Tree → Type 0) (best : Option Choice) (after : Option Tree) : Type 0 where
   pub is_best : IsBestSoFar q answers group wanted best after
   pub improves : Improves q before after
   pub root_below : IsRootBelow after bound
   pub done : Done after
 
 -- where the best so far has a root below the first bound, there is one after some nodes more
-abbrev pub Goes : Query → KeptPlans → KeyParts → Request → ℕ → ℕ → (Option Tree → Type 0) → Option Choice → Option Choice → Type 0
+abbrev pub Goes : Query → KeptPlans → KeyParts → Request → ℕ → ℕ → (Option Tree → Type 0) → Option Choice
+    → Option Choice → Type 0
 Goes q answers group wanted from to Done old new =
     (before : Option Tree) → IsBestSoFar q answers group wanted old before → IsRootBelow before from
     → (after : Option Tree) × IsLater q answers group wanted before to Done new after
@@ -100,14 +107,16 @@ Goes q answers group wanted from to Done old new =
 
 -- some child has no plan for what is asked of it
 abbrev pub IsLacking : Query → Request → PhysicalExpr → ℕ → Type 0
-IsLacking q wanted e mode = (line : Line) → IsAlternative q e wanted mode line → LacksOne (IsMember q) q (groups_of (physical_children e.operator)) (asked_of line wanted)
+IsLacking q wanted e mode = (line : Line) → IsAlternative q e wanted mode line
+    → LacksOne (IsMember q) q (groups_of (physical_children e.operator)) (asked_of line wanted)
 
 -- the choice is the expression in this mode over least plans
 abbrev pub IsMade : Query → KeptPlans → Request → PhysicalExpr → ℕ → Choice → Type 0
 IsMade q answers wanted e mode choice =
     (tree : Tree) × IsChosen q answers e.group wanted choice (nodes.Native e mode) tree
     × ((line : Line) → IsAlternative q e wanted mode line
-    → (kids : List Tree) × AreLeast (IsMember q) q (groups_of (physical_children e.operator)) (asked_of line wanted) kids × IsNodeOver (nodes.Native e mode) kids tree)
+    → (kids : List Tree) × AreLeast (IsMember q) q (groups_of (physical_children e.operator)) (asked_of line wanted)
+    kids × IsNodeOver (nodes.Native e mode) kids tree)
 
 -- each of the list is settled
 abbrev pub AreSettledIn : Query → Request → List Native → Option Tree → Type 0
@@ -115,11 +124,13 @@ AreSettledIn q wanted list best = (p : Native) → IsIn p list → IsModeSettled
 
 -- over a member in its mode
 abbrev pub GoesOver : Query → KeptPlans → Native → Request → Option Choice → Option Choice → Type 0
-GoesOver q answers p wanted old new = Goes q answers p.expr.group wanted (mode_number p) (mode_number p + 1) (IsModeSettled (IsMember q) q wanted p.expr p.mode) old new
+GoesOver q answers p wanted old new = Goes q answers p.expr.group wanted (mode_number p) (mode_number p + 1)
+    (IsModeSettled (IsMember q) q wanted p.expr p.mode) old new
 
 -- over the members of the group in their modes
 abbrev pub GoesOverAll : Query → KeptPlans → KeyParts → Request → List Native → Option Choice → Option Choice → Type 0
-GoesOverAll q answers group wanted list old new = Goes q answers group wanted (2 ^ 56) (2 ^ 57) (AreSettledIn q wanted list) old new
+GoesOverAll q answers group wanted list old new =
+    Goes q answers group wanted (2 ^ 56) (2 ^ 57) (AreSettledIn q wanted list) old new
 
 -- ---- enforcers
 
@@ -130,20 +141,26 @@ pub record HasRows (q : Query) (group : KeyParts) (rows : ℕ) : Type 0 where
 
 -- the number of the n-th enforcer for the request, or one that is above all
 abbrev pub enforcer_number : Request → ℕ → ℕ
-enforcer_number wanted n = option_map_or (λ e. number_of (nodes.Enforcer e.node)) (slice_get (enforcers_of wanted) n) (2 ^ 56)
+enforcer_number wanted n = option_map_or (λ e. number_of (nodes.Enforcer e.node)) (slice_get (enforcers_of wanted) n)
+    (2 ^ 56)
 
 -- the n-th enforcer for the request is settled, if there are so many
 abbrev pub IsPlaceSettled : Query → KeyParts → Request → ℕ → Option Tree → Type 0
-IsPlaceSettled q group wanted n best = (e : EnforcedBy) → slice_get (enforcers_of wanted) n ≡ Some e → IsEnforcerSettled (IsMember q) q group e best
+IsPlaceSettled q group wanted n best = (e : EnforcedBy) → slice_get (enforcers_of wanted) n ≡ Some e
+    → IsEnforcerSettled (IsMember q) q group e best
 
 -- the first so many enforcers of the list are settled
 abbrev pub AreEnforcersSettled : Query → KeyParts → List EnforcedBy → Option Tree → Type 0
-AreEnforcersSettled q group enforcers best = (e : EnforcedBy) → Among e enforcers → IsEnforcerSettled (IsMember q) q group e best
+AreEnforcersSettled q group enforcers best = (e : EnforcedBy) → Among e enforcers
+    → IsEnforcerSettled (IsMember q) q group e best
 
 -- over the n-th enforcer for the request, if there are so many
 abbrev pub GoesOverPlace : Query → KeptPlans → KeyParts → Request → ℕ → Option Choice → Option Choice → Type 0
-GoesOverPlace q answers group wanted n old new = Goes q answers group wanted (enforcer_number wanted n) (enforcer_number wanted (n + 1)) (IsPlaceSettled q group wanted n) old new
+GoesOverPlace q answers group wanted n old new =
+    Goes q answers group wanted (enforcer_number wanted n) (enforcer_number wanted (n + 1))
+    (IsPlaceSettled q group wanted n) old new
 
 -- over the enforcers for the request
 abbrev pub GoesOverEnforcers : Query → KeptPlans → KeyParts → Request → Option Choice → Option Choice → Type 0
-GoesOverEnforcers q answers group wanted old new = Goes q answers group wanted 0 (2 ^ 56) (AreEnforcersSettled q group (enforcers_of wanted)) old new
+GoesOverEnforcers q answers group wanted old new =
+    Goes q answers group wanted 0 (2 ^ 56) (AreEnforcersSettled q group (enforcers_of wanted)) old new

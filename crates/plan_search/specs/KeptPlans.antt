@@ -1,4 +1,5 @@
--- What stands at places: the least plans of the requests that are answered, and those of the requests that a node asks for.
+-- What stands at places: the least plans of the requests that are answered, and those of the requests that a node asks
+-- for.
 use Rattle.std.specs.Prelude.{ℕ, ◌≡◌, ◌<◌, ◌⊎◌, ◌+◌, Option, None, Some}
 use Rattle.std.specs.Ordering.{nat_cmp}
 use Rattle.std.specs.BTreeMap.{get}
@@ -32,11 +33,13 @@ pub record IsRootAt (answers : KeptPlans) (place : ℕ) (kept : Choice) (node : 
   pub at : answer_at answers place ≡ Some (Some kept)
   pub is_node : IsNode kept.node node
 
--- the tree stands at the place: its root does, and the trees below the root stand at the places that are named there, which come before
+-- the tree stands at the place: its root does, and the trees below the root stand at the places that are named there,
+-- which come before
 abbrev pub StandsAt : KeptPlans → ℕ → Tree → Type 0
 StandsAt answers place (leaf node) = (kept : Choice) × IsRootAt answers place kept node × (kept.kids ≡ kids.Zero)
 StandsAt answers place (over node kid) =
-    (kept : Choice) × (below : ℕ) × IsRootAt answers place kept node × (kept.kids ≡ kids.One below) × (below < place) × StandsAt answers below kid
+    (kept : Choice) × (below : ℕ) × IsRootAt answers place kept node × (kept.kids ≡ kids.One below) × (below < place)
+    × StandsAt answers below kid
 StandsAt answers place (two node left right) =
     (kept : Choice) × (first second : ℕ) × IsRootAt answers place kept node × (kept.kids ≡ kids.Two first second)
     × (first < place) × (second < place) × StandsAt answers first left × StandsAt answers second right
@@ -44,7 +47,8 @@ StandsAt answers place (two node left right) =
 -- ---- requests that are answered
 
 -- the tree that stands at the request's place is the least for the request, and this is its cost
-pub record IsKept (q : Query) (answers : KeptPlans) (group : KeyParts) (wanted : Request) (kept : Choice) (tree : Tree) : Type 0 where
+pub record IsKept (q : Query) (answers : KeptPlans) (group : KeyParts) (wanted : Request) (kept : Choice)
+    (tree : Tree) : Type 0 where
   pub stands : StandsAt answers (place_of group wanted) tree
   pub least : IsLeast (IsMember q) q group wanted tree
   pub cost : kept.cost ≡ cost_of q tree
@@ -57,12 +61,14 @@ IsAnswerFor q answers group wanted (Some kept) = (tree : Tree) × IsKept q answe
 -- the request has its answer
 abbrev pub IsAnswered : Query → KeptPlans → KeyParts → Request → Type 0
 IsAnswered q answers group wanted =
-    (answer : Option Choice) × (answer_at answers (place_of group wanted) ≡ Some answer) × IsAnswerFor q answers group wanted answer
+    (answer : Option Choice) × (answer_at answers (place_of group wanted) ≡ Some answer)
+    × IsAnswerFor q answers group wanted answer
 
 -- each request that fits its group and has a lesser place has its answer
 abbrev pub AreAnswered : Query → KeptPlans → ℕ → Type 0
 AreAnswered q answers bound =
-    (group : KeyParts) (wanted : Request) → IsGroup q group → Fits q group wanted → place_of group wanted < bound → IsAnswered q answers group wanted
+    (group : KeyParts) (wanted : Request) → IsGroup q group → Fits q group wanted → place_of group wanted < bound
+    → IsAnswered q answers group wanted
 
 -- ---- requests that a node asks for
 
@@ -76,7 +82,8 @@ cost_at answers place = option_map_or (λ kept. kept.cost) (kept_at answers plac
 
 -- what is below is the plan at the place
 abbrev pub IsPlanAt : KeptPlans → ℕ → PlansBelow → Type 0
-IsPlanAt answers place below = (kept : Choice) × (kept_at answers place ≡ Some kept) × (below ≡ record { kids = kids.One place; cost = kept.cost })
+IsPlanAt answers place below = (kept : Choice) × (kept_at answers place ≡ Some kept)
+    × (below ≡ record { kids = kids.One place; cost = kept.cost })
 
 -- what is below is the plans at the two places
 abbrev pub ArePlansAt : KeptPlans → ℕ → ℕ → PlansBelow → Type 0

@@ -54,13 +54,15 @@ HasMode e mode list = (p : Native) × IsIn p list × (p.expr ≡ e) × (p.mode �
 pub record AreListed (q : Query) (group : KeyParts) (list : List Native) : Type 0 where
   pub are : AreNative q group list
   pub rises : RisesFrom (2 ^ 56) list
-  pub complete : (e : PhysicalExpr) (mode : ℕ) (line : Line) → IsMember q (expr_of e) → e.group ≡ group → line_of q e mode ≡ Some line → HasMode e mode list
+  pub complete : (e : PhysicalExpr) (mode : ℕ) (line : Line) → IsMember q (expr_of e) → e.group ≡ group
+      → line_of q e mode ≡ Some line → HasMode e mode list
 
 -- those of them whose lines may give the distribution
 pub record AreListedFor (q : Query) (group : KeyParts) (dist : Dist) (list : List Native) : Type 0 where
   pub are : AreNative q group list
   pub rises : RisesFrom (2 ^ 56) list
-  pub complete : (e : PhysicalExpr) (mode : ℕ) (line : Line) → IsMember q (expr_of e) → e.group ≡ group → line_of q e mode ≡ Some line → MayGive q line dist → HasMode e mode list
+  pub complete : (e : PhysicalExpr) (mode : ℕ) (line : Line) → IsMember q (expr_of e) → e.group ≡ group
+      → line_of q e mode ≡ Some line → MayGive q line dist → HasMode e mode list
 
 -- those of the list whose lines may give the distribution, in the same order
 abbrev pub AreThoseFor : Query → Dist → List Native → List Native → Type 0

@@ -13,5 +13,6 @@ use Rattle.plan_tree.specs.declared.plan.Found.TheVariants.{Least, NoPlan}
 
 -- the least plan for the request with its cost, or that there is none
 abbrev pub IsFoundFor : Query → KeyParts → Request → Found → Type 0
-IsFoundFor q group wanted (Least plan cost) = (tree : Tree) × Spells plan tree × IsLeast (IsMember q) q group wanted tree × (cost ≡ cost_of q tree)
+IsFoundFor q group wanted (Least plan cost) = (tree : Tree) × Spells plan tree
+    × IsLeast (IsMember q) q group wanted tree × (cost ≡ cost_of q tree)
 IsFoundFor q group wanted NoPlan = HasNoPlan (IsMember q) q group wanted

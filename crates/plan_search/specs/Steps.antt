@@ -58,7 +58,8 @@ HasResults q e bound found = (rule : Rule) → HasResultsOf q e bound rule found
 
 -- each result with a bound member among the words is found
 abbrev pub HasBoundResults : Query → List ℕ → ExprParts → List ℕ → Type 0
-HasBoundResults q words e found = (bound : ExprParts) → IsMember q bound → ContainsWordOf words bound → HasResults q e (Some bound) found
+HasBoundResults q words e found = (bound : ExprParts) → IsMember q bound → ContainsWordOf words bound
+    → HasResults q e (Some bound) found
 
 -- all steps from a member, where members among the words are bound, are found
 pub record HasSteps (q : Query) (words : List ℕ) (e : ExprParts) (found : List ℕ) : Type 0 where
@@ -72,7 +73,8 @@ AreSteps q words from found = (e : ExprParts) → IsMember q e → ContainsWordO
 
 -- each result at one of the words, with a bound member among others, is found
 abbrev pub AreBoundSteps : Query → List ℕ → List ℕ → List ℕ → Type 0
-AreBoundSteps q words from found = (e : ExprParts) → IsMember q e → ContainsWordOf from e → HasBoundResults q words e found
+AreBoundSteps q words from found = (e : ExprParts) → IsMember q e → ContainsWordOf from e
+    → HasBoundResults q words e found
 
 -- the words are those of either list
 abbrev pub Covers : List ℕ → List ℕ → List ℕ → Type 0

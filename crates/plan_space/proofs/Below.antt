@@ -22,14 +22,16 @@ empty_lies q group k d below = absurd (omega (arith, below))
 
 module _ (q : Query) (group : KeyParts) where
   -- a sort, over the same distribution in no order
-  sort_below : (dist : Dist) (o : ℕ) (e : EnforcedBy) → Fits q group (request dist (suc o)) → e ≡ enforced (enforcers.Sort (suc o)) (request dist 0)
+  sort_below : (dist : Dist) (o : ℕ) (e : EnforcedBy) → Fits q group (request dist (suc o))
+      → e ≡ enforced (enforcers.Sort (suc o)) (request dist 0)
       → IsBelow q group (request dist (suc o)) e
   sort_below dist o e fits is = subst (IsBelow q group (request dist (suc o))) (sym is) (record {
     fits = record { dist = fits.dist; numbered = omega arith; order = empty_lies q group };
     nodes = omega arith;
   })
 
-  below_by : (dist : Dist) (order : ℕ) (e : EnforcedBy) → Fits q group (request dist order) → Among e (enforcers_by dist order) → IsBelow q group (request dist order) e
+  below_by : (dist : Dist) (order : ℕ) (e : EnforcedBy) → Fits q group (request dist order)
+      → Among e (enforcers_by dist order) → IsBelow q group (request dist order) e
   below_by One zero e fits (inl is) = subst (IsBelow q group (request One 0)) (sym is) (record {
     fits = record { dist = tt; numbered = omega arith; order = empty_lies q group };
     nodes = omega arith;
@@ -59,5 +61,6 @@ module _ (q : Query) (group : KeyParts) where
   below_by (Hashed list) (suc o) e fits (inl is) = sort_below (Hashed list) o e fits is
   below_by (Hashed list) (suc o) e fits (inr none) = absurd none
 
-  pub enforcer_below : (wanted : Request) (e : EnforcedBy) → Fits q group wanted → Among e (enforcers_of wanted) → IsBelow q group wanted e
+  pub enforcer_below : (wanted : Request) (e : EnforcedBy) → Fits q group wanted → Among e (enforcers_of wanted)
+      → IsBelow q group wanted e
   enforcer_below wanted e fits among = below_by wanted.dist wanted.order e fits among

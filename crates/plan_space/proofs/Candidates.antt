@@ -1,7 +1,8 @@
 -- The lines of a candidate ask what fits its children, and give what lies in its group.
 use Rattle.std.proofs.Common.{◌≡◌, ℕ, refl, sym, subst, inl, inr}
 use Rattle.std.specs.Prelude.{Some}
-use Rattle.query_core.specs.Expressions.{expr_of, physical_children, HasPhysical, IsFiltered, IsJoin, IsAggregated, IsPartial, IsCandidate}
+use Rattle.query_core.specs.Expressions.{expr_of, physical_children, HasPhysical, IsFiltered, IsJoin, IsAggregated}
+use Rattle.query_core.specs.Expressions.{IsPartial, IsCandidate}
 use Rattle.query_core.specs.Keys.{input_of, top_of}
 use Rattle.query_core.specs.declared.query.Query.{Query}
 use Rattle.query_core.specs.declared.words.KeyParts.{KeyParts}
@@ -25,7 +26,8 @@ use Rattle.plan_space.specs.Laws.{CrossingsFit, GivenFits}
 use Rattle.plan_space.specs.Modes.{mode_at}
 use Rattle.plan_space.proofs.Numbers.{ListingIsOne}
 use Rattle.plan_space.proofs.Items.{JoinsGroups, sets_join}
-use Rattle.plan_space.proofs.Fitting.{DistsFit, top_dists_fit, IsFitting, column_hash_fits, column_order_fits, no_order_fits, dist_passes, dist_asked_kept}
+use Rattle.plan_space.proofs.Fitting.{DistsFit, top_dists_fit, IsFitting, column_hash_fits, column_order_fits}
+use Rattle.plan_space.proofs.Fitting.{no_order_fits, dist_passes, dist_asked_kept}
 use Rattle.plan_space.proofs.Grouped.{HasGrouped, input_has_grouped, group_order_fits, agg_line_fits, partial_fits}
 use Rattle.plan_space.proofs.Joins.{hash_line_fits, merge_line_fits, loop_line_fits}
 use Rattle.plan_space.proofs.Leaves.{scan_fits, index_scan_fits}
@@ -40,7 +42,8 @@ only_one line found (modes.Hashed number) = λ never. cc
 module _ (one : ListingIsOne) (q : Query) where
   -- the one line of an operator over a table
   table_line_fits : (group own : KeyParts) (order : KeyParts → GivenOrder) (mode : Mode) (line : Line) → group ≡ own
-      → single_line (table_line q group (order group)) mode ≡ Some line → GivenFits q own (gives_so (table_dist q (table_in own)) (order own))
+      → single_line (table_line q group (order group)) mode ≡ Some line
+      → GivenFits q own (gives_so (table_dist q (table_in own)) (order own))
       → IsFitting q group Zero line
   table_line_fits group own order mode line of_table is fits =
       let same : table_line q group (order group) ≡ line = only_one (table_line q group (order group)) line mode is in
@@ -48,7 +51,8 @@ module _ (one : ListingIsOne) (q : Query) where
       subst (IsFitting q group Zero) same (record { asks = tt; gives = gives })
 
   -- what holds of a line over one group holds of the same line over the same group
-  along : (group of child over : KeyParts) (known line : Line) → group ≡ of → child ≡ over → known ≡ line → IsFitting q of (One over) known
+  along : (group of child over : KeyParts) (known line : Line) → group ≡ of → child ≡ over → known ≡ line
+      → IsFitting q of (One over) known
       → IsFitting q group (One child) line
   along group of child over known line of_group of_child same fits =
       subst (λ g. IsFitting q g (One child) line) (sym of_group)
@@ -56,34 +60,44 @@ module _ (one : ListingIsOne) (q : Query) where
 
   -- a line of an aggregation over each group that has the GROUP BY columns is one over its children
   agg_over : (group child : KeyParts) (line : Line) → IsAggregated q group child
-      → ((from : KeyParts) → HasGrouped q from → IsFitting q groups.Agg (One from) line) → IsFitting q group (One child) line
+      → ((from : KeyParts) → HasGrouped q from → IsFitting q groups.Agg (One from) line)
+      → IsFitting q group (One child) line
   agg_over group child line (of_agg, over) fits = elim over [
-    | inl all ↦ along group groups.Agg child (input_of q) line line of_agg all refl (fits (input_of q) (input_has_grouped q))
-    | inr partial ↦ along group groups.Agg child groups.Partial line line of_agg partial refl (fits groups.Partial (λ i grouped. grouped))
+    | inl all ↦ along group groups.Agg child (input_of q) line line of_agg all refl
+        (fits (input_of q) (input_has_grouped q))
+    | inr partial ↦ along group groups.Agg child groups.Partial line line of_agg partial refl
+        (fits groups.Partial (λ i grouped. grouped))
   ]
 
   -- a filter passes on what is asked of it, and what its child gives
-  filter_fits : (t : ℕ) → IsFitting q (groups.Filter t) (One (groups.Get t)) (lines.Above left_dists.Same left_orders.Same)
+  filter_fits : (t : ℕ) → IsFitting q (groups.Filter t) (One (groups.Get t))
+      (lines.Above left_dists.Same left_orders.Same)
   filter_fits t = record {
     asks = λ wanted fits serves. record {
       dist = dist_asked_kept q (groups.Filter t) (groups.Get t) (λ i item. item) wanted.dist fits.dist;
       numbered = fits.numbered;
       order = fits.order;
     };
-    gives = record { dist_within = dist_passes q (groups.Filter t) (groups.Get t) (λ i item. item) (λ dist lies. lies); order_within = λ order lies. lies };
+    gives = record {
+      dist_within = dist_passes q (groups.Filter t) (groups.Get t) (λ i item. item) (λ dist lies. lies);
+      order_within = λ order lies. lies;
+    };
   }
 
   filter_over : (group child : KeyParts) (mode : Mode) (line : Line) → IsFiltered group child
       → single_line (lines.Above left_dists.Same left_orders.Same) mode ≡ Some line → IsFitting q group (One child) line
   filter_over group child mode line (t, of_table, over) is =
       let same = only_one (lines.Above left_dists.Same left_orders.Same) line mode is in
-      along group (groups.Filter t) child (groups.Get t) (lines.Above left_dists.Same left_orders.Same) line of_table over same (filter_fits t)
+      along group (groups.Filter t) child (groups.Get t) (lines.Above left_dists.Same left_orders.Same) line of_table
+      over same (filter_fits t)
 
   partial_over : (group child : KeyParts) (mode : Mode) (line : Line) → IsPartial q group child
-      → single_line (lines.Above left_dists.SameSpread (in_order 0)) mode ≡ Some line → IsFitting q group (One child) line
+      → single_line (lines.Above left_dists.SameSpread (in_order 0)) mode ≡ Some line
+      → IsFitting q group (One child) line
   partial_over group child mode line (of_partial, over) is =
       let same = only_one (lines.Above left_dists.SameSpread (in_order 0)) line mode is in
-      along group groups.Partial child (input_of q) (lines.Above left_dists.SameSpread (in_order 0)) line of_partial over same (partial_fits q)
+      along group groups.Partial child (input_of q) (lines.Above left_dists.SameSpread (in_order 0)) line of_partial
+      over same (partial_fits q)
 
   -- a join's group joins its children
   join_shape : (group left right : KeyParts) → IsJoin q group left right → JoinsGroups q group left right
@@ -94,10 +108,12 @@ module _ (one : ListingIsOne) (q : Query) where
 
   -- and its left child's rows lie by its items
   join_lists : (group left right : KeyParts) → IsJoin q group left right → DistsFit q left
-  join_lists group left right (set, a, b, of_set, falls, is_left, is_right) = subst (DistsFit q) (sym is_left) (top_dists_fit q a)
+  join_lists group left right (set, a, b, of_set, falls, is_left, is_right) =
+      subst (DistsFit q) (sym is_left) (top_dists_fit q a)
 
   -- an operator over two children joins them
-  joins_by : (group left right : KeyParts) (operator : Physical) → HasPhysical q group operator → physical_children operator ≡ Two left right → IsJoin q group left right
+  joins_by : (group left right : KeyParts) (operator : Physical) → HasPhysical q group operator
+      → physical_children operator ≡ Two left right → IsJoin q group left right
   joins_by group left right physical.Scan shape is = cc
   joins_by group left right (physical.IndexScan index) shape is = cc
   joins_by group left right (physical.Filter child) shape is = cc
@@ -118,7 +134,8 @@ module _ (one : ListingIsOne) (q : Query) where
   joins_by group left right (physical.StreamAgg child) shape is = cc
   joins_by group left right (physical.PartialAgg child) shape is = cc
 
-  -- the hash and the order of the left one of the columns that a predicate equates across the children fit the left child
+  -- the hash and the order of the left one of the columns that a predicate equates across the children fit the left
+  -- child
   pub crossings_fit : CrossingsFit q
   crossings_fit e left right pred a b candidate over crosses =
       let joins = join_shape e.group left right (joins_by e.group left right e.operator candidate.shape over) in
@@ -130,26 +147,34 @@ module _ (one : ListingIsOne) (q : Query) where
   line_fits : (group : KeyParts) (operator : Physical) (mode : Mode) (line : Line) → HasPhysical q group operator
       → operator_line q group operator mode ≡ Some line → IsFitting q group (physical_children operator) line
   line_fits group physical.Scan mode line (t, of_table) is =
-      table_line_fits group (groups.Get t) (λ g. Listed 0) mode line of_table is (scan_fits one q t (groups.Get t) (λ i column. column))
+      table_line_fits group (groups.Get t) (λ g. Listed 0) mode line of_table is
+      (scan_fits one q t (groups.Get t) (λ i column. column))
   line_fits group (physical.IndexScan index) mode line (t, of_table, there) is =
-      table_line_fits group (groups.Get t) (λ g. Index (table_in g) index) mode line of_table is (index_scan_fits one q t (groups.Get t) (λ i column. column) index)
+      table_line_fits group (groups.Get t) (λ g. Index (table_in g) index) mode line of_table is
+      (index_scan_fits one q t (groups.Get t) (λ i column. column) index)
   line_fits group (physical.Filter child) mode line shape is = filter_over group child mode line shape is
   line_fits group (physical.IndexSeek index) mode line (t, of_table, there) is =
       table_line_fits group (groups.Filter t) (λ g. Index (table_in g) index) mode line of_table is
       (index_scan_fits one q t (groups.Filter t) (λ i column. column) index)
   line_fits group (physical.HashJoin left right) mode line shape is =
-      hash_line_fits one q group left right (join_lists group left right shape) (join_shape group left right shape) line mode is
+      hash_line_fits one q group left right (join_lists group left right shape) (join_shape group left right shape) line
+      mode is
   line_fits group (physical.MergeJoin left right) mode line shape is =
-      merge_line_fits one q group left right (join_lists group left right shape) (join_shape group left right shape) line mode is
+      merge_line_fits one q group left right (join_lists group left right shape) (join_shape group left right shape)
+      line mode is
   line_fits group (physical.LoopJoin left right) mode line shape is =
-      loop_line_fits one q group left right (join_lists group left right shape) (join_shape group left right shape) line mode is
+      loop_line_fits one q group left right (join_lists group left right shape) (join_shape group left right shape) line
+      mode is
   line_fits group (physical.HashAgg child) mode line shape is =
-      agg_over group child line shape (λ from has. agg_line_fits q from has 0 (λ other has_too. no_order_fits q other) mode line is)
+      agg_over group child line shape (λ from has.
+      agg_line_fits q from has 0 (λ other has_too. no_order_fits q other) mode line is)
   line_fits group (physical.StreamAgg child) mode line shape is =
-      agg_over group child line shape (λ from has. agg_line_fits q from has (group_order q) (group_order_fits one q) mode line is)
+      agg_over group child line shape (λ from has.
+      agg_line_fits q from has (group_order q) (group_order_fits one q) mode line is)
   line_fits group (physical.PartialAgg child) mode line shape is = partial_over group child mode line shape is
 
   -- the lines of an expression that a group of the query can hold
-  pub candidate_line_fits : (e : PhysicalExpr) (mode : ℕ) (line : Line) → IsCandidate q (expr_of e) → line_of q e mode ≡ Some line
+  pub candidate_line_fits : (e : PhysicalExpr) (mode : ℕ) (line : Line) → IsCandidate q (expr_of e)
+      → line_of q e mode ≡ Some line
       → IsFitting q e.group (physical_children e.operator) line
   candidate_line_fits e mode line candidate is = line_fits e.group e.operator (mode_at mode) line candidate.shape is

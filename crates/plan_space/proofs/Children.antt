@@ -8,7 +8,8 @@ use Rattle.std.proofs.Math.Nat.{pow-le-pow_right}
 use Rattle.std.proofs.lemmas.Nat.{trailing_le}
 use Rattle.std.proofs.lemmas.Bool.{cases_Bool}
 use Rattle.query_core.specs.Keys.{key_number, has_own, group_of_table, top_of, input_of}
-use Rattle.query_core.specs.Expressions.{physical_children, HasPhysical, IsFiltered, IsJoin, IsAggregated, IsPartial, IsChild}
+use Rattle.query_core.specs.Expressions.{physical_children, HasPhysical, IsFiltered, IsJoin, IsAggregated, IsPartial}
+use Rattle.query_core.specs.Expressions.{IsChild}
 use Rattle.query_core.specs.declared.query.Query.{Query}
 use Rattle.query_core.specs.declared.words.KeyParts.{KeyParts}
 use Rattle.query_core.specs.declared.words.KeyParts.TheVariants as groups
@@ -43,8 +44,10 @@ top_nodes : (q : Query) (a : ℕ) → 0 < a → group_nodes (top_of q a) ≤ 1 +
 top_nodes q a some =
     let t = trailing_zeros w32 a in
     elim (cases_Bool (nat_eq a (2 ^ t))) [
-      | inl is ↦ subst (λ b. group_nodes (option_map_or (group_of_table q) (cond b (Some t) None) (groups.Join a)) ≤ 1 + (16 * a - 8)) (sym is) (omega (arith, some, alone_nodes q t))
-      | inr is ↦ subst (λ b. group_nodes (option_map_or (group_of_table q) (cond b (Some t) None) (groups.Join a)) ≤ 1 + (16 * a - 8)) (sym is) (omega arith)
+      | inl is ↦ subst (λ b. group_nodes (option_map_or (group_of_table q) (cond b (Some t) None) (groups.Join a)) ≤ 1
+          + (16 * a - 8)) (sym is) (omega (arith, some, alone_nodes q t))
+      | inr is ↦ subst (λ b. group_nodes (option_map_or (group_of_table q) (cond b (Some t) None) (groups.Join a)) ≤ 1
+          + (16 * a - 8)) (sym is) (omega arith)
     ]
 
 alone_key : (q : Query) (t : ℕ) → t ≤ 32 → key_number (group_of_table q t) ≤ 48
@@ -58,8 +61,10 @@ top_key : (q : Query) (a set : ℕ) → a < set → key_number (top_of q a) < 10
 top_key q a set less =
     let t = trailing_zeros w32 a in
     elim (cases_Bool (nat_eq a (2 ^ t))) [
-      | inl is ↦ subst (λ b. key_number (option_map_or (group_of_table q) (cond b (Some t) None) (groups.Join a)) < 1024 + set) (sym is) (omega (arith, alone_key q t (trailing_le 32 a)))
-      | inr is ↦ subst (λ b. key_number (option_map_or (group_of_table q) (cond b (Some t) None) (groups.Join a)) < 1024 + set) (sym is) (omega (arith, less))
+      | inl is ↦ subst (λ b. key_number (option_map_or (group_of_table q) (cond b (Some t) None) (groups.Join a)) < 1024
+          + set) (sym is) (omega (arith, alone_key q t (trailing_le 32 a)))
+      | inr is ↦ subst (λ b. key_number (option_map_or (group_of_table q) (cond b (Some t) None) (groups.Join a)) < 1024
+          + set) (sym is) (omega (arith, less))
     ]
 
 -- two disjoint sets that are a third together are as many as it, as numbers
@@ -74,27 +79,35 @@ input_few q =
     let low = pow-le-pow_right {n = 2} (omega arith) {i = 1} {j = length q.tables} q.tables_valid.some in
     let high = pow-le-pow_right {n = 2} (omega arith) {i = length q.tables} {j = 10} q.tables_valid.few in
     let some : 0 < 2 ^ length q.tables - 1 = omega (arith, low) in
-    let most : 2 ^ length q.tables - 1 ≤ 1023 = omega (arith, high) in
-    (omega (arith, top_nodes q (2 ^ length q.tables - 1) some, most), omega (arith, top_key q (2 ^ length q.tables - 1) 1024 (omega (arith, most))))
+    let most : 2 ^ length q.tables - 1 ≤ 1023 = omega (arith, high) in (
+      omega (arith, top_nodes q (2 ^ length q.tables - 1) some, most),
+      omega (arith, top_key q (2 ^ length q.tables - 1) 1024 (omega (arith, most))),
+    )
 
 module _ (q : Query) (group : KeyParts) where
   filtered_lesser : (child : KeyParts) → IsFiltered group child → AreLesser group (child ∷ [])
   filtered_lesser child (t, is, one) =
-      subst (λ g. AreLesser g (child ∷ [])) (sym is) (subst (λ c. AreLesser (groups.Filter t) (c ∷ [])) (sym one) (record { keys = (omega arith, tt); nodes = omega arith }))
+      subst (λ g. AreLesser g (child ∷ [])) (sym is)
+      (subst (λ c. AreLesser (groups.Filter t) (c ∷ [])) (sym one)
+      (record { keys = (omega arith, tt); nodes = omega arith }))
 
   partial_lesser : (child : KeyParts) → IsPartial q group child → AreLesser group (child ∷ [])
   partial_lesser child (is, one) =
       let few = input_few q in
       subst (λ g. AreLesser g (child ∷ [])) (sym is)
-      (subst (λ c. AreLesser groups.Partial (c ∷ [])) (sym one) (record { keys = (omega (arith, few.1), tt); nodes = omega (arith, few.0) }))
+      (subst (λ c. AreLesser groups.Partial (c ∷ [])) (sym one)
+      (record { keys = (omega (arith, few.1), tt); nodes = omega (arith, few.0) }))
 
   aggregated_lesser : (child : KeyParts) → IsAggregated q group child → AreLesser group (child ∷ [])
   aggregated_lesser child (is, inl one) =
       let few = input_few q in
       subst (λ g. AreLesser g (child ∷ [])) (sym is)
-      (subst (λ c. AreLesser groups.Agg (c ∷ [])) (sym one) (record { keys = (omega (arith, few.1), tt); nodes = omega (arith, few.0) }))
+      (subst (λ c. AreLesser groups.Agg (c ∷ [])) (sym one)
+      (record { keys = (omega (arith, few.1), tt); nodes = omega (arith, few.0) }))
   aggregated_lesser child (is, inr one) =
-      subst (λ g. AreLesser g (child ∷ [])) (sym is) (subst (λ c. AreLesser groups.Agg (c ∷ [])) (sym one) (record { keys = (omega arith, tt); nodes = omega arith }))
+      subst (λ g. AreLesser g (child ∷ [])) (sym is)
+      (subst (λ c. AreLesser groups.Agg (c ∷ [])) (sym one)
+      (record { keys = (omega arith, tt); nodes = omega arith }))
 
   joined_lesser : (left right : KeyParts) → IsJoin q group left right → AreLesser group (left ∷ right ∷ [])
   joined_lesser left right (set, a, b, is, falls, first, second) =
@@ -102,15 +115,26 @@ module _ (q : Query) (group : KeyParts) where
       subst (λ g. AreLesser g (left ∷ right ∷ [])) (sym is)
       (subst (λ l. AreLesser (groups.Join set) (l ∷ right ∷ [])) (sym first)
       (subst (λ r. AreLesser (groups.Join set) (top_of q a ∷ r ∷ [])) (sym second) (record {
-        keys = (top_key q a set (omega (arith, add, falls.some_right)), (top_key q b set (omega (arith, add, falls.some_left)), tt));
-        nodes = omega (arith, add, falls.some_left, falls.some_right, top_nodes q a falls.some_left, top_nodes q b falls.some_right);
+        keys = (
+          top_key q a set (omega (arith, add, falls.some_right)),
+          (top_key q b set (omega (arith, add, falls.some_left)), tt),
+        );
+        nodes = omega (
+          arith,
+          add,
+          falls.some_left,
+          falls.some_right,
+          top_nodes q a falls.some_left,
+          top_nodes q b falls.some_right,
+        );
       })))
 
   none_lesser : AreLesser group []
   none_lesser = record { keys = tt; nodes = some_nodes group }
 
   -- the children's groups have lesser keys, and fewer nodes together
-  pub children_lesser : (operator : Physical) → HasPhysical q group operator → AreLesser group (groups_of (physical_children operator))
+  pub children_lesser : (operator : Physical) → HasPhysical q group operator
+      → AreLesser group (groups_of (physical_children operator))
   children_lesser physical.Scan shape = none_lesser
   children_lesser (physical.IndexScan index) shape = none_lesser
   children_lesser (physical.Filter child) shape = filtered_lesser child shape
@@ -123,7 +147,8 @@ module _ (q : Query) (group : KeyParts) where
   children_lesser (physical.PartialAgg child) shape = partial_lesser child shape
 
   -- so does each child's
-  pub child_key : (children : Children) (child : KeyParts) → HaveLesserKeys group (groups_of children) → IsChild children child → key_number child < key_number group
+  pub child_key : (children : Children) (child : KeyParts) → HaveLesserKeys group (groups_of children)
+      → IsChild children child → key_number child < key_number group
   child_key Zero child keys is = absurd is
   child_key (One only) child keys is = subst (λ c. key_number c < key_number group) (sym is) keys.0
   child_key (Two left right) child keys (inl is) = subst (λ c. key_number c < key_number group) (sym is) keys.0

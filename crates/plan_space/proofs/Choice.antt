@@ -23,7 +23,8 @@ use Rattle.plan_space.specs.Alternatives.{asked_of, KidsServe}
 use Rattle.plan_space.specs.Enforcers.{EnforcedBy}
 use Rattle.plan_space.specs.Least.{Serves, IsLeast, IsAnswer}
 use Rattle.plan_space.specs.Order.{IsAtMost}
-use Rattle.plan_space.specs.Choices.{groups_of, AreLeast, IsNodeOver, Beats, IsEnforcerSettled, LacksOne, IsLineSettled, IsSettled}
+use Rattle.plan_space.specs.Choices.{groups_of, AreLeast, IsNodeOver, Beats, IsEnforcerSettled, LacksOne, IsLineSettled}
+use Rattle.plan_space.specs.Choices.{IsSettled}
 use Rattle.plan_space.specs.Laws.{GivenFits, KidsFit, AreOf, SatisfactionSplits}
 use Rattle.plan_space.proofs.Plans.{IsAtMost-trans, IsAtMost-not_less, kid_at_most, over_at_most, two_at_most}
 use Rattle.plan_space.proofs.Exchange.{IsOrdered, Replaces, same_class, same_shape, exchange}
@@ -36,21 +37,25 @@ AreAtMost q [] (other ∷ others) = ⊥
 AreAtMost q (plan ∷ plans) [] = ⊥
 AreAtMost q (plan ∷ plans) (other ∷ others) = IsAtMost q plan other × AreAtMost q plans others
 
-Beats-over : (q : Query) (best : Option Tree) (node : NodeKind) (kid : Tree) → Beats q best kid → Beats q best (over node kid)
+Beats-over : (q : Query) (best : Option Tree) (node : NodeKind) (kid : Tree) → Beats q best kid
+    → Beats q best (over node kid)
 Beats-over q None node kid beats = absurd beats
 Beats-over q (Some plan) node kid beats = kid_at_most q node plan kid beats
 
-Beats-then : (q : Query) (best : Option Tree) (plan other : Tree) → Beats q best plan → IsAtMost q plan other → Beats q best other
+Beats-then : (q : Query) (best : Option Tree) (plan other : Tree) → Beats q best plan → IsAtMost q plan other
+    → Beats q best other
 Beats-then q None plan other beats most = absurd beats
 Beats-then q (Some best) plan other beats most = IsAtMost-trans q best plan other beats most
 
 -- a least plan is at most each plan for its request
 abbrev pub AreSettled : (ExprParts → Type 0) → Query → Type 0
-AreSettled Member q = (group : KeyParts) (wanted : Request) (plan other : Tree) → IsLeast Member q group wanted plan → Serves Member q group wanted other → IsAtMost q plan other
+AreSettled Member q = (group : KeyParts) (wanted : Request) (plan other : Tree) → IsLeast Member q group wanted plan
+    → Serves Member q group wanted other → IsAtMost q plan other
 
 module _ (Member : ExprParts → Type 0) (q : Query) (settled : AreSettled Member q) where
   -- where some child has no plan, no kids serve
-  lacks_kids : (groups : List KeyParts) (wishes : List Request) (kids : List Tree) → AreOf groups (sights q kids) → KidsServe q (sights q kids) wishes
+  lacks_kids : (groups : List KeyParts) (wishes : List Request) (kids : List Tree) → AreOf groups (sights q kids)
+      → KidsServe q (sights q kids) wishes
       → AreValid Member q kids → LacksOne Member q groups wishes → ⊥
   lacks_kids [] wishes kids of_groups serve valid lacks = absurd lacks
   lacks_kids (g ∷ groups) [] kids of_groups serve valid lacks = absurd lacks
@@ -61,7 +66,8 @@ module _ (Member : ExprParts → Type 0) (q : Query) (settled : AreSettled Membe
       lacks_kids groups wishes kids of_groups.1 serve.1 valid.1 lacks
 
   -- least plans are at most the kids that serve, and are seen alike
-  least_kids : (groups : List KeyParts) (wishes : List Request) (plans kids : List Tree) → AreLeast Member q groups wishes plans
+  least_kids : (groups : List KeyParts) (wishes : List Request) (plans kids : List Tree)
+      → AreLeast Member q groups wishes plans
       → AreOf groups (sights q kids) → KidsServe q (sights q kids) wishes → AreValid Member q kids
       → AreAtMost q plans kids × AreAlike (sights q plans) (sights q kids)
   least_kids [] [] [] [] least of_groups serve valid = (tt, tt)
@@ -73,65 +79,90 @@ module _ (Member : ExprParts → Type 0) (q : Query) (settled : AreSettled Membe
   least_kids (g ∷ groups) (wanted ∷ wishes) (plan ∷ plans) [] least of_groups serve valid = absurd of_groups
   least_kids (g ∷ groups) (wanted ∷ wishes) (plan ∷ plans) (kid ∷ kids) least of_groups serve valid =
       let rest = least_kids groups wishes plans kids least.1 of_groups.1 serve.1 valid.1 in (
-        (settled g wanted plan kid least.0 (record { valid = valid.0; of_group = of_groups.0; satisfies = serve.0 }), rest.0),
-        (least.0.serves.of_group ∙ sym of_groups.0, same_class (gives q plan).dist (gives q kid).dist wanted.dist least.0.serves.satisfies.dist serve.0.dist, rest.1),
+        (
+          settled g wanted plan kid least.0 (record { valid = valid.0; of_group = of_groups.0; satisfies = serve.0 }),
+          rest.0,
+        ),
+        (
+          least.0.serves.of_group ∙ sym of_groups.0,
+          same_class (gives q plan).dist (gives q kid).dist wanted.dist least.0.serves.satisfies.dist serve.0.dist,
+          rest.1,
+        ),
       )
 
   module _ (group : KeyParts) (wanted : Request) (best : Option Tree) (is : IsSettled Member q group wanted best) where
     module _ (e : PhysicalExpr) (mode : ℕ) where
-      at_leaf : (plans : List Tree) (plan : Tree) → AreAtMost q plans [] → IsNodeOver (nodes.Native e mode) plans plan → Beats q best plan
+      at_leaf : (plans : List Tree) (plan : Tree) → AreAtMost q plans [] → IsNodeOver (nodes.Native e mode) plans plan
+          → Beats q best plan
           → Beats q best (leaf (nodes.Native e mode))
       at_leaf [] plan at_most over_plans beats = subst (Beats q best) over_plans beats
       at_leaf (first ∷ plans) plan at_most over_plans beats = absurd at_most
 
-      at_one : (kid : Tree) (plans : List Tree) (plan : Tree) → AreAtMost q plans (kid ∷ []) → AreAlike (sights q plans) (kid_of q kid ∷ [])
-          → IsNodeOver (nodes.Native e mode) plans plan → Beats q best plan → Beats q best (over (nodes.Native e mode) kid)
+      at_one : (kid : Tree) (plans : List Tree) (plan : Tree) → AreAtMost q plans (kid ∷ [])
+          → AreAlike (sights q plans) (kid_of q kid ∷ [])
+          → IsNodeOver (nodes.Native e mode) plans plan → Beats q best plan
+          → Beats q best (over (nodes.Native e mode) kid)
       at_one kid [] plan at_most alike over_plans beats = absurd at_most
       at_one kid (first ∷ []) plan at_most alike over_plans beats =
           let shape = same_native_shape q e mode (kid_of q first ∷ []) (kid_of q kid ∷ []) alike in
           let cost = ap local_cost shape in
-          Beats-then q best (over (nodes.Native e mode) first) (over (nodes.Native e mode) kid) (subst (Beats q best) over_plans beats)
+          Beats-then q best (over (nodes.Native e mode) first) (over (nodes.Native e mode) kid)
+          (subst (Beats q best) over_plans beats)
           (over_at_most q (nodes.Native e mode) (nodes.Native e mode) first kid (omega arith) (omega arith) at_most.0)
       at_one kid (first ∷ other ∷ others) plan at_most alike over_plans beats = absurd at_most.1
 
       at_two : (left right : Tree) (plans : List Tree) (plan : Tree) → AreAtMost q plans (left ∷ right ∷ [])
-          → AreAlike (sights q plans) (kid_of q left ∷ kid_of q right ∷ []) → IsNodeOver (nodes.Native e mode) plans plan → Beats q best plan
+          → AreAlike (sights q plans) (kid_of q left ∷ kid_of q right ∷ [])
+          → IsNodeOver (nodes.Native e mode) plans plan → Beats q best plan
           → Beats q best (two (nodes.Native e mode) left right)
       at_two left right [] plan at_most alike over_plans beats = absurd at_most
       at_two left right (first ∷ []) plan at_most alike over_plans beats = absurd at_most.1
       at_two left right (first ∷ second ∷ []) plan at_most alike over_plans beats =
-          let shape = same_native_shape q e mode (kid_of q first ∷ kid_of q second ∷ []) (kid_of q left ∷ kid_of q right ∷ []) alike in
+          let shape = same_native_shape q e mode (kid_of q first ∷ kid_of q second ∷ [])
+          (kid_of q left ∷ kid_of q right ∷ []) alike in
           let cost = ap local_cost shape in
-          Beats-then q best (two (nodes.Native e mode) first second) (two (nodes.Native e mode) left right) (subst (Beats q best) over_plans beats)
+          Beats-then q best (two (nodes.Native e mode) first second) (two (nodes.Native e mode) left right)
+          (subst (Beats q best) over_plans beats)
           (two_at_most q (nodes.Native e mode) first left second right (omega arith) at_most.0 at_most.1.0)
       at_two left right (first ∷ second ∷ other ∷ others) plan at_most alike over_plans beats = absurd at_most.1.1
 
     -- an enforcer of the request over the least plan does as well as the one that it replaces
-    at_replaced : (node : Enforcer) (kid : Tree) (e : EnforcedBy) → Replaces q wanted node (kid_of q kid) e → Serves Member q group e.below kid
+    at_replaced : (node : Enforcer) (kid : Tree) (e : EnforcedBy) → Replaces q wanted node (kid_of q kid) e
+        → Serves Member q group e.below kid
         → IsEnforcerSettled Member q group e best → Beats q best (over (nodes.Enforcer node) kid)
     at_replaced node kid e replaces serves (inl (plan, below, beats)) =
-        let class = same_class (gives q plan).dist (gives q kid).dist e.below.dist below.serves.satisfies.dist serves.satisfies.dist in
+        let class = same_class (gives q plan).dist (gives q kid).dist e.below.dist below.serves.satisfies.dist
+        serves.satisfies.dist in
         let of_group = below.serves.of_group ∙ sym serves.of_group in
         let shape = same_shape q e.node (kid_of q plan) (kid_of q kid) of_group class in
         let same_cost = ap local_cost shape in
         let cost = replaces.cost in
         Beats-then q best (over (nodes.Enforcer e.node) plan) (over (nodes.Enforcer node) kid) beats
-        (over_at_most q (nodes.Enforcer e.node) (nodes.Enforcer node) plan kid replaces.number (omega arith) (settled group e.below plan kid below serves))
+        (over_at_most q (nodes.Enforcer e.node) (nodes.Enforcer node) plan kid replaces.number (omega arith)
+        (settled group e.below plan kid below serves))
     at_replaced node kid e replaces serves (inr none) = absurd (none kid serves)
 
     module _ (ordered : IsOrdered q) (fits : Fits q group wanted) where
       at_enforcer : (node : Enforcer) (kid : Tree) → (Serves Member q group wanted kid → Beats q best kid)
-          → Serves Member q group wanted (over (nodes.Enforcer node) kid) → Beats q best (over (nodes.Enforcer node) kid)
+          → Serves Member q group wanted (over (nodes.Enforcer node) kid)
+          → Beats q best (over (nodes.Enforcer node) kid)
       at_enforcer node kid wins serves =
           elim (exchange q ordered (kid_of q kid) node wanted serves.valid.1 fits.numbered serves.satisfies) [
-            | inl satisfies ↦ Beats-over q best (nodes.Enforcer node) kid (wins (record { valid = serves.valid.0; of_group = serves.of_group; satisfies = satisfies }))
+            | inl satisfies ↦ Beats-over q best (nodes.Enforcer node) kid
+                (wins (record { valid = serves.valid.0; of_group = serves.of_group; satisfies = satisfies }))
             | inr (e, replaces) ↦
-                at_replaced node kid e replaces (record { valid = serves.valid.0; of_group = serves.of_group; satisfies = replaces.satisfies })
+                at_replaced node kid e replaces (record {
+                  valid = serves.valid.0;
+                  of_group =
+                      serves.of_group;
+                  satisfies = replaces.satisfies;
+                })
                 (is.enforcers e replaces.among)
           ]
 
       module _ (candidates : (e : ExprParts) → Member e → IsCandidate q e)
-          (given_fits : (plan : Tree) → IsValid Member q plan → GivenFits q (kid_of q plan).group (gives q plan)) (splits : SatisfactionSplits q) where
+          (given_fits : (plan : Tree) → IsValid Member q plan → GivenFits q (kid_of q plan).group (gives q plan))
+          (splits : SatisfactionSplits q) where
         kids_fit : (kids : List Tree) → AreValid Member q kids → KidsFit q (sights q kids)
         kids_fit [] valid = tt
         kids_fit (kid ∷ kids) valid = (given_fits kid valid.0, kids_fit kids valid.1)
@@ -145,22 +176,39 @@ module _ (Member : ExprParts → Type 0) (q : Query) (settled : AreSettled Membe
           over_plans : IsNodeOver (nodes.Native e mode) plans plan
           beats : Beats q best plan
 
-        settled_below : (e : PhysicalExpr) (mode : ℕ) (kids : List Tree) (line : Line) → AreOf (groups_of (physical_children e.operator)) (sights q kids)
-            → KidsServe q (sights q kids) (asked_of line wanted) → AreValid Member q kids → IsLineSettled Member q e mode line wanted best
+        settled_below : (e : PhysicalExpr) (mode : ℕ) (kids : List Tree) (line : Line)
+            → AreOf (groups_of (physical_children e.operator)) (sights q kids)
+            → KidsServe q (sights q kids) (asked_of line wanted) → AreValid Member q kids
+            → IsLineSettled Member q e mode line wanted best
             → IsFoundBelow e mode kids
         settled_below e mode kids line of_children serve valid (inl (plans, plan, least, over_plans, beats)) =
-            let facts = least_kids (groups_of (physical_children e.operator)) (asked_of line wanted) plans kids least of_children serve valid in
-            record { plans = plans; plan = plan; at_most = facts.0; alike = facts.1; over_plans = over_plans; beats = beats }
+            let facts = least_kids (groups_of (physical_children e.operator)) (asked_of line wanted) plans kids least
+            of_children serve valid in
+            record {
+              plans = plans;
+              plan = plan;
+              at_most = facts.0;
+              alike = facts.1;
+              over_plans = over_plans;
+              beats =
+                  beats;
+            }
         settled_below e mode kids line of_children serve valid (inr lacks) =
-            absurd (lacks_kids (groups_of (physical_children e.operator)) (asked_of line wanted) kids of_children serve valid lacks)
+            absurd (lacks_kids (groups_of (physical_children e.operator)) (asked_of line wanted) kids of_children serve
+            valid lacks)
 
-        found_below : (e : PhysicalExpr) (mode : ℕ) (kids : List Tree) → Member (expr_of e) → e.group ≡ group → AreValid Member q kids
-            → NativeFits q e mode (sights q kids) → Satisfies q (native_gives q e mode (sights q kids)) wanted → IsFoundBelow e mode kids
+        found_below : (e : PhysicalExpr) (mode : ℕ) (kids : List Tree) → Member (expr_of e) → e.group ≡ group
+            → AreValid Member q kids
+            → NativeFits q e mode (sights q kids) → Satisfies q (native_gives q e mode (sights q kids)) wanted
+            → IsFoundBelow e mode kids
         found_below e mode kids member of_group valid native_fits satisfies =
             let e_fits = subst (λ (g : KeyParts). Fits q g wanted) (sym of_group) fits in
-            let split = splits e mode (sights q kids) wanted (candidates (expr_of e) member) (kids_fit kids valid) e_fits native_fits satisfies in
-            let of_children = kids_of_children q (physical_children e.operator) (line_of q e mode) (sights q kids) native_fits in
-            settled_below e mode kids split.0 of_children split.2 valid (is.members e mode member of_group split.0 split.1)
+            let split = splits e mode (sights q kids) wanted (candidates (expr_of e) member) (kids_fit kids valid)
+            e_fits native_fits satisfies in
+            let of_children = kids_of_children q (physical_children e.operator) (line_of q e mode) (sights q kids)
+            native_fits in
+            settled_below e mode kids split.0 of_children split.2 valid
+            (is.members e mode member of_group split.0 split.1)
 
         -- the best is at most every plan that serves
         at_most_all : (plan : Tree) → Serves Member q group wanted plan → Beats q best plan
@@ -169,11 +217,13 @@ module _ (Member : ExprParts → Type 0) (q : Query) (settled : AreSettled Membe
             at_leaf e mode found.plans found.plan found.at_most found.over_plans found.beats
         at_most_all (leaf (nodes.Enforcer node)) serves = absurd serves.valid
         at_most_all (over (nodes.Native e mode) kid) serves =
-            let found = found_below e mode (kid ∷ []) serves.valid.1.0 serves.of_group (serves.valid.0, tt) serves.valid.1.1 serves.satisfies in
+            let found = found_below e mode (kid ∷ []) serves.valid.1.0 serves.of_group (serves.valid.0, tt)
+            serves.valid.1.1 serves.satisfies in
             at_one e mode kid found.plans found.plan found.at_most found.alike found.over_plans found.beats
         at_most_all (over (nodes.Enforcer node) kid) serves = at_enforcer node kid (at_most_all kid) serves
         at_most_all (two (nodes.Native e mode) left right) serves =
-            let found = found_below e mode (left ∷ right ∷ []) serves.valid.2.0 serves.of_group (serves.valid.0, (serves.valid.1, tt)) serves.valid.2.1 serves.satisfies in
+            let found = found_below e mode (left ∷ right ∷ []) serves.valid.2.0 serves.of_group
+            (serves.valid.0, (serves.valid.1, tt)) serves.valid.2.1 serves.satisfies in
             at_two e mode left right found.plans found.plan found.at_most found.alike found.over_plans found.beats
         at_most_all (two (nodes.Enforcer node) left right) serves = absurd serves.valid.2
 
@@ -182,12 +232,14 @@ module _ (Member : ExprParts → Type 0) (q : Query) (settled : AreSettled Membe
     (given_fits : (plan : Tree) → IsValid Member q plan → GivenFits q (kid_of q plan).group (gives q plan))
     (splits : SatisfactionSplits q) where
   -- the best is the least plan, and where there is none there is no plan
-  pub settled_is_least : (group : KeyParts) (wanted : Request) (best : Option Tree) → Fits q group wanted → IsSettled Member q group wanted best
+  pub settled_is_least : (group : KeyParts) (wanted : Request) (best : Option Tree) → Fits q group wanted
+      → IsSettled Member q group wanted best
       → IsAnswer Member q group wanted best
   settled_is_least group wanted None fits is = λ plan serves.
       at_most_all Member q settled group wanted None is ordered fits candidates given_fits splits plan serves
   settled_is_least group wanted (Some best) fits is = record {
     serves = is.best_serves;
     none_less = λ other serves.
-        IsAtMost-not_less q best other (at_most_all Member q settled group wanted (Some best) is ordered fits candidates given_fits splits other serves);
+        IsAtMost-not_less q best other (at_most_all Member q settled group wanted (Some best) is ordered fits candidates
+        given_fits splits other serves);
   }

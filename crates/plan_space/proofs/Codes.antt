@@ -35,8 +35,10 @@ pub AtMost-not_less : (xs ys : List ℕ) → AtMost xs ys → slice_cmp nat_cmp 
 AtMost-not_less [] [] a less = cc
 AtMost-not_less [] (y ∷ ys) a less = absurd a
 AtMost-not_less (x ∷ xs) [] a less = absurd a
-AtMost-not_less (x ∷ xs) (y ∷ ys) (inl a) less = let after : Greater ≡ nat_cmp y x = nat_cmp_is y x Greater a in let less' = rw (← after) at less in cc
-AtMost-not_less (x ∷ xs) (y ∷ ys) (inr a) less = let same : Equal ≡ nat_cmp y x = nat_cmp_is y x Equal (omega arith) in let less' = rw (← same) at less in AtMost-not_less xs ys a.1 less'
+AtMost-not_less (x ∷ xs) (y ∷ ys) (inl a) less = let after : Greater ≡ nat_cmp y x = nat_cmp_is y x Greater a in
+    let less' = rw (← after) at less in cc
+AtMost-not_less (x ∷ xs) (y ∷ ys) (inr a) less = let same : Equal ≡ nat_cmp y x = nat_cmp_is y x Equal (omega arith) in
+    let less' = rw (← same) at less in AtMost-not_less xs ys a.1 less'
 
 -- codes that are at most each other are one
 pub one_code : (xs ys : List ℕ) → AtMost xs ys → AtMost ys xs → xs ≡ ys
@@ -67,7 +69,8 @@ pub before_is_less : (xs ys : List ℕ) → IsBefore xs ys → slice_cmp nat_cmp
 before_is_less [] ys a = absurd a
 before_is_less (x ∷ xs) [] a = absurd a
 before_is_less (x ∷ xs) (y ∷ ys) (inl a) = let less : Less ≡ nat_cmp x y = nat_cmp_is x y Less a in rw (← less) refl
-before_is_less (x ∷ xs) (y ∷ ys) (inr a) = let same : Equal ≡ nat_cmp x y = nat_cmp_is x y Equal (omega arith) in rw (← same) (before_is_less xs ys a.1)
+before_is_less (x ∷ xs) (y ∷ ys) (inr a) = let same : Equal ≡ nat_cmp x y = nat_cmp_is x y Equal (omega arith) in
+    rw (← same) (before_is_less xs ys a.1)
 
 before_append : (xs ys rs ts : List ℕ) → IsBefore xs ys → IsBefore (xs ++ rs) (ys ++ ts)
 before_append [] ys rs ts a = absurd a

@@ -24,7 +24,8 @@ few_by Copies (suc o) = omega arith
 few_by (Hashed list) (suc o) = omega arith
 
 -- of at most two each is at one of the first two places
-at_either : (list : List EnforcedBy) → length list ≤ 2 → (e : EnforcedBy) → Among e list → (slice_get list 0 ≡ Some e) ⊎ (slice_get list 1 ≡ Some e)
+at_either : (list : List EnforcedBy) → length list ≤ 2 → (e : EnforcedBy) → Among e list → (slice_get list 0 ≡ Some e)
+    ⊎ (slice_get list 1 ≡ Some e)
 at_either [] few e none = absurd none
 at_either (first ∷ []) few e (inl is) = inl (ap (λ (x : EnforcedBy). Some x) (sym is))
 at_either (first ∷ []) few e (inr none) = absurd none

@@ -93,7 +93,8 @@ pub same_class : (a b : GivenDist) (asked : Dist) → Meets a asked → Meets b 
 same_class a b asked x y = let e = met_class a asked x in let f = met_class b asked y in cc
 
 -- an enforcer has the same shape over kids of one group and one class
-pub same_shape : (q : Query) (e : Enforcer) (a b : Kid) → a.group ≡ b.group → class_of a.given.dist ≡ class_of b.given.dist
+pub same_shape : (q : Query) (e : Enforcer) (a b : Kid) → a.group ≡ b.group
+    → class_of a.given.dist ≡ class_of b.given.dist
     → enforcer_shape q e (a ∷ []) ≡ enforcer_shape q e (b ∷ [])
 same_shape q enforcers.Gather a b group class = cc
 same_shape q enforcers.Broadcast a b group class = cc
@@ -136,7 +137,8 @@ module _ (q : Query) (ordered : IsOrdered q) (kid : Kid) where
       cost = omega arith;
     },
   )
-  exchange_broadcast Copies (suc o) is_spread numbered satisfies = absurd (ordered.none_empty o numbered satisfies.order)
+  exchange_broadcast Copies (suc o) is_spread numbered satisfies =
+      absurd (ordered.none_empty o numbered satisfies.order)
   exchange_broadcast One o is_spread numbered satisfies = absurd satisfies.dist
   exchange_broadcast Spread o is_spread numbered satisfies = absurd satisfies.dist
   exchange_broadcast (Hashed list) o is_spread numbered satisfies = absurd satisfies.dist
@@ -144,8 +146,10 @@ module _ (q : Query) (ordered : IsOrdered q) (kid : Kid) where
   exchange_redistribute : (list : ℕ) (dist : Dist) (o : ℕ) → IsSpread kid.given.dist → IsNumbered q o
       → Satisfies q (enforcer_gives (enforcers.Redistribute list) kid.given) (request dist o)
       → CanExchange q (enforcers.Redistribute list) kid (request dist o)
-  exchange_redistribute list Spread zero is_spread numbered satisfies = inl (record { dist = spread_meets kid.given.dist is_spread; order = tt })
-  exchange_redistribute list Spread (suc o) is_spread numbered satisfies = absurd (ordered.none_empty o numbered satisfies.order)
+  exchange_redistribute list Spread zero is_spread numbered satisfies =
+      inl (record { dist = spread_meets kid.given.dist is_spread; order = tt })
+  exchange_redistribute list Spread (suc o) is_spread numbered satisfies =
+      absurd (ordered.none_empty o numbered satisfies.order)
   exchange_redistribute list (Hashed other) zero is_spread numbered satisfies =
       let same : list ≡ other = satisfies.dist in
       inr (
@@ -157,7 +161,8 @@ module _ (q : Query) (ordered : IsOrdered q) (kid : Kid) where
           cost = omega arith;
         },
       )
-  exchange_redistribute list (Hashed other) (suc o) is_spread numbered satisfies = absurd (ordered.none_empty o numbered satisfies.order)
+  exchange_redistribute list (Hashed other) (suc o) is_spread numbered satisfies =
+      absurd (ordered.none_empty o numbered satisfies.order)
   exchange_redistribute list One o is_spread numbered satisfies = absurd satisfies.dist
   exchange_redistribute list Copies o is_spread numbered satisfies = absurd satisfies.dist
 
@@ -197,7 +202,8 @@ module _ (q : Query) (ordered : IsOrdered q) (kid : Kid) where
           among = inr (inl refl);
           satisfies = record {
             dist = spread_meets kid.given.dist can.is_spread;
-            order = BeginsWith-trans (given_order q kid.given.order) (order_of q p) (order_of q (suc o)) can.has_order satisfies.order;
+            order = BeginsWith-trans (given_order q kid.given.order) (order_of q p) (order_of q (suc o)) can.has_order
+                satisfies.order;
           };
           number = omega arith;
           cost = omega arith;
@@ -210,8 +216,13 @@ module _ (q : Query) (ordered : IsOrdered q) (kid : Kid) where
   -- an enforcer at the root of a plan is not needed, or one that is looked at does as well
   pub exchange : (node : Enforcer) (wanted : Request) → EnforcerFits q node kid → IsNumbered q wanted.order
       → Satisfies q (enforcer_gives node kid.given) wanted → CanExchange q node kid wanted
-  exchange enforcers.Gather wanted fits numbered satisfies = exchange_gather wanted.dist wanted.order fits numbered satisfies
-  exchange enforcers.Broadcast wanted fits numbered satisfies = exchange_broadcast wanted.dist wanted.order fits numbered satisfies
-  exchange (enforcers.Sort p) wanted fits numbered satisfies = exchange_sort p wanted.dist wanted.order fits numbered satisfies
-  exchange (enforcers.GatherMerge p) wanted fits numbered satisfies = exchange_merge p wanted.dist wanted.order fits numbered satisfies
-  exchange (enforcers.Redistribute list) wanted fits numbered satisfies = exchange_redistribute list wanted.dist wanted.order fits.is_spread numbered satisfies
+  exchange enforcers.Gather wanted fits numbered satisfies =
+      exchange_gather wanted.dist wanted.order fits numbered satisfies
+  exchange enforcers.Broadcast wanted fits numbered satisfies =
+      exchange_broadcast wanted.dist wanted.order fits numbered satisfies
+  exchange (enforcers.Sort p) wanted fits numbered satisfies =
+      exchange_sort p wanted.dist wanted.order fits numbered satisfies
+  exchange (enforcers.GatherMerge p) wanted fits numbered satisfies =
+      exchange_merge p wanted.dist wanted.order fits numbered satisfies
+  exchange (enforcers.Redistribute list) wanted fits numbered satisfies =
+      exchange_redistribute list wanted.dist wanted.order fits.is_spread numbered satisfies

@@ -1,5 +1,6 @@
 -- A query has few hashed lists and few orders.
-use Rattle.std.proofs.Common.{◌≡◌, ℕ, ◌+◌, ◌*◌, ◌≤◌, Bool, true, false, List, [], ◌∷◌, ◌++◌, length, length-append, map, Option, None, Some, refl, arith}
+use Rattle.std.proofs.Common.{◌≡◌, ℕ, ◌+◌, ◌*◌, ◌≤◌, Bool, true, false, List, [], ◌∷◌, ◌++◌, length, length-append, map}
+use Rattle.std.proofs.Common.{Option, None, Some, refl, arith}
 use Rattle.std.specs.Prelude.{flat_map, filter_map, if◌then◌else◌}
 use Rattle.std.specs.List.{cons_option}
 use Rattle.std.specs.Ordering.{match_ordering}
@@ -14,22 +15,25 @@ use Rattle.query_core.specs.declared.predicate.Operand.TheVariants as operands
 use Rattle.query_core.specs.declared.predicate.CmpOp.{CmpOp}
 use Rattle.query_core.specs.declared.predicate.CmpOp.TheVariants as comparisons
 use Rattle.request_props.specs.Listing.{list_cmp, listing_of}
-use Rattle.request_props.specs.Found.{ascending, wanted_order, is_across, sides_across, sides_by, sides_of, joined_columns, one_each, unless_empty, table_lists, found_lists, found_orders}
+use Rattle.request_props.specs.Found.{ascending, wanted_order, is_across, sides_across, sides_by, sides_of}
+use Rattle.request_props.specs.Found.{joined_columns, one_each, unless_empty, table_lists, found_lists, found_orders}
 use Rattle.request_props.specs.Numbered.{lists_of, orders_of}
 
 module _ {K : Type 0} (R : K → K → Ordering) where
   put_few : (xs : List K) (new : K) → length (insert_key R xs new) ≤ length xs + 1
   put_few [] new = omega arith
-  put_few (x ∷ xs) new = elim (R new x) as (λ o. length (match_ordering o (new ∷ x ∷ xs) (x ∷ xs) (x ∷ insert_key R xs new)) ≤ length (x ∷ xs) + 1) [
-    | Less ↦ omega arith
-    | Equal ↦ omega arith
-    | Greater ↦ let few = put_few xs new in omega arith
-  ]
+  put_few (x ∷ xs) new = elim (R new x) as
+      (λ o. length (match_ordering o (new ∷ x ∷ xs) (x ∷ xs) (x ∷ insert_key R xs new)) ≤ length (x ∷ xs) + 1) [
+        | Less ↦ omega arith
+        | Equal ↦ omega arith
+        | Greater ↦ let few = put_few xs new in omega arith
+      ]
 
 -- a listing has no more lists than were found
 pub listing_few : (found : List (List ℕ)) → length (listing_of found) ≤ length found
 listing_few [] = omega arith
-listing_few (list ∷ others) = let few = listing_few others in let put = put_few list_cmp (listing_of others) list in omega arith
+listing_few (list ∷ others) = let few = listing_few others in let put = put_few list_cmp (listing_of others) list in
+    omega arith
 
 between_few : (across : Bool) (left right : ℕ) → length (if across then left ∷ right ∷ [] else []) ≤ 2
 between_few true left right = omega arith
@@ -101,6 +105,8 @@ lists_few q =
     let first : length (table_lists q) ≤ length q.tables = given_all_few (λ table. table.hashed) q.tables in
     let last = one_few q.group_by in
     let front = table_lists q ++ one_each (joined_columns q) in
-    let two : length front ≡ length (table_lists q) + length (one_each (joined_columns q)) = length-append (table_lists q) (one_each (joined_columns q)) in
-    let three : length (found_lists q) ≡ length front + length (unless_empty q.group_by) = length-append front (unless_empty q.group_by) in
+    let two : length front ≡ length (table_lists q) + length (one_each (joined_columns q)) =
+    length-append (table_lists q) (one_each (joined_columns q)) in
+    let three : length (found_lists q) ≡ length front + length (unless_empty q.group_by) =
+    length-append front (unless_empty q.group_by) in
     omega arith

@@ -22,7 +22,8 @@ use Rattle.plan_space.proofs.ModeNumbers.{hashed_at}
 
 -- a line is there only where the number is 0
 pub only_found : (line found : Line) (number : ℕ) → only_line line number ≡ Some found → line ≡ found
-only_found line found number = cond_both (number == 0) (Some line) None (λ o. o ≡ Some found → line ≡ found) (λ first is. cc) (λ other never. cc)
+only_found line found number = cond_both (number == 0) (Some line) None (λ o. o ≡ Some found → line ≡ found)
+    (λ first is. cc) (λ other never. cc)
 
 module _ (q : Query) (most : ℕ) (lists_fit : length (lists_of q) ≤ most) (preds_fit : 40 ≤ most) (line : Line) where
   -- where an expression has the line in the hashed mode of this number, the number is below this
@@ -36,24 +37,31 @@ module _ (q : Query) (most : ℕ) (lists_fit : length (lists_of q) ≤ most) (pr
   agg_few : (order number : ℕ) → IsFew (agg_line q order (Hashed number)) number
   agg_few order number =
       cond_both (nat_lt number (length (lists_of q))) _ None (λ found. IsFew found number)
-      (λ numbered is. omega (arith, ltb-true number (length (lists_of q)) numbered, lists_fit)) (λ other. no_line number)
+      (λ numbered is. omega (arith, ltb-true number (length (lists_of q)) numbered, lists_fit))
+      (λ other. no_line number)
 
   module _ (left right : KeyParts) where
     -- there are at most 40 predicates
-    crossing_few : (number : ℕ) (pred : Option Pred) (sides : ℕ × ℕ) → slice_get q.preds number ≡ pred → crossing_at q left right pred ≡ Some sides → number < 40
+    crossing_few : (number : ℕ) (pred : Option Pred) (sides : ℕ × ℕ) → slice_get q.preds number ≡ pred
+        → crossing_at q left right pred ≡ Some sides → number < 40
     crossing_few number None sides got is = let never : None ≡ Some sides = is in cc
-    crossing_few number (Some pred) sides got is = omega (arith, slice_get_within q.preds number pred got, q.preds_valid.few)
+    crossing_few number (Some pred) sides got is =
+        omega (arith, slice_get_within q.preds number pred got, q.preds_valid.few)
 
-    sides_few : (line_with : (ℕ × ℕ) → Line) (number : ℕ) (sides : Option (ℕ × ℕ)) → crossing_of q left right number ≡ sides
+    sides_few : (line_with : (ℕ × ℕ) → Line) (number : ℕ) (sides : Option (ℕ × ℕ))
+        → crossing_of q left right number ≡ sides
         → option_map line_with sides ≡ Some line → number < 40
     sides_few line_with number None is found = let never : None ≡ Some line = found in cc
     sides_few line_with number (Some sides) is found = crossing_few number (slice_get q.preds number) sides refl is
 
     -- the line of a crossing equality, by the number of its predicate
-    crossing_line : (line_with : (ℕ × ℕ) → Line) (number : ℕ) → IsFew (option_map line_with (crossing_of q left right number)) number
-    crossing_line line_with number is = omega (arith, sides_few line_with number (crossing_of q left right number) refl is, preds_fit)
+    crossing_line : (line_with : (ℕ × ℕ) → Line) (number : ℕ)
+        → IsFew (option_map line_with (crossing_of q left right number)) number
+    crossing_line line_with number is = omega
+        (arith, sides_few line_with number (crossing_of q left right number) refl is, preds_fit)
 
-  hashed_few : (group : KeyParts) (operator : Physical) (number : ℕ) → IsFew (operator_line q group operator (Hashed number)) number
+  hashed_few : (group : KeyParts) (operator : Physical) (number : ℕ)
+      → IsFew (operator_line q group operator (Hashed number)) number
   hashed_few group physical.Scan number = no_line number
   hashed_few group (physical.IndexScan index) number = no_line number
   hashed_few group (physical.Filter child) number = no_line number
@@ -66,7 +74,8 @@ module _ (q : Query) (most : ℕ) (lists_fit : length (lists_of q) ≤ most) (pr
   hashed_few group (physical.PartialAgg child) number = no_line number
 
   -- so no mode goes further than 128 and that
-  line_few : (group : KeyParts) (operator : Physical) (mode : ℕ) → operator_line q group operator (mode_at mode) ≡ Some line → mode < 128 + most
+  line_few : (group : KeyParts) (operator : Physical) (mode : ℕ)
+      → operator_line q group operator (mode_at mode) ≡ Some line → mode < 128 + most
   line_few group operator mode is = elim (cases_lt mode 128) [
     | inl near ↦ omega (arith, near)
     | inr far ↦
@@ -75,7 +84,8 @@ module _ (q : Query) (most : ℕ) (lists_fit : length (lists_of q) ≤ most) (pr
   ]
 
 -- an expression has lines in modes below 192 only, where the query has few hashed lists
-pub few_modes : (q : Query) → length (lists_of q) ≤ 60 → (e : PhysicalExpr) (mode : ℕ) (line : Line) → line_of q e mode ≡ Some line → mode < 192
+pub few_modes : (q : Query) → length (lists_of q) ≤ 60 → (e : PhysicalExpr) (mode : ℕ) (line : Line)
+    → line_of q e mode ≡ Some line → mode < 192
 few_modes q few e mode line = line_few q 64 (omega (arith, few)) (omega arith) line e.group e.operator mode
 
 -- and below 256 in each query

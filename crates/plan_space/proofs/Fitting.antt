@@ -1,4 +1,5 @@
--- What it says that a line asks what fits its children and gives what lies in its group, and when the parts of a line do.
+-- What it says that a line asks what fits its children and gives what lies in its group, and when the parts of a line
+-- do.
 use Rattle.std.proofs.Common.{◌≡◌, ℕ, ◌*◌, ◌/◌, ◌^◌, List, [], sym, subst, arith, IsTrue}
 use Rattle.std.specs.Prelude.{Some, None, ◌==◌, ⊤}
 use Rattle.std.specs.List.{Contains}
@@ -38,7 +39,8 @@ use Rattle.plan_space.proofs.Numbers.{ListingIsOne, column_list_numbered, column
 abbrev pub DistsFit : Query → KeyParts → Type 0
 DistsFit q group = (dist : GivenDist) → DistLiesIn q group dist → GivenDistFits q group dist
 
--- a fixed distribution fits the left child, as it is given and as it is asked for; one that is passed on does where the child's rows lie by its items
+-- a fixed distribution fits the left child, as it is given and as it is asked for; one that is passed on does where the
+-- child's rows lie by its items
 abbrev pub FixedDistFits : Query → KeyParts → LeftDist → Type 0
 FixedDistFits q left (left_dists.Fixed given asked) = GivenDistFits q left given × DistFits q left asked
 FixedDistFits q left (left_dists.Grouped list) = HashFits q left list
@@ -47,7 +49,8 @@ FixedDistFits q left left_dists.SameSpread = DistsFit q left
 
 -- and so does a fixed order
 abbrev pub FixedOrderFits : Query → KeyParts → LeftOrder → Type 0
-FixedOrderFits q left (left_orders.Fixed given asked) = OrderLiesIn q left (given_order q given) × IsNumbered q asked × OrderLiesIn q left (order_of q asked)
+FixedOrderFits q left (left_orders.Fixed given asked) = OrderLiesIn q left (given_order q given) × IsNumbered q asked
+    × OrderLiesIn q left (order_of q asked)
 FixedOrderFits q left left_orders.Same = ⊤
 
 -- what is fixed over the left child of a join fits it
@@ -57,7 +60,8 @@ pub record LeftFits (q : Query) (left : KeyParts) (dist : LeftDist) (order : Lef
 
 -- for a request that fits the group and that the line can give, what is asked of the one child fits that
 abbrev pub AsksAbove : Query → KeyParts → KeyParts → LeftDist → LeftOrder → Type 0
-AsksAbove q group child dist order = (wanted : Request) → Fits q group wanted → LeftServes q dist order wanted → Fits q child (left_asked dist order wanted)
+AsksAbove q group child dist order = (wanted : Request) → Fits q group wanted → LeftServes q dist order wanted
+    → Fits q child (left_asked dist order wanted)
 
 -- what the line asks fits the children: of one child for what fits the group, and of two where the line fixes it
 abbrev pub AsksFitting : Query → KeyParts → Line → Children → Type 0
@@ -67,7 +71,8 @@ AsksFitting q group (lines.Above dist order) (One child) = AsksAbove q group chi
 AsksFitting q group (lines.Above dist order) (Two left right) = ⊤
 AsksFitting q group (lines.Beside dist order request) Zero = ⊤
 AsksFitting q group (lines.Beside dist order request) (One child) = ⊤
-AsksFitting q group (lines.Beside dist order request) (Two left right) = LeftFits q left dist order × Fits q right request
+AsksFitting q group (lines.Beside dist order request) (Two left right) = LeftFits q left dist order
+    × Fits q right request
 
 -- the group has the items of the other one
 abbrev pub HasItemsOf : Query → KeyParts → KeyParts → Type 0
@@ -76,7 +81,8 @@ HasItemsOf q group other = (i : ℕ) → IsTrue (has_item q other i) → IsTrue 
 -- a fixed distribution lies in the group, and so does each that lies in the left child, where it is passed on
 abbrev pub DistWithin : Query → KeyParts → KeyParts → LeftDist → Type 0
 DistWithin q group left (left_dists.Fixed given asked) = DistLiesIn q group given
-DistWithin q group left (left_dists.Grouped list) = IsTrue (is_grouped_list q list) → DistLiesIn q group (given.Hashed list)
+DistWithin q group left (left_dists.Grouped list) = IsTrue (is_grouped_list q list)
+    → DistLiesIn q group (given.Hashed list)
 DistWithin q group left left_dists.Same = (dist : GivenDist) → DistLiesIn q left dist → DistLiesIn q group dist
 DistWithin q group left left_dists.SameSpread = (dist : GivenDist) → DistLiesIn q left dist → DistLiesIn q group dist
 
@@ -121,7 +127,8 @@ top_dists_fit q set =
     let least = trailing_zeros w32 set in
     cond_both (set == 2 ^ least) (Some least) None
     (λ found. DistsFit q (option_map_or (group_of_table q) found (groups.Join set)))
-    (λ same. cond_both (has_own q least) (groups.Filter least) (groups.Get least) (λ group. DistsFit q group) (λ own dist lies. lies) (λ none dist lies. lies))
+    (λ same. cond_both (has_own q least) (groups.Filter least) (groups.Get least) (λ group. DistsFit q group)
+    (λ own dist lies. lies) (λ none dist lies. lies))
     (λ several dist lies. lies)
 
 module _ (q : Query) (group left : KeyParts) (kept : HasItemsOf q group left) where
@@ -130,7 +137,8 @@ module _ (q : Query) (group left : KeyParts) (kept : HasItemsOf q group left) wh
   dist_kept given.One fits = tt
   dist_kept (given.Hashed list) fits = record {
     numbered = fits.numbered;
-    lies_in = All-weaker (λ i. IsTrue (has_item q left i)) (λ i. IsTrue (has_item q group i)) kept (list_of q list) fits.lies_in;
+    lies_in = All-weaker (λ i. IsTrue (has_item q left i)) (λ i. IsTrue (has_item q group i)) kept (list_of q list)
+        fits.lies_in;
   }
   dist_kept given.Random fits = tt
   dist_kept given.Copies fits = tt
@@ -142,11 +150,13 @@ module _ (q : Query) (group left : KeyParts) (kept : HasItemsOf q group left) wh
   -- likewise an order
   pub order_passes : (order : List ℕ) → OrderLiesIn q left order → OrderLiesIn q group order
   order_passes order =
-      All-weaker (λ element. IsTrue (has_item q left (element / 2))) (λ element. IsTrue (has_item q group (element / 2))) (λ element item. kept (element / 2) item) order
+      All-weaker (λ element. IsTrue (has_item q left (element / 2)))
+      (λ element. IsTrue (has_item q group (element / 2))) (λ element item. kept (element / 2) item) order
 
   dist_within : (dist : LeftDist) → FixedDistFits q left dist → DistWithin q group left dist
   dist_within (left_dists.Fixed given asked) fits = dist_lies q group given (dist_kept given fits.0)
-  dist_within (left_dists.Grouped list) fits = λ grouped. dist_lies q group (given.Hashed list) (dist_kept (given.Hashed list) fits)
+  dist_within (left_dists.Grouped list) fits =
+      λ grouped. dist_lies q group (given.Hashed list) (dist_kept (given.Hashed list) fits)
   dist_within left_dists.Same fits = dist_passes fits
   dist_within left_dists.SameSpread fits = dist_passes fits
 
@@ -155,31 +165,41 @@ module _ (q : Query) (group left : KeyParts) (kept : HasItemsOf q group left) wh
   order_within left_orders.Same fits = order_passes
 
   -- where the group has the items of the left child, what fits that child lies in the group
-  pub items_within : (dist : LeftDist) (order : LeftOrder) → LeftFits q left dist order → LeftWithin q group left dist order
-  items_within dist order fits = record { dist_within = dist_within dist fits.dist_fits; order_within = order_within order fits.order_fits }
+  pub items_within : (dist : LeftDist) (order : LeftOrder) → LeftFits q left dist order
+      → LeftWithin q group left dist order
+  items_within dist order fits = record {
+    dist_within = dist_within dist fits.dist_fits;
+    order_within =
+        order_within order fits.order_fits;
+  }
 
 -- the item of an ascending element
 pub half : (column : ℕ) → column ≡ 2 * column / 2
 half column = omega arith
 
-module _ (one : ListingIsOne) (q : Query) (group : KeyParts) (column : ℕ) (item : IsTrue (has_item q group column)) (joined : Contains (joined_columns q) column) where
+module _ (one : ListingIsOne) (q : Query) (group : KeyParts) (column : ℕ) (item : IsTrue (has_item q group column))
+    (joined : Contains (joined_columns q) column) where
   -- the hash of a column of a join fits the group that has the column
   pub column_hash_fits : HashFits q group (column_list q column)
   column_hash_fits =
       let place = column_list_numbered one q column joined in
       record {
         numbered = place.0;
-        lies_in = subst (ListLiesIn q group) (sym place.1) (All-cons (λ i. IsTrue (has_item q group i)) column [] item (All-nil (λ i. IsTrue (has_item q group i))));
+        lies_in = subst (ListLiesIn q group) (sym place.1)
+            (All-cons (λ i. IsTrue (has_item q group i)) column [] item (All-nil (λ i. IsTrue (has_item q group i))));
       }
 
   -- so does its order
-  pub column_order_fits : IsNumbered q (column_order q column) × OrderLiesIn q group (order_of q (column_order q column))
+  pub column_order_fits : IsNumbered q (column_order q column)
+      × OrderLiesIn q group (order_of q (column_order q column))
   column_order_fits =
       let place = column_order_numbered one q column joined in
-      let element : IsTrue (has_item q group (2 * column / 2)) = subst (λ i. IsTrue (has_item q group i)) (half column) item in (
+      let element : IsTrue (has_item q group (2 * column / 2)) =
+      subst (λ i. IsTrue (has_item q group i)) (half column) item in (
         place.0,
         subst (OrderLiesIn q group) (sym place.1)
-            (All-cons (λ e. IsTrue (has_item q group (e / 2))) (2 * column) [] element (All-nil (λ e. IsTrue (has_item q group (e / 2))))),
+            (All-cons (λ e. IsTrue (has_item q group (e / 2))) (2 * column) [] element
+            (All-nil (λ e. IsTrue (has_item q group (e / 2))))),
       )
 
 module _ (q : Query) (left : KeyParts) where
@@ -188,7 +208,8 @@ module _ (q : Query) (left : KeyParts) where
   no_order_fits = (omega arith, All-nil (λ element. IsTrue (has_item q left (element / 2))))
 
   -- an order fits where it is given as it is asked for
-  pub in_order_fits : (order : ℕ) → IsNumbered q order × OrderLiesIn q left (order_of q order) → FixedOrderFits q left (in_order order)
+  pub in_order_fits : (order : ℕ) → IsNumbered q order × OrderLiesIn q left (order_of q order)
+      → FixedOrderFits q left (in_order order)
   in_order_fits order fits = (fits.1, fits.0, fits.1)
 
   -- so does a hashed distribution
@@ -209,4 +230,9 @@ module _ (q : Query) (group child : KeyParts) (kept : HasItemsOf q child group) 
 
 -- a request in no order fits where its distribution does
 pub plain_fits : (q : Query) (group : KeyParts) (dist : Dist) → DistFits q group dist → Fits q group (request dist 0)
-plain_fits q group dist fits = record { dist = fits; numbered = (no_order_fits q group).0; order = (no_order_fits q group).1 }
+plain_fits q group dist fits = record {
+  dist = fits;
+  numbered = (no_order_fits q group).0;
+  order =
+      (no_order_fits q group).1;
+}

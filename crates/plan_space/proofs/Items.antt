@@ -1,6 +1,8 @@
 -- Which items groups have, and which items a predicate equates across two groups.
-use Rattle.std.proofs.Common.{◌≡◌, ℕ, zero, suc, ◌+◌, ◌^◌, Bool, false, List, [], ◌∷◌, refl, ap, sym, subst, arith, IsTrue, slice_index_or}
-use Rattle.std.specs.Prelude.{Option, Some, None, ◌==◌, ◌&&◌, All, bit_and, bit_or, slice_get, is_some, option_to_list, if◌then◌else◌}
+use Rattle.std.proofs.Common.{◌≡◌, ℕ, zero, suc, ◌+◌, ◌^◌, Bool, false, List, [], ◌∷◌, refl, ap, sym, subst, arith}
+use Rattle.std.proofs.Common.{IsTrue, slice_index_or}
+use Rattle.std.specs.Prelude.{Option, Some, None, ◌==◌, ◌&&◌, All, bit_and, bit_or, slice_get, is_some, option_to_list}
+use Rattle.std.specs.Prelude.{if◌then◌else◌}
 use Rattle.std.specs.Int.{trailing_zeros, w32}
 use Rattle.std.specs.List.{Contains, list_all, enumerate_from}
 use Rattle.std.specs.Option.{option_map, option_map_or}
@@ -60,7 +62,8 @@ column_in_set set t has (Some item) column =
     eq-eqb (bit set item.table) 1 (subst (λ u. bit set u ≡ 1) (sym (eqb-true item.table t column)) has)
 
 -- and of each larger set
-column_in_larger : (set whole : ℕ) → ((t : ℕ) → Has set t → Has whole t) → (item : Option Item) → IsTrue (option_map_or (λ x. bit set x.table == 1) item false)
+column_in_larger : (set whole : ℕ) → ((t : ℕ) → Has set t → Has whole t) → (item : Option Item)
+    → IsTrue (option_map_or (λ x. bit set x.table == 1) item false)
     → IsTrue (option_map_or (λ x. bit whole x.table == 1) item false)
 column_in_larger set whole larger None column = column
 column_in_larger set whole larger (Some item) column =
@@ -69,7 +72,8 @@ column_in_larger set whole larger (Some item) column =
 -- an item of a table's group is a column of the table
 alone_column : (q : Query) (t i : ℕ) → IsTrue (has_item q (group_of_table q t) i) → IsTrue (is_column_of q.items t i)
 alone_column q t i =
-    cond_both (has_own q t) (groups.Filter t) (groups.Get t) (λ group. IsTrue (has_item q group i) → IsTrue (is_column_of q.items t i))
+    cond_both (has_own q t) (groups.Filter t) (groups.Get t) (λ group. IsTrue (has_item q group i)
+    → IsTrue (is_column_of q.items t i))
     (λ own item. item) (λ none item. item)
 
 -- an item of the group that joins the tables of a set is a column of one of them
@@ -77,14 +81,16 @@ top_column : (q : Query) (set i : ℕ) → IsTrue (has_item q (top_of q set) i) 
 top_column q set i =
     let least = trailing_zeros w32 set in
     cond_both (set == 2 ^ least) (Some least) None
-    (λ found. IsTrue (has_item q (option_map_or (group_of_table q) found (groups.Join set)) i) → IsTrue (is_column_in q.items set i))
+    (λ found. IsTrue (has_item q (option_map_or (group_of_table q) found (groups.Join set)) i)
+    → IsTrue (is_column_in q.items set i))
     (λ same item.
     let has : Has set least = subst (λ s. Has s least) (sym (eqb-true set (2 ^ least) same)) (one_has least) in
     column_in_set set least has (slice_get q.items i) (alone_column q least i item))
     (λ several item. item)
 
 -- a larger set's group has the items of the smaller one's
-top_kept : (q : Query) (a b i : ℕ) → IsTrue (has_item q (top_of q a) i) → IsTrue (has_item q (groups.Join (bit_or a b)) i)
+top_kept : (q : Query) (a b i : ℕ) → IsTrue (has_item q (top_of q a) i)
+    → IsTrue (has_item q (groups.Join (bit_or a b)) i)
 top_kept q a b i item = column_in_larger a (bit_or a b) (left_in a b) (slice_get q.items i) (top_column q a i item)
 
 -- ---- crossing equalities
@@ -94,24 +100,28 @@ link_there : (s t : ℕ) → (s ≡ t → ⊥) → IsTrue (is_some (link_between
 link_there s t differ = rw (ne_eqb s t differ) refl
 
 -- columns of sets that are apart are columns of different tables
-across_by : (a b : ℕ) → AreApart a b → (left right : Option Item) → IsTrue (option_map_or (λ x. bit a x.table == 1) left false)
+across_by : (a b : ℕ) → AreApart a b → (left right : Option Item)
+    → IsTrue (option_map_or (λ x. bit a x.table == 1) left false)
     → IsTrue (option_map_or (λ x. bit b x.table == 1) right false)
     → IsTrue (is_some (link_between (option_map (λ x. x.table) left) (option_map (λ x. x.table) right)))
 across_by a b apart None right in_a in_b = absurd (false≢true in_a)
 across_by a b apart (Some left) None in_a in_b = absurd (false≢true in_b)
 across_by a b apart (Some left) (Some right) in_a in_b =
     link_there left.table right.table (λ same.
-    apart left.table (eqb-true (bit a left.table) 1 in_a) (subst (λ t. bit b t ≡ 1) (sym same) (eqb-true (bit b right.table) 1 in_b)))
+    apart left.table (eqb-true (bit a left.table) 1 in_a)
+    (subst (λ t. bit b t ≡ 1) (sym same) (eqb-true (bit b right.table) 1 in_b)))
 
 -- the sides of an equality over different tables are columns of joins
 across_sides : (items : List Item) (left right : ℕ) → IsTrue (is_across items left right)
     → Contains (sides_between items left right) left × Contains (sides_between items left right) right
-across_sides items left right across = rw across (contains_here left (right ∷ []), contains_later left (right ∷ []) right (contains_here right []))
+across_sides items left right across = rw across
+    (contains_here left (right ∷ []), contains_later left (right ∷ []) right (contains_here right []))
 
 -- the sides of a predicate that equates two items
 equal_sides : (items : List Item) (left : ℕ) (op : CmpOp) (right : Operand) (item : ℕ) → equal_item op right ≡ Some item
     → sides_by items left op right ≡ sides_between items left item
-equal_sides items left comparisons.Eq (operands.Item number) item equal = let same : number ≡ item = cc in ap (sides_between items left) same
+equal_sides items left comparisons.Eq (operands.Item number) item equal = let same : number ≡ item = cc in
+    ap (sides_between items left) same
 equal_sides items left op right item equal = let never : None ≡ Some item = equal in cc
 
 -- the two items lie in the groups, the first in the left one, and plans may ask for both as columns of joins
@@ -123,43 +133,63 @@ pub record AreSides (q : Query) (left right : KeyParts) (sides : ℕ × ℕ) : T
 
 module _ (q : Query) (a b : ℕ) (apart : AreApart a b) where
   -- items of the groups of two sets that are apart are sides of joins where a predicate equates them
-  joined_sides : (number : ℕ) (pred : Pred) (item : ℕ) → slice_get q.preds number ≡ Some pred → equal_item pred.op pred.right ≡ Some item
+  joined_sides : (number : ℕ) (pred : Pred) (item : ℕ) → slice_get q.preds number ≡ Some pred
+      → equal_item pred.op pred.right ≡ Some item
       → IsTrue (is_across q.items pred.left item)
       → Contains (joined_columns q) pred.left × Contains (joined_columns q) item
   joined_sides number pred item got equal across =
       let same = equal_sides q.items pred.left pred.op pred.right item equal in
       let sides = across_sides q.items pred.left item across in (
-        contains_flat_map (sides_found q.items) q.preds number pred pred.left got (subst (λ s. Contains s pred.left) (sym same) sides.0),
-        contains_flat_map (sides_found q.items) q.preds number pred item got (subst (λ s. Contains s item) (sym same) sides.1),
+        contains_flat_map (sides_found q.items) q.preds number pred pred.left got
+            (subst (λ s. Contains s pred.left) (sym same) sides.0),
+        contains_flat_map (sides_found q.items) q.preds number pred item got
+            (subst (λ s. Contains s item) (sym same) sides.1),
       )
 
-  sides_by_items : (number : ℕ) (pred : Pred) (item : ℕ) (sides : ℕ × ℕ) → slice_get q.preds number ≡ Some pred → equal_item pred.op pred.right ≡ Some item
+  sides_by_items : (number : ℕ) (pred : Pred) (item : ℕ) (sides : ℕ × ℕ) → slice_get q.preds number ≡ Some pred
+      → equal_item pred.op pred.right ≡ Some item
       → sides_of q (top_of q a) (top_of q b) pred.left item ≡ Some sides → AreSides q (top_of q a) (top_of q b) sides
   sides_by_items number pred item sides got equal =
       let left = top_of q a in
       let right = top_of q b in
       let first = pred.left in
       let turned = has_item q left item && has_item q right first in
-      cond_both (has_item q left first && has_item q right item) (Some (first, item)) (if turned then Some (item, first) else None)
+      cond_both (has_item q left first && has_item q right item) (Some (first, item))
+      (if turned then Some (item, first) else None)
       (λ found. found ≡ Some sides → AreSides q left right sides)
       (λ both is.
       let (in_left, in_right) = and_parts (has_item q left first) (has_item q right item) both in
-      let across = across_by a b apart (slice_get q.items first) (slice_get q.items item) (top_column q a first in_left) (top_column q b item in_right) in
+      let across = across_by a b apart (slice_get q.items first) (slice_get q.items item) (top_column q a first in_left)
+      (top_column q b item in_right) in
       let joined = joined_sides number pred item got equal across in
       let same : (first, item) ≡ sides = cc in
-      subst (AreSides q left right) same (record { in_left = in_left; in_right = in_right; left_joined = joined.0; right_joined = joined.1 }))
+      subst (AreSides q left right) same (record {
+        in_left = in_left;
+        in_right = in_right;
+        left_joined =
+            joined.0;
+        right_joined = joined.1;
+      }))
       (λ none.
       cond_both turned (Some (item, first)) None
       (λ found. found ≡ Some sides → AreSides q left right sides)
       (λ both is.
       let (in_left, in_right) = and_parts (has_item q left item) (has_item q right first) both in
-      let across = across_by b a (apart_turned a b apart) (slice_get q.items first) (slice_get q.items item) (top_column q b first in_right) (top_column q a item in_left) in
+      let across = across_by b a (apart_turned a b apart) (slice_get q.items first) (slice_get q.items item)
+      (top_column q b first in_right) (top_column q a item in_left) in
       let joined = joined_sides number pred item got equal across in
       let same : (item, first) ≡ sides = cc in
-      subst (AreSides q left right) same (record { in_left = in_left; in_right = in_right; left_joined = joined.1; right_joined = joined.0 }))
+      subst (AreSides q left right) same (record {
+        in_left = in_left;
+        in_right = in_right;
+        left_joined =
+            joined.1;
+        right_joined = joined.0;
+      }))
       (λ neither is. let never : None ≡ Some sides = is in cc))
 
-  sides_by_option : (number : ℕ) (pred : Pred) (item : Option ℕ) (sides : ℕ × ℕ) → slice_get q.preds number ≡ Some pred → equal_item pred.op pred.right ≡ item
+  sides_by_option : (number : ℕ) (pred : Pred) (item : Option ℕ) (sides : ℕ × ℕ) → slice_get q.preds number ≡ Some pred
+      → equal_item pred.op pred.right ≡ item
       → sides_with q (top_of q a) (top_of q b) pred.left item ≡ Some sides → AreSides q (top_of q a) (top_of q b) sides
   sides_by_option number pred None sides got equal is = let never : None ≡ Some sides = is in cc
   sides_by_option number pred (Some item) sides got equal is = sides_by_items number pred item sides got equal is
@@ -167,10 +197,12 @@ module _ (q : Query) (a b : ℕ) (apart : AreApart a b) where
   sides_by_pred : (number : ℕ) (pred : Option Pred) (sides : ℕ × ℕ) → slice_get q.preds number ≡ pred
       → crossing_at q (top_of q a) (top_of q b) pred ≡ Some sides → AreSides q (top_of q a) (top_of q b) sides
   sides_by_pred number None sides got is = let never : None ≡ Some sides = is in cc
-  sides_by_pred number (Some pred) sides got is = sides_by_option number pred (equal_item pred.op pred.right) sides got refl is
+  sides_by_pred number (Some pred) sides got is =
+      sides_by_option number pred (equal_item pred.op pred.right) sides got refl is
 
   -- the items that a predicate equates across the groups
-  crossing_sides : (number : ℕ) (sides : ℕ × ℕ) → crossing_of q (top_of q a) (top_of q b) number ≡ Some sides → AreSides q (top_of q a) (top_of q b) sides
+  crossing_sides : (number : ℕ) (sides : ℕ × ℕ) → crossing_of q (top_of q a) (top_of q b) number ≡ Some sides
+      → AreSides q (top_of q a) (top_of q b) sides
   crossing_sides number sides is = sides_by_pred number (slice_get q.preds number) sides refl is
 
 -- ---- joins
@@ -181,7 +213,8 @@ pub record JoinsGroups (q : Query) (group left right : KeyParts) : Type 0 where
   pub sides : (number : ℕ) (sides : ℕ × ℕ) → crossing_of q left right number ≡ Some sides → AreSides q left right sides
 
 -- the groups of the two sets that a set falls into are joined by its group
-pub sets_join : (q : Query) (set a b : ℕ) → FallsInto q set a b → JoinsGroups q (groups.Join set) (top_of q a) (top_of q b)
+pub sets_join : (q : Query) (set a b : ℕ) → FallsInto q set a b
+    → JoinsGroups q (groups.Join set) (top_of q a) (top_of q b)
 sets_join q set a b falls = record {
   kept = λ i item. subst (λ s. IsTrue (has_item q (groups.Join s) i)) falls.whole (top_kept q a b i item);
   sides = crossing_sides q a b (apart_sets a b falls.disjoint);
@@ -191,14 +224,17 @@ sets_join q set a b falls = record {
 
 -- the lists of a table are lists of its columns
 own_lists : (items : List Item) (place : ℕ) (tables : List QueryTable) (t at : ℕ) (table : QueryTable) → place + t ≡ at
-    → IsTrue (list_all (λ p. has_own_lists items p.0 p.1) (enumerate_from place tables)) → slice_get tables t ≡ Some table
+    → IsTrue (list_all (λ p. has_own_lists items p.0 p.1) (enumerate_from place tables))
+    → slice_get tables t ≡ Some table
     → IsTrue (has_own_lists items at table)
 own_lists items place [] t at table sum all got = let never : None ≡ Some table = got in cc
 own_lists items place (first ∷ tables) zero at table sum all got =
     let same : first ≡ table = cc in
     let here : place ≡ at = omega (arith, sum) in
-    subst (λ x. IsTrue (has_own_lists items at x)) same (subst (λ n. IsTrue (has_own_lists items n first)) here (and_parts _ _ all).0)
-own_lists items place (first ∷ tables) (suc t) at table sum all got = own_lists items (place + 1) tables t at table (omega (arith, sum)) (and_parts _ _ all).1 got
+    subst (λ x. IsTrue (has_own_lists items at x)) same
+    (subst (λ n. IsTrue (has_own_lists items n first)) here (and_parts _ _ all).0)
+own_lists items place (first ∷ tables) (suc t) at table sum all got =
+    own_lists items (place + 1) tables t at table (omega (arith, sum)) (and_parts _ _ all).1 got
 
 -- each number of a list that passes is that of a column
 all_columns : (p : ℕ → Bool) (numbers : List ℕ) → IsTrue (list_all p numbers) → All (λ i. IsTrue (p i)) numbers
@@ -207,11 +243,13 @@ all_columns p (first ∷ numbers) all =
     let (here, later) = and_parts (p first) (list_all p numbers) all in
     All-cons (λ i. IsTrue (p i)) first numbers here (all_columns p numbers later)
 
-column_list_columns : (items : List Item) (t : ℕ) (list : List ℕ) → IsTrue (is_column_list items t list) → All (λ i. IsTrue (is_column_of items t i)) list
+column_list_columns : (items : List Item) (t : ℕ) (list : List ℕ) → IsTrue (is_column_list items t list)
+    → All (λ i. IsTrue (is_column_of items t i)) list
 column_list_columns items t list is = all_columns (is_column_of items t) list (and_parts _ _ (and_parts _ _ is).0).1
 
 -- the list at a place, or the empty one, is one of columns
-columns_at : (items : List Item) (t : ℕ) (lists : List (List ℕ)) (index : ℕ) → IsTrue (list_all (is_column_list items t) lists)
+columns_at : (items : List Item) (t : ℕ) (lists : List (List ℕ)) (index : ℕ)
+    → IsTrue (list_all (is_column_list items t) lists)
     → All (λ i. IsTrue (is_column_of items t i)) (slice_index_or lists index [])
 columns_at items t [] index all = All-nil (λ i. IsTrue (is_column_of items t i))
 columns_at items t (first ∷ lists) zero all = column_list_columns items t first (and_parts _ _ all).0
@@ -222,14 +260,18 @@ module _ (q : Query) (t : ℕ) where
   table_lists_own table got = own_lists q.items 0 q.tables t t table (omega arith) q.items_valid.lists got
 
   -- the hashed list of a table is one of its columns
-  pub hashed_columns : (table : QueryTable) (list : List ℕ) → slice_get q.tables t ≡ Some table → table.hashed ≡ Some list
+  pub hashed_columns : (table : QueryTable) (list : List ℕ) → slice_get q.tables t ≡ Some table
+      → table.hashed ≡ Some list
       → All (λ i. IsTrue (is_column_of q.items t i)) list
   hashed_columns table list got hashed =
-      let own : IsTrue (list_all (is_column_list q.items t) (option_to_list table.hashed)) = (and_parts _ _ (and_parts _ _ (table_lists_own table got)).0).1 in
-      let one : IsTrue (list_all (is_column_list q.items t) (list ∷ [])) = subst (λ o. IsTrue (list_all (is_column_list q.items t) (option_to_list o))) hashed own in
+      let own : IsTrue (list_all (is_column_list q.items t) (option_to_list table.hashed)) =
+      (and_parts _ _ (and_parts _ _ (table_lists_own table got)).0).1 in
+      let one : IsTrue (list_all (is_column_list q.items t) (list ∷ [])) =
+      subst (λ o. IsTrue (list_all (is_column_list q.items t) (option_to_list o))) hashed own in
       column_list_columns q.items t list (and_parts _ _ one).0
 
   -- and so are its indexes
   pub index_of_columns : (table : QueryTable) (index : ℕ) → slice_get q.tables t ≡ Some table
       → All (λ i. IsTrue (is_column_of q.items t i)) (slice_index_or table.indexes index [])
-  index_of_columns table index got = columns_at q.items t table.indexes index (and_parts _ _ (table_lists_own table got)).1
+  index_of_columns table index got = columns_at q.items t table.indexes index
+      (and_parts _ _ (table_lists_own table got)).1

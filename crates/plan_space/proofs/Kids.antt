@@ -36,21 +36,25 @@ abbrev pub AreAlike : List Kid → List Kid → Type 0
 AreAlike [] [] = ⊤
 AreAlike [] (other ∷ others) = ⊥
 AreAlike (kid ∷ kids) [] = ⊥
-AreAlike (kid ∷ kids) (other ∷ others) = (kid.group ≡ other.group) × (class_of kid.given.dist ≡ class_of other.given.dist) × AreAlike kids others
+AreAlike (kid ∷ kids) (other ∷ others) = (kid.group ≡ other.group)
+    × (class_of kid.given.dist ≡ class_of other.given.dist) × AreAlike kids others
 
-same_first_share : (q : Query) (kids others : List Kid) → AreAlike kids others → first_share q kids ≡ first_share q others
+same_first_share : (q : Query) (kids others : List Kid) → AreAlike kids others
+    → first_share q kids ≡ first_share q others
 same_first_share q [] [] alike = refl
 same_first_share q [] (other ∷ others) alike = absurd alike
 same_first_share q (kid ∷ kids) [] alike = absurd alike
 same_first_share q (kid ∷ kids) (other ∷ others) alike = let group = alike.0 in let class = alike.1 in cc
 
-same_second_share : (q : Query) (kids others : List Kid) → AreAlike kids others → second_share q kids ≡ second_share q others
+same_second_share : (q : Query) (kids others : List Kid) → AreAlike kids others
+    → second_share q kids ≡ second_share q others
 same_second_share q [] [] alike = refl
 same_second_share q [] (other ∷ others) alike = absurd alike
 same_second_share q (kid ∷ kids) [] alike = absurd alike
 same_second_share q (kid ∷ kids) (other ∷ others) alike = same_first_share q kids others alike.2
 
-same_first_class : (kids others : List Kid) → AreAlike kids others → class_of (first_given kids).dist ≡ class_of (first_given others).dist
+same_first_class : (kids others : List Kid) → AreAlike kids others
+    → class_of (first_given kids).dist ≡ class_of (first_given others).dist
 same_first_class [] [] alike = refl
 same_first_class [] (other ∷ others) alike = absurd alike
 same_first_class (kid ∷ kids) [] alike = absurd alike
@@ -76,29 +80,39 @@ pub same_native_shape : (q : Query) (e : PhysicalExpr) (mode : ℕ) (kids others
 same_native_shape q e mode kids others alike =
     let first = same_first_share q kids others alike in
     let second = same_second_share q kids others alike in
-    let class : class_of (native_gives q e mode kids).dist ≡ class_of (native_gives q e mode others).dist = same_given_class (line_of q e mode) kids others alike in
-    ap (λ left. operator_shape e.operator left (second_share q kids) (share_of q e.group (class_of (native_gives q e mode kids).dist))) first
-    ∙ ap (λ right. operator_shape e.operator (first_share q others) right (share_of q e.group (class_of (native_gives q e mode kids).dist))) second
-    ∙ ap (λ class. operator_shape e.operator (first_share q others) (second_share q others) (share_of q e.group class)) class
+    let class : class_of (native_gives q e mode kids).dist ≡ class_of (native_gives q e mode others).dist =
+    same_given_class (line_of q e mode) kids others alike in
+    ap (λ left. operator_shape e.operator left (second_share q kids)
+    (share_of q e.group (class_of (native_gives q e mode kids).dist))) first
+    ∙ ap (λ right. operator_shape e.operator (first_share q others) right
+    (share_of q e.group (class_of (native_gives q e mode kids).dist))) second
+    ∙ ap (λ class. operator_shape e.operator (first_share q others) (second_share q others) (share_of q e.group class))
+    class
 
 -- ---- the kids that an expression may stand over are plans of its children
 
 module _ (q : Query) (children : Children) where
-  one_of : (dist : LeftDist) (order : LeftOrder) (kids : List Kid) → OverOne (OneFits q children dist order) kids → AreOf (groups_of children) kids
+  one_of : (dist : LeftDist) (order : LeftOrder) (kids : List Kid) → OverOne (OneFits q children dist order) kids
+      → AreOf (groups_of children) kids
   one_of dist order [] fits = absurd fits
-  one_of dist order (kid ∷ []) fits = subst (λ (c : Children). AreOf (groups_of c) (kid ∷ [])) (sym fits.of_child) (refl, tt)
+  one_of dist order (kid ∷ []) fits = subst (λ (c : Children). AreOf (groups_of c) (kid ∷ [])) (sym fits.of_child)
+      (refl, tt)
   one_of dist order (kid ∷ other ∷ others) fits = absurd fits
 
-  two_of : (dist : LeftDist) (order : LeftOrder) (wanted : Request) (kids : List Kid) → OverTwo (TwoFit q children dist order wanted) kids
+  two_of : (dist : LeftDist) (order : LeftOrder) (wanted : Request) (kids : List Kid)
+      → OverTwo (TwoFit q children dist order wanted) kids
       → AreOf (groups_of children) kids
   two_of dist order wanted [] fits = absurd fits
   two_of dist order wanted (kid ∷ []) fits = absurd fits
-  two_of dist order wanted (left ∷ right ∷ []) fits = subst (λ (c : Children). AreOf (groups_of c) (left ∷ right ∷ [])) (sym fits.of_children) (refl, (refl, tt))
+  two_of dist order wanted (left ∷ right ∷ []) fits =
+      subst (λ (c : Children). AreOf (groups_of c) (left ∷ right ∷ [])) (sym fits.of_children) (refl, (refl, tt))
   two_of dist order wanted (left ∷ right ∷ other ∷ others) fits = absurd fits
 
-  pub kids_of_children : (found : Option Line) (kids : List Kid) → FitsBy q found children kids → AreOf (groups_of children) kids
+  pub kids_of_children : (found : Option Line) (kids : List Kid) → FitsBy q found children kids
+      → AreOf (groups_of children) kids
   kids_of_children None kids fits = absurd fits
   kids_of_children (Some (lines.Alone dist order)) kids fits =
-      subst (λ (c : Children). AreOf (groups_of c) kids) (sym fits.0) (subst (λ (k : List Kid). AreOf [] k) (sym fits.1) tt)
+      subst (λ (c : Children). AreOf (groups_of c) kids) (sym fits.0)
+      (subst (λ (k : List Kid). AreOf [] k) (sym fits.1) tt)
   kids_of_children (Some (lines.Above dist order)) kids fits = one_of dist order kids fits
   kids_of_children (Some (lines.Beside dist order wanted)) kids fits = two_of dist order wanted kids fits

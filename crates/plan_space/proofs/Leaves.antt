@@ -18,9 +18,11 @@ use Rattle.plan_space.proofs.Numbers.{ListingIsOne, table_list_numbered}
 use Rattle.plan_space.proofs.Items.{hashed_columns, index_of_columns}
 use Rattle.plan_space.proofs.Fitting.{no_order_fits, dist_lies, half}
 
-module _ (one : ListingIsOne) (q : Query) (t : ℕ) (group : KeyParts) (columns : (i : ℕ) → IsTrue (is_column_of q.items t i) → IsTrue (has_item q group i)) where
+module _ (one : ListingIsOne) (q : Query) (t : ℕ) (group : KeyParts) (columns : (i : ℕ)
+    → IsTrue (is_column_of q.items t i) → IsTrue (has_item q group i)) where
   -- the hashed list of the table, if it has one
-  hashed_fits : (table : QueryTable) (hashed : Option (List ℕ)) → slice_get q.tables t ≡ Some table → table.hashed ≡ hashed
+  hashed_fits : (table : QueryTable) (hashed : Option (List ℕ)) → slice_get q.tables t ≡ Some table
+      → table.hashed ≡ hashed
       → GivenDistFits q group (dist_by q hashed)
   hashed_fits table None got is = tt
   hashed_fits table (Some list) got is =
@@ -29,7 +31,8 @@ module _ (one : ListingIsOne) (q : Query) (t : ℕ) (group : KeyParts) (columns 
         numbered = place.0;
         lies_in =
             subst (ListLiesIn q group) (sym place.1)
-            (All-weaker (λ i. IsTrue (is_column_of q.items t i)) (λ i. IsTrue (has_item q group i)) columns list (hashed_columns q t table list got is));
+            (All-weaker (λ i. IsTrue (is_column_of q.items t i)) (λ i. IsTrue (has_item q group i)) columns list
+            (hashed_columns q t table list got is));
       }
 
   table_dist_fits : (found : Option QueryTable) → slice_get q.tables t ≡ found
@@ -42,7 +45,8 @@ module _ (one : ListingIsOne) (q : Query) (t : ℕ) (group : KeyParts) (columns 
   table_dist_lies = dist_lies q group (table_dist q t) (table_dist_fits (slice_get q.tables t) refl)
 
   -- a list of columns as an order
-  ascending_fits : (list : List ℕ) → All (λ i. IsTrue (is_column_of q.items t i)) list → OrderLiesIn q group (ascending list)
+  ascending_fits : (list : List ℕ) → All (λ i. IsTrue (is_column_of q.items t i)) list
+      → OrderLiesIn q group (ascending list)
   ascending_fits list all =
       All-map (λ element. IsTrue (has_item q group (element / 2))) (λ column. 2 * column) list
       (All-weaker (λ i. IsTrue (is_column_of q.items t i)) (λ i. IsTrue (has_item q group (2 * i / 2)))
@@ -52,7 +56,8 @@ module _ (one : ListingIsOne) (q : Query) (t : ℕ) (group : KeyParts) (columns 
   index_fits : (index : ℕ) (found : Option QueryTable) → slice_get q.tables t ≡ found
       → OrderLiesIn q group (ascending (slice_index_or (option_map_or (λ x. x.indexes) found []) index []))
   index_fits index None got = ascending_fits [] (All-nil (λ i. IsTrue (is_column_of q.items t i)))
-  index_fits index (Some table) got = ascending_fits (slice_index_or table.indexes index []) (index_of_columns q t table index got)
+  index_fits index (Some table) got = ascending_fits (slice_index_or table.indexes index [])
+      (index_of_columns q t table index got)
 
   -- the rows of the table where they lie, in the order of an index or in none
   pub scan_fits : GivenFits q group (gives_so (table_dist q t) (Listed 0))

@@ -1,4 +1,5 @@
--- A line goes with its left child: it meets a request exactly where it is there for the request and the child gives what is asked of it.
+-- A line goes with its left child: it meets a request exactly where it is there for the request and the child gives
+-- what is asked of it.
 use Rattle.std.proofs.Common.{◌≡◌, ℕ, ◌/◌, List, [], ◌∷◌, IsTrue, refl, subst}
 use Rattle.query_core.specs.Keys.{has_item}
 use Rattle.std.specs.Prelude.{All}
@@ -23,7 +24,8 @@ use Rattle.plan_space.specs.declared.lines.LeftOrder.{LeftOrder}
 use Rattle.plan_space.specs.declared.lines.LeftOrder.TheVariants as left_orders
 use Rattle.plan_space.specs.Gives.{Kid, left_dist, left_order, left_gives}
 use Rattle.plan_space.specs.Valid.{IsSpread, DistNeeds, OrderNeeds, LeftNeeds}
-use Rattle.plan_space.specs.Alternatives.{WantsSpread, dist_asked, order_asked, left_asked, DistServes, OrderServes, LeftServes}
+use Rattle.plan_space.specs.Alternatives.{WantsSpread, dist_asked, order_asked, left_asked, DistServes, OrderServes}
+use Rattle.plan_space.specs.Alternatives.{LeftServes}
 use Rattle.plan_space.specs.Laws.{GivenDistFits, DistLiesIn, GivenFits}
 use Rattle.plan_space.proofs.Fitting.{FixedDistFits, FixedOrderFits, LeftFits}
 
@@ -54,12 +56,14 @@ meets_spread (given.Hashed list) wanted wants meets = refl
 meets_spread given.Random wanted wants meets = refl
 
 -- a hashed distribution that is met is the one that is given
-met_fits : (q : Query) (group : KeyParts) (gives : GivenDist) (wanted : Dist) → GivenDistFits q group gives → Meets gives wanted → DistFits q group wanted
+met_fits : (q : Query) (group : KeyParts) (gives : GivenDist) (wanted : Dist) → GivenDistFits q group gives
+    → Meets gives wanted → DistFits q group wanted
 met_fits q group gives dists.One fits meets = tt
 met_fits q group gives dists.Spread fits meets = tt
 met_fits q group gives dists.Copies fits meets = tt
 met_fits q group given.One (dists.Hashed list) fits meets = absurd meets
-met_fits q group (given.Hashed other) (dists.Hashed list) fits meets = subst (λ l. DistFits q group (dists.Hashed l)) meets fits
+met_fits q group (given.Hashed other) (dists.Hashed list) fits meets =
+    subst (λ l. DistFits q group (dists.Hashed l)) meets fits
 met_fits q group given.Random (dists.Hashed list) fits meets = absurd meets
 met_fits q group given.Copies (dists.Hashed list) fits meets = absurd meets
 
@@ -72,8 +76,10 @@ begin_all P (x ∷ xs) (y ∷ ys) begins all =
 
 -- ---- the distribution and the order of a line that goes with its left child
 
--- where a line's distribution is met, the line can give it, and the left child meets the distribution that is asked of it
-dist_splits : (q : Query) (dist : LeftDist) (gives : GivenDist) (wanted : Dist) → DistNeeds q dist gives → Meets (left_dist dist gives) wanted
+-- where a line's distribution is met, the line can give it, and the left child meets the distribution that is asked of
+-- it
+dist_splits : (q : Query) (dist : LeftDist) (gives : GivenDist) (wanted : Dist) → DistNeeds q dist gives
+    → Meets (left_dist dist gives) wanted
     → DistServes q dist wanted × Meets gives (dist_asked dist wanted)
 dist_splits q (left_dists.Fixed fixed asked) gives wanted needs meets = (meets, needs)
 dist_splits q (left_dists.Grouped list) gives wanted needs meets = ((needs.0, meets), needs.1)
@@ -87,8 +93,10 @@ order_splits : (q : Query) (order : LeftOrder) (gives : GivenOrder) (wanted : �
 order_splits q (left_orders.Fixed fixed asked) gives wanted needs begins = (begins, needs)
 order_splits q left_orders.Same gives wanted needs begins = (tt, begins)
 
--- where a line can give the distribution, and the left child meets the one that is asked of it, the line's distribution is met
-dist_joins : (q : Query) (dist : LeftDist) (gives : GivenDist) (wanted : Dist) → DistServes q dist wanted → Meets gives (dist_asked dist wanted)
+-- where a line can give the distribution, and the left child meets the one that is asked of it, the line's distribution
+-- is met
+dist_joins : (q : Query) (dist : LeftDist) (gives : GivenDist) (wanted : Dist) → DistServes q dist wanted
+    → Meets gives (dist_asked dist wanted)
     → DistNeeds q dist gives × Meets (left_dist dist gives) wanted
 dist_joins q (left_dists.Fixed fixed asked) gives wanted serves meets = (meets, serves)
 dist_joins q (left_dists.Grouped list) gives wanted serves meets = ((serves.0, meets), serves.1)
@@ -102,25 +110,35 @@ order_joins : (q : Query) (order : LeftOrder) (gives : GivenOrder) (wanted : ℕ
 order_joins q (left_orders.Fixed fixed asked) gives wanted serves begins = (begins, serves)
 order_joins q left_orders.Same gives wanted serves begins = (tt, begins)
 
--- the distribution that is asked of the left child fits it: the line's own does, and the request's where the child gives it
-dist_asked_fits : (q : Query) (left : KeyParts) (dist : LeftDist) (gives : GivenDist) (wanted : Dist) → FixedDistFits q left dist
+-- the distribution that is asked of the left child fits it: the line's own does, and the request's where the child
+-- gives it
+dist_asked_fits : (q : Query) (left : KeyParts) (dist : LeftDist) (gives : GivenDist) (wanted : Dist)
+    → FixedDistFits q left dist
     → DistLiesIn q left gives → Meets (left_dist dist gives) wanted → DistFits q left (dist_asked dist wanted)
 dist_asked_fits q left (left_dists.Fixed fixed asked) gives wanted fixes lies meets = fixes.1
 dist_asked_fits q left (left_dists.Grouped list) gives wanted fixes lies meets = fixes
-dist_asked_fits q left left_dists.Same gives wanted fixes lies meets = met_fits q left gives wanted (fixes gives lies) meets
-dist_asked_fits q left left_dists.SameSpread gives wanted fixes lies meets = met_fits q left gives wanted (fixes gives lies) meets
+dist_asked_fits q left left_dists.Same gives wanted fixes lies meets =
+    met_fits q left gives wanted (fixes gives lies) meets
+dist_asked_fits q left left_dists.SameSpread gives wanted fixes lies meets =
+    met_fits q left gives wanted (fixes gives lies) meets
 
 -- the order that is asked of the left child fits it: the line's own does, and the request's where the child gives it
-order_asked_fits : (q : Query) (left : KeyParts) (order : LeftOrder) (gives : GivenOrder) (wanted : ℕ) → FixedOrderFits q left order
-    → OrderLiesIn q left (given_order q gives) → IsNumbered q wanted → BeginsWith (given_order q (left_order order gives)) (order_of q wanted)
+order_asked_fits : (q : Query) (left : KeyParts) (order : LeftOrder) (gives : GivenOrder) (wanted : ℕ)
+    → FixedOrderFits q left order
+    → OrderLiesIn q left (given_order q gives) → IsNumbered q wanted
+    → BeginsWith (given_order q (left_order order gives)) (order_of q wanted)
     → IsNumbered q (order_asked order wanted) × OrderLiesIn q left (order_of q (order_asked order wanted))
 order_asked_fits q left (left_orders.Fixed fixed asked) gives wanted fixes lies numbered begins = (fixes.1, fixes.2)
-order_asked_fits q left left_orders.Same gives wanted fixes lies numbered begins =
-    (numbered, begin_all (λ element. IsTrue (has_item q left (element / 2))) (given_order q gives) (order_of q wanted) begins lies)
+order_asked_fits q left left_orders.Same gives wanted fixes lies numbered begins = (
+  numbered,
+  begin_all (λ element. IsTrue (has_item q left (element / 2))) (given_order q gives) (order_of q wanted)
+      begins lies,
+)
 
 module _ (q : Query) (dist : LeftDist) (order : LeftOrder) where
   -- where a request is met over a left child, the line is there for it, and the child gives what is asked of it
-  pub left_splits : (gives : Given) (wanted : Request) → LeftNeeds q dist order gives → Satisfies q (left_gives dist order gives) wanted
+  pub left_splits : (gives : Given) (wanted : Request) → LeftNeeds q dist order gives
+      → Satisfies q (left_gives dist order gives) wanted
       → LeftServes q dist order wanted × Satisfies q gives (left_asked dist order wanted)
   left_splits gives wanted needs satisfies =
       let of_dist = dist_splits q dist gives.dist wanted.dist needs.dist_met satisfies.dist in
@@ -128,10 +146,12 @@ module _ (q : Query) (dist : LeftDist) (order : LeftOrder) where
       (record { dist_served = of_dist.0; order_served = of_order.0 }, record { dist = of_dist.1; order = of_order.1 })
 
   -- what is asked of the left child of a join fits it, where the child gives it
-  pub left_asked_fits : (left : Kid) (wanted : Request) → LeftFits q left.group dist order → GivenFits q left.group left.given → IsNumbered q wanted.order
+  pub left_asked_fits : (left : Kid) (wanted : Request) → LeftFits q left.group dist order
+      → GivenFits q left.group left.given → IsNumbered q wanted.order
       → Satisfies q (left_gives dist order left.given) wanted → Fits q left.group (left_asked dist order wanted)
   left_asked_fits left wanted fixes fits numbered satisfies =
-      let asked = order_asked_fits q left.group order left.given.order wanted.order fixes.order_fits fits.order numbered satisfies.order in
+      let asked = order_asked_fits q left.group order left.given.order wanted.order fixes.order_fits fits.order numbered
+      satisfies.order in
       record {
         dist = dist_asked_fits q left.group dist left.given.dist wanted.dist fixes.dist_fits fits.dist satisfies.dist;
         numbered = asked.0;
@@ -139,7 +159,8 @@ module _ (q : Query) (dist : LeftDist) (order : LeftOrder) where
       }
 
   -- where the line is there for a request and the left child gives what is asked of it, the request is met
-  pub left_joins : (gives : Given) (wanted : Request) → LeftServes q dist order wanted → Satisfies q gives (left_asked dist order wanted)
+  pub left_joins : (gives : Given) (wanted : Request) → LeftServes q dist order wanted
+      → Satisfies q gives (left_asked dist order wanted)
       → LeftNeeds q dist order gives × Satisfies q (left_gives dist order gives) wanted
   left_joins gives wanted serves satisfies =
       let of_dist = dist_joins q dist gives.dist wanted.dist serves.dist_served satisfies.dist in

@@ -20,7 +20,8 @@ hashed_at number far = rw (le-ltb number 64 (omega (arith, far)), le-ltb number 
 
 -- of each kind those by the numbers of a set
 pub has_cases : (sets : ModeSets) (number : ℕ) → HasModeIn sets (mode_at number)
-    → ((number < 64) × IsInSet sets.one number) ⊎ ((64 ≤ number) × (number < 128) × IsInSet sets.copied (number - 64)) ⊎ ((128 ≤ number) × IsInSet sets.hashed (number - 128))
+    → ((number < 64) × IsInSet sets.one number) ⊎ ((64 ≤ number) × (number < 128) × IsInSet sets.copied (number - 64))
+    ⊎ ((128 ≤ number) × IsInSet sets.hashed (number - 128))
 has_cases sets number is = elim (cases_lt number 64) [
   | inl near ↦ inl (near, subst (HasModeIn sets) (one_at number near) is)
   | inr far ↦ elim (cases_lt number 128) [

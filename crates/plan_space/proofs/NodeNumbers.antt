@@ -1,6 +1,7 @@
 -- What the number of a node tells: how many kids it has, and, where there are few orders and lists, which
 -- node it is.
-use Rattle.std.proofs.Common.{◌≡◌, ℕ, ◌^◌, ◌<◌, ◌≤◌, List, [], ◌∷◌, length, Option, None, Some, refl, sym, ap, ◌∙◌, arith}
+use Rattle.std.proofs.Common.{◌≡◌, ℕ, ◌^◌, ◌<◌, ◌≤◌, List, [], ◌∷◌, length, Option, None, Some, refl, sym, ap, ◌∙◌}
+use Rattle.std.proofs.Common.{arith}
 use Rattle.std.specs.Bool.{⊤}
 use Rattle.query_core.specs.Expressions.{expr_of, physical_children, word_of, IsPacked}
 use Rattle.query_core.specs.declared.query.Query.{Query}
@@ -61,8 +62,10 @@ module _ (Member : ExprParts → Type 0) (packed : (e : ExprParts) → Member e 
 
   -- the nodes of valid plans are in range
   pub fits_in_range : (node : NodeKind) (kids : List Kid) → NodeFits Member q node kids → IsInRange most node
-  fits_in_range (nodes.Native e mode) kids fits = (packed (expr_of e) fits.0, mode_fits e mode kids (line_of q e mode) refl fits.1)
-  fits_in_range (nodes.Enforcer e) kids fits = let (kid, fact) = only_kid (EnforcerFits q e) kids fits in enforcer_in_range e kid fact
+  fits_in_range (nodes.Native e mode) kids fits =
+      (packed (expr_of e) fits.0, mode_fits e mode kids (line_of q e mode) refl fits.1)
+  fits_in_range (nodes.Enforcer e) kids fits = let (kid, fact) = only_kid (EnforcerFits q e) kids fits in
+      enforcer_in_range e kid fact
 
 -- how many children there are
 abbrev arity_in : Children → ℕ
@@ -81,7 +84,8 @@ one_kid Fact (kid ∷ []) fits = refl
 one_kid Fact (kid ∷ other ∷ others) fits = absurd fits
 
 module _ (q : Query) (children : Children) where
-  above_arity : (dist : LeftDist) (order : LeftOrder) (kids : List Kid) → OverOne (OneFits q children dist order) kids → length kids ≡ arity_in children
+  above_arity : (dist : LeftDist) (order : LeftOrder) (kids : List Kid) → OverOne (OneFits q children dist order) kids
+      → length kids ≡ arity_in children
   above_arity dist order [] fits = absurd fits
   above_arity dist order (kid ∷ []) fits = sym (ap arity_in fits.of_child)
   above_arity dist order (kid ∷ other ∷ others) fits = absurd fits
@@ -100,8 +104,10 @@ module _ (q : Query) (children : Children) where
   line_arity (Some (lines.Beside dist order wanted)) kids fits = beside_arity dist order wanted kids fits
 
 -- a node of a valid plan has as many kids as its arity says
-pub fits_arity : (Member : ExprParts → Type 0) (q : Query) (node : NodeKind) (kids : List Kid) → NodeFits Member q node kids → length kids ≡ arity_of node
-fits_arity Member q (nodes.Native e mode) kids fits = line_arity q (physical_children e.operator) (line_of q e mode) kids fits.1
+pub fits_arity : (Member : ExprParts → Type 0) (q : Query) (node : NodeKind) (kids : List Kid)
+    → NodeFits Member q node kids → length kids ≡ arity_of node
+fits_arity Member q (nodes.Native e mode) kids fits =
+    line_arity q (physical_children e.operator) (line_of q e mode) kids fits.1
 fits_arity Member q (nodes.Enforcer e) kids fits = one_kid (EnforcerFits q e) kids fits
 
 abbrev native_expr : KeyParts → Physical → PhysicalExpr
@@ -116,16 +122,21 @@ enforcer_small most few (enforcers.GatherMerge order) in_range = omega arith
 enforcer_small most few (enforcers.Redistribute list) in_range = omega arith
 
 -- where orders and lists have numbers up to 60, enforcers with one number are one
-enforcer_one : (a b : Enforcer) → IsEnforcerInRange 60 a → IsEnforcerInRange 60 b → enforcer_number a ≡ enforcer_number b → a ≡ b
+enforcer_one : (a b : Enforcer) → IsEnforcerInRange 60 a → IsEnforcerInRange 60 b
+    → enforcer_number a ≡ enforcer_number b → a ≡ b
 enforcer_one enforcers.Gather enforcers.Gather x y same = refl
 enforcer_one enforcers.Broadcast enforcers.Broadcast x y same = refl
 enforcer_one (enforcers.Sort p) (enforcers.Sort o) x y same = ap enforcers.Sort (omega (arith, same))
-enforcer_one (enforcers.GatherMerge p) (enforcers.GatherMerge o) x y same = ap enforcers.GatherMerge (omega (arith, same))
-enforcer_one (enforcers.Redistribute k) (enforcers.Redistribute l) x y same = ap enforcers.Redistribute (omega (arith, same))
+enforcer_one (enforcers.GatherMerge p) (enforcers.GatherMerge o) x y same =
+    ap enforcers.GatherMerge (omega (arith, same))
+enforcer_one (enforcers.Redistribute k) (enforcers.Redistribute l) x y same =
+    ap enforcers.Redistribute (omega (arith, same))
 enforcer_one a b x y same = absurd (omega (arith, x, y, same))
 
-module _ (expressions : (e f : ExprParts) → IsPacked e → IsPacked f → word_of e ≡ word_of f → e ≡ f) (most : ℕ) (few : most < 2 ^ 32) where
-  native_same : (e f : PhysicalExpr) (mode other : ℕ) → IsInRange most (nodes.Native e mode) → IsInRange most (nodes.Native f other)
+module _ (expressions : (e f : ExprParts) → IsPacked e → IsPacked f → word_of e ≡ word_of f → e ≡ f) (most : ℕ)
+    (few : most < 2 ^ 32) where
+  native_same : (e f : PhysicalExpr) (mode other : ℕ) → IsInRange most (nodes.Native e mode)
+      → IsInRange most (nodes.Native f other)
       → number_of (nodes.Native e mode) ≡ number_of (nodes.Native f other) → nodes.Native e mode ≡ nodes.Native f other
   native_same e f mode other x y same =
       let below = x.1 in
@@ -136,20 +147,27 @@ module _ (expressions : (e f : ExprParts) → IsPacked e → IsPacked f → word
       cc
 
   -- no number is that of an expression and of an enforcer
-  apart : (e : PhysicalExpr) (mode : ℕ) (b : Enforcer) → IsEnforcerInRange most b → number_of (nodes.Native e mode) ≡ enforcer_number b → ⊥
+  apart : (e : PhysicalExpr) (mode : ℕ) (b : Enforcer) → IsEnforcerInRange most b
+      → number_of (nodes.Native e mode) ≡ enforcer_number b → ⊥
   apart e mode b in_range same = omega (arith, enforcer_small most few b in_range, same)
 
   -- nodes with one number have as many kids
-  pub number_arity : (a b : NodeKind) → IsInRange most a → IsInRange most b → number_of a ≡ number_of b → arity_of a ≡ arity_of b
+  pub number_arity : (a b : NodeKind) → IsInRange most a → IsInRange most b → number_of a ≡ number_of b
+      → arity_of a ≡ arity_of b
   number_arity (nodes.Native e mode) (nodes.Native f other) x y same = ap arity_of (native_same e f mode other x y same)
   number_arity (nodes.Native e mode) (nodes.Enforcer b) x y same = absurd (apart e mode b y same)
   number_arity (nodes.Enforcer a) (nodes.Native f other) x y same = absurd (apart f other a x (sym same))
   number_arity (nodes.Enforcer a) (nodes.Enforcer b) x y same = refl
 
 -- where orders and lists have numbers up to 60, nodes with one number are one
-pub number_names_one : ((e f : ExprParts) → IsPacked e → IsPacked f → word_of e ≡ word_of f → e ≡ f) → (a b : NodeKind) → IsInRange 60 a → IsInRange 60 b
+pub number_names_one : ((e f : ExprParts) → IsPacked e → IsPacked f → word_of e ≡ word_of f → e ≡ f) → (a b : NodeKind)
+    → IsInRange 60 a → IsInRange 60 b
     → number_of a ≡ number_of b → a ≡ b
-number_names_one expressions (nodes.Native e mode) (nodes.Native f other) x y same = native_same expressions 60 (omega arith) e f mode other x y same
-number_names_one expressions (nodes.Native e mode) (nodes.Enforcer b) x y same = absurd (apart expressions 60 (omega arith) e mode b y same)
-number_names_one expressions (nodes.Enforcer a) (nodes.Native f other) x y same = absurd (apart expressions 60 (omega arith) f other a x (sym same))
-number_names_one expressions (nodes.Enforcer a) (nodes.Enforcer b) x y same = ap nodes.Enforcer (enforcer_one a b x y same)
+number_names_one expressions (nodes.Native e mode) (nodes.Native f other) x y same =
+    native_same expressions 60 (omega arith) e f mode other x y same
+number_names_one expressions (nodes.Native e mode) (nodes.Enforcer b) x y same =
+    absurd (apart expressions 60 (omega arith) e mode b y same)
+number_names_one expressions (nodes.Enforcer a) (nodes.Native f other) x y same =
+    absurd (apart expressions 60 (omega arith) f other a x (sym same))
+number_names_one expressions (nodes.Enforcer a) (nodes.Enforcer b) x y same =
+    ap nodes.Enforcer (enforcer_one a b x y same)

@@ -31,13 +31,15 @@ abbrev AreFilled : List (List ℕ) → Type 0
 AreFilled [] = ⊤
 AreFilled (list ∷ lists) = IsFilled list × AreFilled lists
 
-filled_put : (lists : List (List ℕ)) (new : List ℕ) → AreFilled lists → IsFilled new → AreFilled (insert_key list_cmp lists new)
+filled_put : (lists : List (List ℕ)) (new : List ℕ) → AreFilled lists → IsFilled new
+    → AreFilled (insert_key list_cmp lists new)
 filled_put [] new all here = (here, tt)
-filled_put (x ∷ xs) new all here = elim (list_cmp new x) as (λ o. AreFilled (match_ordering o (new ∷ x ∷ xs) (x ∷ xs) (x ∷ insert_key list_cmp xs new))) [
-  | Less ↦ (here, all)
-  | Equal ↦ all
-  | Greater ↦ (all.0, filled_put xs new all.1 here)
-]
+filled_put (x ∷ xs) new all here = elim (list_cmp new x) as
+    (λ o. AreFilled (match_ordering o (new ∷ x ∷ xs) (x ∷ xs) (x ∷ insert_key list_cmp xs new))) [
+      | Less ↦ (here, all)
+      | Equal ↦ all
+      | Greater ↦ (all.0, filled_put xs new all.1 here)
+    ]
 
 filled_listing : (found : List (List ℕ)) → AreFilled found → AreFilled (listing_of found)
 filled_listing [] all = tt
@@ -59,9 +61,11 @@ filled_orders : (q : Query) → AreFilled (orders_of q)
 filled_orders q =
     let front = filled_append (unless_empty (wanted_order q)) (one_each (ascending (joined_columns q)))
     (filled_unless (wanted_order q)) (filled_alone (ascending (joined_columns q))) in
-    filled_listing (found_orders q) (filled_append _ (unless_empty (ascending q.group_by)) front (filled_unless (ascending q.group_by)))
+    filled_listing (found_orders q) (filled_append _ (unless_empty (ascending q.group_by)) front
+    (filled_unless (ascending q.group_by)))
 
-filled_at : (lists : List (List ℕ)) (place : ℕ) → AreFilled lists → place < length lists → IsFilled (slice_index_or lists place [])
+filled_at : (lists : List (List ℕ)) (place : ℕ) → AreFilled lists → place < length lists
+    → IsFilled (slice_index_or lists place [])
 filled_at [] place all below = absurd (omega (arith, below))
 filled_at (list ∷ lists) zero all below = all.0
 filled_at (list ∷ lists) (suc place) all below = filled_at lists place all.1 (omega arith)
@@ -71,16 +75,19 @@ begins_none [] filled begins = filled
 begins_none (x ∷ xs) filled begins = begins
 
 none_empty : (q : Query) (o : ℕ) → IsNumbered q (suc o) → BeginsWith [] (order_of q (suc o)) → ⊥
-none_empty q o numbered begins = begins_none (order_of q (suc o)) (filled_at (orders_of q) o (filled_orders q) (omega arith)) begins
+none_empty q o numbered begins = begins_none (order_of q (suc o))
+    (filled_at (orders_of q) o (filled_orders q) (omega arith)) begins
 
 -- ---- longer orders come later
 
-sorted_at : {K : Type 0} (R : K → K → Ordering) (keys : List K) (i j : ℕ) (d : K) → IsStrictlySortedBy R keys → i < j → j < length keys
+sorted_at : {K : Type 0} (R : K → K → Ordering) (keys : List K) (i j : ℕ) (d : K) → IsStrictlySortedBy R keys → i < j
+    → j < length keys
     → R (slice_index_or keys i d) (slice_index_or keys j d) ≡ Less
 sorted_at R [] i j d rises less below = absurd (omega (arith, below))
 sorted_at R (key ∷ keys) i zero d rises less below = absurd (omega (arith, less))
 sorted_at R (key ∷ keys) zero (suc j) d rises less below = All-after_first R key keys rises j d (omega arith)
-sorted_at R (key ∷ keys) (suc i) (suc j) d rises less below = sorted_at R keys i j d (sorted_tail R key keys rises) (omega arith) (omega arith)
+sorted_at R (key ∷ keys) (suc i) (suc j) d rises less below =
+    sorted_at R keys i j d (sorted_tail R key keys rises) (omega arith) (omega arith)
 
 begins_shorter : (xs ys : List ℕ) → BeginsWith xs ys → length ys ≤ length xs
 begins_shorter xs [] begins = omega arith
@@ -91,7 +98,8 @@ begins_same : (xs ys : List ℕ) → BeginsWith xs ys → length xs ≤ length y
 begins_same [] [] begins short = refl
 begins_same [] (y ∷ ys) begins short = absurd begins
 begins_same (x ∷ xs) [] begins short = absurd (omega (arith, short))
-begins_same (x ∷ xs) (y ∷ ys) begins short = let rest = begins_same xs ys begins.1 (omega arith) in let first = begins.0 in cc
+begins_same (x ∷ xs) (y ∷ ys) begins short = let rest = begins_same xs ys begins.1 (omega arith) in let first =
+    begins.0 in cc
 
 -- an order doesn't come before one that it begins with
 begins_later : (xs ys : List ℕ) → BeginsWith xs ys → list_cmp xs ys ≡ Less → ⊥
@@ -112,7 +120,8 @@ by_length : (q : Query) → IsStrictlySortedBy list_cmp (orders_of q) → (o p :
 by_length q rises zero p o_numbered p_numbered begins = omega arith
 by_length q rises (suc o) zero o_numbered p_numbered begins = absurd (none_empty q o o_numbered begins)
 by_length q rises (suc o) (suc p) o_numbered p_numbered begins = elim (cases_lt p o) [
-  | inl before ↦ absurd (begins_later (order_of q (suc p)) (order_of q (suc o)) begins (sorted_at list_cmp (orders_of q) p o [] rises before (omega arith)))
+  | inl before ↦ absurd (begins_later (order_of q (suc p)) (order_of q (suc o)) begins
+      (sorted_at list_cmp (orders_of q) p o [] rises before (omega arith)))
   | inr later ↦ omega arith
 ]
 

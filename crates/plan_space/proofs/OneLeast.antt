@@ -21,25 +21,30 @@ module _ (Member : ExprParts → Type 0) (packed : (e : ExprParts) → Member e 
     (expressions : (e f : ExprParts) → IsPacked e → IsPacked f → word_of e ≡ word_of f → e ≡ f) (q : Query)
     (few_lists : length (lists_of q) ≤ 60) (few_orders : length (orders_of q) ≤ 60) where
   -- nodes of valid plans with one number are one
-  same_node : (a b : NodeKind) (kids others : List Kid) → NodeFits Member q a kids → NodeFits Member q b others → number_of a ≡ number_of b → a ≡ b
+  same_node : (a b : NodeKind) (kids others : List Kid) → NodeFits Member q a kids → NodeFits Member q b others
+      → number_of a ≡ number_of b → a ≡ b
   same_node a b kids others x y same =
       number_names_one expressions a b (fits_in_range Member packed q 60 few_orders few_lists a kids x)
       (fits_in_range Member packed q 60 few_orders few_lists b others y) same
 
   -- a code with anything behind it is that of one plan
-  code_names_one : (s t : Tree) (rest others : List ℕ) → IsValid Member q s → IsValid Member q t → code_of s ++ rest ≡ code_of t ++ others
+  code_names_one : (s t : Tree) (rest others : List ℕ) → IsValid Member q s → IsValid Member q t
+      → code_of s ++ rest ≡ code_of t ++ others
       → (s ≡ t) × (rest ≡ others)
   code_names_one (leaf a) (leaf b) rest others x y same =
       let number : number_of a ≡ number_of b = cc in
       let node = same_node a b [] [] x y number in
       (ap leaf node, cc)
   code_names_one (leaf a) (over b kid) rest others x y same =
-      let number : number_of a ≡ number_of b = cc in let many = as_many Member packed expressions q a b [] (kid_of q kid ∷ []) x y.1 number in absurd (omega arith)
+      let number : number_of a ≡ number_of b = cc in let many =
+      as_many Member packed expressions q a b [] (kid_of q kid ∷ []) x y.1 number in absurd (omega arith)
   code_names_one (leaf a) (two b left right) rest others x y same =
       let number : number_of a ≡ number_of b = cc in
-      let many = as_many Member packed expressions q a b [] (kid_of q left ∷ kid_of q right ∷ []) x y.2 number in absurd (omega arith)
+      let many = as_many Member packed expressions q a b [] (kid_of q left ∷ kid_of q right ∷ []) x y.2 number in
+      absurd (omega arith)
   code_names_one (over a kid) (leaf b) rest others x y same =
-      let number : number_of a ≡ number_of b = cc in let many = as_many Member packed expressions q a b (kid_of q kid ∷ []) [] x.1 y number in absurd (omega arith)
+      let number : number_of a ≡ number_of b = cc in let many =
+      as_many Member packed expressions q a b (kid_of q kid ∷ []) [] x.1 y number in absurd (omega arith)
   code_names_one (over a kid) (over b other) rest others x y same =
       let number : number_of a ≡ number_of b = cc in
       let node = same_node a b (kid_of q kid ∷ []) (kid_of q other ∷ []) x.1 y.1 number in
@@ -49,18 +54,23 @@ module _ (Member : ExprParts → Type 0) (packed : (e : ExprParts) → Member e 
       (cc, found.1)
   code_names_one (over a kid) (two b left right) rest others x y same =
       let number : number_of a ≡ number_of b = cc in
-      let many = as_many Member packed expressions q a b (kid_of q kid ∷ []) (kid_of q left ∷ kid_of q right ∷ []) x.1 y.2 number in absurd (omega arith)
+      let many = as_many Member packed expressions q a b (kid_of q kid ∷ []) (kid_of q left ∷ kid_of q right ∷ []) x.1
+      y.2 number in absurd (omega arith)
   code_names_one (two a left right) (leaf b) rest others x y same =
       let number : number_of a ≡ number_of b = cc in
-      let many = as_many Member packed expressions q a b (kid_of q left ∷ kid_of q right ∷ []) [] x.2 y number in absurd (omega arith)
+      let many = as_many Member packed expressions q a b (kid_of q left ∷ kid_of q right ∷ []) [] x.2 y number in
+      absurd (omega arith)
   code_names_one (two a left right) (over b kid) rest others x y same =
       let number : number_of a ≡ number_of b = cc in
-      let many = as_many Member packed expressions q a b (kid_of q left ∷ kid_of q right ∷ []) (kid_of q kid ∷ []) x.2 y.1 number in absurd (omega arith)
+      let many = as_many Member packed expressions q a b (kid_of q left ∷ kid_of q right ∷ []) (kid_of q kid ∷ []) x.2
+      y.1 number in absurd (omega arith)
   code_names_one (two a left right) (two b first second) rest others x y same =
       let number : number_of a ≡ number_of b = cc in
-      let node = same_node a b (kid_of q left ∷ kid_of q right ∷ []) (kid_of q first ∷ kid_of q second ∷ []) x.2 y.2 number in
+      let node = same_node a b (kid_of q left ∷ kid_of q right ∷ []) (kid_of q first ∷ kid_of q second ∷ []) x.2 y.2
+      number in
       let behind : (code_of left ++ code_of right) ++ rest ≡ (code_of first ++ code_of second) ++ others = cc in
-      let below = sym (append_assoc (code_of left) (code_of right) rest) ∙ behind ∙ append_assoc (code_of first) (code_of second) others in
+      let below = sym (append_assoc (code_of left) (code_of right) rest) ∙ behind
+      ∙ append_assoc (code_of first) (code_of second) others in
       let found = code_names_one left first (code_of right ++ rest) (code_of second ++ others) x.0 y.0 below in
       let found' = code_names_one right second rest others x.1 y.1 found.1 in
       let left_is = found.0 in
@@ -74,7 +84,8 @@ module _ (Member : ExprParts → Type 0) (packed : (e : ExprParts) → Member e 
   same_code s t (inr x) (inr y) = one_code (code_of s) (code_of t) x.1 y.1
 
   -- two least plans are one
-  pub least_names_one : (group : KeyParts) (wanted : Request) (s t : Tree) → IsLeast Member q group wanted s → IsLeast Member q group wanted t → s ≡ t
+  pub least_names_one : (group : KeyParts) (wanted : Request) (s t : Tree) → IsLeast Member q group wanted s
+      → IsLeast Member q group wanted t → s ≡ t
   least_names_one group wanted s t x y =
       let one = least_at_most Member packed expressions q group wanted s t x y.serves in
       let other = least_at_most Member packed expressions q group wanted t s y x.serves in

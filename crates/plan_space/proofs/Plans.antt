@@ -6,7 +6,9 @@ use Rattle.plan_space.specs.Nodes.{number_of, Tree, over, two, code_of}
 use Rattle.plan_space.specs.declared.nodes.NodeKind.{NodeKind}
 use Rattle.plan_space.specs.Gives.{kid_of}
 use Rattle.cost_units.specs.declared.shape.CostShape.{CostShape}
-use Rattle.cost_units.specs.declared.shape.CostShape.TheVariants.{Scan, IndexScan, IndexSeek, Filter, HashJoin, MergeJoin, LoopJoin, HashAgg, StreamAgg, PartialAgg, Sort, Gather, GatherMerge, Redistribute, Broadcast}
+use Rattle.cost_units.specs.declared.shape.CostShape.TheVariants.{Scan, IndexScan, IndexSeek, Filter, HashJoin}
+use Rattle.cost_units.specs.declared.shape.CostShape.TheVariants.{MergeJoin, LoopJoin, HashAgg, StreamAgg, PartialAgg}
+use Rattle.cost_units.specs.declared.shape.CostShape.TheVariants.{Sort, Gather, GatherMerge, Redistribute, Broadcast}
 use Rattle.cost_units.specs.Cost.{local_cost}
 use Rattle.plan_space.specs.Cost.{shape_of, cost_of}
 use Rattle.plan_space.specs.Least.{IsLess}
@@ -72,7 +74,8 @@ over_at_most q node other a b number cost (inr x) = elim (eq-or-lt_of_le cost) [
 
 -- one node over two plans that are each at most the other
 pub two_at_most : (q : Query) (node : NodeKind) (a b c d : Tree)
-    → local_cost (shape_of q node (kid_of q a ∷ kid_of q c ∷ [])) ≤ local_cost (shape_of q node (kid_of q b ∷ kid_of q d ∷ []))
+    → local_cost (shape_of q node (kid_of q a ∷ kid_of q c ∷ [])) ≤ local_cost
+    (shape_of q node (kid_of q b ∷ kid_of q d ∷ []))
     → IsAtMost q a b
     → IsAtMost q c d
     → IsAtMost q (two node a c) (two node b d)

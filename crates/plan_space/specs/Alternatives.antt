@@ -63,9 +63,10 @@ pub record LeftServes (q : Query) (dist : LeftDist) (order : LeftOrder) (wanted 
   pub order_served : OrderServes q order wanted.order
 
 -- so can that of a join, and what it asks of the left child for it fits that group
-pub record JoinServes (q : Query) (left : KeyParts) (dist : LeftDist) (order : LeftOrder) (wanted : Request) : Type 0 where
-  pub serves : LeftServes q dist order wanted
-  pub fits : Fits q left (left_asked dist order wanted)
+pub record JoinServes (q : Query) (left : KeyParts) (dist : LeftDist) (order : LeftOrder) (wanted : Request) : Type 0
+  where
+    pub serves : LeftServes q dist order wanted
+    pub fits : Fits q left (left_asked dist order wanted)
 
 -- the line is there for the request, over these children
 abbrev pub LineServes : Query → Line → Children → Request → Type 0

@@ -1,4 +1,5 @@
--- The plans from which a search chooses for a group and a request: a node over least plans for what it asks of its kids.
+-- The plans from which a search chooses for a group and a request: a node over least plans for what it asks of its
+-- kids.
 use Rattle.std.specs.Prelude.{ℕ, ◌≡◌, ◌⊎◌, List, [], ◌∷◌, Option, None, Some, ⊤}
 use Rattle.query_core.specs.Expressions.{expr_of, physical_children}
 use Rattle.query_core.specs.declared.query.Query.{Query}
@@ -37,14 +38,19 @@ AreLeast Member q [] [] (plan ∷ plans) = ⊥
 AreLeast Member q [] (wanted ∷ wishes) plans = ⊥
 AreLeast Member q (group ∷ groups) [] plans = ⊥
 AreLeast Member q (group ∷ groups) (wanted ∷ wishes) [] = ⊥
-AreLeast Member q (group ∷ groups) (wanted ∷ wishes) (plan ∷ plans) = IsLeast Member q group wanted plan × AreLeast Member q groups wishes plans
+AreLeast Member q (group ∷ groups) (wanted ∷ wishes) (plan ∷ plans) = IsLeast Member q group wanted plan
+    × AreLeast Member q groups wishes plans
 
 -- an enforcer for the request over a least plan, or a member in a mode that is there for the request over least plans
-pub data IsChoice (Member : ExprParts → Type 0) (q : Query) (group : KeyParts) (wanted : Request) (plan : Tree) : Type 0 where
-  enforced_choice : (e : EnforcedBy) → (kid : Tree) → Among e (enforcers_of wanted) → IsLeast Member q group e.below kid → plan ≡ over (nodes.Enforcer e.node) kid
-      → IsChoice Member q group wanted plan
-  native_choice : (e : PhysicalExpr) → (mode : ℕ) → (line : Line) → (kids : List Tree) → Member (expr_of e) → e.group ≡ group → IsAlternative q e wanted mode line
-      → AreLeast Member q (groups_of (physical_children e.operator)) (asked_of line wanted) kids → IsNodeOver (nodes.Native e mode) kids plan → IsChoice Member q group wanted plan
+pub data IsChoice (Member : ExprParts → Type 0) (q : Query) (group : KeyParts) (wanted : Request) (plan : Tree) : Type 0
+  where
+    enforced_choice : (e : EnforcedBy) → (kid : Tree) → Among e (enforcers_of wanted) → IsLeast Member q group e.below kid
+        → plan ≡ over (nodes.Enforcer e.node) kid
+        → IsChoice Member q group wanted plan
+    native_choice : (e : PhysicalExpr) → (mode : ℕ) → (line : Line) → (kids : List Tree) → Member (expr_of e)
+        → e.group ≡ group → IsAlternative q e wanted mode line
+        → AreLeast Member q (groups_of (physical_children e.operator)) (asked_of line wanted) kids
+        → IsNodeOver (nodes.Native e mode) kids plan → IsChoice Member q group wanted plan
 
 -- the plan is at most the other; where there is none, it is at most no other
 abbrev pub Beats : Query → Option Tree → Tree → Type 0
@@ -54,7 +60,8 @@ Beats q (Some best) plan = IsAtMost q best plan
 -- the group has no plan for what the enforcer asks, or the best is at most the enforcer over a least plan for that
 abbrev pub IsEnforcerSettled : (ExprParts → Type 0) → Query → KeyParts → EnforcedBy → Option Tree → Type 0
 IsEnforcerSettled Member q group e best =
-    ((kid : Tree) × IsLeast Member q group e.below kid × Beats q best (over (nodes.Enforcer e.node) kid)) ⊎ HasNoPlan Member q group e.below
+    ((kid : Tree) × IsLeast Member q group e.below kid × Beats q best (over (nodes.Enforcer e.node) kid))
+    ⊎ HasNoPlan Member q group e.below
 
 -- some child has no plan for its request
 abbrev pub LacksOne : (ExprParts → Type 0) → Query → List KeyParts → List Request → Type 0
@@ -62,16 +69,19 @@ LacksOne Member q [] wishes = ⊥
 LacksOne Member q (group ∷ groups) [] = ⊥
 LacksOne Member q (group ∷ groups) (wanted ∷ wishes) = HasNoPlan Member q group wanted ⊎ LacksOne Member q groups wishes
 
--- some child has no plan for what the line asks of it, or the best is at most the expression in this mode over least plans for that
+-- some child has no plan for what the line asks of it, or the best is at most the expression in this mode over least
+-- plans for that
 abbrev pub IsLineSettled : (ExprParts → Type 0) → Query → PhysicalExpr → ℕ → Line → Request → Option Tree → Type 0
 IsLineSettled Member q e mode line wanted best =
-    ((kids : List Tree) × (plan : Tree) × AreLeast Member q (groups_of (physical_children e.operator)) (asked_of line wanted) kids × IsNodeOver (nodes.Native e mode) kids plan
+    ((kids : List Tree) × (plan : Tree) × AreLeast Member q (groups_of (physical_children e.operator))
+    (asked_of line wanted) kids × IsNodeOver (nodes.Native e mode) kids plan
     × Beats q best plan)
     ⊎ LacksOne Member q (groups_of (physical_children e.operator)) (asked_of line wanted)
 
 -- the same of a mode, where it is there for the request
 abbrev pub IsModeSettled : (ExprParts → Type 0) → Query → Request → PhysicalExpr → ℕ → Option Tree → Type 0
-IsModeSettled Member q wanted e mode best = (line : Line) → IsAlternative q e wanted mode line → IsLineSettled Member q e mode line wanted best
+IsModeSettled Member q wanted e mode best = (line : Line) → IsAlternative q e wanted mode line
+    → IsLineSettled Member q e mode line wanted best
 
 -- the best meets the request, if it is there
 abbrev pub BestServes : (ExprParts → Type 0) → Query → KeyParts → Request → Option Tree → Type 0
@@ -79,7 +89,9 @@ BestServes Member q group wanted None = ⊤
 BestServes Member q group wanted (Some best) = Serves Member q group wanted best
 
 -- the best meets the request, and is at most what each node that may stand at the root makes of least plans
-pub record IsSettled (Member : ExprParts → Type 0) (q : Query) (group : KeyParts) (wanted : Request) (best : Option Tree) : Type 0 where
+pub record IsSettled (Member : ExprParts → Type 0) (q : Query) (group : KeyParts) (wanted : Request)
+    (best : Option Tree) : Type 0 where
   pub best_serves : BestServes Member q group wanted best
   pub enforcers : (e : EnforcedBy) → Among e (enforcers_of wanted) → IsEnforcerSettled Member q group e best
-  pub members : (e : PhysicalExpr) → (mode : ℕ) → Member (expr_of e) → e.group ≡ group → IsModeSettled Member q wanted e mode best
+  pub members : (e : PhysicalExpr) → (mode : ℕ) → Member (expr_of e) → e.group ≡ group
+      → IsModeSettled Member q wanted e mode best

@@ -48,7 +48,8 @@ operator_shape (physical.PartialAgg child) left right out = shapes.PartialAgg le
 -- what a physical expression has to do in a mode; each side's share is by its own distribution
 abbrev pub native_shape : Query → PhysicalExpr → ℕ → List Kid → CostShape
 native_shape q e mode kids =
-    operator_shape e.operator (first_share q kids) (second_share q kids) (share_of q e.group (class_of (native_gives q e mode kids).dist))
+    operator_shape e.operator (first_share q kids) (second_share q kids)
+    (share_of q e.group (class_of (native_gives q e mode kids).dist))
 
 -- what an enforcer has to do over its kid; a gather, a merge and a broadcast handle all rows of the group
 abbrev pub enforcer_shape : Query → Enforcer → List Kid → CostShape

@@ -72,17 +72,21 @@ RequestsFit q (group ∷ groups) (wanted ∷ wishes) = Fits q group wanted × Re
 abbrev pub GivesWhatFits : Query → Type 0
 GivesWhatFits q = (plan : Tree) → IsValid (IsMember q) q plan → GivenFits q (kid_of q plan).group (gives q plan)
 
--- a physical expression over kids meets a request that fits its group only in a mode that is there for the request, over kids that give what is asked of them
+-- a physical expression over kids meets a request that fits its group only in a mode that is there for the request,
+-- over kids that give what is asked of them
 abbrev pub SatisfactionSplits : Query → Type 0
 SatisfactionSplits q =
-    (e : PhysicalExpr) (mode : ℕ) (kids : List Kid) (wanted : Request) → IsCandidate q (expr_of e) → KidsFit q kids → Fits q e.group wanted
+    (e : PhysicalExpr) (mode : ℕ) (kids : List Kid) (wanted : Request) → IsCandidate q (expr_of e) → KidsFit q kids
+    → Fits q e.group wanted
     → NativeFits q e mode kids → Satisfies q (native_gives q e mode kids) wanted
     → (line : Line) × IsAlternative q e wanted mode line × KidsServe q kids (asked_of line wanted)
 
--- a physical expression in a mode that is there for a request, over kids that give what is asked of them, may stand over them and meets the request
+-- a physical expression in a mode that is there for a request, over kids that give what is asked of them, may stand
+-- over them and meets the request
 abbrev pub SatisfactionJoins : Query → Type 0
 SatisfactionJoins q =
-    (e : PhysicalExpr) (mode : ℕ) (line : Line) (kids : List Kid) (wanted : Request) → IsAlternative q e wanted mode line
+    (e : PhysicalExpr) (mode : ℕ) (line : Line) (kids : List Kid) (wanted : Request)
+    → IsAlternative q e wanted mode line
     → AreOf (groups_of (physical_children e.operator)) kids → KidsServe q kids (asked_of line wanted)
     → NativeFits q e mode kids × Satisfies q (native_gives q e mode kids) wanted
 
@@ -90,32 +94,40 @@ SatisfactionJoins q =
 abbrev pub AsksWhatFits : Query → Type 0
 AsksWhatFits q =
     (e : PhysicalExpr) (mode : ℕ) (line : Line) (wanted : Request) → IsCandidate q (expr_of e) → Fits q e.group wanted
-    → IsAlternative q e wanted mode line → RequestsFit q (groups_of (physical_children e.operator)) (asked_of line wanted)
+    → IsAlternative q e wanted mode line → RequestsFit q (groups_of (physical_children e.operator))
+    (asked_of line wanted)
 
--- where a predicate equates columns across the children of a join, the hash and the order of the left one fit the left child
+-- where a predicate equates columns across the children of a join, the hash and the order of the left one fit the left
+-- child
 abbrev pub CrossingsFit : Query → Type 0
 CrossingsFit q =
-    (e : PhysicalExpr) (left right : KeyParts) (pred a b : ℕ) → IsCandidate q (expr_of e) → physical_children e.operator ≡ Two left right
-    → crossing_of q left right pred ≡ Some (a, b) → HashFits q left (column_list q a) × OrderFits q left (column_order q a)
+    (e : PhysicalExpr) (left right : KeyParts) (pred a b : ℕ) → IsCandidate q (expr_of e)
+    → physical_children e.operator ≡ Two left right
+    → crossing_of q left right pred ≡ Some (a, b) → HashFits q left (column_list q a)
+    × OrderFits q left (column_order q a)
 
 -- so does what an enforcer asks
 abbrev pub EnforcersAskWhatFits : Query → Type 0
-EnforcersAskWhatFits q = (group : KeyParts) (wanted : Request) (e : EnforcedBy) → Fits q group wanted → Among e (enforcers_of wanted) → Fits q group e.below
+EnforcersAskWhatFits q = (group : KeyParts) (wanted : Request) (e : EnforcedBy) → Fits q group wanted
+    → Among e (enforcers_of wanted) → Fits q group e.below
 
 -- the groups of an expression's children have lesser keys
 abbrev pub KeysFall : Query → Type 0
 KeysFall q =
-    (e : PhysicalExpr) (child : KeyParts) → IsCandidate q (expr_of e) → IsChild (physical_children e.operator) child → key_number child < key_number e.group
+    (e : PhysicalExpr) (child : KeyParts) → IsCandidate q (expr_of e) → IsChild (physical_children e.operator) child
+    → key_number child < key_number e.group
 
 -- a least plan costs no more than any may
 abbrev pub LeastCostsFit : Query → Type 0
 LeastCostsFit q =
-    (group : KeyParts) (wanted : Request) (plan : Tree) → Fits q group wanted → IsLeast (IsMember q) q group wanted plan → cost_of q plan ≤ most_of_all
+    (group : KeyParts) (wanted : Request) (plan : Tree) → Fits q group wanted → IsLeast (IsMember q) q group wanted plan
+    → cost_of q plan ≤ most_of_all
 
 -- nor does a choice
 abbrev pub ChoiceCostsFit : Query → Type 0
 ChoiceCostsFit q =
-    (group : KeyParts) (wanted : Request) (plan : Tree) → Fits q group wanted → IsChoice (IsMember q) q group wanted plan → cost_of q plan ≤ most_of_all
+    (group : KeyParts) (wanted : Request) (plan : Tree) → Fits q group wanted
+    → IsChoice (IsMember q) q group wanted plan → cost_of q plan ≤ most_of_all
 
 -- of all plans for a request one is least; with more than 60 lists or orders the numbers of two nodes could be one
 abbrev pub LeastIsOne : Query → Type 0
@@ -126,13 +138,15 @@ LeastIsOne q =
 -- what is at most all that its nodes make of least plans is the least of all plans
 abbrev pub SettledIsLeast : Query → Type 0
 SettledIsLeast q =
-    (group : KeyParts) (wanted : Request) (best : Option Tree) → Fits q group wanted → IsSettled (IsMember q) q group wanted best
+    (group : KeyParts) (wanted : Request) (best : Option Tree) → Fits q group wanted
+    → IsSettled (IsMember q) q group wanted best
     → IsAnswer (IsMember q) q group wanted best
 
 -- a choice is a plan that meets the request
 abbrev pub ChoicesServe : Query → Type 0
 ChoicesServe q =
-    (group : KeyParts) (wanted : Request) (plan : Tree) → Fits q group wanted → IsChoice (IsMember q) q group wanted plan
+    (group : KeyParts) (wanted : Request) (plan : Tree) → Fits q group wanted
+    → IsChoice (IsMember q) q group wanted plan
     → Serves (IsMember q) q group wanted plan
 
 -- what is asked of the whole plan fits the root

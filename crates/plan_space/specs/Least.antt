@@ -23,13 +23,15 @@ IsLess q plan other =
     ⊎ ((cost_of q plan ≡ cost_of q other) × (slice_cmp nat_cmp (code_of plan) (code_of other) ≡ Less))
 
 -- a plan of the group, over the members, that gives what is asked for
-pub record Serves (Member : ExprParts → Type 0) (q : Query) (group : KeyParts) (wanted : Request) (plan : Tree) : Type 0 where
-  pub valid : IsValid Member q plan
-  pub of_group : (kid_of q plan).group ≡ group
-  pub satisfies : Satisfies q (gives q plan) wanted
+pub record Serves (Member : ExprParts → Type 0) (q : Query) (group : KeyParts) (wanted : Request) (plan : Tree) : Type 0
+  where
+    pub valid : IsValid Member q plan
+    pub of_group : (kid_of q plan).group ≡ group
+    pub satisfies : Satisfies q (gives q plan) wanted
 
 -- of all plans that give what is asked for, redundant sorts and motions included, none is less
-pub record IsLeast (Member : ExprParts → Type 0) (q : Query) (group : KeyParts) (wanted : Request) (plan : Tree) : Type 0 where
+pub record IsLeast (Member : ExprParts → Type 0) (q : Query) (group : KeyParts) (wanted : Request) (plan : Tree) : Type
+    0 where
   pub serves : Serves Member q group wanted plan
   pub none_less : (other : Tree) → Serves Member q group wanted other → IsLess q other plan → ⊥
 

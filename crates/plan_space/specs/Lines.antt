@@ -66,12 +66,14 @@ table_line q group order = Alone (table_dist q (table_in group)) order
 
 -- a hash join of rows that are hashed alike on the two sides of an equality
 abbrev pub hash_colocated : Query → (ℕ × ℕ) → Line
-hash_colocated q sides = Beside (on_hashed (column_list q sides.0)) (in_order 0) (request (dists.Hashed (column_list q sides.1)) 0)
+hash_colocated q sides = Beside (on_hashed (column_list q sides.0)) (in_order 0)
+    (request (dists.Hashed (column_list q sides.1)) 0)
 
 -- a hash join: on one segment, with copies of the right side, or for each crossing equality of rows hashed alike
 abbrev pub hash_line : Query → KeyParts → KeyParts → Mode → Option Line
 hash_line q left right (One number) = only_line (Beside on_one (in_order 0) (request dists.One 0)) number
-hash_line q left right (Copied number) = only_line (Beside left_dists.SameSpread (in_order 0) (request dists.Copies 0)) number
+hash_line q left right (Copied number) =
+    only_line (Beside left_dists.SameSpread (in_order 0) (request dists.Copies 0)) number
 hash_line q left right (Hashed number) = option_map (hash_colocated q) (crossing_of q left right number)
 
 -- a merge join of rows in the order of the two sides of an equality
@@ -85,7 +87,8 @@ merge_colocated q sides = merge_with q (on_hashed (column_list q sides.0)) (dist
 -- a merge join for each crossing equality: on one segment, with copies of the right side, or of rows hashed alike
 abbrev pub merge_line : Query → KeyParts → KeyParts → Mode → Option Line
 merge_line q left right (One number) = option_map (merge_with q on_one dists.One) (crossing_of q left right number)
-merge_line q left right (Copied number) = option_map (merge_with q left_dists.SameSpread dists.Copies) (crossing_of q left right number)
+merge_line q left right (Copied number) =
+    option_map (merge_with q left_dists.SameSpread dists.Copies) (crossing_of q left right number)
 merge_line q left right (Hashed number) = option_map (merge_colocated q) (crossing_of q left right number)
 
 -- a loop join: on one segment, or with copies of the right side; it keeps the left child's order
@@ -94,7 +97,8 @@ loop_line (One number) = only_line (Beside on_one left_orders.Same (request dist
 loop_line (Copied number) = only_line (Beside left_dists.SameSpread left_orders.Same (request dists.Copies 0)) number
 loop_line (Hashed number) = None
 
--- an aggregation that gives this order, over a child in the same order: on one segment, or for each list over rows that are hashed by it
+-- an aggregation that gives this order, over a child in the same order: on one segment, or for each list over rows that
+-- are hashed by it
 abbrev pub agg_line : Query → ℕ → Mode → Option Line
 agg_line q order (One number) = only_line (Above on_one (in_order order)) number
 agg_line q order (Copied number) = None
@@ -106,9 +110,11 @@ agg_line q order (Hashed number) =
 -- the line of a group's operator in a mode, if it has the mode
 abbrev pub operator_line : Query → KeyParts → Physical → Mode → Option Line
 operator_line q group physical.Scan mode = single_line (table_line q group (Listed 0)) mode
-operator_line q group (physical.IndexScan index) mode = single_line (table_line q group (Index (table_in group) index)) mode
+operator_line q group (physical.IndexScan index) mode =
+    single_line (table_line q group (Index (table_in group) index)) mode
 operator_line q group (physical.Filter child) mode = single_line (Above left_dists.Same left_orders.Same) mode
-operator_line q group (physical.IndexSeek index) mode = single_line (table_line q group (Index (table_in group) index)) mode
+operator_line q group (physical.IndexSeek index) mode =
+    single_line (table_line q group (Index (table_in group) index)) mode
 operator_line q group (physical.HashJoin left right) mode = hash_line q left right mode
 operator_line q group (physical.MergeJoin left right) mode = merge_line q left right mode
 operator_line q group (physical.LoopJoin left right) mode = loop_line mode

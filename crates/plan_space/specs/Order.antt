@@ -13,4 +13,5 @@ AtMost (x ∷ xs) (y ∷ ys) = (x < y) ⊎ ((x ≡ y) × AtMost xs ys)
 
 -- the plan costs less, or the same with a code that is at most the other's
 abbrev pub IsAtMost : Query → Tree → Tree → Type 0
-IsAtMost q plan other = (cost_of q plan < cost_of q other) ⊎ ((cost_of q plan ≡ cost_of q other) × AtMost (code_of plan) (code_of other))
+IsAtMost q plan other = (cost_of q plan < cost_of q other)
+    ⊎ ((cost_of q plan ≡ cost_of q other) × AtMost (code_of plan) (code_of other))

@@ -73,7 +73,8 @@ pub record OneFits (q : Query) (children : Children) (dist : LeftDist) (order : 
   pub left : LeftNeeds q dist order kid.given
 
 -- the kids are plans of the two children, and give what the line needs
-pub record TwoFit (q : Query) (children : Children) (dist : LeftDist) (order : LeftOrder) (request : Request) (first second : Kid) : Type 0 where
+pub record TwoFit (q : Query) (children : Children) (dist : LeftDist) (order : LeftOrder) (request : Request)
+    (first second : Kid) : Type 0 where
   pub of_children : children ≡ arities.Two first.group second.group
   pub left : LeftNeeds q dist order first.given
   pub right : Satisfies q second.given request

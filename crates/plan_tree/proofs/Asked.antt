@@ -7,12 +7,14 @@ use Rattle.query_core.specs.declared.expressions.Children.TheVariants.{Zero, One
 use Rattle.query_core.specs.declared.words.KeyParts.{KeyParts}
 use Rattle.plan_space.specs.Choices.{groups_of}
 
-pub left_holds : (P : KeyParts → Type 0) (children : Children) → ((g : KeyParts) → IsChild children g → P g) → IfSome (slice_get (groups_of children) 0) P
+pub left_holds : (P : KeyParts → Type 0) (children : Children) → ((g : KeyParts) → IsChild children g → P g)
+    → IfSome (slice_get (groups_of children) 0) P
 left_holds P Zero all = tt
 left_holds P (One child) all = all child refl
 left_holds P (Two left right) all = all left (inl refl)
 
-pub right_holds : (P : KeyParts → Type 0) (children : Children) → ((g : KeyParts) → IsChild children g → P g) → IfSome (slice_get (groups_of children) 1) P
+pub right_holds : (P : KeyParts → Type 0) (children : Children) → ((g : KeyParts) → IsChild children g → P g)
+    → IfSome (slice_get (groups_of children) 1) P
 right_holds P Zero all = tt
 right_holds P (One child) all = tt
 right_holds P (Two left right) all = all right (inr refl)

@@ -1,5 +1,6 @@
 -- Whether an expression may serve a request in a mode is decided.
-use Rattle.std.proofs.Common.{◌≡◌, ◌≤◌, ◌<◌, ◌⊎◌, ◌/◌, ℕ, suc, Bool, true, false, List, [], ◌∷◌, Option, Some, None, inl, inr, length, refl, sym, ◌∙◌, arith}
+use Rattle.std.proofs.Common.{◌≡◌, ◌≤◌, ◌<◌, ◌⊎◌, ◌/◌, ℕ, suc, Bool, true, false, List, [], ◌∷◌, Option, Some, None}
+use Rattle.std.proofs.Common.{inl, inr, length, refl, sym, ◌∙◌, arith}
 use Rattle.std.specs.List.{All, list_all}
 use Rattle.std.proofs.lemmas.Bool.{cases_lt}
 use Rattle.std.proofs.lemmas.Bool.Decides.{eqb_tells}
@@ -29,7 +30,8 @@ use Rattle.plan_space.specs.declared.lines.Line.{Line}
 use Rattle.plan_space.specs.declared.lines.Line.TheVariants.{Alone, Above, Beside}
 use Rattle.plan_space.specs.Lines.{line_of}
 use Rattle.plan_space.specs.Gives.{gives_so}
-use Rattle.plan_space.specs.Alternatives.{WantsSpread, DistServes, OrderServes, LeftServes, JoinServes, left_asked, LineServes}
+use Rattle.plan_space.specs.Alternatives.{WantsSpread, DistServes, OrderServes, LeftServes, JoinServes, left_asked}
+use Rattle.plan_space.specs.Alternatives.{LineServes}
 use Rattle.plan_tree.specs.Alternatives.{HasAlternative}
 
 abbrev pub IsDecided : Type 0 → Type 0
@@ -82,7 +84,8 @@ begins (x ∷ xs) (y ∷ ys) = both (equal x y) (begins xs ys)
 
 satisfies : (q : Query) (gives : Given) (wanted : Request) → IsDecided (Satisfies q gives wanted)
 satisfies q gives wanted =
-    like {P = Meets gives.dist wanted.dist × BeginsWith (given_order q gives.order) (order_of q wanted.order)} {Q = Satisfies q gives wanted}
+    like {P = Meets gives.dist wanted.dist × BeginsWith (given_order q gives.order) (order_of q wanted.order)} {Q =
+    Satisfies q gives wanted}
     (λ both_met. record { dist = both_met.0; order = both_met.1 }) (λ met. (met.dist, met.order))
     (both (meets gives.dist wanted.dist) (begins (given_order q gives.order) (order_of q wanted.order)))
 
@@ -100,10 +103,12 @@ dist_fits q group (Hashed list) = hash_fits q group list
 
 fits : (q : Query) (group : KeyParts) (wanted : Request) → IsDecided (Fits q group wanted)
 fits q group wanted =
-    like {P = DistFits q group wanted.dist × (IsNumbered q wanted.order × OrderLiesIn q group (order_of q wanted.order))} {Q = Fits q group wanted}
+    like {P = DistFits q group wanted.dist × (IsNumbered q wanted.order
+    × OrderLiesIn q group (order_of q wanted.order))} {Q = Fits q group wanted}
     (λ fit. record { dist = fit.0; numbered = fit.1.0; order = fit.1.1 }) (λ fit. (fit.dist, (fit.numbered, fit.order)))
     (both (dist_fits q group wanted.dist)
-    (both (at_most wanted.order (length (orders_of q))) (all_pass (λ element. has_item q group (element / 2)) (order_of q wanted.order))))
+    (both (at_most wanted.order (length (orders_of q)))
+    (all_pass (λ element. has_item q group (element / 2)) (order_of q wanted.order))))
 
 spread : (dist : Dist) → IsDecided (WantsSpread dist)
 spread One = inr (λ wants. wants)
@@ -113,7 +118,8 @@ spread (Hashed list) = inl tt
 
 dist_serves : (q : Query) (dist : LeftDist) (wanted : Dist) → IsDecided (DistServes q dist wanted)
 dist_serves q (left_dists.Fixed gives asked) wanted = meets gives wanted
-dist_serves q (left_dists.Grouped list) wanted = both (passes (is_grouped_list q list)) (meets (given.Hashed list) wanted)
+dist_serves q (left_dists.Grouped list) wanted =
+    both (passes (is_grouped_list q list)) (meets (given.Hashed list) wanted)
 dist_serves q left_dists.Same wanted = inl tt
 dist_serves q left_dists.SameSpread wanted = spread wanted
 
@@ -121,19 +127,23 @@ order_serves : (q : Query) (order : LeftOrder) (wanted : ℕ) → IsDecided (Ord
 order_serves q (left_orders.Fixed gives asked) wanted = begins (given_order q gives) (order_of q wanted)
 order_serves q left_orders.Same wanted = inl tt
 
-left_serves : (q : Query) (dist : LeftDist) (order : LeftOrder) (wanted : Request) → IsDecided (LeftServes q dist order wanted)
+left_serves : (q : Query) (dist : LeftDist) (order : LeftOrder) (wanted : Request)
+    → IsDecided (LeftServes q dist order wanted)
 left_serves q dist order wanted =
     like {P = DistServes q dist wanted.dist × OrderServes q order wanted.order} {Q = LeftServes q dist order wanted}
     (λ all. record { dist_served = all.0; order_served = all.1 }) (λ all. (all.dist_served, all.order_served))
     (both (dist_serves q dist wanted.dist) (order_serves q order wanted.order))
 
-join_serves : (q : Query) (left : KeyParts) (dist : LeftDist) (order : LeftOrder) (wanted : Request) → IsDecided (JoinServes q left dist order wanted)
+join_serves : (q : Query) (left : KeyParts) (dist : LeftDist) (order : LeftOrder) (wanted : Request)
+    → IsDecided (JoinServes q left dist order wanted)
 join_serves q left dist order wanted =
-    like {P = LeftServes q dist order wanted × Fits q left (left_asked dist order wanted)} {Q = JoinServes q left dist order wanted}
+    like {P = LeftServes q dist order wanted × Fits q left (left_asked dist order wanted)} {Q =
+    JoinServes q left dist order wanted}
     (λ all. record { serves = all.0; fits = all.1 }) (λ all. (all.serves, all.fits))
     (both (left_serves q dist order wanted) (fits q left (left_asked dist order wanted)))
 
-line_serves : (q : Query) (line : Line) (children : Children) (wanted : Request) → IsDecided (LineServes q line children wanted)
+line_serves : (q : Query) (line : Line) (children : Children) (wanted : Request)
+    → IsDecided (LineServes q line children wanted)
 line_serves q (Alone dist order) arities.Zero wanted = satisfies q (gives_so dist order) wanted
 line_serves q (Alone dist order) (arities.One child) wanted = inr (λ serves. serves)
 line_serves q (Alone dist order) (arities.Two left right) wanted = inr (λ serves. serves)
@@ -144,7 +154,8 @@ line_serves q (Beside dist order right) arities.Zero wanted = inr (λ serves. se
 line_serves q (Beside dist order right) (arities.One child) wanted = inr (λ serves. serves)
 line_serves q (Beside dist order right) (arities.Two left other) wanted = join_serves q left dist order wanted
 
-found_serves : (q : Query) (e : PhysicalExpr) (wanted : Request) (mode : ℕ) (found : Option Line) → line_of q e mode ≡ found → IsDecided (HasAlternative q e wanted mode)
+found_serves : (q : Query) (e : PhysicalExpr) (wanted : Request) (mode : ℕ) (found : Option Line)
+    → line_of q e mode ≡ found → IsDecided (HasAlternative q e wanted mode)
 found_serves q e wanted mode None is = inr (λ has. let same = sym is ∙ has.1.is_line in let never : ⊥ = cc in never)
 found_serves q e wanted mode (Some line) is =
     like {P = LineServes q line (physical_children e.operator) wanted} {Q = HasAlternative q e wanted mode}
@@ -153,7 +164,8 @@ found_serves q e wanted mode (Some line) is =
     (line_serves q line (physical_children e.operator) wanted)
 
 -- the expression may serve the request in the mode, or it may not
-pub has_decided : (q : Query) (e : PhysicalExpr) (wanted : Request) (mode : ℕ) → IsDecided (HasAlternative q e wanted mode)
+pub has_decided : (q : Query) (e : PhysicalExpr) (wanted : Request) (mode : ℕ)
+    → IsDecided (HasAlternative q e wanted mode)
 has_decided q e wanted mode = found_serves q e wanted mode (line_of q e mode) refl
 
 -- the same as a test
@@ -180,18 +192,23 @@ told_never (inr no_one) never = refl
 pub has : Query → PhysicalExpr → Request → ℕ → Bool
 has q e wanted mode = told (has_decided q e wanted mode)
 
-pub alternative_from_has : (q : Query) (e : PhysicalExpr) (wanted : Request) (mode : ℕ) → has q e wanted mode ≡ true → HasAlternative q e wanted mode
+pub alternative_from_has : (q : Query) (e : PhysicalExpr) (wanted : Request) (mode : ℕ) → has q e wanted mode ≡ true
+    → HasAlternative q e wanted mode
 unfolding has
 alternative_from_has q e wanted mode is = yes_told (has_decided q e wanted mode) is
 
-pub has_alternative : (q : Query) (e : PhysicalExpr) (wanted : Request) (mode : ℕ) → HasAlternative q e wanted mode → has q e wanted mode ≡ true
+pub has_alternative : (q : Query) (e : PhysicalExpr) (wanted : Request) (mode : ℕ) → HasAlternative q e wanted mode
+    → has q e wanted mode ≡ true
 unfolding has
 has_alternative q e wanted mode there = told_yes (has_decided q e wanted mode) there
 
-pub has_none : (q : Query) (e : PhysicalExpr) (wanted : Request) (mode : ℕ) → (HasAlternative q e wanted mode → ⊥) → has q e wanted mode ≡ false
+pub has_none : (q : Query) (e : PhysicalExpr) (wanted : Request) (mode : ℕ) → (HasAlternative q e wanted mode → ⊥)
+    → has q e wanted mode ≡ false
 unfolding has
 has_none q e wanted mode never = told_never (has_decided q e wanted mode) never
 
 -- without a line it may not
-pub has_no_line : (q : Query) (e : PhysicalExpr) (wanted : Request) (mode : ℕ) → line_of q e mode ≡ None → has q e wanted mode ≡ false
-has_no_line q e wanted mode none = has_none q e wanted mode (λ there. let same = sym none ∙ there.1.is_line in let never : ⊥ = cc in never)
+pub has_no_line : (q : Query) (e : PhysicalExpr) (wanted : Request) (mode : ℕ) → line_of q e mode ≡ None
+    → has q e wanted mode ≡ false
+has_no_line q e wanted mode none = has_none q e wanted mode (λ there. let same = sym none ∙ there.1.is_line in
+    let never : ⊥ = cc in never)

@@ -1,4 +1,5 @@
--- The modes of an expression that are exactly those to try, as those of its operator are; of no join they are among these.
+-- The modes of an expression that are exactly those to try, as those of its operator are; of no join they are among
+-- these.
 use Rattle.std.proofs.Common.{◌≡◌, ◌↔◌, ℕ, Some, ap, refl, sym, subst, ◌∙◌, IsTrue}
 use Rattle.query_core.specs.Crossing.{crossing_of}
 use Rattle.query_core.specs.Expressions.{physical_children}
@@ -26,23 +27,31 @@ use Rattle.plan_tree.proofs.NumberedLines.{only_own}
 use Rattle.plan_tree.proofs.JoinModes.{HasServing}
 
 module _ (q : Query) (e : PhysicalExpr) (left right : KeyParts) (wanted : Request) (modes : ModeSets) where
-  -- where the modes of an operator over the children that serve are exactly these of the kind, so are those of the expression
-  pub to_try_by : CrossingsFit q → (operator : Physical) → e.operator ≡ operator → physical_children operator ≡ arities.Two left right
-      → ((mode : Mode) (line : Line) → operator_line q e.group operator mode ≡ Some line → LineServes q line (arities.Two left right) wanted → HasModeIn modes mode)
-      → (((pred a b : ℕ) → crossing_of q left right pred ≡ Some (a, b) → HashFits q left (column_list q a) × OrderFits q left (column_order q a))
-      → (mode : Mode) → HasModeIn modes mode → IsModeFor wanted.dist mode → HasServing q left right wanted (operator_line q e.group operator mode))
+  -- where the modes of an operator over the children that serve are exactly these of the kind, so are those of the
+  -- expression
+  pub to_try_by : CrossingsFit q → (operator : Physical) → e.operator ≡ operator
+      → physical_children operator ≡ arities.Two left right
+      → ((mode : Mode) (line : Line) → operator_line q e.group operator mode ≡ Some line
+      → LineServes q line (arities.Two left right) wanted → HasModeIn modes mode)
+      → (((pred a b : ℕ) → crossing_of q left right pred ≡ Some (a, b) → HashFits q left (column_list q a)
+      × OrderFits q left (column_order q a))
+      → (mode : Mode) → HasModeIn modes mode → IsModeFor wanted.dist mode
+      → HasServing q left right wanted (operator_line q e.group operator mode))
       → AreServingByKind q e wanted modes
   to_try_by known operator joins over among only =
       let children : physical_children e.operator ≡ arities.Two left right = ap physical_children joins ∙ over in
       record {
         all = λ mode (line, is).
-            among (mode_at mode) line (subst (λ (o : Physical). operator_line q e.group o (mode_at mode) ≡ Some line) joins is.is_line)
+            among (mode_at mode) line (subst (λ (o : Physical). operator_line q e.group o (mode_at mode) ≡ Some line)
+            joins is.is_line)
             (subst (λ (c : Children). LineServes q line c wanted) children is.serves);
         only = λ candidate join mode has kind.
-            let (line, found, serves) = only (λ pred a b crosses. known e left right pred a b candidate children crosses) (mode_at mode) has kind in (
+            let (line, found, serves) = only (λ pred a b crosses.
+            known e left right pred a b candidate children crosses) (mode_at mode) has kind in (
               line,
               record {
-                is_line = subst (λ (o : Physical). operator_line q e.group o (mode_at mode) ≡ Some line) (sym joins) found;
+                is_line = subst (λ (o : Physical). operator_line q e.group o (mode_at mode) ≡ Some line) (sym joins)
+                    found;
                 serves = subst (λ (c : Children). LineServes q line c wanted) (sym children) serves;
               },
             );
@@ -50,22 +59,28 @@ module _ (q : Query) (e : PhysicalExpr) (left right : KeyParts) (wanted : Reques
 
 module _ (q : Query) (e : PhysicalExpr) (left right : KeyParts) (wanted : Request) where
   -- a loop join serves only in an order that fits the left child
-  loop_fits : (mode : Mode) (line : Line) → loop_line mode ≡ Some line → LineServes q line (arities.Two left right) wanted → OrderFits q left wanted.order
+  loop_fits : (mode : Mode) (line : Line) → loop_line mode ≡ Some line
+      → LineServes q line (arities.Two left right) wanted → OrderFits q left wanted.order
   loop_fits (kinds.One number) line is serves =
-      let own = subst (λ (l : Line). LineServes q l (arities.Two left right) wanted) (sym (only_own _ line number is).1) serves in
+      let own = subst (λ (l : Line). LineServes q l (arities.Two left right) wanted) (sym (only_own _ line number is).1)
+      serves in
       record { numbered = own.fits.numbered; lies_in = own.fits.order }
   loop_fits (kinds.Copied number) line is serves =
-      let own = subst (λ (l : Line). LineServes q l (arities.Two left right) wanted) (sym (only_own _ line number is).1) serves in
+      let own = subst (λ (l : Line). LineServes q l (arities.Two left right) wanted) (sym (only_own _ line number is).1)
+      serves in
       record { numbered = own.fits.numbered; lies_in = own.fits.order }
   loop_fits (kinds.Hashed number) line is serves = cc
 
-  pub loop_join_fits : e.operator ≡ physical.LoopJoin left right → (mode : ℕ) → HasAlternative q e wanted mode → OrderFits q left wanted.order
+  pub loop_join_fits : e.operator ≡ physical.LoopJoin left right → (mode : ℕ) → HasAlternative q e wanted mode
+      → OrderFits q left wanted.order
   loop_join_fits joins mode (line, is) =
-      loop_fits (mode_at mode) line (subst (λ (o : Physical). operator_line q e.group o (mode_at mode) ≡ Some line) joins is.is_line)
+      loop_fits (mode_at mode) line (subst (λ (o : Physical). operator_line q e.group o (mode_at mode) ≡ Some line)
+      joins is.is_line)
       (subst (λ (o : Physical). LineServes q line (physical_children o) wanted) joins is.serves)
 
 -- what is none of the three joins is no join
-pub no_join : (operator : Physical) → ((left right : KeyParts) → operator ≡ physical.HashJoin left right → ⊥) → ((left right : KeyParts) → operator ≡ physical.MergeJoin left right → ⊥)
+pub no_join : (operator : Physical) → ((left right : KeyParts) → operator ≡ physical.HashJoin left right → ⊥)
+    → ((left right : KeyParts) → operator ≡ physical.MergeJoin left right → ⊥)
     → ((left right : KeyParts) → operator ≡ physical.LoopJoin left right → ⊥) → IsTrue (is_join operator) → ⊥
 no_join physical.Scan hash merge loop is = cc
 no_join (physical.IndexScan index) hash merge loop is = cc
@@ -80,21 +95,26 @@ no_join (physical.PartialAgg child) hash merge loop is = cc
 
 module _ (q : Query) (e : PhysicalExpr) (wanted : Request) (modes : ModeSets) where
   -- where none serves, no modes are those that do
-  pub none_to_try : ((mode : ℕ) → HasAlternative q e wanted mode → ⊥) → ((mode : Mode) → HasModeIn modes mode → ⊥) → AreServingByKind q e wanted modes
+  pub none_to_try : ((mode : ℕ) → HasAlternative q e wanted mode → ⊥) → ((mode : Mode) → HasModeIn modes mode → ⊥)
+      → AreServingByKind q e wanted modes
   none_to_try never none = record {
     all = λ mode serves. absurd (never mode serves);
     only = λ candidate join mode has kind. absurd (none (mode_at mode) has);
   }
 
   -- of no join all that serve are among these
-  pub others_to_try : AreServing q e wanted modes → (IsTrue (is_join e.operator) → ⊥) → AreServingByKind q e wanted modes
+  pub others_to_try : AreServing q e wanted modes → (IsTrue (is_join e.operator) → ⊥)
+      → AreServingByKind q e wanted modes
   others_to_try are never = record { all = are; only = λ candidate join mode has kind. absurd (never join) }
 
 module _ (q : Query) (e : PhysicalExpr) (wanted : Request) (modes kind : ModeSets) (IsKind : Mode → Type 0) where
   -- those of the kind that serves the distribution are those to try
-  pub kind_to_try : AreServingByKind q e wanted modes → ((mode : Mode) → HasModeIn kind mode ↔ (HasModeIn modes mode × IsKind mode))
-      → ((mode : ℕ) → HasAlternative q e wanted mode → IsKind (mode_at mode)) → ((mode : Mode) → IsKind mode → IsModeFor wanted.dist mode) → AreToTry q e wanted kind
+  pub kind_to_try : AreServingByKind q e wanted modes
+      → ((mode : Mode) → HasModeIn kind mode ↔ (HasModeIn modes mode × IsKind mode))
+      → ((mode : ℕ) → HasAlternative q e wanted mode → IsKind (mode_at mode))
+      → ((mode : Mode) → IsKind mode → IsModeFor wanted.dist mode) → AreToTry q e wanted kind
   kind_to_try are exact serving for_dist = record {
     all = λ mode serves. (exact (mode_at mode)).1 (are.all mode serves, serving mode serves);
-    only = λ candidate join mode has. let (among, is) = (exact (mode_at mode)).0 has in are.only candidate join mode among (for_dist (mode_at mode) is);
+    only = λ candidate join mode has. let (among, is) = (exact (mode_at mode)).0 has in
+        are.only candidate join mode among (for_dist (mode_at mode) is);
   }

@@ -5,7 +5,8 @@ use Rattle.plan_tree.specs.Enforcers.{IsEnforced}
 use Rattle.plan_tree.specs.declared.enforcers.Enforced.{Enforced}
 
 -- what is found is an enforcer of the list
-pub some_enforced : (found : Enforced) (there : Option EnforcedBy) → IsEnforced (Some found) there → (e : EnforcedBy) × (there ≡ Some e) × IsEnforced (Some found) (Some e)
+pub some_enforced : (found : Enforced) (there : Option EnforcedBy) → IsEnforced (Some found) there → (e : EnforcedBy)
+    × (there ≡ Some e) × IsEnforced (Some found) (Some e)
 some_enforced found None is = absurd is
 some_enforced found (Some e) is = (e, refl, is)
 

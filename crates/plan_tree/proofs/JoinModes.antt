@@ -13,7 +13,8 @@ use Rattle.request_props.specs.declared.number_set.NumberSet.{NumberSet}
 use Rattle.request_props.specs.declared.request.Dist.TheVariants.{One, Copies, Hashed}
 use Rattle.request_props.specs.declared.request.Request.{Request}
 use Rattle.plan_space.specs.Alternatives.{LineServes}
-use Rattle.plan_space.specs.Lines.{on_one, on_hashed, in_order, request, hash_colocated, hash_line, loop_line, merge_with, merge_colocated, merge_line}
+use Rattle.plan_space.specs.Lines.{on_one, on_hashed, in_order, request, hash_colocated, hash_line, loop_line}
+use Rattle.plan_space.specs.Lines.{merge_with, merge_colocated, merge_line}
 use Rattle.plan_space.specs.Modes.{HasModeIn}
 use Rattle.plan_space.specs.declared.lines.LeftDist.TheVariants as left_dists
 use Rattle.plan_space.specs.declared.lines.LeftOrder.{LeftOrder}
@@ -24,7 +25,8 @@ use Rattle.plan_space.specs.declared.modes.Mode.{Mode}
 use Rattle.plan_space.specs.declared.modes.Mode.TheVariants as kinds
 use Rattle.plan_space.specs.declared.modes.ModeSets.{ModeSets}
 use Rattle.plan_tree.specs.ServingModes.{DistSuits, IsModeFor}
-use Rattle.plan_tree.proofs.JoinsTried.{AreHashingTo, AreMergingIn, HashesTo, MergesIn, found_serves, hash_serves, merge_hashes, with_merges}
+use Rattle.plan_tree.proofs.JoinsTried.{AreHashingTo, AreMergingIn, HashesTo, MergesIn, found_serves, hash_serves}
+use Rattle.plan_tree.proofs.JoinsTried.{merge_hashes, with_merges}
 use Rattle.plan_tree.proofs.ServedDists.{one_served, spread_served, suits_fit, spread_suits, none_lies}
 use Rattle.plan_tree.proofs.NumberedLines.{only_own, own_only, own_crossing, same_left}
 
@@ -38,21 +40,25 @@ module _ (q : Query) (left right : KeyParts) (wanted : Request) where
   HasServing found = (line : Line) × (found ≡ Some line) × Serves line
 
   -- a line that passes the left child's distribution on is there only where the child can have it
-  passing_suits : (order : LeftOrder) (asked : Request) (line : Line) → Beside left_dists.SameSpread order asked ≡ line → Serves line → DistSuits q left wanted.dist
+  passing_suits : (order : LeftOrder) (asked : Request) (line : Line) → Beside left_dists.SameSpread order asked ≡ line
+      → Serves line → DistSuits q left wanted.dist
   passing_suits order asked line same serves =
       let own : Serves (Beside left_dists.SameSpread order asked) = subst Serves (sym same) serves in
       spread_suits q left wanted.dist own.serves.dist_served own.fits.dist
 
   module _ (modes : ModeSets) where
-    module _ (one : (n : ℕ) → n < 1 → IsInSet modes.one n) (copied : (n : ℕ) → n < 1 → DistSuits q left wanted.dist → IsInSet modes.copied n) where
+    module _ (one : (n : ℕ) → n < 1 → IsInSet modes.one n) (copied : (n : ℕ) → n < 1 → DistSuits q left wanted.dist
+        → IsInSet modes.copied n) where
       -- a mode in which a hash join serves is among these
-      pub hash_among : AreHashingTo q left right wanted.dist modes.hashed → (mode : Mode) (line : Line) → hash_line q left right mode ≡ Some line → Serves line → HasModeIn modes mode
+      pub hash_among : AreHashingTo q left right wanted.dist modes.hashed → (mode : Mode) (line : Line)
+          → hash_line q left right mode ≡ Some line → Serves line → HasModeIn modes mode
       hash_among hashes (kinds.One number) line is serves = one number (only_own _ line number is).0
       hash_among hashes (kinds.Copied number) line is serves =
           let (first, own) = only_own _ line number is in
           copied number first (passing_suits (in_order 0) (request Copies 0) line own serves)
       hash_among hashes (kinds.Hashed number) line is serves =
-          found_serves q line (arities.Two left right) wanted left right (HashesTo q wanted.dist) modes.hashed hashes (hash_colocated q) (λ sides. hash_serves q sides (arities.Two left right) wanted)
+          found_serves q line (arities.Two left right) wanted left right (HashesTo q wanted.dist) modes.hashed hashes
+          (hash_colocated q) (λ sides. hash_serves q sides (arities.Two left right) wanted)
           number (crossing_of q left right number) refl is serves
 
       -- likewise of a loop join
@@ -64,29 +70,41 @@ module _ (q : Query) (left right : KeyParts) (wanted : Request) where
       loop_among (kinds.Hashed number) line is serves = cc
 
     -- and of a merge join
-    pub merge_among : (merging hashing : NumberSet) → AreMergingIn q left right wanted.order merging → AreHashingTo q left right wanted.dist hashing
+    pub merge_among : (merging hashing : NumberSet) → AreMergingIn q left right wanted.order merging
+        → AreHashingTo q left right wanted.dist hashing
         → modes.one ≡ merging → ((n : ℕ) → IsInSet merging n → DistSuits q left wanted.dist → IsInSet modes.copied n)
-        → ((n : ℕ) → IsInSet modes.hashed n ↔ (IsInSet merging n × IsInSet hashing n)) → (mode : Mode) (line : Line) → merge_line q left right mode ≡ Some line → Serves line → HasModeIn modes mode
+        → ((n : ℕ) → IsInSet modes.hashed n ↔ (IsInSet merging n × IsInSet hashing n)) → (mode : Mode) (line : Line)
+        → merge_line q left right mode ≡ Some line → Serves line → HasModeIn modes mode
     merge_among merging hashing merges hashes one copied both (kinds.One number) line is serves =
         subst (λ preds. IsInSet preds number) (sym one)
-        (found_serves q line (arities.Two left right) wanted left right (MergesIn q wanted.order) merging merges (merge_with q on_one One)
-        (λ sides. with_merges q on_one One sides (arities.Two left right) wanted) number (crossing_of q left right number) refl is serves)
+        (found_serves q line (arities.Two left right) wanted left right (MergesIn q wanted.order) merging merges
+        (merge_with q on_one One)
+        (λ sides. with_merges q on_one One sides (arities.Two left right) wanted) number
+        (crossing_of q left right number) refl is serves)
     merge_among merging hashing merges hashes one copied both (kinds.Copied number) line is serves =
-        let in_order = found_serves q line (arities.Two left right) wanted left right (MergesIn q wanted.order) merging merges (merge_with q left_dists.SameSpread Copies)
-        (λ sides. with_merges q left_dists.SameSpread Copies sides (arities.Two left right) wanted) number (crossing_of q left right number) refl is serves in
-        let (sides, own) = own_crossing (merge_with q left_dists.SameSpread Copies) line (crossing_of q left right number) is in
+        let in_order = found_serves q line (arities.Two left right) wanted left right (MergesIn q wanted.order) merging
+        merges (merge_with q left_dists.SameSpread Copies)
+        (λ sides. with_merges q left_dists.SameSpread Copies sides (arities.Two left right) wanted) number
+        (crossing_of q left right number) refl is serves in
+        let (sides, own) = own_crossing (merge_with q left_dists.SameSpread Copies) line
+        (crossing_of q left right number) is in
         copied number in_order (passing_suits _ _ line own serves)
     merge_among merging hashing merges hashes one copied both (kinds.Hashed number) line is serves =
         let found = crossing_of q left right number in
-        let in_order = found_serves q line (arities.Two left right) wanted left right (MergesIn q wanted.order) merging merges (merge_colocated q)
-        (λ sides. with_merges q (on_hashed (column_list q sides.0)) (Hashed (column_list q sides.1)) sides (arities.Two left right) wanted) number found refl is serves in
-        let in_place = found_serves q line (arities.Two left right) wanted left right (HashesTo q wanted.dist) hashing hashes (merge_colocated q)
+        let in_order = found_serves q line (arities.Two left right) wanted left right (MergesIn q wanted.order) merging
+        merges (merge_colocated q)
+        (λ sides. with_merges q (on_hashed (column_list q sides.0)) (Hashed (column_list q sides.1)) sides
+        (arities.Two left right) wanted) number found refl is serves in
+        let in_place = found_serves q line (arities.Two left right) wanted left right (HashesTo q wanted.dist) hashing
+        hashes (merge_colocated q)
         (λ sides. merge_hashes q sides (arities.Two left right) wanted) number found refl is serves in
         (both number).1 (in_order, in_place)
 
   -- the hash and the order of the left one of the columns that a predicate equates fit the left child
-  module _ (known : (pred a b : ℕ) → crossing_of q left right pred ≡ Some (a, b) → HashFits q left (column_list q a) × OrderFits q left (column_order q a)) (modes : ModeSets) where
-    module _ (one : (n : ℕ) → IsInSet modes.one n → n < 1) (copied : (n : ℕ) → IsInSet modes.copied n → (n < 1) × DistSuits q left wanted.dist) where
+  module _ (known : (pred a b : ℕ) → crossing_of q left right pred ≡ Some (a, b) → HashFits q left (column_list q a)
+      × OrderFits q left (column_order q a)) (modes : ModeSets) where
+    module _ (one : (n : ℕ) → IsInSet modes.one n → n < 1) (copied : (n : ℕ) → IsInSet modes.copied n → (n < 1)
+        × DistSuits q left wanted.dist) where
       -- a hash join serves in each of these modes that is for the distribution, where no order is asked for
       pub hash_only : AreHashingTo q left right wanted.dist modes.hashed → BeginsWith [] (order_of q wanted.order)
           → (mode : Mode) → HasModeIn modes mode → IsModeFor wanted.dist mode → HasServing (hash_line q left right mode)
@@ -104,7 +122,12 @@ module _ (q : Query) (left right : KeyParts) (wanted : Request) where
             own_only _ number first,
             record {
               serves = record { dist_served = spread_served q wanted.dist number is; order_served = none };
-              fits = record { dist = suits_fit q left wanted.dist suits; numbered = omega arith; order = none_lies q left };
+              fits = record {
+                dist = suits_fit q left wanted.dist suits;
+                numbered = omega arith;
+                order =
+                    none_lies q left;
+              };
             },
           )
       hash_only hashes none (kinds.Hashed number) has is =
@@ -134,13 +157,19 @@ module _ (q : Query) (left right : KeyParts) (wanted : Request) where
             own_only _ number first,
             record {
               serves = record { dist_served = spread_served q wanted.dist number is; order_served = tt };
-              fits = record { dist = suits_fit q left wanted.dist suits; numbered = order.numbered; order = order.lies_in };
+              fits = record {
+                dist = suits_fit q left wanted.dist suits;
+                numbered = order.numbered;
+                order =
+                    order.lies_in;
+              };
             },
           )
       loop_only nowhere order (kinds.Hashed number) has is = absurd (nowhere number has)
 
     -- and a merge join
-    pub merge_only : (merging hashing : NumberSet) → AreMergingIn q left right wanted.order merging → AreHashingTo q left right wanted.dist hashing
+    pub merge_only : (merging hashing : NumberSet) → AreMergingIn q left right wanted.order merging
+        → AreHashingTo q left right wanted.dist hashing
         → modes.one ≡ merging → ((n : ℕ) → IsInSet modes.copied n → IsInSet merging n × DistSuits q left wanted.dist)
         → ((n : ℕ) → IsInSet modes.hashed n ↔ (IsInSet merging n × IsInSet hashing n))
         → (mode : Mode) → HasModeIn modes mode → IsModeFor wanted.dist mode → HasServing (merge_line q left right mode)
@@ -162,7 +191,12 @@ module _ (q : Query) (left right : KeyParts) (wanted : Request) where
           ap (option_map (merge_with q left_dists.SameSpread Copies)) crosses,
           record {
             serves = record { dist_served = spread_served q wanted.dist number is; order_served = in_order };
-            fits = record { dist = suits_fit q left wanted.dist suits; numbered = order.numbered; order = order.lies_in };
+            fits = record {
+              dist = suits_fit q left wanted.dist suits;
+              numbered = order.numbered;
+              order =
+                  order.lies_in;
+            };
           },
         )
     merge_only merging hashing merges hashes one copied both (kinds.Hashed number) has is =

@@ -1,6 +1,8 @@
--- Joins serve all requests for distributions that they can give: hash joins without an order, loop joins in an order that
+-- Joins serve all requests for distributions that they can give: hash joins without an order, loop joins in an order
+-- that
 -- fits the left child, and merge joins in one that a column gives by which they merge.
-use Rattle.std.proofs.Common.{◌≡◌, ℕ, ◌+◌, ◌-◌, ◌<◌, [], Option, None, Some, true, false, nat_lt, ap, refl, sym, subst, arith, lt-ltb}
+use Rattle.std.proofs.Common.{◌≡◌, ℕ, ◌+◌, ◌-◌, ◌<◌, [], Option, None, Some, true, false, nat_lt, ap, refl, sym, subst}
+use Rattle.std.proofs.Common.{arith, lt-ltb}
 use Rattle.std.specs.Prelude.{slice_get}
 use Rattle.std.proofs.lemmas.Bool.{le-ltb}
 use Rattle.std.proofs.lemmas.Option.{slice_get_within}
@@ -24,7 +26,8 @@ use Rattle.request_props.specs.declared.request.Dist.TheVariants.{One, Spread, C
 use Rattle.request_props.specs.declared.request.Request.{Request}
 use Rattle.plan_space.specs.Alternatives.{DistServes, JoinServes, LineServes, dist_asked}
 use Rattle.plan_space.specs.Laws.{CrossingsFit}
-use Rattle.plan_space.specs.Lines.{hash_line, in_order, loop_line, merge_line, merge_with, on_one, operator_line, request}
+use Rattle.plan_space.specs.Lines.{hash_line, in_order, loop_line, merge_line, merge_with, on_one, operator_line}
+use Rattle.plan_space.specs.Lines.{request}
 use Rattle.plan_space.specs.Modes.{mode_at}
 use Rattle.plan_space.specs.declared.modes.Mode.TheVariants as kinds
 use Rattle.plan_space.specs.declared.lines.LeftDist.{LeftDist}
@@ -62,30 +65,35 @@ dist_served q left Spread suits = tt
 dist_served q left Copies suits = absurd suits
 dist_served q left (Hashed list) suits = tt
 
-dist_fits : (q : Query) (left : KeyParts) (dist : Dist) → DistSuits q left dist → DistFits q left (dist_asked (left_by dist) dist)
+dist_fits : (q : Query) (left : KeyParts) (dist : Dist) → DistSuits q left dist
+    → DistFits q left (dist_asked (left_by dist) dist)
 dist_fits q left One suits = tt
 dist_fits q left Spread suits = tt
 dist_fits q left Copies suits = tt
 dist_fits q left (Hashed list) suits = suits
 
 hash_by : (q : Query) (left right : KeyParts) (dist : Dist)
-    → hash_line q left right (mode_at (mode_by dist)) ≡ Some (Beside (left_by dist) (in_order 0) (request (right_by dist) 0))
+    → hash_line q left right (mode_at (mode_by dist)) ≡ Some
+    (Beside (left_by dist) (in_order 0) (request (right_by dist) 0))
 hash_by q left right One = refl
 hash_by q left right Spread = refl
 hash_by q left right Copies = refl
 hash_by q left right (Hashed list) = refl
 
-loop_by : (dist : Dist) → loop_line (mode_at (mode_by dist)) ≡ Some (Beside (left_by dist) left_orders.Same (request (right_by dist) 0))
+loop_by : (dist : Dist) → loop_line (mode_at (mode_by dist)) ≡ Some
+    (Beside (left_by dist) left_orders.Same (request (right_by dist) 0))
 loop_by One = refl
 loop_by Spread = refl
 loop_by Copies = refl
 loop_by (Hashed list) = refl
 
 -- a predicate that crosses has a small number
-pub crossing_near : (q : Query) (left right : KeyParts) (pred a b : ℕ) → crossing_of q left right pred ≡ Some (a, b) → pred < 64
+pub crossing_near : (q : Query) (left right : KeyParts) (pred a b : ℕ) → crossing_of q left right pred ≡ Some (a, b)
+    → pred < 64
 crossing_near q left right pred a b crosses =
     elim (slice_get q.preds pred) as (λ (found : Option Pred). slice_get q.preds pred ≡ found → pred < 64) [
-      | None ↦ λ none. let nowhere : crossing_of q left right pred ≡ None = ap (crossing_at q left right) none in let wrong : ⊥ = cc in absurd wrong
+      | None ↦ λ none. let nowhere : crossing_of q left right pred ≡ None = ap (crossing_at q left right) none in
+          let wrong : ⊥ = cc in absurd wrong
       | Some found ↦ λ there. omega (arith, slice_get_within q.preds pred found there, q.preds_valid.few)
     ] refl
 
@@ -107,8 +115,10 @@ mode_by_pred Spread pred = 64 + pred
 mode_by_pred Copies pred = 64 + pred
 mode_by_pred (Hashed list) pred = 64 + pred
 
-merge_by : (q : Query) (left right : KeyParts) (dist : Dist) (pred a b : ℕ) → pred < 64 → crossing_of q left right pred ≡ Some (a, b)
-    → merge_line q left right (mode_at (mode_by_pred dist pred)) ≡ Some (merge_with q (left_by dist) (right_by dist) (a, b))
+merge_by : (q : Query) (left right : KeyParts) (dist : Dist) (pred a b : ℕ) → pred < 64
+    → crossing_of q left right pred ≡ Some (a, b)
+    → merge_line q left right (mode_at (mode_by_pred dist pred)) ≡ Some
+    (merge_with q (left_by dist) (right_by dist) (a, b))
 merge_by q left right One pred a b near crosses = rw (lt-ltb pred 64 near, crosses) refl
 merge_by q left right Spread pred a b near crosses = copied_by q left right pred a b near crosses
 merge_by q left right Copies pred a b near crosses = copied_by q left right pred a b near crosses
@@ -116,8 +126,10 @@ merge_by q left right (Hashed list) pred a b near crosses = copied_by q left rig
 
 module _ (q : Query) (e : PhysicalExpr) (left right : KeyParts) (wanted : Request) where
   -- an operator over the children serves a request in a mode whose line does
-  serves_by : (operator : Physical) (mode : ℕ) (dist : LeftDist) (order : LeftOrder) (asked : Request) → e.operator ≡ operator
-      → physical_children operator ≡ arities.Two left right → operator_line q e.group operator (mode_at mode) ≡ Some (Beside dist order asked)
+  serves_by : (operator : Physical) (mode : ℕ) (dist : LeftDist) (order : LeftOrder) (asked : Request)
+      → e.operator ≡ operator
+      → physical_children operator ≡ arities.Two left right
+      → operator_line q e.group operator (mode_at mode) ≡ Some (Beside dist order asked)
       → JoinServes q left dist order wanted → MayServe q e wanted
   serves_by operator mode dist order asked is over found serves =
       let line = Beside dist order asked in
@@ -134,17 +146,21 @@ module _ (q : Query) (e : PhysicalExpr) (left right : KeyParts) (wanted : Reques
 
   module _ (suits : DistSuits q left wanted.dist) where
     -- a hash join serves a request without an order, where it can give the distribution
-    pub hash_join_serves : e.operator ≡ physical.HashJoin left right → BeginsWith [] (order_of q wanted.order) → MayServe q e wanted
+    pub hash_join_serves : e.operator ≡ physical.HashJoin left right → BeginsWith [] (order_of q wanted.order)
+        → MayServe q e wanted
     hash_join_serves is none =
-        serves_by (physical.HashJoin left right) (mode_by wanted.dist) (left_by wanted.dist) (in_order 0) (request (right_by wanted.dist) 0) is refl (hash_by q left right wanted.dist) (record {
+        serves_by (physical.HashJoin left right) (mode_by wanted.dist) (left_by wanted.dist) (in_order 0)
+        (request (right_by wanted.dist) 0) is refl (hash_by q left right wanted.dist) (record {
           serves = record { dist_served = dist_served q left wanted.dist suits; order_served = none };
           fits = record { dist = dist_fits q left wanted.dist suits; numbered = omega arith; order = All-nil _ };
         })
 
     -- a loop join serves one whose order fits the left child
-    pub loop_join_serves : e.operator ≡ physical.LoopJoin left right → OrderFits q left wanted.order → MayServe q e wanted
+    pub loop_join_serves : e.operator ≡ physical.LoopJoin left right → OrderFits q left wanted.order
+        → MayServe q e wanted
     loop_join_serves is fits =
-        serves_by (physical.LoopJoin left right) (mode_by wanted.dist) (left_by wanted.dist) left_orders.Same (request (right_by wanted.dist) 0) is refl (loop_by wanted.dist) (record {
+        serves_by (physical.LoopJoin left right) (mode_by wanted.dist) (left_by wanted.dist) left_orders.Same
+        (request (right_by wanted.dist) 0) is refl (loop_by wanted.dist) (record {
           serves = record { dist_served = dist_served q left wanted.dist suits; order_served = tt };
           fits = record { dist = dist_fits q left wanted.dist suits; numbered = fits.numbered; order = fits.lies_in };
         })
@@ -156,7 +172,8 @@ module _ (q : Query) (e : PhysicalExpr) (left right : KeyParts) (wanted : Reques
         let near = crossing_near q left right pred a b crosses in
         let over : physical_children e.operator ≡ arities.Two left right = ap physical_children is in
         let fits = (known e left right pred a b candidate over crosses).1 in
-        serves_by (physical.MergeJoin left right) (mode_by_pred wanted.dist pred) (left_by wanted.dist) (in_order (column_order q a)) (request (right_by wanted.dist) (column_order q b)) is refl
+        serves_by (physical.MergeJoin left right) (mode_by_pred wanted.dist pred) (left_by wanted.dist)
+        (in_order (column_order q a)) (request (right_by wanted.dist) (column_order q b)) is refl
         (merge_by q left right wanted.dist pred a b near crosses) (record {
           serves = record { dist_served = dist_served q left wanted.dist suits; order_served = merges };
           fits = record { dist = dist_fits q left wanted.dist suits; numbered = fits.numbered; order = fits.lies_in };

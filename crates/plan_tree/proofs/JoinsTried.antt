@@ -1,4 +1,5 @@
--- By which equalities across its groups a join serves a request: a merge join by those whose left column gives the order,
+-- By which equalities across its groups a join serves a request: a merge join by those whose left column gives the
+-- order,
 -- and one of rows that are hashed alike by those whose left column gives the hash.
 use Rattle.std.proofs.Common.{◌≡◌, ◌↔◌, ℕ, Option, Some, None, refl, sym, subst}
 use Rattle.std.specs.Option.{option_map}
@@ -21,7 +22,8 @@ use Rattle.request_props.specs.declared.request.Dist.{Dist}
 use Rattle.request_props.specs.declared.request.Dist.TheVariants.{One, Copies, Hashed}
 use Rattle.request_props.specs.declared.request.Request.{Request}
 use Rattle.plan_space.specs.Alternatives.{LineServes}
-use Rattle.plan_space.specs.Lines.{on_one, on_hashed, hash_colocated, hash_line, merge_with, merge_colocated, merge_line, operator_line}
+use Rattle.plan_space.specs.Lines.{on_one, on_hashed, hash_colocated, hash_line, merge_with, merge_colocated}
+use Rattle.plan_space.specs.Lines.{merge_line, operator_line}
 use Rattle.plan_space.specs.Modes.{mode_at, HasModeIn}
 use Rattle.plan_space.specs.declared.lines.LeftDist.{LeftDist}
 use Rattle.plan_space.specs.declared.lines.LeftDist.TheVariants as left_dists
@@ -55,12 +57,14 @@ HashesTo q wanted column = Meets (given.Hashed (column_list q column)) wanted
 abbrev pub AreHashingTo : Query → KeyParts → KeyParts → Dist → NumberSet → Type 0
 AreHashingTo q left right wanted preds = AreCrossingBy q left right (HashesTo q wanted) preds
 
-pub hash_serves : (q : Query) (sides : ℕ × ℕ) (children : Children) (wanted : Request) → LineServes q (hash_colocated q sides) children wanted → HashesTo q wanted.dist sides.0
+pub hash_serves : (q : Query) (sides : ℕ × ℕ) (children : Children) (wanted : Request)
+    → LineServes q (hash_colocated q sides) children wanted → HashesTo q wanted.dist sides.0
 hash_serves q sides arities.Zero wanted serves = absurd serves
 hash_serves q sides (arities.One child) wanted serves = absurd serves
 hash_serves q sides (arities.Two left right) wanted serves = serves.serves.dist_served
 
-pub merge_hashes : (q : Query) (sides : ℕ × ℕ) (children : Children) (wanted : Request) → LineServes q (merge_colocated q sides) children wanted → HashesTo q wanted.dist sides.0
+pub merge_hashes : (q : Query) (sides : ℕ × ℕ) (children : Children) (wanted : Request)
+    → LineServes q (merge_colocated q sides) children wanted → HashesTo q wanted.dist sides.0
 merge_hashes q sides arities.Zero wanted serves = absurd serves
 merge_hashes q sides (arities.One child) wanted serves = absurd serves
 merge_hashes q sides (arities.Two left right) wanted serves = serves.serves.dist_served
@@ -68,8 +72,10 @@ merge_hashes q sides (arities.Two left right) wanted serves = serves.serves.dist
 module _ (q : Query) (line : Line) (children : Children) (wanted : Request) (left right : KeyParts) where
   -- a line made of a crossing that serves is by a predicate of which holds what serving says
   pub found_serves : (Serves : ℕ → Type 0) (preds : NumberSet) → AreCrossingBy q left right Serves preds
-      → (line_with : (ℕ × ℕ) → Line) → ((sides : ℕ × ℕ) → LineServes q (line_with sides) children wanted → Serves sides.0)
-      → (pred : ℕ) (found : Option (ℕ × ℕ)) → crossing_of q left right pred ≡ found → option_map line_with found ≡ Some line → LineServes q line children wanted
+      → (line_with : (ℕ × ℕ) → Line) → ((sides : ℕ × ℕ) → LineServes q (line_with sides) children wanted
+      → Serves sides.0)
+      → (pred : ℕ) (found : Option (ℕ × ℕ)) → crossing_of q left right pred ≡ found
+      → option_map line_with found ≡ Some line → LineServes q line children wanted
       → IsInSet preds pred
   found_serves Serves preds all line_with each pred None at is serves = let wrong : ⊥ = cc in absurd wrong
   found_serves Serves preds all line_with each pred (Some (a, b)) at is serves =
@@ -78,70 +84,92 @@ module _ (q : Query) (line : Line) (children : Children) (wanted : Request) (lef
 
   module _ (hashing : NumberSet) (hashes : AreHashingTo q left right wanted.dist hashing) where
     hash_mode : (modes : ModeSets) → HasBelow modes.one 1 → HasBelow modes.copied 1 → modes.hashed ≡ hashing
-        → (mode : Mode) → hash_line q left right mode ≡ Some line → LineServes q line children wanted → HasModeIn modes mode
+        → (mode : Mode) → hash_line q left right mode ≡ Some line → LineServes q line children wanted
+        → HasModeIn modes mode
     hash_mode modes one copied hashed (kinds.One number) is serves = one number (only_first _ line number is)
     hash_mode modes one copied hashed (kinds.Copied number) is serves = copied number (only_first _ line number is)
     hash_mode modes one copied hashed (kinds.Hashed number) is serves =
         subst (λ preds. IsInSet preds number) (sym hashed)
-        (found_serves (HashesTo q wanted.dist) hashing hashes (hash_colocated q) (λ sides. hash_serves q sides children wanted) number (crossing_of q left right number) refl is serves)
+        (found_serves (HashesTo q wanted.dist) hashing hashes (hash_colocated q)
+        (λ sides. hash_serves q sides children wanted) number (crossing_of q left right number) refl is serves)
 
     module _ (merging both : NumberSet) (merges : AreMergingIn q left right wanted.order merging)
         (in_both : (pred : ℕ) → IsInSet both pred ↔ (IsInSet merging pred × IsInSet hashing pred)) where
       merge_mode : (modes : ModeSets) → modes.one ≡ merging → modes.copied ≡ merging → modes.hashed ≡ both
-          → (mode : Mode) → merge_line q left right mode ≡ Some line → LineServes q line children wanted → HasModeIn modes mode
+          → (mode : Mode) → merge_line q left right mode ≡ Some line → LineServes q line children wanted
+          → HasModeIn modes mode
       merge_mode modes one copied hashed (kinds.One number) is serves =
           subst (λ preds. IsInSet preds number) (sym one)
-          (found_serves (MergesIn q wanted.order) merging merges (merge_with q on_one One) (λ sides. with_merges q on_one One sides children wanted)
+          (found_serves (MergesIn q wanted.order) merging merges (merge_with q on_one One)
+          (λ sides. with_merges q on_one One sides children wanted)
           number (crossing_of q left right number) refl is serves)
       merge_mode modes one copied hashed (kinds.Copied number) is serves =
           subst (λ preds. IsInSet preds number) (sym copied)
-          (found_serves (MergesIn q wanted.order) merging merges (merge_with q left_dists.SameSpread Copies) (λ sides. with_merges q left_dists.SameSpread Copies sides children wanted)
+          (found_serves (MergesIn q wanted.order) merging merges (merge_with q left_dists.SameSpread Copies)
+          (λ sides. with_merges q left_dists.SameSpread Copies sides children wanted)
           number (crossing_of q left right number) refl is serves)
       merge_mode modes one copied hashed (kinds.Hashed number) is serves =
           let found = crossing_of q left right number in
           let in_order = found_serves (MergesIn q wanted.order) merging merges (merge_colocated q)
-          (λ sides. with_merges q (on_hashed (column_list q sides.0)) (Hashed (column_list q sides.1)) sides children wanted) number found refl is serves in
-          let in_place = found_serves (HashesTo q wanted.dist) hashing hashes (merge_colocated q) (λ sides. merge_hashes q sides children wanted) number found refl is serves in
+          (λ sides. with_merges q (on_hashed (column_list q sides.0)) (Hashed (column_list q sides.1)) sides children
+          wanted) number found refl is serves in
+          let in_place = found_serves (HashesTo q wanted.dist) hashing hashes (merge_colocated q)
+          (λ sides. merge_hashes q sides children wanted) number found refl is serves in
           subst (λ preds. IsInSet preds number) (sym hashed) ((in_both number).1 (in_order, in_place))
 
-module _ (q : Query) (e : PhysicalExpr) (left right : KeyParts) (wanted : Request) (modes : ModeSets) (hashing : NumberSet) (hashes : AreHashingTo q left right wanted.dist hashing) where
+module _ (q : Query) (e : PhysicalExpr) (left right : KeyParts) (wanted : Request) (modes : ModeSets)
+    (hashing : NumberSet) (hashes : AreHashingTo q left right wanted.dist hashing) where
   -- a hash join serves a request in its first modes, and hashed by such a predicate
-  pub hash_join_tried : e.operator ≡ physical.HashJoin left right → HasBelow modes.one 1 → HasBelow modes.copied 1 → modes.hashed ≡ hashing → AreServing q e wanted modes
+  pub hash_join_tried : e.operator ≡ physical.HashJoin left right → HasBelow modes.one 1 → HasBelow modes.copied 1
+      → modes.hashed ≡ hashing → AreServing q e wanted modes
   hash_join_tried joins one copied hashed mode (line, is) =
       let found = subst (λ (o : Physical). operator_line q e.group o (mode_at mode) ≡ Some line) joins is.is_line in
-      hash_mode q line (physical_children e.operator) wanted left right hashing hashes modes one copied hashed (mode_at mode) found is.serves
+      hash_mode q line (physical_children e.operator) wanted left right hashing hashes modes one copied hashed
+      (mode_at mode) found is.serves
 
   -- a merge join only by one whose left column gives the order, and hashed only by one that is both
-  pub merge_join_tried : (merging both : NumberSet) → AreMergingIn q left right wanted.order merging → ((pred : ℕ) → IsInSet both pred ↔ (IsInSet merging pred × IsInSet hashing pred))
-      → e.operator ≡ physical.MergeJoin left right → modes.one ≡ merging → modes.copied ≡ merging → modes.hashed ≡ both → AreServing q e wanted modes
+  pub merge_join_tried : (merging both : NumberSet) → AreMergingIn q left right wanted.order merging
+      → ((pred : ℕ) → IsInSet both pred ↔ (IsInSet merging pred × IsInSet hashing pred))
+      → e.operator ≡ physical.MergeJoin left right → modes.one ≡ merging → modes.copied ≡ merging → modes.hashed ≡ both
+      → AreServing q e wanted modes
   merge_join_tried merging both merges in_both joins one copied hashed mode (line, is) =
       let found = subst (λ (o : Physical). operator_line q e.group o (mode_at mode) ≡ Some line) joins is.is_line in
-      merge_mode q line (physical_children e.operator) wanted left right hashing hashes merging both merges in_both modes one copied hashed (mode_at mode) found is.serves
+      merge_mode q line (physical_children e.operator) wanted left right hashing hashes merging both merges in_both
+      modes one copied hashed (mode_at mode) found is.serves
 
-module _ (q : Query) (e : PhysicalExpr) (left right : KeyParts) (wanted : Request) (merging : NumberSet) (merges : AreMergingIn q left right wanted.order merging) where
+module _ (q : Query) (e : PhysicalExpr) (left right : KeyParts) (wanted : Request) (merging : NumberSet)
+    (merges : AreMergingIn q left right wanted.order merging) where
   -- a merge join that serves a request in a mode merges by such a predicate
-  merges_by : (line : Line) (children : Children) (mode : Mode) → merge_line q left right mode ≡ Some line → LineServes q line children wanted → (pred : ℕ) × IsInSet merging pred
+  merges_by : (line : Line) (children : Children) (mode : Mode) → merge_line q left right mode ≡ Some line
+      → LineServes q line children wanted → (pred : ℕ) × IsInSet merging pred
   merges_by line children (kinds.One number) is serves = (
     number,
-    found_serves q line children wanted left right (MergesIn q wanted.order) merging merges (merge_with q on_one One) (λ sides. with_merges q on_one One sides children wanted)
+    found_serves q line children wanted left right (MergesIn q wanted.order) merging merges (merge_with q on_one One)
+        (λ sides. with_merges q on_one One sides children wanted)
         number (crossing_of q left right number) refl is serves,
   )
   merges_by line children (kinds.Copied number) is serves = (
     number,
-    found_serves q line children wanted left right (MergesIn q wanted.order) merging merges (merge_with q left_dists.SameSpread Copies)
-        (λ sides. with_merges q left_dists.SameSpread Copies sides children wanted) number (crossing_of q left right number) refl is serves,
+    found_serves q line children wanted left right (MergesIn q wanted.order) merging merges
+        (merge_with q left_dists.SameSpread Copies)
+        (λ sides. with_merges q left_dists.SameSpread Copies sides children wanted) number
+        (crossing_of q left right number) refl is serves,
   )
   merges_by line children (kinds.Hashed number) is serves = (
     number,
     found_serves q line children wanted left right (MergesIn q wanted.order) merging merges (merge_colocated q)
-        (λ sides. with_merges q (on_hashed (column_list q sides.0)) (Hashed (column_list q sides.1)) sides children wanted) number (crossing_of q left right number) refl is serves,
+        (λ sides. with_merges q (on_hashed (column_list q sides.0)) (Hashed (column_list q sides.1)) sides children
+        wanted) number (crossing_of q left right number) refl is serves,
   )
 
-  pub merge_join_merges : e.operator ≡ physical.MergeJoin left right → MayServe q e wanted → (pred : ℕ) × IsInSet merging pred
+  pub merge_join_merges : e.operator ≡ physical.MergeJoin left right → MayServe q e wanted → (pred : ℕ)
+      × IsInSet merging pred
   merge_join_merges joins (mode, (line, is)) =
       let found = subst (λ (o : Physical). operator_line q e.group o (mode_at mode) ≡ Some line) joins is.is_line in
       merges_by line (physical_children e.operator) (mode_at mode) found is.serves
 
 -- of any operator, a mode that is there for a request is tried
-pub alternatives_tried : (q : Query) (e : PhysicalExpr) (wanted : Request) (modes : ModeSets) → AreTriedOf q e.operator modes → AreServing q e wanted modes
-alternatives_tried q e wanted modes are mode (line, is) = operator_tried q modes line e.group e.operator (mode_at mode) are is.is_line
+pub alternatives_tried : (q : Query) (e : PhysicalExpr) (wanted : Request) (modes : ModeSets)
+    → AreTriedOf q e.operator modes → AreServing q e wanted modes
+alternatives_tried q e wanted modes are mode (line, is) =
+    operator_tried q modes line e.group e.operator (mode_at mode) are is.is_line

@@ -27,8 +27,10 @@ one_fits q group e found fits number below = record {
 }
 
 -- there are two, and both fit
-pub two_fit : (q : Query) (group : KeyParts) (e f : EnforcedBy) (found other : Enforced) → LiesIn q group e.node → LiesIn q group f.node
-    → IsNode found.node (nodes.Enforcer e.node) → found.below ≡ e.below → IsNode other.node (nodes.Enforcer f.node) → other.below ≡ f.below
+pub two_fit : (q : Query) (group : KeyParts) (e f : EnforcedBy) (found other : Enforced) → LiesIn q group e.node
+    → LiesIn q group f.node
+    → IsNode found.node (nodes.Enforcer e.node) → found.below ≡ e.below → IsNode other.node (nodes.Enforcer f.node)
+    → other.below ≡ f.below
     → AreBoth q group (e ∷ f ∷ []) (Some found) (Some other)
 two_fit q group e f found other fits other_fits number below other_number other_below = record {
   kept = e ∷ f ∷ [];
@@ -39,7 +41,8 @@ two_fit q group e f found other fits other_fits number below other_number other_
 }
 
 -- only the sort is there
-pub sort_fits : (q : Query) (group : KeyParts) (dist : Dist) (order : ℕ) (found : Enforced) → (order ≡ 0 → ⊥) → OrderFits q group order
+pub sort_fits : (q : Query) (group : KeyParts) (dist : Dist) (order : ℕ) (found : Enforced) → (order ≡ 0 → ⊥)
+    → OrderFits q group order
     → mergers_of dist order ≡ [] → IsNode found.node (nodes.Enforcer (Sort order)) → found.below ≡ request dist 0
     → AreBoth q group (enforcers_by dist order) (Some found) None
 sort_fits q group dist zero found some fits none number below = absurd (some refl)
@@ -47,13 +50,15 @@ sort_fits q group dist (suc o) found some fits none number below =
     rw none (one_fits q group (enforced (Sort (suc o)) (request dist 0)) found fits number below)
 
 -- the sort is there, and the merge
-pub sort_and_merge_fit : (q : Query) (group : KeyParts) (order : ℕ) (found other : Enforced) → (order ≡ 0 → ⊥) → OrderFits q group order
+pub sort_and_merge_fit : (q : Query) (group : KeyParts) (order : ℕ) (found other : Enforced) → (order ≡ 0 → ⊥)
+    → OrderFits q group order
     → IsNode found.node (nodes.Enforcer (Sort order)) → found.below ≡ request One 0
     → IsNode other.node (nodes.Enforcer (GatherMerge order)) → other.below ≡ request Spread order
     → AreBoth q group (enforcers_by One order) (Some found) (Some other)
 sort_and_merge_fit q group zero found other some fits number below other_number other_below = absurd (some refl)
 sort_and_merge_fit q group (suc o) found other some fits number below other_number other_below =
-    two_fit q group (enforced (Sort (suc o)) (request One 0)) (enforced (GatherMerge (suc o)) (request Spread (suc o))) found other
+    two_fit q group (enforced (Sort (suc o)) (request One 0)) (enforced (GatherMerge (suc o)) (request Spread (suc o)))
+    found other
     fits fits number below other_number other_below
 
 -- ---- where the request fits the group, all of its enforcers do
@@ -62,9 +67,11 @@ abbrev AllLie : Query → KeyParts → List EnforcedBy → Type 0
 AllLie q group [] = ⊤
 AllLie q group (e ∷ others) = LiesIn q group e.node × AllLie q group others
 
-kept_all : (q : Query) (group : KeyParts) (all kept : List EnforcedBy) → AllLie q group all → AreKept q group all kept → kept ≡ all
+kept_all : (q : Query) (group : KeyParts) (all kept : List EnforcedBy) → AllLie q group all → AreKept q group all kept
+    → kept ≡ all
 kept_all q group [] kept lie is = is
-kept_all q group (e ∷ others) kept lie (inl (fits, (rest, are, is))) = let same = kept_all q group others rest lie.1 are in cc
+kept_all q group (e ∷ others) kept lie (inl (fits, (rest, are, is))) = let same =
+    kept_all q group others rest lie.1 are in cc
 kept_all q group (e ∷ others) kept lie (inr (never, are)) = absurd (never lie.0)
 
 movers_lie : (q : Query) (group : KeyParts) (dist : Dist) → DistFits q group dist → AllLie q group (movers_of dist)
@@ -73,7 +80,8 @@ movers_lie q group Spread fits = tt
 movers_lie q group Copies fits = (tt, tt)
 movers_lie q group (Hashed list) fits = (fits, tt)
 
-mergers_lie : (q : Query) (group : KeyParts) (dist : Dist) (order : ℕ) → OrderFits q group order → AllLie q group (mergers_of dist order)
+mergers_lie : (q : Query) (group : KeyParts) (dist : Dist) (order : ℕ) → OrderFits q group order
+    → AllLie q group (mergers_of dist order)
 mergers_lie q group One order fits = (fits, tt)
 mergers_lie q group Spread order fits = tt
 mergers_lie q group Copies order fits = tt

@@ -143,24 +143,28 @@ left_fits q e left right wanted over numbered (mode, (line, is)) =
 
 -- an expression whose operator has both kinds of modes serves in those for the distribution
 pub alternative_mode : (q : Query) (e : PhysicalExpr) (wanted : Request) (dist : Dist) (mode : ℕ)
-    → has_spread_modes e.operator ≡ true → wanted.dist ≡ dist → HasAlternative q e wanted mode → IsModeFor dist (mode_at mode)
+    → has_spread_modes e.operator ≡ true → wanted.dist ≡ dist → HasAlternative q e wanted mode
+    → IsModeFor dist (mode_at mode)
 alternative_mode q e wanted dist mode both asked (line, is) =
     subst (λ (d : Dist). IsModeFor d (mode_at mode)) asked
     (mode_for q line (physical_children e.operator) (mode_at mode) wanted
     (line_in q line e.group e.operator (mode_at mode) both is.is_line) is.serves)
 
-suits_by : (q : Query) (left : KeyParts) (dist : Dist) → (dist ≡ Copies → ⊥) → DistFits q left dist → DistSuits q left dist
+suits_by : (q : Query) (left : KeyParts) (dist : Dist) → (dist ≡ Copies → ⊥) → DistFits q left dist
+    → DistSuits q left dist
 suits_by q left One never fits = tt
 suits_by q left Spread never fits = tt
 suits_by q left Copies never fits = never refl
 suits_by q left (Hashed list) never fits = fits
 
-module _ (q : Query) (e : PhysicalExpr) (left right : KeyParts) (wanted : Request) (over : physical_children e.operator ≡ arities.Two left right)
+module _ (q : Query) (e : PhysicalExpr) (left right : KeyParts) (wanted : Request)
+    (over : physical_children e.operator ≡ arities.Two left right)
     (numbered : IsNumbered q wanted.order) (serves : MayServe q e wanted) where
   -- a join serves only requests for distributions that it can give
   pub dist_suits : DistSuits q left wanted.dist
   dist_suits =
-      suits_by q left wanted.dist (λ copies. alternative_mode q e wanted Copies serves.0 (join_has_spread e.operator left right over) copies serves.1)
+      suits_by q left wanted.dist (λ copies. alternative_mode q e wanted Copies serves.0
+      (join_has_spread e.operator left right over) copies serves.1)
       (left_fits q e left right wanted over numbered serves).dist
 
   -- and for orders that fit its left child

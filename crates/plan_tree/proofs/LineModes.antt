@@ -12,7 +12,8 @@ use Rattle.request_props.specs.Numbered.{lists_of, group_order}
 use Rattle.request_props.specs.declared.given.GivenDist.TheVariants as given
 use Rattle.request_props.specs.declared.given.GivenOrder.TheVariants.{Listed}
 use Rattle.request_props.specs.declared.request.Dist.TheVariants.{One, Copies, Hashed}
-use Rattle.plan_space.specs.Lines.{on_one, only_line, hash_colocated, hash_line, merge_with, merge_colocated, merge_line, loop_line, agg_line, operator_line}
+use Rattle.plan_space.specs.Lines.{on_one, only_line, hash_colocated, hash_line, merge_with, merge_colocated}
+use Rattle.plan_space.specs.Lines.{merge_line, loop_line, agg_line, operator_line}
 use Rattle.plan_space.specs.declared.lines.LeftDist.{LeftDist}
 use Rattle.plan_space.specs.declared.lines.LeftDist.TheVariants as left_dists
 use Rattle.plan_space.specs.declared.lines.LeftOrder.{LeftOrder}
@@ -59,10 +60,12 @@ module _ (q : Query) (line : Line) where
   -- a line where the number is 0
   only_kept : (own : Line) (number : ℕ) (mode : Mode) → IsLineIn own mode → IsKept (only_line own number) mode
   only_kept own number mode kept =
-      cond_both (number == 0) (Some own) None (λ found. IsKept found mode) (λ first. own_line own mode kept) (λ other. no_line mode)
+      cond_both (number == 0) (Some own) None (λ found. IsKept found mode) (λ first. own_line own mode kept)
+      (λ other. no_line mode)
 
   -- the line of a crossing equality, if it crosses
-  crossing_line : (line_with : (ℕ × ℕ) → Line) (mode : Mode) (sides : Option (ℕ × ℕ)) → ((found : ℕ × ℕ) → IsLineIn (line_with found) mode)
+  crossing_line : (line_with : (ℕ × ℕ) → Line) (mode : Mode) (sides : Option (ℕ × ℕ))
+      → ((found : ℕ × ℕ) → IsLineIn (line_with found) mode)
       → IsKept (option_map line_with sides) mode
   crossing_line line_with mode None kept is = let never : None ≡ Some line = is in cc
   crossing_line line_with mode (Some found) kept is = own_line (line_with found) mode (kept found) is
@@ -78,15 +81,19 @@ module _ (q : Query) (line : Line) where
   hash_kept left right (modes.One number) = only_kept _ number (modes.One number) ((refl, tt), refl)
   hash_kept left right (modes.Copied number) = only_kept _ number (modes.Copied number) (tt, refl)
   hash_kept left right (modes.Hashed number) =
-      crossing_line (hash_colocated q) (modes.Hashed number) (crossing_of q left right number) (λ found. ((refl, tt), refl))
+      crossing_line (hash_colocated q) (modes.Hashed number) (crossing_of q left right number)
+      (λ found. ((refl, tt), refl))
 
   merge_kept : (left right : KeyParts) (mode : Mode) → IsKept (merge_line q left right mode) mode
   merge_kept left right (modes.One number) =
-      crossing_line (merge_with q on_one One) (modes.One number) (crossing_of q left right number) (λ found. ((refl, tt), refl))
+      crossing_line (merge_with q on_one One) (modes.One number) (crossing_of q left right number)
+      (λ found. ((refl, tt), refl))
   merge_kept left right (modes.Copied number) =
-      crossing_line (merge_with q left_dists.SameSpread Copies) (modes.Copied number) (crossing_of q left right number) (λ found. (tt, refl))
+      crossing_line (merge_with q left_dists.SameSpread Copies) (modes.Copied number) (crossing_of q left right number)
+      (λ found. (tt, refl))
   merge_kept left right (modes.Hashed number) =
-      crossing_line (merge_colocated q) (modes.Hashed number) (crossing_of q left right number) (λ found. ((refl, tt), refl))
+      crossing_line (merge_colocated q) (modes.Hashed number) (crossing_of q left right number)
+      (λ found. ((refl, tt), refl))
 
   loop_kept : (mode : Mode) → IsKept (loop_line mode) mode
   loop_kept (modes.One number) = only_kept _ number (modes.One number) ((refl, tt), tt)

@@ -21,7 +21,8 @@ pub record AreSides (q : Query) (found : Option (ℕ × ℕ)) (left right : Side
   pub is_right : right ≡ side_of q second
 
 -- what is looked up are the sides of the columns that cross
-pub sides_found : (q : Query) (found : Option (ℕ × ℕ)) (sides : Side × Side) → Some sides ≡ option_map (both_sides q) found → AreSides q found sides.0 sides.1
+pub sides_found : (q : Query) (found : Option (ℕ × ℕ)) (sides : Side × Side)
+    → Some sides ≡ option_map (both_sides q) found → AreSides q found sides.0 sides.1
 sides_found q None sides is = let never : Some sides ≡ None = is in cc
 sides_found q (Some columns) sides is =
     let same : sides ≡ both_sides q columns = cc in
@@ -33,17 +34,20 @@ sides_found q (Some columns) sides is =
       is_right = ap (λ (both : Side × Side). both.1) same;
     }
 
-module _ (q : Query) (left right : KeyParts) (number first second : ℕ) (line : Line) (crossing : crossing_of q left right number ≡ Some (first, second)) where
+module _ (q : Query) (left right : KeyParts) (number first second : ℕ) (line : Line)
+    (crossing : crossing_of q left right number ≡ Some (first, second)) where
   -- a hash join hashed alike
   pub hash_found : line ≡ hash_colocated q (first, second) → Some line ≡ hash_line q left right (Hashed number)
   hash_found is = rw crossing (ap Some is)
 
   -- a merge join on one segment
-  pub merge_one : line ≡ merge_with q on_one dists.One (first, second) → Some line ≡ merge_line q left right (One number)
+  pub merge_one : line ≡ merge_with q on_one dists.One (first, second)
+      → Some line ≡ merge_line q left right (One number)
   merge_one is = rw crossing (ap Some is)
 
   -- a merge join with copies
-  pub merge_copied : line ≡ merge_with q left_dists.SameSpread dists.Copies (first, second) → Some line ≡ merge_line q left right (Copied number)
+  pub merge_copied : line ≡ merge_with q left_dists.SameSpread dists.Copies (first, second)
+      → Some line ≡ merge_line q left right (Copied number)
   merge_copied is = rw crossing (ap Some is)
 
   -- a merge join hashed alike

@@ -1,5 +1,7 @@
 -- The modes in which an expression may serve a request, ascending.
-use Rattle.std.proofs.Common.{◌≡◌, ◌≤◌, ◌<◌, ◌+◌, ◌-◌, ℕ, zero, suc, Bool, true, false, List, [], ◌∷◌, Some, None, inl, inr, length, slice_get, slice_index, refl, ap, sym, ◌∙◌, subst, add-one, arith, if◌then◌else◌}
+use Rattle.std.proofs.Common.{◌≡◌, ◌≤◌, ◌<◌, ◌+◌, ◌-◌, ℕ, zero, suc, Bool, true, false, List, [], ◌∷◌, Some, None, inl}
+use Rattle.std.proofs.Common.{inr, length, slice_get, slice_index, refl, ap, sym, ◌∙◌, subst, add-one, arith}
+use Rattle.std.proofs.Common.{if◌then◌else◌}
 use Rattle.std.specs.List.{Contains}
 use Rattle.std.specs.List.Sorted.{IsStrictlyIncreasing}
 use Rattle.std.proofs.lemmas.Bool.{cases_Bool, cases_lt}
@@ -24,39 +26,48 @@ pub passing-end : (p : ℕ → Bool) (from : ℕ) → passing p from zero ≡ []
 unfolding passing
 passing-end p from = refl
 
-pub passing-yes : (p : ℕ → Bool) (from left : ℕ) → p from ≡ true → passing p from (suc left) ≡ from ∷ passing p (from + 1) left
+pub passing-yes : (p : ℕ → Bool) (from left : ℕ) → p from ≡ true
+    → passing p from (suc left) ≡ from ∷ passing p (from + 1) left
 unfolding passing
 passing-yes p from left holds = rw holds
 
-pub passing-pass : (p : ℕ → Bool) (from left : ℕ) → p from ≡ false → passing p from (suc left) ≡ passing p (from + 1) left
+pub passing-pass : (p : ℕ → Bool) (from left : ℕ) → p from ≡ false
+    → passing p from (suc left) ≡ passing p (from + 1) left
 unfolding passing
 passing-pass p from left not_it = rw not_it
 
-in_passing : (p : ℕ → Bool) (from left m : ℕ) → Contains (passing p from left) m → (from ≤ m) × (m < from + left) × (p m ≡ true)
-in_passing p from zero m there = let within : there.0 < length (passing p from zero) = there.1 in absurd (let none = passing-end p from in let no_length = ap length none in omega arith)
+in_passing : (p : ℕ → Bool) (from left m : ℕ) → Contains (passing p from left) m → (from ≤ m) × (m < from + left)
+    × (p m ≡ true)
+in_passing p from zero m there = let within : there.0 < length (passing p from zero) = there.1 in
+    absurd (let none = passing-end p from in let no_length = ap length none in omega arith)
 in_passing p from (suc left) m there = elim (cases_Bool (p from)) [
-  | inl holds ↦ elim (contains_cases from (passing p (from + 1) left) m (subst (λ (xs : List ℕ). Contains xs m) (passing-yes p from left holds) there)) [
-    | inl is ↦ (omega arith, omega arith, subst (λ (k : ℕ). p k ≡ true) is holds)
-    | inr later ↦ let below = in_passing p (from + 1) left m later in (omega arith, omega arith, below.2)
-  ]
+  | inl holds ↦ elim (contains_cases from (passing p (from + 1) left) m
+      (subst (λ (xs : List ℕ). Contains xs m) (passing-yes p from left holds) there)) [
+        | inl is ↦ (omega arith, omega arith, subst (λ (k : ℕ). p k ≡ true) is holds)
+        | inr later ↦ let below = in_passing p (from + 1) left m later in (omega arith, omega arith, below.2)
+      ]
   | inr not_it ↦
-      let below = in_passing p (from + 1) left m (subst (λ (xs : List ℕ). Contains xs m) (passing-pass p from left not_it) there) in
+      let below = in_passing p (from + 1) left m
+      (subst (λ (xs : List ℕ). Contains xs m) (passing-pass p from left not_it) there) in
       (omega arith, omega arith, below.2)
 ]
 
-passing_has : (p : ℕ → Bool) (from left m : ℕ) → from ≤ m → m < from + left → p m ≡ true → Contains (passing p from left) m
+passing_has : (p : ℕ → Bool) (from left m : ℕ) → from ≤ m → m < from + left → p m ≡ true
+    → Contains (passing p from left) m
 passing_has p from zero m at within holds = absurd (omega arith)
 passing_has p from (suc left) m at within holds = elim (cases_lt from m) [
   | inl later ↦
       let below = passing_has p (from + 1) left m (omega arith) (omega arith) holds in
       elim (cases_Bool (p from)) [
-        | inl first ↦ subst (λ (xs : List ℕ). Contains xs m) (sym (passing-yes p from left first)) (contains_later from (passing p (from + 1) left) m below)
+        | inl first ↦ subst (λ (xs : List ℕ). Contains xs m) (sym (passing-yes p from left first))
+            (contains_later from (passing p (from + 1) left) m below)
         | inr not_it ↦ subst (λ (xs : List ℕ). Contains xs m) (sym (passing-pass p from left not_it)) below
       ]
   | inr first ↦
       let same : from ≡ m = omega arith in
       let here : p from ≡ true = subst (λ (k : ℕ). p k ≡ true) (sym same) holds in
-      subst (λ (xs : List ℕ). Contains xs m) (sym (passing-yes p from left here)) (subst (Contains (from ∷ passing p (from + 1) left)) same (contains_here from (passing p (from + 1) left)))
+      subst (λ (xs : List ℕ). Contains xs m) (sym (passing-yes p from left here))
+      (subst (Contains (from ∷ passing p (from + 1) left)) same (contains_here from (passing p (from + 1) left)))
 ]
 
 rises_at : (x : ℕ) (xs : List ℕ) → ((m : ℕ) → Contains xs m → x < m) → IsStrictlyIncreasing xs
@@ -64,7 +75,8 @@ rises_at : (x : ℕ) (xs : List ℕ) → ((m : ℕ) → Contains xs m → x < m)
 rises_at x xs above rises zero within = above (slice_index xs 0) (Contains-get_or xs 0 0 (omega arith))
 rises_at x xs above rises (suc k) within = let step = rises k (omega arith) in rw add-one (rw add-one at step)
 
-rises_cons : (x : ℕ) (xs : List ℕ) → ((m : ℕ) → Contains xs m → x < m) → IsStrictlyIncreasing xs → IsStrictlyIncreasing (x ∷ xs)
+rises_cons : (x : ℕ) (xs : List ℕ) → ((m : ℕ) → Contains xs m → x < m) → IsStrictlyIncreasing xs
+    → IsStrictlyIncreasing (x ∷ xs)
 rises_cons x xs above rises = λ k within. rises_at x xs above rises k within
 
 passing_rises : (p : ℕ → Bool) (from left : ℕ) → IsStrictlyIncreasing (passing p from left)
@@ -72,7 +84,8 @@ passing_rises p from zero = subst IsStrictlyIncreasing (sym (passing-end p from)
 passing_rises p from (suc left) = elim (cases_Bool (p from)) [
   | inl holds ↦
       subst IsStrictlyIncreasing (sym (passing-yes p from left holds))
-      (rises_cons from (passing p (from + 1) left) (λ m there. let below = in_passing p (from + 1) left m there in omega arith) (passing_rises p (from + 1) left))
+      (rises_cons from (passing p (from + 1) left) (λ m there. let below = in_passing p (from + 1) left m there in
+      omega arith) (passing_rises p (from + 1) left))
   | inr not_it ↦ subst IsStrictlyIncreasing (sym (passing-pass p from left not_it)) (passing_rises p (from + 1) left)
 ]
 
@@ -87,7 +100,8 @@ modes_are q few few_lists e wanted = record {
     λ there. alternative_from_has q e wanted mode (in_passing (has q e wanted) 0 192 mode there).2,
     λ alternative.
         let within = few few_lists e mode alternative.0 alternative.1.is_line in
-        passing_has (has q e wanted) 0 192 mode (omega arith) (omega (arith, within)) (has_alternative q e wanted mode alternative),
+        passing_has (has q e wanted) 0 192 mode (omega arith) (omega (arith, within))
+        (has_alternative q e wanted mode alternative),
   );
 }
 
@@ -105,7 +119,8 @@ skipped_by p (suc gap) from left place none =
     let many : suc gap + left ≡ suc (gap + left) = omega arith in
     rw (← start, many, first) later
 
-pub skipped_to : (p : ℕ → Bool) (from mode left more place : ℕ) → from ≤ mode → from + more ≡ mode + left → ((m : ℕ) → from ≤ m → m < mode → p m ≡ false)
+pub skipped_to : (p : ℕ → Bool) (from mode left more place : ℕ) → from ≤ mode → from + more ≡ mode + left
+    → ((m : ℕ) → from ≤ m → m < mode → p m ≡ false)
     → slice_get (passing p mode left) place ≡ slice_get (passing p from more) place
 skipped_to p from mode left more place at same none =
     let gap : from + (mode - from) ≡ mode = omega arith in
@@ -124,7 +139,8 @@ pub after_first : (p : ℕ → Bool) (mode left more place next : ℕ) → more 
 after_first p mode left more place next is holds later = rw (is, passing-yes p mode left holds, later)
 
 -- where none is left, none is at the place
-pub at_end : (p : ℕ → Bool) (from more place : ℕ) → ((m : ℕ) → from ≤ m → p m ≡ false) → slice_get (passing p from more) place ≡ None
+pub at_end : (p : ℕ → Bool) (from more place : ℕ) → ((m : ℕ) → from ≤ m → p m ≡ false)
+    → slice_get (passing p from more) place ≡ None
 at_end p from more place none =
     let past = skipped_to p from (from + more) zero more place (omega arith) (omega arith) (λ m at within. none m at) in
     let end = passing-end p (from + more) in
@@ -132,6 +148,8 @@ at_end p from more place none =
 
 -- ---- there is one list of them
 
-pub modes_same : (q : Query) (e : PhysicalExpr) (wanted : Request) (modes others : List ℕ) → AreModes q e wanted modes → AreModes q e wanted others → modes ≡ others
+pub modes_same : (q : Query) (e : PhysicalExpr) (wanted : Request) (modes others : List ℕ) → AreModes q e wanted modes
+    → AreModes q e wanted others → modes ≡ others
 modes_same q e wanted modes others are also =
-    increasing_one modes others are.rises also.rises (λ m there. (also.exact m).1 ((are.exact m).0 there)) (λ m there. (are.exact m).1 ((also.exact m).0 there))
+    increasing_one modes others are.rises also.rises (λ m there. (also.exact m).1 ((are.exact m).0 there))
+    (λ m there. (are.exact m).1 ((also.exact m).0 there))

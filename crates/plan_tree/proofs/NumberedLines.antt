@@ -13,10 +13,12 @@ only_own own line number =
     (λ first is. (omega (arith, eqb-true number 0 first), cc)) (λ other never. cc)
 
 pub own_only : (own : Line) (number : ℕ) → number < 1 → only_line own number ≡ Some own
-own_only own number first = let zero : 0 ≡ number = omega (arith, first) in subst (λ (n : ℕ). only_line own n ≡ Some own) zero refl
+own_only own number first = let zero : 0 ≡ number = omega (arith, first) in
+    subst (λ (n : ℕ). only_line own n ≡ Some own) zero refl
 
 -- a line by a crossing is one by its two columns
-pub own_crossing : (line_with : (ℕ × ℕ) → Line) (line : Line) (found : Option (ℕ × ℕ)) → option_map line_with found ≡ Some line → (sides : ℕ × ℕ) × (line_with sides ≡ line)
+pub own_crossing : (line_with : (ℕ × ℕ) → Line) (line : Line) (found : Option (ℕ × ℕ))
+    → option_map line_with found ≡ Some line → (sides : ℕ × ℕ) × (line_with sides ≡ line)
 own_crossing line_with line None is = let wrong : ⊥ = cc in absurd wrong
 own_crossing line_with line (Some sides) is = (sides, cc)
 

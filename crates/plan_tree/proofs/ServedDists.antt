@@ -20,7 +20,8 @@ one_served q Spread number is = absurd is
 one_served q Copies number is = absurd is
 one_served q (Hashed list) number is = absurd is
 
-pub spread_served : (q : Query) (dist : Dist) (number : ℕ) → IsModeFor dist (kinds.Copied number) → DistServes q left_dists.SameSpread dist
+pub spread_served : (q : Query) (dist : Dist) (number : ℕ) → IsModeFor dist (kinds.Copied number)
+    → DistServes q left_dists.SameSpread dist
 spread_served q One number is = absurd is
 spread_served q Spread number is = tt
 spread_served q Copies number is = absurd is
@@ -32,7 +33,8 @@ suits_fit q left Spread suits = tt
 suits_fit q left Copies suits = tt
 suits_fit q left (Hashed list) suits = suits
 
-pub spread_suits : (q : Query) (left : KeyParts) (dist : Dist) → WantsSpread dist → DistFits q left dist → DistSuits q left dist
+pub spread_suits : (q : Query) (left : KeyParts) (dist : Dist) → WantsSpread dist → DistFits q left dist
+    → DistSuits q left dist
 spread_suits q left One wants fits = tt
 spread_suits q left Spread wants fits = tt
 spread_suits q left Copies wants fits = absurd wants

@@ -20,22 +20,26 @@ use Rattle.plan_space.specs.declared.modes.ModeSets.{ModeSets}
 use Rattle.plan_tree.specs.Walks.{AreNone, AreNoneTried, AreTriedOf, IsNextLine, IsNextTried}
 
 -- what a crossing made crosses
-pub some_crosses : (line_by : (ℕ × ℕ) → Line) (found : Option (ℕ × ℕ)) (line : Line) → option_map line_by found ≡ Some line → found ≡ None → ⊥
+pub some_crosses : (line_by : (ℕ × ℕ) → Line) (found : Option (ℕ × ℕ)) (line : Line)
+    → option_map line_by found ≡ Some line → found ≡ None → ⊥
 some_crosses line_by None line is none = let wrong : ⊥ = cc in wrong
 some_crosses line_by (Some sides) line is none = let wrong : ⊥ = cc in wrong
 
 -- a line where the number is 0 is one
 pub only_first : (own line : Line) (number : ℕ) → only_line own number ≡ Some line → number < 1
 only_first own line number =
-    cond_both (number == 0) (Some own) None (λ found. found ≡ Some line → number < 1) (λ first is. omega (arith, eqb-true number 0 first)) (λ other never. cc)
+    cond_both (number == 0) (Some own) None (λ found. found ≡ Some line → number < 1)
+    (λ first is. omega (arith, eqb-true number 0 first)) (λ other never. cc)
 
 module _ (q : Query) (modes : ModeSets) (line : Line) where
-  single_tried : HasBelow modes.one 1 → (own : Line) (mode : Mode) → single_line own mode ≡ Some line → HasModeIn modes mode
+  single_tried : HasBelow modes.one 1 → (own : Line) (mode : Mode) → single_line own mode ≡ Some line
+      → HasModeIn modes mode
   single_tried first own (One number) is = first number (only_first own line number is)
   single_tried first own (Copied number) is = let wrong : ⊥ = cc in absurd wrong
   single_tried first own (Hashed number) is = let wrong : ⊥ = cc in absurd wrong
 
-  loop_tried : HasBelow modes.one 1 → HasBelow modes.copied 1 → (mode : Mode) → loop_line mode ≡ Some line → HasModeIn modes mode
+  loop_tried : HasBelow modes.one 1 → HasBelow modes.copied 1 → (mode : Mode) → loop_line mode ≡ Some line
+      → HasModeIn modes mode
   loop_tried first copied (One number) is = first number (only_first _ line number is)
   loop_tried first copied (Copied number) is = copied number (only_first _ line number is)
   loop_tried first copied (Hashed number) is = let wrong : ⊥ = cc in absurd wrong
@@ -45,22 +49,29 @@ module _ (q : Query) (modes : ModeSets) (line : Line) where
       cond_both (nat_lt list (length (lists_of q))) _ None (λ found. found ≡ Some line → list < length (lists_of q))
       (λ numbered is. ltb-true list (length (lists_of q)) numbered) (λ other never. cc)
 
-  agg_tried : HasBelow modes.one 1 → HasBelow modes.hashed (length (lists_of q)) → (order : ℕ) (mode : Mode) → agg_line q order mode ≡ Some line → HasModeIn modes mode
+  agg_tried : HasBelow modes.one 1 → HasBelow modes.hashed (length (lists_of q)) → (order : ℕ) (mode : Mode)
+      → agg_line q order mode ≡ Some line → HasModeIn modes mode
   agg_tried first lists order (One number) is = first number (only_first _ line number is)
   agg_tried first lists order (Copied number) is = let wrong : ⊥ = cc in absurd wrong
   agg_tried first lists order (Hashed list) is = lists list (list_numbered order list is)
 
-  pub operator_tried : (group : KeyParts) (operator : Physical) (mode : Mode) → AreTriedOf q operator modes → operator_line q group operator mode ≡ Some line → HasModeIn modes mode
+  pub operator_tried : (group : KeyParts) (operator : Physical) (mode : Mode) → AreTriedOf q operator modes
+      → operator_line q group operator mode ≡ Some line → HasModeIn modes mode
   operator_tried group physical.Scan mode are is = single_tried are _ mode is
   operator_tried group (physical.IndexScan index) mode are is = single_tried are _ mode is
   operator_tried group (physical.Filter child) mode are is = single_tried are _ mode is
   operator_tried group (physical.IndexSeek index) mode are is = single_tried are _ mode is
   operator_tried group (physical.HashJoin left right) (One number) are is = are.0 number (only_first _ line number is)
-  operator_tried group (physical.HashJoin left right) (Copied number) are is = are.1 number (only_first _ line number is)
-  operator_tried group (physical.HashJoin left right) (Hashed number) are is = are.2 number (some_crosses _ (crossing_of q left right number) line is)
-  operator_tried group (physical.MergeJoin left right) (One number) are is = are.0 number (some_crosses _ (crossing_of q left right number) line is)
-  operator_tried group (physical.MergeJoin left right) (Copied number) are is = are.1 number (some_crosses _ (crossing_of q left right number) line is)
-  operator_tried group (physical.MergeJoin left right) (Hashed number) are is = are.2 number (some_crosses _ (crossing_of q left right number) line is)
+  operator_tried group (physical.HashJoin left right) (Copied number) are is =
+      are.1 number (only_first _ line number is)
+  operator_tried group (physical.HashJoin left right) (Hashed number) are is =
+      are.2 number (some_crosses _ (crossing_of q left right number) line is)
+  operator_tried group (physical.MergeJoin left right) (One number) are is =
+      are.0 number (some_crosses _ (crossing_of q left right number) line is)
+  operator_tried group (physical.MergeJoin left right) (Copied number) are is =
+      are.1 number (some_crosses _ (crossing_of q left right number) line is)
+  operator_tried group (physical.MergeJoin left right) (Hashed number) are is =
+      are.2 number (some_crosses _ (crossing_of q left right number) line is)
   operator_tried group (physical.LoopJoin left right) mode are is = loop_tried are.0 are.1 mode is
   operator_tried group (physical.HashAgg child) mode are is = agg_tried are.0 are.1 0 mode is
   operator_tried group (physical.StreamAgg child) mode are is = agg_tried are.0 are.1 (group_order q) mode is
@@ -68,7 +79,8 @@ module _ (q : Query) (modes : ModeSets) (line : Line) where
 
 module _ (q : Query) (e : PhysicalExpr) (modes : ModeSets) where
   -- numbers that are passed have no line among these
-  pub none_passed : (from below : ℕ) → NoneBetween (λ mode. HasModeIn modes (mode_at mode)) from below → AreNoneTried q e modes from below
+  pub none_passed : (from below : ℕ) → NoneBetween (λ mode. HasModeIn modes (mode_at mode)) from below
+      → AreNoneTried q e modes from below
   none_passed from below passed mode above within has = absurd (passed mode above within has)
 
   -- those before a mode without a line, and those behind it that are passed
@@ -83,7 +95,8 @@ module _ (q : Query) (e : PhysicalExpr) (modes : ModeSets) where
   ]
 
   -- and all of them, where those with a line are few
-  pub none_from : (from mode : ℕ) → AreNoneTried q e modes from mode → 192 ≤ mode → ((m : ℕ) (line : Line) → line_of q e m ≡ Some line → m < 192)
+  pub none_from : (from mode : ℕ) → AreNoneTried q e modes from mode → 192 ≤ mode
+      → ((m : ℕ) (line : Line) → line_of q e m ≡ Some line → m < 192)
       → (m : ℕ) → from ≤ m → HasModeIn modes (mode_at m) → line_of q e m ≡ None
   none_from from mode before far few m above has =
       elim (line_of q e m) as (λ (found : Option Line). line_of q e m ≡ found → found ≡ None) [
@@ -97,7 +110,8 @@ module _ (q : Query) (e : PhysicalExpr) (modes : ModeSets) where
 
   module _ (are : AreTriedOf q e.operator modes) where
     -- a mode that would have a line, and isn't tried, has none
-    untried : (mode : ℕ) (found : Option Line) → line_of q e mode ≡ found → (HasModeIn modes (mode_at mode) → line_of q e mode ≡ None) → found ≡ None
+    untried : (mode : ℕ) (found : Option Line) → line_of q e mode ≡ found
+        → (HasModeIn modes (mode_at mode) → line_of q e mode ≡ None) → found ≡ None
     untried mode None is none = refl
     untried mode (Some line) is none =
         let never = none (operator_tried q modes line e.group e.operator (mode_at mode) are is) in
@@ -111,6 +125,7 @@ module _ (q : Query) (e : PhysicalExpr) (modes : ModeSets) where
     none_tried from below none mode above within = all_tried mode (none mode above within)
 
     -- so the first line of these is the first of all
-    pub first_of_all : (from : ℕ) (found : Option (ℕ × Line)) → IsNextTried q e modes from found → IsNextLine q e from found
+    pub first_of_all : (from : ℕ) (found : Option (ℕ × Line)) → IsNextTried q e modes from found
+        → IsNextLine q e from found
     first_of_all from None none = λ mode above. all_tried mode (none mode above)
     first_of_all from (Some (mode, line)) next = (next.0, next.1, none_tried from mode next.2, next.3)

@@ -46,7 +46,8 @@ module _ (q : Query) (line : Line) where
 
   -- a line where the number is 0
   only_none : (own : Line) (number : ℕ) → IsUnordered own → GivesNone (only_line own number)
-  only_none own number unordered = cond_both (number == 0) (Some own) None GivesNone (λ first. own_line own unordered) (λ other. no_line)
+  only_none own number unordered = cond_both (number == 0) (Some own) None GivesNone (λ first. own_line own unordered)
+      (λ other. no_line)
 
   colocated_none : (sides : Option (ℕ × ℕ)) → GivesNone (option_map (hash_colocated q) sides)
   colocated_none None is = let never : None ≡ Some line = is in cc
@@ -81,4 +82,5 @@ pub hash_join_none : (q : Query) (e : PhysicalExpr) (left right : KeyParts) (wan
     → e.operator ≡ physical.HashJoin left right → MayServe q e wanted → BeginsWith [] (order_of q wanted.order)
 hash_join_none q e left right wanted joins (mode, (line, is)) =
     let found = subst (λ (o : Physical). operator_line q e.group o (mode_at mode) ≡ Some line) joins is.is_line in
-    none_serves q line (physical_children e.operator) wanted (hash_none q line left right (mode_at mode) found) is.serves
+    none_serves q line (physical_children e.operator) wanted (hash_none q line left right (mode_at mode) found)
+    is.serves

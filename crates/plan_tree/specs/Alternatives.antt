@@ -45,7 +45,8 @@ AreAsked q alt (group ∷ []) (wanted ∷ []) = Asks q alt.left group wanted × 
 AreAsked q alt (group ∷ []) (wanted ∷ other ∷ wishes) = ⊥
 AreAsked q alt (group ∷ second ∷ []) [] = ⊥
 AreAsked q alt (group ∷ second ∷ []) (wanted ∷ []) = ⊥
-AreAsked q alt (group ∷ second ∷ []) (wanted ∷ other ∷ []) = Asks q alt.left group wanted × Asks q alt.right second other
+AreAsked q alt (group ∷ second ∷ []) (wanted ∷ other ∷ []) = Asks q alt.left group wanted
+    × Asks q alt.right second other
 AreAsked q alt (group ∷ second ∷ []) (wanted ∷ other ∷ third ∷ wishes) = ⊥
 AreAsked q alt (group ∷ second ∷ third ∷ groups) wishes = ⊥
 

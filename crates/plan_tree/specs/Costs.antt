@@ -25,13 +25,15 @@ use Rattle.plan_tree.specs.declared.cost.ExprRows.{ExprRows}
 -- the cost of the expression in the mode over any plans of its children that give what is asked of them
 abbrev pub IsNativeCost : Query → PhysicalExpr → ℕ → Request → ℕ → Type 0
 IsNativeCost q e mode wanted price =
-    (line : Line) (kids : List Kid) → IsAlternative q e wanted mode line → AreOf (groups_of (physical_children e.operator)) kids
+    (line : Line) (kids : List Kid) → IsAlternative q e wanted mode line
+    → AreOf (groups_of (physical_children e.operator)) kids
     → KidsServe q kids (asked_of line wanted) → price ≡ local_cost (native_shape q e mode kids)
 
 -- the cost of the enforcer over any plan of the group that gives what is asked of it
 abbrev pub IsEnforcerCost : Query → Enforcer → KeyParts → Request → ℕ → Type 0
 IsEnforcerCost q enforcer group below price =
-    (kid : Kid) → kid.group ≡ group → Satisfies q kid.given below → price ≡ local_cost (enforcer_shape q enforcer (kid ∷ []))
+    (kid : Kid) → kid.group ≡ group → Satisfies q kid.given below
+    → price ≡ local_cost (enforcer_shape q enforcer (kid ∷ []))
 
 -- the cost of the enforcer, where it is one of those for the request
 abbrev pub IsCostAmong : Query → Enforcer → KeyParts → Request → ℕ → Type 0

@@ -34,15 +34,17 @@ IsEnforced (Some found) None = ⊥
 IsEnforced (Some found) (Some e) = IsNode found.node (nodes.Enforcer e.node) × (found.below ≡ e.below)
 
 -- of the enforcers for the request that fit the group, the one at this place
-pub record IsEnforcerAt (q : Query) (group : KeyParts) (wanted : Request) (place : ℕ) (found : Option Enforced) : Type 0 where
-  pub kept : List EnforcedBy
-  pub are_kept : AreKept q group (enforcers_of wanted) kept
-  pub at_place : IsEnforced found (slice_get kept place)
+pub record IsEnforcerAt (q : Query) (group : KeyParts) (wanted : Request) (place : ℕ) (found : Option Enforced) : Type 0
+  where
+    pub kept : List EnforcedBy
+    pub are_kept : AreKept q group (enforcers_of wanted) kept
+    pub at_place : IsEnforced found (slice_get kept place)
 
 -- of these enforcers at most two fit the group, and these are the first and the second that do
-pub record AreBoth (q : Query) (group : KeyParts) (all : List EnforcedBy) (first second : Option Enforced) : Type 0 where
-  pub kept : List EnforcedBy
-  pub are_kept : AreKept q group all kept
-  pub few : length kept ≤ 2
-  pub is_first : IsEnforced first (slice_get kept 0)
-  pub is_second : IsEnforced second (slice_get kept 1)
+pub record AreBoth (q : Query) (group : KeyParts) (all : List EnforcedBy) (first second : Option Enforced) : Type 0
+  where
+    pub kept : List EnforcedBy
+    pub are_kept : AreKept q group all kept
+    pub few : length kept ≤ 2
+    pub is_first : IsEnforced first (slice_get kept 0)
+    pub is_second : IsEnforced second (slice_get kept 1)

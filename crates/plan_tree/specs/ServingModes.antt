@@ -69,19 +69,23 @@ NoneServes q e wanted from below = NoneBetween (HasAlternative q e wanted) from 
 abbrev pub AreServing : Query → PhysicalExpr → Request → ModeSets → Type 0
 AreServing q e wanted modes = (mode : ℕ) → HasAlternative q e wanted mode → HasModeIn modes (mode_at mode)
 
--- all modes that are there for the request are among these, and of a join that a group can hold no others are of the kind
+-- all modes that are there for the request are among these, and of a join that a group can hold no others are of the
+-- kind
 -- that serves the distribution
 pub record AreServingByKind (q : Query) (e : PhysicalExpr) (wanted : Request) (modes : ModeSets) : Type 0 where
   pub all : AreServing q e wanted modes
   pub only : IsCandidate q (expr_of e) → IsTrue (is_join e.operator)
-      → (mode : ℕ) → HasModeIn modes (mode_at mode) → IsModeFor wanted.dist (mode_at mode) → HasAlternative q e wanted mode
+      → (mode : ℕ) → HasModeIn modes (mode_at mode) → IsModeFor wanted.dist (mode_at mode)
+      → HasAlternative q e wanted mode
 
 -- all modes that are there for the request are among these, and of a join that a group can hold no others
 pub record AreToTry (q : Query) (e : PhysicalExpr) (wanted : Request) (modes : ModeSets) : Type 0 where
   pub all : AreServing q e wanted modes
-  pub only : IsCandidate q (expr_of e) → IsTrue (is_join e.operator) → (mode : ℕ) → HasModeIn modes (mode_at mode) → HasAlternative q e wanted mode
+  pub only : IsCandidate q (expr_of e) → IsTrue (is_join e.operator) → (mode : ℕ) → HasModeIn modes (mode_at mode)
+      → HasAlternative q e wanted mode
 
 -- the first mode from the number on that is there for the request, with its line; or none is
 abbrev pub IsNextServing : Query → PhysicalExpr → Request → ℕ → Option (ℕ × Line) → Type 0
 IsNextServing q e wanted from None = (mode : ℕ) → from ≤ mode → HasAlternative q e wanted mode → ⊥
-IsNextServing q e wanted from (Some found) = (from ≤ found.0) × (found.0 < 192) × NoneServes q e wanted from found.0 × IsAlternative q e wanted found.0 found.1
+IsNextServing q e wanted from (Some found) = (from ≤ found.0) × (found.0 < 192) × NoneServes q e wanted from found.0
+    × IsAlternative q e wanted found.0 found.1

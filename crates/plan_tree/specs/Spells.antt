@@ -14,4 +14,5 @@ Spells (Over' node pointer plan) (over kind kid) = IsNode node kind × Spells pl
 Spells (Over' node pointer plan) (two kind left right) = ⊥
 Spells (Two' node pointer plan pointer' plan') (leaf kind) = ⊥
 Spells (Two' node pointer plan pointer' plan') (over kind kid) = ⊥
-Spells (Two' node pointer plan pointer' plan') (two kind left right) = IsNode node kind × Spells plan left × Spells plan' right
+Spells (Two' node pointer plan pointer' plan') (two kind left right) = IsNode node kind × Spells plan left
+    × Spells plan' right

@@ -21,17 +21,21 @@ AreNone q e from below = (mode : ℕ) → from ≤ mode → mode < below → lin
 -- the first mode from the number on that has a line, with its line; or there is none
 abbrev pub IsNextLine : Query → PhysicalExpr → ℕ → Option (ℕ × Line) → Type 0
 IsNextLine q e from None = (mode : ℕ) → from ≤ mode → line_of q e mode ≡ None
-IsNextLine q e from (Some found) = (from ≤ found.0) × (found.0 < 192) × AreNone q e from found.0 × (line_of q e found.0 ≡ Some found.1)
+IsNextLine q e from (Some found) = (from ≤ found.0) × (found.0 < 192) × AreNone q e from found.0
+    × (line_of q e found.0 ≡ Some found.1)
 
 -- none of these modes from the number on and below the other has a line
 abbrev pub AreNoneTried : Query → PhysicalExpr → ModeSets → ℕ → ℕ → Type 0
-AreNoneTried q e modes from below = (mode : ℕ) → from ≤ mode → mode < below → HasModeIn modes (mode_at mode) → line_of q e mode ≡ None
+AreNoneTried q e modes from below = (mode : ℕ) → from ≤ mode → mode < below → HasModeIn modes (mode_at mode)
+    → line_of q e mode ≡ None
 
--- one of these modes from the number on that has a line, with its line, before which none of these has; or none of these has one
+-- one of these modes from the number on that has a line, with its line, before which none of these has; or none of
+-- these has one
 abbrev pub IsNextTried : Query → PhysicalExpr → ModeSets → ℕ → Option (ℕ × Line) → Type 0
 IsNextTried q e modes from None = (mode : ℕ) → from ≤ mode → HasModeIn modes (mode_at mode) → line_of q e mode ≡ None
 IsNextTried q e modes from (Some found) =
-    (from ≤ found.0) × (found.0 < 192) × AreNoneTried q e modes from found.0 × (line_of q e found.0 ≡ Some found.1) × HasModeIn modes (mode_at found.0)
+    (from ≤ found.0) × (found.0 < 192) × AreNoneTried q e modes from found.0 × (line_of q e found.0 ≡ Some found.1)
+    × HasModeIn modes (mode_at found.0)
 
 -- each predicate that equates columns across the groups is among these
 abbrev pub AreCrossingsBetween : Query → KeyParts → KeyParts → NumberSet → Type 0
@@ -43,9 +47,11 @@ AreTriedOf q physical.Scan modes = HasBelow modes.one 1
 AreTriedOf q (physical.IndexScan index) modes = HasBelow modes.one 1
 AreTriedOf q (physical.Filter child) modes = HasBelow modes.one 1
 AreTriedOf q (physical.IndexSeek index) modes = HasBelow modes.one 1
-AreTriedOf q (physical.HashJoin left right) modes = HasBelow modes.one 1 × HasBelow modes.copied 1 × AreCrossingsBetween q left right modes.hashed
+AreTriedOf q (physical.HashJoin left right) modes = HasBelow modes.one 1 × HasBelow modes.copied 1
+    × AreCrossingsBetween q left right modes.hashed
 AreTriedOf q (physical.MergeJoin left right) modes =
-    AreCrossingsBetween q left right modes.one × AreCrossingsBetween q left right modes.copied × AreCrossingsBetween q left right modes.hashed
+    AreCrossingsBetween q left right modes.one × AreCrossingsBetween q left right modes.copied
+    × AreCrossingsBetween q left right modes.hashed
 AreTriedOf q (physical.LoopJoin left right) modes = HasBelow modes.one 1 × HasBelow modes.copied 1
 AreTriedOf q (physical.HashAgg child) modes = HasBelow modes.one 1 × HasBelow modes.hashed (length (lists_of q))
 AreTriedOf q (physical.StreamAgg child) modes = HasBelow modes.one 1 × HasBelow modes.hashed (length (lists_of q))

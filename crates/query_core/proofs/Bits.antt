@@ -1,8 +1,12 @@
 -- Laws of the bits of sets.
-use Rattle.std.proofs.Common.{◌≡◌, ℕ, ◌+◌, ◌-◌, ◌*◌, ◌/◌, ◌%◌, ◌^◌, ◌<◌, ◌≤◌, max, min, arith, ap, sym, ◌∙◌, Bool, true, ◌==◌}
+use Rattle.std.proofs.Common.{◌≡◌, ℕ, ◌+◌, ◌-◌, ◌*◌, ◌/◌, ◌%◌, ◌^◌, ◌<◌, ◌≤◌, max, min, arith, ap, sym, ◌∙◌, Bool, true}
+use Rattle.std.proofs.Common.{◌==◌}
 use Rattle.std.specs.Prelude.{bit_and, bit_or, bit_xor, ◌≢◌}
 use Rattle.std.specs.Int.{trailing_zeros, w32}
-use Rattle.std.proofs.lemmas.Nat.Bits.{bit_at_and, bit_at_or, bit_at_xor, bit_at-lt, bit_at-zero, bit_at_set_same, bit_at_set_other, bit_at-trailing_zeros, bit_at_ones, bit_at_ones_above, bit_at_above, same_from_bits, and_pow, shr_and_one, bit_at-pow_same, bit_at-pow_other}
+use Rattle.std.proofs.lemmas.Nat.Bits.{bit_at_and, bit_at_or, bit_at_xor, bit_at-lt, bit_at-zero, bit_at_set_same}
+use Rattle.std.proofs.lemmas.Nat.Bits.{bit_at_set_other, bit_at-trailing_zeros, bit_at_ones, bit_at_ones_above}
+use Rattle.std.proofs.lemmas.Nat.Bits.{bit_at_above, same_from_bits, and_pow, shr_and_one, bit_at-pow_same}
+use Rattle.std.proofs.lemmas.Nat.Bits.{bit_at-pow_other}
 use Rattle.std.proofs.Math.Pow.{pow-lt}
 use Rattle.std.proofs.lemmas.Nat.{one_shl, or_disjoint}
 use Rattle.query_core.specs.Sets.{bit, Has, IsLeast}
@@ -105,4 +109,17 @@ pub same_tables : (a b : ℕ) → ((t : ℕ) → bit a t ≡ bit b t) → a ≡ 
 unfolding bit
 same_tables a b same = same_from_bits a b same
 
-pub ruleset bits_of = (arith, bit-or, bit-and, bit-difference, bit-none, bit-read, bit-with, bit-with_other, bit-below, bit-beyond, or-grows, least-found)
+pub ruleset bits_of = (
+  arith,
+  bit-or,
+  bit-and,
+  bit-difference,
+  bit-none,
+  bit-read,
+  bit-with,
+  bit-with_other,
+  bit-below,
+  bit-beyond,
+  or-grows,
+  least-found,
+)

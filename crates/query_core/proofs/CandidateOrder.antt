@@ -3,7 +3,9 @@ use Rattle.std.proofs.Common.{◌≡◌, ℕ, ◌+◌, ◌*◌, ◌^◌, ◌<◌
 use Rattle.std.proofs.lemmas.Bool.{cases_lt, false≢true}
 use Rattle.std.proofs.lemmas.Nat.{or_disjoint}
 use Rattle.query_core.specs.Keys.{key_number, top_of, tables_of}
-use Rattle.query_core.specs.Expressions.{children_of, fields_of, is_logical, left_number, right_number, logical_fields, middle_field, physical_fields, word_of, MIDDLES, AreInRange, FallsInto, HasLogical, HasPhysical, HasShape, IsJoin, IsPacked}
+use Rattle.query_core.specs.Expressions.{children_of, fields_of, is_logical, left_number, right_number, logical_fields}
+use Rattle.query_core.specs.Expressions.{middle_field, physical_fields, word_of, MIDDLES, AreInRange, FallsInto}
+use Rattle.query_core.specs.Expressions.{HasLogical, HasPhysical, HasShape, IsJoin, IsPacked}
 use Rattle.query_core.specs.declared.query.Query.{Query}
 use Rattle.query_core.specs.declared.words.KeyParts.{KeyParts}
 use Rattle.query_core.specs.declared.words.KeyParts.TheVariants as groups
@@ -25,7 +27,8 @@ use Rattle.query_core.proofs.Splitting.{tables_top}
 
 -- what a word has between its key and its right child
 abbrev middle_of : ExprParts → ℕ
-middle_of e = (fields_of e.operator).number * 2 ^ 18 + (fields_of e.operator).index * 2 ^ 13 + left_number (children_of e.operator)
+middle_of e = (fields_of e.operator).number * 2 ^ 18 + (fields_of e.operator).index * 2 ^ 13 + left_number
+    (children_of e.operator)
 
 -- a word is its key, its middle and its right child, each in its field
 record HasFields (e : ExprParts) : Type 0 where
@@ -60,12 +63,14 @@ last_logical groups.Agg = 12
 abbrev EndsBy : KeyParts → ℕ → Type 0
 EndsBy group number = number ≤ last_logical group
 
-logical_ends : (q : Query) (group : KeyParts) (o : Logical) → HasLogical q group o → EndsBy group (logical_fields o).number
+logical_ends : (q : Query) (group : KeyParts) (o : Logical) → HasLogical q group o
+    → EndsBy group (logical_fields o).number
 unfolding last_logical
 logical_ends q group logical.Get (t, is) = subst (λ (g : KeyParts). EndsBy g 1) (sym is) (omega arith)
 logical_ends q group (logical.Select child) (t, is, under) = subst (λ (g : KeyParts). EndsBy g 4) (sym is) (omega arith)
 logical_ends q group logical.NJoin (set, is) = subst (λ (g : KeyParts). EndsBy g 7) (sym is) (omega arith)
-logical_ends q group (logical.Join left right) (set, a, b, is, falls, left_is, right_is) = subst (λ (g : KeyParts). EndsBy g 8) (sym is) (omega arith)
+logical_ends q group (logical.Join left right) (set, a, b, is, falls, left_is, right_is) =
+    subst (λ (g : KeyParts). EndsBy g 8) (sym is) (omega arith)
 logical_ends q group (logical.Agg child) (is, under) = subst (λ (g : KeyParts). EndsBy g 12) (sym is) (omega arith)
 logical_ends q group (logical.Partial child) (is, under) = subst (λ (g : KeyParts). EndsBy g 15) (sym is) (omega arith)
 
@@ -73,20 +78,31 @@ logical_ends q group (logical.Partial child) (is, under) = subst (λ (g : KeyPar
 abbrev BeginsAfter : KeyParts → ℕ → Type 0
 BeginsAfter group number = last_logical group < number
 
-physical_begins : (q : Query) (group : KeyParts) (o : Physical) → HasPhysical q group o → BeginsAfter group (physical_fields o).number
+physical_begins : (q : Query) (group : KeyParts) (o : Physical) → HasPhysical q group o
+    → BeginsAfter group (physical_fields o).number
 unfolding last_logical
 physical_begins q group physical.Scan (t, is) = subst (λ (g : KeyParts). BeginsAfter g 2) (sym is) (omega arith)
-physical_begins q group (physical.IndexScan index) (t, is, has) = subst (λ (g : KeyParts). BeginsAfter g 3) (sym is) (omega arith)
-physical_begins q group (physical.Filter child) (t, is, under) = subst (λ (g : KeyParts). BeginsAfter g 5) (sym is) (omega arith)
-physical_begins q group (physical.IndexSeek index) (t, is, has) = subst (λ (g : KeyParts). BeginsAfter g 6) (sym is) (omega arith)
-physical_begins q group (physical.HashJoin left right) (set, a, b, is, falls, left_is, right_is) = subst (λ (g : KeyParts). BeginsAfter g 9) (sym is) (omega arith)
-physical_begins q group (physical.MergeJoin left right) (set, a, b, is, falls, left_is, right_is) = subst (λ (g : KeyParts). BeginsAfter g 10) (sym is) (omega arith)
-physical_begins q group (physical.LoopJoin left right) (set, a, b, is, falls, left_is, right_is) = subst (λ (g : KeyParts). BeginsAfter g 11) (sym is) (omega arith)
-physical_begins q group (physical.HashAgg child) (is, under) = subst (λ (g : KeyParts). BeginsAfter g 13) (sym is) (omega arith)
-physical_begins q group (physical.StreamAgg child) (is, under) = subst (λ (g : KeyParts). BeginsAfter g 14) (sym is) (omega arith)
-physical_begins q group (physical.PartialAgg child) (is, under) = subst (λ (g : KeyParts). BeginsAfter g 16) (sym is) (omega arith)
+physical_begins q group (physical.IndexScan index) (t, is, has) =
+    subst (λ (g : KeyParts). BeginsAfter g 3) (sym is) (omega arith)
+physical_begins q group (physical.Filter child) (t, is, under) =
+    subst (λ (g : KeyParts). BeginsAfter g 5) (sym is) (omega arith)
+physical_begins q group (physical.IndexSeek index) (t, is, has) =
+    subst (λ (g : KeyParts). BeginsAfter g 6) (sym is) (omega arith)
+physical_begins q group (physical.HashJoin left right) (set, a, b, is, falls, left_is, right_is) =
+    subst (λ (g : KeyParts). BeginsAfter g 9) (sym is) (omega arith)
+physical_begins q group (physical.MergeJoin left right) (set, a, b, is, falls, left_is, right_is) =
+    subst (λ (g : KeyParts). BeginsAfter g 10) (sym is) (omega arith)
+physical_begins q group (physical.LoopJoin left right) (set, a, b, is, falls, left_is, right_is) =
+    subst (λ (g : KeyParts). BeginsAfter g 11) (sym is) (omega arith)
+physical_begins q group (physical.HashAgg child) (is, under) =
+    subst (λ (g : KeyParts). BeginsAfter g 13) (sym is) (omega arith)
+physical_begins q group (physical.StreamAgg child) (is, under) =
+    subst (λ (g : KeyParts). BeginsAfter g 14) (sym is) (omega arith)
+physical_begins q group (physical.PartialAgg child) (is, under) =
+    subst (λ (g : KeyParts). BeginsAfter g 16) (sym is) (omega arith)
 
-number_less : (q : Query) (group : KeyParts) (o p : Operator) → HasShape q group o → HasShape q group p → IsTrue (is_logical o) → (IsTrue (is_logical p) → ⊥)
+number_less : (q : Query) (group : KeyParts) (o p : Operator) → HasShape q group o → HasShape q group p
+    → IsTrue (is_logical o) → (IsTrue (is_logical p) → ⊥)
     → (fields_of o).number < (fields_of p).number
 number_less q group (operators.Logical o) (operators.Physical p) shape other wanted made =
     omega (arith, logical_ends q group o shape, physical_begins q group p other)
@@ -95,7 +111,8 @@ number_less q group (operators.Physical o) p shape other wanted made = absurd (f
 
 pub logical_first : (q : Query) → LogicalComeFirst q
 logical_first q e other known other_known same wanted made =
-    let shape : HasShape q e.group other.operator = subst (λ (g : KeyParts). HasShape q g other.operator) (sym same) other_known.shape in
+    let shape : HasShape q e.group other.operator =
+    subst (λ (g : KeyParts). HasShape q g other.operator) (sym same) other_known.shape in
     let less = number_less q e.group e.operator other.operator known.shape shape wanted made in
     let e_has = has_fields e (candidate_packed q e known) in
     let other_has = has_fields other (candidate_packed q other other_known) in
@@ -113,22 +130,27 @@ logical_first q e other known other_known same wanted made =
 abbrev HasSides : Query → KeyParts → Operator → Type 0
 HasSides q group o =
     ((right_number (children_of o) ≡ 0) × (((fields_of o).number < 8) ⊎ (11 < (fields_of o).number)))
-    ⊎ ((left right : KeyParts) × IsJoin q group left right × (children_of o ≡ Two left right) × (8 ≤ (fields_of o).number) × ((fields_of o).number ≤ 11))
+    ⊎ ((left right : KeyParts) × IsJoin q group left right × (children_of o ≡ Two left right)
+    × (8 ≤ (fields_of o).number) × ((fields_of o).number ≤ 11))
 
 has_sides : (q : Query) (group : KeyParts) (o : Operator) → HasShape q group o → HasSides q group o
 has_sides q group (operators.Logical logical.Get) shape = inl (refl, inl (omega arith))
 has_sides q group (operators.Logical (logical.Select child)) shape = inl (refl, inl (omega arith))
 has_sides q group (operators.Logical logical.NJoin) shape = inl (refl, inl (omega arith))
-has_sides q group (operators.Logical (logical.Join left right)) shape = inr (left, right, shape, refl, omega arith, omega arith)
+has_sides q group (operators.Logical (logical.Join left right)) shape =
+    inr (left, right, shape, refl, omega arith, omega arith)
 has_sides q group (operators.Logical (logical.Agg child)) shape = inl (refl, inr (omega arith))
 has_sides q group (operators.Logical (logical.Partial child)) shape = inl (refl, inr (omega arith))
 has_sides q group (operators.Physical physical.Scan) shape = inl (refl, inl (omega arith))
 has_sides q group (operators.Physical (physical.IndexScan index)) shape = inl (refl, inl (omega arith))
 has_sides q group (operators.Physical (physical.Filter child)) shape = inl (refl, inl (omega arith))
 has_sides q group (operators.Physical (physical.IndexSeek index)) shape = inl (refl, inl (omega arith))
-has_sides q group (operators.Physical (physical.HashJoin left right)) shape = inr (left, right, shape, refl, omega arith, omega arith)
-has_sides q group (operators.Physical (physical.MergeJoin left right)) shape = inr (left, right, shape, refl, omega arith, omega arith)
-has_sides q group (operators.Physical (physical.LoopJoin left right)) shape = inr (left, right, shape, refl, omega arith, omega arith)
+has_sides q group (operators.Physical (physical.HashJoin left right)) shape =
+    inr (left, right, shape, refl, omega arith, omega arith)
+has_sides q group (operators.Physical (physical.MergeJoin left right)) shape =
+    inr (left, right, shape, refl, omega arith, omega arith)
+has_sides q group (operators.Physical (physical.LoopJoin left right)) shape =
+    inr (left, right, shape, refl, omega arith, omega arith)
 has_sides q group (operators.Physical (physical.HashAgg child)) shape = inl (refl, inr (omega arith))
 has_sides q group (operators.Physical (physical.StreamAgg child)) shape = inl (refl, inr (omega arith))
 has_sides q group (operators.Physical (physical.PartialAgg child)) shape = inl (refl, inr (omega arith))
@@ -138,8 +160,10 @@ side_is : (q : Query) (set a b : ℕ) → FallsInto q set a b → a + b ≡ set
 side_is q set a b falls = sym (or_disjoint a b falls.disjoint) ∙ falls.whole
 
 module _ (q : Query) where
-  right_one : (group left right other : KeyParts) → IsJoin q group left right → IsJoin q group left other → right ≡ other
-  right_one group left right other (set, a, b, is, falls, left_is, right_is) (more, c, d, more_is, falls_more, left_more, other_is) =
+  right_one : (group left right other : KeyParts) → IsJoin q group left right → IsJoin q group left other
+      → right ≡ other
+  right_one group left right other (set, a, b, is, falls, left_is, right_is)
+      (more, c, d, more_is, falls_more, left_more, other_is) =
       let sets : groups.Join set ≡ groups.Join more = sym is ∙ more_is in
       let set_same : set ≡ more = cc in
       let a_same : a ≡ c = sym (tables_top q a) ∙ ap tables_of (sym left_is ∙ left_more) ∙ tables_top q c in
@@ -148,24 +172,33 @@ module _ (q : Query) where
 
   -- operators of one group with the same number and left child have the same right child
   rights_one : (group : KeyParts) (o p : Operator)
-      → HasSides q group o → HasSides q group p → AreInRange (children_of o) → AreInRange (children_of p) → (fields_of o).number ≡ (fields_of p).number
-      → left_number (children_of o) ≡ left_number (children_of p) → right_number (children_of o) ≡ right_number (children_of p)
+      → HasSides q group o → HasSides q group p → AreInRange (children_of o) → AreInRange (children_of p)
+      → (fields_of o).number ≡ (fields_of p).number
+      → left_number (children_of o) ≡ left_number (children_of p)
+      → right_number (children_of o) ≡ right_number (children_of p)
   rights_one group o p (inl (none, out)) (inl (other_none, other_out)) known other numbers lefts = none ∙ sym other_none
-  rights_one group o p (inl (none, out)) (inr (left, right, join, two, from, upto)) known other numbers lefts = absurd (omega (arith, out, from, upto, numbers))
-  rights_one group o p (inr (left, right, join, two, from, upto)) (inl (none, out)) known other numbers lefts = absurd (omega (arith, out, from, upto, numbers))
-  rights_one group o p (inr (left, right, join, two, from, upto)) (inr (other_left, other_right, other_join, other_two, other_from, other_upto)) known other numbers lefts =
+  rights_one group o p (inl (none, out)) (inr (left, right, join, two, from, upto)) known other numbers lefts =
+      absurd (omega (arith, out, from, upto, numbers))
+  rights_one group o p (inr (left, right, join, two, from, upto)) (inl (none, out)) known other numbers lefts =
+      absurd (omega (arith, out, from, upto, numbers))
+  rights_one group o p (inr (left, right, join, two, from, upto))
+      (inr (other_left, other_right, other_join, other_two, other_from, other_upto)) known other numbers lefts =
       let in_range : AreInRange (Two left right) = subst AreInRange two known in
       let other_in_range : AreInRange (Two other_left other_right) = subst AreInRange other_two other in
-      let left_keys : key_number left ≡ key_number other_left = omega (arith, ap left_number two, ap left_number other_two, lefts) in
+      let left_keys : key_number left ≡ key_number other_left =
+      omega (arith, ap left_number two, ap left_number other_two, lefts) in
       let left_same : left ≡ other_left = key_one left other_left in_range.0 other_in_range.0 left_keys in
-      let turned : IsJoin q group left other_right = subst (λ (g : KeyParts). IsJoin q group g other_right) (sym left_same) other_join in
+      let turned : IsJoin q group left other_right =
+      subst (λ (g : KeyParts). IsJoin q group g other_right) (sym left_same) other_join in
       let right_same : right ≡ other_right = right_one group left right other_right join turned in
       ap right_number two ∙ ap (λ (g : KeyParts). key_number g + 1) right_same ∙ sym (ap right_number other_two)
 
 -- of two words of a group with the same middle the right children are the same, so neither is less
-middle_apart : (e other : ExprParts) → (fields_of e.operator).index < 32 → (fields_of other.operator).index < 32 → HasFields e → HasFields other
+middle_apart : (e other : ExprParts) → (fields_of e.operator).index < 32 → (fields_of other.operator).index < 32
+    → HasFields e → HasFields other
     → key_number e.group ≡ key_number other.group
-    → ((fields_of e.operator).number ≡ (fields_of other.operator).number → left_number (children_of e.operator) ≡ left_number (children_of other.operator)
+    → ((fields_of e.operator).number ≡ (fields_of other.operator).number
+    → left_number (children_of e.operator) ≡ left_number (children_of other.operator)
     → right_number (children_of e.operator) ≡ right_number (children_of other.operator))
     → word_of e < word_of other → middle_of other ≤ middle_of e → ⊥
 middle_apart e other index other_index has other_has keys_same rights less above =
@@ -175,25 +208,31 @@ middle_apart e other index other_index has other_has keys_same rights less above
     let other_left = other_has.left_below in
     let right = has.right_below in
     let other_right = other_has.right_below in
-    let same : middle_of e ≡ middle_of other = omega (arith, is, other_is, keys_same, less, above, right, other_right) in
-    let numbers : (fields_of e.operator).number ≡ (fields_of other.operator).number = omega (arith, same, index, other_index, left, other_left) in
-    let lefts : left_number (children_of e.operator) ≡ left_number (children_of other.operator) = omega (arith, same, index, other_index, left, other_left) in
+    let same : middle_of e ≡ middle_of other =
+    omega (arith, is, other_is, keys_same, less, above, right, other_right) in
+    let numbers : (fields_of e.operator).number ≡ (fields_of other.operator).number =
+    omega (arith, same, index, other_index, left, other_left) in
+    let lefts : left_number (children_of e.operator) ≡ left_number (children_of other.operator) =
+    omega (arith, same, index, other_index, left, other_left) in
     let right_same = rights numbers lefts in
     omega (arith, is, other_is, keys_same, same, right_same, less)
 
 -- what is in the middle of words ascends with them
 pub middles_rise : (q : Query) → MiddlesRise q
 middles_rise q e other known other_known same less =
-    let shape : HasShape q e.group other.operator = subst (λ (g : KeyParts). HasShape q g other.operator) (sym same) other_known.shape in
+    let shape : HasShape q e.group other.operator =
+    subst (λ (g : KeyParts). HasShape q g other.operator) (sym same) other_known.shape in
     let e_packed = candidate_packed q e known in
     let other_packed = candidate_packed q other other_known in
     let e_has = has_fields e e_packed in
     let other_has = has_fields other other_packed in
     let keys_same : key_number e.group ≡ key_number other.group = ap key_number same in
-    let rights = rights_one q e.group e.operator other.operator (has_sides q e.group e.operator known.shape) (has_sides q e.group other.operator shape)
+    let rights = rights_one q e.group e.operator other.operator (has_sides q e.group e.operator known.shape)
+    (has_sides q e.group other.operator shape)
     e_packed.children other_packed.children in
     let rise : middle_of e < middle_of other = elim (cases_lt (middle_of e) (middle_of other)) [
       | inl below ↦ below
-      | inr above ↦ absurd (middle_apart e other e_packed.index other_packed.index e_has other_has keys_same rights less above)
+      | inr above ↦ absurd (middle_apart e other e_packed.index other_packed.index e_has other_has keys_same rights less
+          above)
     ] in
     omega (arith, middle_read e e_has, middle_read other other_has, rise)

@@ -1,7 +1,8 @@
 -- Laws of group expressions and their words.
 use Rattle.std.proofs.Common.{◌≡◌, ℕ, ◌*◌, ◌/◌, ◌%◌, ◌≤◌, ◌<◌, ◌^◌, refl, ap, sym, ◌∙◌, ◌↔◌, arith}
 use Rattle.query_core.specs.Keys.{key_number, IsInRange}
-use Rattle.query_core.specs.Expressions.{expr_of, fields, key_field, logical_fields, physical_fields, fields_of, left_number, right_number, packed, word_of, AreInRange, HasWord, IsPacked}
+use Rattle.query_core.specs.Expressions.{expr_of, fields, key_field, logical_fields, physical_fields, fields_of}
+use Rattle.query_core.specs.Expressions.{left_number, right_number, packed, word_of, AreInRange, HasWord, IsPacked}
 use Rattle.query_core.specs.Goals.{FitsExpr}
 use Rattle.query_core.specs.declared.words.KeyParts.{KeyParts}
 use Rattle.query_core.specs.declared.expressions.Logical.{Logical}
@@ -36,7 +37,8 @@ right_small (One child) in_c = omega arith
 right_small (Two left right) in_c = omega (arith, key_small right in_c.1)
 
 -- children have their own two numbers
-children_one : (c d : Children) → AreInRange c → AreInRange d → left_number c ≡ left_number d → right_number c ≡ right_number d → c ≡ d
+children_one : (c d : Children) → AreInRange c → AreInRange d → left_number c ≡ left_number d
+    → right_number c ≡ right_number d → c ≡ d
 children_one Zero Zero in_c in_d left right = refl
 children_one (One a) (One b) in_c in_d left right = ap One (key_one a b in_c in_d (omega (arith, left)))
 children_one (Two a b) (Two x y) in_c in_d left right =
@@ -61,7 +63,8 @@ record AreSmall (f : Fields) : Type 0 where
   right : right_number f.children < 2 ^ 13
 
 -- a word has one key and one list of fields
-fields_one : (k : ℕ) (f : Fields) (k2 : ℕ) (f2 : Fields) → AreSmall f → AreSmall f2 → packed k f ≡ packed k2 f2 → AreSame k f k2 f2
+fields_one : (k : ℕ) (f : Fields) (k2 : ℕ) (f2 : Fields) → AreSmall f → AreSmall f2 → packed k f ≡ packed k2 f2
+    → AreSame k f k2 f2
 fields_one k f k2 f2 small small2 same = record {
   key = omega arith;
   number = omega arith;
@@ -82,7 +85,8 @@ fields_small e in_e = record {
 -- fields with the same values are the same
 fields_same : (f g : Fields) → f.number ≡ g.number → f.index ≡ g.index → f.children ≡ g.children → f ≡ g
 fields_same f g number index children =
-    ap (λ x. fields x f.index f.children) number ∙ ap (λ x. fields g.number x f.children) index ∙ ap (λ x. fields g.number g.index x) children
+    ap (λ x. fields x f.index f.children) number ∙ ap (λ x. fields g.number x f.children) index
+    ∙ ap (λ x. fields g.number g.index x) children
 
 -- logical operators have their own fields
 logical_one : (o p : Logical) → logical_fields o ≡ logical_fields p → o ≡ p
@@ -123,9 +127,11 @@ operator_one (operators.Physical o) (operators.Physical p) same = ap operators.P
 pub expr_of_one : (e f : PhysicalExpr) → expr_of e ≡ expr_of f → e ≡ f
 expr_of_one e f same =
     let group : e.group ≡ f.group = ap (λ (x : ExprParts). x.group) same in
-    let both : operators.Physical e.operator ≡ operators.Physical f.operator = ap (λ (x : ExprParts). x.operator) same in
+    let both : operators.Physical e.operator ≡ operators.Physical f.operator =
+    ap (λ (x : ExprParts). x.operator) same in
     let operator : e.operator ≡ f.operator = cc in
-    ap (λ (g : KeyParts). record { group = g; operator = e.operator }) group ∙ ap (λ (o : Physical). record { group = f.group; operator = o }) operator
+    ap (λ (g : KeyParts). record { group = g; operator = e.operator }) group
+    ∙ ap (λ (o : Physical). record { group = f.group; operator = o }) operator
 
 -- the word of an expression whose parts fit is that of no other such expression
 pub word_one : (e f : ExprParts) → IsPacked e → IsPacked f → word_of e ≡ word_of f → e ≡ f
@@ -133,19 +139,23 @@ word_one e f in_e in_f same =
     let same_fields = fields_one (key_number e.group) (fields_of e.operator) (key_number f.group) (fields_of f.operator)
     (fields_small e in_e) (fields_small f in_f) same in
     let group : e.group ≡ f.group = key_one e.group f.group in_e.group in_f.group same_fields.key in
-    let children : (fields_of e.operator).children ≡ (fields_of f.operator).children = children_one _ _ in_e.children in_f.children same_fields.left same_fields.right in
+    let children : (fields_of e.operator).children ≡ (fields_of f.operator).children =
+    children_one _ _ in_e.children in_f.children same_fields.left same_fields.right in
     let operator : e.operator ≡ f.operator =
-    operator_one e.operator f.operator (fields_same (fields_of e.operator) (fields_of f.operator) same_fields.number same_fields.index children) in
+    operator_one e.operator f.operator (fields_same (fields_of e.operator) (fields_of f.operator) same_fields.number
+    same_fields.index children) in
     let make : KeyParts → Operator → ExprParts = λ g o. record { group = g; operator = o } in
     ap (λ g. make g e.operator) group ∙ ap (make f.group) operator
 
 -- the fields of an expression's operator are what its word has in their places
 pub word_fields : (e : ExprParts) (word : ℕ) (f : Fields) → IsPacked e → word_of e ≡ word → AreInRange f.children
     → f.number ≡ word / 2 ^ 31 % 2 ^ 5 → f.index ≡ word / 2 ^ 26 % 2 ^ 5
-    → left_number f.children ≡ word / 2 ^ 13 % 2 ^ 13 → right_number f.children ≡ word / 2 ^ 0 % 2 ^ 13 → fields_of e.operator ≡ f
+    → left_number f.children ≡ word / 2 ^ 13 % 2 ^ 13 → right_number f.children ≡ word / 2 ^ 0 % 2 ^ 13
+    → fields_of e.operator ≡ f
 word_fields e word f in_e is in_f number index left right =
     let small = fields_small e in_e in
-    fields_same (fields_of e.operator) f (omega arith) (omega arith) (children_one _ _ in_e.children in_f (omega arith) (omega arith))
+    fields_same (fields_of e.operator) f (omega arith) (omega arith)
+    (children_one _ _ in_e.children in_f (omega arith) (omega arith))
 
 -- a word has its group's key
 pub key_read : (e : ExprParts) (word : ℕ) → HasWord word e → key_field word ≡ key_number e.group
@@ -172,5 +182,6 @@ pub word_some : (e : ExprParts) → 0 < word_of e
 word_some e = let some = operator_some e.operator in omega arith
 
 -- groups stand in the order of their keys
-pub word_ordered : (e f : ExprParts) → IsPacked e → IsPacked f → key_number e.group < key_number f.group → word_of e < word_of f
+pub word_ordered : (e f : ExprParts) → IsPacked e → IsPacked f → key_number e.group < key_number f.group
+    → word_of e < word_of f
 word_ordered e f in_e in_f less = let small = fields_small e in_e in omega arith

@@ -15,7 +15,8 @@ fields_read (goals.Opt key request) fits = grind arith
 fields_read (goals.OptE expr request) fits = grind arith
 
 -- a number is the word of one goal at most
-pub goal_one : (first second : GoalParts) → FitsGoal first → FitsGoal second → goal_number first ≡ goal_number second → first ≡ second
+pub goal_one : (first second : GoalParts) → FitsGoal first → FitsGoal second → goal_number first ≡ goal_number second
+    → first ≡ second
 goal_one first second fits also same = sym (fields_read first fits) ∙ ap goal_fields same ∙ fields_read second also
 
 -- kinds have numbers below 8
@@ -37,5 +38,6 @@ pub number_small : (parts : GoalParts) → FitsGoal parts → goal_number parts 
 number_small parts fits = let beside = fields_small parts fits in let few = kind_few parts in omega arith
 
 -- and a lesser kind has a lesser word
-pub kinds_rise : (first second : GoalParts) → FitsGoal first → kind_of first < kind_of second → goal_number first < goal_number second
+pub kinds_rise : (first second : GoalParts) → FitsGoal first → kind_of first < kind_of second
+    → goal_number first < goal_number second
 kinds_rise first second fits less = omega (arith, fields_small first fits, less)

@@ -1,5 +1,6 @@
 -- Laws of groups and their keys.
-use Rattle.std.proofs.Common.{◌≡◌, ℕ, ◌<◌, ◌≤◌, ◌^◌, true, false, None, Some, length, refl, ap, sym, subst, ◌∙◌, arith, IsTrue, ◌↔◌, inl, inr}
+use Rattle.std.proofs.Common.{◌≡◌, ℕ, ◌<◌, ◌≤◌, ◌^◌, true, false, None, Some, length, refl, ap, sym, subst, ◌∙◌, arith}
+use Rattle.std.proofs.Common.{IsTrue, ◌↔◌, inl, inr}
 use Rattle.std.specs.Prelude.{◌==◌}
 use Rattle.std.specs.Option.{option_map_or}
 use Rattle.std.specs.Int.{trailing_zeros, w32}
@@ -43,10 +44,12 @@ group_in_range q Agg known = refl
 
 -- what the key names is the group in range with its number
 pub named_one : (q : Query) (key : Key) (p g : KeyParts) → IsInRange p → key_number p ≡ key.0 → Names q key g → g ≡ p
-named_one q key p g in_p number names = key_one g p (group_in_range q g names.known) in_p (sym names.number ∙ sym number)
+named_one q key p g in_p number names = key_one g p (group_in_range q g names.known) in_p (sym names.number
+    ∙ sym number)
 
 -- a key whose number is that of a group in range is one of the query's exactly where it has the group
-pub is_key-group : (q : Query) (key : Key) (p : KeyParts) → IsInRange p → key_number p ≡ key.0 → IsGroup q p ↔ IsKey q key
+pub is_key-group : (q : Query) (key : Key) (p : KeyParts) → IsInRange p → key_number p ≡ key.0 → IsGroup q p
+    ↔ IsKey q key
 is_key-group q key p in_p number = (
   λ known. (p, record { number = sym number; known = known }),
   λ found. subst (IsGroup q) (named_one q key p found.0 in_p number found.1) found.1.known,
@@ -57,19 +60,23 @@ pub key_in_range : (q : Query) (key : Key) → ((p : KeyParts) → IsInRange p �
 key_in_range q key none (g, names) = none g (group_in_range q g names.known) (sym names.number)
 
 -- a connected set of tables that isn't empty has its group
-pub top_group : (q : Query) (set : ℕ) → 0 < set → set < 2 ^ length q.tables → IsConnected q.links set → IsGroup q (top_of q set)
+pub top_group : (q : Query) (set : ℕ) → 0 < set → set < 2 ^ length q.tables → IsConnected q.links set
+    → IsGroup q (top_of q set)
 top_group q set some of_tables connected =
     let least = trailing_zeros w32 set in
     let there : (set == 2 ^ least) ≡ true → least < length q.tables = λ same.
-    exponent_lt least (length q.tables) (subst (λ x. x < 2 ^ length q.tables) (eqb-true set (2 ^ least) same) of_tables) in
+    exponent_lt least (length q.tables) (subst (λ x. x < 2 ^ length q.tables) (eqb-true set (2 ^ least) same)
+    of_tables) in
     let several : (set == 2 ^ least) ≡ false → IsTrue (is_several set) = λ differs.
     rw (ne_eqb set 0 (λ none. omega (arith, none, some)), differs) refl in
     cond_both (set == 2 ^ least) (Some least) None (λ o. IsGroup q (option_map_or (group_of_table q) o (Join set)))
-    (λ same. cond_both (has_own q least) (Filter least) (Get least) (IsGroup q) (λ own. (there same, own)) (λ none. there same))
+    (λ same. cond_both (has_own q least) (Filter least) (Get least) (IsGroup q) (λ own. (there same, own))
+    (λ none. there same))
     (λ differs. (of_tables, several differs, connected))
 
 -- a key of the query names the group in range with its number
-pub known_named : (q : Query) (key : Key) (p : KeyParts) → IsInRange p → key_number p ≡ key.0 → IsKey q key → Names q key p
+pub known_named : (q : Query) (key : Key) (p : KeyParts) → IsInRange p → key_number p ≡ key.0 → IsKey q key
+    → Names q key p
 known_named q key p in_p number found = record {
   number = sym number;
   known = subst (IsGroup q) (named_one q key p found.0 in_p number found.1) found.1.known;

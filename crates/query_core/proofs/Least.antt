@@ -1,5 +1,6 @@
 -- Laws of the least word of a kind of expressions.
-use Rattle.std.proofs.Common.{rules, ◌≡◌, ℕ, ◌+◌, ◌<◌, ◌≤◌, ◌^◌, Option, None, Some, refl, ap, sym, subst, ◌∙◌, arith, ◌⊎◌, inl, inr}
+use Rattle.std.proofs.Common.{rules, ◌≡◌, ℕ, ◌+◌, ◌<◌, ◌≤◌, ◌^◌, Option, None, Some, refl, ap, sym, subst, ◌∙◌, arith}
+use Rattle.std.proofs.Common.{◌⊎◌, inl, inr}
 use Rattle.std.specs.Prelude.{nat_lt}
 use Rattle.std.proofs.lemmas.Bool.{cond_both, cases_lt, ltb-true, ltb-false}
 use Rattle.query_core.specs.Keys.{IsInRange}
@@ -13,7 +14,8 @@ use Rattle.query_core.specs.declared.kinds.IndexKind.TheVariants as indexes
 use Rattle.query_core.proofs.GroupLemmas.{group_in_range}
 
 -- the same kind in other words
-pub finds_as : (S T : ExprParts → Type 0) (bound : ℕ) (found : Option Expr) → ((e : ExprParts) → S e → T e) → ((e : ExprParts) → T e → S e)
+pub finds_as : (S T : ExprParts → Type 0) (bound : ℕ) (found : Option Expr) → ((e : ExprParts) → S e → T e)
+    → ((e : ExprParts) → T e → S e)
     → FindsFrom S bound found → FindsFrom T bound found
 finds_as S T bound None to from finds = λ e kind above. finds e (from e kind) above
 finds_as S T bound (Some found) to from finds = record {
@@ -27,13 +29,19 @@ pub finds_none : (S : ExprParts → Type 0) (bound : ℕ) → ((e : ExprParts) �
 finds_none S bound none e kind above = none e kind
 
 -- of one kind there is nothing from the bound on, so what is found is of the other
-finds_right : (S T : ExprParts → Type 0) (bound : ℕ) (found : Option Expr) → FindsFrom S bound None → FindsFrom T bound found
+finds_right : (S T : ExprParts → Type 0) (bound : ℕ) (found : Option Expr) → FindsFrom S bound None
+    → FindsFrom T bound found
     → FindsFrom (λ e. S e ⊎ T e) bound found
-finds_right S T bound None none finds = λ e kind above. elim kind [ inl first ↦ none e first above | inr second ↦ finds e second above ]
+finds_right S T bound None none finds = λ e kind above.
+    elim kind [ inl first ↦ none e first above | inr second ↦ finds e second above ]
 finds_right S T bound (Some found) none finds = record {
   there = (finds.there.0, inr finds.there.1, finds.there.2);
   from = finds.from;
-  least = λ e kind above. elim kind [ inl first ↦ absurd (none e first above) | inr second ↦ finds.least e second above ];
+  least = λ e kind above. elim kind [
+    | inl first ↦ absurd (none e first above)
+    | inr second ↦
+        finds.least e second above
+  ];
 }
 
 -- the lesser word of both kinds
@@ -46,10 +54,12 @@ finds_left S T bound found finds other = record {
 }
 
 -- the sooner one is the least of either kind
-pub sooner_finds : (S T : ExprParts → Type 0) (bound : ℕ) (a b : Option Expr) → FindsFrom S bound a → FindsFrom T bound b
+pub sooner_finds : (S T : ExprParts → Type 0) (bound : ℕ) (a b : Option Expr) → FindsFrom S bound a
+    → FindsFrom T bound b
     → FindsFrom (λ e. S e ⊎ T e) bound (sooner_of a b)
 sooner_finds S T bound None b first second = finds_right S T bound b first second
-sooner_finds S T bound (Some a) None first second = finds_left S T bound a first (λ e kind above. absurd (second e kind above))
+sooner_finds S T bound (Some a) None first second =
+    finds_left S T bound a first (λ e kind above. absurd (second e kind above))
 sooner_finds S T bound (Some a) (Some b) first second =
     cond_both (nat_lt b.0 a.0) (Some b) (Some a) (FindsFrom (λ e. S e ⊎ T e) bound)
     (λ less. record {
@@ -60,24 +70,34 @@ sooner_finds S T bound (Some a) (Some b) first second =
         | inr other ↦ second.least e other above
       ];
     })
-    (λ more. finds_left S T bound a first (λ e kind above. omega (arith, ltb-false b.0 a.0 more, second.least e kind above)))
+    (λ more. finds_left S T bound a first (λ e kind above.
+    omega (arith, ltb-false b.0 a.0 more, second.least e kind above)))
 
 -- the same of what is known to be the sooner one
-pub sooner_is : (S T : ExprParts → Type 0) (bound : ℕ) (a b found : Option Expr) → found ≡ sooner_of a b → FindsFrom S bound a → FindsFrom T bound b
+pub sooner_is : (S T : ExprParts → Type 0) (bound : ℕ) (a b found : Option Expr) → found ≡ sooner_of a b
+    → FindsFrom S bound a → FindsFrom T bound b
     → FindsFrom (λ e. S e ⊎ T e) bound found
-sooner_is S T bound a b found is first second = subst (FindsFrom (λ e. S e ⊎ T e) bound) (sym is) (sooner_finds S T bound a b first second)
+sooner_is S T bound a b found is first second =
+    subst (FindsFrom (λ e. S e ⊎ T e) bound) (sym is) (sooner_finds S T bound a b first second)
 
 -- the group is read from an index of a number below the limit
 abbrev pub IsReadBelow : KeyParts → IndexKind → ℕ → ExprParts → Type 0
 IsReadBelow group kind limit e = (index : ℕ) × (index < limit) × (e ≡ expr group (read_by kind index))
 
 -- or from the one at the limit
-pub read_more : (group : KeyParts) (kind : IndexKind) (bound limit : ℕ) (before this : Option Expr) → FindsFrom (IsReadBelow group kind limit) bound before
-    → FindsFrom (λ e. e ≡ expr group (read_by kind limit)) bound this → FindsFrom (IsReadBelow group kind (limit + 1)) bound (sooner_of before this)
+pub read_more : (group : KeyParts) (kind : IndexKind) (bound limit : ℕ) (before this : Option Expr)
+    → FindsFrom (IsReadBelow group kind limit) bound before
+    → FindsFrom (λ e. e ≡ expr group (read_by kind limit)) bound this
+    → FindsFrom (IsReadBelow group kind (limit + 1)) bound (sooner_of before this)
 read_more group kind bound limit before this first second =
     let Last : ExprParts → Type 0 = λ e. e ≡ expr group (read_by kind limit) in
-    finds_as (λ e. IsReadBelow group kind limit e ⊎ Last e) (IsReadBelow group kind (limit + 1)) bound (sooner_of before this)
-    (λ e kinds. elim kinds [ inl (index, below, same) ↦ (index, omega (arith, below), same) | inr same ↦ (limit, omega arith, same) ])
+    finds_as (λ e. IsReadBelow group kind limit e ⊎ Last e) (IsReadBelow group kind (limit + 1)) bound
+    (sooner_of before this)
+    (λ e kinds. elim kinds [
+      | inl (index, below, same) ↦ (index, omega (arith, below), same)
+      | inr same ↦
+          (limit, omega arith, same)
+    ])
     (λ e (index, below, same). elim (cases_lt index limit) [
       | inl less ↦ inl (index, less, same)
       | inr more ↦
@@ -87,8 +107,11 @@ read_more group kind bound limit before this first second =
     (sooner_finds (IsReadBelow group kind limit) Last bound before this first second)
 
 -- the parts of such a reading fit a word
-pub read_packed : (group : KeyParts) (kind : IndexKind) (index : ℕ) → IsInRange group → index < 16 → IsPacked (expr group (read_by kind index))
-read_packed group indexes.Scan index in_range few = record { group = in_range; index = omega (arith, few); children = refl }
-read_packed group indexes.Seek index in_range few = record { group = in_range; index = omega (arith, few); children = refl }
+pub read_packed : (group : KeyParts) (kind : IndexKind) (index : ℕ) → IsInRange group → index < 16
+    → IsPacked (expr group (read_by kind index))
+read_packed group indexes.Scan index in_range few =
+    record { group = in_range; index = omega (arith, few); children = refl }
+read_packed group indexes.Seek index in_range few =
+    record { group = in_range; index = omega (arith, few); children = refl }
 
 pub ruleset packing = (arith, group_in_range)

@@ -1,11 +1,13 @@
 -- Laws of tables that reach each other by links.
-use Rattle.std.proofs.Common.{◌≡◌, ℕ, ◌+◌, ◌<◌, ◌≤◌, Bool, true, false, ◌&&◌, ◌||◌, ◌==◌, List, [], ◌∷◌, length, take, get_or, refl, ap, sym, subst, inl, inr, ◌∙◌, arith, IsTrue, ◌↔◌}
+use Rattle.std.proofs.Common.{◌≡◌, ℕ, ◌+◌, ◌<◌, ◌≤◌, Bool, true, false, ◌&&◌, ◌||◌, ◌==◌, List, [], ◌∷◌, length, take}
+use Rattle.std.proofs.Common.{get_or, refl, ap, sym, subst, inl, inr, ◌∙◌, arith, IsTrue, ◌↔◌}
 use Rattle.std.proofs.lemmas.List.Folds.{list_any_more, list_any_at}
 use Rattle.std.proofs.lemmas.Bool.{cases_eq}
 use Rattle.std.proofs.Math.Bool.{or_comm}
 use Rattle.query_core.specs.declared.predicate.Link.{Link}
 use Rattle.query_core.specs.Sets.{Has, Adds}
-use Rattle.query_core.specs.Connected.{joins, are_joined, Reaches, here, along, IsConnected, IsLead, AreLinked, IsReached, IsClosed}
+use Rattle.query_core.specs.Connected.{joins, are_joined, Reaches, here, along, IsConnected, IsLead, AreLinked}
+use Rattle.query_core.specs.Connected.{IsReached, IsClosed}
 use Rattle.query_core.proofs.Bits.{bit-below, bit-none, same_tables}
 
 module _ (links : List Link) (set : ℕ) where
@@ -25,14 +27,17 @@ module _ (links : List Link) (set : ℕ) where
   Reaches-then first (along before joined there) = along (Reaches-then first before) joined there
 
   -- a set that no link leaves has all that is reached from one of its tables
-  pub reached_all : (found from : ℕ) → Has found from → IsClosed links set found → {t : ℕ} → Reaches links set from t → Has found t
+  pub reached_all : (found from : ℕ) → Has found from → IsClosed links set found → {t : ℕ} → Reaches links set from t
+      → Has found t
   reached_all found from first closed (here there) = first
-  reached_all found from first closed (along {s} {t} before joined there) = closed s t (reached_all found from first closed before) joined there
+  reached_all found from first closed (along {s} {t} before joined there) =
+      closed s t (reached_all found from first closed before) joined there
 
 -- a link joins both ways
 pub joined_turned : (links : List Link) (s t : ℕ) → are_joined links s t ≡ are_joined links t s
 joined_turned [] s t = refl
-joined_turned (link ∷ links) s t = grind (arith, or_comm (link.a == s && link.b == t) (link.a == t && link.b == s), joined_turned links s t)
+joined_turned (link ∷ links) s t = grind
+    (arith, or_comm (link.a == s && link.b == t) (link.a == t && link.b == s), joined_turned links s t)
 
 module _ (links : List Link) (set : ℕ) where
   -- the way back
@@ -44,7 +49,8 @@ module _ (links : List Link) (set : ℕ) where
       (Reaches-turned before)
 
   -- the search begins with the first table
-  pub reached_first : (from found : ℕ) → Has set from → Adds 0 from found → (t : ℕ) → Has found t → Reaches links set from t
+  pub reached_first : (from found : ℕ) → Has set from → Adds 0 from found → (t : ℕ) → Has found t
+      → Reaches links set from t
   reached_first from found has adds t there =
       elim (cases_eq t from) [
         | inl same ↦ subst (λ x. Reaches links set from x) (sym same) (here has)
@@ -61,7 +67,8 @@ module _ (links : List Link) (set : ℕ) where
       ]
 
   -- what is reached from a table of the set that no link leaves
-  pub reached_is : (from found : ℕ) → Has found from → IsClosed links set found → ((t : ℕ) → Has found t → Reaches links set from t)
+  pub reached_is : (from found : ℕ) → Has found from → IsClosed links set found
+      → ((t : ℕ) → Has found t → Reaches links set from t)
       → IsReached links set from found
   reached_is from found first closed sound = record {
     sound = sound;
@@ -74,9 +81,18 @@ module _ (links : List Link) (set : ℕ) where
       Reaches-then links set (Reaches-turned (reached.sound s has_s)) (reached.sound t has_t)
 
   -- and then it is all that this table reaches
-  pub whole_from : (from found : ℕ) → Has set from → IsReached links set from found → IsConnected links set → found ≡ set
+  pub whole_from : (from found : ℕ) → Has set from → IsReached links set from found → IsConnected links set
+      → found ≡ set
   whole_from from found has reached connected = same_tables found set (λ t.
-      grind (arith, bit-below found t, bit-below set t, λ (there : Has found t). reached_in links set (reached.sound t there), λ (there : Has set t). reached.complete t (connected from t has there)))
+      grind (
+        arith,
+        bit-below found t,
+        bit-below set t,
+        λ (there : Has found t).
+            reached_in links set (reached.sound t there),
+        λ (there : Has set t).
+            reached.complete t (connected from t has there),
+      ))
 
 -- one of two tests that are true together is true
 either_true : (x y : Bool) → IsTrue (x || y) → (IsTrue x → ⊥) → (IsTrue y → ⊥) → ⊥
@@ -90,7 +106,8 @@ only_link false = (λ given. given, λ given. given)
 
 -- one more link that doesn't lead from the one set to the other
 pub linked_more : (links : List Link) (i : ℕ) (d : Link) (a b : ℕ) → i < length links
-    → (AreLinked (take i links) a b → ⊥) → (AreLinked (get_or links i d ∷ []) a b → ⊥) → AreLinked (take (i + 1) links) a b → ⊥
+    → (AreLinked (take i links) a b → ⊥) → (AreLinked (get_or links i d ∷ []) a b → ⊥)
+    → AreLinked (take (i + 1) links) a b → ⊥
 linked_more links i d a b within before this (t, (has_t, (s, has_s, joined))) =
     either_true (are_joined (take i links) s t) (joins s t (get_or links i d))
     (subst (λ x. IsTrue x) (list_any_more (joins s t) links i d within) joined)

@@ -18,7 +18,8 @@ use Rattle.query_core.proofs.GroupLemmas.{key_one, exponent_lt}
 pub tables_top : (q : Query) (set : ℕ) → tables_of (top_of q set) ≡ set
 tables_top q set =
     let least = trailing_zeros w32 set in
-    cond_both (set == 2 ^ least) (Some least) None (λ o. tables_of (option_map_or (group_of_table q) o (Join set)) ≡ set)
+    cond_both (set == 2 ^ least) (Some least) None
+    (λ o. tables_of (option_map_or (group_of_table q) o (Join set)) ≡ set)
     (λ same. cond_both (has_own q least) (Filter least) (Get least) (λ g. tables_of g ≡ set)
     (λ own. sym (eqb-true set (2 ^ least) same)) (λ none. sym (eqb-true set (2 ^ least) same)))
     (λ differs. refl)
@@ -27,28 +28,42 @@ tables_top q set =
 pub top_in_range : (q : Query) (set : ℕ) → set < 1024 → IsInRange (top_of q set)
 top_in_range q set small =
     let least = trailing_zeros w32 set in
-    let there : (set == 2 ^ least) ≡ true → least < 10 = λ same. exponent_lt least 10 (subst (λ x. x < 2 ^ 10) (eqb-true set (2 ^ least) same) small) in
+    let there : (set == 2 ^ least) ≡ true → least < 10 =
+    λ same. exponent_lt least 10 (subst (λ x. x < 2 ^ 10) (eqb-true set (2 ^ least) same) small) in
     cond_both (set == 2 ^ least) (Some least) None (λ o. IsInRange (option_map_or (group_of_table q) o (Join set)))
     (λ same. cond_both (has_own q least) (Filter least) (Get least) IsInRange (λ own. there same) (λ none. there same))
     (λ differs. small)
 
 -- of a number there is one such group, and one such set
-pub number_top : (q : Query) (set number : ℕ) (group : KeyParts) → IsInRange group → key_number group ≡ number → set < 1024
+pub number_top : (q : Query) (set number : ℕ) (group : KeyParts) → IsInRange group → key_number group ≡ number
+    → set < 1024
     → key_number (top_of q set) ≡ number → group ≡ top_of q set
-number_top q set number group in_range is small top_is = key_one group (top_of q set) in_range (top_in_range q set small) (is ∙ sym top_is)
+number_top q set number group in_range is small top_is =
+    key_one group (top_of q set) in_range (top_in_range q set small) (is ∙ sym top_is)
 
 -- the other side has the tables that the one leaves
 pub right_bit : (q : Query) (set a b : ℕ) → FallsInto q set a b → (t : ℕ) → bit b t ≡ bit set t - bit a t
 right_bit q set a b falls t =
-    omega (arith, bit-or a b t, ap (λ x. bit x t) falls.whole, bit-and a b t, ap (λ x. bit x t) falls.disjoint, bit-none t, bit-below a t, bit-below b t)
+    omega (
+      arith,
+      bit-or a b t,
+      ap (λ x. bit x t) falls.whole,
+      bit-and a b t,
+      ap (λ x. bit x t) falls.disjoint,
+      bit-none t,
+      bit-below a t,
+      bit-below b t,
+    )
 
 -- the other side is what the one leaves
-pub right_one : (q : Query) (set a b rest : ℕ) → FallsInto q set a b → ((t : ℕ) → bit rest t ≡ bit set t - bit a t) → b ≡ rest
+pub right_one : (q : Query) (set a b rest : ℕ) → FallsInto q set a b → ((t : ℕ) → bit rest t ≡ bit set t - bit a t)
+    → b ≡ rest
 right_one q set a b rest falls left = same_tables b rest (λ t. right_bit q set a b falls t ∙ sym (left t))
 
 -- what a set leaves of another has none of its tables
 pub rest_disjoint : (set a rest : ℕ) → ((t : ℕ) → bit rest t ≡ bit set t - bit a t) → bit_and a rest ≡ 0
-rest_disjoint set a rest left = same_tables (bit_and a rest) 0 (λ t. omega (arith, left t, bit-and a rest t, bit-none t, bit-below a t, bit-below set t))
+rest_disjoint set a rest left = same_tables (bit_and a rest) 0
+    (λ t. omega (arith, left t, bit-and a rest t, bit-none t, bit-below a t, bit-below set t))
 
 -- groups in range join tables of the first ten
 pub tables_small : (group : KeyParts) → IsInRange group → tables_of group < 1024
@@ -62,8 +77,10 @@ tables_small Agg there = omega arith
 pub key_top_small : (q : Query) (set : ℕ) → set < 1024 → key_number (top_of q set) < 2048
 key_top_small q set small =
     let least = trailing_zeros w32 set in
-    let there : (set == 2 ^ least) ≡ true → least < 10 = λ same. exponent_lt least 10 (subst (λ x. x < 2 ^ 10) (eqb-true set (2 ^ least) same) small) in
-    cond_both (set == 2 ^ least) (Some least) None (λ o. key_number (option_map_or (group_of_table q) o (Join set)) < 2048)
+    let there : (set == 2 ^ least) ≡ true → least < 10 =
+    λ same. exponent_lt least 10 (subst (λ x. x < 2 ^ 10) (eqb-true set (2 ^ least) same) small) in
+    cond_both (set == 2 ^ least) (Some least) None
+    (λ o. key_number (option_map_or (group_of_table q) o (Join set)) < 2048)
     (λ same. cond_both (has_own q least) (Filter least) (Get least) (λ g. key_number g < 2048)
     (λ own. omega (arith, there same)) (λ none. omega (arith, there same)))
     (λ differs. omega (arith, small))

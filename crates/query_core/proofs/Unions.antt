@@ -1,5 +1,6 @@
 -- Laws of sets that links join.
-use Rattle.std.proofs.Common.{◌≡◌, ℕ, ◌+◌, ◌-◌, ◌<◌, ◌^◌, max, min, true, None, Some, refl, ap, sym, subst, ◌∙◌, arith, IsTrue, ◌⊎◌, inl, inr, List}
+use Rattle.std.proofs.Common.{◌≡◌, ℕ, ◌+◌, ◌-◌, ◌<◌, ◌^◌, max, min, true, None, Some, refl, ap, sym, subst, ◌∙◌, arith}
+use Rattle.std.proofs.Common.{IsTrue, ◌⊎◌, inl, inr, List}
 use Rattle.std.specs.Prelude.{bit_or, bit_and, bit_xor, is_none, ◌≢◌, ◌==◌, if◌then◌else◌}
 use Rattle.std.specs.Int.{trailing_zeros, w32}
 use Rattle.std.proofs.lemmas.Nat.{pow_pos, le_or_l}
@@ -11,15 +12,18 @@ use Rattle.query_core.specs.Expressions.{FallsInto}
 use Rattle.query_core.specs.declared.predicate.Link.{Link}
 use Rattle.query_core.specs.declared.query.Query.{Query}
 use Rattle.query_core.specs.declared.words.KeyParts.TheVariants.{Join}
-use Rattle.query_core.proofs.Bits.{bit-below, bit-and, bit-or, bit-none, bit-one, bit-one_other, bit-beyond, bit-difference, one-grows, same_tables, power_below, least-found}
+use Rattle.query_core.proofs.Bits.{bit-below, bit-and, bit-or, bit-none, bit-one, bit-one_other, bit-beyond}
+use Rattle.query_core.proofs.Bits.{bit-difference, one-grows, same_tables, power_below, least-found}
 use Rattle.query_core.proofs.Reach.{Reaches-then, Reaches-turned}
 use Rattle.query_core.proofs.GroupLemmas.{group_in_range}
 use Rattle.query_core.proofs.Whole.{bit_cases}
 
 -- what is reached in a set is reached in a larger one
-pub reaches_in_more : (links : List Link) (set more : ℕ) → ((t : ℕ) → Has set t → Has more t) → {s t : ℕ} → Reaches links set s t → Reaches links more s t
+pub reaches_in_more : (links : List Link) (set more : ℕ) → ((t : ℕ) → Has set t → Has more t) → {s t : ℕ}
+    → Reaches links set s t → Reaches links more s t
 reaches_in_more links set more within (here has) = here (within _ has)
-reaches_in_more links set more within (along before joined there) = along (reaches_in_more links set more within before) joined (within _ there)
+reaches_in_more links set more within (along before joined there) =
+    along (reaches_in_more links set more within before) joined (within _ there)
 
 module _ (links : List Link) (a b : ℕ) where
   in_left : (t : ℕ) → Has a t → Has (bit_or a b) t
@@ -35,7 +39,8 @@ module _ (links : List Link) (a b : ℕ) where
   ]
 
   -- from a table of the one connected set over the link to a table of the other
-  across : IsConnected links a → IsConnected links b → AreLinked links a b → (s t : ℕ) → Has a s → Has b t → Reaches links (bit_or a b) s t
+  across : IsConnected links a → IsConnected links b → AreLinked links a b → (s t : ℕ) → Has a s → Has b t
+      → Reaches links (bit_or a b) s t
   across left right (y, (in_b, (x, in_a, joined))) s t has_s has_t =
       Reaches-then links (bit_or a b)
       (along (reaches_in_more links a (bit_or a b) in_left (left s x has_s in_a)) joined (in_right y in_b))
@@ -90,26 +95,40 @@ sides_turned q set a b falls = record {
 }
 
 -- of three sets the second may go from the first to the third, where a link joins these two
-pub sides_moved : (q : Query) (set left a b c : ℕ) → FallsInto q set left c → FallsInto q left a b → AreLinked q.links b c
+pub sides_moved : (q : Query) (set left a b c : ℕ) → FallsInto q set left c → FallsInto q left a b
+    → AreLinked q.links b c
     → FallsInto q (bit_or b c) b c × FallsInto q set a (bit_or b c)
 sides_moved q set left a b c outer inner linked =
-    let bits : (t : ℕ) → (max (max (bit a t) (bit b t)) (bit c t) ≡ bit set t) × (min (bit a t) (bit b t) ≡ 0) × (min (max (bit a t) (bit b t)) (bit c t) ≡ 0) = λ t. (
+    let bits : (t : ℕ) → (max (max (bit a t) (bit b t)) (bit c t) ≡ bit set t) × (min (bit a t) (bit b t) ≡ 0)
+    × (min (max (bit a t) (bit b t)) (bit c t) ≡ 0) = λ t. (
       ap (λ x. max x (bit c t)) (sides_whole q left a b inner t) ∙ sides_whole q set left c outer t,
       sides_apart q left a b inner t,
       ap (λ x. min x (bit c t)) (sides_whole q left a b inner t) ∙ sides_apart q set left c outer t,
     ) in (
       record {
         whole = refl;
-        disjoint = same_tables (bit_and b c) 0 (λ t. omega (arith, bit-and b c t, (bits t).2, bit-none t, bit-below a t, bit-below b t, bit-below c t));
+        disjoint = same_tables (bit_and b c) 0 (λ t.
+            omega (arith, bit-and b c t, (bits t).2, bit-none t, bit-below a t, bit-below b t, bit-below c t));
         left = inner.right;
         right = outer.right;
         some_left = inner.some_right;
         some_right = outer.some_right;
       },
       record {
-        whole = same_tables (bit_or a (bit_or b c)) set (λ t. omega (arith, bit-or a (bit_or b c) t, bit-or b c t, (bits t).0));
+        whole = same_tables (bit_or a (bit_or b c)) set
+            (λ t. omega (arith, bit-or a (bit_or b c) t, bit-or b c t, (bits t).0));
         disjoint = same_tables (bit_and a (bit_or b c)) 0 (λ t.
-            omega (arith, bit-and a (bit_or b c) t, bit-or b c t, (bits t).1, (bits t).2, bit-none t, bit-below a t, bit-below b t, bit-below c t));
+            omega (
+              arith,
+              bit-and a (bit_or b c) t,
+              bit-or b c t,
+              (bits t).1,
+              (bits t).2,
+              bit-none t,
+              bit-below a t,
+              bit-below b t,
+              bit-below c t,
+            ));
         left = inner.left;
         right = union_connected q.links b c inner.right outer.right linked;
         some_left = inner.some_left;
@@ -146,13 +165,15 @@ module _ (set t : ℕ) (has : Has set t) where
   -- is less by its power of two
   rest_number : set - 2 ^ t ≡ rest
   rest_number =
-      let grows : bit_or rest (2 ^ t) ≡ rest + 2 ^ t = one-grows rest t (omega (arith, rest_bit t, bit-one t, bit-below set t)) in
+      let grows : bit_or rest (2 ^ t) ≡ rest + 2 ^ t =
+      one-grows rest t (omega (arith, rest_bit t, bit-one t, bit-below set t)) in
       omega (arith, grows, rest_whole)
 
   -- a set of several tables falls into the others and one without which they are connected
   pub cut_sides : (q : Query) → set ≢ 2 ^ t → IsConnected q.links (set - 2 ^ t) → FallsInto q set (set - 2 ^ t) (2 ^ t)
   cut_sides q several connected =
-      let grows : bit_or rest (2 ^ t) ≡ rest + 2 ^ t = one-grows rest t (omega (arith, rest_bit t, bit-one t, bit-below set t)) in
+      let grows : bit_or rest (2 ^ t) ≡ rest + 2 ^ t =
+      one-grows rest t (omega (arith, rest_bit t, bit-one t, bit-below set t)) in
       record {
         whole = ap (λ x. bit_or x (2 ^ t)) rest_number ∙ rest_whole;
         disjoint = ap (λ x. bit_and x (2 ^ t)) rest_number ∙ rest_apart;
@@ -177,7 +198,8 @@ several_more set t within several same =
     false≢true (subst (λ b. IsTrue (is_none (if b then Some least else None))) power (and_parts _ _ several).1)
 
 -- so a join falls into its tables but one, where they are connected, and that one
-pub join_cut : (q : Query) (set t : ℕ) → IsGroup q (Join set) → Has set t → IsConnected q.links (set - 2 ^ t) → FallsInto q set (set - 2 ^ t) (2 ^ t)
+pub join_cut : (q : Query) (set t : ℕ) → IsGroup q (Join set) → Has set t → IsConnected q.links (set - 2 ^ t)
+    → FallsInto q set (set - 2 ^ t) (2 ^ t)
 join_cut q set t known has connected =
     let small : set < 2 ^ 10 = group_in_range q (Join set) known in
     let within : t < 32 = elim (cases_lt t 10) [

@@ -1,5 +1,6 @@
 -- The links of a query connect all its tables.
-use Rattle.std.proofs.Common.{◌≡◌, ℕ, zero, suc, ◌+◌, ◌-◌, ◌<◌, ◌≤◌, ◌^◌, List, [], ◌∷◌, length, refl, sym, subst, ◌∙◌, arith, IsTrue, ◌⊎◌, inl, inr}
+use Rattle.std.proofs.Common.{◌≡◌, ℕ, zero, suc, ◌+◌, ◌-◌, ◌<◌, ◌≤◌, ◌^◌, List, [], ◌∷◌, length, refl, sym, subst, ◌∙◌}
+use Rattle.std.proofs.Common.{arith, IsTrue, ◌⊎◌, inl, inr}
 use Rattle.std.specs.Prelude.{bit_or}
 use Rattle.std.specs.Int.{trailing_zeros, w32}
 use Rattle.std.proofs.Math.Nat.{pow-le-pow_right}
@@ -8,11 +9,13 @@ use Rattle.std.proofs.lemmas.Bool.{cases_eq, cases_lt, false≢true, or_left, or
 use Rattle.query_core.specs.declared.predicate.Link.{Link}
 use Rattle.query_core.specs.declared.query.Query.{Query}
 use Rattle.query_core.specs.Sets.{bit, Has, Adds, IsLeast}
-use Rattle.query_core.specs.Connected.{joins, are_joined, Reaches, here, along, IsConnected, IsLead, IsReached, IsClosed}
+use Rattle.query_core.specs.Connected.{joins, are_joined, Reaches, here, along, IsConnected, IsLead, IsReached}
+use Rattle.query_core.specs.Connected.{IsClosed}
 use Rattle.query_core.specs.Links.{predicate_links, StartsComponent}
 use Rattle.query_core.specs.Keys.{IsGroup, input_of}
 use Rattle.query_core.proofs.GroupLemmas.{top_group}
-use Rattle.query_core.proofs.Bits.{bit-below, bit-none, bit-or, bit-one, bit-one_other, bit-first, bit-after, bit-beyond, one-grows, power_below, least-found}
+use Rattle.query_core.proofs.Bits.{bit-below, bit-none, bit-or, bit-one, bit-one_other, bit-first, bit-after}
+use Rattle.query_core.proofs.Bits.{bit-beyond, one-grows, power_below, least-found}
 use Rattle.query_core.proofs.Reach.{Reaches-then, Reaches-turned, reached_first, reached_next, reached_is}
 use Rattle.query_core.proofs.TrueLinks.{joins_own, joins_back, joined_ends}
 use Rattle.query_core.proofs.Linking.{components_joined}
@@ -39,7 +42,8 @@ module _ (set found : ℕ) where
   ]
 
   -- a link leads to a new table, or none does
-  pub lead_or_closed : (links : List Link) → ((t : ℕ) × (bit found t ≡ 0) × IsLead links found set t) ⊎ IsClosed links set found
+  pub lead_or_closed : (links : List Link) → ((t : ℕ) × (bit found t ≡ 0) × IsLead links found set t)
+      ⊎ IsClosed links set found
   lead_or_closed [] = inr (λ s t has joined there. absurd (false≢true joined))
   lead_or_closed (link ∷ links) = elim (lead_or_closed links) [
     | inl (t, none, (there, (s, has, joined))) ↦ inl (t, none, (there, (s, has, or_right (joins s t link) _ joined)))
@@ -50,8 +54,10 @@ module _ (set found : ℕ) where
         | inr back ↦ inr (λ s t has joined there. elim (or_cases (joins s t link) (are_joined links s t) joined) [
           | inr rest ↦ closed s t has rest there
           | inl this ↦ elim (joined_ends link s t this) [
-            | inl (same_s, same_t) ↦ subst (Has found) same_t (ahead (subst (Has found) (sym same_s) has) (subst (Has set) (sym same_t) there))
-            | inr (same_t, same_s) ↦ subst (Has found) same_t (back (subst (Has found) (sym same_s) has) (subst (Has set) (sym same_t) there))
+            | inl (same_s, same_t) ↦ subst (Has found) same_t
+                (ahead (subst (Has found) (sym same_s) has) (subst (Has set) (sym same_t) there))
+            | inr (same_t, same_s) ↦ subst (Has found) same_t
+                (back (subst (Has found) (sym same_s) has) (subst (Has set) (sym same_t) there))
           ]
         ])
       ]
@@ -60,7 +66,8 @@ module _ (set found : ℕ) where
 
 module _ (links : List Link) (set count from : ℕ) (small : set < 2 ^ count) (has : Has set from) where
   -- what is found grows until no link leads out of it
-  grown : (fuel found : ℕ) → Has found from → ((t : ℕ) → Has found t → Reaches links set from t) → found < 2 ^ count → 2 ^ count - found ≤ fuel
+  grown : (fuel found : ℕ) → Has found from → ((t : ℕ) → Has found t → Reaches links set from t) → found < 2 ^ count
+      → 2 ^ count - found ≤ fuel
       → (m : ℕ) × (m < 2 ^ count) × IsReached links set from m
   grown zero found first sound few left = absurd (omega (arith, few, left))
   grown (suc fuel) found first sound few left = elim (lead_or_closed set found links) [
@@ -94,16 +101,20 @@ module _ (links : List Link) (set count from : ℕ) (small : set < 2 ^ count) (h
         | inl below ↦ below
         | inr beyond ↦ absurd (omega (arith, bit-beyond set count from small beyond, has))
       ] in
-      grown (2 ^ count) (2 ^ from) (bit-one from) (reached_first links set from (2 ^ from) has adds) (power_below from count there) (omega arith)
+      grown (2 ^ count) (2 ^ from) (bit-one from) (reached_first links set from (2 ^ from) has adds)
+      (power_below from count there) (omega arith)
 
 -- what links reach others reach that join at least the same tables
-reaches_by : (links made : List Link) (set : ℕ) → ((s t : ℕ) → IsTrue (are_joined made s t) → IsTrue (are_joined links s t))
+reaches_by : (links made : List Link) (set : ℕ)
+    → ((s t : ℕ) → IsTrue (are_joined made s t) → IsTrue (are_joined links s t))
     → {s t : ℕ} → Reaches made set s t → Reaches links set s t
 reaches_by links made set more (here has) = here has
-reaches_by links made set more (along {s} {t} before joined there) = along (reaches_by links made set more before) (more s t joined) there
+reaches_by links made set more (along {s} {t} before joined there) =
+    along (reaches_by links made set more before) (more s t joined) there
 
 -- table 0 reaches each table: the least of its component over a TRUE link, and from there the others
-reached_by_first : (q : Query) (bound t : ℕ) → t < bound → t < length q.tables → Reaches q.links (2 ^ length q.tables - 1) 0 t
+reached_by_first : (q : Query) (bound t : ℕ) → t < bound → t < length q.tables
+    → Reaches q.links (2 ^ length q.tables - 1) 0 t
 reached_by_first q zero t below there = absurd (omega (arith, below))
 reached_by_first q (suc bound) t below there =
     let count = length q.tables in
@@ -138,7 +149,8 @@ reached_by_first q (suc bound) t below there =
                 let below_t : least < t = omega (arith, lesser, found.least t own) in
                 Reaches-then q.links all
                 (reached_by_first q bound least (omega (arith, below, below_t)) (omega (arith, below_t, there)))
-                (reaches_by q.links made all joined.by_predicates (Reaches-turned made all (reached.sound least found.here)))
+                (reaches_by q.links made all joined.by_predicates
+                (Reaches-turned made all (reached.sound least found.here)))
           ]
     ]
 

@@ -63,11 +63,13 @@ IsJoinBy q set kind e = (a b : ℕ) × FallsInto q set a b × (e ≡ join q set 
 
 -- the same where the left child has this number in the word
 abbrev pub IsJoinAt : Query → ℕ → JoinKind → ℕ → ExprParts → Type 0
-IsJoinAt q set kind left e = (a b : ℕ) × FallsInto q set a b × (e ≡ join q set kind a b) × (key_number (top_of q a) + 1 ≡ left)
+IsJoinAt q set kind left e = (a b : ℕ) × FallsInto q set a b × (e ≡ join q set kind a b)
+    × (key_number (top_of q a) + 1 ≡ left)
 
 -- the aggregation of all rows, or of groups that are not complete
 abbrev pub IsAggregateBy : Query → AggKind → ExprParts → Type 0
-IsAggregateBy q kind e = (e ≡ expr groups.Agg (aggregate_by kind (input_of q))) ⊎ (e ≡ expr groups.Agg (aggregate_by kind groups.Partial))
+IsAggregateBy q kind e = (e ≡ expr groups.Agg (aggregate_by kind (input_of q)))
+    ⊎ (e ≡ expr groups.Agg (aggregate_by kind groups.Partial))
 
 -- the expressions of a group of the query, as its kind has them
 abbrev pub IsOf : Query → KeyParts → ExprParts → Type 0
@@ -76,14 +78,17 @@ IsOf q (groups.Get t) e =
     ⊎ ((e ≡ expr (groups.Get t) (operators.Physical physical.Scan)) ⊎ IsRead q t (groups.Get t) indexes.Scan e)
 IsOf q (groups.Filter t) e =
     (e ≡ expr (groups.Filter t) (operators.Logical (logical.Select (groups.Get t))))
-    ⊎ ((e ≡ expr (groups.Filter t) (operators.Physical (physical.Filter (groups.Get t)))) ⊎ IsRead q t (groups.Filter t) indexes.Seek e)
+    ⊎ ((e ≡ expr (groups.Filter t) (operators.Physical (physical.Filter (groups.Get t))))
+    ⊎ IsRead q t (groups.Filter t) indexes.Seek e)
 IsOf q (groups.Join set) e =
     (e ≡ expr (groups.Join set) (operators.Logical logical.NJoin))
-    ⊎ ((IsJoinBy q set joins.Logical e ⊎ IsJoinBy q set joins.Hash e) ⊎ (IsJoinBy q set joins.Merge e ⊎ IsJoinBy q set joins.Loop e))
+    ⊎ ((IsJoinBy q set joins.Logical e ⊎ IsJoinBy q set joins.Hash e)
+    ⊎ (IsJoinBy q set joins.Merge e ⊎ IsJoinBy q set joins.Loop e))
 IsOf q groups.Partial e =
     (e ≡ expr groups.Partial (operators.Logical (logical.Partial (input_of q))))
     ⊎ (e ≡ expr groups.Partial (operators.Physical (physical.PartialAgg (input_of q))))
-IsOf q groups.Agg e = IsAggregateBy q aggregations.Logical e ⊎ (IsAggregateBy q aggregations.Hash e ⊎ IsAggregateBy q aggregations.Stream e)
+IsOf q groups.Agg e = IsAggregateBy q aggregations.Logical e
+    ⊎ (IsAggregateBy q aggregations.Hash e ⊎ IsAggregateBy q aggregations.Stream e)
 
 -- ---- the least word of a kind
 

@@ -23,10 +23,12 @@ IsLast q group before = (w : ℕ) → IsCandidateOf q group w → IsAfter before
 
 -- in a group what tells candidates apart ascends with their words
 abbrev pub MiddlesRise : Query → Type 0
-MiddlesRise q = (e other : ExprParts) → IsCandidate q e → IsCandidate q other → e.group ≡ other.group → word_of e < word_of other
+MiddlesRise q = (e other : ExprParts) → IsCandidate q e → IsCandidate q other → e.group ≡ other.group
+    → word_of e < word_of other
     → middle_field (word_of e) < middle_field (word_of other)
 
 -- in a group logical candidates come before physical ones
 abbrev pub LogicalComeFirst : Query → Type 0
-LogicalComeFirst q = (e other : ExprParts) → IsCandidate q e → IsCandidate q other → e.group ≡ other.group → IsTrue (is_logical e.operator)
+LogicalComeFirst q = (e other : ExprParts) → IsCandidate q e → IsCandidate q other → e.group ≡ other.group
+    → IsTrue (is_logical e.operator)
     → (IsTrue (is_logical other.operator) → ⊥) → word_of e < word_of other

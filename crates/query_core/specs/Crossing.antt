@@ -23,7 +23,8 @@ equal_item comparisons.Ge right = None
 -- the two items, that of the left group first, where one lies in each group
 abbrev pub sides_of : Query → KeyParts → KeyParts → ℕ → ℕ → Option (ℕ × ℕ)
 sides_of q left right a b =
-    if has_item q left a && has_item q right b then Some (a, b) else if has_item q left b && has_item q right a then Some (b, a) else None
+    if has_item q left a && has_item q right b then Some (a, b) else if has_item q left b && has_item q right a then
+    Some (b, a) else None
 
 -- the same for an item that may be absent
 abbrev pub sides_with : Query → KeyParts → KeyParts → ℕ → Option ℕ → Option (ℕ × ℕ)

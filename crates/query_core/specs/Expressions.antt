@@ -1,5 +1,6 @@
 -- Group expressions: their words, those that a group can hold, and the one with which a group begins.
-use Rattle.std.specs.Prelude.{ℕ, Bool, true, false, Option, None, ◌≡◌, ◌⊎◌, ◌<◌, ◌+◌, ◌*◌, ◌/◌, ◌%◌, ◌^◌, length, slice_get, Some, IsTrue, bit_or, bit_and}
+use Rattle.std.specs.Prelude.{ℕ, Bool, true, false, Option, None, ◌≡◌, ◌⊎◌, ◌<◌, ◌+◌, ◌*◌, ◌/◌, ◌%◌, ◌^◌, length}
+use Rattle.std.specs.Prelude.{slice_get, Some, IsTrue, bit_or, bit_and}
 use Rattle.query_core.specs.Connected.{IsConnected}
 use Rattle.query_core.specs.Keys.{key_number, IsInRange, IsGroup, top_of, input_of}
 use Rattle.query_core.specs.declared.table.QueryTable.{QueryTable}
@@ -82,7 +83,8 @@ right_number (Two left right) = key_number right + 1
 
 -- the word of a key and an operator's fields
 abbrev pub packed : ℕ → Fields → ℕ
-packed key f = key * 2 ^ 36 + f.number * 2 ^ 31 + f.index * 2 ^ 26 + left_number f.children * 2 ^ 13 + right_number f.children
+packed key f = key * 2 ^ 36 + f.number * 2 ^ 31 + f.index * 2 ^ 26 + left_number f.children * 2 ^ 13 + right_number
+    f.children
 
 -- the word of a group expression
 abbrev pub word_of : ExprParts → ℕ
@@ -156,7 +158,8 @@ HasIndex q t index = (table : QueryTable) × (slice_get q.tables t ≡ Some tabl
 
 -- the join of the two sets that a set falls into
 abbrev pub IsJoin : Query → KeyParts → KeyParts → KeyParts → Type 0
-IsJoin q group left right = (set a b : ℕ) × (group ≡ groups.Join set) × FallsInto q set a b × (left ≡ top_of q a) × (right ≡ top_of q b)
+IsJoin q group left right = (set a b : ℕ) × (group ≡ groups.Join set) × FallsInto q set a b × (left ≡ top_of q a)
+    × (right ≡ top_of q b)
 
 -- the rows that meet a table's own predicates, from the table's rows
 abbrev pub IsFiltered : KeyParts → KeyParts → Type 0

@@ -1,5 +1,6 @@
 -- What the used columns of a query keep, and the lists of columns that belong to its tables.
-use Rattle.std.specs.Prelude.{ℕ, Bool, false, List, ◌&&◌, ◌==◌, length, nat_lt, nat_le, bytes_eq, slice_get, IsTrue, option_to_list}
+use Rattle.std.specs.Prelude.{ℕ, Bool, false, List, ◌&&◌, ◌==◌, length, nat_lt, nat_le, bytes_eq, slice_get, IsTrue}
+use Rattle.std.specs.Prelude.{option_to_list}
 use Rattle.std.specs.List.{list_all, enumerate_from}
 use Rattle.std.specs.Option.{option_map_or}
 use Rattle.orca_base.specs.Name.{has_name_form}
@@ -18,12 +19,14 @@ is_column_of items table number = option_map_or (λ item. item.table == table) (
 -- 1 to 8 columns of the table, none of them twice
 abbrev pub is_column_list : List Item → ℕ → List ℕ → Bool
 is_column_list items table columns =
-    nat_le 1 (length columns) && nat_le (length columns) 8 && list_all (is_column_of items table) columns && numbers_differ columns
+    nat_le 1 (length columns) && nat_le (length columns) 8 && list_all (is_column_of items table)
+    columns && numbers_differ columns
 
 -- the table's hashed list, if any, and each of its at most 16 indexes is a list of its columns
 abbrev pub has_own_lists : List Item → ℕ → QueryTable → Bool
 has_own_lists items place table =
-    nat_le (length table.indexes) 16 && list_all (is_column_list items place) (option_to_list table.hashed) && list_all (is_column_list items place) table.indexes
+    nat_le (length table.indexes) 16 && list_all (is_column_list items place) (option_to_list table.hashed) && list_all
+    (is_column_list items place) table.indexes
 
 -- each item is a column of one of the tables, named as columns are, with at most 10^12 distinct values
 pub record AreItems (tables : List QueryTable) (items : List Item) : Type 0 where

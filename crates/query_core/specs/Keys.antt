@@ -1,5 +1,6 @@
 -- Groups of a query and the numbers of their keys.
-use Rattle.std.specs.Prelude.{ℕ, Bool, true, false, List, ◌≡◌, ◌&&◌, ◌||◌, ◌==◌, ◌+◌, ◌-◌, ◌<◌, ◌^◌, length, nat_lt, nat_le, slice_get, IsTrue, if◌then◌else◌}
+use Rattle.std.specs.Prelude.{ℕ, Bool, true, false, List, ◌≡◌, ◌&&◌, ◌||◌, ◌==◌, ◌+◌, ◌-◌, ◌<◌, ◌^◌, length, nat_lt}
+use Rattle.std.specs.Prelude.{nat_le, slice_get, IsTrue, if◌then◌else◌}
 use Rattle.std.specs.List.{list_any}
 use Rattle.std.specs.Option.{option_map_or}
 use Rattle.query_core.specs.Items.{is_column_of}
@@ -44,7 +45,8 @@ is_own items t pred = is_column_of items t pred.left && lies_in items t pred.rig
 abbrev pub has_own : Query → ℕ → Bool
 has_own q t = list_any (is_own q.items t) q.preds
 
--- the query has the group: a table, a table with own predicates, a connected set of two or more tables, and the two of a grouped query
+-- the query has the group: a table, a table with own predicates, a connected set of two or more tables, and the two of
+-- a grouped query
 abbrev pub IsGroup : Query → KeyParts → Type 0
 IsGroup q (Get t) = t < length q.tables
 IsGroup q (Filter t) = (t < length q.tables) × IsTrue (has_own q t)

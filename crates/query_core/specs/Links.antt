@@ -1,5 +1,7 @@
 -- Which links a query has: those that its predicates make, and those that join the rest to table 0.
-use Rattle.std.specs.Prelude.{ℕ, Bool, true, not, List, [], ◌∷◌, Option, None, Some, ◌≡◌, ◌↔◌, ◌&&◌, ◌==◌, ◌<◌, ◌≤◌, ◌+◌, ◌-◌, ◌^◌, min, max, length, take, drop, nat_lt, nat_le, slice_get, filter_map, IsTrue, if◌then◌else◌}
+use Rattle.std.specs.Prelude.{ℕ, Bool, true, not, List, [], ◌∷◌, Option, None, Some, ◌≡◌, ◌↔◌, ◌&&◌, ◌==◌, ◌<◌, ◌≤◌}
+use Rattle.std.specs.Prelude.{◌+◌, ◌-◌, ◌^◌, min, max, length, take, drop, nat_lt, nat_le, slice_get, filter_map}
+use Rattle.std.specs.Prelude.{IsTrue, if◌then◌else◌}
 use Rattle.std.specs.List.{list_all}
 use Rattle.std.specs.Option.{option_map}
 use Rattle.query_core.specs.Connected.{are_joined, Reaches}
@@ -63,13 +65,17 @@ pub record AddsTrueLinks (IsWanted : ℕ → Type 0) (made links : List Link) : 
   pub made_first : take (length made) links ≡ made
   pub true_last : AreTrueLinks IsWanted (drop (length made) links)
 
--- the links that the predicates make, in the predicates' order, and behind them a TRUE link from table 0 to the least table of each component of these links that is without it, ascending
-pub record AreLinks (tables : List QueryTable) (items : List Item) (preds : List Pred) (links : List Link) : Type 0 where
-  pub between_tables : IsTrue (list_all (is_between (length tables)) links)
-  pub in_order : AddsTrueLinks (StartsComponent (length tables) (predicate_links items preds)) (predicate_links items preds) links
+-- the links that the predicates make, in the predicates' order, and behind them a TRUE link from table 0 to the least
+-- table of each component of these links that is without it, ascending
+pub record AreLinks (tables : List QueryTable) (items : List Item) (preds : List Pred) (links : List Link) : Type 0
+  where
+    pub between_tables : IsTrue (list_all (is_between (length tables)) links)
+    pub in_order : AddsTrueLinks (StartsComponent (length tables) (predicate_links items preds))
+        (predicate_links items preds) links
 
 -- each two tables that are joined by the links made, and each two that are apart, are joined, and no others
 pub record JoinsComponents (count : ℕ) (made links : List Link) : Type 0 where
   pub by_predicates : (s t : ℕ) → IsTrue (are_joined made s t) → IsTrue (are_joined links s t)
   pub by_true : (s t : ℕ) → AreApart count made s t → IsTrue (are_joined links s t)
-  pub no_others : (s t : ℕ) → IsTrue (are_joined links s t) → IsTrue (not (are_joined made s t)) → AreApart count made (min s t) (max s t)
+  pub no_others : (s t : ℕ) → IsTrue (are_joined links s t) → IsTrue (not (are_joined made s t))
+      → AreApart count made (min s t) (max s t)

@@ -1,5 +1,6 @@
 -- Sets of tables, each given as a number in which the bit of a table's place is set.
-use Rattle.std.specs.Prelude.{ℕ, Bool, not, ◌&&◌, Option, None, Some, is_none, if◌then◌else◌, ◌≡◌, ◌==◌, ◌<◌, ◌≤◌, ◌^◌, ◌≢◌}
+use Rattle.std.specs.Prelude.{ℕ, Bool, not, ◌&&◌, Option, None, Some, is_none, if◌then◌else◌, ◌≡◌, ◌==◌, ◌<◌, ◌≤◌, ◌^◌}
+use Rattle.std.specs.Prelude.{◌≢◌}
 use Rattle.std.specs.Int.{bit_at, trailing_zeros, w32}
 
 -- 1 where the set has the table, else 0

@@ -77,11 +77,13 @@ abbrev pub group_by : Parts → List ℕ
 group_by parts = group_numbers (used_by parts) parts.group
 
 abbrev pub lists_by : Parts → List (List ℕ)
-lists_by parts = listing_of (filter_map (λ t. t.hashed) (tables_of parts) ++ one_each (joined_by parts) ++ unless_empty (group_by parts))
+lists_by parts = listing_of (filter_map (λ t. t.hashed) (tables_of parts) ++ one_each (joined_by parts) ++ unless_empty
+    (group_by parts))
 
 abbrev pub orders_by : Parts → List (List ℕ)
 orders_by parts =
-    listing_of (unless_empty (elements_of (order_of (used_by parts) parts.keys)) ++ one_each (ascending (joined_by parts)) ++ unless_empty (ascending (group_by parts)))
+    listing_of (unless_empty (elements_of (order_of (used_by parts) parts.keys)) ++ one_each
+    (ascending (joined_by parts)) ++ unless_empty (ascending (group_by parts)))
 
 -- ---- what is known of them
 

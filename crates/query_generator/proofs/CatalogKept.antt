@@ -1,5 +1,6 @@
 -- The catalogue of a number keeps the limits.
-use Rattle.std.proofs.Common.{◌≡◌, ℕ, zero, suc, ◌+◌, ◌*◌, ◌%◌, ◌==◌, ◌<◌, ◌≤◌, Bool, true, false, cond, [], ◌∷◌, map, length, refl, arith}
+use Rattle.std.proofs.Common.{◌≡◌, ℕ, zero, suc, ◌+◌, ◌*◌, ◌%◌, ◌==◌, ◌<◌, ◌≤◌, Bool, true, false, cond, [], ◌∷◌, map}
+use Rattle.std.proofs.Common.{length, refl, arith}
 use Rattle.std.specs.Fmt.{digits}
 use Rattle.std.specs.List.{All, range_with_len}
 use Rattle.std.proofs.lemmas.List.FromFn.{length-map-range_with_len}
@@ -47,9 +48,11 @@ tables_kept number a (suc n) h zero d within =
     table_kept a _ _ (omega arith) (omega (arith, rows)) (omega arith)
 tables_kept number a (suc n) h (suc k) d within = tables_kept number (a + 1) n (omega arith) k d (omega arith)
 
-names_differ : (number n : ℕ) → n ≤ 8 → texts_differ (map (λ t. t.name) (map (table_of number) (range_with_len 0 n))) ≡ true
+names_differ : (number n : ℕ) → n ≤ 8 → texts_differ
+    (map (λ t. t.name) (map (table_of number) (range_with_len 0 n))) ≡ true
 unfolding digits
-names_differ number n h = in_range (λ n. texts_differ (map (λ t. t.name) (map (table_of number) (range_with_len 0 n)))) 0 9 n refl (omega arith) (omega arith)
+names_differ number n h = in_range (λ n. texts_differ (map (λ t. t.name) (map (table_of number) (range_with_len 0 n))))
+    0 9 n refl (omega arith) (omega arith)
 
 table_count : (number n : ℕ) → n ≤ 8 → length (map (table_of number) (range_with_len 0 n)) ≤ 1000
 table_count number n h = rw (length-map-range_with_len (table_of number) 0 n) (omega arith)

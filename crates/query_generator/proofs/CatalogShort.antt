@@ -1,5 +1,6 @@
 -- The text of a number's catalogue isn't too long to be read.
-use Rattle.std.proofs.Common.{ℕ, zero, suc, ◌+◌, ◌*◌, ◌%◌, ◌^◌, ◌<◌, ◌≤◌, ◌&&◌, Bool, true, false, cond, List, [], ◌∷◌, ◌++◌, map, length, decimal, arith, length-append}
+use Rattle.std.proofs.Common.{ℕ, zero, suc, ◌+◌, ◌*◌, ◌%◌, ◌^◌, ◌<◌, ◌≤◌, ◌&&◌, Bool, true, false, cond, List, [], ◌∷◌}
+use Rattle.std.proofs.Common.{◌++◌, map, length, decimal, arith, length-append}
 use Rattle.std.specs.Fmt.{digits}
 use Rattle.std.specs.List.{range_with_len}
 use Rattle.std.proofs.lemmas.Fmt.{length-decimal-le}
@@ -25,14 +26,21 @@ text_fits after [] = omega arith
 text_fits after (t ∷ ts) =
     let comma = separator after t in
     let rest = print_from (ends t) ts in
-    omega (arith, comma_fits (after && begins t), text_fits (ends t) ts, length-append comma (token_text t ++ rest), length-append (token_text t) rest)
+    omega (
+      arith,
+      comma_fits (after && begins t),
+      text_fits (ends t) ts,
+      length-append comma (token_text t ++ rest),
+      length-append (token_text t) rest,
+    )
 
 -- ---- the room for a table
 
 number_short : (n : ℕ) → n < 10 ^ 7 → length (decimal n) ≤ 7
 number_short n h = length-decimal-le 7 n (omega arith) h (omega arith)
 
-table_short : (i rows values : ℕ) → i < 8 → length (decimal rows) ≤ 7 → length (decimal values) ≤ 7 → room (json_tokens (table_json (table_with i rows values))) ≤ 300
+table_short : (i rows values : ℕ) → i < 8 → length (decimal rows) ≤ 7 → length (decimal values) ≤ 7
+    → room (json_tokens (table_json (table_with i rows values))) ≤ 300
 unfolding digits escape_byte
 table_short zero rows values h k l = omega arith
 table_short (suc zero) rows values h k l = omega arith
@@ -44,16 +52,29 @@ table_short (suc (suc (suc (suc (suc (suc zero)))))) rows values h k l = omega a
 table_short (suc (suc (suc (suc (suc (suc (suc zero))))))) rows values h k l = omega arith
 table_short (suc (suc (suc (suc (suc (suc (suc (suc i)))))))) rows values h k l = absurd (omega arith)
 
-tables_short : (number a n : ℕ) → a + n ≤ 8 → room (items_tokens (items_of (map table_json (map (table_of number) (range_with_len a n))))) ≤ 300 * n + 2
+tables_short : (number a n : ℕ) → a + n ≤ 8
+    → room (items_tokens (items_of (map table_json (map (table_of number) (range_with_len a n))))) ≤ 300 * n + 2
 tables_short number a zero h = omega arith
 tables_short number a (suc n) h =
     let rows = draw_below number (2 * a + 1) in
-    let this = table_short a (100 * draw number (2 * a + 1)) (1 + draw number (2 * a + 2) % 1000) (omega arith) (number_short _ (omega (arith, rows))) (number_short _ (omega arith)) in
+    let this = table_short a (100 * draw number (2 * a + 1)) (1 + draw number (2 * a + 2) % 1000) (omega arith)
+    (number_short _ (omega (arith, rows))) (number_short _ (omega arith)) in
     let others = tables_short number (a + 1) n (omega arith) in
-    omega (arith, this, others, room-append (json_tokens (table_json (table_of number a))) (items_tokens (items_of (map table_json (map (table_of number) (range_with_len (a + 1) n))))))
+    omega (
+      arith,
+      this,
+      others,
+      room-append (json_tokens (table_json (table_of number a)))
+          (items_tokens (items_of (map table_json (map (table_of number) (range_with_len (a + 1) n))))),
+    )
 
 pub catalog_short : (number tables : ℕ) → tables ≤ 8 → length (catalog_text (catalog_of number tables)) ≤ most_bytes
 unfolding digits escape_byte
 catalog_short number tables h =
     let written = items_tokens (items_of (map table_json (map (table_of number) (range_with_len 0 tables)))) in
-    omega (arith, text_fits false (json_tokens (catalog_json (catalog_of number tables))), tables_short number 0 tables (omega arith), room-append written (Token.end_object ∷ []))
+    omega (
+      arith,
+      text_fits false (json_tokens (catalog_json (catalog_of number tables))),
+      tables_short number 0 tables (omega arith),
+      room-append written (Token.end_object ∷ []),
+    )

@@ -13,13 +13,17 @@ use Rattle.sql_reader.specs.declared.syntax.SelOperand.{SelOperand}
 use Rattle.sql_reader.specs.declared.syntax.SelOperand.TheVariants as operands
 use Rattle.sql_reader.specs.declared.syntax.Select.{Select}
 use Rattle.sql_reader.specs.Readable.{IsReadable, has_its_argument, is_expr, is_item, is_named, is_table}
-use Rattle.sql_reader.specs.Spellable.{Each, IsSpellable, IsSpellableCall, IsSpellableColumn, IsSpellableExpr, IsSpellableItem, IsSpellableKey, IsSpellableOperand, IsSpellablePred, IsSpellableTable, OneOrMore}
-use Rattle.sql_print.specs.Unplaced.{unplaced, unplaced_column, unplaced_expr, unplaced_item, unplaced_key, unplaced_operand, unplaced_pred, unplaced_table}
+use Rattle.sql_reader.specs.Spellable.{Each, IsSpellable, IsSpellableCall, IsSpellableColumn, IsSpellableExpr}
+use Rattle.sql_reader.specs.Spellable.{IsSpellableItem, IsSpellableKey, IsSpellableOperand, IsSpellablePred}
+use Rattle.sql_reader.specs.Spellable.{IsSpellableTable, OneOrMore}
+use Rattle.sql_print.specs.Unplaced.{unplaced, unplaced_column, unplaced_expr, unplaced_item, unplaced_key}
+use Rattle.sql_print.specs.Unplaced.{unplaced_operand, unplaced_pred, unplaced_table}
 
 -- ---- lists
 
 module _ {X : Type 0} (change : X → X) where
-  all_same : (test : X → Bool) → ((x : X) → test (change x) ≡ test x) → (xs : List X) → list_all test (map change xs) ≡ list_all test xs
+  all_same : (test : X → Bool) → ((x : X) → test (change x) ≡ test x) → (xs : List X)
+      → list_all test (map change xs) ≡ list_all test xs
   all_same test same [] = refl
   all_same test same (x ∷ xs) = ap₂ (λ a b. a && b) (same x) (all_same test same xs)
 
@@ -34,7 +38,8 @@ module _ {X : Type 0} (change : X → X) where
 
 -- ---- elements
 
-argument_same : (func : SelFunc) (arg : Option ColRef) → has_its_argument func (option_map unplaced_column arg) ≡ has_its_argument func arg
+argument_same : (func : SelFunc) (arg : Option ColRef)
+    → has_its_argument func (option_map unplaced_column arg) ≡ has_its_argument func arg
 argument_same functions.CountAll None = refl
 argument_same functions.CountAll (Some r) = refl
 argument_same functions.Count None = refl
@@ -53,7 +58,8 @@ expr_same (exprs.Agg func arg) = argument_same func arg
 item_same : (item : SelItem) → is_item (unplaced_item item) ≡ is_item item
 item_same item = ap (λ (b : Bool). b && is_named item.name) (expr_same item.expr)
 
-call_spelled : (func : SelFunc) (arg : Option ColRef) → IsSpellableCall func (option_map unplaced_column arg) → IsSpellableCall func arg
+call_spelled : (func : SelFunc) (arg : Option ColRef) → IsSpellableCall func (option_map unplaced_column arg)
+    → IsSpellableCall func arg
 call_spelled functions.CountAll None is = is
 call_spelled functions.CountAll (Some r) is = is
 call_spelled functions.Count None is = is
@@ -78,7 +84,8 @@ spelled : (select : Select) → IsSpellable (unplaced select) → IsSpellable se
 spelled select is = record {
   items = some_so unplaced_item IsSpellableItem (λ item so. (expr_spelled item.expr so.0, so.1)) select.items is.items;
   from = some_so unplaced_table IsSpellableTable (λ table so. so) select.from is.from;
-  preds = each_so unplaced_pred IsSpellablePred (λ pred so. (so.0, operand_spelled pred.right so.1)) select.preds is.preds;
+  preds = each_so unplaced_pred IsSpellablePred (λ pred so. (so.0, operand_spelled pred.right so.1)) select.preds
+      is.preds;
   group_by = each_so unplaced_column IsSpellableColumn (λ r so. so) select.group_by is.group_by;
   order_by = each_so unplaced_key IsSpellableKey (λ key so. so) select.order_by is.order_by;
 }
@@ -90,7 +97,8 @@ readable select is =
     let items : length (unplaced select).items ≡ length select.items = length-map select.items unplaced_item in
     let from : length (unplaced select).from ≡ length select.from = length-map select.from unplaced_table in
     let preds : length (unplaced select).preds ≡ length select.preds = length-map select.preds unplaced_pred in
-    let columns : length (unplaced select).group_by ≡ length select.group_by = length-map select.group_by unplaced_column in
+    let columns : length (unplaced select).group_by ≡ length select.group_by =
+    length-map select.group_by unplaced_column in
     let keys : length (unplaced select).order_by ≡ length select.order_by = length-map select.order_by unplaced_key in
     record {
       some_items = rw (← items) is.some_items;

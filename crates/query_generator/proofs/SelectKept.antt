@@ -1,5 +1,6 @@
 -- The query of a shape can be spelled, and its text isn't too long to be read.
-use Rattle.std.proofs.Common.{◌≡◌, ℕ, zero, suc, ◌+◌, ◌^◌, ◌<◌, ◌≤◌, ◌&&◌, Bool, true, None, map, length, nat_lt, codes, refl, arith}
+use Rattle.std.proofs.Common.{◌≡◌, ℕ, zero, suc, ◌+◌, ◌^◌, ◌<◌, ◌≤◌, ◌&&◌, Bool, true, None, map, length, nat_lt, codes}
+use Rattle.std.proofs.Common.{refl, arith}
 use Rattle.std.specs.Fmt.{digits}
 use Rattle.std.specs.List.{list_all, range_with_len}
 use Rattle.std.proofs.lemmas.Bool.{and_parts, ltb-true}
@@ -8,7 +9,8 @@ use Rattle.orca_base.specs.Name.{has_name_form}
 use Rattle.sql_reader.specs.declared.syntax.Select.{Select}
 use Rattle.sql_reader.specs.Readable.{IsReadable, is_table}
 use Rattle.sql_reader.specs.Words.{word_of}
-use Rattle.sql_reader.specs.Spellable.{is_plain, IsSpellable, IsSpellableName, IsSpellableTable, IsSpellablePred, Each, OneOrMore}
+use Rattle.sql_reader.specs.Spellable.{is_plain, IsSpellable, IsSpellableName, IsSpellableTable, IsSpellablePred, Each}
+use Rattle.sql_reader.specs.Spellable.{OneOrMore}
 use Rattle.sql_print.specs.Canonical.{canonical_text}
 use Rattle.sql_print.specs.Unplaced.{unplaced}
 use Rattle.query_generator.specs.declared.shape.GenShape.{GenShape}
@@ -78,7 +80,8 @@ all_plain Chain = refl
 all_plain Star = refl
 all_plain Clique = refl
 
-all_placed : (shape : GenShape) → map (λ t. unplaced (select_of shape t)) (range_with_len 1 8) ≡ map (select_of shape) (range_with_len 1 8)
+all_placed : (shape : GenShape) → map (λ t. unplaced (select_of shape t)) (range_with_len 1 8) ≡ map (select_of shape)
+    (range_with_len 1 8)
 all_placed Chain = refl
 all_placed Star = refl
 all_placed Clique = refl
@@ -86,12 +89,15 @@ all_placed Clique = refl
 pub plain_select : (shape : GenShape) (tables : ℕ) → 1 ≤ tables → tables ≤ 8 → IsPlainSelect (select_of shape tables)
 plain_select shape tables some few =
     let select : Select = select_of shape tables in
-    let few_preds = and_parts (nat_lt (length select.preds) 41) _ (in_range (is_plain_at shape) 1 8 tables (all_plain shape) some (omega arith)) in
-    let others = and_parts (list_all is_table select.from) (nat_lt (length (canonical_text select)) (2 ^ 16 + 1)) few_preds.1 in
+    let few_preds = and_parts (nat_lt (length select.preds) 41) _
+    (in_range (is_plain_at shape) 1 8 tables (all_plain shape) some (omega arith)) in
+    let others = and_parts (list_all is_table select.from) (nat_lt (length (canonical_text select)) (2 ^ 16 + 1))
+    few_preds.1 in
     record {
       few_preds = omega (arith, ltb-true (length select.preds) 41 few_preds.0);
       tables = others.0;
-      placed = same_in_range (λ t. unplaced (select_of shape t)) (select_of shape) 1 8 tables (all_placed shape) some (omega arith);
+      placed = same_in_range (λ t. unplaced (select_of shape t)) (select_of shape) 1 8 tables (all_placed shape) some
+          (omega arith);
       short = omega (arith, ltb-true (length (canonical_text select)) (2 ^ 16 + 1) others.1);
     }
 

@@ -15,18 +15,24 @@ use Rattle.query_generator.proofs.CatalogShort.{catalog_short}
 use Rattle.query_generator.proofs.SelectKept.{plain_select}
 
 -- a text that was written for the catalogue is read as the catalogue
-pub catalog_said : {V E : Type 0} (bytes : V → List ℕ) (number tables : ℕ) (catalog : Catalog) (r : Result V E) → tables ≤ 8 → catalog ≡ catalog_of number tables
-    → IfOk r (λ text. bytes text ≡ catalog_text catalog) → IfOk r (λ text. length (bytes text) ≤ most_bytes → reading_of (bytes text) ≡ Ok catalog)
+pub catalog_said : {V E : Type 0} (bytes : V → List ℕ) (number tables : ℕ) (catalog : Catalog) (r : Result V E)
+    → tables ≤ 8 → catalog ≡ catalog_of number tables
+    → IfOk r (λ text. bytes text ≡ catalog_text catalog)
+    → IfOk r (λ text. length (bytes text) ≤ most_bytes → reading_of (bytes text) ≡ Ok catalog)
     → IfOk r (λ text. IsCatalogText number tables (bytes text))
 catalog_said bytes number tables catalog (Err fault) few is written reads = tt
 catalog_said bytes number tables catalog (Ok text) few is written reads =
     let same : bytes text ≡ catalog_text (catalog_of number tables) = written ∙ ap catalog_text is in
-    let short : length (bytes text) ≤ most_bytes = subst (λ (b : List ℕ). length b ≤ most_bytes) (sym same) (catalog_short number tables few) in
+    let short : length (bytes text) ≤ most_bytes =
+    subst (λ (b : List ℕ). length b ≤ most_bytes) (sym same) (catalog_short number tables few) in
     record { written = same; read = reads short ∙ ap Ok is }
 
 -- a text that was printed for the query is read as the query
-pub query_said : {V E : Type 0} (bytes : V → List ℕ) (tables : ℕ) (shape : GenShape) (select : Select) (r : Result V E) → 1 ≤ tables → tables ≤ 8 → select ≡ select_of shape tables
-    → (length (canonical_text (select_of shape tables)) ≤ 2 ^ 16 → (again : Select) × IsReading (canonical_text (select_of shape tables)) again × (unplaced again ≡ unplaced (select_of shape tables)))
+pub query_said : {V E : Type 0} (bytes : V → List ℕ) (tables : ℕ) (shape : GenShape) (select : Select) (r : Result V E)
+    → 1 ≤ tables → tables ≤ 8 → select ≡ select_of shape tables
+    → (length (canonical_text (select_of shape tables)) ≤ 2 ^ 16 → (again : Select)
+    × IsReading (canonical_text (select_of shape tables)) again
+    × (unplaced again ≡ unplaced (select_of shape tables)))
     → IfOk r (λ text. bytes text ≡ canonical_text select) → IfOk r (λ text. IsQueryText shape tables (bytes text))
 query_said bytes tables shape select (Err fault) some few is reads printed = tt
 query_said bytes tables shape select (Ok text) some few is reads printed =

@@ -50,8 +50,10 @@ aggregate_name_at q place = option_map_or (λ agg. name_text agg.name) (slice_ge
 
 -- the column of this number, or the aggregate; aggregates are numbered after the columns
 abbrev pub computed_text : Query → ℕ → List ℕ
-computed_text q number = option_map_or (item_text q) (slice_get q.items number) (aggregate_text_at q (number - length q.items))
+computed_text q number = option_map_or (item_text q) (slice_get q.items number)
+    (aggregate_text_at q (number - length q.items))
 
 -- the column of this number, or the aggregate's output name
 abbrev pub sorted_text : Query → ℕ → List ℕ
-sorted_text q number = option_map_or (item_text q) (slice_get q.items number) (aggregate_name_at q (number - length q.items))
+sorted_text q number = option_map_or (item_text q) (slice_get q.items number)
+    (aggregate_name_at q (number - length q.items))

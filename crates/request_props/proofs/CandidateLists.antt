@@ -1,5 +1,6 @@
 -- The words of a group's candidates, as they are found one after the other, and as the next one is looked up.
-use Rattle.std.proofs.Common.{◌≡◌, ℕ, ◌+◌, ◌-◌, ◌^◌, ◌<◌, ◌≤◌, ◌⊎◌, inl, inr, List, [], ◌∷◌, ◌++◌, Option, None, Some, length, get_or, refl, ap, subst, sym, ◌∙◌, arith}
+use Rattle.std.proofs.Common.{◌≡◌, ℕ, ◌+◌, ◌-◌, ◌^◌, ◌<◌, ◌≤◌, ◌⊎◌, inl, inr, List, [], ◌∷◌, ◌++◌, Option, None, Some}
+use Rattle.std.proofs.Common.{length, get_or, refl, ap, subst, sym, ◌∙◌, arith}
 use Rattle.std.specs.Prelude.{◌↔◌, slice_index}
 use Rattle.std.specs.List.{All, Contains}
 use Rattle.std.specs.List.Sorted.{IsStrictlyIncreasing}
@@ -26,12 +27,20 @@ left_after (Some before) = 2 ^ 64 - 1 - before.0
 -- what isn't after the word before is below what is
 below_after : (before : Option Expr) (v w : ℕ) → (IsAfter before v → ⊥) → IsAfter before w → v < w
 below_after None v w old after = absurd (old refl)
-below_after (Some b) v w old after = elim (cases_lt b.0 v) [ inl less ↦ absurd (old less) | inr more ↦ omega (arith, more, after) ]
+below_after (Some b) v w old after = elim (cases_lt b.0 v) [
+  | inl less ↦ absurd (old less)
+  | inr more ↦
+      omega (arith, more, after)
+]
 
 -- it is after the word before, or not
 after_or_not : (before : Option Expr) (v : ℕ) → IsAfter before v ⊎ (IsAfter before v → ⊥)
 after_or_not None v = inl refl
-after_or_not (Some b) v = elim (cases_lt b.0 v) [ inl less ↦ inl less | inr more ↦ inr (λ less. omega (arith, less, more)) ]
+after_or_not (Some b) v = elim (cases_lt b.0 v) [
+  | inl less ↦ inl less
+  | inr more ↦
+      inr (λ less. omega (arith, less, more))
+]
 
 module _ (q : Query) (group : KeyParts) where
   -- all candidates that aren't after the one before, and no others
@@ -50,9 +59,11 @@ module _ (q : Query) (group : KeyParts) where
   }
 
   -- the next one comes behind them
-  pub one_more : (before : Option Expr) (words : List ℕ) (next : Expr) → AreUpTo before words → IsNext q group before next.0 → AreUpTo (Some next) (words ++ next.0 ∷ [])
+  pub one_more : (before : Option Expr) (words : List ℕ) (next : Expr) → AreUpTo before words
+      → IsNext q group before next.0 → AreUpTo (Some next) (words ++ next.0 ∷ [])
   one_more before words next up_to is = record {
-    ascending = rises_push words next.0 up_to.ascending (λ v there. below_after before v next.0 (up_to.none_after v there) is.after);
+    ascending = rises_push words next.0 up_to.ascending
+        (λ v there. below_after before v next.0 (up_to.none_after v there) is.after);
     sound = All-push (IsCandidateOf q group) words next.0 up_to.sound is.candidate;
     none_after = λ v there after. elim (Contains-push_cases words next.0 v there) [
       | inl old ↦ omega (arith, after, below_after before v next.0 (up_to.none_after v old) is.after)
@@ -70,17 +81,25 @@ module _ (q : Query) (group : KeyParts) where
   }
 
   -- where none comes any more, they are all
-  pub all_found : (before : Option Expr) (words : List ℕ) → AreUpTo before words → IsLast q group before → AreCandidatesOf q group words
+  pub all_found : (before : Option Expr) (words : List ℕ) → AreUpTo before words → IsLast q group before
+      → AreCandidatesOf q group words
   all_found before words up_to last = record {
     ascending = up_to.ascending;
     sound = up_to.sound;
-    complete = λ v candidate. elim (up_to.complete v candidate) [ inl after ↦ absurd (last v candidate after) | inr there ↦ there ];
+    complete = λ v candidate. elim (up_to.complete v candidate) [
+      | inl after ↦
+          absurd (last v candidate after)
+      | inr there ↦ there
+    ];
   }
 
-  module _ (before : Option Expr) (bound : ℕ) (is_bound : (w : ℕ) → (bound ≤ w) ↔ IsAfter before w) (words : List ℕ) (are : AreCandidatesOf q group words) (place : ℕ)
-      (below : (k : ℕ) → k < place → slice_index words k < bound) (from : (k : ℕ) → place ≤ k → k < length words → bound ≤ slice_index words k) where
+  module _ (before : Option Expr) (bound : ℕ) (is_bound : (w : ℕ) → (bound ≤ w) ↔ IsAfter before w) (words : List ℕ)
+      (are : AreCandidatesOf q group words) (place : ℕ)
+      (below : (k : ℕ) → k < place → slice_index words k < bound) (from : (k : ℕ) → place ≤ k → k < length words
+      → bound ≤ slice_index words k) where
     -- a candidate after the one before stands at this place or behind it
-    stands : (v : ℕ) → IsCandidateOf q group v → IsAfter before v → (k : ℕ) × (place ≤ k) × (k < length words) × (get_or words k 0 ≡ v)
+    stands : (v : ℕ) → IsCandidateOf q group v → IsAfter before v → (k : ℕ) × (place ≤ k) × (k < length words)
+        × (get_or words k 0 ≡ v)
     stands v candidate after =
         let (k, within, is) = are.complete v candidate in
         let value : get_or words k 0 ≡ v = get_or_default words k 0 v within ∙ is in
@@ -98,7 +117,13 @@ module _ (q : Query) (group : KeyParts) where
           let (k, more, inside, value) = stands v candidate after in
           elim (cases_eq place k) [
             | inl same ↦ omega (arith, is, value, ap (λ i. get_or words i 0) same)
-            | inr differs ↦ omega (arith, below_from_sorted words place k 0 (sorted_from_strictly_increasing words are.ascending) (omega (arith, more, differs)) inside, is, value)
+            | inr differs ↦ omega (
+              arith,
+              below_from_sorted words place k 0
+                  (sorted_from_strictly_increasing words are.ascending) (omega (arith, more, differs)) inside,
+              is,
+              value,
+            )
           ];
     }
 
@@ -109,13 +134,15 @@ module _ (q : Query) (group : KeyParts) where
         omega (arith, past, more, inside)
 
 -- one more list, of the group with this key if there is one
-pub lists_more : {X : Type 0} (q : Query) (Is : KeyParts → List X → Type 0) (lists new : List (List X)) (n : ℕ) (list : List X) → new ≡ lists ++ list ∷ [] → length lists ≡ n
+pub lists_more : {X : Type 0} (q : Query) (Is : KeyParts → List X → Type 0) (lists new : List (List X)) (n : ℕ)
+    (list : List X) → new ≡ lists ++ list ∷ [] → length lists ≡ n
     → ((group : KeyParts) → IsGroup q group → key_number group < n → Is group (get_or lists (key_number group) []))
     → ((group : KeyParts) → Names q (key_of n) group → Is group list)
     → (group : KeyParts) → IsGroup q group → key_number group < n + 1 → Is group (get_or new (key_number group) [])
 lists_more {X} q Is lists new n list grown count each is group known within = elim (cases_lt (key_number group) n) [
   | inl below ↦
-      let same : get_or new (key_number group) [] ≡ get_or lists (key_number group) [] = rw grown (get_or_append_left lists (list ∷ []) [] (key_number group) (omega (arith, below, count))) in
+      let same : get_or new (key_number group) [] ≡ get_or lists (key_number group) [] =
+      rw grown (get_or_append_left lists (list ∷ []) [] (key_number group) (omega (arith, below, count))) in
       subst (Is group) (sym same) (each group known below)
   | inr above ↦
       let last : length lists ≡ key_number group = omega (arith, above, within, count) in

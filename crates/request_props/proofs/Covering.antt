@@ -1,5 +1,7 @@
 -- The sets of tables that have all tables of a list.
-use Rattle.std.proofs.Common.{◌≡◌, ℕ, suc, ◌+◌, ◌<◌, ◌≤◌, ◌-◌, ◌/◌, ◌↔◌, Bool, true, false, List, [], ◌∷◌, ◌++◌, length, take, drop, map, Option, Some, None, inl, inr, refl, sym, ap, ◌∙◌, subst, arith, IsTrue, eq-eqb, lit<}
+use Rattle.std.proofs.Common.{◌≡◌, ℕ, suc, ◌+◌, ◌<◌, ◌≤◌, ◌-◌, ◌/◌, ◌↔◌, Bool, true, false, List, [], ◌∷◌, ◌++◌, length}
+use Rattle.std.proofs.Common.{take, drop, map, Option, Some, None, inl, inr, refl, sym, ap, ◌∙◌, subst, arith, IsTrue}
+use Rattle.std.proofs.Common.{eq-eqb, lit<}
 use Rattle.std.specs.Prelude.{◌==◌, slice_index_or, is_some, not, MatchOption}
 use Rattle.std.proofs.lemmas.Bool.{cases_eq, cases_lt, eqb-true}
 use Rattle.std.proofs.lemmas.List.{get_or_append_left, get_or_default, get_or-map, length-map, take_rest}
@@ -25,11 +27,16 @@ not_in_0 t has = let none = bit_at_above 0 0 t (lit< tt) (omega arith) in absurd
 
 -- a list without items lies everywhere
 over_nothing : (q : Query) → IsOver q [] (Some 0)
-over_nothing q set = (λ lies. λ t has. absurd (not_in_0 t has), λ covers. All-nil (λ item. IsTrue (has_item q (Join set) item)))
+over_nothing q set = (
+  λ lies. λ t has. absurd (not_in_0 t has),
+  λ covers.
+      All-nil (λ item. IsTrue (has_item q (Join set) item)),
+)
 
 -- a list lies where its first item and the others lie
 over_first : (q : Query) (item : ℕ) (others : List ℕ) (rest both : Option ℕ) → IsOver q others rest
-    → ((set : ℕ) → Covers set both ↔ (IsTrue (is_column_in q.items set item) × Covers set rest)) → IsOver q (item ∷ others) both
+    → ((set : ℕ) → Covers set both ↔ (IsTrue (is_column_in q.items set item) × Covers set rest))
+    → IsOver q (item ∷ others) both
 over_first q item others rest both over joined set =
     let lies = λ (number : ℕ). IsTrue (has_item q (Join set) number) in (
       λ all. (joined set).1 (All-head lies item others all, (over set).0 (All-tail lies item others all)),
@@ -37,11 +44,14 @@ over_first q item others rest both over joined set =
     )
 
 -- the same of a list that isn't empty
-pub over_front : (q : Query) (list : List ℕ) (rest both : Option ℕ) → 1 ≤ length list → IsOver q (take (length list - 1) (drop 1 list)) rest
-    → ((set : ℕ) → Covers set both ↔ (IsTrue (is_column_in q.items set (slice_index_or list 0 0)) × Covers set rest)) → IsOver q list both
+pub over_front : (q : Query) (list : List ℕ) (rest both : Option ℕ) → 1 ≤ length list
+    → IsOver q (take (length list - 1) (drop 1 list)) rest
+    → ((set : ℕ) → Covers set both ↔ (IsTrue (is_column_in q.items set (slice_index_or list 0 0)) × Covers set rest))
+    → IsOver q list both
 over_front q [] rest both some over joined = absurd (omega (arith, some))
 over_front q (item ∷ others) rest both some over joined =
-    over_first q item others rest both (subst (λ (l : List ℕ). IsOver q l rest) (take_rest (item ∷ others) 1) over) joined
+    over_first q item others rest both (subst (λ (l : List ℕ). IsOver q l rest) (take_rest (item ∷ others) 1) over)
+    joined
 
 -- the same of a list that is empty
 pub over_empty : (q : Query) (list : List ℕ) → length list < 1 → IsOver q list (Some 0)
@@ -49,13 +59,15 @@ over_empty q [] none = over_nothing q
 over_empty q (item ∷ others) none = absurd (omega (arith, none))
 
 -- the tables of one more list are found
-pub over_more : (q : Query) (lists : List (List ℕ)) (found new : List (Option ℕ)) (n : ℕ) (list : List ℕ) (here : Option ℕ) → new ≡ found ++ here ∷ []
+pub over_more : (q : Query) (lists : List (List ℕ)) (found new : List (Option ℕ)) (n : ℕ) (list : List ℕ)
+    (here : Option ℕ) → new ≡ found ++ here ∷ []
     → length found ≡ n → n < length lists → list ≡ slice_index_or lists n list → IsOver q list here
     → ((k : ℕ) → k < n → IsOver q (slice_index_or lists k []) (slice_index_or found k None))
     → (k : ℕ) → k < n + 1 → IsOver q (slice_index_or lists k []) (slice_index_or new k None)
 over_more q lists found new n list here grown count inside is over each k within = elim (cases_lt k n) [
   | inl below ↦
-      let same : slice_index_or new k None ≡ slice_index_or found k None = rw grown (get_or_append_left found (here ∷ []) None k (omega arith)) in
+      let same : slice_index_or new k None ≡ slice_index_or found k None =
+      rw grown (get_or_append_left found (here ∷ []) None k (omega arith)) in
       subst (λ (t : Option ℕ). IsOver q (slice_index_or lists k []) t) (sym same) (each k below)
   | inr above ↦
       let last : n ≡ k = omega arith in
@@ -63,11 +75,13 @@ over_more q lists found new n list here grown count inside is over each k within
       let same : slice_index_or new n None ≡ here = subst (λ (m : ℕ). slice_index_or new m None ≡ here) count at_end in
       let listed : list ≡ slice_index_or lists n [] = is ∙ get_or_default lists n list [] inside in
       subst (λ (m : ℕ). IsOver q (slice_index_or lists m []) (slice_index_or new m None)) last
-      (subst (λ (t : Option ℕ). IsOver q (slice_index_or lists n []) t) (sym same) (subst (λ (l : List ℕ). IsOver q l here) listed over))
+      (subst (λ (t : Option ℕ). IsOver q (slice_index_or lists n []) t) (sym same)
+      (subst (λ (l : List ℕ). IsOver q l here) listed over))
 ]
 
 -- a set has the tables with one more where it has that one and the others
-pub covers_added : (set tables table new : ℕ) → Adds tables table new → Covers set (Some new) ↔ (IsTrue (bit set table == 1) × Covers set (Some tables))
+pub covers_added : (set tables table new : ℕ) → Adds tables table new → Covers set (Some new)
+    ↔ (IsTrue (bit set table == 1) × Covers set (Some tables))
 covers_added set tables table new adds = (
   λ all. (
     eq-eqb (bit set table) 1 (all table adds.this),
@@ -83,8 +97,10 @@ covers_added set tables table new adds = (
 )
 
 -- a set has all tables of another where none is left without it
-pub covers_by : (tables set rest : ℕ) (least : Option ℕ) (test : Bool) → ((t : ℕ) → bit rest t ≡ bit tables t - bit set t)
-    → MatchOption least ((t : ℕ) → Has rest t → ⊥) (IsLeast rest) → is_some least ≡ not test → IsTrue test ↔ Covers set (Some tables)
+pub covers_by : (tables set rest : ℕ) (least : Option ℕ) (test : Bool)
+    → ((t : ℕ) → bit rest t ≡ bit tables t - bit set t)
+    → MatchOption least ((t : ℕ) → Has rest t → ⊥) (IsLeast rest) → is_some least ≡ not test → IsTrue test
+    ↔ Covers set (Some tables)
 covers_by tables set rest None true each none is = (
   λ yes t has. elim (cases_eq (bit set t) 1) [
     | inl here ↦ here
@@ -105,40 +121,47 @@ covers_by tables set rest (Some t) false each least is = (
 )
 
 -- the tables of the list at a place are those that were found there
-pub over_at : (q : Query) (lists : List (List ℕ)) (found : List (Option ℕ)) (k set : ℕ) (tables : Option ℕ) → AreTablesOf q lists found → k < length found
+pub over_at : (q : Query) (lists : List (List ℕ)) (found : List (Option ℕ)) (k set : ℕ) (tables : Option ℕ)
+    → AreTablesOf q lists found → k < length found
     → tables ≡ slice_index_or found k None → ListLiesIn q (Join set) (slice_index_or lists k []) ↔ Covers set tables
 over_at q lists found k set tables are within is =
     subst (λ (t : Option ℕ). ListLiesIn q (Join set) (slice_index_or lists k []) ↔ Covers set t) (sym is)
     (are.each k (omega (arith, are.count)) set)
 
 -- an order lies in a group by its items
-lies_by_items : (q : Query) (group : KeyParts) (order : List ℕ) → OrderLiesIn q group order → ListLiesIn q group (items_of order)
+lies_by_items : (q : Query) (group : KeyParts) (order : List ℕ) → OrderLiesIn q group order
+    → ListLiesIn q group (items_of order)
 lies_by_items q group order lies = All-map (λ item. IsTrue (has_item q group item)) (λ element. element / 2) order lies
 
-items_lie : (q : Query) (group : KeyParts) (order : List ℕ) → ListLiesIn q group (items_of order) → OrderLiesIn q group order
+items_lie : (q : Query) (group : KeyParts) (order : List ℕ) → ListLiesIn q group (items_of order)
+    → OrderLiesIn q group order
 items_lie q group order lies k d within =
     let inside : k < length (items_of order) = rw length-map within in
     let at = get_or-map (λ (element : ℕ). element / 2) order k d 0 within in
     rw at at (lies k 0 inside)
 
 -- an order with a number is over the tables that were found before its place
-pub order_over : (q : Query) (order place set : ℕ) (tables : Option ℕ) (test : Bool) → order ≡ suc place → (found : List (Option ℕ))
+pub order_over : (q : Query) (order place set : ℕ) (tables : Option ℕ) (test : Bool) → order ≡ suc place
+    → (found : List (Option ℕ))
     → AreTablesOf q (map items_of (orders_of q)) found → place < length found → tables ≡ slice_index_or found place None
     → IsTrue test ↔ Covers set tables → IsTrue test ↔ OrderFits q (Join set) order
 order_over q order place set tables test next found are within is covers =
     let orders = orders_of q in
     let many : length found ≡ length orders = rw length-map at are.count in
     let numbered : order ≤ length orders = omega (arith, many, within, next) in
-    let at : slice_index_or (map items_of orders) place [] ≡ items_of (slice_index_or orders place []) = get_or-map items_of orders place [] [] (omega arith) in
+    let at : slice_index_or (map items_of orders) place [] ≡ items_of (slice_index_or orders place []) =
+    get_or-map items_of orders place [] [] (omega arith) in
     let ordered : order_of q order ≡ slice_index_or orders place [] = ap (order_among orders) next in
     let over = over_at q (map items_of orders) found place set tables are within is in (
       λ yes. record {
         numbered = numbered;
         lies_in = subst (λ (o : List ℕ). OrderLiesIn q (Join set) o) (sym ordered)
-            (items_lie q (Join set) (slice_index_or orders place []) (subst (λ (l : List ℕ). ListLiesIn q (Join set) l) at (over.1 (covers.0 yes))));
+            (items_lie q (Join set) (slice_index_or orders place [])
+            (subst (λ (l : List ℕ). ListLiesIn q (Join set) l) at (over.1 (covers.0 yes))));
       },
       λ fits.
           let lies = subst (λ (o : List ℕ). OrderLiesIn q (Join set) o) ordered fits.lies_in in
-          let items = subst (λ (l : List ℕ). ListLiesIn q (Join set) l) (sym at) (lies_by_items q (Join set) (slice_index_or orders place []) lies) in
+          let items = subst (λ (l : List ℕ). ListLiesIn q (Join set) l) (sym at)
+          (lies_by_items q (Join set) (slice_index_or orders place []) lies) in
           covers.1 (over.0 items),
     )

@@ -1,5 +1,6 @@
 -- What is found of keys, and of the sides of equalities.
-use Rattle.std.proofs.Common.{◌≡◌, ℕ, zero, suc, ◌+◌, ◌<◌, ◌↔◌, Bool, false, List, [], ◌∷◌, ◌++◌, length, get_or, Option, Some, None, inl, inr, refl, sym, subst, arith, IsTrue}
+use Rattle.std.proofs.Common.{◌≡◌, ℕ, zero, suc, ◌+◌, ◌<◌, ◌↔◌, Bool, false, List, [], ◌∷◌, ◌++◌, length, get_or}
+use Rattle.std.proofs.Common.{Option, Some, None, inl, inr, refl, sym, subst, arith, IsTrue}
 use Rattle.std.specs.Prelude.{slice_index_or}
 use Rattle.std.specs.List.{list_all}
 use Rattle.std.specs.Option.{option_map_or}
@@ -16,11 +17,13 @@ use Rattle.request_props.specs.Numbered.{side_of, equality_with, equality_of}
 use Rattle.request_props.specs.declared.sides.Equality.{Equality}
 
 -- one more number is told
-pub keys_more : (q : Query) (keys new : List Bool) (n : ℕ) (here : Bool) → new ≡ keys ++ here ∷ [] → length keys ≡ n → AreKeysBelow q n keys
+pub keys_more : (q : Query) (keys new : List Bool) (n : ℕ) (here : Bool) → new ≡ keys ++ here ∷ [] → length keys ≡ n
+    → AreKeysBelow q n keys
     → IsTrue here ↔ IsKey q (key_of n) → AreKeysBelow q (n + 1) new
 keys_more q keys new n here grown count each is k within = elim (cases_lt k n) [
   | inl below ↦
-      let same : get_or new k false ≡ get_or keys k false = rw grown (get_or_append_left keys (here ∷ []) false k (omega arith)) in
+      let same : get_or new k false ≡ get_or keys k false =
+      rw grown (get_or_append_left keys (here ∷ []) false k (omega arith)) in
       subst (λ (b : Bool). IsTrue b ↔ IsKey q (key_of k)) (sym same) (each k below)
   | inr above ↦
       let last : k ≡ n = omega arith in
@@ -31,7 +34,8 @@ keys_more q keys new n here grown count each is k within = elim (cases_lt k n) [
 ]
 
 -- what holds of all elements holds of each
-pub all_at : {X : Type 0} (p : X → Bool) (xs : List X) → IsTrue (list_all p xs) → (k : ℕ) (d : X) → k < length xs → IsTrue (p (slice_index_or xs k d))
+pub all_at : {X : Type 0} (p : X → Bool) (xs : List X) → IsTrue (list_all p xs) → (k : ℕ) (d : X) → k < length xs
+    → IsTrue (p (slice_index_or xs k d))
 all_at p [] all k d within = absurd (omega (arith, within))
 all_at p (x ∷ xs) all zero d within = (and_parts _ _ all).0
 all_at p (x ∷ xs) all (suc k) d within = all_at p xs (and_parts _ _ all).1 k d (omega (arith, within))
@@ -42,7 +46,8 @@ pub record Equates (q : Query) (left right : KeyParts) (e : Equality) (crossing 
   pub is_right : e.right ≡ side_of q e.right.column
   pub same : crossing ≡ sides_of q left right e.left.column e.right.column
 
-none_with : (q : Query) (left right : KeyParts) (a : ℕ) (b : Option ℕ) → equality_with q a b ≡ None → sides_with q left right a b ≡ None
+none_with : (q : Query) (left right : KeyParts) (a : ℕ) (b : Option ℕ) → equality_with q a b ≡ None
+    → sides_with q left right a b ≡ None
 none_with q left right a None is = refl
 none_with q left right a (Some b) is = cc
 
@@ -52,16 +57,19 @@ some_with q left right a None e is = cc
 some_with q left right a (Some b) e is =
     let both : Equality = record { left = side_of q a; right = side_of q b } in
     let same : both ≡ e = cc in
-    subst (λ (f : Equality). Equates q left right f (sides_of q left right a b)) same (record { is_left = refl; is_right = refl; same = refl })
+    subst (λ (f : Equality). Equates q left right f (sides_of q left right a b)) same
+    (record { is_left = refl; is_right = refl; same = refl })
 
 -- no equality crosses nowhere
-pub crossing_none : (q : Query) (left right : KeyParts) (pred : Option Pred) → option_map_or (equality_of q) pred None ≡ None
+pub crossing_none : (q : Query) (left right : KeyParts) (pred : Option Pred)
+    → option_map_or (equality_of q) pred None ≡ None
     → crossing_at q left right pred ≡ None
 crossing_none q left right None is = refl
 crossing_none q left right (Some pred) is = none_with q left right pred.left (equal_item pred.op pred.right) is
 
 -- an equality crosses where its sides lie
-pub crossing_some : (q : Query) (left right : KeyParts) (pred : Option Pred) (e : Equality) → option_map_or (equality_of q) pred None ≡ Some e
+pub crossing_some : (q : Query) (left right : KeyParts) (pred : Option Pred) (e : Equality)
+    → option_map_or (equality_of q) pred None ≡ Some e
     → Equates q left right e (crossing_at q left right pred)
 crossing_some q left right None e is = cc
 crossing_some q left right (Some pred) e is = some_with q left right pred.left (equal_item pred.op pred.right) e is

@@ -1,5 +1,6 @@
 -- Laws of sets of numbers below 64, each the bit of its number in a mask.
-use Rattle.std.proofs.Common.{◌≡◌, ℕ, ◌+◌, ◌-◌, ◌*◌, ◌/◌, ◌%◌, ◌^◌, ◌<◌, ◌≤◌, ◌⊎◌, ◌↔◌, inl, inr, arith, ap, sym, subst, ◌∙◌, IsTrue, Bool}
+use Rattle.std.proofs.Common.{◌≡◌, ℕ, ◌+◌, ◌-◌, ◌*◌, ◌/◌, ◌%◌, ◌^◌, ◌<◌, ◌≤◌, ◌⊎◌, ◌↔◌, inl, inr, arith, ap, sym, subst}
+use Rattle.std.proofs.Common.{◌∙◌, IsTrue, Bool}
 use Rattle.std.specs.Prelude.{bit_and, bit_or, bit_xor}
 use Rattle.std.specs.Int.{w64, bit_at, trailing_zeros}
 use Rattle.std.proofs.lemmas.Bool.{cases_lt, cases_eq}
@@ -13,12 +14,19 @@ use Rattle.query_core.proofs.Bits.{bit-or, bit-and, bit-difference, bit-below, b
 
 -- a bit is set or not
 set_or_not : (mask k : ℕ) → Has mask k ⊎ (bit mask k ≡ 0)
-set_or_not mask k = elim (cases_eq (bit mask k) 1) [ inl set ↦ inl set | inr other ↦ inr (omega (arith, bit-below mask k, other)) ]
+set_or_not mask k = elim (cases_eq (bit mask k) 1) [
+  | inl set ↦ inl set
+  | inr other ↦
+      inr (omega (arith, bit-below mask k, other))
+]
 
 -- what is in both masks is in their meet
 pub in_both : (a b k : ℕ) → Has (bit_and a b) k ↔ (Has a k × Has b k)
 in_both a b k = (
-  λ has. (omega (arith, bit-and a b k, has, bit-below a k, bit-below b k), omega (arith, bit-and a b k, has, bit-below a k, bit-below b k)),
+  λ has. (
+    omega (arith, bit-and a b k, has, bit-below a k, bit-below b k),
+    omega (arith, bit-and a b k, has, bit-below a k, bit-below b k),
+  ),
   λ both. omega (arith, bit-and a b k, both.0, both.1),
 )
 
@@ -35,7 +43,11 @@ in_either a b k = (
 -- what is in the first alone is in their difference
 pub in_first_alone : (a b k : ℕ) → Has (bit_xor a (bit_and a b)) k ↔ (Has a k × (Has b k → ⊥))
 in_first_alone a b k = (
-  λ has. (omega (arith, bit-difference a b k, has, bit-below a k), λ other. omega (arith, bit-difference a b k, has, other, bit-below a k)),
+  λ has. (
+    omega (arith, bit-difference a b k, has, bit-below a k),
+    λ other.
+        omega (arith, bit-difference a b k, has, other, bit-below a k),
+  ),
   λ alone. elim (set_or_not b k) [
     | inl second ↦ absurd (alone.1 second)
     | inr none ↦ omega (arith, bit-difference a b k, alone.0, none)
@@ -51,7 +63,11 @@ none_in k has = omega (arith, bit_at-zero k, has)
 
 -- a mask of 64 bits has none from 64 on
 pub mask_below : (mask k : ℕ) → mask < 2 ^ 64 → Has mask k → k < 64
-mask_below mask k fits has = elim (cases_lt k 64) [ inl less ↦ less | inr more ↦ absurd (omega (arith, bit-beyond mask 64 k fits more, has)) ]
+mask_below mask k fits has = elim (cases_lt k 64) [
+  | inl less ↦ less
+  | inr more ↦
+      absurd (omega (arith, bit-beyond mask 64 k fits more, has))
+]
 
 -- the ones below a bit
 pub ones_have : (bound k : ℕ) → bound < 64 → k < bound → Has (1 * 2 ^ bound % 2 ^ 64 - 1) k
@@ -62,7 +78,8 @@ pub ones_end : (bound k : ℕ) → bound < 64 → Has (1 * 2 ^ bound % 2 ^ 64 - 
 ones_end bound k within has = elim (cases_lt k bound) [
   | inl less ↦ less
   | inr more ↦
-      let ones : bit (1 * 2 ^ bound % 2 ^ 64 - 1) k ≡ bit (2 ^ bound - 1) k = ap (λ (x : ℕ). bit (x - 1) k) (one_shl bound 64 within) in
+      let ones : bit (1 * 2 ^ bound % 2 ^ 64 - 1) k ≡ bit (2 ^ bound - 1) k =
+      ap (λ (x : ℕ). bit (x - 1) k) (one_shl bound 64 within) in
       absurd (omega (arith, ones, bit-after bound k more, has))
 ]
 
@@ -75,9 +92,14 @@ set_this : (mask k : ℕ) → k < 64 → Has (bit_or mask (1 * 2 ^ k % 2 ^ 64)) 
 unfolding bit
 set_this mask k within = bit_at_set_same w64 mask k within
 
-pub one_more : (mask k i : ℕ) (here : Bool) → k < 64 → IsTrue here → Has (bit_or mask (1 * 2 ^ k % 2 ^ 64)) i ↔ (Has mask i ⊎ ((i ≡ k) × IsTrue here))
+pub one_more : (mask k i : ℕ) (here : Bool) → k < 64 → IsTrue here → Has (bit_or mask (1 * 2 ^ k % 2 ^ 64)) i
+    ↔ (Has mask i ⊎ ((i ≡ k) × IsTrue here))
 one_more mask k i here within is = (
-  λ has. elim (cases_eq i k) [ inl same ↦ inr (same, is) | inr differ ↦ inl (sym (set_others mask k i within differ) ∙ has) ],
+  λ has. elim (cases_eq i k) [
+    | inl same ↦ inr (same, is)
+    | inr differ ↦
+        inl (sym (set_others mask k i within differ) ∙ has)
+  ],
   λ either. elim either [
     | inl before ↦ elim (cases_eq i k) [
       | inl same ↦ subst (Has (bit_or mask (1 * 2 ^ k % 2 ^ 64))) (sym same) (set_this mask k within)
@@ -92,13 +114,15 @@ one_more mask k i here within is = (
 -- a place from the one on to which a mask is shifted is in the rest
 shifted : (mask from number : ℕ) → from ≤ number → bit (mask / 2 ^ from) (number - from) ≡ bit mask number
 unfolding bit
-shifted mask from number after = ap (λ x. x % 2) (shr-shr mask from (number - from)) ∙ ap (bit_at mask) (omega (arith, after))
+shifted mask from number after = ap (λ x. x % 2) (shr-shr mask from (number - from))
+    ∙ ap (bit_at mask) (omega (arith, after))
 
 -- where nothing is left there, the mask has no number from there on
 pub none_left : (mask from number : ℕ) → mask / 2 ^ from ≡ 0 → from ≤ number → Has mask number → ⊥
 unfolding bit
 none_left mask from number none after has =
-    let zero : bit_at mask number ≡ 0 = sym (shifted mask from number after) ∙ (ap (λ x. bit_at x (number - from)) none ∙ bit_at-zero (number - from)) in
+    let zero : bit_at mask number ≡ 0 = sym (shifted mask from number after)
+    ∙ (ap (λ x. bit_at x (number - from)) none ∙ bit_at-zero (number - from)) in
     absurd (omega (arith, zero, has))
 
 -- the place is one of the mask's below 64, and the first of them from the other on
@@ -108,14 +132,16 @@ pub record IsFirstLeft (mask from place : ℕ) : Type 0 where
   pub first : (number : ℕ) → from ≤ number → number < place → Has mask number → ⊥
 
 -- the first of the rest is such a place
-pub first_left : (mask from : ℕ) → mask < 2 ^ 64 → 0 < mask / 2 ^ from → IsFirstLeft mask from (from + trailing_zeros w64 (mask / 2 ^ from))
+pub first_left : (mask from : ℕ) → mask < 2 ^ 64 → 0 < mask / 2 ^ from
+    → IsFirstLeft mask from (from + trailing_zeros w64 (mask / 2 ^ from))
 unfolding bit
 first_left mask from fits some =
     let rest = mask / 2 ^ from in
     let small : rest < 2 ^ 64 = omega (arith, div-le_self mask (2 ^ from), fits) in
     let found = bit_at-trailing_zeros w64 rest some small in
     let place = from + trailing_zeros w64 rest in
-    let here : Has mask place = sym (shifted mask from place (omega arith)) ∙ (ap (bit_at rest) (omega arith) ∙ found.1) in
+    let here : Has mask place = sym (shifted mask from place (omega arith))
+    ∙ (ap (bit_at rest) (omega arith) ∙ found.1) in
     record {
       small = mask_below mask place fits here;
       here = here;

@@ -47,7 +47,8 @@ in_front x xs = (0, omega arith, refl)
 module _ {K : Type 0} {R : K → K → Ordering} (order : IsTotalOrder R) (exact : (x y : K) → R x y ≡ Equal → x ≡ y) where
   -- nothing is below itself
   not_below_itself : (x : K) → R x x ≡ Less → ⊥
-  not_below_itself x below = let turned : Less ≡ Greater = sym below ∙ order.antisymm x x ∙ ap ordering_reverse below in cc
+  not_below_itself x below = let turned : Less ≡ Greater = sym below ∙ order.antisymm x x ∙ ap ordering_reverse below in
+      cc
 
   -- the first is below each later one
   below_later : (x : K) (xs : List K) (y : K) → IsStrictlySortedBy R (x ∷ xs) → Contains xs y → R x y ≡ Less
@@ -55,29 +56,36 @@ module _ {K : Type 0} {R : K → K → Ordering} (order : IsTotalOrder R) (exact
       subst (λ (z : K). R x z ≡ Less) within.2 (All-after_first R x xs rises within.0 y within.1)
 
   -- what is below the first is not there
-  none_below_first : (x : K) (xs : List K) (y : K) → IsStrictlySortedBy R (x ∷ xs) → Contains (x ∷ xs) y → R y x ≡ Less → ⊥
+  none_below_first : (x : K) (xs : List K) (y : K) → IsStrictlySortedBy R (x ∷ xs) → Contains (x ∷ xs) y → R y x ≡ Less
+      → ⊥
   none_below_first x xs y rises within below =
-      let later = below_later x xs y rises (Contains-tail x xs y (λ same. not_below_itself x (subst (λ (z : K). R z x ≡ Less) (sym same) below)) within) in
+      let later = below_later x xs y rises (Contains-tail x xs y
+      (λ same. not_below_itself x (subst (λ (z : K). R z x ≡ Less) (sym same) below)) within) in
       let turned : Less ≡ Greater = sym below ∙ order.antisymm y x ∙ ap ordering_reverse later in
       cc
 
   -- behind one first element the same elements stand
-  same_later : (x : K) (xs ys : List K) → IsStrictlySortedBy R (x ∷ xs) → ((z : K) → Contains (x ∷ xs) z → Contains (x ∷ ys) z)
+  same_later : (x : K) (xs ys : List K) → IsStrictlySortedBy R (x ∷ xs)
+      → ((z : K) → Contains (x ∷ xs) z → Contains (x ∷ ys) z)
       → (z : K) → Contains xs z → Contains ys z
   same_later x xs ys rises all z within =
-      Contains-tail x ys z (λ same. not_below_itself x (subst (λ (w : K). R x w ≡ Less) (sym same) (below_later x xs z rises within)))
+      Contains-tail x ys z (λ same. not_below_itself x
+      (subst (λ (w : K). R x w ≡ Less) (sym same) (below_later x xs z rises within)))
       (all z (in_tail x xs z within))
 
   -- the first elements are the same, and then what is behind them is
   by_first : (x y : K) (xs ys : List K) → IsStrictlySortedBy R (x ∷ xs) → IsStrictlySortedBy R (y ∷ ys)
-      → ((z : K) → Contains (x ∷ xs) z ↔ Contains (y ∷ ys) z) → (x ≡ y → xs ≡ ys) → (o : Ordering) → R x y ≡ o → x ∷ xs ≡ y ∷ ys
-  by_first x y xs ys rises others same later Less is = absurd (none_below_first y ys x others ((same x).0 (in_front x xs)) is)
+      → ((z : K) → Contains (x ∷ xs) z ↔ Contains (y ∷ ys) z) → (x ≡ y → xs ≡ ys) → (o : Ordering) → R x y ≡ o
+      → x ∷ xs ≡ y ∷ ys
+  by_first x y xs ys rises others same later Less is =
+      absurd (none_below_first y ys x others ((same x).0 (in_front x xs)) is)
   by_first x y xs ys rises others same later Equal is = let first = exact x y is in let rest = later first in cc
   by_first x y xs ys rises others same later Greater is =
       absurd (none_below_first x xs y rises ((same y).1 (in_front y ys)) (order.antisymm y x ∙ ap ordering_reverse is))
 
   -- lists in strict order with the same elements are one
-  pub one_in_order : (xs ys : List K) → IsStrictlySortedBy R xs → IsStrictlySortedBy R ys → ((z : K) → Contains xs z ↔ Contains ys z) → xs ≡ ys
+  pub one_in_order : (xs ys : List K) → IsStrictlySortedBy R xs → IsStrictlySortedBy R ys
+      → ((z : K) → Contains xs z ↔ Contains ys z) → xs ≡ ys
   one_in_order [] [] rises others same = refl
   one_in_order [] (y ∷ ys) rises others same = let none = (same y).1 (in_front y ys) in absurd (omega (arith, none.1))
   one_in_order (x ∷ xs) [] rises others same = let none = (same x).0 (in_front x xs) in absurd (omega (arith, none.1))
@@ -93,14 +101,21 @@ module _ {K : Type 0} {R : K → K → Ordering} (order : IsTotalOrder R) (exact
 pub one_listing : (found a b : List (List ℕ)) → IsListing found a → IsListing found b → a ≡ b
 one_listing found a b x y =
     one_in_order list_cmp_total list_cmp_exact a b x.rises y.rises
-    (λ list. (λ within. (y.exact list).1 ((x.exact list).0 within), λ within. (x.exact list).1 ((y.exact list).0 within)))
+    (λ list. (
+      λ within. (y.exact list).1 ((x.exact list).0 within),
+      λ within.
+          (x.exact list).1 ((y.exact list).0 within),
+    ))
 
 -- what was found, sorted and with one of each run of equal lists, is a listing
-pub sorted_listing : (found sorted : List (List ℕ)) → IsPermutation found sorted → IsSorted list_cmp sorted → IsListing found (dedup (eq_by_cmp list_cmp) sorted)
+pub sorted_listing : (found sorted : List (List ℕ)) → IsPermutation found sorted → IsSorted list_cmp sorted
+    → IsListing found (dedup (eq_by_cmp list_cmp) sorted)
 sorted_listing found sorted moved rises = record {
   rises = IsStrictlySortedBy-dedup list_cmp_total (λ x y. refl) sorted rises;
   exact = λ list. (
-    λ within. Contains-permutation sorted found list (IsPermutation-sym found sorted moved) (Contains-from_dedup (eq_by_cmp list_cmp) sorted list within),
-    λ within. Contains-dedup (eq_by_cmp_equiv list_cmp_total) same_exact sorted list (Contains-permutation found sorted list moved within),
+    λ within. Contains-permutation sorted found list (IsPermutation-sym found sorted moved)
+        (Contains-from_dedup (eq_by_cmp list_cmp) sorted list within),
+    λ within. Contains-dedup (eq_by_cmp_equiv list_cmp_total) same_exact sorted list
+        (Contains-permutation found sorted list moved within),
   );
 }

@@ -52,17 +52,26 @@ module _ (q : Query) (group : KeyParts) (order : List ℕ) (ends leaving giving 
       let by_order = second_in q pred a b is (IsGivenBy order) giving of_order in
       (pred, inr ((second pred).1 (mine.1 outer.has, λ has. outer.lacks (its.0 has)), by_order.1 outer.gives))
 
-  -- an equality that leaves the group and one of the order are the same by one column exactly where the order is an outer column's
-  pub shares_outer : (is_one : Bool) → (IsTrue is_one ↔ (pred : ℕ) × HaveBoth leaving giving pred) → IsTrue is_one ↔ HasOuterColumn q group order
-  shares_outer is_one tells = (λ one. let (pred, both) = tells.0 one in outer_of_both pred both, λ outer. tells.1 (both_of_outer outer))
+  -- an equality that leaves the group and one of the order are the same by one column exactly where the order is an
+  -- outer column's
+  pub shares_outer : (is_one : Bool) → (IsTrue is_one ↔ (pred : ℕ) × HaveBoth leaving giving pred) → IsTrue is_one
+      ↔ HasOuterColumn q group order
+  shares_outer is_one tells = (
+    λ one. let (pred, both) = tells.0 one in
+        outer_of_both pred both,
+    λ outer. tells.1 (both_of_outer outer),
+  )
 
 -- one number more
-pub counted_one : (IsOne : ℕ → Type 0) (number count : ℕ) → IsOne number → IsCountOf IsOne number count → IsCountOf IsOne (number + 1) (count + 1)
+pub counted_one : (IsOne : ℕ → Type 0) (number count : ℕ) → IsOne number → IsCountOf IsOne number count
+    → IsCountOf IsOne (number + 1) (count + 1)
 unfolding IsCountOf
 counted_one IsOne number count one counted =
-    let next : suc number ≡ number + 1 = omega arith in subst (λ n. IsCountOf IsOne n (count + 1)) next (inl (one, count, counted, omega arith))
+    let next : suc number ≡ number + 1 = omega arith in
+    subst (λ n. IsCountOf IsOne n (count + 1)) next (inl (one, count, counted, omega arith))
 
-pub counted_none : (IsOne : ℕ → Type 0) (number count : ℕ) → (IsOne number → ⊥) → IsCountOf IsOne number count → IsCountOf IsOne (number + 1) count
+pub counted_none : (IsOne : ℕ → Type 0) (number count : ℕ) → (IsOne number → ⊥) → IsCountOf IsOne number count
+    → IsCountOf IsOne (number + 1) count
 unfolding IsCountOf
 counted_none IsOne number count none counted =
     let next : suc number ≡ number + 1 = omega arith in subst (λ n. IsCountOf IsOne n count) next (inr (none, counted))

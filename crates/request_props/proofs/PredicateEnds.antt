@@ -1,5 +1,6 @@
 -- Laws of the equalities that have one of some columns, one predicate after the other.
-use Rattle.std.proofs.Common.{◌≡◌, ◌⊎◌, ◌↔◌, inl, inr, ℕ, zero, suc, ◌+◌, ◌<◌, List, [], ◌∷◌, Option, None, Some, map, get_or, arith, ap, refl, sym, subst, ◌∙◌}
+use Rattle.std.proofs.Common.{◌≡◌, ◌⊎◌, ◌↔◌, inl, inr, ℕ, zero, suc, ◌+◌, ◌<◌, List, [], ◌∷◌, Option, None, Some, map}
+use Rattle.std.proofs.Common.{get_or, arith, ap, refl, sym, subst, ◌∙◌}
 use Rattle.std.specs.Prelude.{slice_get}
 use Rattle.std.specs.Option.{option_map_or}
 use Rattle.std.proofs.lemmas.Bool.{cases_eq}
@@ -14,7 +15,8 @@ use Rattle.request_props.specs.declared.ends.EqualityEnds.{EqualityEnds}
 use Rattle.request_props.specs.declared.sides.Equality.{Equality}
 
 -- what a list of equalities has at a place, or none beyond its end
-at_place : (q : Query) (preds : List Pred) (n : ℕ) → get_or (map (equality_of q) preds) n None ≡ option_map_or (equality_of q) (slice_get preds n) None
+at_place : (q : Query) (preds : List Pred) (n : ℕ)
+    → get_or (map (equality_of q) preds) n None ≡ option_map_or (equality_of q) (slice_get preds n) None
 at_place q [] n = refl
 at_place q (pred ∷ preds) zero = refl
 at_place q (pred ∷ preds) (suc n) = at_place q preds n
@@ -28,12 +30,14 @@ numbers_by : (q : Query) (pred : Option Pred) → HaveNumbers q (option_map_or (
 numbers_by q None = tt
 numbers_by q (Some pred) = numbers_with q pred.left (equal_item pred.op pred.right)
 
-pub have_numbers : (q : Query) (equalities : List (Option Equality)) → equalities ≡ map (equality_of q) q.preds → (n : ℕ) → HaveNumbers q (get_or equalities n None)
+pub have_numbers : (q : Query) (equalities : List (Option Equality)) → equalities ≡ map (equality_of q) q.preds
+    → (n : ℕ) → HaveNumbers q (get_or equalities n None)
 have_numbers q equalities are n = rw are (rw (at_place q q.preds n) (numbers_by q (slice_get q.preds n)))
 
 module _ (q : Query) (IsOne : ℕ → Type 0) where
   -- sets of no predicates
-  pub none_below : (ends : EqualityEnds) → ((n : ℕ) → IsInSet ends.first n → ⊥) → ((n : ℕ) → IsInSet ends.second n → ⊥) → AreEndsBelow q IsOne 0 ends
+  pub none_below : (ends : EqualityEnds) → ((n : ℕ) → IsInSet ends.first n → ⊥) → ((n : ℕ) → IsInSet ends.second n → ⊥)
+      → AreEndsBelow q IsOne 0 ends
   none_below ends first second = record {
     first = λ n. (λ has. absurd (first n has), λ below. absurd (omega (arith, below.0)));
     second = λ n. (λ has. absurd (second n has), λ below. absurd (omega (arith, below.0)));
@@ -41,19 +45,31 @@ module _ (q : Query) (IsOne : ℕ → Type 0) where
 
   module _ (n : ℕ) where
     -- the equality of a predicate is by the columns of the predicate
-    left_with : (pred : Pred) → slice_get q.preds n ≡ Some pred → (right : Option ℕ) → equal_item pred.op pred.right ≡ right → IsByLeft IsOne (equality_with q pred.left right) ↔ BeginsIn q IsOne n
-    left_with pred there None none = (λ never. absurd never, λ (a, b, is, one). let same : pred ≡ is.pred = cc in let both : equal_item pred.op pred.right ≡ Some b = rw same is.second in let wrong : ⊥ = cc in absurd wrong)
+    left_with : (pred : Pred) → slice_get q.preds n ≡ Some pred → (right : Option ℕ)
+        → equal_item pred.op pred.right ≡ right → IsByLeft IsOne (equality_with q pred.left right) ↔ BeginsIn q IsOne n
+    left_with pred there None none = (
+      λ never. absurd never,
+      λ (a, b, is, one). let same : pred ≡ is.pred = cc in
+          let both : equal_item pred.op pred.right ≡ Some b = rw same is.second in let wrong : ⊥ = cc in absurd wrong,
+    )
     left_with pred there (Some right) second = (
       λ one. (pred.left, right, record { pred = pred; there = there; first = refl; second = second }, one),
-      λ (a, b, is, one). let same : pred ≡ is.pred = cc in let own : a ≡ pred.left = sym is.first ∙ ap (λ (p : Pred). p.left) (sym same) in subst IsOne own one,
+      λ (a, b, is, one). let same : pred ≡ is.pred = cc in let own : a ≡ pred.left = sym is.first
+          ∙ ap (λ (p : Pred). p.left) (sym same) in subst IsOne own one,
     )
 
-    left_by : (pred : Option Pred) → slice_get q.preds n ≡ pred → IsByLeft IsOne (option_map_or (equality_of q) pred None) ↔ BeginsIn q IsOne n
+    left_by : (pred : Option Pred) → slice_get q.preds n ≡ pred
+        → IsByLeft IsOne (option_map_or (equality_of q) pred None) ↔ BeginsIn q IsOne n
     left_by None none = (λ never. absurd never, λ (a, b, is, one). let wrong : ⊥ = cc in absurd wrong)
     left_by (Some pred) there = left_with pred there (equal_item pred.op pred.right) refl
 
-    right_with : (pred : Pred) → slice_get q.preds n ≡ Some pred → (right : Option ℕ) → equal_item pred.op pred.right ≡ right → IsByRight IsOne (equality_with q pred.left right) ↔ EndsIn q IsOne n
-    right_with pred there None none = (λ never. absurd never, λ (a, b, is, one). let same : pred ≡ is.pred = cc in let both : equal_item pred.op pred.right ≡ Some b = rw same is.second in let wrong : ⊥ = cc in absurd wrong)
+    right_with : (pred : Pred) → slice_get q.preds n ≡ Some pred → (right : Option ℕ)
+        → equal_item pred.op pred.right ≡ right → IsByRight IsOne (equality_with q pred.left right) ↔ EndsIn q IsOne n
+    right_with pred there None none = (
+      λ never. absurd never,
+      λ (a, b, is, one). let same : pred ≡ is.pred = cc in
+          let both : equal_item pred.op pred.right ≡ Some b = rw same is.second in let wrong : ⊥ = cc in absurd wrong,
+    )
     right_with pred there (Some right) second = (
       λ one. (pred.left, right, record { pred = pred; there = there; first = refl; second = second }, one),
       λ (a, b, is, one).
@@ -63,12 +79,14 @@ module _ (q : Query) (IsOne : ℕ → Type 0) where
           subst IsOne own one,
     )
 
-    right_by : (pred : Option Pred) → slice_get q.preds n ≡ pred → IsByRight IsOne (option_map_or (equality_of q) pred None) ↔ EndsIn q IsOne n
+    right_by : (pred : Option Pred) → slice_get q.preds n ≡ pred
+        → IsByRight IsOne (option_map_or (equality_of q) pred None) ↔ EndsIn q IsOne n
     right_by None none = (λ never. absurd never, λ (a, b, is, one). let wrong : ⊥ = cc in absurd wrong)
     right_by (Some pred) there = right_with pred there (equal_item pred.op pred.right) refl
 
   -- a set with one more predicate, where it is such a one, has those of one more
-  set_more : (Is : ℕ → Type 0) (IsHere : Type 0) (n : ℕ) (InOld InNew : ℕ → Type 0) → IsHere ↔ Is n → ((k : ℕ) → InOld k ↔ ((k < n) × Is k))
+  set_more : (Is : ℕ → Type 0) (IsHere : Type 0) (n : ℕ) (InOld InNew : ℕ → Type 0) → IsHere ↔ Is n
+      → ((k : ℕ) → InOld k ↔ ((k < n) × Is k))
       → ((k : ℕ) → InNew k ↔ (InOld k ⊎ ((k ≡ n) × IsHere))) → (k : ℕ) → InNew k ↔ ((k < n + 1) × Is k)
   set_more Is IsHere n InOld InNew here old new k = (
     λ has. elim ((new k).0 has) [
@@ -82,9 +100,11 @@ module _ (q : Query) (IsOne : ℕ → Type 0) where
   )
 
   -- sets of one more predicate
-  pub ends_more : (equalities : List (Option Equality)) → equalities ≡ map (equality_of q) q.preds → (n : ℕ) (ends new : EqualityEnds) → AreEndsBelow q IsOne n ends
+  pub ends_more : (equalities : List (Option Equality)) → equalities ≡ map (equality_of q) q.preds
+      → (n : ℕ) (ends new : EqualityEnds) → AreEndsBelow q IsOne n ends
       → ((k : ℕ) → IsInSet new.first k ↔ (IsInSet ends.first k ⊎ ((k ≡ n) × IsByLeft IsOne (get_or equalities n None))))
-      → ((k : ℕ) → IsInSet new.second k ↔ (IsInSet ends.second k ⊎ ((k ≡ n) × IsByRight IsOne (get_or equalities n None))))
+      → ((k : ℕ) → IsInSet new.second k ↔ (IsInSet ends.second k
+      ⊎ ((k ≡ n) × IsByRight IsOne (get_or equalities n None))))
       → AreEndsBelow q IsOne (n + 1) new
   ends_more equalities are n ends new before first second =
       let pred = slice_get q.preds n in
@@ -92,12 +112,15 @@ module _ (q : Query) (IsOne : ℕ → Type 0) where
       let left = subst (λ e. IsByLeft IsOne e ↔ BeginsIn q IsOne n) (sym here) (left_by n pred refl) in
       let right = subst (λ e. IsByRight IsOne e ↔ EndsIn q IsOne n) (sym here) (right_by n pred refl) in
       record {
-        first = set_more (BeginsIn q IsOne) (IsByLeft IsOne (get_or equalities n None)) n (IsInSet ends.first) (IsInSet new.first) left before.first first;
-        second = set_more (EndsIn q IsOne) (IsByRight IsOne (get_or equalities n None)) n (IsInSet ends.second) (IsInSet new.second) right before.second second;
+        first = set_more (BeginsIn q IsOne) (IsByLeft IsOne (get_or equalities n None)) n (IsInSet ends.first)
+            (IsInSet new.first) left before.first first;
+        second = set_more (EndsIn q IsOne) (IsByRight IsOne (get_or equalities n None)) n (IsInSet ends.second)
+            (IsInSet new.second) right before.second second;
       }
 
 -- sets of some columns are those of others that are the same
-pub ends_same : (q : Query) (IsOne IsOther : ℕ → Type 0) (ends : EqualityEnds) → ((column : ℕ) → IsOne column ↔ IsOther column) → AreEndsOf q IsOne ends → AreEndsOf q IsOther ends
+pub ends_same : (q : Query) (IsOne IsOther : ℕ → Type 0) (ends : EqualityEnds)
+    → ((column : ℕ) → IsOne column ↔ IsOther column) → AreEndsOf q IsOne ends → AreEndsOf q IsOther ends
 ends_same q IsOne IsOther ends same are = record {
   first = λ k. (
     λ has. let (below, (a, b, is, one)) = (are.first k).0 has in (below, (a, b, is, (same a).0 one)),

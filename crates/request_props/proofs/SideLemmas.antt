@@ -36,22 +36,29 @@ only_table tables t is =
     is
 
 -- sides are the same where both groups are
-same_sides : (left other right rest : KeyParts) → left ≡ other → right ≡ rest → (let x : Sides = record { left = left; right = right } in x) ≡ (let y : Sides = record { left = other; right = rest } in y)
+same_sides : (left other right rest : KeyParts) → left ≡ other → right ≡ rest
+    → (let x : Sides = record { left = left; right = right } in x) ≡ (let y : Sides =
+    record { left = other; right = rest } in y)
 same_sides left other right rest first second =
-    ap (λ (g : KeyParts). let x : Sides = record { left = g; right = right } in x) first ∙ ap (λ (g : KeyParts). let x : Sides = record { left = other; right = g } in x) second
+    ap (λ (g : KeyParts). let x : Sides = record { left = g; right = right } in x) first
+    ∙ ap (λ (g : KeyParts). let x : Sides = record { left = other; right = g } in x) second
 
-module _ (q : Query) (set left : ℕ) (group : KeyParts) (tables others : ℕ) (small : set < 1024) (in_range : IsInRange group) (number : key_number group ≡ left) (joined : tables ≡ tables_of group) (rest : (t : ℕ) → bit others t ≡ bit set t - bit tables t) where
+module _ (q : Query) (set left : ℕ) (group : KeyParts) (tables others : ℕ) (small : set < 1024)
+    (in_range : IsInRange group) (number : key_number group ≡ left) (joined : tables ≡ tables_of group) (rest : (t : ℕ)
+    → bit others t ≡ bit set t - bit tables t) where
   -- sides with a left key of this number are these tables and the others, and the group joins these
   pub own_sides : HasSides q set left → FallsInto q set tables others × (group ≡ top_of q tables)
   own_sides (a, b, falls, is) =
-      let named : group ≡ top_of q a = number_top q a (key_number group) group in_range refl (omega (arith, left_within q set a b falls, small)) (omega (arith, is, number)) in
+      let named : group ≡ top_of q a = number_top q a (key_number group) group in_range refl
+      (omega (arith, left_within q set a b falls, small)) (omega (arith, is, number)) in
       let own : a ≡ tables = sym (joined ∙ (ap tables_of named ∙ tables_top q a)) in
       let first : FallsInto q set tables b = subst (λ x. FallsInto q set x b) own falls in
       let second : b ≡ others = right_one q set tables b others first rest in
       (subst (FallsInto q set tables) second first, named ∙ ap (top_of q) own)
 
   -- where both are sides and make the set, it falls into them
-  pub sides_found : (first second : KeyParts) → bit_or tables others ≡ set → IsSide q tables → IsSide q others → first ≡ top_of q tables → first ≡ group
+  pub sides_found : (first second : KeyParts) → bit_or tables others ≡ set → IsSide q tables → IsSide q others
+      → first ≡ top_of q tables → first ≡ group
       → second ≡ top_of q others → AreSidesAt q set left (record { left = first; right = second })
   sides_found first second whole one other is same second_is = (
     (
@@ -71,5 +78,7 @@ module _ (q : Query) (set left : ℕ) (group : KeyParts) (tables others : ℕ) (
   )
 
 -- each of two sets has its tables in their union
-pub union_of_tables : (set tables others count : ℕ) → bit_or tables others ≡ set → set < count → (tables < count) × (others < count)
-union_of_tables set tables others count whole of_tables = (omega (arith, le_or_l tables others, whole, of_tables), omega (arith, le_or_r tables others, whole, of_tables))
+pub union_of_tables : (set tables others count : ℕ) → bit_or tables others ≡ set → set < count → (tables < count)
+    × (others < count)
+union_of_tables set tables others count whole of_tables =
+    (omega (arith, le_or_l tables others, whole, of_tables), omega (arith, le_or_r tables others, whole, of_tables))

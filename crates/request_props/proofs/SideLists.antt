@@ -1,5 +1,6 @@
 -- The sides of the joins of a set, as they are found one after the other, by the key of the left one.
-use Rattle.std.proofs.Common.{◌≡◌, ℕ, ◌+◌, ◌^◌, ◌<◌, ◌≤◌, ◌⊎◌, inl, inr, List, [], ◌∷◌, ◌++◌, Some, None, map, true, refl, ap, sym, subst, ◌∙◌, arith, max}
+use Rattle.std.proofs.Common.{◌≡◌, ℕ, ◌+◌, ◌^◌, ◌<◌, ◌≤◌, ◌⊎◌, inl, inr, List, [], ◌∷◌, ◌++◌, Some, None, map, true}
+use Rattle.std.proofs.Common.{refl, ap, sym, subst, ◌∙◌, arith, max}
 use Rattle.std.specs.Prelude.{◌==◌}
 use Rattle.std.specs.List.{All, Contains}
 use Rattle.std.specs.List.Sorted.{IsStrictlyIncreasing}
@@ -26,14 +27,19 @@ use Rattle.request_props.specs.declared.candidates.sides.Sides.{Sides}
 pub top_number : (q : Query) (a : ℕ) → a < 1024 → (key_number (top_of q a) < 26) ⊎ (key_number (top_of q a) ≡ 1024 + a)
 top_number q a small =
     let least = trailing_zeros w32 a in
-    let there : (a == 2 ^ least) ≡ true → least < 10 = λ same. exponent_lt least 10 (omega (arith, eqb-true a (2 ^ least) same, small)) in
-    cond_both (a == 2 ^ least) (Some least) None (λ o. (key_number (option_map_or (group_of_table q) o (Join a)) < 26) ⊎ (key_number (option_map_or (group_of_table q) o (Join a)) ≡ 1024 + a))
-    (λ same. inl (cond_both (has_own q least) (Filter least) (Get least) (λ g. key_number g < 26) (λ own. omega (arith, there same)) (λ none. omega (arith, there same))))
+    let there : (a == 2 ^ least) ≡ true → least < 10 =
+    λ same. exponent_lt least 10 (omega (arith, eqb-true a (2 ^ least) same, small)) in
+    cond_both (a == 2 ^ least) (Some least) None (λ o. (key_number (option_map_or (group_of_table q) o (Join a)) < 26)
+    ⊎ (key_number (option_map_or (group_of_table q) o (Join a)) ≡ 1024 + a))
+    (λ same. inl (cond_both (has_own q least) (Filter least) (Get least) (λ g. key_number g < 26)
+    (λ own. omega (arith, there same)) (λ none. omega (arith, there same))))
     (λ differs. inr refl)
 
 -- a side has tables of the set alone
-left_among : (q : Query) (set a b union : ℕ) → FallsInto q set a b → ((t : ℕ) → bit union t ≡ max (bit a t) (bit set t)) → union ≡ set
-left_among q set a b union falls each = same_tables union set (λ t. omega (arith, each t, bit-or a b t, ap (λ x. bit x t) falls.whole))
+left_among : (q : Query) (set a b union : ℕ) → FallsInto q set a b → ((t : ℕ) → bit union t ≡ max (bit a t) (bit set t))
+    → union ≡ set
+left_among q set a b union falls each = same_tables union set
+    (λ t. omega (arith, each t, bit-or a b t, ap (λ x. bit x t) falls.whole))
 
 -- a side has fewer tables than the set
 left_less : (q : Query) (set a b : ℕ) → FallsInto q set a b → a < set
@@ -54,7 +60,8 @@ module _ (q : Query) (set : ℕ) where
   }
 
   -- no left side has a key from the one bound on and below the other
-  pub sides_further : (bound other : ℕ) (found : List Sides) → bound ≤ other → ((a b : ℕ) → FallsInto q set a b → key_number (top_of q a) < other → key_number (top_of q a) < bound)
+  pub sides_further : (bound other : ℕ) (found : List Sides) → bound ≤ other
+      → ((a b : ℕ) → FallsInto q set a b → key_number (top_of q a) < other → key_number (top_of q a) < bound)
       → AreSidesBelow q set bound found → AreSidesBelow q set other found
   sides_further bound other found more none so_far = record {
     ascending = so_far.ascending;
@@ -64,27 +71,41 @@ module _ (q : Query) (set : ℕ) where
   }
 
   -- no left side has the next key
-  pub no_sides_at : (bound : ℕ) (found : List Sides) → (HasSides q set bound → ⊥) → AreSidesBelow q set bound found → AreSidesBelow q set (bound + 1) found
+  pub no_sides_at : (bound : ℕ) (found : List Sides) → (HasSides q set bound → ⊥) → AreSidesBelow q set bound found
+      → AreSidesBelow q set (bound + 1) found
   no_sides_at bound found none so_far =
       sides_further bound (bound + 1) found (omega arith)
-      (λ a b falls less. elim (cases_lt (key_number (top_of q a)) bound) [ inl lesser ↦ lesser | inr more ↦ absurd (none (a, b, falls, omega (arith, less, more))) ])
+      (λ a b falls less. elim (cases_lt (key_number (top_of q a)) bound) [
+        | inl lesser ↦ lesser
+        | inr more ↦
+            absurd (none (a, b, falls, omega (arith, less, more)))
+      ])
       so_far
 
   module _ (small : set < 1024) where
     -- sides with the next key come behind them
-    pub sides_more : (bound : ℕ) (found : List Sides) (new : Sides) → AreSidesAt q set bound new → AreSidesBelow q set bound found → AreSidesBelow q set (bound + 1) (found ++ new ∷ [])
+    pub sides_more : (bound : ℕ) (found : List Sides) (new : Sides) → AreSidesAt q set bound new
+        → AreSidesBelow q set bound found → AreSidesBelow q set (bound + 1) (found ++ new ∷ [])
     sides_more bound found new ((x, y, other, is), at) so_far = record {
       ascending = subst IsStrictlyIncreasing (sym (map-append left_of found (new ∷ [])))
           (rises_push (map left_of found) (left_of new) so_far.ascending
-          (λ w there. omega (arith, below_all (map left_of found) bound w (All-map (λ n. n < bound) left_of found so_far.below) there, at)));
+          (λ w there. omega (
+            arith,
+            below_all (map left_of found) bound w
+                (All-map (λ n. n < bound) left_of found so_far.below) there,
+            at,
+          )));
       sound = All-push (AreSides q set) found new so_far.sound (x, y, other, is);
-      below = All-push (λ sides. left_of sides < bound + 1) found new (λ k d within. omega (arith, so_far.below k d within)) (omega (arith, at));
+      below = All-push (λ sides. left_of sides < bound + 1) found new
+          (λ k d within. omega (arith, so_far.below k d within)) (omega (arith, at));
       complete = λ a b falls less. elim (cases_lt (key_number (top_of q a)) bound) [
         | inl lesser ↦ Contains-append_left found (new ∷ []) (tops_of q a b) (so_far.complete a b falls lesser)
         | inr more ↦
-            let key : key_number (top_of q a) ≡ key_number (top_of q x) = omega (arith, less, more, at, ap left_of is) in
+            let key : key_number (top_of q a) ≡ key_number (top_of q x) =
+            omega (arith, less, more, at, ap left_of is) in
             let one = sides_one q set small joins.Logical a b x y falls other key in
-            let same : new ≡ tops_of q a b = is ∙ (ap (λ z. tops_of q z y) (sym one.0) ∙ ap (tops_of q a) (sym one.1)) in
+            let same : new ≡ tops_of q a b = is ∙ (ap (λ z. tops_of q z y) (sym one.0)
+            ∙ ap (tops_of q a) (sym one.1)) in
             subst (Contains (found ++ new ∷ [])) same (Contains-push found new)
       ];
     }
@@ -93,17 +114,23 @@ module _ (q : Query) (set : ℕ) where
     pub no_sides_between : (found : List Sides) → AreSidesBelow q set 26 found → AreSidesBelow q set 1024 found
     no_sides_between found so_far =
         sides_further 26 1024 found (omega arith)
-        (λ a b falls less. elim (top_number q a (omega (arith, left_less q set a b falls, small))) [ inl one ↦ one | inr several ↦ absurd (omega (arith, several, less)) ])
+        (λ a b falls less. elim (top_number q a (omega (arith, left_less q set a b falls, small))) [
+          | inl one ↦
+              one
+          | inr several ↦ absurd (omega (arith, several, less))
+        ])
         so_far
 
     -- no left side has tables that the set doesn't have
-    pub no_sides_among : (tables union : ℕ) → ((t : ℕ) → bit union t ≡ max (bit tables t) (bit set t)) → (union ≡ set → ⊥) → HasSides q set (1024 + tables) → ⊥
-    no_sides_among tables union each other (a, b, falls, number) = elim (top_number q a (omega (arith, left_less q set a b falls, small))) [
-      | inl one ↦ omega (arith, one, number)
-      | inr several ↦
-          let own : a ≡ tables = omega (arith, several, number) in
-          other (left_among q set a b union falls (λ t. each t ∙ ap (λ x. max (bit x t) (bit set t)) (sym own)))
-    ]
+    pub no_sides_among : (tables union : ℕ) → ((t : ℕ) → bit union t ≡ max (bit tables t) (bit set t))
+        → (union ≡ set → ⊥) → HasSides q set (1024 + tables) → ⊥
+    no_sides_among tables union each other (a, b, falls, number) =
+        elim (top_number q a (omega (arith, left_less q set a b falls, small))) [
+          | inl one ↦ omega (arith, one, number)
+          | inr several ↦
+              let own : a ≡ tables = omega (arith, several, number) in
+              other (left_among q set a b union falls (λ t. each t ∙ ap (λ x. max (bit x t) (bit set t)) (sym own)))
+        ]
 
     -- no left side has a key from that of the whole set on
     pub all_found : (found : List Sides) → AreSidesBelow q set (1024 + set) found → AreAllSides q set found
@@ -112,5 +139,9 @@ module _ (q : Query) (set : ℕ) where
       sound = so_far.sound;
       complete = λ a b falls.
           let less = left_less q set a b falls in
-          so_far.complete a b falls (elim (top_number q a (omega (arith, less, small))) [ inl one ↦ omega (arith, one) | inr several ↦ omega (arith, several, less) ]);
+          so_far.complete a b falls (elim (top_number q a (omega (arith, less, small))) [
+            | inl one ↦
+                omega (arith, one)
+            | inr several ↦ omega (arith, several, less)
+          ]);
     }

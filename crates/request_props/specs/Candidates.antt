@@ -19,7 +19,8 @@ pub record AreCandidatesOf (q : Query) (group : KeyParts) (words : List ℕ) : T
 
 -- the same of each group whose key has a number below the bound
 abbrev pub AreCandidatesBelow : Query → ℕ → List (List ℕ) → Type 0
-AreCandidatesBelow q bound lists = (group : KeyParts) → IsGroup q group → key_number group < bound → AreCandidatesOf q group (slice_index_or lists (key_number group) [])
+AreCandidatesBelow q bound lists = (group : KeyParts) → IsGroup q group → key_number group < bound
+    → AreCandidatesOf q group (slice_index_or lists (key_number group) [])
 
 -- the same of each group, by the key's number
 pub record AreCandidates (q : Query) (lists : List (List ℕ)) : Type 0 where
@@ -50,7 +51,8 @@ pub record ArePhysicalOf (q : Query) (group : KeyParts) (found : List PhysicalCa
 
 -- the same of each group whose key has a number below the bound
 abbrev pub ArePhysicalBelow : Query → ℕ → List (List PhysicalCandidate) → Type 0
-ArePhysicalBelow q bound lists = (group : KeyParts) → IsGroup q group → key_number group < bound → ArePhysicalOf q group (slice_index_or lists (key_number group) [])
+ArePhysicalBelow q bound lists = (group : KeyParts) → IsGroup q group → key_number group < bound
+    → ArePhysicalOf q group (slice_index_or lists (key_number group) [])
 
 -- the same of each group, by the key's number
 pub record ArePhysical (q : Query) (lists : List (List PhysicalCandidate)) : Type 0 where

@@ -1,5 +1,6 @@
 -- Which equalities have a column of a group, or one that gives an order, as sets of the numbers of predicates.
-use Rattle.std.specs.Prelude.{ℕ, ◌≡◌, ◌<◌, ◌-◌, ◌*◌, ◌^◌, ◌⊎◌, ◌↔◌, Some, List, [], ◌∷◌, length, slice_get, slice_index_or, IsTrue}
+use Rattle.std.specs.Prelude.{ℕ, ◌≡◌, ◌<◌, ◌-◌, ◌*◌, ◌^◌, ◌⊎◌, ◌↔◌, Some, List, [], ◌∷◌, length, slice_get}
+use Rattle.std.specs.Prelude.{slice_index_or, IsTrue}
 use Rattle.query_core.specs.Crossing.{crossing_of, equal_item}
 use Rattle.query_core.specs.Keys.{has_item}
 use Rattle.query_core.specs.declared.predicate.Pred.{Pred}
@@ -66,17 +67,20 @@ HasSecondAlone ends number = IsInSet ends.second number × (IsInSet ends.first n
 
 -- both have the predicate by its first item, or both by its second
 abbrev pub HaveBoth : EqualityEnds → EqualityEnds → ℕ → Type 0
-HaveBoth one other number = (IsInSet one.first number × IsInSet other.first number) ⊎ (IsInSet one.second number × IsInSet other.second number)
+HaveBoth one other number = (IsInSet one.first number × IsInSet other.first number)
+    ⊎ (IsInSet one.second number × IsInSet other.second number)
 
 -- the one has the predicate by its first item and the other by its second, or the other way round
 abbrev pub HasAcross : EqualityEnds → EqualityEnds → ℕ → Type 0
-HasAcross one other number = (IsInSet one.first number × IsInSet other.second number) ⊎ (IsInSet one.second number × IsInSet other.first number)
+HasAcross one other number = (IsInSet one.first number × IsInSet other.second number)
+    ⊎ (IsInSet one.second number × IsInSet other.first number)
 
 -- the same by an item of the one that is among some too; where both ways are open, by its first
 abbrev pub HasAcrossBy : EqualityEnds → EqualityEnds → EqualityEnds → ℕ → Type 0
 HasAcrossBy one other among number =
     ((IsInSet one.first number × IsInSet other.second number) × IsInSet among.first number)
-    ⊎ (((IsInSet one.first number × IsInSet other.second number) → ⊥) × (IsInSet one.second number × IsInSet other.first number) × IsInSet among.second number)
+    ⊎ (((IsInSet one.first number × IsInSet other.second number) → ⊥)
+    × (IsInSet one.second number × IsInSet other.first number) × IsInSet among.second number)
 
 -- the predicate equates columns across the groups, of which that of the left group is one of these
 abbrev pub CrossesBy : Query → KeyParts → KeyParts → (ℕ → Type 0) → ℕ → Type 0

@@ -7,4 +7,5 @@ use Rattle.request_props.specs.declared.physical.PhysicalCandidate.{PhysicalCand
 
 -- the physical expression of the word is added, or the word is that of none
 abbrev pub AddsPhysical : ℕ → List PhysicalCandidate → List PhysicalCandidate → Type 0
-AddsPhysical word old new = (((e : PhysicalExpr) → HasWord word (expr_of e) → ⊥) × (new ≡ old)) ⊎ ((e : PhysicalExpr) × HasWord word (expr_of e) × (new ≡ old ++ with_word e ∷ []))
+AddsPhysical word old new = (((e : PhysicalExpr) → HasWord word (expr_of e) → ⊥) × (new ≡ old))
+    ⊎ ((e : PhysicalExpr) × HasWord word (expr_of e) × (new ≡ old ++ with_word e ∷ []))

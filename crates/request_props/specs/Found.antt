@@ -75,10 +75,13 @@ unless_empty (first ∷ others) = (first ∷ others) ∷ []
 abbrev pub table_lists : Query → List (List ℕ)
 table_lists q = filter_map (λ table. table.hashed) q.tables
 
--- the distribution list of each hashed table, each side of each equality between columns of different tables, and the GROUP BY list
+-- the distribution list of each hashed table, each side of each equality between columns of different tables, and the
+-- GROUP BY list
 abbrev pub found_lists : Query → List (List ℕ)
 found_lists q = table_lists q ++ one_each (joined_columns q) ++ unless_empty q.group_by
 
--- the ORDER BY list, each side of these equalities ascending, and the GROUP BY list ascending; the empty order is none of them
+-- the ORDER BY list, each side of these equalities ascending, and the GROUP BY list ascending; the empty order is none
+-- of them
 abbrev pub found_orders : Query → List (List ℕ)
-found_orders q = unless_empty (wanted_order q) ++ one_each (ascending (joined_columns q)) ++ unless_empty (grouped_order q)
+found_orders q = unless_empty (wanted_order q) ++ one_each (ascending (joined_columns q)) ++ unless_empty
+    (grouped_order q)

@@ -1,4 +1,5 @@
--- The pairs of sides into which a set of tables falls, and the words of the joins over them: cited by private functions alone.
+-- The pairs of sides into which a set of tables falls, and the words of the joins over them: cited by private functions
+-- alone.
 use Rattle.std.specs.Prelude.{ℕ, ◌≡◌, ◌<◌, List, [], ◌∷◌, ◌++◌, map}
 use Rattle.std.specs.List.{All, Contains}
 use Rattle.std.specs.List.Sorted.{IsStrictlyIncreasing}
@@ -70,4 +71,5 @@ many_word set = word_of (expr (Join set) (operators.Logical NJoin))
 -- behind it the words of the joins over these sides, kind by kind
 abbrev pub words_over : ℕ → List Sides → List ℕ
 words_over set found =
-    ((((many_word set ∷ []) ++ join_words set joins.Logical found) ++ join_words set joins.Hash found) ++ join_words set joins.Merge found) ++ join_words set joins.Loop found
+    ((((many_word set ∷ []) ++ join_words set joins.Logical found) ++ join_words set joins.Hash found) ++ join_words set
+    joins.Merge found) ++ join_words set joins.Loop found

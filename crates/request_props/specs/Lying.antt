@@ -1,5 +1,6 @@
 -- In which groups lists and orders lie.
-use Rattle.std.specs.Prelude.{ℕ, ◌/◌, ◌≡◌, ◌<◌, ◌↔◌, List, [], Option, None, Some, All, IsTrue, length, map, slice_index_or}
+use Rattle.std.specs.Prelude.{ℕ, ◌/◌, ◌≡◌, ◌<◌, ◌↔◌, List, [], Option, None, Some, All, IsTrue, length, map}
+use Rattle.std.specs.Prelude.{slice_index_or}
 use Rattle.query_core.specs.Keys.{has_item}
 use Rattle.query_core.specs.Sets.{Has}
 use Rattle.query_core.specs.declared.query.Query.{Query}

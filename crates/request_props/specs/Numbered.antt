@@ -1,5 +1,6 @@
 -- The numbered lists and orders of a query, what is asked of its whole plan, and what else a query implies.
-use Rattle.std.specs.Prelude.{ℕ, zero, suc, Bool, ◌≡◌, ◌≤◌, ◌<◌, ◌+◌, ◌*◌, ◌&&◌, List, [], ◌∷◌, Option, None, Some, map, length, nat_lt, bytes_eq, slice_get, slice_index_or, ⊤}
+use Rattle.std.specs.Prelude.{ℕ, zero, suc, Bool, ◌≡◌, ◌≤◌, ◌<◌, ◌+◌, ◌*◌, ◌&&◌, List, [], ◌∷◌, Option, None, Some, map}
+use Rattle.std.specs.Prelude.{length, nat_lt, bytes_eq, slice_get, slice_index_or, ⊤}
 use Rattle.std.specs.List.{list_all, position_or_len}
 use Rattle.std.specs.Option.{option_map_or}
 use Rattle.query_core.specs.Crossing.{equal_item}
@@ -143,7 +144,8 @@ pub record AreGroupTables (q : Query) (tables : GroupTables) : Type 0 where
   pub candidates : AreCandidates q tables.candidates
   pub physical : ArePhysical q tables.physical
 
--- the equalities of the query, and which of them have a column of each group, one that gives each order, and one that is all of each list
+-- the equalities of the query, and which of them have a column of each group, one that gives each order, and one that
+-- is all of each list
 pub record AreEqualityTables (q : Query) (tables : EqualityTables) : Type 0 where
   pub sides : tables.sides ≡ map (equality_of q) q.preds
   pub of_tables : AreTableEnds q tables.of_tables
@@ -159,7 +161,8 @@ pub record ArePlacementTables (q : Query) (tables : PlacementTables) : Type 0 wh
   pub of_orders : AreTablesOf q (map items_of (orders_of q)) tables.of_orders
   pub by_groups : tables.by_groups ≡ group_order q
 
--- the hashed lists and the orders of the query, at most 60 of each, what is asked of its whole plan, and what else a plan's nodes want to know
+-- the hashed lists and the orders of the query, at most 60 of each, what is asked of its whole plan, and what else a
+-- plan's nodes want to know
 pub record IsProps (q : Query) (props : Props) : Type 0 where
   pub lists : props.hashed ≡ lists_of q
   pub few_lists : length (lists_of q) ≤ 60

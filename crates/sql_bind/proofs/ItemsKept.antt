@@ -1,5 +1,6 @@
 -- The used columns are items of a query, and the lists of its tables are lists of them.
-use Rattle.std.proofs.Common.{◌≡◌, ◌∙◌, ℕ, ◌≤◌, ◌<◌, ◌+◌, ◌||◌, ◌&&◌, ◌==◌, Bool, true, false, not, cond, List, [], ◌∷◌, ◌++◌, length, map, nat_le, nat_lt, bytes_eq, refl, arith}
+use Rattle.std.proofs.Common.{◌≡◌, ◌∙◌, ℕ, ◌≤◌, ◌<◌, ◌+◌, ◌||◌, ◌&&◌, ◌==◌, Bool, true, false, not, cond, List, [], ◌∷◌}
+use Rattle.std.proofs.Common.{◌++◌, length, map, nat_le, nat_lt, bytes_eq, refl, arith}
 use Rattle.std.specs.Prelude.{⊤}
 use Rattle.std.specs.List.{list_all, list_any, AllByRecursion}
 use Rattle.std.proofs.lemmas.List.{map-append}
@@ -23,24 +24,33 @@ use Rattle.sql_bind.proofs.ScopeKept.{at_most}
 
 -- ---- what each used column has
 
-pub all_map : {A B : Type 0} (f : A → B) (test : B → Bool) (xs : List A) → list_all test (map f xs) ≡ list_all (λ x. test (f x)) xs
+pub all_map : {A B : Type 0} (f : A → B) (test : B → Bool) (xs : List A)
+    → list_all test (map f xs) ≡ list_all (λ x. test (f x)) xs
 all_map f test [] = refl
 all_map f test (x ∷ xs) = rw (all_map f test xs) refl
 
 module _ (wanted : List Column) (test : UsedColumn → Bool) where
-  in_case : (u : UsedColumn) (rest : List UsedColumn) (b : Bool) → test u ≡ true → list_all test rest ≡ true → list_all test (cond b (u ∷ rest) rest) ≡ true
+  in_case : (u : UsedColumn) (rest : List UsedColumn) (b : Bool) → test u ≡ true → list_all test rest ≡ true
+      → list_all test (cond b (u ∷ rest) rest) ≡ true
   in_case u rest true one all = and_from (test u) (list_all test rest) one all
   in_case u rest false one all = all
 
-  pub each_in : (table place : ℕ) (infos : List ColumnInfo) → ((p : ℕ) → list_all (λ info. test (record { which = column table p; info = info })) infos ≡ true) → list_all test (used_in wanted table place infos) ≡ true
+  pub each_in : (table place : ℕ) (infos : List ColumnInfo)
+      → ((p : ℕ) → list_all (λ info. test (record { which = column table p; info = info })) infos ≡ true)
+      → list_all test (used_in wanted table place infos) ≡ true
   each_in table place [] all = refl
   each_in table place (info ∷ infos) all =
-      in_case (record { which = column table place; info = info }) (used_in wanted table (place + 1) infos) (is_among wanted (column table place))
-      (and_parts (test (record { which = column table place; info = info })) (list_all (λ i. test (record { which = column table place; info = i })) infos) (all place)).0
-      (each_in table (place + 1) infos (λ p. (and_parts (test (record { which = column table p; info = info })) (list_all (λ i. test (record { which = column table p; info = i })) infos) (all p)).1))
+      in_case (record { which = column table place; info = info }) (used_in wanted table (place + 1) infos)
+      (is_among wanted (column table place))
+      (and_parts (test (record { which = column table place; info = info }))
+      (list_all (λ i. test (record { which = column table place; info = i })) infos) (all place)).0
+      (each_in table (place + 1) infos (λ p. (and_parts (test (record { which = column table p; info = info }))
+      (list_all (λ i. test (record { which = column table p; info = i })) infos) (all p)).1))
 
   -- what each column of the tables has, the used ones have
-  pub each_used : (base : ℕ) (scope : List FromTable) (P : FromTable → Type 0) → ((table p : ℕ) (t : FromTable) → base ≤ table → table < base + length scope → P t → list_all (λ info. test (record { which = column table p; info = info })) t.info.columns ≡ true)
+  pub each_used : (base : ℕ) (scope : List FromTable) (P : FromTable → Type 0)
+      → ((table p : ℕ) (t : FromTable) → base ≤ table → table < base + length scope → P t
+      → list_all (λ info. test (record { which = column table p; info = info })) t.info.columns ≡ true)
       → AllByRecursion P scope → list_all test (used_from wanted base scope) ≡ true
   each_used base [] P holds all = refl
   each_used base (t ∷ ts) P holds all =
@@ -51,13 +61,18 @@ module _ (wanted : List Column) (test : UsedColumn → Bool) where
 abbrev pub IsFromCatalogue : FromTable → Type 0
 IsFromCatalogue t = IsTable t.info
 
-names_of_columns : (infos : List ColumnInfo) → AllByRecursion IsColumn infos → list_all (λ info. has_name_form info.name) infos ≡ true
+names_of_columns : (infos : List ColumnInfo) → AllByRecursion IsColumn infos
+    → list_all (λ info. has_name_form info.name) infos ≡ true
 names_of_columns [] all = refl
-names_of_columns (info ∷ infos) all = and_from (has_name_form info.name) (list_all (λ i. has_name_form i.name) infos) (and_parts (has_name_form info.name) (nat_le (length info.name) 64) all.0.named).0 (names_of_columns infos all.1)
+names_of_columns (info ∷ infos) all = and_from (has_name_form info.name) (list_all (λ i. has_name_form i.name) infos)
+    (and_parts (has_name_form info.name) (nat_le (length info.name) 64) all.0.named).0 (names_of_columns infos all.1)
 
-values_of_columns : (infos : List ColumnInfo) → AllByRecursion IsColumn infos → list_all (λ info. nat_le info.ndv 1000000000000) infos ≡ true
+values_of_columns : (infos : List ColumnInfo) → AllByRecursion IsColumn infos
+    → list_all (λ info. nat_le info.ndv 1000000000000) infos ≡ true
 values_of_columns [] all = refl
-values_of_columns (info ∷ infos) all = and_from (nat_le info.ndv 1000000000000) (list_all (λ i. nat_le i.ndv 1000000000000) infos) (at_most info.ndv 1000000000000 all.0.values) (values_of_columns infos all.1)
+values_of_columns (info ∷ infos) all = and_from (nat_le info.ndv 1000000000000)
+    (list_all (λ i. nat_le i.ndv 1000000000000) infos) (at_most info.ndv 1000000000000 all.0.values)
+    (values_of_columns infos all.1)
 
 -- a test that doesn't look at the column
 pub constantly : (b : Bool) (infos : List ColumnInfo) → b ≡ true → list_all (λ info. b) infos ≡ true
@@ -69,28 +84,38 @@ under a b lt = grind (arith, nat_tests)
 
 module _ (wanted : List Column) (scope : List FromTable) (from : AllByRecursion IsFromCatalogue scope) where
   pub all_named : list_all (λ u. has_name_form u.info.name) (used_from wanted 0 scope) ≡ true
-  all_named = each_used wanted (λ u. has_name_form u.info.name) 0 scope IsFromCatalogue (λ table p t low high is. names_of_columns t.info.columns (recursion_from_All IsColumn t.info.columns is.each_column)) from
+  all_named = each_used wanted (λ u. has_name_form u.info.name) 0 scope IsFromCatalogue
+      (λ table p t low high is. names_of_columns t.info.columns
+      (recursion_from_All IsColumn t.info.columns is.each_column)) from
 
   pub all_fit : list_all (λ u. nat_le u.info.ndv 1000000000000) (used_from wanted 0 scope) ≡ true
-  all_fit = each_used wanted (λ u. nat_le u.info.ndv 1000000000000) 0 scope IsFromCatalogue (λ table p t low high is. values_of_columns t.info.columns (recursion_from_All IsColumn t.info.columns is.each_column)) from
+  all_fit = each_used wanted (λ u. nat_le u.info.ndv 1000000000000) 0 scope IsFromCatalogue
+      (λ table p t low high is. values_of_columns t.info.columns
+      (recursion_from_All IsColumn t.info.columns is.each_column)) from
 
   pub all_placed : list_all (λ u. nat_lt u.which.table (length scope)) (used_from wanted 0 scope) ≡ true
-  all_placed = each_used wanted (λ u. nat_lt u.which.table (length scope)) 0 scope IsFromCatalogue (λ table p t low high is. constantly (nat_lt table (length scope)) t.info.columns (under table (length scope) (omega arith))) from
+  all_placed = each_used wanted (λ u. nat_lt u.which.table (length scope)) 0 scope IsFromCatalogue
+      (λ table p t low high is. constantly (nat_lt table (length scope)) t.info.columns
+      (under table (length scope) (omega arith))) from
 
   pub all_low : length scope ≤ 10 → list_all (λ u. nat_le u.which.table 10) (used_from wanted 0 scope) ≡ true
-  all_low few = each_used wanted (λ u. nat_le u.which.table 10) 0 scope IsFromCatalogue (λ table p t low high is. constantly (nat_le table 10) t.info.columns (at_most table 10 (omega arith))) from
+  all_low few = each_used wanted (λ u. nat_le u.which.table 10) 0 scope IsFromCatalogue
+      (λ table p t low high is. constantly (nat_le table 10) t.info.columns (at_most table 10 (omega arith))) from
 
 -- what says nothing of a table holds of all
 any_table : (scope : List FromTable) → AllByRecursion (λ t. ⊤) scope
 any_table [] = tt
 any_table (t ∷ ts) = (tt, any_table ts)
 
-pub all_above : (wanted : List Column) (base : ℕ) (scope : List FromTable) → list_all (λ u. nat_le base u.which.table) (used_from wanted base scope) ≡ true
-all_above wanted base scope = each_used wanted (λ u. nat_le base u.which.table) base scope (λ t. ⊤) (λ table p t low high is. constantly (nat_le base table) t.info.columns (at_most base table low)) (any_table scope)
+pub all_above : (wanted : List Column) (base : ℕ) (scope : List FromTable)
+    → list_all (λ u. nat_le base u.which.table) (used_from wanted base scope) ≡ true
+all_above wanted base scope = each_used wanted (λ u. nat_le base u.which.table) base scope (λ t. ⊤)
+    (λ table p t low high is. constantly (nat_le base table) t.info.columns (at_most base table low)) (any_table scope)
 
 -- ---- no column comes twice
 
-apart_tables : (item : Item) (b : ℕ) (us : List UsedColumn) → item.table < b → list_all (λ u. nat_le b u.which.table) us ≡ true → list_any (same_column item) (items_of us) ≡ false
+apart_tables : (item : Item) (b : ℕ) (us : List UsedColumn) → item.table < b
+    → list_all (λ u. nat_le b u.which.table) us ≡ true → list_any (same_column item) (items_of us) ≡ false
 apart_tables item b [] low all = refl
 apart_tables item b (u ∷ us) low all =
     let parts = and_parts (nat_le b u.which.table) (list_all (λ x. nat_le b x.which.table) us) all in
@@ -102,38 +127,51 @@ no_name true = refl
 no_name false = refl
 
 module _ (wanted : List Column) (table : ℕ) where
-  fresh_case : (item : Item) (u : UsedColumn) (rest : List UsedColumn) (b : Bool) → bytes_eq item.name u.info.name ≡ false → list_any (same_column item) (items_of rest) ≡ false
+  fresh_case : (item : Item) (u : UsedColumn) (rest : List UsedColumn) (b : Bool)
+      → bytes_eq item.name u.info.name ≡ false → list_any (same_column item) (items_of rest) ≡ false
       → list_any (same_column item) (items_of (cond b (u ∷ rest) rest)) ≡ false
   fresh_case item u rest true other all = rw (other, all) (no_name (item.table == u.which.table))
   fresh_case item u rest false other all = all
 
-  fresh_in : (item : Item) (place : ℕ) (infos : List ColumnInfo) → list_any (bytes_eq item.name) (map (λ info. info.name) infos) ≡ false → list_any (same_column item) (items_of (used_in wanted table place infos)) ≡ false
+  fresh_in : (item : Item) (place : ℕ) (infos : List ColumnInfo)
+      → list_any (bytes_eq item.name) (map (λ info. info.name) infos) ≡ false
+      → list_any (same_column item) (items_of (used_in wanted table place infos)) ≡ false
   fresh_in item place [] fresh = refl
   fresh_in item place (info ∷ infos) fresh =
-      let parts = or_parts (bytes_eq item.name info.name) (list_any (bytes_eq item.name) (map (λ i. i.name) infos)) fresh in
-      fresh_case item (record { which = column table place; info = info }) (used_in wanted table (place + 1) infos) (is_among wanted (column table place)) parts.0 (fresh_in item (place + 1) infos parts.1)
+      let parts = or_parts (bytes_eq item.name info.name) (list_any (bytes_eq item.name) (map (λ i. i.name) infos))
+      fresh in
+      fresh_case item (record { which = column table place; info = info }) (used_in wanted table (place + 1) infos)
+      (is_among wanted (column table place)) parts.0 (fresh_in item (place + 1) infos parts.1)
 
-  apart_case : (u : UsedColumn) (rest : List UsedColumn) (b : Bool) → list_any (same_column (item_of u)) (items_of rest) ≡ false → all_differ same_column (items_of rest) ≡ true
+  apart_case : (u : UsedColumn) (rest : List UsedColumn) (b : Bool)
+      → list_any (same_column (item_of u)) (items_of rest) ≡ false → all_differ same_column (items_of rest) ≡ true
       → all_differ same_column (items_of (cond b (u ∷ rest) rest)) ≡ true
   apart_case u rest true fresh all = rw (fresh, all) refl
   apart_case u rest false fresh all = all
 
-  apart_in : (place : ℕ) (infos : List ColumnInfo) → all_differ bytes_eq (map (λ info. info.name) infos) ≡ true → all_differ same_column (items_of (used_in wanted table place infos)) ≡ true
+  apart_in : (place : ℕ) (infos : List ColumnInfo) → all_differ bytes_eq (map (λ info. info.name) infos) ≡ true
+      → all_differ same_column (items_of (used_in wanted table place infos)) ≡ true
   apart_in place [] differ = refl
   apart_in place (info ∷ infos) differ =
-      let parts = and_parts (not (list_any (bytes_eq info.name) (map (λ i. i.name) infos))) (all_differ bytes_eq (map (λ i. i.name) infos)) differ in
+      let parts = and_parts (not (list_any (bytes_eq info.name) (map (λ i. i.name) infos)))
+      (all_differ bytes_eq (map (λ i. i.name) infos)) differ in
       let u : UsedColumn = record { which = column table place; info = info } in
-      apart_case u (used_in wanted table (place + 1) infos) (is_among wanted (column table place)) (fresh_in (item_of u) (place + 1) infos (not-true _ parts.0)) (apart_in (place + 1) infos parts.1)
+      apart_case u (used_in wanted table (place + 1) infos) (is_among wanted (column table place))
+      (fresh_in (item_of u) (place + 1) infos (not-true _ parts.0)) (apart_in (place + 1) infos parts.1)
 
-differ_both : {A : Type 0} (same : A → A → Bool) (xs ys : List A) → all_differ same xs ≡ true → all_differ same ys ≡ true → list_all (λ x. not (list_any (same x) ys)) xs ≡ true → all_differ same (xs ++ ys) ≡ true
+differ_both : {A : Type 0} (same : A → A → Bool) (xs ys : List A) → all_differ same xs ≡ true
+    → all_differ same ys ≡ true → list_all (λ x. not (list_any (same x) ys)) xs ≡ true
+    → all_differ same (xs ++ ys) ≡ true
 differ_both same [] ys these those cross = those
 differ_both same (x ∷ xs) ys these those cross =
     let parts = and_parts (not (list_any (same x) xs)) (all_differ same xs) these in
     let others = and_parts (not (list_any (same x) ys)) (list_all (λ z. not (list_any (same z) ys)) xs) cross in
-    let fresh : list_any (same x) (xs ++ ys) ≡ false = list_any-append (same x) xs ys ∙ rw (not-true _ parts.0, not-true _ others.0) refl in
+    let fresh : list_any (same x) (xs ++ ys) ≡ false = list_any-append (same x) xs ys
+    ∙ rw (not-true _ parts.0, not-true _ others.0) refl in
     rw fresh (differ_both same xs ys parts.1 those others.1)
 
-cross_tables : (b : ℕ) (us vs : List UsedColumn) → list_all (λ u. nat_lt u.which.table b) us ≡ true → list_all (λ u. nat_le b u.which.table) vs ≡ true
+cross_tables : (b : ℕ) (us vs : List UsedColumn) → list_all (λ u. nat_lt u.which.table b) us ≡ true
+    → list_all (λ u. nat_le b u.which.table) vs ≡ true
     → list_all (λ item. not (list_any (same_column item) (items_of vs))) (items_of us) ≡ true
 cross_tables b [] vs low high = refl
 cross_tables b (u ∷ us) vs low high =
@@ -145,10 +183,13 @@ cross_tables b (u ∷ us) vs low high =
 next : (n : ℕ) → nat_lt n (n + 1) ≡ true
 next n = grind (arith, nat_tests)
 
-pub all_apart : (wanted : List Column) (base : ℕ) (scope : List FromTable) → AllByRecursion IsFromCatalogue scope → all_differ same_column (items_of (used_from wanted base scope)) ≡ true
+pub all_apart : (wanted : List Column) (base : ℕ) (scope : List FromTable) → AllByRecursion IsFromCatalogue scope
+    → all_differ same_column (items_of (used_from wanted base scope)) ≡ true
 all_apart wanted base [] from = refl
 all_apart wanted base (t ∷ ts) from =
     let us = used_in wanted base 0 t.info.columns in
     let vs = used_from wanted (base + 1) ts in
-    rw (map-append item_of us vs) (differ_both same_column (items_of us) (items_of vs) (apart_in wanted base 0 t.info.columns from.0.differ) (all_apart wanted (base + 1) ts from.1)
-    (cross_tables (base + 1) us vs (each_in wanted (λ u. nat_lt u.which.table (base + 1)) base 0 t.info.columns (λ p. constantly (nat_lt base (base + 1)) t.info.columns (next base))) (all_above wanted (base + 1) ts)))
+    rw (map-append item_of us vs) (differ_both same_column (items_of us) (items_of vs)
+    (apart_in wanted base 0 t.info.columns from.0.differ) (all_apart wanted (base + 1) ts from.1)
+    (cross_tables (base + 1) us vs (each_in wanted (λ u. nat_lt u.which.table (base + 1)) base 0 t.info.columns
+    (λ p. constantly (nat_lt base (base + 1)) t.info.columns (next base))) (all_above wanted (base + 1) ts)))

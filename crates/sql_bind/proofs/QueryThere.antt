@@ -16,7 +16,9 @@ use Rattle.sql_bind.specs.Binding.{binding, AreLinksOf, IsBound}
 use Rattle.sql_bind.proofs.Outcome.{at_least_1, at_most_1000}
 use Rattle.sql_bind.proofs.Valid.{IsValid, valid}
 
-module _ (select : Select) (catalog : Catalog) (options : Options) (parts : Parts) (links : List Link) (readable : IsReadable select) (kept : IsCatalog catalog) (chosen : AreOptions options) (bound : binding select catalog ≡ Ok parts) (joined : AreLinksOf parts links) where
+module _ (select : Select) (catalog : Catalog) (options : Options) (parts : Parts) (links : List Link)
+    (readable : IsReadable select) (kept : IsCatalog catalog) (chosen : AreOptions options)
+    (bound : binding select catalog ≡ Ok parts) (joined : AreLinksOf parts links) where
   made : IsValid parts (used_by parts)
   made = valid select catalog parts readable kept bound
 

@@ -12,7 +12,8 @@ module _ {A : Type 0} (test : A → Bool) where
   all_both xs ys these those = list_all-append test xs ys ∙ rw (these, those) refl
 
   -- what follows from the test, each passes
-  pub all_weaker : (weaker : A → Bool) (xs : List A) → ((x : A) → test x ≡ true → weaker x ≡ true) → list_all test xs ≡ true → list_all weaker xs ≡ true
+  pub all_weaker : (weaker : A → Bool) (xs : List A) → ((x : A) → test x ≡ true → weaker x ≡ true)
+      → list_all test xs ≡ true → list_all weaker xs ≡ true
   all_weaker weaker [] weakens all = refl
   all_weaker weaker (x ∷ xs) weakens all =
       let parts = and_parts (test x) (list_all test xs) all in

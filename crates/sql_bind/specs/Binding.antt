@@ -44,7 +44,8 @@ pub record IsBound (select : Select) (catalog : Catalog) (options : Options) (q 
 -- the links are those of the query that has these parts
 abbrev pub AreLinksOf : Parts → List Link → Type 0
 AreLinksOf parts links =
-    AreLinks (tables_from (used_by parts) 0 parts.scope) (items_of (used_by parts)) (preds_of (used_by parts) parts.compared) links
+    AreLinks (tables_from (used_by parts) 0 parts.scope) (items_of (used_by parts))
+    (preds_of (used_by parts) parts.compared) links
 
 -- the query, or the first fault, unless memory ran out
 abbrev pub Binds : Select → Catalog → Options → Result Query BindFault → Type 0

@@ -1,5 +1,6 @@
 -- Which column of which table a reference means.
-use Rattle.std.specs.Prelude.{ℕ, Bool, true, List, [], ◌∷◌, ◌+◌, ◌&&◌, ◌==◌, Option, None, Some, Ok, Err, option_map, map, position, option_to_list, ◌++◌, if◌then◌else◌}
+use Rattle.std.specs.Prelude.{ℕ, Bool, true, List, [], ◌∷◌, ◌+◌, ◌&&◌, ◌==◌, Option, None, Some, Ok, Err, option_map}
+use Rattle.std.specs.Prelude.{map, position, option_to_list, ◌++◌, if◌then◌else◌}
 use Rattle.std.specs.List.{list_any}
 use Rattle.std.specs.Str.{bytes_eq}
 use Rattle.sql_reader.specs.declared.syntax.ColRef.{ColRef}
@@ -26,12 +27,14 @@ belongs_to (Some name) alias = bytes_eq name alias
 
 -- the place in the table of the column that is named
 abbrev pub place_in : ColRef → FromTable → Option ℕ
-place_in reference t = if belongs_to reference.table t.alias then position (bytes_eq reference.name) (map (λ c. c.name) t.info.columns) else None
+place_in reference t = if belongs_to reference.table t.alias then position (bytes_eq reference.name)
+    (map (λ c. c.name) t.info.columns) else None
 
 -- each column that the reference can mean, in tables that begin at this place of FROM
 abbrev pub candidates : ColRef → ℕ → List FromTable → List Column
 candidates reference table [] = []
-candidates reference table (t ∷ ts) = option_to_list (option_map (column table) (place_in reference t)) ++ candidates reference (table + 1) ts
+candidates reference table (t ∷ ts) = option_to_list (option_map (column table) (place_in reference t)) ++ candidates
+    reference (table + 1) ts
 
 -- a reference at this place means the one column that it can mean
 abbrev pub only_one : ℕ → List Column → Binding Column

@@ -1,5 +1,6 @@
 -- What a grouped query, and the number of its items, must keep.
-use Rattle.std.specs.Prelude.{ℕ, Bool, List, [], ◌∷◌, ◌++◌, ◌+◌, ◌||◌, Option, None, Some, Ok, Err, length, flat_map, nat_le, nat_lt, if◌then◌else◌}
+use Rattle.std.specs.Prelude.{ℕ, Bool, List, [], ◌∷◌, ◌++◌, ◌+◌, ◌||◌, Option, None, Some, Ok, Err, length, flat_map}
+use Rattle.std.specs.Prelude.{nat_le, nat_lt, if◌then◌else◌}
 use Rattle.sql_bind.specs.declared.fault.BindFault.TheVariants.{NotGrouped, TooManyItems}
 use Rattle.sql_bind.specs.declared.columns.Column.{Column}
 use Rattle.sql_bind.specs.declared.select_list.What.{What}

@@ -2,12 +2,14 @@
 use Rattle.std.specs.Prelude.{◌≡◌, ◌≢◌, List, Some, Ok, Err, Result, slice_get}
 use Rattle.sql_reader.specs.declared.syntax.ColRef.{ColRef}
 use Rattle.sql_bind.specs.declared.fault.BindFault.{BindFault}
-use Rattle.sql_bind.specs.declared.fault.BindFault.TheVariants.{UnknownTable, TwiceAlias, UnknownColumn, Ambiguous, NotGrouped, TooManyItems, Memory}
+use Rattle.sql_bind.specs.declared.fault.BindFault.TheVariants.{UnknownTable, TwiceAlias, UnknownColumn, Ambiguous}
+use Rattle.sql_bind.specs.declared.fault.BindFault.TheVariants.{NotGrouped, TooManyItems, Memory}
 use Rattle.sql_bind.specs.declared.columns.Column.{Column}
 use Rattle.sql_bind.specs.Scope.{FromTable}
 use Rattle.sql_bind.specs.Columns.{place_in}
 
--- the reference can name the column: its table has it under this name, and goes by the part before the point, if there is one
+-- the reference can name the column: its table has it under this name, and goes by the part before the point, if there
+-- is one
 pub record Names (scope : List FromTable) (reference : ColRef) (c : Column) : Type 0 where
   pub table : FromTable
   pub here : slice_get scope c.table ≡ Some table
@@ -24,11 +26,13 @@ pub record AreTwo (scope : List FromTable) (reference : ColRef) (c d : Column) :
   pub second : Names scope reference d
   pub apart : c ≢ d
 
--- a reference means the one column that it can name; it is unknown where it can name none, and ambiguous where it can name two
+-- a reference means the one column that it can name; it is unknown where it can name none, and ambiguous where it can
+-- name two
 abbrev pub IsMeaning : List FromTable → ColRef → Result Column BindFault → Type 0
 IsMeaning scope reference (Ok c) = IsOnly scope reference c
 IsMeaning scope reference (Err (UnknownColumn at)) = (at ≡ reference.at) × ((c : Column) → Names scope reference c → ⊥)
-IsMeaning scope reference (Err (Ambiguous at)) = (at ≡ reference.at) × ((c : Column) × (d : Column) × AreTwo scope reference c d)
+IsMeaning scope reference (Err (Ambiguous at)) = (at ≡ reference.at)
+    × ((c : Column) × (d : Column) × AreTwo scope reference c d)
 IsMeaning scope reference (Err (UnknownTable at)) = ⊥
 IsMeaning scope reference (Err (TwiceAlias at)) = ⊥
 IsMeaning scope reference (Err (NotGrouped at)) = ⊥

@@ -1,5 +1,6 @@
 -- The query over numbered items.
-use Rattle.std.specs.Prelude.{ℕ, Bool, not, List, [], ◌∷◌, ◌++◌, ◌+◌, ◌==◌, Option, None, Some, map, filter, filter_map, option_map, if◌then◌else◌}
+use Rattle.std.specs.Prelude.{ℕ, Bool, not, List, [], ◌∷◌, ◌++◌, ◌+◌, ◌==◌, Option, None, Some, map, filter, filter_map}
+use Rattle.std.specs.Prelude.{option_map, if◌then◌else◌}
 use Rattle.std.specs.List.{list_any}
 use Rattle.query_core.specs.declared.catalog.Placing.{Placing}
 use Rattle.query_core.specs.declared.catalog.Placing.TheVariants.{Hashed, Random}
@@ -45,7 +46,13 @@ indexes_of used table indexes = map (numbers_of used table) indexes
 -- a table of FROM
 abbrev pub table_of : List UsedColumn → ℕ → FromTable → QueryTable
 table_of used table t =
-    record { alias = t.alias; rows = t.info.rows; hashed = hashed_of used table t.info.placing; indexes = indexes_of used table t.info.indexes }
+    record {
+      alias = t.alias;
+      rows = t.info.rows;
+      hashed = hashed_of used table t.info.placing;
+      indexes =
+          indexes_of used table t.info.indexes;
+    }
 
 -- the tables, which begin at this place of FROM
 abbrev pub tables_from : List UsedColumn → ℕ → List FromTable → List QueryTable
@@ -60,7 +67,12 @@ operand_of used (sides.Int value) = operands.Int value
 operand_of used (sides.Str text) = operands.Str text
 
 abbrev pub pred_of : List UsedColumn → Compared → Pred
-pred_of used compared = record { left = number_of used compared.left; op = compared.op; right = operand_of used compared.right }
+pred_of used compared = record {
+  left = number_of used compared.left;
+  op = compared.op;
+  right =
+      operand_of used compared.right;
+}
 
 abbrev pub preds_of : List UsedColumn → List Compared → List Pred
 preds_of used compared = map (pred_of used) compared
@@ -70,7 +82,8 @@ preds_of used compared = map (pred_of used) compared
 -- an aggregate of the select list, with its output name
 abbrev pub agg_as : List UsedColumn → Option (List ℕ) → What → Option Agg
 agg_as used name (whats.Column at c) = None
-agg_as used name (whats.Aggregate number func arg) = Some (record { func = func; arg = option_map (number_of used) arg; name = name })
+agg_as used name (whats.Aggregate number func arg) =
+    Some (record { func = func; arg = option_map (number_of used) arg; name = name })
 
 abbrev pub agg_of : List UsedColumn → Chosen → Option Agg
 agg_of used chosen = agg_as used chosen.name chosen.what

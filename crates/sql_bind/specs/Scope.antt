@@ -1,5 +1,6 @@
 -- The tables of FROM, under their aliases.
-use Rattle.std.specs.Prelude.{ℕ, Bool, List, [], Option, None, Some, Ok, Err, unwrap_or, is_some, find, map, if◌then◌else◌}
+use Rattle.std.specs.Prelude.{ℕ, Bool, List, [], Option, None, Some, Ok, Err, unwrap_or, is_some, find, map}
+use Rattle.std.specs.Prelude.{if◌then◌else◌}
 use Rattle.std.specs.List.{list_any}
 use Rattle.std.specs.Str.{bytes_eq}
 use Rattle.query_core.specs.declared.catalog.Catalog.{Catalog}
@@ -36,7 +37,8 @@ has_alias scope alias = list_any (bytes_eq alias) (aliases scope)
 abbrev pub aliased : List FromTable → FromItem → Option TableInfo → Binding FromTable
 aliased before item None = Err (UnknownTable item.at)
 aliased before item (Some info) =
-    if has_alias before (alias_of item) then Err (TwiceAlias (alias_at item)) else Ok (record { alias = alias_of item; info = info })
+    if has_alias before (alias_of item) then Err (TwiceAlias (alias_at item)) else Ok
+    (record { alias = alias_of item; info = info })
 
 -- a table of FROM, after those before it
 abbrev pub from_table : Catalog → List FromTable → FromItem → Binding FromTable

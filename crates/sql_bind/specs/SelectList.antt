@@ -1,5 +1,6 @@
 -- The select list: plain columns and aggregates, with the names of the output.
-use Rattle.std.specs.Prelude.{ℕ, Bool, true, false, List, [], Option, None, Some, Ok, Err, count_by, filter_map, if◌then◌else◌}
+use Rattle.std.specs.Prelude.{ℕ, Bool, true, false, List, [], Option, None, Some, Ok, Err, count_by, filter_map}
+use Rattle.std.specs.Prelude.{if◌then◌else◌}
 use Rattle.std.specs.List.{list_any}
 use Rattle.std.specs.Str.{bytes_eq}
 use Rattle.query_core.specs.declared.aggregate.AggFunc.{AggFunc}
@@ -67,7 +68,8 @@ any_called name chosen = list_any (bytes_eq name) (output_names chosen)
 -- the element under its output name, which no element before it has
 abbrev pub named_as : List Chosen → ℕ → Option (List ℕ) → What → Binding Chosen
 named_as before at None what = Ok (record { what = what; name = None })
-named_as before at (Some name) what = if any_called name before then Err (TwiceAlias at) else Ok (record { what = what; name = Some name })
+named_as before at (Some name) what = if any_called name before then Err (TwiceAlias at) else Ok
+    (record { what = what; name = Some name })
 
 -- an element of the select list, after those before it
 unfoldable pub chosen_in : List FromTable → List Chosen → SelItem → Binding Chosen

@@ -39,7 +39,8 @@ target_in scope None reference = seen (λ c. targets.Column c) (column_of scope 
 -- a key
 abbrev pub key_in : List FromTable → List Chosen → SelKey → Binding SortKey
 key_in scope chosen key =
-    seen (λ target. record { at = key.col.at; target = target; desc = key.desc }) (target_in scope (meant_output chosen key.col.table key.col.name) key.col)
+    seen (λ target. record { at = key.col.at; target = target; desc = key.desc })
+    (target_in scope (meant_output chosen key.col.table key.col.name) key.col)
 
 -- the keys in text order
 abbrev pub keys_of : List FromTable → List Chosen → List SelKey → Binding (List SortKey)

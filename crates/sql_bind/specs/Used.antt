@@ -47,7 +47,8 @@ named_by_keys keys = flat_map (λ key. in_target key.target) keys
 
 -- all of these, and the columns of GROUP BY
 abbrev pub named_by : Parts → List Column
-named_by parts = ((named_by_chosen parts.chosen ++ named_by_compared parts.compared) ++ parts.group) ++ named_by_keys parts.keys
+named_by parts = ((named_by_chosen parts.chosen ++ named_by_compared parts.compared) ++ parts.group) ++ named_by_keys
+    parts.keys
 
 -- ---- the columns in the lists of the tables
 
@@ -67,7 +68,8 @@ indexed_by table indexes = flat_map (places_of table) indexes
 -- the columns in the lists of the tables, which begin at this place of FROM
 abbrev pub listed_from : ℕ → List FromTable → List Column
 listed_from table [] = []
-listed_from table (t ∷ ts) = (placed_by table t.info.placing ++ indexed_by table t.info.indexes) ++ listed_from (table + 1) ts
+listed_from table (t ∷ ts) = (placed_by table t.info.placing ++ indexed_by table t.info.indexes) ++ listed_from
+    (table + 1) ts
 
 -- ---- the used columns
 
@@ -84,7 +86,8 @@ wanted_by parts = named_by parts ++ listed_from 0 parts.scope
 abbrev pub used_in : List Column → ℕ → ℕ → List ColumnInfo → List UsedColumn
 used_in wanted table place [] = []
 used_in wanted table place (c ∷ cs) =
-    if is_among wanted (column table place) then record { which = column table place; info = c } ∷ used_in wanted table (place + 1) cs else used_in wanted table (place + 1) cs
+    if is_among wanted (column table place) then record { which = column table place; info = c } ∷ used_in wanted table
+    (place + 1) cs else used_in wanted table (place + 1) cs
 
 -- those of the tables' columns that are wanted, table by table
 abbrev pub used_from : List Column → ℕ → List FromTable → List UsedColumn

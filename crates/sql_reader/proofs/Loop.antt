@@ -1,5 +1,6 @@
 -- Reading elements one after the other, as a loop does.
-use Rattle.std.proofs.Common.{◌≡◌, ℕ, suc, ◌-◌, ◌+◌, ◌<◌, ◌≤◌, Bool, true, false, cond, List, Result, [], ◌∷◌, ◌++◌, Option, Some, None}
+use Rattle.std.proofs.Common.{◌≡◌, ℕ, suc, ◌-◌, ◌+◌, ◌<◌, ◌≤◌, Bool, true, false, cond, List, Result, [], ◌∷◌, ◌++◌}
+use Rattle.std.proofs.Common.{Option, Some, None}
 use Rattle.std.proofs.Common.{Ok, Err, refl, sym, ap, ◌∙◌, append_assoc, arith}
 use Rattle.std.specs.Prelude.{is_none}
 use Rattle.sql_reader.specs.declared.tokens.Token.{Token}
@@ -61,7 +62,8 @@ module _ {X : Type 0} (mark : Mark) (begins : Token → Bool) (read : List Token
   not_listed (t ∷ tokens) xs rest e = by (begins t) e
     where
       by : (b : Bool)
-          → cond {A = Step (List X)} b (Err (too_many what (t ∷ tokens))) (Err (unexpected (t ∷ tokens))) ≡ Ok (xs, rest)
+          → cond {A = Step (List X)} b (Err (too_many what (t ∷ tokens))) (Err (unexpected (t ∷ tokens))) ≡ Ok
+          (xs, rest)
           → ⊥
       by true k = absurd cc
       by false k = absurd cc

@@ -18,13 +18,15 @@ empty_is_set room cell empty = record {
 }
 
 -- a probe that comes to an empty cell shows the word in no cell
-pub lacks_at_empty : (room : ℕ) (cell : ℕ → ℕ) (word place : ℕ) → IsWordSet room cell → word ≢ 0 → place < room → cell place ≡ 0
+pub lacks_at_empty : (room : ℕ) (cell : ℕ → ℕ) (word place : ℕ) → IsWordSet room cell → word ≢ 0 → place < room
+    → cell place ≡ 0
     → PassesOthers room cell word (steps_to room (home_of word room) place) → Lacks room cell word
 lacks_at_empty room cell word place set is_word p empty passes q in_room here =
     let home = home_of word room in
     let taken : cell q ≢ 0 = λ none. is_word (sym here ∙ none) in
     ⊎_elim
-    (λ same. taken (subst (λ x. cell x ≡ 0) (steps_to_same room home place q (home_of_below word room (omega arith)) p in_room (sym same)) empty))
+    (λ same. taken (subst (λ x. cell x ≡ 0) (steps_to_same room home place q (home_of_below word room (omega arith)) p
+    in_room (sym same)) empty))
     (⊎_elim
     (λ before. (passes q in_room before).1 here)
     (λ behind. subst (λ w. HasNoGap room cell w q) here
@@ -32,18 +34,22 @@ lacks_at_empty room cell word place set is_word p empty passes q in_room here =
     (cases_order (steps_to room home q) (steps_to room home place))
 
 -- a probe that went round shows the word in no cell
-pub lacks_once_round : (room : ℕ) (cell : ℕ → ℕ) (word : ℕ) → 0 < room → PassesOthers room cell word room → Lacks room cell word
+pub lacks_once_round : (room : ℕ) (cell : ℕ → ℕ) (word : ℕ) → 0 < room → PassesOthers room cell word room
+    → Lacks room cell word
 lacks_once_round room cell word some passes q in_room =
     (all_passed_round room (home_of word room) (HasOther cell word) (home_of_below word room some) passes q in_room).1
 
 -- a probe that went round shows every cell taken
-pub taken_once_round : (room : ℕ) (cell : ℕ → ℕ) (word : ℕ) → 0 < room → PassesOthers room cell word room → (place : ℕ) → place < room → cell place ≢ 0
+pub taken_once_round : (room : ℕ) (cell : ℕ → ℕ) (word : ℕ) → 0 < room → PassesOthers room cell word room → (place : ℕ)
+    → place < room → cell place ≢ 0
 taken_once_round room cell word some passes q in_room =
     (all_passed_round room (home_of word room) (HasOther cell word) (home_of_below word room some) passes q in_room).0
 
 -- a word stored in the empty cell to which its probe came leaves a set of words
-pub put_keeps_set : (room : ℕ) (old new : ℕ → ℕ) (word place : ℕ) → IsWordSet room old → word ≢ 0 → place < room → old place ≡ 0
-    → PassesOthers room old word (steps_to room (home_of word room) place) → PutsAt old new place word → IsWordSet room new
+pub put_keeps_set : (room : ℕ) (old new : ℕ → ℕ) (word place : ℕ) → IsWordSet room old → word ≢ 0 → place < room
+    → old place ≡ 0
+    → PassesOthers room old word (steps_to room (home_of word room) place) → PutsAt old new place word
+    → IsWordSet room new
 put_keeps_set room old new word place set is_word p empty passes puts =
     let lacks = lacks_at_empty room old word place set is_word p empty passes in
     record { once = once lacks; no_gap = λ q in_q taken. no_gap q (was_gapless q in_q taken) }
@@ -57,7 +63,8 @@ put_keeps_set room old new word place set is_word p empty passes puts =
         (cases_eq r place))
         (λ q_else. ⊎_elim
         (λ r_here. absurd (lacks q in_q (sym (puts.others q q_else) ∙ same ∙ ap new r_here ∙ puts.here)))
-        (λ r_else. set.once q r in_q in_r (λ none. taken (puts.others q q_else ∙ none)) (sym (puts.others q q_else) ∙ same ∙ puts.others r r_else))
+        (λ r_else. set.once q r in_q in_r (λ none. taken (puts.others q q_else ∙ none)) (sym (puts.others q q_else)
+        ∙ same ∙ puts.others r r_else))
         (cases_eq r place))
         (cases_eq q place)
 

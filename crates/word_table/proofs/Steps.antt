@@ -13,7 +13,8 @@ pub steps_to_below : (room start place : ℕ) → start < room → place < room 
 steps_to_below room start place s p = grind (arith, nat_tests)
 
 -- the same number of steps leads to one place alone
-pub steps_to_same : (room start p q : ℕ) → start < room → p < room → q < room → steps_to room start p ≡ steps_to room start q → p ≡ q
+pub steps_to_same : (room start p q : ℕ) → start < room → p < room → q < room
+    → steps_to room start p ≡ steps_to room start q → p ≡ q
 steps_to_same room start p q s hp hq e = grind (arith, nat_tests)
 
 -- the next place is below the room
@@ -35,7 +36,8 @@ less_or_same m n below = grind arith
 
 -- a fact that holds of the places passed and of the next one holds of one place more
 pub all_passed_more : (room start place : ℕ) (Fact : ℕ → Type 0) → start < room → place < room
-    → AllPassed room start (steps_to room start place) Fact → Fact place → AllPassed room start (steps_to room start place + 1) Fact
+    → AllPassed room start (steps_to room start place) Fact → Fact place
+    → AllPassed room start (steps_to room start place + 1) Fact
 all_passed_more room start place Fact s p passed here q in_room before =
     ⊎_elim
     (λ fewer. passed q in_room fewer)
@@ -43,11 +45,13 @@ all_passed_more room start place Fact s p passed here q in_room before =
     (less_or_same (steps_to room start q) (steps_to room start place) before)
 
 -- once round, every place was passed
-pub all_passed_round : (room start : ℕ) (Fact : ℕ → Type 0) → start < room → AllPassed room start room Fact → (place : ℕ) → place < room → Fact place
+pub all_passed_round : (room start : ℕ) (Fact : ℕ → Type 0) → start < room → AllPassed room start room Fact
+    → (place : ℕ) → place < room → Fact place
 all_passed_round room start Fact s passed place p = passed place p (steps_to_below room start place s p)
 
 -- what follows from a fact at each place holds of all that were passed
-pub all_passed_as : (room start steps : ℕ) (Fact Then : ℕ → Type 0) → ((place : ℕ) → place < room → Fact place → Then place)
+pub all_passed_as : (room start steps : ℕ) (Fact Then : ℕ → Type 0)
+    → ((place : ℕ) → place < room → Fact place → Then place)
     → AllPassed room start steps Fact → AllPassed room start steps Then
 all_passed_as room start steps Fact Then follows passed place p before = follows place p (passed place p before)
 
@@ -68,7 +72,8 @@ has_probed_none room start Fact s = record {
 -- before it went round, a probe passed all up to its place
 pub has_passed : (room start place steps : ℕ) (Fact : ℕ → Type 0) → steps < room
     → HasProbed room start place steps Fact → AllPassed room start (steps_to room start place) Fact
-has_passed room start place steps Fact few probed = subst (λ k. AllPassed room start k Fact) (sym (probed.at few)) probed.passed
+has_passed room start place steps Fact few probed =
+    subst (λ k. AllPassed room start k Fact) (sym (probed.at few)) probed.passed
 
 -- where the fact holds of the place too, the probe goes on to the next one
 pub has_probed_more : (room start place steps : ℕ) (Fact : ℕ → Type 0) → start < room → steps < room

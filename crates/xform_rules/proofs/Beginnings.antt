@@ -6,7 +6,8 @@ use Rattle.std.proofs.lemmas.Bool.{cases_eq}
 use Rattle.query_core.specs.Sets.{bit, Has}
 use Rattle.query_core.specs.Connected.{AreLinked}
 use Rattle.query_core.specs.declared.query.Query.{Query}
-use Rattle.query_core.proofs.Bits.{bit-below, bit-none, bit-or, bit-and, bit-one_other, bit-difference, same_tables, has_below}
+use Rattle.query_core.proofs.Bits.{bit-below, bit-none, bit-or, bit-and, bit-one_other, bit-difference, same_tables}
+use Rattle.query_core.proofs.Bits.{has_below}
 use Rattle.query_core.proofs.Unions.{several_more}
 use Rattle.query_core.proofs.Whole.{bit_cases}
 use Rattle.xform_rules.specs.OneOrder.{IsCutTo, BeginsWith, begun, less, SplitsAfter, cut, associated}
@@ -22,9 +23,22 @@ module _ (set part : ℕ) (within : (t : ℕ) → Has part t → Has set t) wher
         | inr none ↦ omega (arith, none)
       ] in
       let apart : bit_and part (less_of set part) ≡ 0 =
-      same_tables _ 0 (λ t. omega (arith, bit-and part (less_of set part) t, bit-difference set part t, bit-none t, bit-below set t, bit-below part t)) in
+      same_tables _ 0 (λ t. omega (
+        arith,
+        bit-and part (less_of set part) t,
+        bit-difference set part t,
+        bit-none t,
+        bit-below set t,
+        bit-below part t,
+      )) in
       let whole : bit_or part (less_of set part) ≡ set =
-      same_tables _ set (λ t. omega (arith, bit-or part (less_of set part) t, bit-difference set part t, inside t, bit-below set t)) in
+      same_tables _ set (λ t. omega (
+        arith,
+        bit-or part (less_of set part) t,
+        bit-difference set part t,
+        inside t,
+        bit-below set t,
+      )) in
       omega (arith, sym whole ∙ or_disjoint part (less_of set part) apart)
 
   -- it has the tables that the part leaves
@@ -65,7 +79,12 @@ module _ (q : Query) where
         | inl equal ↦ subst (Has set) (sym equal) is_last.cut.0
         | inr other ↦ absurd (omega (arith, bit-one_other last v other, in_one))
       ] in
-      omega (arith, same, within_le (2 ^ last) set power, several_more set last (has_below set last small is_last.cut.0) cuts.several)
+      omega (
+        arith,
+        same,
+        within_le (2 ^ last) set power,
+        several_more set last (has_below set last small is_last.cut.0) cuts.several,
+      )
 
   -- and there is one
   pub cut_one : (set x y : ℕ) → IsCutTo q set x → IsCutTo q set y → x ≡ y
@@ -77,7 +96,8 @@ module _ (q : Query) where
 
   pub begins_within : (set part : ℕ) → BeginsWith q set part → (t : ℕ) → Has part t → Has set t
   begins_within set part (begun s) t has = has
-  begins_within set part (less s next p cuts rest) t has = cut_within set next cuts t (begins_within next part rest t has)
+  begins_within set part (less s next p cuts rest) t has =
+      cut_within set next cuts t (begins_within next part rest t has)
 
   pub begins_le : (set part : ℕ) → BeginsWith q set part → part ≤ set
   begins_le set part begins = within_le part set (begins_within set part begins)
@@ -92,15 +112,18 @@ module _ (q : Query) where
   begins_cut set part (less s next p cuts rest) other = (next, cuts)
 
   -- what isn't the whole set is a beginning of what the last cut leaves
-  pub begins_next : (set next part : ℕ) → IsCutTo q set next → BeginsWith q set part → part ≢ set → BeginsWith q next part
+  pub begins_next : (set next part : ℕ) → IsCutTo q set next → BeginsWith q set part → part ≢ set
+      → BeginsWith q next part
   begins_next set next part cuts (begun s) other = absurd (other refl)
-  begins_next set next part cuts (less s n p own rest) other = subst (λ x. BeginsWith q x part) (cut_one set n next own cuts) rest
+  begins_next set next part cuts (less s n p own rest) other =
+      subst (λ x. BeginsWith q x part) (cut_one set n next own cuts) rest
 
   -- of two beginnings the less is one of the greater
   pub begins_both : (set a b : ℕ) → BeginsWith q set a → BeginsWith q set b → a ≤ b → BeginsWith q b a
   begins_both set a b first (begun s) at_most = first
   begins_both set a b first (less s next p cuts rest) at_most =
-      begins_both next a b (begins_next set next a cuts first (λ same. absurd (omega (arith, same, at_most, begins_le next b rest, cut_less set next cuts)))) rest at_most
+      begins_both next a b (begins_next set next a cuts first
+      (λ same. absurd (omega (arith, same, at_most, begins_le next b rest, cut_less set next cuts)))) rest at_most
 
   -- a join's left side is a beginning, and not all
   pub splits_begins : (set part : ℕ) → SplitsAfter q set part → BeginsWith q set part × (part < set)
@@ -117,7 +140,8 @@ module _ (q : Query) where
       splits_some inner part (omega (arith, (splits_begins set inner outer).1, small)) within
 
   -- what a shorter beginning leaves is linked to what a longer one's rest is
-  pub linked_wider : (set long short other : ℕ) → BeginsWith q set long → BeginsWith q long short → AreLinked q.links (set - long) other
+  pub linked_wider : (set long short other : ℕ) → BeginsWith q set long → BeginsWith q long short
+      → AreLinked q.links (set - long) other
       → AreLinked q.links (set - short) other
   linked_wider set long short other outer inner linked =
       let in_set = begins_within set long outer in
@@ -125,6 +149,13 @@ module _ (q : Query) where
       linked_in_more q.links (set - long) other (set - short) other
       (λ t has. elim (bit_cases short t) [
         | inl in_short ↦ absurd (omega (arith, rest_bit set long in_set t, has, in_long t in_short, bit-below set t))
-        | inr none ↦ omega (arith, rest_bit set short (λ u in_u. in_set u (in_long u in_u)) t, none, rest_bit set long in_set t, has, bit-below set t)
+        | inr none ↦ omega (
+          arith,
+          rest_bit set short (λ u in_u. in_set u (in_long u in_u)) t,
+          none,
+          rest_bit set long in_set t,
+          has,
+          bit-below set t,
+        )
       ])
       (λ t has. has) linked

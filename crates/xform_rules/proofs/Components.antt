@@ -15,10 +15,12 @@ less_of set part = bit_xor set (bit_and set part)
 
 -- two sets that a link joins are linked the other way round too
 pub linked_turned : (links : List Link) (a b : ℕ) → AreLinked links a b → AreLinked links b a
-linked_turned links a b (t, (in_b, (s, in_a, joined))) = (s, (in_a, (t, in_b, subst (λ x. IsTrue x) (joined_turned links s t) joined)))
+linked_turned links a b (t, (in_b, (s, in_a, joined))) =
+    (s, (in_a, (t, in_b, subst (λ x. IsTrue x) (joined_turned links s t) joined)))
 
 -- larger sets are linked where smaller ones are
-pub linked_in_more : (links : List Link) (a b c d : ℕ) → ((t : ℕ) → Has a t → Has c t) → ((t : ℕ) → Has b t → Has d t) → AreLinked links a b → AreLinked links c d
+pub linked_in_more : (links : List Link) (a b c d : ℕ) → ((t : ℕ) → Has a t → Has c t) → ((t : ℕ) → Has b t → Has d t)
+    → AreLinked links a b → AreLinked links c d
 linked_in_more links a b c d left right (t, (in_b, (s, in_a, joined))) = (t, (right t in_b, (s, left s in_a, joined)))
 
 -- the part is in the set, and the component is one of what the part leaves
@@ -48,18 +50,21 @@ module _ (links : List Link) (set part rest from found : ℕ) (carved : IsCarved
   carved_closed : (s t : ℕ) → Has found s → IsTrue (are_joined links s t) → Has set t → Has found t ⊎ Has part t
   carved_closed s t has joined there = elim (bit_cases part t) [
     | inl in_part ↦ inr in_part
-    | inr none ↦ inl (carved.reached.complete t (along (carved.reached.sound s has) joined (omega (arith, carved.left t, none, there))))
+    | inr none ↦ inl (carved.reached.complete t
+        (along (carved.reached.sound s has) joined (omega (arith, carved.left t, none, there))))
   ]
 
   -- the ways inside the component
   inside : {t : ℕ} → Reaches links rest from t → Reaches links found from t
   inside (here there) = here carved_from
-  inside (along {s} {t} before joined there) = along (inside before) joined (carved.reached.complete t (along before joined there))
+  inside (along {s} {t} before joined there) =
+      along (inside before) joined (carved.reached.complete t (along before joined there))
 
   -- the component is connected
   pub carved_connected : IsConnected links found
   carved_connected s t has_s has_t =
-      Reaches-then links found (Reaches-turned links found (inside (carved.reached.sound s has_s))) (inside (carved.reached.sound t has_t))
+      Reaches-then links found (Reaches-turned links found (inside (carved.reached.sound s has_s)))
+      (inside (carved.reached.sound t has_t))
 
   -- a way from the component stays in it, or the component is linked to the part
   way_out : {t : ℕ} → Reaches links set from t → Has found t ⊎ AreLinked links found part
@@ -97,7 +102,8 @@ module _ (links : List Link) (set part rest from found : ℕ) (carved : IsCarved
           | inr way ↦ inr (along way joined (omega (arith, bit-difference set found t, there, none)))
           | inl has ↦ elim (carved_closed s t has joined there) [
             | inl in_found ↦ inl in_found
-            | inr to_part ↦ inr (reaches_in_more links part (less_of set found) others_part (whole first t in_part to_part))
+            | inr to_part ↦ inr (reaches_in_more links part (less_of set found) others_part
+                (whole first t in_part to_part))
           ]
         ]
       ]
@@ -106,7 +112,8 @@ module _ (links : List Link) (set part rest from found : ℕ) (carved : IsCarved
       pub others_connected : IsConnected links (less_of set found)
       others_connected s t has_s has_t =
           let way : (u : ℕ) → Has (less_of set found) u → Reaches links (less_of set found) first u = λ u has.
-          elim (around (connected first u (carved.within first in_part) (omega (arith, bit-difference set found u, has, bit-below set u)))) [
+          elim (around (connected first u (carved.within first in_part)
+          (omega (arith, bit-difference set found u, has, bit-below set u)))) [
             | inl in_found ↦ absurd (omega (arith, bit-difference set found u, has, in_found, bit-below set u))
             | inr reaches ↦ reaches
           ] in

@@ -20,7 +20,8 @@ use Rattle.xform_rules.proofs.Validity.{set_small, falls_several, falls_group, h
 
 module _ (q : Query) (on : AreJoinRulesOn q) where
   -- every way in which a set that is held falls into two
-  pub every_split : (bound set a b : ℕ) → set < bound → IsHeld q (group set) → FallsInto q set a b → IsHeld q (sides set a b)
+  pub every_split : (bound set a b : ℕ) → set < bound → IsHeld q (group set) → FallsInto q set a b
+      → IsHeld q (sides set a b)
   every_split zero set a b below held falls = absurd (omega (arith, below))
   every_split (suc bound) set a b below held falls =
       let (some, of_tables, connected) = held_valid q (group set) held in
@@ -37,14 +38,20 @@ module _ (q : Query) (on : AreJoinRulesOn q) where
       ]
 
   -- every connected part of a set that is held: the components of what it leaves are taken away, one after the other
-  every_part : (bound set part first : ℕ) → set < bound → IsHeld q (group set) → IsConnected q.links part → Has part first
+  every_part : (bound set part first : ℕ) → set < bound → IsHeld q (group set) → IsConnected q.links part
+      → Has part first
       → ((t : ℕ) → Has part t → Has set t) → IsHeld q (group part)
   every_part zero set part first below held whole in_part within = absurd (omega (arith, below))
   every_part (suc bound) set part first below held whole in_part within = elim (cases_eq (less_of set part) 0) [
     | inl none ↦
         let same : set ≡ part = same_tables set part (λ t. elim (bit_cases part t) [
           | inl has ↦ omega (arith, has, within t has)
-          | inr absent ↦ omega (arith, absent, bit-difference set part t, subst (λ x. bit x t ≡ 0) (sym none) (bit-none t))
+          | inr absent ↦ omega (
+            arith,
+            absent,
+            bit-difference set part t,
+            subst (λ x. bit x t ≡ 0) (sym none) (bit-none t),
+          )
         ]) in
         subst (λ x. IsHeld q (group x)) same held
     | inr more ↦
@@ -60,10 +67,14 @@ module _ (q : Query) (on : AreJoinRulesOn q) where
           start = start;
           reached = reached;
         } in
-        let falls : FallsInto q set (less_of set found) found = carved_falls q set part rest from found first carved connected whole in_part in
+        let falls : FallsInto q set (less_of set found) found =
+        carved_falls q set part rest from found first carved connected whole in_part in
         let held_kept : IsHeld q (group (less_of set found)) =
-        left set (less_of set found) found (every_split (suc set) set (less_of set found) found (omega arith) held falls) in
-        every_part bound (less_of set found) part first (omega (arith, sides_add q set (less_of set found) found falls, falls.some_right, below)) held_kept whole in_part
+        left set (less_of set found) found (every_split (suc set) set (less_of set found) found (omega arith) held
+        falls) in
+        every_part bound (less_of set found) part first
+        (omega (arith, sides_add q set (less_of set found) found falls, falls.some_right, below)) held_kept whole
+        in_part
         (λ t has. elim (bit_cases found t) [
           | inl in_found ↦ absurd (omega (arith, carved_apart q.links set part rest from found carved t in_found, has))
           | inr none ↦ omega (arith, bit-difference set found t, none, within t has)
@@ -74,7 +85,8 @@ module _ (q : Query) (on : AreJoinRulesOn q) where
   pub every_group : (set : ℕ) → 0 < set → set < 2 ^ length q.tables → IsConnected q.links set → IsHeld q (group set)
   every_group set some small connected =
       let (first, has) = some_in set some (set_small q set small) in
-      every_part (suc (all_of q)) (all_of q) set first (omega arith) all connected has (λ t there. elim (cases_lt t (length q.tables)) [
+      every_part (suc (all_of q)) (all_of q) set first (omega arith) all connected has
+      (λ t there. elim (cases_lt t (length q.tables)) [
         | inl within ↦ bit-first (length q.tables) t within
         | inr beyond ↦ absurd (omega (arith, bit-beyond set (length q.tables) t small beyond, there))
       ])

@@ -28,7 +28,8 @@ held_group q place (expanded set t held several last) = held
 held_group q place (turned set a b on held) = held_group q (sides set a b) held
 held_group q place (moved set inner a b c on outer within linked) = held_group q (sides set inner c) outer
 
-module _ (q : Query) (candidates : (e : ExprParts) → IsMember q e → IsCandidate q e) (set : ℕ) (known : IsGroup q (groups.Join set)) where
+module _ (q : Query) (candidates : (e : ExprParts) → IsMember q e → IsCandidate q e) (set : ℕ)
+    (known : IsGroup q (groups.Join set)) where
   -- without JoinAssociate: what all tables begin with
   pub group_without : (IsOn q rules.JoinAssociate → ⊥) → BeginsWith q (all_of q) set ↔ HasJoinGroup q set
   group_without off =
@@ -36,26 +37,36 @@ module _ (q : Query) (candidates : (e : ExprParts) → IsMember q e → IsCandid
       let held = group_held q candidates set known in
       (λ begins. held.1 (by_cuts.1 begins), λ member. by_cuts.0 (held.0 member))
 
-  pub join_without : (IsOn q rules.JoinAssociate → ⊥) → (a b : ℕ) → FallsInto q set a b → HasJoinGroup q set → IsCutJoin q set a b ↔ HasJoin q set a b
+  pub join_without : (IsOn q rules.JoinAssociate → ⊥) → (a b : ℕ) → FallsInto q set a b → HasJoinGroup q set
+      → IsCutJoin q set a b ↔ HasJoin q set a b
   join_without off a b falls has =
       let by_cuts = join_by_cuts q off set a b falls in
-      let held = join_held q candidates set a b in
-      (λ cuts. held.1 (by_cuts.1 ((group_held q candidates set known).0 has, cuts)), λ member. (by_cuts.0 (held.0 member)).1)
+      let held = join_held q candidates set a b in (
+        λ cuts. held.1 (by_cuts.1 ((group_held q candidates set known).0 has, cuts)),
+        λ member.
+            (by_cuts.0 (held.0 member)).1,
+      )
 
   -- JoinAssociate alone: what all tables lead to
-  pub group_alone : IsOn q rules.JoinAssociate → (IsOn q rules.JoinCommute → ⊥) → LeadsTo q (all_of q) set ↔ HasJoinGroup q set
+  pub group_alone : IsOn q rules.JoinAssociate → (IsOn q rules.JoinCommute → ⊥) → LeadsTo q (all_of q) set
+      ↔ HasJoinGroup q set
   group_alone on off =
       let in_order = group_in_order q on off set in
       let held = group_held q candidates set known in
       (λ leads. held.1 (in_order.1 leads), λ member. in_order.0 (held.0 member))
 
-  pub join_alone : IsOn q rules.JoinAssociate → (IsOn q rules.JoinCommute → ⊥) → (a b : ℕ) → FallsInto q set a b → HasJoinGroup q set
+  pub join_alone : IsOn q rules.JoinAssociate → (IsOn q rules.JoinCommute → ⊥) → (a b : ℕ) → FallsInto q set a b
+      → HasJoinGroup q set
       → SplitsAfter q set a ↔ HasJoin q set a b
   join_alone on off a b falls has =
       let in_order = join_in_order q on off set a b falls in
-      let held = join_held q candidates set a b in
-      (λ splits. held.1 (in_order.1 ((group_held q candidates set known).0 has, splits)), λ member. (in_order.0 (held.0 member)).1)
+      let held = join_held q candidates set a b in (
+        λ splits. held.1 (in_order.1 ((group_held q candidates set known).0 has, splits)),
+        λ member.
+            (in_order.0 (held.0 member)).1,
+      )
 
   -- the group of a join
   pub join_has_group : (a b : ℕ) → HasJoin q set a b → HasJoinGroup q set
-  join_has_group a b member = (group_held q candidates set known).1 (held_group q (sides set a b) ((join_held q candidates set a b).0 member))
+  join_has_group a b member = (group_held q candidates set known).1
+      (held_group q (sides set a b) ((join_held q candidates set a b).0 member))

@@ -33,7 +33,8 @@ module _ (q : Query) where
   -- the group of all rows is one of the closure's
   input_member : IsMember q (origin_of q (input_of q))
   input_member =
-      cond_both q.grouped groups.Agg (input_of q) (λ g. IsMember q (origin_of q g) → IsMember q (origin_of q (input_of q)))
+      cond_both q.grouped groups.Agg (input_of q) (λ g. IsMember q (origin_of q g)
+      → IsMember q (origin_of q (input_of q)))
       (λ yes root. child_origin (origin_of q groups.Agg) (input_of q) root refl) (λ no root. root) root_origin
 
   -- in the closure: the group of a set, or a join
@@ -44,8 +45,10 @@ module _ (q : Query) where
   -- what is held is in the closure
   pub held_member : (place : Place) → IsHeld q place → IsMemberAt place
   held_member place all = input_member
-  held_member place (left set a b held) = child_origin (join_of q set a b) (top_of q a) (held_member (sides set a b) held) (inl refl)
-  held_member place (right set a b held) = child_origin (join_of q set a b) (top_of q b) (held_member (sides set a b) held) (inr refl)
+  held_member place (left set a b held) = child_origin (join_of q set a b) (top_of q a)
+      (held_member (sides set a b) held) (inl refl)
+  held_member place (right set a b held) =
+      child_origin (join_of q set a b) (top_of q b) (held_member (sides set a b) held) (inr refl)
   held_member place (expanded set t held several last) =
       result (origin_of q (groups.Join set)) (join_of q set (set - 2 ^ t) (2 ^ t)) rules.ExpandNAry 0
       (subst (λ g. IsMember q (origin_of q g)) (top_several q set several) (held_member (group set) held))
@@ -56,14 +59,35 @@ module _ (q : Query) where
   held_member place (moved set inner a b c on outer within linked) =
       let known : IsGroup q (groups.Join inner) = (held_valid q (sides inner a b) within).0 in
       let member : IsMember q (logical_in (groups.Join set) (logical.Join (groups.Join inner) (top_of q c))) =
-      subst (λ g. IsMember q (logical_in (groups.Join set) (logical.Join g (top_of q c)))) (top_several q inner known.1) (held_member (sides set inner c) outer) in
+      subst (λ g. IsMember q (logical_in (groups.Join set) (logical.Join g (top_of q c)))) (top_several q inner known.1)
+      (held_member (sides set inner c) outer) in
       let link : AreLinked q.links (tables_of (top_of q b)) (tables_of (top_of q c)) =
-      subst (λ x. AreLinked q.links x (tables_of (top_of q c))) (sym (tables_top q b)) (subst (AreLinked q.links b) (sym (tables_top q c)) linked) in
+      subst (λ x. AreLinked q.links x (tables_of (top_of q c))) (sym (tables_top q b))
+      (subst (AreLinked q.links b) (sym (tables_top q c)) linked) in
       let union : bit_or b c ≡ bit_or (tables_of (top_of q b)) (tables_of (top_of q c)) =
-      ap (λ x. bit_or x c) (sym (tables_top q b)) ∙ ap (λ x. bit_or (tables_of (top_of q b)) x) (sym (tables_top q c)) in
-      bound_result (logical_in (groups.Join set) (logical.Join (groups.Join inner) (top_of q c))) (join_of q inner a b) (join_of q set a (bit_or b c)) rules.JoinAssociate 0 member
+      ap (λ x. bit_or x c) (sym (tables_top q b))
+      ∙ ap (λ x. bit_or (tables_of (top_of q b)) x) (sym (tables_top q c)) in
+      bound_result (logical_in (groups.Join set) (logical.Join (groups.Join inner) (top_of q c))) (join_of q inner a b)
+      (join_of q set a (bit_or b c)) rules.JoinAssociate 0 member
       (held_member (sides inner a b) within)
-      (record { on = on; group = refl; gives = (refl, refl, (inner, top_of q c, top_of q a, top_of q b, refl, refl, link, ap (λ x. logical.Join (top_of q a) (top_of q x)) union)) })
+      (record {
+        on = on;
+        group = refl;
+        gives = (
+          refl,
+          refl,
+          (
+            inner,
+            top_of q c,
+            top_of q a,
+            top_of q b,
+            refl,
+            refl,
+            link,
+            ap (λ x. logical.Join (top_of q a) (top_of q x)) union,
+          ),
+        );
+      })
 
   module _ (candidates : (e : ExprParts) → IsMember q e → IsCandidate q e) where
     -- a group of several tables is in the closure exactly where it is held
@@ -76,7 +100,8 @@ module _ (q : Query) where
     -- so is a join of two sets
     pub join_held : (set a b : ℕ) → HasJoin q set a b ↔ IsHeld q (sides set a b)
     join_held set a b = (
-      λ member. subst (λ x. IsHeld q (sides set x b)) (tables_top q a) (subst (λ x. IsHeld q (sides set (tables_of (top_of q a)) x)) (tables_top q b)
+      λ member. subst (λ x. IsHeld q (sides set x b)) (tables_top q a)
+          (subst (λ x. IsHeld q (sides set (tables_of (top_of q a)) x)) (tables_top q b)
           ((member_says q candidates (join_of q set a b) member).both set (top_of q a) (top_of q b) refl refl)),
       λ held. held_member (sides set a b) held,
     )

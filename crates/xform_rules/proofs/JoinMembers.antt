@@ -14,7 +14,8 @@ use Rattle.xform_rules.specs.Splits.{join_of}
 group_is : (g : KeyParts) (set s : ℕ) → g ≡ groups.Join s → set ≡ tables_of g → g ≡ groups.Join set
 group_is g set s own is = own ∙ ap groups.Join (sym (is ∙ ap tables_of own))
 
-module _ (q : Query) (g : KeyParts) (set : ℕ) (is : set ≡ tables_of g) (l r : KeyParts) (a b : ℕ) (is_left : a ≡ tables_of l) (is_right : b ≡ tables_of r)
+module _ (q : Query) (g : KeyParts) (set : ℕ) (is : set ≡ tables_of g) (l r : KeyParts) (a b : ℕ)
+    (is_left : a ≡ tables_of l) (is_right : b ≡ tables_of r)
     (shape : HasLogical q g (logical.Join l r)) where
   -- the sides are sets that the set falls into
   pub join_falls : FallsInto q set a b
@@ -23,7 +24,8 @@ module _ (q : Query) (g : KeyParts) (set : ℕ) (is : set ≡ tables_of g) (l r 
       let same : set ≡ s = is ∙ ap tables_of own in
       let same_left : a ≡ x = is_left ∙ ap tables_of left ∙ tables_top q x in
       let same_right : b ≡ y = is_right ∙ ap tables_of right ∙ tables_top q y in
-      subst (λ z. FallsInto q z a b) (sym same) (subst (λ z. FallsInto q s z b) (sym same_left) (subst (FallsInto q s x) (sym same_right) falls))
+      subst (λ z. FallsInto q z a b) (sym same)
+      (subst (λ z. FallsInto q s z b) (sym same_left) (subst (FallsInto q s x) (sym same_right) falls))
 
   -- and the expression is their join
   pub join_is : logical_in g (logical.Join l r) ≡ join_of q set a b
@@ -32,4 +34,5 @@ module _ (q : Query) (g : KeyParts) (set : ℕ) (is : set ≡ tables_of g) (l r 
       let same_left : l ≡ top_of q a = left ∙ ap (top_of q) (sym (is_left ∙ ap tables_of left ∙ tables_top q x)) in
       let same_right : r ≡ top_of q b = right ∙ ap (top_of q) (sym (is_right ∙ ap tables_of right ∙ tables_top q y)) in
       ap (λ z. logical_in z (logical.Join l r)) (group_is g set s own is)
-      ∙ ap (λ z. logical_in (groups.Join set) (logical.Join z r)) same_left ∙ ap (λ z. logical_in (groups.Join set) (logical.Join (top_of q a) z)) same_right
+      ∙ ap (λ z. logical_in (groups.Join set) (logical.Join z r)) same_left
+      ∙ ap (λ z. logical_in (groups.Join set) (logical.Join (top_of q a) z)) same_right

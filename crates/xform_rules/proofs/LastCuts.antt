@@ -1,5 +1,6 @@
 -- A connected set of two or more tables has a table without which the others are connected, so it has a last one.
-use Rattle.std.proofs.Common.{◌≡◌, ℕ, zero, suc, ◌+◌, ◌-◌, ◌<◌, ◌≤◌, ◌^◌, List, sym, subst, arith, IsTrue, ◌⊎◌, inl, inr}
+use Rattle.std.proofs.Common.{◌≡◌, ℕ, zero, suc, ◌+◌, ◌-◌, ◌<◌, ◌≤◌, ◌^◌, List, sym, subst, arith, IsTrue, ◌⊎◌, inl}
+use Rattle.std.proofs.Common.{inr}
 use Rattle.std.specs.Prelude.{bit_or, ◌≢◌}
 use Rattle.std.specs.Int.{trailing_zeros, w32}
 use Rattle.std.proofs.lemmas.Nat.{pow_pos, le_or_l}
@@ -8,7 +9,8 @@ use Rattle.query_core.specs.Sets.{Has}
 use Rattle.query_core.specs.Connected.{are_joined, Reaches, along, IsConnected, IsLead, IsReached}
 use Rattle.query_core.specs.declared.predicate.Link.{Link}
 use Rattle.query_core.specs.declared.query.Query.{Query}
-use Rattle.query_core.proofs.Bits.{bit-below, bit-none, bit-or, bit-one, bit-one_other, one-grows, same_tables, least-found, has_below}
+use Rattle.query_core.proofs.Bits.{bit-below, bit-none, bit-or, bit-one, bit-one_other, one-grows, same_tables}
+use Rattle.query_core.proofs.Bits.{least-found, has_below}
 use Rattle.query_core.proofs.Reach.{Reaches-then, Reaches-turned, reached_all, connected_from, whole_from}
 use Rattle.query_core.proofs.Unions.{one_connected, reaches_in_more}
 use Rattle.query_core.proofs.Whole.{bit_cases, component, lead_or_closed}
@@ -40,17 +42,21 @@ connected_cases links set small = elim (cases_eq set 0) [
       ]
 ]
 
-module _ (links : List Link) (set first : ℕ) (small : set < 2 ^ 32) (whole : IsConnected links set) (in_set : Has set first) where
+module _ (links : List Link) (set first : ℕ) (small : set < 2 ^ 32) (whole : IsConnected links set)
+    (in_set : Has set first) where
   -- a connected part grows by a table to which a link leads
-  grown_connected : (part t : ℕ) → IsConnected links part → Has part first → IsLead links part set t → IsConnected links (bit_or part (2 ^ t))
+  grown_connected : (part t : ℕ) → IsConnected links part → Has part first → IsLead links part set t
+      → IsConnected links (bit_or part (2 ^ t))
   grown_connected part t connected has (there, (from, in_part, joined)) x y has_x has_y =
       let new = bit_or part (2 ^ t) in
-      let more : (u : ℕ) → Has part u → Has new u = λ u in_old. omega (arith, bit-or part (2 ^ t) u, in_old, bit-below (2 ^ t) u) in
+      let more : (u : ℕ) → Has part u → Has new u =
+      λ u in_old. omega (arith, bit-or part (2 ^ t) u, in_old, bit-below (2 ^ t) u) in
       let way : (u : ℕ) → Has new u → Reaches links new first u = λ u in_new. elim (bit_cases part u) [
         | inl in_old ↦ reaches_in_more links part new more (connected first u has in_old)
         | inr none ↦ elim (cases_eq u t) [
           | inl same ↦
-              let joined_u : IsTrue (are_joined links from u) = subst (λ k. IsTrue (are_joined links from k)) (sym same) joined in
+              let joined_u : IsTrue (are_joined links from u) =
+              subst (λ k. IsTrue (are_joined links from k)) (sym same) joined in
               along (reaches_in_more links part new more (connected first from has in_part)) joined_u in_new
           | inr other ↦ absurd (omega (arith, bit-or part (2 ^ t) u, none, bit-one_other t u other, in_new))
         ]
@@ -58,7 +64,8 @@ module _ (links : List Link) (set first : ℕ) (small : set < 2 ^ 32) (whole : I
       Reaches-then links new (Reaches-turned links new (way x has_x)) (way y has_y)
 
   -- so it grows until one table is left out
-  grown_to_cut : (fuel part : ℕ) → ((t : ℕ) → Has part t → Has set t) → IsConnected links part → Has part first → part ≢ set → set - part < fuel
+  grown_to_cut : (fuel part : ℕ) → ((t : ℕ) → Has part t → Has set t) → IsConnected links part → Has part first
+      → part ≢ set → set - part < fuel
       → (t : ℕ) × Has set t × IsConnected links (set - 2 ^ t)
   grown_to_cut zero part within connected has other left = absurd (omega (arith, left))
   grown_to_cut (suc fuel) part within connected has other left = elim (lead_or_closed set part links) [
@@ -97,7 +104,8 @@ module _ (links : List Link) (set first : ℕ) (small : set < 2 ^ 32) (whole : I
         | inl same ↦ subst (Has set) (sym same) in_set
         | inr other ↦ absurd (omega (arith, bit-one_other first t other, has))
       ] in
-      grown_to_cut (suc (set - 2 ^ first)) (2 ^ first) within (one_connected links first) (bit-one first) (λ same. several (sym same)) (omega arith)
+      grown_to_cut (suc (set - 2 ^ first)) (2 ^ first) within (one_connected links first) (bit-one first)
+      (λ same. several (sym same)) (omega arith)
 
 module _ (q : Query) (set : ℕ) (small : set < 2 ^ 32) where
   -- a table is a cut, or it isn't
@@ -111,7 +119,8 @@ module _ (q : Query) (set : ℕ) (small : set < 2 ^ 32) where
   ]
 
   -- where there is a cut there is a last one
-  last_below : (bound : ℕ) → ((t : ℕ) → bound ≤ t → IsCut q set t → ⊥) → (t : ℕ) → IsCut q set t → (last : ℕ) × IsLastCut q set last
+  last_below : (bound : ℕ) → ((t : ℕ) → bound ≤ t → IsCut q set t → ⊥) → (t : ℕ) → IsCut q set t → (last : ℕ)
+      × IsLastCut q set last
   last_below zero above t cut = absurd (above t (omega arith) cut)
   last_below (suc bound) above t cut = elim (cut_cases bound) [
     | inl found ↦ (

@@ -1,5 +1,6 @@
 -- Which logical expressions of tables and of GROUP BY are members, for every choice of the rules.
-use Rattle.std.proofs.Common.{◌≡◌, ℕ, zero, suc, ◌-◌, ◌^◌, ◌<◌, refl, ap, sym, subst, ◌∙◌, arith, inl, inr, length, IsTrue, true, None, Some}
+use Rattle.std.proofs.Common.{◌≡◌, ℕ, zero, suc, ◌-◌, ◌^◌, ◌<◌, refl, ap, sym, subst, ◌∙◌, arith, inl, inr, length}
+use Rattle.std.proofs.Common.{IsTrue, true, None, Some}
 use Rattle.std.specs.Prelude.{◌==◌, if◌then◌else◌}
 use Rattle.std.specs.Option.{option_map_or}
 use Rattle.std.specs.Int.{trailing_zeros, w32}
@@ -61,9 +62,11 @@ module _ (q : Query) where
               ] in
               absurd (other (one ∙ ap (λ x. 2 ^ x) (sym is_k)))
           | inl several ↦ elim (cases_eq t u) [
-            | inl same ↦ subst (λ x. IsHeld q (group (2 ^ x))) (sym same) (right set (set - 2 ^ u) (2 ^ u) (expanded set u held several last))
+            | inl same ↦ subst (λ x. IsHeld q (group (2 ^ x))) (sym same)
+                (right set (set - 2 ^ u) (2 ^ u) (expanded set u held several last))
             | inr differs ↦
-                one_held bound (set - 2 ^ u) t (omega (arith, below, within_le (2 ^ u) set power, pow_pos u)) (left set (set - 2 ^ u) (2 ^ u) (expanded set u held several last))
+                one_held bound (set - 2 ^ u) t (omega (arith, below, within_le (2 ^ u) set power, pow_pos u))
+                (left set (set - 2 ^ u) (2 ^ u) (expanded set u held several last))
                 (omega (arith, rest_bit set (2 ^ u) power t, bit-one_other u t differs, has))
           ]
         ]
@@ -73,12 +76,15 @@ module _ (q : Query) where
   alone_member : (t : ℕ) → t < length q.tables → IsMember q (origin_of q (alone q t))
   alone_member t there =
       let held = one_held (suc (all_of q)) (all_of q) t (omega arith) all (bit-first (length q.tables) t there) in
-      subst (λ g. IsMember q (origin_of q g)) (top_one q t (omega (arith, there, q.tables_valid.few))) (held_member q (group (2 ^ t)) held)
+      subst (λ g. IsMember q (origin_of q g)) (top_one q t (omega (arith, there, q.tables_valid.few)))
+      (held_member q (group (2 ^ t)) held)
 
   pub get_member : (t : ℕ) → t < length q.tables → IsMember q (origin_of q (groups.Get t))
   get_member t there =
-      cond_both (has_own q t) (groups.Filter t) (groups.Get t) (λ g. IsMember q (origin_of q g) → IsMember q (origin_of q (groups.Get t)))
-      (λ own member. child_origin (origin_of q (groups.Filter t)) (groups.Get t) member refl) (λ none member. member) (alone_member t there)
+      cond_both (has_own q t) (groups.Filter t) (groups.Get t) (λ g. IsMember q (origin_of q g)
+      → IsMember q (origin_of q (groups.Get t)))
+      (λ own member. child_origin (origin_of q (groups.Filter t)) (groups.Get t) member refl) (λ none member. member)
+      (alone_member t there)
 
   pub filter_member : (t : ℕ) → t < length q.tables → IsTrue (has_own q t) → IsMember q (origin_of q (groups.Filter t))
   filter_member t there own =
@@ -94,7 +100,8 @@ module _ (q : Query) where
       subst (λ g. IsMember q (origin_of q g)) root root_origin
 
   pub split_member : IsTrue q.grouped → IsOn q rules.SplitAgg → IsMember q split_parts
-  split_member grouped on = result (origin_of q groups.Agg) split_parts rules.SplitAgg 0 (agg_member grouped) (record { on = on; group = refl; gives = (refl, (refl, refl)) })
+  split_member grouped on = result (origin_of q groups.Agg) split_parts rules.SplitAgg 0 (agg_member grouped)
+      (record { on = on; group = refl; gives = (refl, (refl, refl)) })
 
   pub partial_member : IsTrue q.grouped → IsOn q rules.SplitAgg → IsMember q (origin_of q groups.Partial)
   partial_member grouped on = child_origin split_parts groups.Partial (split_member grouped on) refl

@@ -1,5 +1,6 @@
 -- Where a rule that turns joins is off, what the closure holds of sets of tables goes in one order.
-use Rattle.std.proofs.Common.{◌≡◌, ℕ, ◌-◌, ◌^◌, ◌<◌, refl, ap, sym, subst, ◌∙◌, arith, IsTrue, ◌⊎◌, inl, inr, ◌↔◌, length}
+use Rattle.std.proofs.Common.{◌≡◌, ℕ, ◌-◌, ◌^◌, ◌<◌, refl, ap, sym, subst, ◌∙◌, arith, IsTrue, ◌⊎◌, inl, inr, ◌↔◌}
+use Rattle.std.proofs.Common.{length}
 use Rattle.std.specs.Prelude.{bit_or}
 use Rattle.query_core.specs.Sets.{Has, is_several}
 use Rattle.query_core.specs.Connected.{AreLinked}
@@ -12,7 +13,8 @@ use Rattle.xform_rules.proofs.LastCuts.{within_le}
 use Rattle.xform_rules.specs.declared.rules.Rule.TheVariants as rules
 use Rattle.xform_rules.specs.Rules.{IsOn}
 use Rattle.xform_rules.specs.Held.{Place, group, sides, all_of, IsHeld, all, left, right, expanded, turned, moved}
-use Rattle.xform_rules.specs.OneOrder.{IsCutTo, BeginsWith, begun, less, SplitsAfter, cut, associated, LeadsTo, there, by_left, by_right}
+use Rattle.xform_rules.specs.OneOrder.{IsCutTo, BeginsWith, begun, less, SplitsAfter, cut, associated, LeadsTo, there}
+use Rattle.xform_rules.specs.OneOrder.{by_left, by_right}
 use Rattle.xform_rules.proofs.EverySplit.{sides_add}
 use Rattle.xform_rules.proofs.Validity.{set_small, held_valid}
 use Rattle.xform_rules.proofs.Beginnings.{begins_then}
@@ -52,7 +54,8 @@ module _ (q : Query) where
       let valid = held_valid q (sides set a (bit_or b c)) (moved set inner a b c on outer within linked) in
       let (leads, splits, same) = held_in_order off (sides set inner c) outer in
       let (leads_inner, splits_inner, same_inner) = held_in_order off (sides inner a b) within in
-      let link : AreLinked q.links (inner - a) (set - inner) = subst (λ x. AreLinked q.links x (set - inner)) same_inner (subst (AreLinked q.links b) same linked) in
+      let link : AreLinked q.links (inner - a) (set - inner) =
+      subst (λ x. AreLinked q.links x (set - inner)) same_inner (subst (AreLinked q.links b) same linked) in
       (leads, associated set inner a splits splits_inner link, right_rest q set a (bit_or b c) valid.1)
 
   -- a join over a last cut is held
@@ -60,22 +63,29 @@ module _ (q : Query) where
   cut_held set part cuts held =
       let (t, last, same) = cuts.last in
       let join : IsHeld q (sides set (set - 2 ^ t) (2 ^ t)) = expanded set t held cuts.several last in
-      let rest : 2 ^ t ≡ set - part = right_rest q set (set - 2 ^ t) (2 ^ t) (held_valid q (sides set (set - 2 ^ t) (2 ^ t)) join).1 ∙ ap (λ x. set - x) (sym same) in
-      subst (λ x. IsHeld q (sides set x (set - part))) (sym same) (subst (λ x. IsHeld q (sides set (set - 2 ^ t) x)) rest join)
+      let rest : 2 ^ t ≡ set - part = right_rest q set (set - 2 ^ t) (2 ^ t)
+      (held_valid q (sides set (set - 2 ^ t) (2 ^ t)) join).1 ∙ ap (λ x. set - x) (sym same) in
+      subst (λ x. IsHeld q (sides set x (set - part))) (sym same)
+      (subst (λ x. IsHeld q (sides set (set - 2 ^ t) x)) rest join)
 
   module _ (on : IsOn q rules.JoinAssociate) where
-    pub splits_held : (set part : ℕ) → SplitsAfter q set part → IsHeld q (group set) → IsHeld q (sides set part (set - part))
+    pub splits_held : (set part : ℕ) → SplitsAfter q set part → IsHeld q (group set)
+        → IsHeld q (sides set part (set - part))
     splits_held set part (cut s p cuts) held = cut_held set part cuts held
     splits_held set part (associated s inner p outer within linked) held =
         let first : IsHeld q (sides set inner (set - inner)) = splits_held set inner outer held in
-        let second : IsHeld q (sides inner part (inner - part)) = splits_held inner part within (left set inner (set - inner) first) in
+        let second : IsHeld q (sides inner part (inner - part)) =
+        splits_held inner part within (left set inner (set - inner) first) in
         let join = moved set inner part (inner - part) (set - inner) on first second linked in
-        subst (λ x. IsHeld q (sides set part x)) (right_rest q set part (bit_or (inner - part) (set - inner)) (held_valid q _ join).1) join
+        subst (λ x. IsHeld q (sides set part x))
+        (right_rest q set part (bit_or (inner - part) (set - inner)) (held_valid q _ join).1) join
 
     pub leads_held : (set part : ℕ) → LeadsTo q set part → IsHeld q (group set) → IsHeld q (group part)
     leads_held set part (there s) held = held
-    leads_held set part (by_left s side p splits leads) held = leads_held side part leads (left set side (set - side) (splits_held set side splits held))
-    leads_held set part (by_right s side p splits leads) held = leads_held (set - side) part leads (right set side (set - side) (splits_held set side splits held))
+    leads_held set part (by_left s side p splits leads) held =
+        leads_held side part leads (left set side (set - side) (splits_held set side splits held))
+    leads_held set part (by_right s side p splits leads) held =
+        leads_held (set - side) part leads (right set side (set - side) (splits_held set side splits held))
 
     -- exactly the groups that the group of all tables leads to
     pub group_in_order : (IsOn q rules.JoinCommute → ⊥) → (set : ℕ) → IsHeld q (group set) ↔ LeadsTo q (all_of q) set
@@ -88,7 +98,8 @@ module _ (q : Query) where
       λ held.
           let (leads, splits, same) = held_in_order off (sides set a b) held in
           (leads_held (all_of q) set leads all, splits),
-      λ (held, splits). subst (λ x. IsHeld q (sides set a x)) (sym (right_rest q set a b falls)) (splits_held set a splits held),
+      λ (held, splits). subst (λ x. IsHeld q (sides set a x)) (sym (right_rest q set a b falls))
+          (splits_held set a splits held),
     )
 
   -- ---- without JoinAssociate
@@ -103,7 +114,8 @@ module _ (q : Query) where
   IsByCuts (sides set a b) = BeginsWith q (all_of q) set × IsCutJoin set a b
 
   -- a side that isn't what the last cut leaves has one table
-  other_side : (set a b : ℕ) → FallsInto q set a b → set < 2 ^ length q.tables → IsCutTo q set a → IsTrue (is_several b) → ⊥
+  other_side : (set a b : ℕ) → FallsInto q set a b → set < 2 ^ length q.tables → IsCutTo q set a → IsTrue (is_several b)
+      → ⊥
   other_side set a b falls small cuts several =
       let (t, last, same) = cuts.last in
       let power : (v : ℕ) → Has (2 ^ t) v → Has set v = λ v in_one. elim (cases_eq v t) [
@@ -139,11 +151,17 @@ module _ (q : Query) where
   -- a beginning of a set that is held
   begins_held : (set part : ℕ) → BeginsWith q set part → IsHeld q (group set) → IsHeld q (group part)
   begins_held set part (begun s) held = held
-  begins_held set part (less s next p cuts rest) held = begins_held next part rest (left set next (set - next) (cut_held set next cuts held))
+  begins_held set part (less s next p cuts rest) held =
+      begins_held next part rest (left set next (set - next) (cut_held set next cuts held))
 
   -- exactly the groups of several tables that all tables begin with
-  pub group_by_cuts : (IsOn q rules.JoinAssociate → ⊥) → (set : ℕ) → IsTrue (is_several set) → IsHeld q (group set) ↔ BeginsWith q (all_of q) set
-  group_by_cuts off set several = (λ held. held_by_cuts off (group set) held several, λ begins. begins_held (all_of q) set begins all)
+  pub group_by_cuts : (IsOn q rules.JoinAssociate → ⊥) → (set : ℕ) → IsTrue (is_several set) → IsHeld q (group set)
+      ↔ BeginsWith q (all_of q) set
+  group_by_cuts off set several = (
+    λ held. held_by_cuts off (group set) held several,
+    λ begins.
+        begins_held (all_of q) set begins all,
+  )
 
   -- and of these the joins that the last cut makes
   pub join_by_cuts : (IsOn q rules.JoinAssociate → ⊥) → (set a b : ℕ) → FallsInto q set a b
@@ -155,7 +173,8 @@ module _ (q : Query) where
     λ (held, cuts). elim cuts [
       | inl first ↦ subst (λ x. IsHeld q (sides set a x)) (sym (right_rest q set a b falls)) (cut_held set a first held)
       | inr (on, second) ↦
-          let join : IsHeld q (sides set b a) = subst (λ x. IsHeld q (sides set b x)) (sym (left_rest q set a b falls)) (cut_held set b second held) in
+          let join : IsHeld q (sides set b a) = subst (λ x. IsHeld q (sides set b x)) (sym (left_rest q set a b falls))
+          (cut_held set b second held) in
           turned set b a on join
     ],
   )

@@ -11,27 +11,33 @@ use Rattle.query_core.specs.declared.expressions.ExprParts.{ExprParts}
 use Rattle.xform_rules.specs.Forms.{Finds, IsLogical, IsPhysical}
 
 -- the logical operator of which the fact holds
-pub logical_from : (P : Logical → Type 0) (o : Operator) → IsLogical P o → (from : Logical) × (o ≡ operators.Logical from) × P from
+pub logical_from : (P : Logical → Type 0) (o : Operator) → IsLogical P o → (from : Logical)
+    × (o ≡ operators.Logical from) × P from
 logical_from P (operators.Logical from) holds = (from, refl, holds)
 logical_from P (operators.Physical o) never = absurd never
 
-pub physical_from : (P : Physical → Type 0) (o : Operator) → IsPhysical P o → (from : Physical) × (o ≡ operators.Physical from) × P from
+pub physical_from : (P : Physical → Type 0) (o : Operator) → IsPhysical P o → (from : Physical)
+    × (o ≡ operators.Physical from) × P from
 physical_from P (operators.Physical from) holds = (from, refl, holds)
 physical_from P (operators.Logical o) never = absurd never
 
 -- a weaker fact
-pub logical_as : (P Q : Logical → Type 0) → ((from : Logical) → P from → Q from) → (o : Operator) → IsLogical P o → IsLogical Q o
+pub logical_as : (P Q : Logical → Type 0) → ((from : Logical) → P from → Q from) → (o : Operator) → IsLogical P o
+    → IsLogical Q o
 logical_as P Q weaker (operators.Logical from) holds = weaker from holds
 logical_as P Q weaker (operators.Physical o) never = never
 
 -- where the fact holds of one operator, two of which it holds are one
-pub logical_one : (P : Logical → Type 0) → ((a b : Logical) → P a → P b → a ≡ b) → (x y : Operator) → IsLogical P x → IsLogical P y → x ≡ y
+pub logical_one : (P : Logical → Type 0) → ((a b : Logical) → P a → P b → a ≡ b) → (x y : Operator) → IsLogical P x
+    → IsLogical P y → x ≡ y
 logical_one P one (operators.Logical a) (operators.Logical b) this other = let same : a ≡ b = one a b this other in cc
 logical_one P one (operators.Logical a) (operators.Physical b) this other = absurd other
 logical_one P one (operators.Physical a) y this other = absurd this
 
-pub physical_one : (P : Physical → Type 0) → ((a b : Physical) → P a → P b → a ≡ b) → (x y : Operator) → IsPhysical P x → IsPhysical P y → x ≡ y
-physical_one P one (operators.Physical a) (operators.Physical b) this other = let same : a ≡ b = one a b this other in cc
+pub physical_one : (P : Physical → Type 0) → ((a b : Physical) → P a → P b → a ≡ b) → (x y : Operator) → IsPhysical P x
+    → IsPhysical P y → x ≡ y
+physical_one P one (operators.Physical a) (operators.Physical b) this other = let same : a ≡ b = one a b this other in
+    cc
 physical_one P one (operators.Physical a) (operators.Logical b) this other = absurd other
 physical_one P one (operators.Logical a) y this other = absurd this
 
@@ -53,11 +59,13 @@ no_physical : (P : Physical → Type 0) → ((x : Physical) → P x → ⊥) →
 no_physical P none (operators.Logical o) never = never
 no_physical P none (operators.Physical o) holds = none o holds
 
-pub finds_logical : (P : Logical → Type 0) (found : Option Logical) → Finds P found → Finds (IsLogical P) (option_map operators.Logical found)
+pub finds_logical : (P : Logical → Type 0) (found : Option Logical) → Finds P found
+    → Finds (IsLogical P) (option_map operators.Logical found)
 finds_logical P None finds = no_logical P finds
 finds_logical P (Some x) finds = finds
 
-pub finds_physical : (P : Physical → Type 0) (found : Option Physical) → Finds P found → Finds (IsPhysical P) (option_map operators.Physical found)
+pub finds_physical : (P : Physical → Type 0) (found : Option Physical) → Finds P found
+    → Finds (IsPhysical P) (option_map operators.Physical found)
 finds_physical P None finds = no_physical P finds
 finds_physical P (Some x) finds = finds
 

@@ -1,5 +1,6 @@
 -- What lies between two bounds is a part of ascending words.
-use Rattle.std.proofs.Common.{◌≡◌, ℕ, ◌+◌, ◌-◌, ◌<◌, ◌≤◌, List, length, take, drop, get_or, min, ap, sym, subst, ◌∙◌, arith, inl, inr, length-take, length-drop}
+use Rattle.std.proofs.Common.{◌≡◌, ℕ, ◌+◌, ◌-◌, ◌<◌, ◌≤◌, List, length, take, drop, get_or, min, ap, sym, subst, ◌∙◌}
+use Rattle.std.proofs.Common.{arith, inl, inr, length-take, length-drop}
 use Rattle.std.specs.Prelude.{slice_index}
 use Rattle.std.specs.List.{Contains}
 use Rattle.std.proofs.lemmas.Bool.{cases_lt}
@@ -7,44 +8,52 @@ use Rattle.std.proofs.lemmas.List.{get_or-take, get_or-drop, get_or_default, tak
 
 -- a word that isn't below the one bound, and is below the other, is in the part between them
 pub in_part : (words : List ℕ) (start n low high w : ℕ) → ((k : ℕ) → k < start → slice_index words k < low)
-    → ((k : ℕ) → n ≤ k → k < length (take (length words - start) (drop start words)) → high ≤ slice_index (take (length words - start) (drop start words)) k)
+    → ((k : ℕ) → n ≤ k → k < length (take (length words - start) (drop start words))
+    → high ≤ slice_index (take (length words - start) (drop start words)) k)
     → low ≤ w → w < high → Contains words w → Contains (take n (take (length words - start) (drop start words))) w
 in_part words start n low high w before after above below (k, within, is) =
-    let rest : take (length words - start) (drop start words) ≡ drop start words = take_all _ _ (omega (arith, length-drop start words)) in
+    let rest : take (length words - start) (drop start words) ≡ drop start words =
+    take_all _ _ (omega (arith, length-drop start words)) in
     let value : get_or words k 0 ≡ w = get_or_default words k 0 w within ∙ is in
     let from : start ≤ k = elim (cases_lt k start) [
       | inl less ↦ absurd (omega (arith, before k less, value, above))
       | inr more ↦ more
     ] in
     let length_rest : length (drop start words) ≡ length words - start = length-drop start words in
-    let moved : get_or (drop start words) (k - start) 0 ≡ w = get_or-drop start words (k - start) 0 ∙ ap (λ i. get_or words i 0) (omega (arith, from)) ∙ value in
+    let moved : get_or (drop start words) (k - start) 0 ≡ w = get_or-drop start words (k - start) 0
+    ∙ ap (λ i. get_or words i 0) (omega (arith, from)) ∙ value in
     let to : k - start < n = elim (cases_lt (k - start) n) [
       | inl less ↦ less
       | inr more ↦
           let late : high ≤ get_or (drop start words) (k - start) 0 =
-          subst (λ xs. k - start < length xs → high ≤ get_or xs (k - start) 0) rest (after (k - start) more) (omega (arith, length_rest, within, from)) in
+          subst (λ xs. k - start < length xs → high ≤ get_or xs (k - start) 0) rest (after (k - start) more)
+          (omega (arith, length_rest, within, from)) in
           absurd (omega (arith, late, moved, below))
     ] in
     subst (λ xs. Contains (take n xs) w) (sym rest) (
       k - start,
       omega (arith, length-take n (drop start words), length_rest, to, within, from),
-      get_or_default (take n (drop start words)) (k - start) w 0 (omega (arith, length-take n (drop start words), length_rest, to, within, from))
+      get_or_default (take n (drop start words)) (k - start) w 0
+          (omega (arith, length-take n (drop start words), length_rest, to, within, from))
           ∙ get_or-take n (drop start words) (k - start) 0 to ∙ moved,
     )
 
 -- and what is in the part is such a word
-pub part_between : (words : List ℕ) (start n low high w : ℕ) → ((k : ℕ) → start ≤ k → k < length words → low ≤ slice_index words k)
+pub part_between : (words : List ℕ) (start n low high w : ℕ)
+    → ((k : ℕ) → start ≤ k → k < length words → low ≤ slice_index words k)
     → ((k : ℕ) → k < n → slice_index (take (length words - start) (drop start words)) k < high)
     → Contains (take n (take (length words - start) (drop start words))) w → (low ≤ w) × (w < high)
 part_between words start n low high w after before (k, within, is) =
-    let rest : take (length words - start) (drop start words) ≡ drop start words = take_all _ _ (omega (arith, length-drop start words)) in
+    let rest : take (length words - start) (drop start words) ≡ drop start words =
+    take_all _ _ (omega (arith, length-drop start words)) in
     let length_rest : length (drop start words) ≡ length words - start = length-drop start words in
     let count : length (take n (take (length words - start) (drop start words))) ≡ min n (length (drop start words)) =
     length-take n (take (length words - start) (drop start words)) ∙ ap (λ xs. min n (length xs)) rest in
     let value : get_or (take (length words - start) (drop start words)) k 0 ≡ w =
     sym (get_or-take n (take (length words - start) (drop start words)) k 0 (omega (arith, count, within)))
     ∙ get_or_default (take n (take (length words - start) (drop start words))) k 0 w within ∙ is in
-    let moved : get_or words (start + k) 0 ≡ w = sym (get_or-drop start words k 0) ∙ sym (ap (λ xs. get_or xs k 0) rest) ∙ value in (
+    let moved : get_or words (start + k) 0 ≡ w = sym (get_or-drop start words k 0) ∙ sym (ap (λ xs. get_or xs k 0) rest)
+    ∙ value in (
       omega (arith, after (start + k) (omega arith) (omega (arith, count, length_rest, within)), moved),
       omega (arith, before k (omega (arith, count, within)), value),
     )

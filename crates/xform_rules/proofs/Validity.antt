@@ -1,5 +1,6 @@
 -- What the closure holds of sets of tables is connected, and sides are those that a set falls into.
-use Rattle.std.proofs.Common.{◌≡◌, ℕ, ◌<◌, ◌≤◌, ◌^◌, refl, sym, subst, ◌∙◌, arith, Bool, true, false, not, ◌&&◌, IsTrue, ◌⊎◌, inl, inr, length, None, Some}
+use Rattle.std.proofs.Common.{◌≡◌, ℕ, ◌<◌, ◌≤◌, ◌^◌, refl, sym, subst, ◌∙◌, arith, Bool, true, false, not, ◌&&◌, IsTrue}
+use Rattle.std.proofs.Common.{◌⊎◌, inl, inr, length, None, Some}
 use Rattle.std.specs.Prelude.{is_none, ◌==◌, if◌then◌else◌}
 use Rattle.std.specs.Int.{trailing_zeros, w32}
 use Rattle.std.proofs.Math.Nat.{pow-le-pow_right}
@@ -37,7 +38,8 @@ falls_several q set a b small falls k same =
     omega (arith, sides_apart q set a b falls s, in_a, subst (Has b) equal in_b)
 
 -- the tests by which a set is one of several tables
-several_by : (empty one : Bool) (least : ℕ) → IsTrue (not empty && is_none (if one then Some least else None)) ⊎ ((empty ≡ true) ⊎ (one ≡ true))
+several_by : (empty one : Bool) (least : ℕ) → IsTrue (not empty && is_none (if one then Some least else None))
+    ⊎ ((empty ≡ true) ⊎ (one ≡ true))
 several_by true one least = inr (inl refl)
 several_by false true least = inr (inr refl)
 several_by false false least = inl refl
@@ -53,7 +55,8 @@ several_cases set =
     ]
 
 -- a connected set that falls into two has a group
-pub falls_group : (q : Query) (set a b : ℕ) → set < 2 ^ length q.tables → IsConnected q.links set → FallsInto q set a b → IsGroup q (groups.Join set)
+pub falls_group : (q : Query) (set a b : ℕ) → set < 2 ^ length q.tables → IsConnected q.links set → FallsInto q set a b
+    → IsGroup q (groups.Join set)
 falls_group q set a b small connected falls = elim (several_cases set) [
   | inl several ↦ (small, several, connected)
   | inr (inl empty) ↦ absurd (omega (arith, sides_add q set a b falls, falls.some_left, empty))

@@ -25,7 +25,8 @@ GroupsByHash from to = (child : KeyParts) × (from ≡ logical.Agg child) × (to
 
 -- the same child, in order
 abbrev pub GroupsInOrder : Query → Logical → Physical → Type 0
-GroupsInOrder q from to = (child : KeyParts) × (from ≡ logical.Agg child) × (0 < length q.group_by) × (to ≡ physical.StreamAgg child)
+GroupsInOrder q from to = (child : KeyParts) × (from ≡ logical.Agg child) × (0 < length q.group_by)
+    × (to ≡ physical.StreamAgg child)
 
 -- the same child, by hashing on each segment
 abbrev pub GroupsPartly : Logical → Physical → Type 0

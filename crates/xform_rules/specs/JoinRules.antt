@@ -1,4 +1,5 @@
--- JoinToHash, JoinToMerge and JoinToLoop: a join by hashing, by merging, or by going through the right group for each row.
+-- JoinToHash, JoinToMerge and JoinToLoop: a join by hashing, by merging, or by going through the right group for each
+-- row.
 use Rattle.std.specs.Prelude.{ℕ, ◌≡◌, IsSome}
 use Rattle.query_core.specs.Crossing.{crossing_of}
 use Rattle.query_core.specs.declared.query.Query.{Query}

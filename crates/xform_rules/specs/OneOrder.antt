@@ -1,4 +1,5 @@
--- What is reached of joins where a rule that turns joins is off: the tables of a set go one after the other, the last cut first.
+-- What is reached of joins where a rule that turns joins is off: the tables of a set go one after the other, the last
+-- cut first.
 use Rattle.std.specs.Prelude.{ℕ, ◌≡◌, ◌-◌, ◌^◌, ◌≤◌, IsTrue}
 use Rattle.query_core.specs.Sets.{is_several}
 use Rattle.query_core.specs.Connected.{AreLinked}
@@ -15,10 +16,12 @@ pub data BeginsWith (q : Query) : ℕ → ℕ → Type 0 where
   begun : (set : ℕ) → BeginsWith q set set
   less : (set next part : ℕ) → IsCutTo q set next → BeginsWith q next part → BeginsWith q set part
 
--- JoinAssociate alone leads to the join of the part with the others: from the last cut, or from two joins of which the one is in the other's left group
+-- JoinAssociate alone leads to the join of the part with the others: from the last cut, or from two joins of which the
+-- one is in the other's left group
 pub data SplitsAfter (q : Query) : ℕ → ℕ → Type 0 where
   cut : (set part : ℕ) → IsCutTo q set part → SplitsAfter q set part
-  associated : (set inner part : ℕ) → SplitsAfter q set inner → SplitsAfter q inner part → AreLinked q.links (inner - part) (set - inner)
+  associated : (set inner part : ℕ) → SplitsAfter q set inner → SplitsAfter q inner part
+      → AreLinked q.links (inner - part) (set - inner)
       → SplitsAfter q set part
 
 -- by such joins alone, the group of the set leads to that of the part
@@ -29,7 +32,8 @@ pub data LeadsTo (q : Query) : ℕ → ℕ → Type 0 where
 
 -- the same by the right side of a join whose left side a set begins with
 abbrev pub LeadsBeside : Query → ℕ → ℕ → ℕ → Type 0
-LeadsBeside q set start part = (side : ℕ) × BeginsWith q start side × SplitsAfter q set side × LeadsTo q (set - side) part
+LeadsBeside q set start part = (side : ℕ) × BeginsWith q start side × SplitsAfter q set side
+    × LeadsTo q (set - side) part
 
 -- of all that the set begins with, this is the most that is joined of the part and others
 pub record IsFarthest (q : Query) (set part far : ℕ) : Type 0 where

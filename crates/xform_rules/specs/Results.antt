@@ -18,7 +18,8 @@ use Rattle.xform_rules.specs.SplitAgg.{GroupsInput, SplitsGrouping}
 use Rattle.xform_rules.specs.GetRules.{IsGet, IsIndexedGet, Scans, ScansIndex}
 use Rattle.xform_rules.specs.SelectRules.{IsSelect, IsUsableSelect, Filters, SeeksIndex}
 use Rattle.xform_rules.specs.JoinRules.{IsEquated, Hashes, Merges, Loops}
-use Rattle.xform_rules.specs.AggRules.{IsAggregation, IsGroupingByColumns, IsPartialGrouping, GroupsByHash, GroupsInOrder, GroupsPartly}
+use Rattle.xform_rules.specs.AggRules.{IsAggregation, IsGroupingByColumns, IsPartialGrouping, GroupsByHash}
+use Rattle.xform_rules.specs.AggRules.{GroupsInOrder, GroupsPartly}
 
 -- the logical operator of a group is one that the rule is for
 abbrev pub IsFor : Query → Rule → KeyParts → Logical → Type 0
@@ -69,7 +70,8 @@ GivesWith q rule group None n to from = Gives q rule group from n to
 GivesWith q rule group (Some bound) n to from = GivesBound q rule from bound n to
 
 -- the other is the n-th result, from 0, of a rule that is on, in the same group
-pub record HasResult (q : Query) (rule : Rule) (e : ExprParts) (bound : Option ExprParts) (n : ℕ) (other : ExprParts) : Type 0 where
+pub record HasResult (q : Query) (rule : Rule) (e : ExprParts) (bound : Option ExprParts) (n : ℕ) (other : ExprParts) :
+    Type 0 where
   pub on : IsOn q rule
   pub group : other.group ≡ e.group
   pub gives : IsLogical (GivesWith q rule e.group bound n other.operator) e.operator
@@ -89,10 +91,12 @@ IsBoundWord q (Some bound) (Some word) = IsWordOf q bound word
 
 -- the rule of this number applies to the word's expression
 abbrev pub AppliesToWord : Query → ℕ → Expr → Type 0
-AppliesToWord q number word = (rule : Rule) × (e : ExprParts) × (rule_number rule ≡ number) × IsWordOf q e word × Applies q rule e
+AppliesToWord q number word = (rule : Rule) × (e : ExprParts) × (rule_number rule ≡ number) × IsWordOf q e word
+    × Applies q rule e
 
 -- the other is the word of the n-th result of the rule of this number
 abbrev pub HasResultWord : Query → ℕ → Expr → Option Expr → ℕ → Expr → Type 0
 HasResultWord q number word bound n other =
-    (rule : Rule) × (e result : ExprParts) × (member : Option ExprParts) × (rule_number rule ≡ number) × IsWordOf q e word × IsBoundWord q member bound
+    (rule : Rule) × (e result : ExprParts) × (member : Option ExprParts) × (rule_number rule ≡ number)
+    × IsWordOf q e word × IsBoundWord q member bound
     × HasResult q rule e member n result × IsWordOf q result other

@@ -48,7 +48,8 @@ rule_name rules.AggToHash = codes "AggToHash"
 rule_name rules.AggToStream = codes "AggToStream"
 rule_name rules.PartialToHash = codes "PartialToHash"
 
--- how many results a rule can have at an expression: one for each index of a table, of which there are at most 16, or one
+-- how many results a rule can have at an expression: one for each index of a table, of which there are at most 16, or
+-- one
 abbrev pub rule_limit : Rule → ℕ
 rule_limit rules.ExpandNAry = 1
 rule_limit rules.JoinCommute = 1

@@ -1,4 +1,5 @@
--- SelectToFilter and SelectToIndexSeek: the rows that meet a table's own predicates, by a test of each row or from one of its usable indexes.
+-- SelectToFilter and SelectToIndexSeek: the rows that meet a table's own predicates, by a test of each row or from one
+-- of its usable indexes.
 use Rattle.std.specs.Prelude.{ℕ, Bool, true, false, List, Some, ◌≡◌, ◌==◌, ◌&&◌, slice_get, take, IsTrue}
 use Rattle.std.specs.List.{list_any, count_by}
 use Rattle.std.specs.Option.{option_map_or}
@@ -34,7 +35,8 @@ is_literal (operands.Item item) = false
 is_literal (operands.Int value) = true
 is_literal (operands.Str text) = true
 
--- the predicate is one of the table's own, with the column on its left, a comparison by which an index finds rows, and a literal
+-- the predicate is one of the table's own, with the column on its left, a comparison by which an index finds rows, and
+-- a literal
 abbrev pub seeks : Query → ℕ → ℕ → Pred → Bool
 seeks q t column pred = is_own q.items t pred && (pred.left == column) && is_sought pred.op && is_literal pred.right
 
@@ -53,7 +55,8 @@ pub record IsNthUsable (q : Query) (t : ℕ) (indexes : List (List ℕ)) (n inde
 
 -- of the table's usable indexes the n-th has this number
 abbrev pub HasNthUsable : Query → ℕ → ℕ → ℕ → Type 0
-HasNthUsable q t n index = (table : QueryTable) × (slice_get q.tables t ≡ Some table) × IsNthUsable q t table.indexes n index
+HasNthUsable q t n index = (table : QueryTable) × (slice_get q.tables t ≡ Some table)
+    × IsNthUsable q t table.indexes n index
 
 -- ---- the rules
 

@@ -1,4 +1,5 @@
--- What the rules reach of joins: which sets of tables have a group in the closure, and which joins of two sets that group holds.
+-- What the rules reach of joins: which sets of tables have a group in the closure, and which joins of two sets that
+-- group holds.
 use Rattle.std.specs.Prelude.{ℕ}
 use Rattle.query_core.specs.Keys.{top_of}
 use Rattle.query_core.specs.Expressions.{origin_of}

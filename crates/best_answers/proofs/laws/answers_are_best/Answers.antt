@@ -22,7 +22,8 @@ use Rattle.best_answers.proofs.Single.{enforcer_best, mode_best}
 use Rattle.best_answers.proofs.laws.answers_are_best.Goals as goal
 
 -- a choice costs no more than any may
-answer_fits : (q : Query) → ChoiceCostsFit q → (group : KeyParts) (wanted : Request) (set : Nodes) (best : Best) (plan : Option Tree) → Fits q group wanted
+answer_fits : (q : Query) → ChoiceCostsFit q
+    → (group : KeyParts) (wanted : Request) (set : Nodes) (best : Best) (plan : Option Tree) → Fits q group wanted
     → IsLeastIn q group wanted set plan → Some best ≡ option_map (answer_of q) plan → best.cost ≤ most_of_all
 answer_fits q costs group wanted set best None fits least is = cc
 answer_fits q costs group wanted set best (Some plan) fits least is =
@@ -40,17 +41,24 @@ returns c =
       few_modes = c.modes_are_few.ensures.few q is.few_lists;
       packed = λ e member. c.candidates_are_known.ensures.packed q e (c.members_are_candidates.ensures q e member);
     } in
-    let order : (q : Query) → AreOrdered q = λ q. record { itself = c.plans_are_ordered.ensures.itself q; along = c.plans_are_ordered.ensures.along q } in
+    let order : (q : Query) → AreOrdered q =
+    λ q. record { itself = c.plans_are_ordered.ensures.itself q; along = c.plans_are_ordered.ensures.along q } in
     record {
-      one = λ q props is group wanted set answer other x y. best_one q (told q props is) group wanted set answer other x y;
+      one = λ q props is group wanted set answer other x y.
+          best_one q (told q props is) group wanted set answer other x y;
       none = none_best;
       enforcer = λ q group wanted e local answer fits among cost best.
-          enforcer_best q group wanted e among (order q) local cost (c.best_is_least.ensures q) (c.what_is_asked_fits.ensures.enforcers q group wanted e fits among) answer best;
+          enforcer_best q group wanted e among (order q) local cost (c.best_is_least.ensures q)
+          (c.what_is_asked_fits.ensures.enforcers q group wanted e fits among) answer best;
       mode = λ q e mode line wanted local answers member fits alternative cost best.
           mode_best q e mode line wanted alternative (order q) member local cost (c.best_is_least.ensures q)
-          (c.what_is_asked_fits.ensures.children q e mode line wanted (c.members_are_candidates.ensures q (expr_of e) member) fits alternative) answers best;
-      lesser = λ q props is group wanted some others first second fits x y. lesser_best q (told q props is) group wanted (order q) fits some others first second x y;
+          (c.what_is_asked_fits.ensures.children q e mode line wanted
+          (c.members_are_candidates.ensures q (expr_of e) member) fits alternative) answers best;
+      lesser = λ q props is group wanted some others first second fits x y.
+          lesser_best q (told q props is) group wanted (order q) fits some others first second x y;
       covered = covered_best;
-      fits = λ q group wanted set best fits (plan, least, is). answer_fits q (c.costs_fit.ensures.choice q) group wanted set best plan fits least is;
-      roots = λ q props is group wanted plan fits choice. choice_in_range q (told q props is) group wanted plan fits choice;
+      fits = λ q group wanted set best fits (plan, least, is).
+          answer_fits q (c.costs_fit.ensures.choice q) group wanted set best plan fits least is;
+      roots = λ q props is group wanted plan fits choice.
+          choice_in_range q (told q props is) group wanted plan fits choice;
     }

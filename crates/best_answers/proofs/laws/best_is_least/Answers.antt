@@ -11,7 +11,8 @@ use Rattle.best_answers.specs.Nodes.{all_nodes}
 use Rattle.best_answers.specs.Best.{IsChoiceIn}
 use Rattle.best_answers.proofs.laws.best_is_least.Goals as goal
 
-best_serves : (q : Query) → ChoicesServe q → (group : KeyParts) (wanted : Request) (plan : Option Tree) → Fits q group wanted → IsChoiceIn q group wanted all_nodes plan
+best_serves : (q : Query) → ChoicesServe q → (group : KeyParts) (wanted : Request) (plan : Option Tree)
+    → Fits q group wanted → IsChoiceIn q group wanted all_nodes plan
     → BestServes (IsMember q) q group wanted plan
 best_serves q serve group wanted None fits choice = tt
 best_serves q serve group wanted (Some plan) fits choice = serve group wanted plan fits choice.0

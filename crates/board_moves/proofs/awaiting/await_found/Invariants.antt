@@ -11,7 +11,9 @@ invariant-loop-word g l = record {
   seat : IsSeatOf g.R.GoalRules.meaning l.board l.seat;
   right : IsRightOf (g.R.GoalRules.meaning l.board.key.rules) l.board.key.room (hands l.seat) l.job.right;
   hints : g.H.Hints.capacity l.hints ≡ l.board.key.room;
-  awaiting : Awaiting (g.R.GoalRules.meaning l.board.key.rules) l.board.key.room (g.M.Words.has l.members) (g.M.Members.goal_of l.members) (hands l.initial.seat) l.initial.job.right l.before l.number (hands l.seat) l.job.right;
+  awaiting : Awaiting (g.R.GoalRules.meaning l.board.key.rules) l.board.key.room (g.M.Words.has l.members)
+      (g.M.Members.goal_of l.members) (hands l.initial.seat) l.initial.job.right l.before l.number (hands l.seat)
+      l.job.right;
 }
 
 abbrev pub decreases-loop-word : goal.decreases-loop-word

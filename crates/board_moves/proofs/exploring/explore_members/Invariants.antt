@@ -13,9 +13,12 @@ invariant-rounds g l = record {
   right : IsRightOf (g.R.GoalRules.meaning l.board.key.rules) l.board.key.room (hands l.seat) l.job.right;
   no_wait : l.job.right.waits ≡ 0;
   hints : g.H.Hints.capacity l.hints ≡ l.board.key.room;
-  proceeds : Proceeds ((g.R.GoalRules.meaning l.board.key.rules).child l.initial.job.right.goal) (hands l.initial.seat) l.initial.job.right (hands l.seat) l.job.right;
-  origin : ShowsEntry (g.R.GoalRules.meaning l.board.key.rules) l.board.key.room (hands l.seat).looks (g.W.Group.origin l.group);
-  knows : Knows (g.R.GoalRules.meaning l.board.key.rules) l.board.key.room (g.W.Words.has l.group) (g.W.Members.goal_of l.group) (hands l.seat).looks l.known;
+  proceeds : Proceeds ((g.R.GoalRules.meaning l.board.key.rules).child l.initial.job.right.goal) (hands l.initial.seat)
+      l.initial.job.right (hands l.seat) l.job.right;
+  origin : ShowsEntry (g.R.GoalRules.meaning l.board.key.rules) l.board.key.room (hands l.seat).looks
+      (g.W.Group.origin l.group);
+  knows : Knows (g.R.GoalRules.meaning l.board.key.rules) l.board.key.room (g.W.Words.has l.group)
+      (g.W.Members.goal_of l.group) (hands l.seat).looks l.known;
 }
 
 abbrev pub decreases-rounds : goal.decreases-rounds

@@ -5,5 +5,6 @@ use Rattle.board_tests.proofs.call_tests.claim_in_vain.Goals as goal
 
 pub returns-clause-right : goal.returns-clause-right
 returns-clause-right g c =
-    right_seen (g.R.GoalRules.meaning c.args.board.now.key.rules) c.args.board.now.key.room (hands c.args.seat.now) (hands c.claim.new.seat) c.in-None.ensures.answer.more c.args.right.now
+    right_seen (g.R.GoalRules.meaning c.args.board.now.key.rules) c.args.board.now.key.room (hands c.args.seat.now)
+    (hands c.claim.new.seat) c.in-None.ensures.answer.more c.args.right.now
     c.in-None.ensures.answer.hands_are c.requires.right

@@ -5,8 +5,10 @@ use Rattle.board_tests.proofs.call_tests.is_open.Goals as goal
 
 pub returns-clause-rights : goal.returns-clause-rights
 returns-clause-rights g c =
-    rights_read (g.R.GoalRules.meaning c.args.board.now.key.rules) c.args.board.now.key.room (hands c.args.seat.now) c.args.at c.answer.result (hands c.answer.new.seat) c.answer.ensures.answer
+    rights_read (g.R.GoalRules.meaning c.args.board.now.key.rules) c.args.board.now.key.room (hands c.args.seat.now)
+    c.args.at c.answer.result (hands c.answer.new.seat) c.answer.ensures.answer
 
 pub returns-clause-parts : goal.returns-clause-parts
 returns-clause-parts g c =
-    parts_read (g.R.GoalRules.meaning c.args.board.now.key.rules) c.args.board.now.key.room (hands c.args.seat.now) c.args.at c.answer.result (hands c.answer.new.seat) c.answer.ensures.answer
+    parts_read (g.R.GoalRules.meaning c.args.board.now.key.rules) c.args.board.now.key.room (hands c.args.seat.now)
+    c.args.at c.answer.result (hands c.answer.new.seat) c.answer.ensures.answer

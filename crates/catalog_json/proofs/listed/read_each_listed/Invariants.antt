@@ -6,4 +6,5 @@ use Rattle.catalog_json.specs.Walk.{each, listed_at}
 use Rattle.catalog_json.proofs.listed.read_each_listed.Given as goal
 
 abbrev pub invariant-loop-value : goal.invariant-loop-value
-invariant-loop-value l = each (listed_at l.list (names_of l.columns)) l.places (drop l.value-index (map view l.values)) ≡ each (listed_at l.list (names_of l.columns)) [] (map view l.values)
+invariant-loop-value l = each (listed_at l.list (names_of l.columns)) l.places
+    (drop l.value-index (map view l.values)) ≡ each (listed_at l.list (names_of l.columns)) [] (map view l.values)

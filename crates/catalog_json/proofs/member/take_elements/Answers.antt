@@ -8,4 +8,10 @@ use Rattle.catalog_json.proofs.member.take_elements.Goals as goal
 pub returns-in-Some-Array : goal.returns-in-Some-Array
 returns-in-Some-Array c =
     let list = c.in-Some-Array.list in
-    rw (c.in-Some-Array.list-is, c.in-Some-Array.is, c.in-Some-Array.field-0-is, view-Array list, elements_items_of (map view list.items)) refl
+    rw (
+      c.in-Some-Array.list-is,
+      c.in-Some-Array.is,
+      c.in-Some-Array.field-0-is,
+      view-Array list,
+      elements_items_of (map view list.items),
+    ) refl

@@ -6,4 +6,5 @@ use Rattle.catalog_json.specs.Walk.{each, index_at}
 use Rattle.catalog_json.proofs.table.read_each_index.Given as goal
 
 abbrev pub invariant-loop-value : goal.invariant-loop-value
-invariant-loop-value l = each (index_at l.t (names_of l.columns)) l.indexes (drop l.value-index (map view l.values)) ≡ each (index_at l.t (names_of l.columns)) [] (map view l.values)
+invariant-loop-value l = each (index_at l.t (names_of l.columns)) l.indexes
+    (drop l.value-index (map view l.values)) ≡ each (index_at l.t (names_of l.columns)) [] (map view l.values)

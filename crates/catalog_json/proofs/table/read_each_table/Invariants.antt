@@ -7,9 +7,11 @@ use Rattle.catalog_json.specs.Walk.{table_at}
 use Rattle.catalog_json.proofs.Each.{IsOnTheWay}
 use Rattle.catalog_json.proofs.table.read_each_table.Given as goal
 
-pub record AtPlace (values : List Value) (read : List TableInfo) (texts : List (List ℕ)) (left : List Value) (count : ℕ) : Type 0 where
+pub record AtPlace (values : List Value) (read : List TableInfo) (texts : List (List ℕ)) (left : List Value)
+    (count : ℕ) : Type 0 where
   pub names : texts ≡ map (λ t. t.name) read
   pub tables : IsOnTheWay table_at values read left count
 
 abbrev pub invariant-loop-value : goal.invariant-loop-value
-invariant-loop-value l = AtPlace l.fn.values.items l.tables l.names (into_iter_items l.value-iterator) (into_iter_len l.value-iterator)
+invariant-loop-value l = AtPlace l.fn.values.items l.tables l.names (into_iter_items l.value-iterator)
+    (into_iter_len l.value-iterator)

@@ -21,4 +21,5 @@ returns-clause-read c =
     let name = c.in_ok-name.name in
     let object = c.in_ok-object.object in
     let read : table_at c.args.before.now (view c.args.value) ≡ named_table_at t name (data_of object) = search rules in
-    rw (read, ← without_name t name (data_of object) (data_of c.take.new.self) c.take.ensures.others) c.read_named_table.ensures.read
+    rw (read, ← without_name t name (data_of object) (data_of c.take.new.self) c.take.ensures.others)
+    c.read_named_table.ensures.read

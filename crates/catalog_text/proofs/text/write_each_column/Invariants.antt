@@ -7,4 +7,5 @@ use Rattle.catalog_text.specs.Adds.{Adds}
 use Rattle.catalog_text.proofs.text.write_each_column.Given as goal
 
 abbrev pub invariant-loop-column : goal.invariant-loop-column
-invariant-loop-column l = Adds l.initial.out l.out (flat_map (λ c. json_tokens (column_json c)) (take l.column-index l.columns))
+invariant-loop-column l = Adds l.initial.out l.out
+    (flat_map (λ c. json_tokens (column_json c)) (take l.column-index l.columns))

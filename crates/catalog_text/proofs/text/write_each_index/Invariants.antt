@@ -7,4 +7,5 @@ use Rattle.catalog_text.specs.Adds.{Adds}
 use Rattle.catalog_text.proofs.text.write_each_index.Given as goal
 
 abbrev pub invariant-loop-index : goal.invariant-loop-index
-invariant-loop-index l = Adds l.initial.out l.out (flat_map (λ index. json_tokens (places_json l.columns index)) (take l.index-index l.indexes))
+invariant-loop-index l = Adds l.initial.out l.out
+    (flat_map (λ index. json_tokens (places_json l.columns index)) (take l.index-index l.indexes))

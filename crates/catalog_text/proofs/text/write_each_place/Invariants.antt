@@ -8,4 +8,5 @@ use Rattle.catalog_text.specs.Adds.{Adds}
 use Rattle.catalog_text.proofs.text.write_each_place.Given as goal
 
 abbrev pub invariant-loop-place : goal.invariant-loop-place
-invariant-loop-place l = Adds l.initial.out l.out (flat_map (λ p. json_tokens (string (name_at l.columns p))) (take l.place-index l.places))
+invariant-loop-place l = Adds l.initial.out l.out
+    (flat_map (λ p. json_tokens (string (name_at l.columns p))) (take l.place-index l.places))

@@ -7,4 +7,5 @@ use Rattle.catalog_text.specs.Adds.{Adds}
 use Rattle.catalog_text.proofs.text.write_each_table.Given as goal
 
 abbrev pub invariant-loop-table : goal.invariant-loop-table
-invariant-loop-table l = Adds l.initial.out l.out (flat_map (λ t. json_tokens (table_json t)) (take l.table-index l.tables))
+invariant-loop-table l = Adds l.initial.out l.out
+    (flat_map (λ t. json_tokens (table_json t)) (take l.table-index l.tables))

@@ -21,5 +21,10 @@ pub returns : goal.returns
 returns c =
     let q = c.args.query.now in
     let known = c.ranks.known.items in
-    let told : AreToldBelow q c.ranks.from known = record { goals = subst (AreGoalsOf q) (sym c.ranks.invariant.words) c.requires.goals; told = c.ranks.invariant.told } in
+    let told : AreToldBelow q c.ranks.from known =
+    record {
+      goals = subst (AreGoalsOf q) (sym c.ranks.invariant.words) c.requires.goals;
+      told =
+          c.ranks.invariant.told;
+    } in
     subst (AreAnswers q) (sym c.of.ensures) (all_told q known c.ranks.from c.in_default.ensures told)

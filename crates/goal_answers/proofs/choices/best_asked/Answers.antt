@@ -11,5 +11,7 @@ told_to-requires-clause-told c =
     let key = c.in-Some.key in
     let wanted = c.in-Some.wanted in
     let group = c.group-group.result in
-    let child = child_of_key q key wanted group c.group-group.ensures.only c.args.goal (subst (IsAskedByChild q c.args.goal) c.in-Some.is c.requires.asked) in
-    child_answered q c.args.source.known.now (c.ranks_fall.ensures.closure q) (c.goals_are_known.ensures.candidates q) c.args.goal (Opt group wanted) c.requires.ready child
+    let child = child_of_key q key wanted group c.group-group.ensures.only c.args.goal
+    (subst (IsAskedByChild q c.args.goal) c.in-Some.is c.requires.asked) in
+    child_answered q c.args.source.known.now (c.ranks_fall.ensures.closure q) (c.goals_are_known.ensures.candidates q)
+    c.args.goal (Opt group wanted) c.requires.ready child

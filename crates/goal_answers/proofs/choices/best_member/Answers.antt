@@ -14,10 +14,14 @@ best_of_goals-requires-clause-children c =
     let q = c.args.source.query.now in
     let here = Opt c.args.group c.args.wanted in
     subst (All (IsChildGoal (IsMember q) q here)) (sym c.as_slice.ensures.value)
-    (λ k d within. (c.goals_are_over_the_query.ensures.closure q c.args.source.members.now here _ c.requires.source.closure).0 ((c.in_ok-list_children.ensures.ok.exact _).0 (Contains-get_or c.list_children.new.list.items k d within)))
+    (λ k d within. (c.goals_are_over_the_query.ensures.closure q c.args.source.members.now here _
+    c.requires.source.closure).0 ((c.in_ok-list_children.ensures.ok.exact _).0
+    (Contains-get_or c.list_children.new.list.items k d within)))
 
 pub returns : goal.returns
 returns c =
     let q = c.args.source.query.now in
-    best_of_children q c.args.group c.args.wanted c.args.source.members.now c.list_children.new.list.items c.requires.source.closure (c.goals_are_over_the_query.ensures.closure q) c.in_ok-list_children.ensures.ok
-    c.best_of_goals.result (subst (λ gs. IsBestOfGoals q c.args.group c.args.wanted gs c.best_of_goals.result) c.as_slice.ensures.value c.best_of_goals.ensures)
+    best_of_children q c.args.group c.args.wanted c.args.source.members.now c.list_children.new.list.items
+    c.requires.source.closure (c.goals_are_over_the_query.ensures.closure q) c.in_ok-list_children.ensures.ok
+    c.best_of_goals.result (subst (λ gs. IsBestOfGoals q c.args.group c.args.wanted gs c.best_of_goals.result)
+    c.as_slice.ensures.value c.best_of_goals.ensures)

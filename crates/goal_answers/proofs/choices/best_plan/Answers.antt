@@ -15,7 +15,9 @@ returns c =
     let wanted = c.args.wanted in
     let member = c.in_ok-member.member in
     let fits = c.goals_are_known.ensures.requests q (Opt group wanted) c.requires.ready.is_goal in
-    let best = best_of_all q group wanted (c.answers_are_best.ensures.lesser q) c.args.source.props.now c.requires.source.collected fits (c.answers_are_best.ensures.covered q)
-    c.best_enforcer-first.result c.best_enforcer-second.result member c.best_enforcer-first.ensures c.best_enforcer-second.ensures c.in_ok-member.ensures in
+    let best = best_of_all q group wanted (c.answers_are_best.ensures.lesser q) c.args.source.props.now
+    c.requires.source.collected fits (c.answers_are_best.ensures.covered q)
+    c.best_enforcer-first.result c.best_enforcer-second.result member c.best_enforcer-first.ensures
+    c.best_enforcer-second.ensures c.in_ok-member.ensures in
     let same = c.lesser-2.ensures ∙ ap (λ (first : Option Best). lesser first member) c.lesser.ensures in
     subst (IsBest q group wanted all_nodes) (sym same) best

@@ -7,5 +7,6 @@ use Rattle.goal_answers.proofs.told.told_to.Goals as goal
 pub returns : goal.returns
 returns c =
     let q = c.args.source.query.now in
-    let tells = told_answer q c.args.source.known.now c.args.goal c.answer_to.result c.requires.told c.answer_to.ensures.told (c.answer_to.ensures.word ∙ c.word.ensures.number) in
+    let tells = told_answer q c.args.source.known.now c.args.goal c.answer_to.result c.requires.told
+    c.answer_to.ensures.told (c.answer_to.ensures.word ∙ c.word.ensures.number) in
     subst (IsAnswerTo q c.args.goal) (sym (c.best_in.ensures q c.args.goal tells)) tells.is_answer

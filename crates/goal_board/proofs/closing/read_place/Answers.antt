@@ -11,7 +11,8 @@ push_worker-requires g c closed =
     let items = slots_items c.args.words.now.words in
     let head = word_at items _ _ _ c.head_at.ensures c.word-head.ensures in
     let who = word_at items _ _ _ c.who_at.ensures c.word-3.ensures in
-    subst (λ n. (1 ≤ n) × (n ≤ 64)) who (c.requires.workers c.args.place c.requires.near (subst (λ n. 2 ^ 63 ≤ n) (sym head) closed))
+    subst (λ n. (1 ≤ n) × (n ≤ 64)) who (c.requires.workers c.args.place c.requires.near
+    (subst (λ n. 2 ^ 63 ≤ n) (sym head) closed))
 
 -- each list has what stands there, where it has to
 pub returns : goal.returns
@@ -25,7 +26,8 @@ returns g c =
     let who = word_at items _ _ _ c.who_at.ensures c.word-3.ensures in
     record {
       cells = cells_next (mem items) c.args.place _ _ _ before.cells cell c.in_ok-push_taken.ensures;
-      answers = answers_next (mem items) c.args.place _ _ _ _ _ before.answers head cell cost node c.in_ok-push_closed.ensures;
+      answers = answers_next (mem items) c.args.place _ _ _ _ _ before.answers head cell cost node
+          c.in_ok-push_closed.ensures;
       who = who_next (mem items) c.args.place _ _ _ _ before.who head who c.in_ok-push_worker.ensures;
       full = before.full;
       ready = c.first_ready-closed.ensures;

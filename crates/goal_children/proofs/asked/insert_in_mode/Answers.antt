@@ -10,7 +10,9 @@ use Rattle.goal_children.proofs.asked.insert_in_mode.Goals as goal
 -- children are groups with keys
 pub insert_wished-requires-clause-children : goal.insert_wished-requires-clause-children
 insert_wished-requires-clause-children c =
-    subst AreInRange (sym c.children.ensures) (c.candidates_are_known.ensures.packed c.args.memo.query.now (expr_of c.args.e) c.requires.goal.of_candidate).children
+    subst AreInRange (sym c.children.ensures)
+    (c.candidates_are_known.ensures.packed c.args.memo.query.now (expr_of c.args.e)
+    c.requires.goal.of_candidate).children
 
 -- what came of the children came of the mode
 pub returns : goal.returns
@@ -20,7 +22,8 @@ returns c =
     let new = c.insert_wished.new.goals.items in
     record {
       ok = on_ok_weaker c.insert_wished.result
-          (λ inserts. inserts_as (Asked (physical_children c.args.e.operator)) (IsOfMode c.args.memo.query.now c.args.e c.args.wanted c.args.mode) old new
+          (λ inserts. inserts_as (Asked (physical_children c.args.e.operator))
+          (IsOfMode c.args.memo.query.now c.args.e c.args.wanted c.args.mode) old new
           (λ k. (c.asked_in_mode-first.ensures.exact k).1) (λ k. (c.asked_in_mode-first.ensures.exact k).0)
           (subst (λ (x : Children). InsertsGoals (Asked x) old new) c.children.ensures inserts))
           c.insert_wished.ensures.ok;

@@ -10,12 +10,14 @@ returns-in-Some c =
 -- and what is asked for before members
 pub returns-in-Some-enforced_goal_from : goal.returns-in-Some-enforced_goal_from
 returns-in-Some-enforced_goal_from c =
-    request_is_first c.args.memo.query.now c.args.memo.members.now c.args.group c.args.wanted c.args.bound c.in-Some-enforced_goal_from.goal
+    request_is_first c.args.memo.query.now c.args.memo.members.now c.args.group c.args.wanted c.args.bound
+    c.in-Some-enforced_goal_from.goal
     (c.goal_kinds_are_one.ensures.fits c.in-Some-enforced_goal_from.goal c.in-Some-enforced_goal_from.ensures.in_range)
     c.in_default.ensures c.in-Some-enforced_goal_from.ensures
 
 -- members come last
 pub returns : goal.returns
 returns c =
-    member_is_first c.args.memo.query.now c.args.memo.members.now c.args.group c.args.wanted c.args.bound c.member_goal_from.result
+    member_is_first c.args.memo.query.now c.args.memo.members.now c.args.group c.args.wanted c.args.bound
+    c.member_goal_from.result
     c.in_default.ensures c.in_default-enforced_goal_from.ensures c.member_goal_from.ensures

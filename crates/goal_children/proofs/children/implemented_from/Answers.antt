@@ -8,9 +8,12 @@ use Rattle.goal_children.proofs.children.implemented_from.Goals as goal
 
 pub sooner-requires-clause-b : goal.sooner-requires-clause-b
 sooner-requires-clause-b c =
-    found_in_range (IsOfMembers c.args.memo.query.now c.args.memo.members.now c.args.group (Transform Implementation)) c.args.bound c.member_goal_from.result c.member_goal_from.ensures
+    found_in_range (IsOfMembers c.args.memo.query.now c.args.memo.members.now c.args.group (Transform Implementation))
+    c.args.bound c.member_goal_from.result c.member_goal_from.ensures
 
 pub returns : goal.returns
 returns c =
-    sooner_is (λ k. k ≡ Exp c.args.group) (IsOfMembers c.args.memo.query.now c.args.memo.members.now c.args.group (Transform Implementation)) c.args.bound
-    c.goal_from.result c.member_goal_from.result c.sooner.result c.sooner.ensures c.goal_from.ensures c.member_goal_from.ensures
+    sooner_is (λ k. k ≡ Exp c.args.group) (IsOfMembers c.args.memo.query.now c.args.memo.members.now c.args.group
+    (Transform Implementation)) c.args.bound
+    c.goal_from.result c.member_goal_from.result c.sooner.result c.sooner.ensures c.goal_from.ensures
+    c.member_goal_from.ensures

@@ -11,7 +11,8 @@ returns-then-tries c =
     let tried = c.tries.ensures.0 c.if-tries.true in
     record {
       ok = on_ok_weaker c.insert_goal.result
-          (inserts_as (λ k. k ≡ Xf c.args.e c.args.rule) (IsOfRule c.args.query.now c.args.phase c.args.e c.args.rule) c.args.goals.now.items
+          (inserts_as (λ k. k ≡ Xf c.args.e c.args.rule) (IsOfRule c.args.query.now c.args.phase c.args.e c.args.rule)
+          c.args.goals.now.items
           c.insert_goal.new.goals.items (λ k same. (tried, same)) (λ k (tried, same). same))
           c.insert_goal.ensures.ok;
     }
@@ -19,7 +20,8 @@ returns-then-tries c =
 -- or it has no goal
 pub returns-else-tries : goal.returns-else-tries
 returns-else-tries c = record {
-  ok = inserts_nothing (IsOfRule c.args.query.now c.args.phase c.args.e c.args.rule) c.args.goals.now.items (λ k (tried, same).
+  ok = inserts_nothing (IsOfRule c.args.query.now c.args.phase c.args.e c.args.rule) c.args.goals.now.items
+      (λ k (tried, same).
       let yes : c.tries.result ≡ true = c.tries.ensures.1 tried in
       let no : c.tries.result ≡ false = c.if-tries.false in
       cc);

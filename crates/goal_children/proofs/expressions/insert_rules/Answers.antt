@@ -14,8 +14,10 @@ loop-rule-preserved c =
     let rules = c.all-rules.result in
     let i = c.loop-rule.rule-index in
     let within : i < length rules = omega (arith, ap length c.all-rules.ensures.value, c.loop-rule-test.true) in
-    subst (λ rs. InsertsGoals (IsOfRules c.args.query.now c.args.phase c.args.e rs) c.args.goals.now.items c.insert_rule.new.goals.items) (sym (take_more rules i ExpandNAry within))
-    (rule_inserted c.args.query.now c.args.phase c.args.e (take i rules) (get_or rules i ExpandNAry) c.args.goals.now.items c.loop-rule.goals.items c.insert_rule.new.goals.items
+    subst (λ rs. InsertsGoals (IsOfRules c.args.query.now c.args.phase c.args.e rs) c.args.goals.now.items
+    c.insert_rule.new.goals.items) (sym (take_more rules i ExpandNAry within))
+    (rule_inserted c.args.query.now c.args.phase c.args.e (take i rules) (get_or rules i ExpandNAry)
+    c.args.goals.now.items c.loop-rule.goals.items c.insert_rule.new.goals.items
     c.loop-rule.invariant c.in_ok-insert_rule.ensures.ok)
 
 -- each rule is one of the list
@@ -25,6 +27,8 @@ returns c =
     let i = c.loop-rule.rule-index in
     let past : length rules ≤ i = omega (arith, ap length c.all-rules.ensures.value, c.loop-rule-test.false) in
     record {
-      ok = each_rule_inserted c.args.query.now c.args.phase c.args.e rules c.args.goals.now.items c.loop-rule.goals.items c.all-rules.ensures.every
-          (subst (λ rs. InsertsGoals (IsOfRules c.args.query.now c.args.phase c.args.e rs) c.args.goals.now.items c.loop-rule.goals.items) (take_all i rules past) c.loop-rule.invariant);
+      ok = each_rule_inserted c.args.query.now c.args.phase c.args.e rules c.args.goals.now.items
+          c.loop-rule.goals.items c.all-rules.ensures.every
+          (subst (λ rs. InsertsGoals (IsOfRules c.args.query.now c.args.phase c.args.e rs) c.args.goals.now.items
+          c.loop-rule.goals.items) (take_all i rules past) c.loop-rule.invariant);
     }

@@ -5,4 +5,5 @@ use Rattle.goal_children.proofs.expressions.insert_rules.Given as goal
 
 -- the goals of the rules before this one came to their places
 abbrev pub invariant-loop-rule : goal.invariant-loop-rule
-invariant-loop-rule l = InsertsGoals (IsOfRules l.query l.phase l.e (take l.rule-index l.rule-items)) l.initial.goals.items l.goals.items
+invariant-loop-rule l = InsertsGoals (IsOfRules l.query l.phase l.e (take l.rule-index l.rule-items))
+    l.initial.goals.items l.goals.items

@@ -12,7 +12,9 @@ returns c =
     let old = c.args.goals.now.items in
     let middle = c.insert_groups.new.goals.items in
     record {
-      ok = inserts_both (IsOfGroups c.args.phase (children_of c.args.e.operator)) (IsRuleAt c.args.query.now c.args.phase c.args.e) old middle
+      ok = inserts_both (IsOfGroups c.args.phase (children_of c.args.e.operator))
+          (IsRuleAt c.args.query.now c.args.phase c.args.e) old middle
           c.insert_rules.new.goals.items
-          (subst (λ (x : Children). InsertsGoals (IsOfGroups c.args.phase x) old middle) c.children.ensures c.in_ok-insert_groups.ensures.ok) c.in_ok-insert_rules.ensures.ok;
+          (subst (λ (x : Children). InsertsGoals (IsOfGroups c.args.phase x) old middle) c.children.ensures
+          c.in_ok-insert_groups.ensures.ok) c.in_ok-insert_rules.ensures.ok;
     }

@@ -11,7 +11,8 @@ loop-rule-init c = no_rules c.args.query.now c.args.phase c.args.e c.args.bound
 
 pub sooner-next-requires-clause-a : goal.sooner-next-requires-clause-a
 sooner-next-requires-clause-a c =
-    found_in_range (IsOfRules c.args.query.now c.args.phase c.args.e (take c.loop-rule.rule-index c.all-rules.result)) c.args.bound c.loop-rule.next c.loop-rule.invariant
+    found_in_range (IsOfRules c.args.query.now c.args.phase c.args.e (take c.loop-rule.rule-index c.all-rules.result))
+    c.args.bound c.loop-rule.next c.loop-rule.invariant
 
 pub sooner-next-requires-clause-b : goal.sooner-next-requires-clause-b
 sooner-next-requires-clause-b c = found_in_range _ c.args.bound c.goal_of_rule.result c.goal_of_rule.ensures
@@ -22,8 +23,10 @@ loop-rule-preserved c =
     let rules = c.all-rules.result in
     let i = c.loop-rule.rule-index in
     let within : i < length rules = omega (arith, ap length c.all-rules.ensures.value, c.loop-rule-test.true) in
-    subst (λ rs. FindsFrom (IsOfRules c.args.query.now c.args.phase c.args.e rs) c.args.bound c.sooner-next.result) (sym (take_more rules i ExpandNAry within))
-    (rule_more c.args.query.now c.args.phase c.args.e (take i rules) (get_or rules i ExpandNAry) c.args.bound c.loop-rule.next c.goal_of_rule.result c.sooner-next.result
+    subst (λ rs. FindsFrom (IsOfRules c.args.query.now c.args.phase c.args.e rs) c.args.bound c.sooner-next.result)
+    (sym (take_more rules i ExpandNAry within))
+    (rule_more c.args.query.now c.args.phase c.args.e (take i rules) (get_or rules i ExpandNAry) c.args.bound
+    c.loop-rule.next c.goal_of_rule.result c.sooner-next.result
     c.sooner-next.ensures c.loop-rule.invariant c.goal_of_rule.ensures)
 
 -- each rule is one of the list
@@ -33,4 +36,5 @@ returns c =
     let i = c.loop-rule.rule-index in
     let past : length rules ≤ i = omega (arith, ap length c.all-rules.ensures.value, c.loop-rule-test.false) in
     each_rule c.args.query.now c.args.phase c.args.e rules c.args.bound c.loop-rule.next c.all-rules.ensures.every
-    (subst (λ rs. FindsFrom (IsOfRules c.args.query.now c.args.phase c.args.e rs) c.args.bound c.loop-rule.next) (take_all i rules past) c.loop-rule.invariant)
+    (subst (λ rs. FindsFrom (IsOfRules c.args.query.now c.args.phase c.args.e rs) c.args.bound c.loop-rule.next)
+    (take_all i rules past) c.loop-rule.invariant)

@@ -10,7 +10,8 @@ add_children-requires-clause-listed c = none_listed c.clear.new.self.items c.cle
 pub returns : goal.returns
 returns c = record {
   ok = on_ok_weaker c.add_children.result
-      (are_children c.args.query.now c.args.members.now c.args.goal c.clear.new.self.items c.add_children.new.goals.items c.clear.ensures.items)
+      (are_children c.args.query.now c.args.members.now c.args.goal c.clear.new.self.items
+      c.add_children.new.goals.items c.clear.ensures.items)
       c.add_children.ensures.ok;
   held = c.add_children.ensures.held;
 }

@@ -12,8 +12,14 @@ halves-preserved-then-word_of-bound c =
       order = omega (arith, c.halves-test.true);
       within = c.halves.invariant.within;
       before = λ k less.
-          let order = words_rise words c.requires.ascending k middle (omega (arith, less)) (omega (arith, within, c.halves.invariant.within)) in
-          omega (arith, word_rises c.args.job (get_or words k 0) (get_or words middle 0) order, c.word_of.ensures, c.if-word_of-bound.true);
+          let order = words_rise words c.requires.ascending k middle (omega (arith, less))
+          (omega (arith, within, c.halves.invariant.within)) in
+          omega (
+            arith,
+            word_rises c.args.job (get_or words k 0) (get_or words middle 0) order,
+            c.word_of.ensures,
+            c.if-word_of-bound.true,
+          );
       after = c.halves.invariant.after;
     }
 
@@ -28,5 +34,10 @@ halves-preserved c =
       before = c.halves.invariant.before;
       after = λ k more inside.
           let order = words_rise words c.requires.ascending middle k more inside in
-          omega (arith, word_rises c.args.job (get_or words middle 0) (get_or words k 0) order, c.word_of.ensures, c.if-word_of-bound.false);
+          omega (
+            arith,
+            word_rises c.args.job (get_or words middle 0) (get_or words k 0) order,
+            c.word_of.ensures,
+            c.if-word_of-bound.false,
+          );
     }

@@ -15,7 +15,9 @@ first_from-from-requires-clause-small c =
     (own_candidates q c.args.memo.members.now own c.requires.memo.candidates c.words_of-own.ensures.part)
 
 pub first_from-from-requires-clause-in_range : goal.first_from-from-requires-clause-in_range
-first_from-from-requires-clause-in_range c = job_in_range c.args.memo.query.now c.requires.memo.collected.few_lists c.requires.memo.collected.few_orders c.args.job c.requires.numbered
+first_from-from-requires-clause-in_range c =
+    job_in_range c.args.memo.query.now c.requires.memo.collected.few_lists c.requires.memo.collected.few_orders
+    c.args.job c.requires.numbered
 
 pub first_goal-requires-clause-candidates : goal.first_goal-requires-clause-candidates
 first_goal-requires-clause-candidates c =
@@ -23,7 +25,8 @@ first_goal-requires-clause-candidates c =
     let own = c.words_of-own.result.now in
     let first = c.first_from-from.result in
     subst (All (IsCandidateWord q)) (sym (take_rest own first))
-    (all_behind (IsCandidateWord q) own first (own_candidates q c.args.memo.members.now own c.requires.memo.candidates c.words_of-own.ensures.part))
+    (all_behind (IsCandidateWord q) own first
+    (own_candidates q c.args.memo.members.now own c.requires.memo.candidates c.words_of-own.ensures.part))
 
 -- those before the first place lie below the bound
 pub returns : goal.returns
@@ -31,7 +34,11 @@ returns c =
     let q = c.args.memo.query.now in
     let own = c.words_of-own.result.now in
     let first = c.first_from-from.result in
-    own_found q c.args.memo.members.now own c.args.group c.args.job c.args.bound first c.words_of-own.ensures.members c.words_of-own.ensures.only c.words_of-own.ensures.part
-    c.words_of-own.ensures.rises c.first_from-from.ensures.before c.first_from-from.ensures.after (c.candidates_are_known.ensures.packed q)
-    (job_in_range q c.requires.memo.collected.few_lists c.requires.memo.collected.few_orders c.args.job c.requires.numbered) c.first_goal.result
-    (subst (λ words. MatchOption c.first_goal.result (HaveNoGoals q c.args.job words) (IsFirstGoal q c.args.job words)) (take_rest own first) c.first_goal.ensures)
+    own_found q c.args.memo.members.now own c.args.group c.args.job c.args.bound first c.words_of-own.ensures.members
+    c.words_of-own.ensures.only c.words_of-own.ensures.part
+    c.words_of-own.ensures.rises c.first_from-from.ensures.before c.first_from-from.ensures.after
+    (c.candidates_are_known.ensures.packed q)
+    (job_in_range q c.requires.memo.collected.few_lists c.requires.memo.collected.few_orders c.args.job
+    c.requires.numbered) c.first_goal.result
+    (subst (λ words. MatchOption c.first_goal.result (HaveNoGoals q c.args.job words) (IsFirstGoal q c.args.job words))
+    (take_rest own first) c.first_goal.ensures)

@@ -20,5 +20,6 @@ returns-in_ok-push-in-Some c =
 -- or none
 pub returns-in-None : goal.returns-in-None
 returns-in-None c = record {
-  ok = appends_nothing (λ k. c.args.found ≡ Some k) c.args.goals.now.items (λ k same. let none = c.in-None.is in absurd (cc));
+  ok = appends_nothing (λ k. c.args.found ≡ Some k) c.args.goals.now.items (λ k same. let none = c.in-None.is in
+      absurd (cc));
 }

@@ -20,8 +20,10 @@ loop-e-preserved c =
     let es = c.args.exprs.now in
     let i = c.loop-e.e-index in
     let within : i < length (map word_of es) = omega (arith, c.loop-e-test.true, length-map es word_of) in
-    more_among q job (map word_of es) i c.args.goals.now.items c.loop-e.goals.items c.push_goal_of.new.goals.items c.requires.ascending within c.loop-e.invariant
-    (subst (λ word. AppendsGoals (IsGoalOfWord q job word) c.loop-e.goals.items c.push_goal_of.new.goals.items) (sym (get_or-map word_of es i _ 0 c.loop-e-test.true))
+    more_among q job (map word_of es) i c.args.goals.now.items c.loop-e.goals.items c.push_goal_of.new.goals.items
+    c.requires.ascending within c.loop-e.invariant
+    (subst (λ word. AppendsGoals (IsGoalOfWord q job word) c.loop-e.goals.items c.push_goal_of.new.goals.items)
+    (sym (get_or-map word_of es i _ 0 c.loop-e-test.true))
     c.in_ok-push_goal_of.ensures.ok)
 
 pub returns : goal.returns
@@ -30,5 +32,6 @@ returns c =
     let i = c.loop-e.e-index in
     let whole : length words ≤ i = omega (arith, c.loop-e-test.false, length-map c.args.exprs.now word_of) in
     record {
-      ok = subst (λ ws. AppendsGoals (IsGoalAmong c.args.memo.query.now c.args.job ws) c.args.goals.now.items c.loop-e.goals.items) (take_all i words whole) c.loop-e.invariant;
+      ok = subst (λ ws. AppendsGoals (IsGoalAmong c.args.memo.query.now c.args.job ws) c.args.goals.now.items
+          c.loop-e.goals.items) (take_all i words whole) c.loop-e.invariant;
     }

@@ -13,5 +13,6 @@ loop-word-init c = subst (HaveGoalWords _) (sym c.clear.ensures.items) no_words
 pub loop-word-preserved : goal.loop-word-preserved
 loop-word-preserved c =
     subst (HaveGoalWords _) (sym c.in_ok-push.ensures.items)
-    (one_more_word c.args.words.now c.loop-word.word-index c.loop-word.list.items c.known_goal.result c.loop-word-test.true
+    (one_more_word c.args.words.now c.loop-word.word-index c.loop-word.list.items c.known_goal.result
+    c.loop-word-test.true
     (c.requires c.loop-word.word-index 0 c.loop-word-test.true) c.known_goal.ensures c.loop-word.invariant)

@@ -7,7 +7,11 @@ use Rattle.goal_list.proofs.Growing.{grows_not, grows_on, all_on}
 use Rattle.goal_list.proofs.goals.add_all.Goals as goal
 
 pub loop-goal-init : goal.loop-goal-init
-loop-goal-init c = record { grows = grows_not c.args.query.now c.args.found.now; there = λ k d within. absurd (omega (arith, within)) }
+loop-goal-init c = record {
+  grows = grows_not c.args.query.now c.args.found.now;
+  there =
+      λ k d within. absurd (omega (arith, within));
+}
 
 -- one more goal is found, and those before it stay
 pub loop-goal-preserved : goal.loop-goal-preserved
@@ -20,9 +24,12 @@ loop-goal-preserved c =
     record {
       grows = grows_on q c.args.found.now before after c.loop-goal.invariant.grows c.in_ok-add.ensures.grows;
       there = subst (All (ContainsWordOf after)) (sym (take_more goals i _ c.loop-goal-test.true))
-          (All-push (ContainsWordOf after) (take i goals) (get_or goals i _) (all_on q before after (take i goals) c.in_ok-add.ensures.grows c.loop-goal.invariant.there) c.in_ok-add.ensures.there);
+          (All-push (ContainsWordOf after) (take i goals) (get_or goals i _)
+          (all_on q before after (take i goals) c.in_ok-add.ensures.grows c.loop-goal.invariant.there)
+          c.in_ok-add.ensures.there);
     }
 
 pub returns-clause-there : goal.returns-clause-there
 returns-clause-there c =
-    subst (All (ContainsWordOf c.loop-goal.found)) (take_all c.loop-goal.goal-index c.args.goals.now c.loop-goal-test.false) c.loop-goal.invariant.there
+    subst (All (ContainsWordOf c.loop-goal.found))
+    (take_all c.loop-goal.goal-index c.args.goals.now c.loop-goal-test.false) c.loop-goal.invariant.there

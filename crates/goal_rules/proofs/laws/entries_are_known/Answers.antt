@@ -8,7 +8,10 @@ pub returns : goal.returns
 returns c =
     let exprs = c.expressions_are_one.ensures in
     record {
-      members = λ (q : Query). entries_members q exprs.expressions exprs.small (c.candidates_are_known.ensures.packed q) (c.members_are_candidates.ensures q);
+      members = λ (q : Query). entries_members q exprs.expressions exprs.small (c.candidates_are_known.ensures.packed q)
+          (c.members_are_candidates.ensures q);
       goals = λ (q : Query) (props : Props) (is_props : IsProps q props).
-          known_word q c.goal_kinds_are_one.ensures.one (c.goals_are_known.ensures.words q is_props.few_lists is_props.few_orders) (c.members_are_known.ensures.small q);
+          known_word q c.goal_kinds_are_one.ensures.one
+          (c.goals_are_known.ensures.words q is_props.few_lists is_props.few_orders)
+          (c.members_are_known.ensures.small q);
     }

@@ -18,7 +18,8 @@ overflow_cast-result c =
     let closed = c.in_ok-closed.closed in
     let outcome = c.in_ok-outcome.outcome in
     let its = last_closes e c.args._n c.args.worker c.requires closed c.in_ok-closed.ensures in
-    let few = few_finished e c.args._n c.args.worker c.requires closed outcome its (c.in_ok-outcome.ensures.outcome e.scheduler.root (hands c.args.worker.seat) its) in
+    let few = few_finished e c.args._n c.args.worker c.requires closed outcome its
+    (c.in_ok-outcome.ensures.outcome e.scheduler.root (hands c.args.worker.seat) its) in
     omega (arith, few, e.few, c.goals_finished-finished.ensures closed c.len-answers.ensures)
 
 pub returns : goal.returns
@@ -27,6 +28,7 @@ returns c =
     let v = hands c.args.worker.seat in
     let closed = c.in_ok-closed.closed in
     let its = last_closes e c.args._n c.args.worker c.requires closed c.in_ok-closed.ensures in
-    last_run e c.args._n c.args.worker c.requires closed c.in_ok-outcome.outcome its (c.in_ok-outcome.ensures.outcome e.scheduler.root v its)
+    last_run e c.args._n c.args.worker c.requires closed c.in_ok-outcome.outcome its
+    (c.in_ok-outcome.ensures.outcome e.scheduler.root v its)
     (c.in_ok-outcome.ensures.finished e.scheduler.root v its) (c.in_ok-outcome.ensures.full e.scheduler.root v its)
     c.goals_finished-finished.result (c.goals_finished-finished.ensures closed c.len-answers.ensures)

@@ -15,4 +15,9 @@ work_alone-requires-clause-alone c κs within = (_, c.requires.opening.kept)
 
 pub end-requires : goal.end-requires
 end-requires c =
-    let w = c.work_alone.ensures.worked in record { its = w.its; parts = w.parts ∙ c.requires.opening.parts; ended = w.ended }
+    let w = c.work_alone.ensures.worked in record {
+      its = w.its;
+      parts = w.parts ∙ c.requires.opening.parts;
+      ended =
+          w.ended;
+    }

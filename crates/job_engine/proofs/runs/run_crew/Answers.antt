@@ -13,4 +13,9 @@ work_crew-requires-clause-worker g c κs within =
 
 pub end-requires : goal.end-requires
 end-requires g c =
-    let w = c.in_ok-worker.ensures in record { its = w.its; parts = w.parts ∙ c.requires.fresh.opening.parts; ended = w.ended }
+    let w = c.in_ok-worker.ensures in record {
+      its = w.its;
+      parts = w.parts ∙ c.requires.fresh.opening.parts;
+      ended =
+          w.ended;
+    }

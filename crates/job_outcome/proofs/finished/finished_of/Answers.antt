@@ -8,7 +8,8 @@ pub loop-place-preserved : goal.loop-place-preserved
 loop-place-preserved c =
     let before = c.loop-place.invariant in
     record {
-      made = pairs_next c.args.answers.now c.args.who.now c.loop-place.place (0, record { cost = 0; node = 0 }) 0 c.loop-place.finished.items c.push_reserved.new.self.items c.requires
+      made = pairs_next c.args.answers.now c.args.who.now c.loop-place.place (0, record { cost = 0; node = 0 }) 0
+          c.loop-place.finished.items c.push_reserved.new.self.items c.requires
           c.loop-place-test.true before.made c.push_reserved.ensures.items;
       counted = grind (arith, elements);
       has_room = grind (arith, elements);

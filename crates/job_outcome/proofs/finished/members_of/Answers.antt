@@ -5,4 +5,5 @@ use Rattle.job_outcome.proofs.finished.members_of.Goals as goal
 
 pub returns-clause-ascending : goal.returns-clause-ascending
 returns-clause-ascending c =
-    subst IsNonDecreasing (sym c.of.ensures) (IsNonDecreasingBy-from_sort (λ (x : ℕ). x) c.sort_unstable.new.self.items c.sort_unstable.ensures.sorted)
+    subst IsNonDecreasing (sym c.of.ensures)
+    (IsNonDecreasingBy-from_sort (λ (x : ℕ). x) c.sort_unstable.new.self.items c.sort_unstable.ensures.sorted)

@@ -7,4 +7,5 @@ use Rattle.job_outcome.proofs.outcome.is_finished.Goals as goal
 pub returns-clause-absent : goal.returns-clause-absent
 returns-clause-absent c none there =
     let (x, (k, within, at), is) = contains_unmap (λ (x : ℕ × Answer). x.0) c.args.goal c.args.answers.now there in
-    c.loop-finished.invariant k x (omega (arith, within, c.loop-finished-test.false)) (ap (λ (y : ℕ × Answer). y.0) at ∙ is)
+    c.loop-finished.invariant k x (omega (arith, within, c.loop-finished-test.false)) (ap (λ (y : ℕ × Answer). y.0) at
+    ∙ is)

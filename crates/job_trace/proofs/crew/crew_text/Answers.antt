@@ -10,7 +10,8 @@ use Rattle.job_trace.proofs.crew.crew_text.Goals as goal
 -- as many as words
 pub push_crew_lines-requires-clause-each : goal.push_crew_lines-requires-clause-each
 push_crew_lines-requires-clause-each c =
-    c.requires.each ∙ ap length (sym c.in_ok-goals.ensures.numbers) ∙ length-map c.in_ok-goals.goals.items goal_word ∙ sym (ap length c.as_slice.ensures.value)
+    c.requires.each ∙ ap length (sym c.in_ok-goals.ensures.numbers) ∙ length-map c.in_ok-goals.goals.items goal_word
+    ∙ sym (ap length c.as_slice.ensures.value)
 
 -- behind the first line come the lines of all goals
 pub returns : goal.returns
@@ -20,6 +21,7 @@ returns c =
     record {
       kinds = c.in_ok-goals.goals.items;
       are = c.in_ok-goals.ensures;
-      lines = ap (λ v. v.items) c.into_bytes.ensures.value ∙ c.in_ok-push_crew_lines.ensures.ok ∙ ap (λ text. text ++ lines c.as_slice.result.now) first
+      lines = ap (λ v. v.items) c.into_bytes.ensures.value ∙ c.in_ok-push_crew_lines.ensures.ok
+          ∙ ap (λ text. text ++ lines c.as_slice.result.now) first
           ∙ ap (λ (gs : List GoalKind). codes "by-worker\n" ++ lines gs) c.as_slice.ensures.value;
     }

@@ -9,4 +9,5 @@ use Rattle.job_trace.proofs.groups.push_set.Given as goal
 abbrev pub invariant-loop-place : goal.invariant-loop-place
 invariant-loop-place l =
     shadow (Utf8 l.separator)
-    × (string_bytes l.text ++ behind l.separator (tables_in l.set l.place (drop l.place l.query.tables)) ≡ string_bytes l.fn.text ++ set_text l.query l.set)
+    × (string_bytes l.text ++ behind l.separator (tables_in l.set l.place (drop l.place l.query.tables)) ≡ string_bytes
+    l.fn.text ++ set_text l.query l.set)

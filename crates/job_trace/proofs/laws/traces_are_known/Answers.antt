@@ -9,8 +9,10 @@ returns c = record {
       one_text q members
       (c.children_are_over_the_query.ensures.words q few_lists few_orders)
       c.goal_kinds_are_one.ensures.one
-      (λ goal children others over are also. c.children_are_one.ensures q few_lists few_orders members goal children others over are also)
+      (λ goal children others over are also. c.children_are_one.ensures q few_lists few_orders members goal children
+      others over are also)
       goals text other is again;
   line = one_line c.goal_kinds_are_one.ensures.one;
-  begins = λ q few_lists few_orders. begins c.goal_kinds_are_one.ensures.one q (c.children_are_over_the_query.ensures.words q few_lists few_orders);
+  begins = λ q few_lists few_orders. begins c.goal_kinds_are_one.ensures.one q
+      (c.children_are_over_the_query.ensures.words q few_lists few_orders);
 }

@@ -22,5 +22,6 @@ returns c =
     let have : AreOfWords words es = have_words q words es (c.candidates_are_known.ensures.packed q) are in
     IfOk-weaker c.expressions.result _ _
     (λ made is. subst (AreMembers q words)
-    (members_one c.expressions_are_one.ensures.expressions es made.items have.packed is.packed (have.numbers ∙ sym is.numbers)) are)
+    (members_one c.expressions_are_one.ensures.expressions es made.items have.packed is.packed (have.numbers
+    ∙ sym is.numbers)) are)
     c.expressions.ensures

@@ -8,12 +8,14 @@ use Rattle.job_trace.proofs.memo.memo_line.Goals as goal
 pub line_of-requires : goal.line_of-requires
 line_of-requires c =
     subst (All (λ (e : ExprParts). IsInRange e.group)) (sym c.as_slice.ensures.value)
-    (λ k d within. (let candidate = c.in_ok-members.ensures.candidates k d within in c.groups_are_known.ensures.in_range c.args.query.now _ candidate.known))
+    (λ k d within. (let candidate = c.in_ok-members.ensures.candidates k d within in
+    c.groups_are_known.ensures.in_range c.args.query.now _ candidate.known))
 
 -- the line counts them and their groups
 pub returns : goal.returns
 returns c = record {
   members = c.in_ok-members.members.items;
   are = c.in_ok-members.ensures;
-  is_line = c.in_ok-line_of.ensures ∙ ap (λ members. memo_line (length (groups_of members)) (length members)) c.as_slice.ensures.value;
+  is_line = c.in_ok-line_of.ensures ∙ ap (λ members. memo_line (length (groups_of members)) (length members))
+      c.as_slice.ensures.value;
 }

@@ -25,14 +25,23 @@ loop-goal-preserved c =
     let before = string_bytes c.args.text.now in
     let last = string_bytes c.push_child_lines.new.text in
     let added : AddsTraced q c.args.members.now (take (i + 1) goals) before last =
-    subst (λ (gs : List GoalKind). AddsTraced q c.args.members.now gs before last) (sym (take_more goals i _ c.loop-goal-test.true))
-    (traced_more q c.args.members.now (take i goals) (get_or goals i _) children before (string_bytes c.loop-goal.text) (string_bytes c.push_goal_line.new.text) last
+    subst (λ (gs : List GoalKind). AddsTraced q c.args.members.now gs before last)
+    (sym (take_more goals i _ c.loop-goal-test.true))
+    (traced_more q c.args.members.now (take i goals) (get_or goals i _) children before (string_bytes c.loop-goal.text)
+    (string_bytes c.push_goal_line.new.text) last
     c.in_ok-list_children_by_group.ensures.ok c.loop-goal.invariant.added c.in_ok-push_goal_line.ensures.ok
-    (subst (λ (cs : List GoalKind). Adds (string_bytes c.push_goal_line.new.text) (concat (map (child_line q) cs)) last) c.as_slice.ensures.value c.in_ok-push_child_lines.ensures.ok)) in
-    record { added = added; kept = c.in_ok-push_child_lines.ensures.kept; held = c.in_ok-list_children_by_group.ensures.held }
+    (subst (λ (cs : List GoalKind). Adds (string_bytes c.push_goal_line.new.text) (concat (map (child_line q) cs)) last)
+    c.as_slice.ensures.value c.in_ok-push_child_lines.ensures.ok)) in
+    record {
+      added = added;
+      kept = c.in_ok-push_child_lines.ensures.kept;
+      held =
+          c.in_ok-list_children_by_group.ensures.held;
+    }
 
 pub returns : goal.returns
 returns c = record {
-  ok = subst (λ (gs : List GoalKind). AddsTraced c.args.query.now c.args.members.now gs (string_bytes c.args.text.now) (string_bytes c.loop-goal.text))
+  ok = subst (λ (gs : List GoalKind). AddsTraced c.args.query.now c.args.members.now gs (string_bytes c.args.text.now)
+      (string_bytes c.loop-goal.text))
       (take_all c.loop-goal.goal-index c.args.goals.now c.loop-goal-test.false) c.loop-goal.invariant.added;
 }

@@ -8,6 +8,7 @@ use Rattle.job_trace.proofs.trace.push_child_lines.Given as goal
 -- the lines of the children before this one were added, and pieces have their texts
 abbrev pub invariant-loop-child : goal.invariant-loop-child
 invariant-loop-child l = record {
-  added : Adds (string_bytes l.fn.text) (concat (map (child_line l.query) (take l.child-index l.children))) (string_bytes l.text);
+  added : Adds (string_bytes l.fn.text) (concat (map (child_line l.query) (take l.child-index l.children)))
+      (string_bytes l.text);
   kept : AreKept l.query l.pieces;
 }

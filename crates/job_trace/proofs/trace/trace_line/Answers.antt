@@ -7,5 +7,7 @@ pub returns : goal.returns
 returns c = record {
   kinds = c.in_ok-goals.goals.items;
   have = c.in_ok-goals.ensures;
-  is_line = ap (λ v. v.items) c.into_bytes.ensures.value ∙ c.in_ok-push_trace_line.ensures.ok ∙ ap (λ text. text ++ trace_line c.as_slice.result.now) c.new-line.ensures.bytes ∙ ap trace_line c.as_slice.ensures.value;
+  is_line = ap (λ v. v.items) c.into_bytes.ensures.value ∙ c.in_ok-push_trace_line.ensures.ok
+      ∙ ap (λ text. text ++ trace_line c.as_slice.result.now) c.new-line.ensures.bytes
+      ∙ ap trace_line c.as_slice.ensures.value;
 }

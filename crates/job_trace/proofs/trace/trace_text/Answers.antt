@@ -7,13 +7,15 @@ use Rattle.job_trace.proofs.trace.trace_text.Goals as goal
 
 -- the goals are goals over the query
 pub push_all_traced-requires-clause-goals : goal.push_all_traced-requires-clause-goals
-push_all_traced-requires-clause-goals c = subst (All (IsGoalOver c.args.query.now)) (sym c.as_slice-2.ensures.value) c.in_ok-goals.ensures.over
+push_all_traced-requires-clause-goals c =
+    subst (All (IsGoalOver c.args.query.now)) (sym c.as_slice-2.ensures.value) c.in_ok-goals.ensures.over
 
 -- behind the first line come the lines of all goals
 pub returns : goal.returns
 returns c =
     let added = c.in_ok-push_all_traced.ensures.ok in
-    let shown : map (λ t. t.goal) added.traced ≡ c.in_ok-goals.goals.items = added.are_goals ∙ c.as_slice-2.ensures.value in
+    let shown : map (λ t. t.goal) added.traced ≡ c.in_ok-goals.goals.items = added.are_goals
+    ∙ c.as_slice-2.ensures.value in
     let rest : List ℕ = concat (flat_map (traced_lines c.args.query.now) added.traced) in
     let first : string_bytes c.push_trace_line.new.text ≡ trace_line (map (λ t. t.goal) added.traced) =
     c.in_ok-push_trace_line.ensures.ok ∙ ap (λ text. text ++ trace_line c.as_slice.result.now) c.new-text.ensures.bytes

@@ -14,10 +14,12 @@ use Rattle.job_turns.proofs.Enforced.{found_at, goal_found, no_goal, no_node}
 use Rattle.job_turns.proofs.enforcers.await_enforcer.Goals as goal
 
 pub enforcer_for-requires-clause-known : goal.enforcer_for-requires-clause-known
-enforcer_for-requires-clause-known g c = c.goals_are_known.ensures.candidates c.args.query.now (Opt c.args.group c.args.wanted) c.requires.goal.is_goal
+enforcer_for-requires-clause-known g c =
+    c.goals_are_known.ensures.candidates c.args.query.now (Opt c.args.group c.args.wanted) c.requires.goal.is_goal
 
 pub enforcer_for-requires-clause-fits : goal.enforcer_for-requires-clause-fits
-enforcer_for-requires-clause-fits g c = c.goals_are_known.ensures.requests c.args.query.now (Opt c.args.group c.args.wanted) c.requires.goal.is_goal
+enforcer_for-requires-clause-fits g c = c.goals_are_known.ensures.requests c.args.query.now
+    (Opt c.args.group c.args.wanted) c.requires.goal.is_goal
 
 pub word-word-requires : goal.word-word-requires
 word-word-requires g c =
@@ -26,7 +28,8 @@ word-word-requires g c =
     let wanted = c.args.wanted in
     let fits = c.goals_are_known.ensures.requests q (Opt group wanted) c.requires.goal.is_goal in
     let found = found_at q group wanted c.args.place fits c.in-Some.enforced c.in-Some.ensures in
-    (c.words_are_known.ensures.words q c.requires.at_work.has_job.board.small (Opt group wanted) (Opt group c.in-Some.enforced.below) c.args.job.now.right.goal c.requires.goal
+    (c.words_are_known.ensures.words q c.requires.at_work.has_job.board.small (Opt group wanted)
+    (Opt group c.in-Some.enforced.below) c.args.job.now.right.goal c.requires.goal
     (inr (inr (found.e, found.can, ap (λ (r : Request). Opt group r) found.is.is.1)))).1
 
 pub await_choice-requires-clause-word : goal.await_choice-requires-clause-word
@@ -42,10 +45,12 @@ await_choice-requires-clause-child g c =
     (Opt group wanted, c.requires.goal, inr (inr (found.e, found.can, ap (λ (r : Request). Opt group r) found.is.is.1)))
 
 pub best_of_enforcer-best-requires-clause-known : goal.best_of_enforcer-best-requires-clause-known
-best_of_enforcer-best-requires-clause-known g c = c.goals_are_known.ensures.candidates c.args.query.now (Opt c.args.group c.args.wanted) c.requires.goal.is_goal
+best_of_enforcer-best-requires-clause-known g c =
+    c.goals_are_known.ensures.candidates c.args.query.now (Opt c.args.group c.args.wanted) c.requires.goal.is_goal
 
 pub best_of_enforcer-best-requires-clause-fits : goal.best_of_enforcer-best-requires-clause-fits
-best_of_enforcer-best-requires-clause-fits g c = c.goals_are_known.ensures.requests c.args.query.now (Opt c.args.group c.args.wanted) c.requires.goal.is_goal
+best_of_enforcer-best-requires-clause-fits g c =
+    c.goals_are_known.ensures.requests c.args.query.now (Opt c.args.group c.args.wanted) c.requires.goal.is_goal
 
 pub best_of_enforcer-best-requires-clause-enforced : goal.best_of_enforcer-best-requires-clause-enforced
 best_of_enforcer-best-requires-clause-enforced g c =
@@ -58,7 +63,8 @@ best_of_enforcer-best-requires-clause-enforced g c =
 
 pub best_of_enforcer-best-requires-clause-below : goal.best_of_enforcer-best-requires-clause-below
 best_of_enforcer-best-requires-clause-below g c =
-    subst (IsChoice (IsAnswerTo c.args.query.now (Opt c.args.group c.in-Some.enforced.below)) c.await_choice.new.job.right) c.in-Known.is c.in_ok-found-in-Some.ensures.chooses.is
+    subst (IsChoice (IsAnswerTo c.args.query.now (Opt c.args.group c.in-Some.enforced.below))
+    c.await_choice.new.job.right) c.in-Known.is c.in_ok-found-in-Some.ensures.chooses.is
 
 pub returns-in-Known-clause-chooses : goal.returns-in-Known-clause-chooses
 returns-in-Known-clause-chooses g c =
@@ -68,10 +74,15 @@ returns-in-Known-clause-chooses g c =
     let wanted = c.args.wanted in
     let fits = c.goals_are_known.ensures.requests q (Opt group wanted) c.requires.goal.is_goal in
     let found = found_at q group wanted c.args.place fits c.in-Some.enforced c.in-Some.ensures in
-    finds_told q b.key.room (hands c.args.seat.now) c.args.job.now.right (λ goal. goal ≡ Opt group c.in-Some.enforced.below) (IsEnforcerGoalAt group wanted c.args.place) (IsAnswerTo q (Opt group c.in-Some.enforced.below))
-    (IsBest q group wanted (enforcer_at wanted c.args.place)) (goal_found q group wanted c.args.place c.in-Some.enforced found) c.in_ok-found-in-Some.found (hands c.await_choice.new.seat) c.await_choice.new.job.right c.in_ok-found-in-Some.ensures.chooses
+    finds_told q b.key.room (hands c.args.seat.now) c.args.job.now.right
+    (λ goal. goal ≡ Opt group c.in-Some.enforced.below) (IsEnforcerGoalAt group wanted c.args.place)
+    (IsAnswerTo q (Opt group c.in-Some.enforced.below))
+    (IsBest q group wanted (enforcer_at wanted c.args.place))
+    (goal_found q group wanted c.args.place c.in-Some.enforced found) c.in_ok-found-in-Some.found
+    (hands c.await_choice.new.seat) c.await_choice.new.job.right c.in_ok-found-in-Some.ensures.chooses
     (Known c.best_of_enforcer-best.result)
-    (subst (λ (there : Option EnforcedBy). IsBest q group wanted (enforcer_alone there) c.best_of_enforcer-best.result) (sym found.is_there) (c.best_of_enforcer-best.ensures found.e found.is))
+    (subst (λ (there : Option EnforcedBy). IsBest q group wanted (enforcer_alone there) c.best_of_enforcer-best.result)
+    (sym found.is_there) (c.best_of_enforcer-best.ensures found.e found.is))
 
 pub returns-in-Open-clause-chooses : goal.returns-in-Open-clause-chooses
 returns-in-Open-clause-chooses g c =
@@ -81,9 +92,14 @@ returns-in-Open-clause-chooses g c =
     let wanted = c.args.wanted in
     let fits = c.goals_are_known.ensures.requests q (Opt group wanted) c.requires.goal.is_goal in
     let found = found_at q group wanted c.args.place fits c.in-Some.enforced c.in-Some.ensures in
-    finds_told q b.key.room (hands c.args.seat.now) c.args.job.now.right (λ goal. goal ≡ Opt group c.in-Some.enforced.below) (IsEnforcerGoalAt group wanted c.args.place) (IsAnswerTo q (Opt group c.in-Some.enforced.below))
-    (IsBest q group wanted (enforcer_at wanted c.args.place)) (goal_found q group wanted c.args.place c.in-Some.enforced found) c.in_ok-found-in-Some.found (hands c.await_choice.new.seat) c.await_choice.new.job.right c.in_ok-found-in-Some.ensures.chooses
-    Open (subst (IsChoice (IsAnswerTo q (Opt group c.in-Some.enforced.below)) c.await_choice.new.job.right) c.in-Open.is c.in_ok-found-in-Some.ensures.chooses.is)
+    finds_told q b.key.room (hands c.args.seat.now) c.args.job.now.right
+    (λ goal. goal ≡ Opt group c.in-Some.enforced.below) (IsEnforcerGoalAt group wanted c.args.place)
+    (IsAnswerTo q (Opt group c.in-Some.enforced.below))
+    (IsBest q group wanted (enforcer_at wanted c.args.place))
+    (goal_found q group wanted c.args.place c.in-Some.enforced found) c.in_ok-found-in-Some.found
+    (hands c.await_choice.new.seat) c.await_choice.new.job.right c.in_ok-found-in-Some.ensures.chooses
+    Open (subst (IsChoice (IsAnswerTo q (Opt group c.in-Some.enforced.below)) c.await_choice.new.job.right) c.in-Open.is
+    c.in_ok-found-in-Some.ensures.chooses.is)
 
 pub returns-in-None-clause-chooses : goal.returns-in-None-clause-chooses
 returns-in-None-clause-chooses g c =
@@ -92,5 +108,7 @@ returns-in-None-clause-chooses g c =
     let group = c.args.group in
     let wanted = c.args.wanted in
     let none = c.in-None.ensures in
-    finds_none q b.key.room (hands c.args.seat.now) c.args.job.now.right (IsEnforcerGoalAt group wanted c.args.place) (IsBest q group wanted (enforcer_at wanted c.args.place)) (no_goal q group wanted c.args.place none) None
-    (subst (λ (there : Option EnforcedBy). IsBest q group wanted (enforcer_alone there) None) (sym (no_node q group wanted c.args.place none)) (c.answers_are_best.ensures.none q group wanted))
+    finds_none q b.key.room (hands c.args.seat.now) c.args.job.now.right (IsEnforcerGoalAt group wanted c.args.place)
+    (IsBest q group wanted (enforcer_at wanted c.args.place)) (no_goal q group wanted c.args.place none) None
+    (subst (λ (there : Option EnforcedBy). IsBest q group wanted (enforcer_alone there) None)
+    (sym (no_node q group wanted c.args.place none)) (c.answers_are_best.ensures.none q group wanted))

@@ -9,10 +9,12 @@ use Rattle.job_turns.proofs.Enforced.{found_at}
 use Rattle.job_turns.proofs.enforcers.put_enforcer.Goals as goal
 
 pub enforcer_for-requires-clause-known : goal.enforcer_for-requires-clause-known
-enforcer_for-requires-clause-known g c = c.goals_are_known.ensures.candidates c.args.query.now (Opt c.args.group c.args.wanted) c.requires.goal.is_goal
+enforcer_for-requires-clause-known g c =
+    c.goals_are_known.ensures.candidates c.args.query.now (Opt c.args.group c.args.wanted) c.requires.goal.is_goal
 
 pub enforcer_for-requires-clause-fits : goal.enforcer_for-requires-clause-fits
-enforcer_for-requires-clause-fits g c = c.goals_are_known.ensures.requests c.args.query.now (Opt c.args.group c.args.wanted) c.requires.goal.is_goal
+enforcer_for-requires-clause-fits g c = c.goals_are_known.ensures.requests c.args.query.now
+    (Opt c.args.group c.args.wanted) c.requires.goal.is_goal
 
 pub put_child-requires-clause-child : goal.put_child-requires-clause-child
 put_child-requires-clause-child g c =
@@ -24,4 +26,5 @@ put_child-requires-clause-child g c =
     (Opt group wanted, c.requires.goal, inr (inr (found.e, found.can, ap (λ (r : Request). Opt group r) found.is.is.1)))
 
 pub returns-in-None-clause-puts : goal.returns-in-None-clause-puts
-returns-in-None-clause-puts g c = proceeds_none (IsChildWord c.args.query.now c.args.job.now.right.goal) (hands c.args.seat.now) c.args.job.now.right
+returns-in-None-clause-puts g c = proceeds_none (IsChildWord c.args.query.now c.args.job.now.right.goal)
+    (hands c.args.seat.now) c.args.job.now.right

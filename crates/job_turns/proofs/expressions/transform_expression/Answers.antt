@@ -14,28 +14,36 @@ await_both-requires-clause-children g c = λ child is.
     let q = c.args.query.now in (
       phase_goal_of_expr c.args.phase c.args.e,
       c.requires.goal,
-      (children_in_phase q (IsMember q) c.args.phase c.args.e child).1 (inl ((c.group_goals-groups.ensures child).0 is)),
+      (children_in_phase q (IsMember q) c.args.phase c.args.e child).1
+          (inl ((c.group_goals-groups.ensures child).0 is)),
     )
 
 pub returns-then-not-await_both-clause-works : goal.returns-then-not-await_both-clause-works
 returns-then-not-await_both-clause-works g c =
     let q = c.args.query.now in
-    runs_out q (c.words_are_known.ensures.children q) c.requires.at_work.has_job.board.small (phase_goal_of_expr c.args.phase c.args.e) c.args.board.now.key.room (hands c.args.seat.now) c.args.job.now.right
+    runs_out q (c.words_are_known.ensures.children q) c.requires.at_work.has_job.board.small
+    (phase_goal_of_expr c.args.phase c.args.e) c.args.board.now.key.room (hands c.args.seat.now)
+    c.args.job.now.right
     (hands c.await_both.new.seat) c.await_both.new.job.right c.requires.goal c.if-not-await_both.ensures.awaits
 
 pub await_rules-requires-clause-children : goal.await_rules-requires-clause-children
 await_rules-requires-clause-children g c = λ child is.
     let q = c.args.query.now in
-    subst (λ k. IsChildOf q k child) (sym c.if-not-await_both.ensures.awaits.proceeds.same_goal)
-    (phase_goal_of_expr c.args.phase c.args.e, c.requires.goal, (children_in_phase q (IsMember q) c.args.phase c.args.e child).1 (inr is))
+    subst (λ k. IsChildOf q k child) (sym c.if-not-await_both.ensures.awaits.proceeds.same_goal) (
+      phase_goal_of_expr c.args.phase c.args.e,
+      c.requires.goal,
+      (children_in_phase q (IsMember q) c.args.phase c.args.e child).1 (inr is),
+    )
 
 pub returns-then-not-await_rules-clause-works : goal.returns-then-not-await_rules-clause-works
 returns-then-not-await_rules-clause-works g c =
     let q = c.args.query.now in
     let b = c.args.board.now in
-    runs_out q (c.words_are_known.ensures.children q) c.requires.at_work.has_job.board.small (phase_goal_of_expr c.args.phase c.args.e) b.key.room (hands c.args.seat.now) c.args.job.now.right
+    runs_out q (c.words_are_known.ensures.children q) c.requires.at_work.has_job.board.small
+    (phase_goal_of_expr c.args.phase c.args.e) b.key.room (hands c.args.seat.now) c.args.job.now.right
     (hands c.await_rules.new.seat) c.await_rules.new.job.right c.requires.goal
-    (runs_out_after q b.key.room (hands c.args.seat.now) c.args.job.now.right (IsOneOf c.group_goals-groups.result) (hands c.await_both.new.seat) c.await_both.new.job.right (hands c.await_rules.new.seat)
+    (runs_out_after q b.key.room (hands c.args.seat.now) c.args.job.now.right (IsOneOf c.group_goals-groups.result)
+    (hands c.await_both.new.seat) c.await_both.new.job.right (hands c.await_rules.new.seat)
     c.await_rules.new.job.right c.if-not-await_both.ensures.awaits c.if-not-await_rules.ensures.awaits)
 
 pub returns-clause-works : goal.returns-clause-works
@@ -46,10 +54,15 @@ returns-clause-works g c =
     let e = c.args.e in
     let groups = IsOneOf c.group_goals-groups.result in
     let rules = IsRuleAt q phase e in
-    works_of_children q (c.words_are_known.ensures.children q) c.requires.at_work.has_job.board.small (phase_goal_of_expr phase e) (c.words_are_known.ensures.asked q) (asks_for_none q phase e) (chooses_none q phase e)
+    works_of_children q (c.words_are_known.ensures.children q) c.requires.at_work.has_job.board.small
+    (phase_goal_of_expr phase e) (c.words_are_known.ensures.asked q) (asks_for_none q phase e)
+    (chooses_none q phase e)
     (λ child. groups child ⊎ rules child)
-    (λ child is. ⊎_elim (λ of_group. inl ((c.group_goals-groups.ensures child).1 of_group)) (λ of_rule. inr of_rule) ((children_in_phase q (IsMember q) phase e child).0 is))
-    b.key.room (hands c.args.seat.now) c.args.job.now.right (hands c.await_rules.new.seat) c.await_rules.new.job.right c.progress.result c.requires.goal
-    (has_both q b.key.room (hands c.args.seat.now) c.args.job.now.right groups rules (hands c.await_both.new.seat) c.await_both.new.job.right (hands c.await_rules.new.seat) c.await_rules.new.job.right
+    (λ child is. ⊎_elim (λ of_group. inl ((c.group_goals-groups.ensures child).1 of_group)) (λ of_rule. inr of_rule)
+    ((children_in_phase q (IsMember q) phase e child).0 is))
+    b.key.room (hands c.args.seat.now) c.args.job.now.right (hands c.await_rules.new.seat) c.await_rules.new.job.right
+    c.progress.result c.requires.goal
+    (has_both q b.key.room (hands c.args.seat.now) c.args.job.now.right groups rules (hands c.await_both.new.seat)
+    c.await_both.new.job.right (hands c.await_rules.new.seat) c.await_rules.new.job.right
     c.if-not-await_both.ensures.awaits c.if-not-await_rules.ensures.awaits)
     c.progress.ensures

@@ -19,19 +19,30 @@ pub explore-requires-clause-goal : goal.explore-requires-clause-goal
 explore-requires-clause-goal g c κs within = sym c.requires.goal.number
 
 pub explore-requires-clause-can_next : goal.explore-requires-clause-can_next
-explore-requires-clause-can_next g c κs within = (c.goals_are_known.ensures.candidates c.args.query.now (Exp c.args.group) c.requires.goal.is_goal, c.requires.props)
+explore-requires-clause-can_next g c κs within =
+    (c.goals_are_known.ensures.candidates c.args.query.now (Exp c.args.group) c.requires.goal.is_goal, c.requires.props)
 
 pub explore-requires-clause-group : goal.explore-requires-clause-group
 explore-requires-clause-group g c κs within =
     let q = c.args.query.now in
     let group = c.args.group in
-    subst (λ (p : Query). IsExploration (meaning_of p) (origin_word q group) (IsLogicalWord q group) explored (goal_word (Exp group))) (sym c.requires.at_work.has_job.board.same_query)
-    (exploration_of q group (c.explorations_are_known.ensures q c.args.props.now c.requires.props group c.requires.goal.is_goal))
+    subst (λ (p : Query). IsExploration (meaning_of p) (origin_word q group) (IsLogicalWord q group) explored
+    (goal_word (Exp group))) (sym c.requires.at_work.has_job.board.same_query)
+    (exploration_of q group (c.explorations_are_known.ensures q c.args.props.now c.requires.props group
+    c.requires.goal.is_goal))
 
 pub explore-requires-clause-answer : goal.explore-requires-clause-answer
 explore-requires-clause-answer g c κs within =
-    subst (λ (p : Query). IsAnswerWord p (goal_word (Exp c.args.group)) 0 0) (sym c.requires.at_work.has_job.board.same_query)
-    (record { goal = Exp c.args.group; names = record { is_goal = c.requires.goal.is_goal; number = refl }; answer = no_choice; is_answer = refl; words = (refl, refl) })
+    subst (λ (p : Query). IsAnswerWord p (goal_word (Exp c.args.group)) 0 0)
+    (sym c.requires.at_work.has_job.board.same_query)
+    (record {
+      goal = Exp c.args.group;
+      names = record { is_goal = c.requires.goal.is_goal; number = refl };
+      answer =
+          no_choice;
+      is_answer = refl;
+      words = (refl, refl);
+    })
 
 pub returns-clause-works : goal.returns-clause-works
 returns-clause-works g c =
@@ -39,7 +50,11 @@ returns-clause-works g c =
     let b = c.args.board.now in
     let group = c.args.group in
     let right = c.args.job.now.right in
-    works_wider (meaning_of q) b.key.room (ExplorationAdds (meaning_of q) (origin_word q group) right.goal) (Adds q (Exp group)) (exploration_adds q group (c.words_are_known.ensures.children q) c.requires.at_work.has_job.board.small right.goal c.requires.goal)
+    works_wider (meaning_of q) b.key.room (ExplorationAdds (meaning_of q) (origin_word q group) right.goal)
+    (Adds q (Exp group)) (exploration_adds q group (c.words_are_known.ensures.children q)
+    c.requires.at_work.has_job.board.small right.goal c.requires.goal)
     (hands c.args.seat.now) right c.explore.result (hands c.explore.new.seat) c.explore.new.job.right
-    (subst (λ (p : Query). Works (meaning_of p) b.key.room (ExplorationAdds (meaning_of p) (origin_word q group) right.goal) (hands c.args.seat.now) right c.explore.result (hands c.explore.new.seat) c.explore.new.job.right) c.requires.at_work.has_job.board.same_query
+    (subst (λ (p : Query). Works (meaning_of p) b.key.room
+    (ExplorationAdds (meaning_of p) (origin_word q group) right.goal) (hands c.args.seat.now) right c.explore.result
+    (hands c.explore.new.seat) c.explore.new.job.right) c.requires.at_work.has_job.board.same_query
     c.explore.ensures.works)

@@ -21,17 +21,24 @@ await_goal-requires-clause-child g c = (Imp c.args.group, c.requires.goal, inl r
 pub returns-in-Full-clause-works : goal.returns-in-Full-clause-works
 returns-in-Full-clause-works g c =
     let q = c.args.query.now in
-    runs_out q (c.words_are_known.ensures.children q) c.requires.at_work.has_job.board.small (Imp c.args.group) c.args.board.now.key.room (hands c.args.seat.now) c.args.job.now.right (hands c.await_goal.new.seat) c.await_goal.new.job.right c.requires.goal
+    runs_out q (c.words_are_known.ensures.children q) c.requires.at_work.has_job.board.small (Imp c.args.group)
+    c.args.board.now.key.room (hands c.args.seat.now) c.args.job.now.right (hands c.await_goal.new.seat)
+    c.await_goal.new.job.right c.requires.goal
     c.in-Full.ensures.awaits
 
 pub returns-in-Waiting-clause-works : goal.returns-in-Waiting-clause-works
 returns-in-Waiting-clause-works g c =
     let q = c.args.query.now in
-    let waits = c.in-Waiting.ensures.awaits in
-    (goes_on q (c.words_are_known.ensures.children q) c.requires.at_work.has_job.board.small (Imp c.args.group) (hands c.args.seat.now) c.args.job.now.right (hands c.await_goal.new.seat) c.await_goal.new.job.right c.requires.goal waits.0, waits.1)
+    let waits = c.in-Waiting.ensures.awaits in (
+      goes_on q (c.words_are_known.ensures.children q) c.requires.at_work.has_job.board.small (Imp c.args.group)
+          (hands c.args.seat.now) c.args.job.now.right (hands c.await_goal.new.seat) c.await_goal.new.job.right
+          c.requires.goal waits.0,
+      waits.1,
+    )
 
 pub await_found-requires-clause-words : goal.await_found-requires-clause-words
-await_found-requires-clause-words g c κs within = (c.goals_are_known.ensures.candidates c.args.query.now (Imp c.args.group) c.requires.goal.is_goal, c.requires.props)
+await_found-requires-clause-words g c κs within =
+    (c.goals_are_known.ensures.candidates c.args.query.now (Imp c.args.group) c.requires.goal.is_goal, c.requires.props)
 
 pub await_found-requires-clause-some_word : goal.await_found-requires-clause-some_word
 await_found-requires-clause-some_word g c κs within = some_logical c.args.query.now c.args.group
@@ -40,19 +47,32 @@ pub await_found-requires-clause-children : goal.await_found-requires-clause-chil
 await_found-requires-clause-children g c κs within = λ word is.
     let q = c.args.query.now in
     let same = c.requires.at_work.has_job.board.same_query in
-    let named : NamesGoal q c.await_goal.new.job.right.goal (Imp c.args.group) = subst (λ k. NamesGoal q k (Imp c.args.group)) (sym c.in-Complete.ensures.awaits.0.same_goal) c.requires.goal in
+    let named : NamesGoal q c.await_goal.new.job.right.goal (Imp c.args.group) =
+    subst (λ k. NamesGoal q k (Imp c.args.group)) (sym c.in-Complete.ensures.awaits.0.same_goal) c.requires.goal in
     subst (λ (p : Query). IsChildWord p c.await_goal.new.job.right.goal (implemented word)) (sym same)
-    (implements_child q c.args.group (c.entries_are_known.ensures.members q) c.await_goal.new.job.right.goal named word is.0 (subst (λ (p : Query). IsEntry p word) same is.1))
+    (implements_child q c.args.group (c.entries_are_known.ensures.members q) c.await_goal.new.job.right.goal named word
+    is.0 (subst (λ (p : Query). IsEntry p word) same is.1))
 
 pub returns-in-Some-clause-works : goal.returns-in-Some-clause-works
 returns-in-Some-clause-works g c =
     let q = c.args.query.now in
     let b = c.args.board.now in
     let known = c.results_are_known.ensures in
-    implement_works q c.args.group (record { applies = known.applies q; group = known.group q; logical = known.logical q; explored = known.explored q }) (c.members_are_candidates.ensures q) (c.words_are_known.ensures.children q)
-    (c.words_are_known.ensures.asked q) c.requires.at_work.has_job.board.small b.key.room (hands c.args.seat.now) (hands c.await_goal.new.seat) (hands c.await_found.new.seat) c.args.job.now.right c.await_goal.new.job.right c.await_found.new.job.right c.in-Some.field-0 c.progress.result
+    implement_works q c.args.group (record {
+      applies = known.applies q;
+      group = known.group q;
+      logical =
+          known.logical q;
+      explored = known.explored q;
+    }) (c.members_are_candidates.ensures q)
+    (c.words_are_known.ensures.children q)
+    (c.words_are_known.ensures.asked q) c.requires.at_work.has_job.board.small b.key.room (hands c.args.seat.now)
+    (hands c.await_goal.new.seat) (hands c.await_found.new.seat) c.args.job.now.right c.await_goal.new.job.right
+    c.await_found.new.job.right c.in-Some.field-0 c.progress.result
     c.requires.goal c.in-Complete.ensures.awaits.0 c.in-Complete.ensures.awaits.2.finished
-    (subst (λ (p : Query). AwaitsAll (meaning_of p) b.key.room (hands c.await_goal.new.seat) (IsLogicalWord q c.args.group) implemented c.await_goal.new.job.right c.in-Some.field-0 (hands c.await_found.new.seat) c.await_found.new.job.right)
+    (subst (λ (p : Query). AwaitsAll (meaning_of p) b.key.room (hands c.await_goal.new.seat)
+    (IsLogicalWord q c.args.group) implemented c.await_goal.new.job.right c.in-Some.field-0
+    (hands c.await_found.new.seat) c.await_found.new.job.right)
     c.requires.at_work.has_job.board.same_query c.in-Some.ensures.awaits)
     c.progress.ensures
 
@@ -60,8 +80,15 @@ pub returns-in-None-clause-works : goal.returns-in-None-clause-works
 returns-in-None-clause-works g c =
     let q = c.args.query.now in
     let b = c.args.board.now in
-    let here = subst (λ (p : Query). RunsOut (IsChildWord p c.await_goal.new.job.right.goal) (hands c.await_goal.new.seat) c.await_goal.new.job.right b.key.room (hands c.await_found.new.seat) c.await_found.new.job.right) c.requires.at_work.has_job.board.same_query c.in-None.ensures.awaits in
+    let here = subst (λ (p : Query). RunsOut (IsChildWord p c.await_goal.new.job.right.goal)
+    (hands c.await_goal.new.seat) c.await_goal.new.job.right b.key.room (hands c.await_found.new.seat)
+    c.await_found.new.job.right) c.requires.at_work.has_job.board.same_query c.in-None.ensures.awaits in
     let first = c.in-Complete.ensures.awaits.0 in
-    runs_out q (c.words_are_known.ensures.children q) c.requires.at_work.has_job.board.small (Imp c.args.group) b.key.room (hands c.args.seat.now) c.args.job.now.right (hands c.await_found.new.seat) c.await_found.new.job.right c.requires.goal
-    (runs_out_then (IsChildWord q c.args.job.now.right.goal) b.key.room (hands c.args.seat.now) c.args.job.now.right (hands c.await_goal.new.seat) c.await_goal.new.job.right (hands c.await_found.new.seat) c.await_found.new.job.right first
-    (subst (λ k. RunsOut (IsChildWord q k) (hands c.await_goal.new.seat) c.await_goal.new.job.right b.key.room (hands c.await_found.new.seat) c.await_found.new.job.right) first.same_goal here))
+    runs_out q (c.words_are_known.ensures.children q) c.requires.at_work.has_job.board.small (Imp c.args.group)
+    b.key.room (hands c.args.seat.now) c.args.job.now.right (hands c.await_found.new.seat)
+    c.await_found.new.job.right c.requires.goal
+    (runs_out_then (IsChildWord q c.args.job.now.right.goal) b.key.room (hands c.args.seat.now) c.args.job.now.right
+    (hands c.await_goal.new.seat) c.await_goal.new.job.right (hands c.await_found.new.seat)
+    c.await_found.new.job.right first
+    (subst (λ k. RunsOut (IsChildWord q k) (hands c.await_goal.new.seat) c.await_goal.new.job.right b.key.room
+    (hands c.await_found.new.seat) c.await_found.new.job.right) first.same_goal here))

@@ -12,22 +12,31 @@ use Rattle.job_turns.proofs.GroupLemmas.{exploration_of}
 use Rattle.job_turns.proofs.groups.settled.Goals as goal
 
 pub settle-requires-clause-can_next : goal.settle-requires-clause-can_next
-settle-requires-clause-can_next c κs = (c.goals_are_known.ensures.candidates c.args.query.now (Exp c.args.group) c.requires.goal, c.requires.props)
+settle-requires-clause-can_next c κs = (
+  c.goals_are_known.ensures.candidates c.args.query.now (Exp c.args.group)
+      c.requires.goal,
+  c.requires.props,
+)
 
 pub settle-requires-clause-group : goal.settle-requires-clause-group
 settle-requires-clause-group c κs =
     let q = c.args.query.now in
     let group = c.args.group in
-    subst (λ (p : Query). IsExploration (meaning_of p) (origin_word q group) (IsLogicalWord q group) explored (goal_word (Exp group))) (sym c.requires.board.same_query)
-    (exploration_of q group (c.explorations_are_known.ensures q c.args.props.now c.requires.props group c.requires.goal))
+    subst (λ (p : Query). IsExploration (meaning_of p) (origin_word q group) (IsLogicalWord q group) explored
+    (goal_word (Exp group))) (sym c.requires.board.same_query)
+    (exploration_of q group (c.explorations_are_known.ensures q c.args.props.now c.requires.props group
+    c.requires.goal))
 
 pub settle-requires-clause-origin : goal.settle-requires-clause-origin
 settle-requires-clause-origin c κs =
     let q = c.args.query.now in
-    subst (λ (p : Query). ShowsEntry (meaning_of p) c.args.board.now.key.room (hands c.args.seat.now).looks (origin_word q c.args.group)) (sym c.requires.board.same_query) c.requires.origin
+    subst (λ (p : Query). ShowsEntry (meaning_of p) c.args.board.now.key.room (hands c.args.seat.now).looks
+    (origin_word q c.args.group)) (sym c.requires.board.same_query) c.requires.origin
 
 pub returns-clause-settles : goal.returns-clause-settles
 returns-clause-settles c =
     let q = c.args.query.now in
-    subst (λ (p : Query). Settles (meaning_of p) c.args.board.now.key.room (IsLogicalWord q c.args.group) explored (hands c.args.seat.now) (goal_word (Exp c.args.group)) c.settle.result (hands c.settle.new.seat)) c.requires.board.same_query
+    subst (λ (p : Query). Settles (meaning_of p) c.args.board.now.key.room (IsLogicalWord q c.args.group) explored
+    (hands c.args.seat.now) (goal_word (Exp c.args.group)) c.settle.result (hands c.settle.new.seat))
+    c.requires.board.same_query
     c.settle.ensures.settles

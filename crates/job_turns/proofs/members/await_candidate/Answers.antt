@@ -14,10 +14,14 @@ use Rattle.job_turns.proofs.Serving.{best_without, best_with}
 use Rattle.job_turns.proofs.members.await_candidate.Goals as goal
 
 pub goal_here-requires-clause-numbered : goal.goal_here-requires-clause-numbered
-goal_here-requires-clause-numbered g c = (c.goals_are_known.ensures.requests c.args.query.now (Opt c.args.candidate.expr.group c.args.wanted) c.requires.goal.is_goal).numbered
+goal_here-requires-clause-numbered g c =
+    (c.goals_are_known.ensures.requests c.args.query.now (Opt c.args.candidate.expr.group c.args.wanted)
+    c.requires.goal.is_goal).numbered
 
 pub goal_here-requires-clause-in_range : goal.goal_here-requires-clause-in_range
-goal_here-requires-clause-in_range g c = (c.goals_are_known.ensures.words c.args.query.now c.requires.props.few_lists c.requires.props.few_orders (Opt c.args.candidate.expr.group c.args.wanted) c.requires.goal.is_goal).1
+goal_here-requires-clause-in_range g c =
+    (c.goals_are_known.ensures.words c.args.query.now c.requires.props.few_lists c.requires.props.few_orders
+    (Opt c.args.candidate.expr.group c.args.wanted) c.requires.goal.is_goal).1
 
 pub await_choice-requires-clause-word : goal.await_choice-requires-clause-word
 await_choice-requires-clause-word g c = c.in-Some.ensures.goal.1
@@ -25,7 +29,8 @@ await_choice-requires-clause-word g c = c.in-Some.ensures.goal.1
 pub returns-in-None-clause-at_work : goal.returns-in-None-clause-at_work
 returns-in-None-clause-at_work g c =
     record {
-      has_job = job_looked c.args.query.now c.args.board.now c.args.seat.now c.goal_here.new.seat c.args.job.now c.goal_here.ensures.seat c.requires.at_work.has_job c.goal_here.ensures.looks;
+      has_job = job_looked c.args.query.now c.args.board.now c.args.seat.now c.goal_here.new.seat c.args.job.now
+          c.goal_here.ensures.seat c.requires.at_work.has_job c.goal_here.ensures.looks;
       hints = c.requires.at_work.hints;
     }
 
@@ -37,14 +42,17 @@ returns-in-None-clause-chooses g c =
     let room = c.args.board.now.key.room in
     let v = hands c.args.seat.now in
     let none : CanServe (IsMember q) q e.group wanted e → ⊥ = c.in-None.ensures.goal in
-    finds_looked q room v c.args.job.now.right (IsGoalOfMember q e wanted) (IsBestOfMember q e wanted) (Known None) v c.args.job.now.right (hands c.goal_here.new.seat)
-    (finds_none q room v c.args.job.now.right (IsGoalOfMember q e wanted) (IsBestOfMember q e wanted) (λ child is. none is.0) None (best_without q e.group wanted (c.answers_are_best.ensures.none q) e none))
+    finds_looked q room v c.args.job.now.right (IsGoalOfMember q e wanted) (IsBestOfMember q e wanted) (Known None) v
+    c.args.job.now.right (hands c.goal_here.new.seat)
+    (finds_none q room v c.args.job.now.right (IsGoalOfMember q e wanted) (IsBestOfMember q e wanted)
+    (λ child is. none is.0) None (best_without q e.group wanted (c.answers_are_best.ensures.none q) e none))
     c.goal_here.ensures.looks
 
 pub await_choice-requires-clause-at_work : goal.await_choice-requires-clause-at_work
 await_choice-requires-clause-at_work g c =
     record {
-      has_job = job_looked c.args.query.now c.args.board.now c.args.seat.now c.goal_here.new.seat c.args.job.now c.goal_here.ensures.seat c.requires.at_work.has_job c.goal_here.ensures.looks;
+      has_job = job_looked c.args.query.now c.args.board.now c.args.seat.now c.goal_here.new.seat c.args.job.now
+          c.goal_here.ensures.seat c.requires.at_work.has_job c.goal_here.ensures.looks;
       hints = c.requires.at_work.hints;
     }
 
@@ -63,6 +71,8 @@ returns-in-Some-clause-chooses g c =
     let before = c.args.job.now.right in
     let w = hands c.await_choice.new.seat in
     let after = c.await_choice.new.job.right in
-    looks_choose q room v before (IsGoalOfMember q e wanted) (IsBestOfMember q e wanted) (hands c.goal_here.new.seat) c.goal_here.ensures.looks c.await_choice.result w after
-    (chooses_others q room (hands c.goal_here.new.seat) before (λ (child : GoalKind). child ≡ OptE e wanted) (IsGoalOfMember q e wanted) (IsAnswerTo q (OptE e wanted)) (IsBestOfMember q e wanted)
+    looks_choose q room v before (IsGoalOfMember q e wanted) (IsBestOfMember q e wanted) (hands c.goal_here.new.seat)
+    c.goal_here.ensures.looks c.await_choice.result w after
+    (chooses_others q room (hands c.goal_here.new.seat) before (λ (child : GoalKind). child ≡ OptE e wanted)
+    (IsGoalOfMember q e wanted) (IsAnswerTo q (OptE e wanted)) (IsBestOfMember q e wanted)
     (λ child is. is.1) (best_with q e.group wanted e) c.await_choice.result w after c.await_choice.ensures.chooses)

@@ -14,11 +14,13 @@ use Rattle.job_turns.specs.Choices.{FindsChoice}
 use Rattle.job_turns.specs.Requests.{IsImplemented, IsMemberGoal, IsBestOfMembers}
 use Rattle.job_turns.specs.declared.choice.Choice.{Choice}
 use Rattle.job_turns.proofs.Finding.{finds_none, finds_others, chooses_none}
-use Rattle.job_turns.proofs.Serving.{IsMemberGoalAmong, IsBestAmong, member_goal_none, best_none, of_candidate, candidate_here, finds_more, member_goal_all, best_all}
+use Rattle.job_turns.proofs.Serving.{IsMemberGoalAmong, IsBestAmong, member_goal_none, best_none, of_candidate}
+use Rattle.job_turns.proofs.Serving.{candidate_here, finds_more, member_goal_all, best_all}
 use Rattle.job_turns.proofs.members.best_member.Goals as goal
 
 pub physical_of-candidates-requires-clause-group : goal.physical_of-candidates-requires-clause-group
-physical_of-candidates-requires-clause-group g c = c.goals_are_known.ensures.candidates c.args.query.now (Opt c.args.group c.args.wanted) c.requires.goal.is_goal
+physical_of-candidates-requires-clause-group g c =
+    c.goals_are_known.ensures.candidates c.args.query.now (Opt c.args.group c.args.wanted) c.requires.goal.is_goal
 
 pub loop-candidate-init : goal.loop-candidate-init
 loop-candidate-init g c =
@@ -27,30 +29,38 @@ loop-candidate-init g c =
     let wanted = c.args.wanted in
     record {
       at_work = c.requires.at_work;
-      found = finds_none q c.args.board.now.key.room (hands c.args.seat.now) c.args.job.now.right (IsMemberGoalAmong q group wanted []) (IsBestAmong q group wanted []) (member_goal_none q group wanted)
+      found = finds_none q c.args.board.now.key.room (hands c.args.seat.now) c.args.job.now.right
+          (IsMemberGoalAmong q group wanted []) (IsBestAmong q group wanted []) (member_goal_none q group wanted)
           None (best_none q group wanted (c.answers_are_best.ensures.none q));
     }
 
 pub await_candidate-requires-clause-candidate : goal.await_candidate-requires-clause-candidate
 await_candidate-requires-clause-candidate g c =
-    candidate_here c.args.query.now c.args.group c.args.wanted c.physical_of-candidates.result.now c.physical_of-candidates.ensures c.loop-candidate.candidate-index _ c.loop-candidate-test.true
+    candidate_here c.args.query.now c.args.group c.args.wanted c.physical_of-candidates.result.now
+    c.physical_of-candidates.ensures c.loop-candidate.candidate-index _ c.loop-candidate-test.true
 
 pub await_candidate-requires-clause-goal : goal.await_candidate-requires-clause-goal
 await_candidate-requires-clause-goal g c =
     let q = c.args.query.now in
-    of_candidate q c.args.group c.args.wanted c.physical_of-candidates.result.now c.physical_of-candidates.ensures c.loop-candidate.candidate-index _ c.loop-candidate-test.true
+    of_candidate q c.args.group c.args.wanted c.physical_of-candidates.result.now c.physical_of-candidates.ensures
+    c.loop-candidate.candidate-index _ c.loop-candidate-test.true
     (λ (x : KeyParts). NamesGoal q c.loop-candidate.job.right.goal (Opt x c.args.wanted))
-    (subst (λ (word : ℕ). NamesGoal q word (Opt c.args.group c.args.wanted)) (sym c.loop-candidate.invariant.found.awaited.proceeds.same_goal) c.requires.goal)
+    (subst (λ (word : ℕ). NamesGoal q word (Opt c.args.group c.args.wanted))
+    (sym c.loop-candidate.invariant.found.awaited.proceeds.same_goal) c.requires.goal)
 
 pub await_candidate-requires-clause-implemented : goal.await_candidate-requires-clause-implemented
 await_candidate-requires-clause-implemented g c =
     let q = c.args.query.now in
     let room = c.args.board.now.key.room in
     let looks = (hands c.loop-candidate.seat).looks in
-    of_candidate q c.args.group c.args.wanted c.physical_of-candidates.result.now c.physical_of-candidates.ensures c.loop-candidate.candidate-index _ c.loop-candidate-test.true (IsImplemented q room looks) (record {
+    of_candidate q c.args.group c.args.wanted c.physical_of-candidates.result.now c.physical_of-candidates.ensures
+    c.loop-candidate.candidate-index _ c.loop-candidate-test.true (IsImplemented q room looks) (record {
       is_goal = c.requires.implemented.is_goal;
       finished = still_finished (meaning_of q) room (hands c.args.seat.now).looks looks
-          (later_proceeded (IsChildWord q c.args.job.now.right.goal) (hands c.args.seat.now) c.args.job.now.right (hands c.loop-candidate.seat) c.loop-candidate.job.right c.loop-candidate.invariant.found.awaited.proceeds) (goal_word (Imp c.args.group)) c.requires.implemented.finished;
+          (later_proceeded (IsChildWord q c.args.job.now.right.goal) (hands c.args.seat.now) c.args.job.now.right
+          (hands c.loop-candidate.seat) c.loop-candidate.job.right
+          c.loop-candidate.invariant.found.awaited.proceeds) (goal_word (Imp c.args.group))
+          c.requires.implemented.finished;
     })
 
 pub returns-in_err-other-clause-chooses : goal.returns-in_err-other-clause-chooses
@@ -58,8 +68,11 @@ returns-in_err-other-clause-chooses g c =
     let q = c.args.query.now in
     let tried = take c.loop-candidate.candidate-index c.physical_of-candidates.result.now in
     rw c.from_residual.ensures
-    (chooses_none q c.args.board.now.key.room (hands c.args.seat.now) c.args.job.now.right (IsMemberGoalAmong q c.args.group c.args.wanted tried) (IsBestAmong q c.args.group c.args.wanted tried) c.loop-candidate.choice
-    (hands c.loop-candidate.seat) c.loop-candidate.job.right (hands c.await_candidate.new.seat) c.await_candidate.new.job.right c.loop-candidate.invariant.found c.in_err-other.ensures.chooses)
+    (chooses_none q c.args.board.now.key.room (hands c.args.seat.now) c.args.job.now.right
+    (IsMemberGoalAmong q c.args.group c.args.wanted tried) (IsBestAmong q c.args.group c.args.wanted tried)
+    c.loop-candidate.choice
+    (hands c.loop-candidate.seat) c.loop-candidate.job.right (hands c.await_candidate.new.seat)
+    c.await_candidate.new.job.right c.loop-candidate.invariant.found c.in_err-other.ensures.chooses)
 
 pub loop-candidate-preserved : goal.loop-candidate-preserved
 loop-candidate-preserved g c =
@@ -76,9 +89,14 @@ loop-candidate-preserved g c =
     let fits = c.goals_are_known.ensures.requests q (Opt group wanted) c.requires.goal.is_goal in
     record {
       at_work = c.await_candidate.ensures.at_work;
-      found = subst (λ (choice : Choice). FindsChoice q room v start (IsMemberGoalAmong q group wanted (take (i + 1) candidates)) (IsBestAmong q group wanted (take (i + 1) candidates)) choice w after) (sym c.or-choice.ensures)
-          (finds_more q group wanted candidates c.physical_of-candidates.ensures i _ c.loop-candidate-test.true room v start (c.answers_are_best.ensures.lesser q) c.args.props.now c.requires.props fits c.loop-candidate.choice c.in_ok-other.other
-          (hands c.loop-candidate.seat) c.loop-candidate.job.right w after c.loop-candidate.invariant.found c.in_ok-other.ensures.chooses);
+      found = subst (λ (choice : Choice). FindsChoice q room v start
+          (IsMemberGoalAmong q group wanted (take (i + 1) candidates))
+          (IsBestAmong q group wanted (take (i + 1) candidates)) choice w after) (sym c.or-choice.ensures)
+          (finds_more q group wanted candidates c.physical_of-candidates.ensures i _ c.loop-candidate-test.true room v
+          start (c.answers_are_best.ensures.lesser q) c.args.props.now c.requires.props fits c.loop-candidate.choice
+          c.in_ok-other.other
+          (hands c.loop-candidate.seat) c.loop-candidate.job.right w after c.loop-candidate.invariant.found
+          c.in_ok-other.ensures.chooses);
     }
 
 pub returns-clause-chooses : goal.returns-clause-chooses
@@ -93,8 +111,13 @@ returns-clause-chooses g c =
     let tried = take c.loop-candidate.candidate-index candidates in
     let w = hands c.loop-candidate.seat in
     let after = c.loop-candidate.job.right in
-    let found = subst (λ (list : List PhysicalCandidate). FindsChoice q room v start (IsMemberGoalAmong q group wanted list) (IsBestAmong q group wanted list) c.loop-candidate.choice w after)
-    (take_all c.loop-candidate.candidate-index candidates c.loop-candidate-test.false) c.loop-candidate.invariant.found in
-    finds_others q room v start (IsMemberGoalAmong q group wanted candidates) (IsMemberGoal q group wanted) (IsBestAmong q group wanted candidates) (IsBestOfMembers q group wanted)
-    (member_goal_all q group wanted (c.members_are_candidates.ensures q) candidates c.physical_of-candidates.ensures) (best_all q group wanted (c.members_are_candidates.ensures q) candidates c.physical_of-candidates.ensures)
+    let found = subst (λ (list : List PhysicalCandidate).
+    FindsChoice q room v start (IsMemberGoalAmong q group wanted list) (IsBestAmong q group wanted list)
+    c.loop-candidate.choice w after)
+    (take_all c.loop-candidate.candidate-index candidates c.loop-candidate-test.false)
+    c.loop-candidate.invariant.found in
+    finds_others q room v start (IsMemberGoalAmong q group wanted candidates) (IsMemberGoal q group wanted)
+    (IsBestAmong q group wanted candidates) (IsBestOfMembers q group wanted)
+    (member_goal_all q group wanted (c.members_are_candidates.ensures q) candidates c.physical_of-candidates.ensures)
+    (best_all q group wanted (c.members_are_candidates.ensures q) candidates c.physical_of-candidates.ensures)
     c.loop-candidate.choice w after found

@@ -19,7 +19,8 @@ use Rattle.job_turns.proofs.members.goal_here.Goals as goal
 pub member_goal-requires-clause-expr : goal.member_goal-requires-clause-expr
 member_goal-requires-clause-expr c =
     let candidate = c.requires.candidate in
-    let small = c.expressions_are_one.ensures.small (expr_of c.args.candidate.expr) (c.candidates_are_known.ensures.packed c.args.query.now (expr_of c.args.candidate.expr) candidate.candidate) in
+    let small = c.expressions_are_one.ensures.small (expr_of c.args.candidate.expr)
+    (c.candidates_are_known.ensures.packed c.args.query.now (expr_of c.args.candidate.expr) candidate.candidate) in
     subst FitsExpr candidate.number small
 
 -- one that can't serve isn't looked for
@@ -27,10 +28,12 @@ pub returns-then-not-may_serve-clause-looks : goal.returns-then-not-may_serve-cl
 returns-then-not-may_serve-clause-looks c = looks_none (hands c.args.seat.now)
 
 pub returns-then-not-may_serve-clause-goal : goal.returns-then-not-may_serve-clause-goal
-returns-then-not-may_serve-clause-goal c = λ can. false≢true (sym c.if-not-may_serve.true ∙ c.may_serve.ensures.1 (can.mode, can.serves))
+returns-then-not-may_serve-clause-goal c =
+    λ can. false≢true (sym c.if-not-may_serve.true ∙ c.may_serve.ensures.1 (can.mode, can.serves))
 
 pub returns-then-holds-clause-looks : goal.returns-then-holds-clause-looks
-returns-then-holds-clause-looks c = only_looks_held c.args.board.now.key.room (hands c.args.seat.now) c.args.candidate.word c.holds.result (hands c.holds.new.seat) c.holds.ensures.answer
+returns-then-holds-clause-looks c = only_looks_held c.args.board.now.key.room (hands c.args.seat.now)
+    c.args.candidate.word c.holds.result (hands c.holds.new.seat) c.holds.ensures.answer
 
 pub returns-then-holds-clause-goal : goal.returns-then-holds-clause-goal
 returns-then-holds-clause-goal c =
@@ -41,11 +44,15 @@ returns-then-holds-clause-goal c =
     let e = c.args.candidate.expr in
     let some_word : word ≢ 0 = let some = word_some (expr_of e) in omega arith in
     let serves = c.may_serve.ensures.0 c.if-not-may_serve.false in
-    let at = held_at b.key.room v word (hands c.holds.new.seat) (subst (λ (found : Bool). FindsWhether b.key.room v word found (hands c.holds.new.seat)) c.if-holds.true c.holds.ensures.answer) in
-    let enters = found_enters b.key.room rules_mean b.key.rules v word at.0 (hands c.holds.new.seat) c.holds.ensures.seat.over some_word at.1 in
+    let at = held_at b.key.room v word (hands c.holds.new.seat)
+    (subst (λ (found : Bool). FindsWhether b.key.room v word found (hands c.holds.new.seat)) c.if-holds.true
+    c.holds.ensures.answer) in
+    let enters = found_enters b.key.room rules_mean b.key.rules v word at.0 (hands c.holds.new.seat)
+    c.holds.ensures.seat.over some_word at.1 in
     let entry : IsEntry q word = subst (λ (x : Query). IsEntry x word) c.requires.board.same_query enters in (
       record {
-        member = c.entries_are_known.ensures.members q (expr_of e) c.requires.candidate.candidate (subst (IsEntry q) (sym c.requires.candidate.number) entry);
+        member = c.entries_are_known.ensures.members q (expr_of e) c.requires.candidate.candidate
+            (subst (IsEntry q) (sym c.requires.candidate.number) entry);
         of_group = refl;
         mode = serves.0;
         serves = serves.1;
@@ -54,7 +61,8 @@ returns-then-holds-clause-goal c =
     )
 
 pub returns-else-holds-clause-looks : goal.returns-else-holds-clause-looks
-returns-else-holds-clause-looks c = only_looks_held c.args.board.now.key.room (hands c.args.seat.now) c.args.candidate.word c.holds.result (hands c.holds.new.seat) c.holds.ensures.answer
+returns-else-holds-clause-looks c = only_looks_held c.args.board.now.key.room (hands c.args.seat.now)
+    c.args.candidate.word c.holds.result (hands c.holds.new.seat) c.holds.ensures.answer
 
 pub returns-else-holds-clause-goal : goal.returns-else-holds-clause-goal
 returns-else-holds-clause-goal c =
@@ -63,5 +71,7 @@ returns-else-holds-clause-goal c =
     let v = hands c.args.seat.now in
     let e = c.args.candidate.expr in
     λ can. false≢true (sym c.if-holds.false ∙ c.holds.ensures.shown
-    (subst (λ (x : Query). ShowsEntry (meaning_of x) b.key.room v.looks c.args.candidate.word) (sym c.requires.board.same_query)
-    (member_shown q b.key.room v.looks e c.requires.implemented can.member c.args.candidate.word c.requires.candidate.number)))
+    (subst (λ (x : Query). ShowsEntry (meaning_of x) b.key.room v.looks c.args.candidate.word)
+    (sym c.requires.board.same_query)
+    (member_shown q b.key.room v.looks e c.requires.implemented can.member c.args.candidate.word
+    c.requires.candidate.number)))

@@ -15,25 +15,29 @@ use Rattle.job_turns.proofs.modes.await_asked.Goals as goal
 
 pub group-requires : goal.group-requires
 group-requires g c =
-    let asked = subst (IsAskedByChild c.args.query.now c.args.job.now.right.goal) c.in-Some.is c.requires.asked in (asked.0, asked.1)
+    let asked = subst (IsAskedByChild c.args.query.now c.args.job.now.right.goal) c.in-Some.is c.requires.asked in
+    (asked.0, asked.1)
 
 pub await_choice-requires-clause-child : goal.await_choice-requires-clause-child
 await_choice-requires-clause-child g c =
     let asked = subst (IsAskedByChild c.args.query.now c.args.job.now.right.goal) c.in-Some.is c.requires.asked in
-    child_of_key c.args.query.now c.in-Some.key c.in-Some.wanted c.group.result c.group.ensures.only c.args.job.now.right.goal asked
+    child_of_key c.args.query.now c.in-Some.key c.in-Some.wanted c.group.result c.group.ensures.only
+    c.args.job.now.right.goal asked
 
 pub group_goal-word-requires-clause-key : goal.group_goal-word-requires-clause-key
 group_goal-word-requires-clause-key g c =
     let asked = subst (IsAskedByChild c.args.query.now c.args.job.now.right.goal) c.in-Some.is c.requires.asked in
     let number = asked.1.number in
-    let small = c.groups_are_known.ensures.small asked.0 (c.groups_are_known.ensures.in_range c.args.query.now asked.0 asked.1.known) in
+    let small = c.groups_are_known.ensures.small asked.0
+    (c.groups_are_known.ensures.in_range c.args.query.now asked.0 asked.1.known) in
     omega (arith, number, small)
 
 pub group_goal-word-requires-clause-wanted : goal.group_goal-word-requires-clause-wanted
 group_goal-word-requires-clause-wanted g c =
     let asked = subst (IsAskedByChild c.args.query.now c.args.job.now.right.goal) c.in-Some.is c.requires.asked in
     let child = asked.2 in
-    (c.words_are_known.ensures.words c.args.query.now c.requires.at_work.has_job.board.small child.0 (Opt asked.0 c.in-Some.wanted) c.args.job.now.right.goal child.1 child.2).1.1
+    (c.words_are_known.ensures.words c.args.query.now c.requires.at_work.has_job.board.small child.0
+    (Opt asked.0 c.in-Some.wanted) c.args.job.now.right.goal child.1 child.2).1.1
 
 pub await_choice-requires-clause-word : goal.await_choice-requires-clause-word
 await_choice-requires-clause-word g c =
@@ -47,14 +51,22 @@ returns-in-Some-clause-chooses g c =
     let key = c.in-Some.key in
     let wanted = c.in-Some.wanted in
     let group = c.group.result in
-    subst (λ (asked : Option (Key × Request)). Chooses q b.key.room (hands c.args.seat.now) c.args.job.now.right (IsGoalAsked q asked) (IsBestAsked q asked) c.await_choice.result (hands c.await_choice.new.seat) c.await_choice.new.job.right) (sym c.in-Some.is)
-    (chooses_others q b.key.room (hands c.args.seat.now) c.args.job.now.right (λ goal. goal ≡ Opt group wanted) (IsGoalAsked q (Some (key, wanted))) (IsAnswerTo q (Opt group wanted)) (IsBestAsked q (Some (key, wanted)))
-    (goal_of_key q key wanted group c.group.ensures.only) (best_of_key q key wanted group c.group.ensures.only) c.await_choice.result (hands c.await_choice.new.seat) c.await_choice.new.job.right c.await_choice.ensures.chooses)
+    subst (λ (asked : Option (Key × Request)).
+    Chooses q b.key.room (hands c.args.seat.now) c.args.job.now.right (IsGoalAsked q asked) (IsBestAsked q asked)
+    c.await_choice.result (hands c.await_choice.new.seat) c.await_choice.new.job.right) (sym c.in-Some.is)
+    (chooses_others q b.key.room (hands c.args.seat.now) c.args.job.now.right (λ goal. goal ≡ Opt group wanted)
+    (IsGoalAsked q (Some (key, wanted))) (IsAnswerTo q (Opt group wanted)) (IsBestAsked q (Some (key, wanted)))
+    (goal_of_key q key wanted group c.group.ensures.only) (best_of_key q key wanted group c.group.ensures.only)
+    c.await_choice.result (hands c.await_choice.new.seat) c.await_choice.new.job.right
+    c.await_choice.ensures.chooses)
 
 pub returns-in-None-clause-chooses : goal.returns-in-None-clause-chooses
 returns-in-None-clause-chooses g c =
     let q = c.args.query.now in
     let b = c.args.board.now in
     let none : Option (Key × Request) = None in
-    subst (λ (asked : Option (Key × Request)). Chooses q b.key.room (hands c.args.seat.now) c.args.job.now.right (IsGoalAsked q asked) (IsBestAsked q asked) (Some (Known None)) (hands c.args.seat.now) c.args.job.now.right) (sym c.in-None.is)
-    (finds_none q b.key.room (hands c.args.seat.now) c.args.job.now.right (IsGoalAsked q none) (IsBestAsked q none) (λ child is. is.2) None tt)
+    subst (λ (asked : Option (Key × Request)).
+    Chooses q b.key.room (hands c.args.seat.now) c.args.job.now.right (IsGoalAsked q asked) (IsBestAsked q asked)
+    (Some (Known None)) (hands c.args.seat.now) c.args.job.now.right) (sym c.in-None.is)
+    (finds_none q b.key.room (hands c.args.seat.now) c.args.job.now.right (IsGoalAsked q none) (IsBestAsked q none)
+    (λ child is. is.2) None tt)

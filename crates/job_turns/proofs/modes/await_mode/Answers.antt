@@ -3,4 +3,5 @@ use Rattle.query_core.specs.Expressions.{expr_of}
 use Rattle.job_turns.proofs.modes.await_mode.Goals as goal
 
 pub alternative_at-alt-requires-clause-candidate : goal.alternative_at-alt-requires-clause-candidate
-alternative_at-alt-requires-clause-candidate g c = c.members_are_candidates.ensures c.args.query.now (expr_of c.args.native.expr) c.requires.native.member
+alternative_at-alt-requires-clause-candidate g c =
+    c.members_are_candidates.ensures c.args.query.now (expr_of c.args.native.expr) c.requires.native.member

@@ -12,8 +12,12 @@ pub unreachable-requires : goal.unreachable-requires
 unreachable-requires c =
     let q = c.args.query.now in
     let word = c.args.job.now.right.goal in
-    let named = held_goal q (c.members_are_known.ensures.small q) word (subst (λ (p : Query). IsEntry p word) c.requires.board c.requires.right.enters) (leb-true goal_bit word c.requires.right.is_goal) in
-    let told = kind_is q (c.goals_are_known.ensures.words q) (record { few_lists = c.requires.props.few_lists; few_orders = c.requires.props.few_orders }) word named c.of.result
+    let named = held_goal q (c.members_are_known.ensures.small q) word
+    (subst (λ (p : Query). IsEntry p word) c.requires.board c.requires.right.enters)
+    (leb-true goal_bit word c.requires.right.is_goal) in
+    let told = kind_is q (c.goals_are_known.ensures.words q)
+    (record { few_lists = c.requires.props.few_lists; few_orders = c.requires.props.few_orders }) word named
+    c.of.result
     (λ k. subst (λ (w : ℕ). HasWord k w ↔ (c.of.result ≡ Some k)) c.goal.ensures (c.of.ensures.exact k)) in
     not_both c.of.result told.0 c.in-None.is told.2
 
@@ -21,6 +25,11 @@ pub returns : goal.returns
 returns c =
     let q = c.args.query.now in
     let word = c.args.job.now.right.goal in
-    let named = held_goal q (c.members_are_known.ensures.small q) word (subst (λ (p : Query). IsEntry p word) c.requires.board c.requires.right.enters) (leb-true goal_bit word c.requires.right.is_goal) in
-    names_told q word c.of.result c.in-Some.goal c.in-Some.is (kind_is q (c.goals_are_known.ensures.words q) (record { few_lists = c.requires.props.few_lists; few_orders = c.requires.props.few_orders }) word named c.of.result
+    let named = held_goal q (c.members_are_known.ensures.small q) word
+    (subst (λ (p : Query). IsEntry p word) c.requires.board c.requires.right.enters)
+    (leb-true goal_bit word c.requires.right.is_goal) in
+    names_told q word c.of.result c.in-Some.goal c.in-Some.is
+    (kind_is q (c.goals_are_known.ensures.words q)
+    (record { few_lists = c.requires.props.few_lists; few_orders = c.requires.props.few_orders }) word named
+    c.of.result
     (λ k. subst (λ (w : ℕ). HasWord k w ↔ (c.of.result ≡ Some k)) c.goal.ensures (c.of.ensures.exact k)))

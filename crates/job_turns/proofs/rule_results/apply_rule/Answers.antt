@@ -12,10 +12,12 @@ pub bind_members-requires-clause-left : goal.bind_members-requires-clause-left
 bind_members-requires-clause-left g c = (c.left_group.ensures c.in-Some.left).0 c.in-Some.is
 
 pub put_results-requires-clause-e : goal.put_results-requires-clause-e
-put_results-requires-clause-e g c = c.goals_are_known.ensures.candidates c.args.query.now (Xf c.args.e c.args.rule) c.requires.goal.is_goal
+put_results-requires-clause-e g c = c.goals_are_known.ensures.candidates c.args.query.now (Xf c.args.e c.args.rule)
+    c.requires.goal.is_goal
 
 pub put_results-requires-clause-asked : goal.put_results-requires-clause-asked
-put_results-requires-clause-asked g c = λ x (n, (found, has, brought)). (Xf c.args.e c.args.rule, c.requires.goal, (found, inl (n, has), brought))
+put_results-requires-clause-asked g c = λ x (n, (found, has, brought)).
+    (Xf c.args.e c.args.rule, c.requires.goal, (found, inl (n, has), brought))
 
 pub returns-then-put_results-clause-works : goal.returns-then-put_results-clause-works
 returns-then-put_results-clause-works g c =
@@ -23,14 +25,22 @@ returns-then-put_results-clause-works g c =
     let b = c.args.board.now in
     let right = c.args.job.now.right in
     let laws = c.words_are_known.ensures in
-    rule_works q (laws.children q) (laws.asked q) c.requires.at_work.has_job.board.small c.args.e c.args.rule b.key.room (hands c.args.seat.now) (hands c.args.seat.now) (hands c.put_results.new.seat) right right (IsBroughtWith q c.args.rule c.args.e None)
-    c.progress.result c.requires.goal (proceeds_none (Adds q (Xf c.args.e c.args.rule)) (hands c.args.seat.now) right) c.if-put_results.ensures.puts
-    (λ none child (group, joins, left, is). absurd (no_left group c.left_group.result c.in-None.is ((c.left_group.ensures group).1 (joins, left))))
-    (unbound_wanted q c.args.e c.args.rule (λ group is_left. no_left group c.left_group.result c.in-None.is ((c.left_group.ensures group).1 is_left)) (c.results_are_known.ensures.left q c.args.rule c.args.e)) c.progress.ensures
+    rule_works q (laws.children q) (laws.asked q) c.requires.at_work.has_job.board.small c.args.e c.args.rule b.key.room
+    (hands c.args.seat.now) (hands c.args.seat.now) (hands c.put_results.new.seat) right right
+    (IsBroughtWith q c.args.rule c.args.e None)
+    c.progress.result c.requires.goal (proceeds_none (Adds q (Xf c.args.e c.args.rule)) (hands c.args.seat.now) right)
+    c.if-put_results.ensures.puts
+    (λ none child (group, joins, left, is). absurd
+    (no_left group c.left_group.result c.in-None.is ((c.left_group.ensures group).1 (joins, left))))
+    (unbound_wanted q c.args.e c.args.rule (λ group is_left.
+    no_left group c.left_group.result c.in-None.is ((c.left_group.ensures group).1 is_left))
+    (c.results_are_known.ensures.left q c.args.rule c.args.e)) c.progress.ensures
 
 pub returns-else-put_results-clause-works : goal.returns-else-put_results-clause-works
 returns-else-put_results-clause-works g c =
     let q = c.args.query.now in
     let laws = c.words_are_known.ensures in
-    results_run_out q (laws.children q) (laws.asked q) c.requires.at_work.has_job.board.small c.args.e c.args.rule c.args.board.now.key.room (hands c.args.seat.now) c.args.job.now.right (hands c.put_results.new.seat) c.args.job.now.right c.requires.goal
+    results_run_out q (laws.children q) (laws.asked q) c.requires.at_work.has_job.board.small c.args.e c.args.rule
+    c.args.board.now.key.room (hands c.args.seat.now) c.args.job.now.right (hands c.put_results.new.seat)
+    c.args.job.now.right c.requires.goal
     c.if-put_results.ensures.puts

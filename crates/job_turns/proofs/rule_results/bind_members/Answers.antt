@@ -15,36 +15,59 @@ use Rattle.job_turns.proofs.RuleLemmas.{rule_works, results_run_out, bound_wante
 use Rattle.job_turns.proofs.rule_results.bind_members.Goals as goal
 
 pub await_goal-requires-clause-child : goal.await_goal-requires-clause-child
-await_goal-requires-clause-child g c = (Xf c.args.e c.args.rule, c.requires.goal, left_child c.args.query.now c.args.e c.args.rule c.args.left c.requires.left)
+await_goal-requires-clause-child g c = (
+  Xf c.args.e c.args.rule,
+  c.requires.goal,
+  left_child c.args.query.now c.args.e c.args.rule c.args.left c.requires.left,
+)
 
 pub returns-in-Full-clause-works : goal.returns-in-Full-clause-works
 returns-in-Full-clause-works g c =
-    runs_out c.args.query.now (c.words_are_known.ensures.children c.args.query.now) c.requires.at_work.has_job.board.small (Xf c.args.e c.args.rule) c.args.board.now.key.room (hands c.args.seat.now) c.args.job.now.right (hands c.await_goal.new.seat) c.await_goal.new.job.right
+    runs_out c.args.query.now (c.words_are_known.ensures.children c.args.query.now)
+    c.requires.at_work.has_job.board.small (Xf c.args.e c.args.rule) c.args.board.now.key.room
+    (hands c.args.seat.now) c.args.job.now.right (hands c.await_goal.new.seat) c.await_goal.new.job.right
     c.requires.goal c.in-Full.ensures.awaits
 
 pub returns-in-Waiting-clause-works : goal.returns-in-Waiting-clause-works
 returns-in-Waiting-clause-works g c =
-    let waits = c.in-Waiting.ensures.awaits in
-    (goes_on c.args.query.now (c.words_are_known.ensures.children c.args.query.now) c.requires.at_work.has_job.board.small (Xf c.args.e c.args.rule) (hands c.args.seat.now) c.args.job.now.right (hands c.await_goal.new.seat) c.await_goal.new.job.right c.requires.goal waits.0, waits.1)
+    let waits = c.in-Waiting.ensures.awaits in (
+      goes_on c.args.query.now (c.words_are_known.ensures.children c.args.query.now)
+          c.requires.at_work.has_job.board.small (Xf c.args.e c.args.rule) (hands c.args.seat.now) c.args.job.now.right
+          (hands c.await_goal.new.seat) c.await_goal.new.job.right c.requires.goal waits.0,
+      waits.1,
+    )
 
 pub put_with_members-requires-clause-known : goal.put_with_members-requires-clause-known
 put_with_members-requires-clause-known g c =
     let q = c.args.query.now in
-    c.goals_are_known.ensures.candidates q (Exp c.args.left) (child_goal (Xf c.args.e c.args.rule) (Exp c.args.left) c.requires.goal.is_goal (left_child q c.args.e c.args.rule c.args.left c.requires.left))
+    c.goals_are_known.ensures.candidates q (Exp c.args.left)
+    (child_goal (Xf c.args.e c.args.rule) (Exp c.args.left) c.requires.goal.is_goal
+    (left_child q c.args.e c.args.rule c.args.left c.requires.left))
 
 pub put_with_members-requires-clause-e : goal.put_with_members-requires-clause-e
-put_with_members-requires-clause-e g c = c.goals_are_known.ensures.candidates c.args.query.now (Xf c.args.e c.args.rule) c.requires.goal.is_goal
+put_with_members-requires-clause-e g c =
+    c.goals_are_known.ensures.candidates c.args.query.now (Xf c.args.e c.args.rule) c.requires.goal.is_goal
 
 pub put_with_members-requires-clause-shown : goal.put_with_members-requires-clause-shown
 put_with_members-requires-clause-shown g c = λ bound is_in.
     let q = c.args.query.now in
-    let is_goal = child_goal (Xf c.args.e c.args.rule) (Exp c.args.left) c.requires.goal.is_goal (left_child q c.args.e c.args.rule c.args.left c.requires.left) in
-    asked_by (goal_word (Exp c.args.left)) _ c.in-Complete.ensures.awaits.2.finished (record { goal = Exp c.args.left; member = bound; names = record { is_goal = is_goal; number = refl }; asks = is_in; number = refl })
+    let is_goal = child_goal (Xf c.args.e c.args.rule) (Exp c.args.left) c.requires.goal.is_goal
+    (left_child q c.args.e c.args.rule c.args.left c.requires.left) in
+    asked_by (goal_word (Exp c.args.left)) _ c.in-Complete.ensures.awaits.2.finished
+    (record {
+      goal = Exp c.args.left;
+      member = bound;
+      names = record { is_goal = is_goal; number = refl };
+      asks =
+          is_in;
+      number = refl;
+    })
 
 pub put_with_members-requires-clause-asked : goal.put_with_members-requires-clause-asked
 put_with_members-requires-clause-asked g c = λ bound x is_in (n, (found, has, brought)). (
   Xf c.args.e c.args.rule,
-  subst (λ k. NamesGoal c.args.query.now k (Xf c.args.e c.args.rule)) (sym c.in-Complete.ensures.awaits.0.same_goal) c.requires.goal,
+  subst (λ k. NamesGoal c.args.query.now k (Xf c.args.e c.args.rule)) (sym c.in-Complete.ensures.awaits.0.same_goal)
+      c.requires.goal,
   (found, inr (bound, n, is_in.member, has), brought),
 )
 
@@ -56,12 +79,19 @@ returns-then-put_with_members-clause-works g c =
     let laws = c.words_are_known.ensures in
     let known = c.results_are_known.ensures in
     let awaits = c.in-Complete.ensures.awaits in
-    rule_works q (laws.children q) (laws.asked q) c.requires.at_work.has_job.board.small c.args.e c.args.rule b.key.room (hands c.args.seat.now) (hands c.await_goal.new.seat) (hands c.put_with_members.new.seat) right c.await_goal.new.job.right
+    rule_works q (laws.children q) (laws.asked q) c.requires.at_work.has_job.board.small c.args.e c.args.rule b.key.room
+    (hands c.args.seat.now) (hands c.await_goal.new.seat) (hands c.put_with_members.new.seat) right
+    c.await_goal.new.job.right
     (IsBroughtFrom q c.args.rule c.args.e c.args.left) c.progress.result c.requires.goal
-    (goes_on q (laws.children q) c.requires.at_work.has_job.board.small (Xf c.args.e c.args.rule) (hands c.args.seat.now) right (hands c.await_goal.new.seat) c.await_goal.new.job.right c.requires.goal awaits.0) c.if-put_with_members.ensures.puts
-    (λ none child (group, joins, left, is). subst (λ k. ShowsFinished (meaning_of q) b.key.room (hands c.await_goal.new.seat).looks (goal_word k)) (sym is)
-    (subst (λ k. ShowsFinished (meaning_of q) b.key.room (hands c.await_goal.new.seat).looks (goal_word (Exp k))) (left_one _ c.args.left group c.requires.left.1 left) awaits.2.finished))
-    (bound_wanted q c.args.e c.args.rule c.args.left c.requires.left (known.binds q c.args.rule c.args.e) (known.left q c.args.rule c.args.e) (known.bound q c.args.rule c.args.e)) c.progress.ensures
+    (goes_on q (laws.children q) c.requires.at_work.has_job.board.small (Xf c.args.e c.args.rule)
+    (hands c.args.seat.now) right (hands c.await_goal.new.seat) c.await_goal.new.job.right c.requires.goal awaits.0)
+    c.if-put_with_members.ensures.puts
+    (λ none child (group, joins, left, is). subst
+    (λ k. ShowsFinished (meaning_of q) b.key.room (hands c.await_goal.new.seat).looks (goal_word k)) (sym is)
+    (subst (λ k. ShowsFinished (meaning_of q) b.key.room (hands c.await_goal.new.seat).looks (goal_word (Exp k)))
+    (left_one _ c.args.left group c.requires.left.1 left) awaits.2.finished))
+    (bound_wanted q c.args.e c.args.rule c.args.left c.requires.left (known.binds q c.args.rule c.args.e)
+    (known.left q c.args.rule c.args.e) (known.bound q c.args.rule c.args.e)) c.progress.ensures
 
 pub returns-else-put_with_members-clause-works : goal.returns-else-put_with_members-clause-works
 returns-else-put_with_members-clause-works g c =
@@ -71,7 +101,12 @@ returns-else-put_with_members-clause-works g c =
     let middle = c.await_goal.new.job.right in
     let laws = c.words_are_known.ensures in
     let awaits = c.in-Complete.ensures.awaits in
-    let named : NamesGoal q middle.goal (Xf c.args.e c.args.rule) = subst (λ k. NamesGoal q k (Xf c.args.e c.args.rule)) (sym awaits.0.same_goal) c.requires.goal in
-    runs_out_then (Adds q (Xf c.args.e c.args.rule)) b.key.room (hands c.args.seat.now) right (hands c.await_goal.new.seat) middle (hands c.put_with_members.new.seat) middle
-    (goes_on q (laws.children q) c.requires.at_work.has_job.board.small (Xf c.args.e c.args.rule) (hands c.args.seat.now) right (hands c.await_goal.new.seat) middle c.requires.goal awaits.0)
-    (results_run_out q (laws.children q) (laws.asked q) c.requires.at_work.has_job.board.small c.args.e c.args.rule b.key.room (hands c.await_goal.new.seat) middle (hands c.put_with_members.new.seat) middle named c.if-put_with_members.ensures.puts)
+    let named : NamesGoal q middle.goal (Xf c.args.e c.args.rule) =
+    subst (λ k. NamesGoal q k (Xf c.args.e c.args.rule)) (sym awaits.0.same_goal) c.requires.goal in
+    runs_out_then (Adds q (Xf c.args.e c.args.rule)) b.key.room (hands c.args.seat.now) right
+    (hands c.await_goal.new.seat) middle (hands c.put_with_members.new.seat) middle
+    (goes_on q (laws.children q) c.requires.at_work.has_job.board.small (Xf c.args.e c.args.rule)
+    (hands c.args.seat.now) right (hands c.await_goal.new.seat) middle c.requires.goal awaits.0)
+    (results_run_out q (laws.children q) (laws.asked q) c.requires.at_work.has_job.board.small c.args.e c.args.rule
+    b.key.room (hands c.await_goal.new.seat) middle (hands c.put_with_members.new.seat) middle named
+    c.if-put_with_members.ensures.puts)

@@ -9,7 +9,8 @@ use Rattle.job_turns.proofs.MembersPut.{put_both, puts_then, puts_others, brough
 use Rattle.job_turns.proofs.rule_results.put_brought.Goals as goal
 
 pub put_member-requires-clause-packed : goal.put_member-requires-clause-packed
-put_member-requires-clause-packed c = c.candidates_are_known.ensures.packed c.args.query.now c.args.e c.requires.candidate
+put_member-requires-clause-packed c = c.candidates_are_known.ensures.packed c.args.query.now c.args.e
+    c.requires.candidate
 
 pub put_member-requires-clause-asked : goal.put_member-requires-clause-asked
 put_member-requires-clause-asked c = c.requires.asked c.args.e (inl refl)
@@ -20,24 +21,32 @@ returns-then-not-put_member-clause-puts c = c.if-not-put_member.ensures.puts
 pub put_origin-requires-clause-packed : goal.put_origin-requires-clause-packed
 put_origin-requires-clause-packed c = λ key is.
     let known = c.candidates_are_known.ensures in
-    known.packed c.args.query.now (origin_of c.args.query.now key) (known.origins c.args.query.now key (known.children c.args.query.now c.args.e key c.requires.candidate ((c.groups_below-left.ensures key).0 (inl is))))
+    known.packed c.args.query.now (origin_of c.args.query.now key)
+    (known.origins c.args.query.now key (known.children c.args.query.now c.args.e key c.requires.candidate
+    ((c.groups_below-left.ensures key).0 (inl is))))
 
 pub put_origin-requires-clause-asked : goal.put_origin-requires-clause-asked
-put_origin-requires-clause-asked c = λ key is. c.requires.asked (origin_of c.args.query.now key) (inr (key, (c.groups_below-left.ensures key).0 (inl is), refl))
+put_origin-requires-clause-asked c = λ key is.
+    c.requires.asked (origin_of c.args.query.now key) (inr (key, (c.groups_below-left.ensures key).0 (inl is), refl))
 
 pub returns-then-not-put_origin-clause-puts : goal.returns-then-not-put_origin-clause-puts
 returns-then-not-put_origin-clause-puts c =
     let q = c.args.query.now in
-    puts_then q c.args.board.now.key.room c.args.job.now.right (hands c.args.seat.now) (λ (other : ExprParts). other ≡ c.args.e) (IsOriginOf q c.groups_below-left.result.0) (hands c.put_member.new.seat) false (hands c.put_origin.new.seat)
+    puts_then q c.args.board.now.key.room c.args.job.now.right (hands c.args.seat.now)
+    (λ (other : ExprParts). other ≡ c.args.e) (IsOriginOf q c.groups_below-left.result.0)
+    (hands c.put_member.new.seat) false (hands c.put_origin.new.seat)
     c.if-not-put_member.ensures.puts c.if-not-put_origin.ensures.puts
 
 pub put_origin-requires-2-clause-packed : goal.put_origin-requires-2-clause-packed
 put_origin-requires-2-clause-packed c = λ key is.
     let known = c.candidates_are_known.ensures in
-    known.packed c.args.query.now (origin_of c.args.query.now key) (known.origins c.args.query.now key (known.children c.args.query.now c.args.e key c.requires.candidate ((c.groups_below-left.ensures key).0 (inr is))))
+    known.packed c.args.query.now (origin_of c.args.query.now key)
+    (known.origins c.args.query.now key (known.children c.args.query.now c.args.e key c.requires.candidate
+    ((c.groups_below-left.ensures key).0 (inr is))))
 
 pub put_origin-requires-2-clause-asked : goal.put_origin-requires-2-clause-asked
-put_origin-requires-2-clause-asked c = λ key is. c.requires.asked (origin_of c.args.query.now key) (inr (key, (c.groups_below-left.ensures key).0 (inr is), refl))
+put_origin-requires-2-clause-asked c = λ key is.
+    c.requires.asked (origin_of c.args.query.now key) (inr (key, (c.groups_below-left.ensures key).0 (inr is), refl))
 
 pub returns-clause-puts : goal.returns-clause-puts
 returns-clause-puts c =
@@ -49,6 +58,10 @@ returns-clause-puts c =
     let first = IsOriginOf q c.groups_below-left.result.0 in
     let second = IsOriginOf q c.groups_below-left.result.1 in
     puts_others q room right v (λ other. (itself other ⊎ first other) ⊎ second other) (IsBroughtBy q c.args.e)
-    (λ other is. brought q c.args.e c.groups_below-left.result (λ group child. (c.groups_below-left.ensures group).1 child) other is) c.put_origin-2.result (hands c.put_origin-2.new.seat)
-    (puts_then q room right v (λ other. itself other ⊎ first other) second (hands c.put_origin.new.seat) c.put_origin-2.result (hands c.put_origin-2.new.seat)
-    (put_both q room right v itself first (hands c.put_member.new.seat) (hands c.put_origin.new.seat) c.if-not-put_member.ensures.puts c.if-not-put_origin.ensures.puts) c.put_origin-2.ensures.puts)
+    (λ other is. brought q c.args.e c.groups_below-left.result
+    (λ group child. (c.groups_below-left.ensures group).1 child) other is) c.put_origin-2.result
+    (hands c.put_origin-2.new.seat)
+    (puts_then q room right v (λ other. itself other ⊎ first other) second (hands c.put_origin.new.seat)
+    c.put_origin-2.result (hands c.put_origin-2.new.seat)
+    (put_both q room right v itself first (hands c.put_member.new.seat) (hands c.put_origin.new.seat)
+    c.if-not-put_member.ensures.puts c.if-not-put_origin.ensures.puts) c.put_origin-2.ensures.puts)

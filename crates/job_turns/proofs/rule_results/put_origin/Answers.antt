@@ -8,16 +8,21 @@ use Rattle.job_turns.proofs.MembersPut.{put_none, puts_others, origin_is, no_ori
 use Rattle.job_turns.proofs.rule_results.put_origin.Goals as goal
 
 pub put_member-requires-clause-packed : goal.put_member-requires-clause-packed
-put_member-requires-clause-packed c = subst IsPacked (sym c.origin_of_group.ensures) (c.requires.packed c.in-Some.key c.in-Some.is)
+put_member-requires-clause-packed c = subst IsPacked (sym c.origin_of_group.ensures)
+    (c.requires.packed c.in-Some.key c.in-Some.is)
 
 pub put_member-requires-clause-asked : goal.put_member-requires-clause-asked
-put_member-requires-clause-asked c = subst (IsAskedOf c.args.query.now c.args.job.now.right.goal) (sym c.origin_of_group.ensures) (c.requires.asked c.in-Some.key c.in-Some.is)
+put_member-requires-clause-asked c = subst (IsAskedOf c.args.query.now c.args.job.now.right.goal)
+    (sym c.origin_of_group.ensures) (c.requires.asked c.in-Some.key c.in-Some.is)
 
 pub returns-in-Some-clause-puts : goal.returns-in-Some-clause-puts
 returns-in-Some-clause-puts c =
-    puts_others c.args.query.now c.args.board.now.key.room c.args.job.now.right (hands c.args.seat.now) (λ (e : ExprParts). e ≡ c.origin_of_group.result) (IsOriginOf c.args.query.now c.args.group)
-    (λ e is. origin_is c.args.query.now c.args.group c.in-Some.key c.in-Some.is e is ∙ sym c.origin_of_group.ensures) c.put_member.result (hands c.put_member.new.seat) c.put_member.ensures.puts
+    puts_others c.args.query.now c.args.board.now.key.room c.args.job.now.right (hands c.args.seat.now)
+    (λ (e : ExprParts). e ≡ c.origin_of_group.result) (IsOriginOf c.args.query.now c.args.group)
+    (λ e is. origin_is c.args.query.now c.args.group c.in-Some.key c.in-Some.is e is ∙ sym c.origin_of_group.ensures)
+    c.put_member.result (hands c.put_member.new.seat) c.put_member.ensures.puts
 
 pub returns-in-None-clause-puts : goal.returns-in-None-clause-puts
 returns-in-None-clause-puts c =
-    put_none c.args.query.now c.args.board.now.key.room c.args.job.now.right (hands c.args.seat.now) (IsOriginOf c.args.query.now c.args.group) (no_origin c.args.query.now c.args.group c.in-None.is)
+    put_none c.args.query.now c.args.board.now.key.room c.args.job.now.right (hands c.args.seat.now)
+    (IsOriginOf c.args.query.now c.args.group) (no_origin c.args.query.now c.args.group c.in-None.is)

@@ -6,5 +6,7 @@ use Rattle.orca_cli.proofs.answer.done.Goals as goal
 pub returns-clause-ending : goal.returns-clause-ending
 returns-clause-ending c =
     IfOk-both _ _ _ c.told.result
-    (λ made same goes. followed_searched (Tells c.args.generated c.args.choices c.args.search.query.now) c.args.choices.capacity c.args.search.query.now c.in_ok-plan.plan.status c.in_ok-plan.plan.lines.items made c.requires.room c.in_ok-plan.ensures same goes)
+    (λ made same goes. followed_searched (Tells c.args.generated c.args.choices c.args.search.query.now)
+    c.args.choices.capacity c.args.search.query.now c.in_ok-plan.plan.status c.in_ok-plan.plan.lines.items made
+    c.requires.room c.in_ok-plan.ensures same goes)
     c.told.ensures.status c.told.ensures.text

@@ -14,5 +14,8 @@ pub returns-in_ok-sql_fault_text-in-Err : goal.returns-in_ok-sql_fault_text-in-E
 returns-in_ok-sql_fault_text-in-Err c =
     let text = c.in_ok-sql_fault_text-in-Err.ensures in
     IfOk-weaker c.refused_query.result _ _
-    (λ a is. stopped (Asks c.args.catalog.now c.args.choices.options c.args.text.now) (IsAnswer c.args.catalog.now c.args.choices c.args.text.now) _ _ a tt (unread_answer c.args.catalog.now c.args.choices c.args.text.now c.deref.result.now c.in-Err.fault (c.in-Err.ensures.fault text.not_memory) (c.deref.ensures ∙ text.text)) is)
+    (λ a is. stopped (Asks c.args.catalog.now c.args.choices.options c.args.text.now)
+    (IsAnswer c.args.catalog.now c.args.choices c.args.text.now) _ _ a tt
+    (unread_answer c.args.catalog.now c.args.choices c.args.text.now c.deref.result.now c.in-Err.fault
+    (c.in-Err.ensures.fault text.not_memory) (c.deref.ensures ∙ text.text)) is)
     c.refused_query.ensures

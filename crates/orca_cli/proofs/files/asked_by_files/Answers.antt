@@ -10,11 +10,14 @@ use Rattle.orca_cli.proofs.files.asked_by_files.Goals as goal
 -- a file over the limit is no catalogue
 pub returns-in-TooLong : goal.returns-in-TooLong
 returns-in-TooLong g c =
-    let exceeds : Exceeds (g.S.Shelf.held c.args.shelf.now c.args.command.now.files.catalog.now) 1048576 = rw c.in-TooLong.is at c.in_ok-read_file.ensures.read in
+    let exceeds : Exceeds (g.S.Shelf.held c.args.shelf.now c.args.command.now.files.catalog.now) 1048576 =
+    rw c.in-TooLong.is at c.in_ok-read_file.ensures.read in
     IfOk-weaker c.refused_catalog.result _ _
     (λ a is. stopped (IsAskedBy (plan_command c.args.command.now) (g.S.Shelf.held c.args.shelf.now))
-    (IsEnding (plan_command c.args.command.now) (g.S.Shelf.held c.args.shelf.now) (g.S.Shelf.faults c.args.shelf.now) (g.S.Shelf.faults c.read_file.new.shelf)) _ _ a tt
-    (long_catalog (plan_command c.args.command.now) (g.S.Shelf.held c.args.shelf.now) (g.S.Shelf.faults c.args.shelf.now) _ exceeds) is)
+    (IsEnding (plan_command c.args.command.now) (g.S.Shelf.held c.args.shelf.now) (g.S.Shelf.faults c.args.shelf.now)
+    (g.S.Shelf.faults c.read_file.new.shelf)) _ _ a tt
+    (long_catalog (plan_command c.args.command.now) (g.S.Shelf.held c.args.shelf.now)
+    (g.S.Shelf.faults c.args.shelf.now) _ exceeds) is)
     c.refused_catalog.ensures
 
 -- what the bytes that were read ask for is what the file that holds them asks for
@@ -29,7 +32,9 @@ returns-in-Bytes g c =
     let after = g.S.Shelf.faults c.asked_over_bytes.new.shelf in
     let same = c.in_ok-read_file.ensures.same command.files.query in
     IfOk-weaker c.asked_over_bytes.result _ _
-    (λ a is. asking_then _ _ _ _ a (λ query asked. asked_files command held 1048576 c.deref.result.now _ query are same asked)
-    (λ status text ending. over_files command held (g.S.Shelf.faults c.args.shelf.now) middle after 1048576 c.deref.result.now status text are c.in_ok-read_file.ensures.later
+    (λ a is. asking_then _ _ _ _ a (λ query asked.
+    asked_files command held 1048576 c.deref.result.now _ query are same asked)
+    (λ status text ending. over_files command held (g.S.Shelf.faults c.args.shelf.now) middle after 1048576
+    c.deref.result.now status text are c.in_ok-read_file.ensures.later
     (retold_over c.deref.result.now command.choices command.files.query _ _ middle after status text same ending)) is)
     c.asked_over_bytes.ensures

@@ -5,19 +5,26 @@ use Rattle.orca_cli.proofs.Outcomes.{one_outcome_of, one_generated_of}
 use Rattle.orca_cli.proofs.SectionTexts.{OneSections}
 use Rattle.orca_cli.proofs.laws.one_outcome.Goals as goal
 
--- a text has one reading, a query one list of links, one least plan, one closure and one list of goals, and it has room or not, so the text of a run is one
+-- a text has one reading, a query one list of links, one least plan, one closure and one list of goals, and it has room
+-- or not, so the text of a run is one
 pub returns : goal.returns
 returns c =
-    let answer = one_answer_of c.one_outcome.ensures.reading c.one_outcome.ensures.fault c.one_outcome.ensures.either c.links_are_one.ensures.links c.entries_fit_or_not.ensures in
+    let answer = one_answer_of c.one_outcome.ensures.reading c.one_outcome.ensures.fault c.one_outcome.ensures.either
+    c.links_are_one.ensures.links c.entries_fit_or_not.ensures in
     let sections : OneSections = record {
       closure = c.members_are_known.ensures.closure_is_one;
       goals = c.goal_lists_are_known.ensures.one;
       memo = c.memos_are_known.ensures.text;
-      trace = λ q members goals text other within. c.traces_are_known.ensures.text q within.few_lists within.few_orders members goals text other;
+      trace = λ q members goals text other within.
+          c.traces_are_known.ensures.text q within.few_lists within.few_orders members goals text other;
       memo_line = c.memos_are_known.ensures.line;
       trace_line = c.traces_are_known.ensures.line;
     } in
     record {
-      outcome = one_outcome_of answer sections (λ q s t within one other. c.least_is_one.ensures q within.few_lists within.few_orders (root_of q) (root_request q) t s other one);
-      generated = one_generated_of answer sections (λ q s t within one other. c.least_is_one.ensures q within.few_lists within.few_orders (root_of q) (root_request q) t s other one);
+      outcome = one_outcome_of answer sections
+          (λ q s t within one other. c.least_is_one.ensures q within.few_lists within.few_orders (root_of q)
+          (root_request q) t s other one);
+      generated = one_generated_of answer sections
+          (λ q s t within one other. c.least_is_one.ensures q within.few_lists within.few_orders (root_of q)
+          (root_request q) t s other one);
     }

@@ -12,4 +12,13 @@ crew_text-requires c = record {
 -- the text is that of all goals
 pub returns : goal.returns
 returns c = IfOk-weaker c.crew_text.result _ _
-    (λ text is. record { goals = c.args.search.goals.now; all_goals = c.requires.all_goals; who = c.args.search.who.now; one_each = c.requires.one_each; below = c.requires.below; is_text = is }) c.crew_text.ensures
+    (λ text is. record {
+      goals = c.args.search.goals.now;
+      all_goals = c.requires.all_goals;
+      who =
+          c.args.search.who.now;
+      one_each = c.requires.one_each;
+      below = c.requires.below;
+      is_text = is;
+    })
+    c.crew_text.ensures

@@ -10,8 +10,10 @@ returns-in_err-put_lines-clause-err g c =
     let old = g.K.Sink.taken c.args.out.now in
     let mid = g.K.Sink.taken c.loop-text.out in
     let new = g.K.Sink.taken c.put_lines.new.out in
-    let this : c.deref.result.now ≡ (get_or c.args.texts.now c.loop-text.text-index c.text-item.result).items = search (rules, c.deref.ensures.value, c.text-item.is) in
+    let this : c.deref.result.now ≡ (get_or c.args.texts.now c.loop-text.text-index c.text-item.result).items =
+    search (rules, c.deref.ensures.value, c.text-item.is) in
     let cut : TakesPrefix old new (bytes_of_texts c.args.texts.now) =
-    text_cut old mid new c.args.texts.now c.loop-text.text-index c.text-item.result c.loop-text-test.true c.loop-text.invariant.taken
+    text_cut old mid new c.args.texts.now c.loop-text.text-index c.text-item.result c.loop-text-test.true
+    c.loop-text.invariant.taken
     (subst (TakesPrefix mid new) this c.in_err-put_lines.ensures.err) in
     search (rules, cut)

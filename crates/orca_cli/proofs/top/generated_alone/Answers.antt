@@ -8,5 +8,7 @@ use Rattle.orca_cli.proofs.top.generated_alone.Goals as goal
 pub returns : goal.returns
 returns c =
     IfOk-both _ _ _ c.answer_alone.result
-    (λ ending is notes. generated_ended (gen_command c.args.command) c.answer_alone.new.note ending.status (text_of ending) c.in_ok-query.query c.gen_choices.result c.gen_choices.ensures.choices c.in_ok-query.ensures.0 is notes)
+    (λ ending is notes. generated_ended (gen_command c.args.command) c.answer_alone.new.note ending.status
+    (text_of ending) c.in_ok-query.query c.gen_choices.result c.gen_choices.ensures.choices c.in_ok-query.ensures.0
+    is notes)
     c.answer_alone.ensures.ending c.answer_alone.ensures.notes

@@ -25,4 +25,5 @@ returns-in-Some-first_unfit c =
 
 -- each node may stand over its kids
 pub valid_outcome-requires-clause-valid : goal.valid_outcome-requires-clause-valid
-valid_outcome-requires-clause-valid c = λ tree spells. fits_valid c.args.query.now tree (c.in-None-first_unfit.ensures.first tree spells)
+valid_outcome-requires-clause-valid c = λ tree spells.
+    fits_valid c.args.query.now tree (c.in-None-first_unfit.ensures.first tree spells)

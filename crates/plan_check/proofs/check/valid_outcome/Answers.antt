@@ -14,7 +14,8 @@ returns-then-given_satisfies c =
       tree = tree.0;
       is_tree = record { small = c.requires.small; known = c.requires.nodes; spells = tree.1 };
       valid = c.requires.valid tree.0 tree.1;
-      satisfies = subst (λ (given : Given). Satisfies q given c.args.request) seen (c.given_satisfies.ensures.0 c.if-given_satisfies.true);
+      satisfies = subst (λ (given : Given). Satisfies q given c.args.request) seen
+          (c.given_satisfies.ensures.0 c.if-given_satisfies.true);
       costs = c.cost.ensures.value tree.0 tree.1;
     }
 
@@ -28,5 +29,6 @@ returns-else-given_satisfies c =
       tree = tree.0;
       is_tree = record { small = c.requires.small; known = c.requires.nodes; spells = tree.1 };
       valid = c.requires.valid tree.0 tree.1;
-      unmet = λ met. true≢false (sym (c.given_satisfies.ensures.1 (subst (λ (given : Given). Satisfies q given c.args.request) (sym seen) met)) ∙ c.if-given_satisfies.false);
+      unmet = λ met. true≢false (sym (c.given_satisfies.ensures.1
+          (subst (λ (given : Given). Satisfies q given c.args.request) (sym seen) met)) ∙ c.if-given_satisfies.false);
     }

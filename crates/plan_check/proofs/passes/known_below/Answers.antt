@@ -8,4 +8,5 @@ pub returns-clause-groups : goal.returns-clause-groups
 returns-clause-groups c =
     let q = c.args.query.now in
     let known = tree_known q c.args.plan.now c.requires.known in
-    seen_known q c.seen_below.result (subst (λ (kids : List Kid). KidsKnown q kids) (sym (c.seen_below.ensures known.0 known.1)) known.3)
+    seen_known q c.seen_below.result (subst (λ (kids : List Kid). KidsKnown q kids)
+    (sym (c.seen_below.ensures known.0 known.1)) known.3)

@@ -10,7 +10,8 @@ pub links_at-requires-clause-chosen : goal.links_at-requires-clause-chosen
 links_at-requires-clause-chosen t c =
     let q = c.args.source.query.now in
     let fits = c.goals_are_known.ensures.requests q (goal_of c.args.at) c.requires.goal in
-    let found = best_chosen q c.args.at fits c.args.source.props.now c.requires.props (c.answers_are_best.ensures.roots q) (c.best_is_least.ensures q) c.in-Some.best c.in-Some.ensures in
+    let found = best_chosen q c.args.at fits c.args.source.props.now c.requires.props
+    (c.answers_are_best.ensures.roots q) (c.best_is_least.ensures q) c.in-Some.best c.in-Some.ensures in
     (found.0, found.1)
 
 -- the plan below is there, for a goal of a lesser rank
@@ -18,60 +19,84 @@ pub plan_at-requires : goal.plan_at-requires
 plan_at-requires t c =
     let q = c.args.source.query.now in
     let fits = c.goals_are_known.ensures.requests q (goal_of c.args.at) c.requires.goal in
-    let found = best_chosen q c.args.at fits c.args.source.props.now c.requires.props (c.answers_are_best.ensures.roots q) (c.best_is_least.ensures q) c.in-Some.best c.in-Some.ensures in
+    let found = best_chosen q c.args.at fits c.args.source.props.now c.requires.props
+    (c.answers_are_best.ensures.roots q) (c.best_is_least.ensures q) c.in-Some.best c.in-Some.ensures in
     let over = c.in-One.ensures.over found.0 found.1 in
-    let lower = c.in-One.ensures.lower in
-    (omega (arith, lower.lower, c.decreases), (c.requires.props, (c.requires.answers, (lower.is_goal, (over.0, over.1)))))
+    let lower = c.in-One.ensures.lower in (
+      omega (arith, lower.lower, c.decreases),
+      (c.requires.props, (c.requires.answers, (lower.is_goal, (over.0, over.1)))),
+    )
 
 pub plan_at-requires-in-Two : goal.plan_at-requires-in-Two
 plan_at-requires-in-Two t c =
     let q = c.args.source.query.now in
     let fits = c.goals_are_known.ensures.requests q (goal_of c.args.at) c.requires.goal in
-    let found = best_chosen q c.args.at fits c.args.source.props.now c.requires.props (c.answers_are_best.ensures.roots q) (c.best_is_least.ensures q) c.in-Some.best c.in-Some.ensures in
+    let found = best_chosen q c.args.at fits c.args.source.props.now c.requires.props
+    (c.answers_are_best.ensures.roots q) (c.best_is_least.ensures q) c.in-Some.best c.in-Some.ensures in
     let over = c.in-Two.ensures.over found.0 found.1 in
-    let lower = c.in-Two.ensures.lower.0 in
-    (omega (arith, lower.lower, c.decreases), (c.requires.props, (c.requires.answers, (lower.is_goal, (over.0, over.2)))))
+    let lower = c.in-Two.ensures.lower.0 in (
+      omega (arith, lower.lower, c.decreases),
+      (c.requires.props, (c.requires.answers, (lower.is_goal, (over.0, over.2)))),
+    )
 
 pub plan_at-requires-in-Two-2 : goal.plan_at-requires-in-Two-2
 plan_at-requires-in-Two-2 t c =
     let q = c.args.source.query.now in
     let fits = c.goals_are_known.ensures.requests q (goal_of c.args.at) c.requires.goal in
-    let found = best_chosen q c.args.at fits c.args.source.props.now c.requires.props (c.answers_are_best.ensures.roots q) (c.best_is_least.ensures q) c.in-Some.best c.in-Some.ensures in
+    let found = best_chosen q c.args.at fits c.args.source.props.now c.requires.props
+    (c.answers_are_best.ensures.roots q) (c.best_is_least.ensures q) c.in-Some.best c.in-Some.ensures in
     let over = c.in-Two.ensures.over found.0 found.1 in
-    let lower = c.in-Two.ensures.lower.1 in
-    (omega (arith, lower.lower, c.decreases), (c.requires.props, (c.requires.answers, (lower.is_goal, (over.1, over.3)))))
+    let lower = c.in-Two.ensures.lower.1 in (
+      omega (arith, lower.lower, c.decreases),
+      (c.requires.props, (c.requires.answers, (lower.is_goal, (over.1, over.3)))),
+    )
 
 -- where there is a plan, one is answered
 pub unreachable-requires : goal.unreachable-requires
 unreachable-requires t c =
     let q = c.args.source.query.now in
     let fits = c.goals_are_known.ensures.requests q (goal_of c.args.at) c.requires.goal in
-    none_chosen q c.args.at fits (c.best_is_least.ensures q) c.in-None.ensures c.requires.there.0 c.requires.there.1.serves
+    none_chosen q c.args.at fits (c.best_is_least.ensures q) c.in-None.ensures c.requires.there.0
+    c.requires.there.1.serves
 
 pub returns-in-Zero : goal.returns-in-Zero
 returns-in-Zero t c =
     let q = c.args.source.query.now in
     let fits = c.goals_are_known.ensures.requests q (goal_of c.args.at) c.requires.goal in
-    let found = best_chosen q c.args.at fits c.args.source.props.now c.requires.props (c.answers_are_best.ensures.roots q) (c.best_is_least.ensures q) c.in-Some.best c.in-Some.ensures in
-    let one = c.least_is_one.ensures q c.requires.props.few_lists c.requires.props.few_orders in
-    (leaf (root_node found.0), found.1.is_node, made_zero q one c.args.at c.in-Some.best.node found.0 found.1 (c.in-Zero.ensures.over found.0 found.1))
+    let found = best_chosen q c.args.at fits c.args.source.props.now c.requires.props
+    (c.answers_are_best.ensures.roots q) (c.best_is_least.ensures q) c.in-Some.best c.in-Some.ensures in
+    let one = c.least_is_one.ensures q c.requires.props.few_lists c.requires.props.few_orders in (
+      leaf (root_node found.0),
+      found.1.is_node,
+      made_zero q one c.args.at c.in-Some.best.node found.0 found.1 (c.in-Zero.ensures.over found.0 found.1),
+    )
 
 pub returns-in_ok-new-in-One : goal.returns-in_ok-new-in-One
 returns-in_ok-new-in-One t c =
     let q = c.args.source.query.now in
     let fits = c.goals_are_known.ensures.requests q (goal_of c.args.at) c.requires.goal in
-    let found = best_chosen q c.args.at fits c.args.source.props.now c.requires.props (c.answers_are_best.ensures.roots q) (c.best_is_least.ensures q) c.in-Some.best c.in-Some.ensures in
+    let found = best_chosen q c.args.at fits c.args.source.props.now c.requires.props
+    (c.answers_are_best.ensures.roots q) (c.best_is_least.ensures q) c.in-Some.best c.in-Some.ensures in
     let one = c.least_is_one.ensures q c.requires.props.few_lists c.requires.props.few_orders in
-    let made = made_one q one c.args.at c.in-Some.best.node found.0 found.1 c.in-One.below c.in_ok-plan_at-in-One.field-0 (c.in-One.ensures.over found.0 found.1) c.in_ok-plan_at-in-One.ensures in
-    (over made.root made.kid, (made.is_node, subst (λ p. Spells p made.kid) (sym c.in_ok-new-in-One.ensures.ok) made.spells), made.least)
+    let made = made_one q one c.args.at c.in-Some.best.node found.0 found.1 c.in-One.below
+    c.in_ok-plan_at-in-One.field-0 (c.in-One.ensures.over found.0 found.1) c.in_ok-plan_at-in-One.ensures in (
+      over made.root made.kid,
+      (
+        made.is_node,
+        subst (λ p. Spells p made.kid) (sym c.in_ok-new-in-One.ensures.ok) made.spells,
+      ),
+      made.least,
+    )
 
 pub returns-in_ok-new-in-Two-2 : goal.returns-in_ok-new-in-Two-2
 returns-in_ok-new-in-Two-2 t c =
     let q = c.args.source.query.now in
     let fits = c.goals_are_known.ensures.requests q (goal_of c.args.at) c.requires.goal in
-    let found = best_chosen q c.args.at fits c.args.source.props.now c.requires.props (c.answers_are_best.ensures.roots q) (c.best_is_least.ensures q) c.in-Some.best c.in-Some.ensures in
+    let found = best_chosen q c.args.at fits c.args.source.props.now c.requires.props
+    (c.answers_are_best.ensures.roots q) (c.best_is_least.ensures q) c.in-Some.best c.in-Some.ensures in
     let one = c.least_is_one.ensures q c.requires.props.few_lists c.requires.props.few_orders in
-    let made = made_two q one c.args.at c.in-Some.best.node found.0 found.1 c.in-Two.left c.in-Two.right c.in_ok-plan_at-in-Two.field-0 c.in_ok-plan_at-in-Two-2.field-0
+    let made = made_two q one c.args.at c.in-Some.best.node found.0 found.1 c.in-Two.left c.in-Two.right
+    c.in_ok-plan_at-in-Two.field-0 c.in_ok-plan_at-in-Two-2.field-0
     (c.in-Two.ensures.over found.0 found.1) c.in_ok-plan_at-in-Two.ensures c.in_ok-plan_at-in-Two-2.ensures in (
       two made.root made.left made.right,
       (

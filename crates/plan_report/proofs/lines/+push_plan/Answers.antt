@@ -14,7 +14,8 @@ returns-in_ok-push_plan-in-Over t c =
     let deepens : deeper ≡ c.args.indent.now ++ codes "  " = search rules in
     let seen : IsSeenOf q kid c.plan_seen.result = search rules in
     let next : AddsPlan q deeper kid c.push_node-in-Over.new.text.items c.push_plan.new.text.items = search rules in
-    over_follows q c.args.indent.now deeper deepens c.args.plan.now c.in-Over.node _ kid c.plan_seen.result _ _ _ c.in-Over.is seen
+    over_follows q c.args.indent.now deeper deepens c.args.plan.now c.in-Over.node _ kid c.plan_seen.result _ _ _
+    c.in-Over.is seen
     c.in_ok-push_node-in-Over.ensures next
 
 -- the root stands over two plans
@@ -30,5 +31,6 @@ returns-in_ok-push_plan-in-Two-2 t c =
     let halfway = c.push_plan-in-Two.new.text.items in
     let next : AddsPlan q deeper left c.push_node-in-Two.new.text.items halfway = search rules in
     let last : AddsPlan q deeper right halfway c.push_plan-in-Two-2.new.text.items = search rules in
-    two_follows q c.args.indent.now deeper deepens c.args.plan.now c.in-Two.node _ left _ right c.plan_seen-in-Two.result c.plan_seen-in-Two-2.result
+    two_follows q c.args.indent.now deeper deepens c.args.plan.now c.in-Two.node _ left _ right
+    c.plan_seen-in-Two.result c.plan_seen-in-Two-2.result
     _ _ _ _ c.in-Two.is first second c.in_ok-push_node-in-Two.ensures next last

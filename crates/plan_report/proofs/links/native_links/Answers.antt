@@ -24,8 +24,10 @@ returns-clause-over c plan rooted =
     let same : Some found.0 ≡ Some root.line = sym found.1.is_alternative.is_line ∙ root.alternative.is_line in
     let line : found.0 ≡ root.line = cc in
     let groups = groups_of (physical_children e.operator) in
-    let linked = subst (λ l. AreLinked groups (asked_of l c.args.at.wanted) c.links_of.result) line (c.links_of.ensures groups (asked_of found.0 c.args.at.wanted) found.1.asks) in
-    over_linked q groups (asked_of root.line c.args.at.wanted) c.links_of.result (Native e c.args.mode) root.kids plan linked root.least root.is rooted.root
+    let linked = subst (λ l. AreLinked groups (asked_of l c.args.at.wanted) c.links_of.result) line
+    (c.links_of.ensures groups (asked_of found.0 c.args.at.wanted) found.1.asks) in
+    over_linked q groups (asked_of root.line c.args.at.wanted) c.links_of.result (Native e c.args.mode) root.kids plan
+    linked root.least root.is rooted.root
 
 pub returns-clause-lower : goal.returns-clause-lower
 returns-clause-lower c =
@@ -33,6 +35,9 @@ returns-clause-lower c =
     let e = c.args.expr in
     let root = native_root q c.args.at c.requires.rooted.0 e c.args.mode c.requires.rooted.1 in
     let found = c.in-Some.ensures in
-    let linked = c.links_of.ensures (groups_of (physical_children e.operator)) (asked_of found.0 c.args.at.wanted) found.1.asks in
-    native_lower q (c.ranks_fall.ensures.closure q) c.args.at c.requires.goal (c.goals_are_known.ensures.candidates q (goal_of c.args.at) c.requires.goal) e c.args.mode found.0 root.member
-    (c.members_are_candidates.ensures q (expr_of e) root.member) root.of_group found.1.is_alternative c.links_of.result linked
+    let linked = c.links_of.ensures (groups_of (physical_children e.operator)) (asked_of found.0 c.args.at.wanted)
+    found.1.asks in
+    native_lower q (c.ranks_fall.ensures.closure q) c.args.at c.requires.goal
+    (c.goals_are_known.ensures.candidates q (goal_of c.args.at) c.requires.goal) e c.args.mode found.0 root.member
+    (c.members_are_candidates.ensures q (expr_of e) root.member) root.of_group found.1.is_alternative c.links_of.result
+    linked

@@ -11,5 +11,6 @@ returns c = λ tree spells valid cost.
     let has = valid_groups q (c.members_are_candidates.ensures q) tree valid in
     let lines : List ℕ = concat (plan_lines q 0 tree) in
     let added = c.in_ok-push_plan.ensures 0 tree refl spells has in
-    added ∙ ap (λ front. front ++ lines) c.in_ok-text.ensures ∙ append_assoc (cost_line c.args.cost) (output_line q) lines
+    added ∙ ap (λ front. front ++ lines) c.in_ok-text.ensures
+    ∙ append_assoc (cost_line c.args.cost) (output_line q) lines
     ∙ ap (λ n. cost_line n ++ (output_line q ++ lines)) cost

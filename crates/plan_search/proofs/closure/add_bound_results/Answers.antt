@@ -12,13 +12,16 @@ use Rattle.plan_search.proofs.closure.add_bound_results.Goals as goal
 pub words_of-requires-clause-in_range : goal.words_of-requires-clause-in_range
 words_of-requires-clause-in_range c =
     let (right, is) = c.in-Some.ensures in
-    (subst (λ o. AreInRange (children_of o)) is (c.members_are_known.ensures.packed c.args.query.now c.args.e c.requires.member).children).0
+    (subst (λ o. AreInRange (children_of o)) is
+    (c.members_are_known.ensures.packed c.args.query.now c.args.e c.requires.member).children).0
 
 -- the left group's words are among the words of members
 pub add_results_with_each-requires-clause-members : goal.add_results_with_each-requires-clause-members
 add_results_with_each-requires-clause-members c k d within =
-    All-contains (IsMemberWord c.args.query.now) c.args.words.now (slice_index_or c.words_of.result.now k d) c.requires.words.members
-    (c.words_of.ensures.part (slice_index_or c.words_of.result.now k d) (Contains-get_or c.words_of.result.now k d within))
+    All-contains (IsMemberWord c.args.query.now) c.args.words.now (slice_index_or c.words_of.result.now k d)
+    c.requires.words.members
+    (c.words_of.ensures.part (slice_index_or c.words_of.result.now k d)
+    (Contains-get_or c.words_of.result.now k d within))
 
 -- a bound member is one of the left group
 pub returns-in-Some : goal.returns-in-Some
@@ -30,7 +33,8 @@ returns-in-Some c =
       holds = λ bound member there rule n other has.
           found.holds bound member
           (c.words_of.ensures.members bound (c.members_are_known.ensures.packed q bound member)
-          (left_one c.args.e bound.group c.in-Some.left (c.results_are_known.ensures.left q rule c.args.e bound n other has) c.in-Some.ensures) there)
+          (left_one c.args.e bound.group c.in-Some.left
+          (c.results_are_known.ensures.left q rule c.args.e bound n other has) c.in-Some.ensures) there)
           rule n other has;
     })
     c.add_results_with_each.ensures
@@ -40,5 +44,6 @@ pub returns-in-None : goal.returns-in-None
 returns-in-None c = record {
   grows = grows_not c.args.query.now c.args.found.now;
   holds = λ bound member there rule n other has.
-      absurd (c.in-None.ensures bound.group (c.results_are_known.ensures.left c.args.query.now rule c.args.e bound n other has));
+      absurd (c.in-None.ensures bound.group (c.results_are_known.ensures.left c.args.query.now rule c.args.e bound n
+      other has));
 }

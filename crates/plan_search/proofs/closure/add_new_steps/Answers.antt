@@ -10,13 +10,15 @@ use Rattle.plan_search.proofs.closure.add_new_steps.Goals as goal
 pub add_all_steps-requires-clause-new : goal.add_all_steps-requires-clause-new
 add_all_steps-requires-clause-new c =
     subst (All (IsMemberWord c.args.query.now)) (sym c.deref.ensures.value)
-    (part_members c.args.query.now c.args.words.now c.in_ok-new.new.items c.requires.words.members c.in_ok-new.ensures.part)
+    (part_members c.args.query.now c.args.words.now c.in_ok-new.new.items c.requires.words.members
+    c.in_ok-new.ensures.part)
 
 pub add_all_bound_results-requires : goal.add_all_bound_results-requires
 add_all_bound_results-requires c = record {
   words = c.requires.words.members;
   new = subst (AreMemberWords c.args.query.now) (sym c.deref-2.ensures.value) (record {
-    members = part_members c.args.query.now c.args.words.now c.in_ok-new.new.items c.requires.words.members c.in_ok-new.ensures.part;
+    members = part_members c.args.query.now c.args.words.now c.in_ok-new.new.items c.requires.words.members
+        c.in_ok-new.ensures.part;
     ascending = c.in_ok-new.ensures.ascending;
   });
 }
@@ -30,7 +32,8 @@ returns c =
     let xs = c.args.found.now in
     let ys = c.add_all_steps.new.found in
     let zs = c.add_all_bound_results.new.found in
-    let fresh : GrowsTo q (AreSteps q words new) xs ys = subst (λ ws. GrowsTo q (AreSteps q words ws) xs ys) c.deref.ensures.value c.in_ok-add_all_steps.ensures in
+    let fresh : GrowsTo q (AreSteps q words new) xs ys =
+    subst (λ ws. GrowsTo q (AreSteps q words ws) xs ys) c.deref.ensures.value c.in_ok-add_all_steps.ensures in
     on_ok_weaker c.add_all_bound_results.result
     (λ bound. all_done q words c.args.done.now new xs ys zs c.in_ok-new.ensures c.requires.done fresh
     (subst (λ ws. GrowsTo q (AreBoundSteps q ws words) ys zs) c.deref-2.ensures.value bound))

@@ -7,6 +7,7 @@ use Rattle.plan_search.proofs.closure.add_origins.Goals as goal
 pub returns-in_ok-add_origin-in-Two : goal.returns-in_ok-add_origin-in-Two
 returns-in_ok-add_origin-in-Two c =
     on_ok_weaker c.add_origin-in-Two-2.result
-    (two_origins c.args.query.now c.args.e c.args.found.now c.add_origin-in-Two.new.found c.add_origin-in-Two-2.new.found c.in-Two.left c.in-Two.right
+    (two_origins c.args.query.now c.args.e c.args.found.now c.add_origin-in-Two.new.found
+    c.add_origin-in-Two-2.new.found c.in-Two.left c.in-Two.right
     (sym c.children.ensures ∙ c.in-Two.is) c.in_ok-add_origin-in-Two.ensures)
     c.add_origin-in-Two-2.ensures

@@ -7,7 +7,8 @@ use Rattle.plan_search.proofs.closure.add_result.Goals as goal
 
 -- a result of members is a member
 pub add-requires : goal.add-requires
-add-requires c = member_result c.args.query.now c.args.rule c.args.e c.args.bound c.args.n c.in-Some.other c.requires c.in-Some.ensures
+add-requires c = member_result c.args.query.now c.args.rule c.args.e c.args.bound c.args.n c.in-Some.other c.requires
+    c.in-Some.ensures
 
 -- a number is that of one result
 pub returns-in-Some : goal.returns-in-Some
@@ -16,7 +17,8 @@ returns-in-Some c =
     (λ added. record {
       grows = added.grows;
       holds = λ other has. subst (ContainsWordOf c.add.new.found)
-          (c.results_are_candidates.ensures.one c.args.query.now c.args.rule c.args.e c.args.bound c.args.n c.in-Some.other other c.in-Some.ensures has) added.holds;
+          (c.results_are_candidates.ensures.one c.args.query.now c.args.rule c.args.e c.args.bound c.args.n
+          c.in-Some.other other c.in-Some.ensures has) added.holds;
     })
     c.add.ensures
 

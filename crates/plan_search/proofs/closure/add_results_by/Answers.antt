@@ -15,5 +15,6 @@ returns-else-binds-is_some c = record {
   grows = grows_not c.args.query.now c.args.found.now;
   holds = λ n other has.
       let binds = c.results_are_known.ensures.binds c.args.query.now c.args.rule c.args.e c.args.bound n other has in
-      absurd (not_other c.binds.result c.is_some.result (c.binds.ensures ∙ sym binds ∙ sym c.is_some.ensures) c.if-binds-is_some.false);
+      absurd (not_other c.binds.result c.is_some.result (c.binds.ensures ∙ sym binds ∙ sym c.is_some.ensures)
+      c.if-binds-is_some.false);
 }

@@ -6,4 +6,5 @@ use Rattle.plan_search.proofs.closure.add_results_with_each.Given as goal
 -- the results with the members so far are found
 abbrev pub invariant-loop-word : goal.invariant-loop-word
 invariant-loop-word l =
-    GrowsTo l.query (Before (HoldsAt l.query (λ bound. HasResults l.query l.e (Some bound)) l.members) l.word-index) l.initial.found l.found
+    GrowsTo l.query (Before (HoldsAt l.query (λ bound. HasResults l.query l.e (Some bound)) l.members) l.word-index)
+    l.initial.found l.found

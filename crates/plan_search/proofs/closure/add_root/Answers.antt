@@ -10,11 +10,14 @@ use Rattle.plan_search.proofs.closure.add_root.Goals as goal
 pub add-requires : goal.add-requires
 add-requires c =
     let q = c.args.query.now in
-    let same = c.origin_of_group.ensures ∙ ap (origin_of q) (sym (c.group-root.ensures.only (root_of q) c.root.ensures)) in
+    let same = c.origin_of_group.ensures ∙ ap (origin_of q)
+    (sym (c.group-root.ensures.only (root_of q) c.root.ensures)) in
     subst (IsMember q) (sym same) root_origin
 
 pub returns : goal.returns
 returns c =
     let q = c.args.query.now in
-    let same = c.origin_of_group.ensures ∙ ap (origin_of q) (sym (c.group-root.ensures.only (root_of q) c.root.ensures)) in
-    subst (λ e. OnOk c.add.result (GrowsTo q (λ words. ContainsWordOf words e) c.args.found.now c.add.new.found)) same c.add.ensures
+    let same = c.origin_of_group.ensures ∙ ap (origin_of q)
+    (sym (c.group-root.ensures.only (root_of q) c.root.ensures)) in
+    subst (λ e. OnOk c.add.result (GrowsTo q (λ words. ContainsWordOf words e) c.args.found.now c.add.new.found)) same
+    c.add.ensures

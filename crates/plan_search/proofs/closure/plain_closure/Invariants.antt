@@ -6,7 +6,8 @@ use Rattle.xform_rules.specs.Closure.{IsMemberWord}
 use Rattle.plan_search.specs.Steps.{HasOrigin, AreSteps}
 use Rattle.plan_search.proofs.closure.plain_closure.Given as goal
 
--- the words found are those of members, the root's origin among them, and the steps from those that are done, among these, are found
+-- the words found are those of members, the root's origin among them, and the steps from those that are done, among
+-- these, are found
 abbrev pub invariant-loop-done : goal.invariant-loop-done
 invariant-loop-done l = record {
   members : All (IsMemberWord l.query) l.found;

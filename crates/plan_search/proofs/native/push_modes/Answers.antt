@@ -17,7 +17,8 @@ modes-preserved c =
       omega (arith, step.1),
       modes ++ p ∷ [],
       mode_pushed q e mode modes passed p refl refl step.3 c.expr_rows-rows.ensures,
-      c.in_ok-push.ensures.items ∙ ap (λ l. l ++ p ∷ []) c.modes.invariant.3 ∙ append_assoc c.args.list.now.items modes (p ∷ []),
+      c.in_ok-push.ensures.items ∙ ap (λ l. l ++ p ∷ []) c.modes.invariant.3
+          ∙ append_assoc c.args.list.now.items modes (p ∷ []),
     )
 
 -- no mode is left
@@ -25,5 +26,9 @@ pub returns : goal.returns
 returns c =
     let q = c.args.query.now in
     let e = c.args.expr in
-    let modes = c.modes.invariant.1 in
-    (modes, modes_passed q e c.modes.from 192 modes c.modes.invariant.0 (λ mode from below. c.in_default.ensures mode from) c.modes.invariant.2, c.modes.invariant.3)
+    let modes = c.modes.invariant.1 in (
+      modes,
+      modes_passed q e c.modes.from 192 modes c.modes.invariant.0
+          (λ mode from below. c.in_default.ensures mode from) c.modes.invariant.2,
+      c.modes.invariant.3,
+    )

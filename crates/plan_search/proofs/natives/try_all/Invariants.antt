@@ -3,4 +3,5 @@ use Rattle.plan_search.proofs.natives.try_all.Given as goal
 
 -- the members so far are settled
 abbrev pub invariant-loop-p : goal.invariant-loop-p
-invariant-loop-p l = AreTried l.search.query.now l.wanted l.search.answers.now l.fn.group l.list l.p-index l.initial.best l.best
+invariant-loop-p l = AreTried l.search.query.now l.wanted l.search.answers.now l.fn.group l.list l.p-index
+    l.initial.best l.best

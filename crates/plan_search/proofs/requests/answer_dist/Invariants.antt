@@ -6,4 +6,5 @@ use Rattle.plan_search.proofs.requests.answer_dist.Given as goal
 
 -- the requests with lesser orders are answered
 abbrev pub invariant-loop-order : goal.invariant-loop-order
-invariant-loop-order l = AreAnswered l.query l.answers (first_place (key_number l.group) + dist_place l.dist * 64 + l.order)
+invariant-loop-order l = AreAnswered l.query l.answers
+    (first_place (key_number l.group) + dist_place l.dist * 64 + l.order)

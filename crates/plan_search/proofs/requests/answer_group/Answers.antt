@@ -10,4 +10,5 @@ answer_dist-requires-clause-listed c =
     let dist = c.dist_at-dist.result in
     let those = c.in_ok-those.those.items in
     subst (AreListedFor q c.args.group dist) (sym c.deref-in-loop-number.ensures.value)
-    (those_listed q dist c.args.group c.in_ok-list.list.items those (subst (λ l. AreThoseFor q dist l those) c.deref.ensures.value c.in_ok-those.ensures) c.in_ok-list.ensures)
+    (those_listed q dist c.args.group c.in_ok-list.list.items those
+    (subst (λ l. AreThoseFor q dist l those) c.deref.ensures.value c.in_ok-those.ensures) c.in_ok-list.ensures)

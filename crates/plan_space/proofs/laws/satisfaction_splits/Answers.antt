@@ -5,7 +5,8 @@ use Rattle.plan_space.proofs.laws.satisfaction_splits.Goals as goal
 -- a line goes with its left child in distribution and order, and what it asks fits the children
 pub returns-clause-splits : goal.returns-clause-splits
 returns-clause-splits c q e mode kids wanted candidate =
-    satisfaction_splits q e mode kids wanted (λ line is. (candidate_line_fits c.listing_is_one.ensures q e mode line candidate is).asks)
+    satisfaction_splits q e mode kids wanted
+    (λ line is. (candidate_line_fits c.listing_is_one.ensures q e mode line candidate is).asks)
 
 -- the same line by line, the other way round
 pub returns-clause-joins : goal.returns-clause-joins

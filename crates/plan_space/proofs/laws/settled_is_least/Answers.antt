@@ -17,6 +17,8 @@ returns c =
     let packed : (q : Query) → (e : ExprParts) → IsMember q e → IsPacked e =
     λ q e member. c.candidates_are_known.ensures.packed q e (c.members_are_candidates.ensures q e member) in
     λ q.
-    choice.settled_is_least (IsMember q) q (least_at_most (IsMember q) (packed q) c.expressions_are_one.ensures.expressions q)
-    (is_ordered q ((c.listing_is_one.ensures (found_orders q) (orders_of q)).1 refl).rises) (c.members_are_candidates.ensures q)
+    choice.settled_is_least (IsMember q) q (least_at_most (IsMember q) (packed q)
+    c.expressions_are_one.ensures.expressions q)
+    (is_ordered q ((c.listing_is_one.ensures (found_orders q) (orders_of q)).1 refl).rises)
+    (c.members_are_candidates.ensures q)
     (c.what_is_given_fits.ensures q) (c.satisfaction_splits.ensures.splits q)

@@ -8,7 +8,8 @@ abbrev pub invariant-modes : goal.invariant-modes
 invariant-modes l = record {
   few : l.seen ≤ l.n;
   within : l.from ≤ 192;
-  others : slice_get (passing (has l.query l.expr l.request) l.from (192 - l.from)) (l.n - l.seen) ≡ slice_get (passing (has l.query l.expr l.request) 0 192) l.n;
+  others : slice_get (passing (has l.query l.expr l.request) l.from (192 - l.from)) (l.n - l.seen) ≡ slice_get
+      (passing (has l.query l.expr l.request) 0 192) l.n;
 }
 
 abbrev pub decreases-modes : goal.decreases-modes

@@ -9,7 +9,8 @@ pub returns-in-Some-Enforcer-clause-value : goal.returns-in-Some-Enforcer-clause
 returns-in-Some-Enforcer-clause-value c = λ g e rows is.
     let told = (c.in-Some-Enforcer.ensures.exact (nodes.Enforcer e)).0 is in
     let same : c.in-Some-Enforcer.enforcer ≡ e = cc in
-    subst (λ (x : Enforcer). IsCostAmong c.args.query.now x g c.args.request c.cost_among.result) same (c.cost_among.ensures.value g rows)
+    subst (λ (x : Enforcer). IsCostAmong c.args.query.now x g c.args.request c.cost_among.result) same
+    (c.cost_among.ensures.value g rows)
 
 -- and of no expression
 pub returns-in-Some-Native-clause-value : goal.returns-in-Some-Native-clause-value

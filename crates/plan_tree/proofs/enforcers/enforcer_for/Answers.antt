@@ -10,5 +10,6 @@ enforcer-requires-clause-key c = (c.args.group, record { number = c.make.ensures
 
 pub returns : goal.returns
 returns c =
-    let named : Names c.args.query.now c.make.result c.args.group = record { number = c.make.ensures.number; known = c.requires.known } in
+    let named : Names c.args.query.now c.make.result c.args.group =
+    record { number = c.make.ensures.number; known = c.requires.known } in
     c.enforcer.ensures.fitting c.args.group named c.requires.fits

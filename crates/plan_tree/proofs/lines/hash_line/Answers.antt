@@ -10,7 +10,9 @@ pub returns-in_ok-sides-in-Hashed : goal.returns-in_ok-sides-in-Hashed
 returns-in_ok-sides-in-Hashed c =
     let q = c.args.query.now in
     let number = c.in-Hashed.number in
-    let is = sides_found q (crossing_of q c.args.left c.args.right number) c.in_ok-sides-in-Hashed.sides c.in_ok-sides-in-Hashed.ensures in
+    let is = sides_found q (crossing_of q c.args.left c.args.right number) c.in_ok-sides-in-Hashed.sides
+    c.in_ok-sides-in-Hashed.ensures in
     let made = c.hash_colocated.ensures is.first is.second is.is_left is.is_right in
-    subst (λ (mode : Mode). Some c.hash_colocated.result ≡ hash_line q c.args.left c.args.right mode) (sym c.in-Hashed.is)
+    subst (λ (mode : Mode). Some c.hash_colocated.result ≡ hash_line q c.args.left c.args.right mode)
+    (sym c.in-Hashed.is)
     (hash_found q c.args.left c.args.right number is.first is.second c.hash_colocated.result is.is_found made)

@@ -12,9 +12,11 @@ pub returns-in_ok-sides-in-One : goal.returns-in_ok-sides-in-One
 returns-in_ok-sides-in-One c =
     let q = c.args.query.now in
     let number = c.in-One.number in
-    let is = sides_found q (crossing_of q c.args.left c.args.right number) c.in_ok-sides-in-One.sides c.in_ok-sides-in-One.ensures in
+    let is = sides_found q (crossing_of q c.args.left c.args.right number) c.in_ok-sides-in-One.sides
+    c.in_ok-sides-in-One.ensures in
     let made : c.merge_with.result ≡ merge_with q on_one dists.One (is.first, is.second) =
-    subst (λ (dist : LeftDist). c.merge_with.result ≡ merge_with q dist dists.One (is.first, is.second)) c.left_on_one.ensures
+    subst (λ (dist : LeftDist). c.merge_with.result ≡ merge_with q dist dists.One (is.first, is.second))
+    c.left_on_one.ensures
     (c.merge_with.ensures is.first is.second is.is_left is.is_right)
     in
     subst (λ (mode : Mode). Some c.merge_with.result ≡ merge_line q c.args.left c.args.right mode) (sym c.in-One.is)
@@ -24,16 +26,20 @@ pub returns-in_ok-sides-in-Copied : goal.returns-in_ok-sides-in-Copied
 returns-in_ok-sides-in-Copied c =
     let q = c.args.query.now in
     let number = c.in-Copied.number in
-    let is = sides_found q (crossing_of q c.args.left c.args.right number) c.in_ok-sides-in-Copied.sides c.in_ok-sides-in-Copied.ensures in
+    let is = sides_found q (crossing_of q c.args.left c.args.right number) c.in_ok-sides-in-Copied.sides
+    c.in_ok-sides-in-Copied.ensures in
     let made = c.merge_with-in-Copied.ensures is.first is.second is.is_left is.is_right in
-    subst (λ (mode : Mode). Some c.merge_with-in-Copied.result ≡ merge_line q c.args.left c.args.right mode) (sym c.in-Copied.is)
+    subst (λ (mode : Mode). Some c.merge_with-in-Copied.result ≡ merge_line q c.args.left c.args.right mode)
+    (sym c.in-Copied.is)
     (merge_copied q c.args.left c.args.right number is.first is.second c.merge_with-in-Copied.result is.is_found made)
 
 pub returns-in_ok-sides-in-Hashed : goal.returns-in_ok-sides-in-Hashed
 returns-in_ok-sides-in-Hashed c =
     let q = c.args.query.now in
     let number = c.in-Hashed.number in
-    let is = sides_found q (crossing_of q c.args.left c.args.right number) c.in_ok-sides-in-Hashed.sides c.in_ok-sides-in-Hashed.ensures in
+    let is = sides_found q (crossing_of q c.args.left c.args.right number) c.in_ok-sides-in-Hashed.sides
+    c.in_ok-sides-in-Hashed.ensures in
     let made = c.merge_colocated.ensures is.first is.second is.is_left is.is_right in
-    subst (λ (mode : Mode). Some c.merge_colocated.result ≡ merge_line q c.args.left c.args.right mode) (sym c.in-Hashed.is)
+    subst (λ (mode : Mode). Some c.merge_colocated.result ≡ merge_line q c.args.left c.args.right mode)
+    (sym c.in-Hashed.is)
     (merge_hashed q c.args.left c.args.right number is.first is.second c.merge_colocated.result is.is_found made)

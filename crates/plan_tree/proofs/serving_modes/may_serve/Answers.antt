@@ -1,4 +1,5 @@
--- A hash join serves exactly the requests without an order whose distribution it can give, a loop join those whose order
+-- A hash join serves exactly the requests without an order whose distribution it can give, a loop join those whose
+-- order
 -- fits its left child, and a merge join those whose order a column gives by which it merges.
 use Rattle.std.proofs.Common.{ap, sym, ◌∙◌}
 use Rattle.std.proofs.lemmas.Bool.{false≢true, false_from_ne_true, not-true, not_from_false}
@@ -14,15 +15,18 @@ returns-then-wants_no_order c =
     let q = c.args.query.now in
     let e = c.args.expr in
     let join = c.in-HashJoin in (
-      λ suits. hash_join_serves q e join.left join.field-1 c.args.wanted (c.dist_suits.ensures.0 suits) join.is (c.wants_no_order.ensures.0 c.if-wants_no_order.true),
-      λ serves. c.dist_suits.ensures.1 (dist_suits q e join.left join.field-1 c.args.wanted (ap physical_children join.is) c.requires.numbered serves),
+      λ suits. hash_join_serves q e join.left join.field-1 c.args.wanted (c.dist_suits.ensures.0 suits) join.is
+          (c.wants_no_order.ensures.0 c.if-wants_no_order.true),
+      λ serves. c.dist_suits.ensures.1 (dist_suits q e join.left join.field-1 c.args.wanted
+          (ap physical_children join.is) c.requires.numbered serves),
     )
 
 pub returns-else-wants_no_order : goal.returns-else-wants_no_order
 returns-else-wants_no_order c =
     let join = c.in-HashJoin in (
       λ is. absurd (false≢true (sym c.if-wants_no_order.false ∙ is)),
-      λ serves. c.wants_no_order.ensures.1 (hash_join_none c.args.query.now c.args.expr join.left join.field-1 c.args.wanted join.is serves),
+      λ serves. c.wants_no_order.ensures.1 (hash_join_none c.args.query.now c.args.expr join.left join.field-1
+          c.args.wanted join.is serves),
     )
 
 pub returns-then-dist_suits : goal.returns-then-dist_suits
@@ -33,11 +37,14 @@ returns-then-dist_suits c =
     let suits = c.dist_suits-in-MergeJoin.ensures.0 c.if-dist_suits.true in (
       λ some.
           let merging = c.is_empty.ensures.some (not-true c.is_empty.result some) in
-          merge_join_serves q e join.left join.right c.args.wanted suits (c.what_is_asked_fits.ensures.crossings q) c.requires.candidate join.is
+          merge_join_serves q e join.left join.right c.args.wanted suits (c.what_is_asked_fits.ensures.crossings q)
+          c.requires.candidate join.is
           merging.0 ((c.merging.ensures merging.0).0 merging.1),
       λ serves.
-          let merging = merge_join_merges q e join.left join.right c.args.wanted c.merging.result c.merging.ensures join.is serves in
-          not_from_false c.is_empty.result (false_from_ne_true c.is_empty.result (λ empty. c.is_empty.ensures.none empty merging.0 merging.1)),
+          let merging = merge_join_merges q e join.left join.right c.args.wanted c.merging.result c.merging.ensures
+          join.is serves in
+          not_from_false c.is_empty.result (false_from_ne_true c.is_empty.result
+          (λ empty. c.is_empty.ensures.none empty merging.0 merging.1)),
     )
 
 pub returns-else-dist_suits : goal.returns-else-dist_suits
@@ -45,7 +52,8 @@ returns-else-dist_suits c =
     let join = c.in-MergeJoin in (
       λ is. absurd (false≢true (sym c.if-dist_suits.false ∙ is)),
       λ serves. c.dist_suits-in-MergeJoin.ensures.1
-          (dist_suits c.args.query.now c.args.expr join.left join.right c.args.wanted (ap physical_children join.is) c.requires.numbered serves),
+          (dist_suits c.args.query.now c.args.expr join.left join.right c.args.wanted (ap physical_children join.is)
+          c.requires.numbered serves),
     )
 
 pub returns-then-dist_suits-2 : goal.returns-then-dist_suits-2
@@ -53,8 +61,10 @@ returns-then-dist_suits-2 c =
     let q = c.args.query.now in
     let e = c.args.expr in
     let join = c.in-LoopJoin in (
-      λ fits. loop_join_serves q e join.left join.field-1 c.args.wanted (c.dist_suits-in-LoopJoin.ensures.0 c.if-dist_suits-2.true) join.is (c.order_fits.ensures.0 fits),
-      λ serves. c.order_fits.ensures.1 (order_suits q e join.left join.field-1 c.args.wanted (ap physical_children join.is) c.requires.numbered serves),
+      λ fits. loop_join_serves q e join.left join.field-1 c.args.wanted
+          (c.dist_suits-in-LoopJoin.ensures.0 c.if-dist_suits-2.true) join.is (c.order_fits.ensures.0 fits),
+      λ serves. c.order_fits.ensures.1 (order_suits q e join.left join.field-1 c.args.wanted
+          (ap physical_children join.is) c.requires.numbered serves),
     )
 
 pub returns-else-dist_suits-2 : goal.returns-else-dist_suits-2
@@ -62,5 +72,6 @@ returns-else-dist_suits-2 c =
     let join = c.in-LoopJoin in (
       λ is. absurd (false≢true (sym c.if-dist_suits-2.false ∙ is)),
       λ serves. c.dist_suits-in-LoopJoin.ensures.1
-          (dist_suits c.args.query.now c.args.expr join.left join.field-1 c.args.wanted (ap physical_children join.is) c.requires.numbered serves),
+          (dist_suits c.args.query.now c.args.expr join.left join.field-1 c.args.wanted (ap physical_children join.is)
+          c.requires.numbered serves),
     )

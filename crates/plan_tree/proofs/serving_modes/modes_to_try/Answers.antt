@@ -11,14 +11,16 @@ use Rattle.plan_tree.proofs.serving_modes.modes_to_try.Goals as goal
 pub returns-in-One : goal.returns-in-One
 returns-in-One c =
     let both = sym c.has_spread_modes.ensures ∙ c.if-not-has_spread_modes.false in
-    kind_to_try c.args.query.now c.args.expr c.args.wanted c.modes_by_operator-modes.result c.on_one.result IsOnOne c.modes_by_operator-modes.ensures c.on_one.ensures
+    kind_to_try c.args.query.now c.args.expr c.args.wanted c.modes_by_operator-modes.result c.on_one.result IsOnOne
+    c.modes_by_operator-modes.ensures c.on_one.ensures
     (λ mode serves. alternative_mode c.args.query.now c.args.expr c.args.wanted One mode both c.in-One.is serves)
     (λ mode is. subst (λ (dist : Dist). IsModeFor dist mode) (sym c.in-One.is) is)
 
 pub returns-in-Spread : goal.returns-in-Spread
 returns-in-Spread c =
     let both = sym c.has_spread_modes.ensures ∙ c.if-not-has_spread_modes.false in
-    kind_to_try c.args.query.now c.args.expr c.args.wanted c.modes_by_operator-modes.result c.spread.result IsSpread c.modes_by_operator-modes.ensures c.spread.ensures
+    kind_to_try c.args.query.now c.args.expr c.args.wanted c.modes_by_operator-modes.result c.spread.result IsSpread
+    c.modes_by_operator-modes.ensures c.spread.ensures
     (λ mode serves. alternative_mode c.args.query.now c.args.expr c.args.wanted Spread mode both c.in-Spread.is serves)
     (λ mode is. subst (λ (dist : Dist). IsModeFor dist mode) (sym c.in-Spread.is) is)
 
@@ -26,13 +28,15 @@ pub returns-in-Copies : goal.returns-in-Copies
 returns-in-Copies c =
     let both = sym c.has_spread_modes.ensures ∙ c.if-not-has_spread_modes.false in
     record {
-      all = λ mode serves. absurd (alternative_mode c.args.query.now c.args.expr c.args.wanted Copies mode both c.in-Copies.is serves);
+      all = λ mode serves. absurd (alternative_mode c.args.query.now c.args.expr c.args.wanted Copies mode both
+          c.in-Copies.is serves);
       only = λ candidate join mode has. absurd (c.none.ensures _ has);
     }
 
 pub returns-in-Hashed : goal.returns-in-Hashed
 returns-in-Hashed c =
     let both = sym c.has_spread_modes.ensures ∙ c.if-not-has_spread_modes.false in
-    kind_to_try c.args.query.now c.args.expr c.args.wanted c.modes_by_operator-modes.result c.spread-in-Hashed.result IsSpread c.modes_by_operator-modes.ensures c.spread-in-Hashed.ensures
+    kind_to_try c.args.query.now c.args.expr c.args.wanted c.modes_by_operator-modes.result c.spread-in-Hashed.result
+    IsSpread c.modes_by_operator-modes.ensures c.spread-in-Hashed.ensures
     (λ mode serves. alternative_mode c.args.query.now c.args.expr c.args.wanted _ mode both c.in-Hashed.is serves)
     (λ mode is. subst (λ (dist : Dist). IsModeFor dist mode) (sym c.in-Hashed.is) is)

@@ -5,4 +5,11 @@ use Rattle.query_core.proofs.ExpressionLemmas.{key_small}
 use Rattle.query_core.proofs.candidates.groups_are_known.Goals as goal
 
 pub returns : goal.returns
-returns c = record { in_range = group_in_range; small = key_small; joined = top_group; input = input_group; root = root_group }
+returns c = record {
+  in_range = group_in_range;
+  small = key_small;
+  joined = top_group;
+  input = input_group;
+  root =
+      root_group;
+}

@@ -10,7 +10,8 @@ with-found-requires c = has_below c.args.set c.args.from (search rules) c.requir
 pub loop-table-init : goal.loop-table-init
 loop-table-init c = record {
   first = c.with-found.ensures.adds.this;
-  sound = reached_first c.args.links.now c.args.set c.args.from c.with-found.result c.requires c.with-found.ensures.adds;
+  sound = reached_first c.args.links.now c.args.set c.args.from c.with-found.result c.requires
+      c.with-found.ensures.adds;
 }
 
 pub with-found-requires-in-Some : goal.with-found-requires-in-Some
@@ -20,11 +21,13 @@ with-found-requires-in-Some c = has_below c.args.set c.in-Some.table (search rul
 pub loop-table-preserved : goal.loop-table-preserved
 loop-table-preserved c = record {
   first = search rules;
-  sound = reached_next c.args.links.now c.args.set c.args.from c.loop-table.found c.with-found-in-Some.result c.in-Some.table
+  sound = reached_next c.args.links.now c.args.set c.args.from c.loop-table.found c.with-found-in-Some.result
+      c.in-Some.table
       c.loop-table.invariant.sound c.in-Some.ensures.1 c.with-found-in-Some.ensures.adds;
 }
 
 -- no link leads out of what is found
 pub returns : goal.returns
 returns c =
-    reached_is c.args.links.now c.args.set c.args.from c.loop-table.found c.loop-table.invariant.first c.in_default.ensures c.loop-table.invariant.sound
+    reached_is c.args.links.now c.args.set c.args.from c.loop-table.found c.loop-table.invariant.first
+    c.in_default.ensures c.loop-table.invariant.sound

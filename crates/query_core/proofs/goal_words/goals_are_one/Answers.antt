@@ -3,4 +3,12 @@ use Rattle.query_core.proofs.GoalLemmas.{fields_read, goal_one, kinds_rise, numb
 use Rattle.query_core.proofs.goal_words.goals_are_one.Goals as goal
 
 pub returns : goal.returns
-returns c = record { one = goal_one; fields = fields_read; small = number_small; kinds = kinds_rise; high = λ parts. omega arith; low = λ word fits. omega (arith, fits) }
+returns c = record {
+  one = goal_one;
+  fields = fields_read;
+  small = number_small;
+  kinds = kinds_rise;
+  high =
+      λ parts. omega arith;
+  low = λ word fits. omega (arith, fits);
+}

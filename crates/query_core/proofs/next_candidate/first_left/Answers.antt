@@ -7,5 +7,6 @@ use Rattle.query_core.proofs.next_candidate.first_left.Goals as goal
 
 pub returns : goal.returns
 returns c left right less in_right =
-    join_below c.args.set c.args.kind c.args.bound c.make-least.result.0 (c.make-least.ensures.number ∙ ap (λ o. word_of (expr (Join c.args.set) o)) c.of-operator.ensures)
+    join_below c.args.set c.args.kind c.args.bound c.make-least.result.0 (c.make-least.ensures.number
+    ∙ ap (λ o. word_of (expr (Join c.args.set) o)) c.of-operator.ensures)
     left right (omega arith) in_right

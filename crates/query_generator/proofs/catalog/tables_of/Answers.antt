@@ -11,6 +11,7 @@ loop-i-init c = record { made = c.new-list.ensures; drawn = c.of-draws.ensures }
 -- the table that was made goes last
 pub loop-i-preserved : goal.loop-i-preserved
 loop-i-preserved c = record {
-  made = next_mapped (table_of c.args.number) c.loop-i.i c.loop-i.list c.push.new.self c.in_ok-table.table c.loop-i.invariant.made c.in_ok-table.ensures.table c.in_ok-push.ensures.ok;
+  made = next_mapped (table_of c.args.number) c.loop-i.i c.loop-i.list c.push.new.self c.in_ok-table.table
+      c.loop-i.invariant.made c.in_ok-table.ensures.table c.in_ok-push.ensures.ok;
   drawn = c.in_ok-table.ensures.drawn;
 }

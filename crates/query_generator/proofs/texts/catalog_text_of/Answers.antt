@@ -6,7 +6,9 @@ use Rattle.query_generator.proofs.texts.catalog_text_of.Goals as goal
 
 -- the catalogue of a number keeps the limits
 pub write_catalog-requires : goal.write_catalog-requires
-write_catalog-requires c = subst IsCatalog (sym c.in_ok-catalog.ensures) (catalog_kept c.args.number c.args.tables c.requires)
+write_catalog-requires c = subst IsCatalog (sym c.in_ok-catalog.ensures)
+    (catalog_kept c.args.number c.args.tables c.requires)
 
 pub returns : goal.returns
-returns c = catalog_said (λ v. v.items) c.args.number c.args.tables c.in_ok-catalog.catalog c.write_catalog.result c.requires c.in_ok-catalog.ensures c.write_catalog.ensures.text c.write_catalog.ensures.reads_back
+returns c = catalog_said (λ v. v.items) c.args.number c.args.tables c.in_ok-catalog.catalog c.write_catalog.result
+    c.requires c.in_ok-catalog.ensures c.write_catalog.ensures.text c.write_catalog.ensures.reads_back

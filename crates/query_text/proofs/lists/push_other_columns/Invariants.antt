@@ -6,4 +6,5 @@ use Rattle.query_text.proofs.lists.push_other_columns.Given as goal
 
 -- the columns before this one were added
 abbrev pub invariant-loop-column : goal.invariant-loop-column
-invariant-loop-column l = Adds (string_bytes l.fn.text) (texts.other_columns_text l.query (take l.column-index l.columns)) (string_bytes l.text)
+invariant-loop-column l = Adds (string_bytes l.fn.text)
+    (texts.other_columns_text l.query (take l.column-index l.columns)) (string_bytes l.text)

@@ -7,4 +7,5 @@ use Rattle.query_text.proofs.lists.push_other_keys.Given as goal
 
 -- the elements before this one were added
 abbrev pub invariant-loop-key : goal.invariant-loop-key
-invariant-loop-key l = Adds (string_bytes l.fn.text) (texts.other_elements_text l.query (elements_of (take l.key-index l.keys))) (string_bytes l.text)
+invariant-loop-key l = Adds (string_bytes l.fn.text)
+    (texts.other_elements_text l.query (elements_of (take l.key-index l.keys))) (string_bytes l.text)

@@ -7,6 +7,8 @@ use Rattle.request_props.proofs.candidates.group_candidates.Goals as goal
 pub loop-number-preserved : goal.loop-number-preserved
 loop-number-preserved c = record {
   count = omega (arith, c.in_ok-push.ensures.len, c.loop-number.invariant.count);
-  each = lists_more c.args.query.now (AreCandidatesOf c.args.query.now) c.loop-number.lists.items c.push.new.self.items c.loop-number.number c.in_ok-candidates_at.field-0
-      c.in_ok-push.ensures.items c.loop-number.invariant.count c.loop-number.invariant.each c.in_ok-candidates_at.ensures;
+  each = lists_more c.args.query.now (AreCandidatesOf c.args.query.now) c.loop-number.lists.items c.push.new.self.items
+      c.loop-number.number c.in_ok-candidates_at.field-0
+      c.in_ok-push.ensures.items c.loop-number.invariant.count c.loop-number.invariant.each
+      c.in_ok-candidates_at.ensures;
 }

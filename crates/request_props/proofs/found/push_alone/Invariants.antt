@@ -4,4 +4,5 @@ use Rattle.request_props.proofs.found.push_alone.Given as goal
 
 -- the lists so far, and those of the numbers that are left
 abbrev pub invariant-loop-number : goal.invariant-loop-number
-invariant-loop-number l = l.found.items ++ one_each (drop l.number-index l.numbers) ≡ l.fn.found.items ++ one_each l.numbers
+invariant-loop-number l = l.found.items ++ one_each (drop l.number-index l.numbers) ≡ l.fn.found.items ++ one_each
+    l.numbers

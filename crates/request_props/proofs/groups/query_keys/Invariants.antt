@@ -4,4 +4,8 @@ use Rattle.request_props.proofs.groups.query_keys.Given as goal
 
 -- the keys below this number are told
 abbrev pub invariant-loop-number : goal.invariant-loop-number
-invariant-loop-number l = record { count : length l.keys.items ≡ l.number; each : AreKeysBelow l.query l.number l.keys.items }
+invariant-loop-number l = record {
+  count : length l.keys.items ≡ l.number;
+  each : AreKeysBelow l.query l.number
+      l.keys.items;
+}

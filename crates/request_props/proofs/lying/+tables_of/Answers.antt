@@ -6,4 +6,5 @@ returns-in-empty t c = over_empty c.args.query.now c.args.list.now c.in-empty.le
 
 pub returns-in-len1-up : goal.returns-in-len1-up
 returns-in-len1-up t c =
-    over_front c.args.query.now c.args.list.now c.tables_of.result c.with_item.result c.in-len1-up.len_at_least c.tables_of.ensures c.with_item.ensures
+    over_front c.args.query.now c.args.list.now c.tables_of.result c.with_item.result c.in-len1-up.len_at_least
+    c.tables_of.ensures c.with_item.ensures

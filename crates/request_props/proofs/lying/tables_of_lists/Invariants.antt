@@ -6,5 +6,6 @@ use Rattle.request_props.proofs.lying.tables_of_lists.Given as goal
 abbrev pub invariant-loop-list : goal.invariant-loop-list
 invariant-loop-list l = record {
   count : length l.found.items ≡ l.list-index;
-  each : (k : ℕ) → k < l.list-index → IsOver l.query (slice_index_or l.lists k []) (slice_index_or l.found.items k None);
+  each : (k : ℕ) → k < l.list-index → IsOver l.query (slice_index_or l.lists k [])
+      (slice_index_or l.found.items k None);
 }

@@ -14,4 +14,5 @@ returns-clause-value c =
     let ranks = ranks_by list_cmp_total (λ (list : List ℕ). list) in
     let sorted = c.in_ok-sort_by.ensures.sorted _ ranks (answers_always _ _ _ (λ f a r f' k. search rules)) in
     let kept = dedup_same _ (eq_by_cmp list_cmp) _ (λ x y b f' x' y' k. search rules) _ _ c.dedup_by.ensures.filtered in
-    (listing_only found c.dedup_by.new.self.items).0 (rw kept (sorted_listing found _ c.in_ok-sort_by.ensures.permutation sorted))
+    (listing_only found c.dedup_by.new.self.items).0
+    (rw kept (sorted_listing found _ c.in_ok-sort_by.ensures.permutation sorted))

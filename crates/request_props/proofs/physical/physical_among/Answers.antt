@@ -17,8 +17,10 @@ push_physical-requires c =
 pub loop-place-preserved : goal.loop-place-preserved
 loop-place-preserved c =
     let q = c.args.query.now in
-    found_more q c.args.group c.args.words.now c.requires (c.candidates_are_known.ensures.packed q) c.expressions_are_one.ensures.expressions c.loop-place.place (omega arith)
+    found_more q c.args.group c.args.words.now c.requires (c.candidates_are_known.ensures.packed q)
+    c.expressions_are_one.ensures.expressions c.loop-place.place (omega arith)
     c.loop-place.found c.loop-place.invariant c.push_physical.new.found c.in_ok-push_physical.ensures
 
 pub returns : goal.returns
-returns c = all_physical c.args.query.now c.args.group c.args.words.now c.requires c.loop-place.place c.loop-place.found c.loop-place.invariant (omega arith)
+returns c = all_physical c.args.query.now c.args.group c.args.words.now c.requires c.loop-place.place c.loop-place.found
+    c.loop-place.invariant (omega arith)

@@ -5,5 +5,6 @@ use Rattle.request_props.proofs.props.root_request.Goals as goal
 pub returns : goal.returns
 returns c = record {
   dist = c.root_dist.ensures;
-  order = rw (c.order_number.ensures, c.as_slice.ensures.value, c.in_ok-wanted_order.ensures.value) (wanted_number c.args.query.now);
+  order = rw (c.order_number.ensures, c.as_slice.ensures.value, c.in_ok-wanted_order.ensures.value)
+      (wanted_number c.args.query.now);
 }

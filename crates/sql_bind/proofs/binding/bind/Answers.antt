@@ -6,7 +6,8 @@ use Rattle.sql_bind.proofs.binding.bind.Goals as goal
 pub returns-in_err-parts : goal.returns-in_err-parts
 returns-in_err-parts c =
     let raised = err_from_is_err_and c.from_residual.result c.from_residual.ensures.1 in
-    rw raised.1 (no_parts c.args.select.now c.args.catalog.now c.in_err-parts.field-0.0 raised.0 c.in_err-parts.ensures raised.2)
+    rw raised.1 (no_parts c.args.select.now c.args.catalog.now c.in_err-parts.field-0.0 raised.0 c.in_err-parts.ensures
+    raised.2)
 
 -- the parts are named as they were
 pub judged_query-requires : goal.judged_query-requires

@@ -13,11 +13,20 @@ preds_of-requires c = rw c.requires.used (is_valid c.requires.named c.requires.j
 
 pub links_of-requires-clause-tables : goal.links_of-requires-clause-tables
 links_of-requires-clause-tables c =
-    rw (c.as_slice-4.ensures, c.in_ok-tables.ensures, c.as_slice.ensures, c.requires.used) (is_valid c.requires.named c.requires.judged).tables
+    rw (c.as_slice-4.ensures, c.in_ok-tables.ensures, c.as_slice.ensures, c.requires.used)
+    (is_valid c.requires.named c.requires.judged).tables
 
 pub links_of-requires-clause-items : goal.links_of-requires-clause-items
 links_of-requires-clause-items c =
-    rw (c.as_slice-4.ensures, c.as_slice-5.ensures, c.in_ok-tables.ensures, c.in_ok-items.ensures, c.as_slice.ensures, c.as_slice-2.ensures, c.requires.used) (is_valid c.requires.named c.requires.judged).items
+    rw (
+      c.as_slice-4.ensures,
+      c.as_slice-5.ensures,
+      c.in_ok-tables.ensures,
+      c.in_ok-items.ensures,
+      c.as_slice.ensures,
+      c.as_slice-2.ensures,
+      c.requires.used,
+    ) (is_valid c.requires.named c.requires.judged).items
 
 pub group_of-requires : goal.group_of-requires
 group_of-requires c = rw c.requires.used (is_valid c.requires.named c.requires.judged).few
@@ -38,11 +47,54 @@ invariant_of-result c =
       has_segments = at_least_1 c.args.catalog.now.segments c.requires.named.catalogue.segment_count;
       segments_fit = at_most_1000 c.args.catalog.now.segments c.requires.named.catalogue.segment_count;
       tables_valid = rw (c.in_ok-tables.ensures, c.as_slice.ensures, c.requires.used) made.tables;
-      items_valid = rw (c.in_ok-tables.ensures, c.in_ok-items.ensures, c.as_slice.ensures, c.as_slice-2.ensures, c.requires.used) made.items;
-      preds_valid = rw (c.in_ok-items.ensures, c.as_slice-2.ensures, c.in_ok-preds.ensures, c.as_slice-3.ensures, c.requires.used) made.preds;
+      items_valid = rw (
+        c.in_ok-tables.ensures,
+        c.in_ok-items.ensures,
+        c.as_slice.ensures,
+        c.as_slice-2.ensures,
+        c.requires.used,
+      ) made.items;
+      preds_valid = rw (
+        c.in_ok-items.ensures,
+        c.as_slice-2.ensures,
+        c.in_ok-preds.ensures,
+        c.as_slice-3.ensures,
+        c.requires.used,
+      ) made.preds;
       links_valid = rw (← c.as_slice-4.ensures, ← c.as_slice-5.ensures, ← c.as_slice-6.ensures) c.in_ok-links.ensures;
-      grouping_valid = rw (c.in_ok-items.ensures, c.as_slice-2.ensures, c.is_grouped.ensures, c.in_ok-group_by.ensures, c.in_ok-aggs.ensures, c.as_slice-7.ensures, c.as_slice-8.ensures, c.requires.used) made.grouping;
-      output_valid = rw (c.in_ok-items.ensures, c.as_slice-2.ensures, c.is_grouped.ensures, c.in_ok-group_by.ensures, c.in_ok-aggs.ensures, c.in_ok-output.ensures, c.as_slice-7.ensures, c.as_slice-8.ensures, c.as_slice-9.ensures, c.requires.used) made.output;
-      order_valid = rw (c.in_ok-items.ensures, c.as_slice-2.ensures, c.is_grouped.ensures, c.in_ok-group_by.ensures, c.in_ok-aggs.ensures, c.in_ok-order.ensures, c.as_slice-7.ensures, c.as_slice-8.ensures, c.as_slice-10.ensures, c.requires.used) made.order;
+      grouping_valid = rw (
+        c.in_ok-items.ensures,
+        c.as_slice-2.ensures,
+        c.is_grouped.ensures,
+        c.in_ok-group_by.ensures,
+        c.in_ok-aggs.ensures,
+        c.as_slice-7.ensures,
+        c.as_slice-8.ensures,
+        c.requires.used,
+      ) made.grouping;
+      output_valid = rw (
+        c.in_ok-items.ensures,
+        c.as_slice-2.ensures,
+        c.is_grouped.ensures,
+        c.in_ok-group_by.ensures,
+        c.in_ok-aggs.ensures,
+        c.in_ok-output.ensures,
+        c.as_slice-7.ensures,
+        c.as_slice-8.ensures,
+        c.as_slice-9.ensures,
+        c.requires.used,
+      ) made.output;
+      order_valid = rw (
+        c.in_ok-items.ensures,
+        c.as_slice-2.ensures,
+        c.is_grouped.ensures,
+        c.in_ok-group_by.ensures,
+        c.in_ok-aggs.ensures,
+        c.in_ok-order.ensures,
+        c.as_slice-7.ensures,
+        c.as_slice-8.ensures,
+        c.as_slice-10.ensures,
+        c.requires.used,
+      ) made.order;
       options_valid = c.requires.named.options;
     }

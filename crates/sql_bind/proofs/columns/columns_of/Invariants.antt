@@ -5,4 +5,5 @@ use Rattle.sql_bind.specs.Columns.{column_of}
 use Rattle.sql_bind.proofs.columns.columns_of.Given as goal
 
 abbrev pub invariant-loop-reference : goal.invariant-loop-reference
-invariant-loop-reference l = each (λ before reference. column_of l.sources reference) l.columns (drop l.reference-index l.references) ≡ each (λ before reference. column_of l.sources reference) [] l.references
+invariant-loop-reference l = each (λ before reference. column_of l.sources reference) l.columns
+    (drop l.reference-index l.references) ≡ each (λ before reference. column_of l.sources reference) [] l.references

@@ -10,6 +10,10 @@ pub loop-used-preserved : goal.loop-used-preserved
 loop-used-preserved c =
     let loop = c.loop-used in
     let item = c.used-item.result in
-    let fresh : list_any (is_same item.which) loop.numbers.keys ≡ false = is_new is_same same_turned (λ u. u.which) loop.numbers.keys c.args.columns.now loop.used-index item c.requires loop.invariant c.loop-used-test.true c.used-item.is in
-    let made : c.insert.new.self.keys ≡ loop.numbers.keys ++ item.which ∷ [] = rw (c.column.ensures) at c.in_ok-insert.ensures.keys ∙ rw fresh refl in
-    next_added (λ u. u.which) c.args.columns.now loop.used-index item c.loop-used-test.true c.used-item.is loop.numbers.keys c.insert.new.self.keys loop.invariant made
+    let fresh : list_any (is_same item.which) loop.numbers.keys ≡ false =
+    is_new is_same same_turned (λ u. u.which) loop.numbers.keys c.args.columns.now loop.used-index item c.requires
+    loop.invariant c.loop-used-test.true c.used-item.is in
+    let made : c.insert.new.self.keys ≡ loop.numbers.keys ++ item.which ∷ [] =
+    rw (c.column.ensures) at c.in_ok-insert.ensures.keys ∙ rw fresh refl in
+    next_added (λ u. u.which) c.args.columns.now loop.used-index item c.loop-used-test.true c.used-item.is
+    loop.numbers.keys c.insert.new.self.keys loop.invariant made

@@ -12,10 +12,14 @@ pub loop-column-preserved : goal.loop-column-preserved
 unfolding with_new
 loop-column-preserved c =
     let loop = c.loop-column in
-    carries itself (number_of c.args.used.now) c.args.group.now loop.column-index _ loop.kept.keys c.insert.new.self.keys c.number_of.result _ c.loop-column-test.true c.number_of.ensures.number c.in_ok-insert.ensures.keys loop.invariant
+    carries itself (number_of c.args.used.now) c.args.group.now loop.column-index _ loop.kept.keys
+    c.insert.new.self.keys c.number_of.result _ c.loop-column-test.true c.number_of.ensures.number
+    c.in_ok-insert.ensures.keys loop.invariant
 
 -- no column is left
 pub returns : goal.returns
 returns c =
     let loop = c.loop-column in
-    c.of.ensures ∙ (c.in_ok-from_slice.ensures.items ∙ (c.as_slice.ensures.keys ∙ finishes itself (number_of c.args.used.now) c.args.group.now loop.column-index loop.kept.keys _ c.loop-column-test.false loop.invariant))
+    c.of.ensures ∙ (c.in_ok-from_slice.ensures.items
+    ∙ (c.as_slice.ensures.keys ∙ finishes itself (number_of c.args.used.now) c.args.group.now loop.column-index
+    loop.kept.keys _ c.loop-column-test.false loop.invariant))

@@ -6,4 +6,5 @@ use Rattle.sql_bind.proofs.Distinct.{others}
 use Rattle.sql_bind.proofs.order.numbers_in.Given as goal
 
 abbrev pub invariant-loop-column : goal.invariant-loop-column
-invariant-loop-column l = l.kept.keys ++ others itself l.kept.keys (distinct_by itself (map (number_of l.used) (drop l.column-index l.group))) ≡ group_numbers l.used l.group
+invariant-loop-column l = l.kept.keys ++ others itself l.kept.keys
+    (distinct_by itself (map (number_of l.used) (drop l.column-index l.group))) ≡ group_numbers l.used l.group

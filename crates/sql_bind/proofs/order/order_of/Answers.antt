@@ -9,8 +9,10 @@ loop-key-init c = rw c.new-kept.ensures (begins key_item (order_of c.args.used.n
 pub loop-key-preserved : goal.loop-key-preserved
 loop-key-preserved c =
     let loop = c.loop-key in
-    carries key_item (key_of c.args.used.now) c.args.keys.now loop.key-index _ loop.kept c.add_key.new.kept c.key_of.result _ c.loop-key-test.true c.key_of.ensures c.in_ok-add_key.ensures loop.invariant
+    carries key_item (key_of c.args.used.now) c.args.keys.now loop.key-index _ loop.kept c.add_key.new.kept
+    c.key_of.result _ c.loop-key-test.true c.key_of.ensures c.in_ok-add_key.ensures loop.invariant
 
 -- no key is left
 pub returns : goal.returns
-returns c = finishes key_item (key_of c.args.used.now) c.args.keys.now c.loop-key.key-index c.loop-key.kept _ c.loop-key-test.false c.loop-key.invariant
+returns c = finishes key_item (key_of c.args.used.now) c.args.keys.now c.loop-key.key-index c.loop-key.kept _
+    c.loop-key-test.false c.loop-key.invariant

@@ -7,4 +7,5 @@ use Rattle.sql_bind.proofs.scope.column_names.Goals as goal
 pub add-requires : goal.add-requires
 add-requires c =
     let loop = c.loop-column in
-    is_new bytes_eq nat_list_eq_equiv.symm (λ x. x.name) loop.names c.args.columns.now loop.column-index c.column-item.result c.requires loop.invariant c.loop-column-test.true c.column-item.is
+    is_new bytes_eq nat_list_eq_equiv.symm (λ x. x.name) loop.names c.args.columns.now loop.column-index
+    c.column-item.result c.requires loop.invariant c.loop-column-test.true c.column-item.is

@@ -8,4 +8,5 @@ use Rattle.sql_bind.proofs.scope.from_table.Goals as goal
 pub aliased-requires : goal.aliased-requires
 aliased-requires c = λ info found.
     info_is c.args.catalog.now c.requires.catalogue c.args.item.now.table info
-    (ap (λ (tables : List TableInfo). info_of tables c.args.item.now.table) (sym c.as_slice.ensures) ∙ (sym c.info_of-found.ensures ∙ found))
+    (ap (λ (tables : List TableInfo). info_of tables c.args.item.now.table) (sym c.as_slice.ensures)
+    ∙ (sym c.info_of-found.ensures ∙ found))

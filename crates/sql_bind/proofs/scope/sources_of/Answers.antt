@@ -11,8 +11,11 @@ loop-item-preserved c =
     let loop = c.loop-item in
     let source = c.in_ok-source.source in
     rw (c.in_ok-push.ensures.ok) (record {
-      named = c.in_ok-source.ensures.added ∙ ap (λ (names : List (List ℕ)). names ++ source.alias ∷ []) loop.invariant.named ∙ sym (map_push _ loop.scope source);
-      bound = goes_on (from_table c.args.catalog.now) c.args.from.now loop.scope loop.item-index c.item-item.result source c.loop-item-test.true c.item-item.is (rw (← c.as_slice.ensures) c.in_ok-source.ensures.bound) ∙ loop.invariant.bound;
+      named = c.in_ok-source.ensures.added ∙ ap (λ (names : List (List ℕ)). names ++ source.alias ∷ [])
+          loop.invariant.named ∙ sym (map_push _ loop.scope source);
+      bound = goes_on (from_table c.args.catalog.now) c.args.from.now loop.scope loop.item-index c.item-item.result
+          source c.loop-item-test.true c.item-item.is (rw (← c.as_slice.ensures) c.in_ok-source.ensures.bound)
+          ∙ loop.invariant.bound;
     })
 
 -- the first element with a fault ends the binding
@@ -20,8 +23,12 @@ pub returns-in_err-source : goal.returns-in_err-source
 returns-in_err-source c =
     let loop = c.loop-item in
     let raised = err_from_is_err_and c.from_residual.result c.from_residual.ensures.1 in
-    rw raised.1 (stops (from_table c.args.catalog.now) c.args.from.now loop.scope loop.item-index c.item-item.result _ c.in_err-source.field-0.0 raised.0 c.loop-item-test.true c.item-item.is (rw (← c.as_slice.ensures) c.in_err-source.ensures.bound) loop.invariant.bound raised.2)
+    rw raised.1 (stops (from_table c.args.catalog.now) c.args.from.now loop.scope loop.item-index c.item-item.result _
+    c.in_err-source.field-0.0 raised.0 c.loop-item-test.true c.item-item.is
+    (rw (← c.as_slice.ensures) c.in_err-source.ensures.bound) loop.invariant.bound raised.2)
 
 -- no element is left
 pub returns : goal.returns
-returns c = sym c.loop-item.invariant.bound ∙ is_done (from_table c.args.catalog.now) c.args.from.now c.loop-item.scope c.loop-item.item-index c.loop-item-test.false
+returns c = sym c.loop-item.invariant.bound
+    ∙ is_done (from_table c.args.catalog.now) c.args.from.now c.loop-item.scope c.loop-item.item-index
+    c.loop-item-test.false

@@ -4,4 +4,5 @@ use Rattle.sql_bind.specs.Used.{named_by_compared}
 use Rattle.sql_bind.proofs.used.add_compared.Given as goal
 
 abbrev pub invariant-loop-comparison : goal.invariant-loop-comparison
-invariant-loop-comparison l = l.wanted.items ++ named_by_compared (drop l.comparison-index l.compared) ≡ l.fn.wanted.items ++ named_by_compared l.compared
+invariant-loop-comparison l = l.wanted.items ++ named_by_compared
+    (drop l.comparison-index l.compared) ≡ l.fn.wanted.items ++ named_by_compared l.compared

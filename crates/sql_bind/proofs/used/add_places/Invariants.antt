@@ -4,4 +4,5 @@ use Rattle.sql_bind.specs.Used.{places_of}
 use Rattle.sql_bind.proofs.used.add_places.Given as goal
 
 abbrev pub invariant-loop-place : goal.invariant-loop-place
-invariant-loop-place l = l.wanted.items ++ places_of l.table (drop l.place-index l.places) ≡ l.fn.wanted.items ++ places_of l.table l.places
+invariant-loop-place l = l.wanted.items ++ places_of l.table
+    (drop l.place-index l.places) ≡ l.fn.wanted.items ++ places_of l.table l.places

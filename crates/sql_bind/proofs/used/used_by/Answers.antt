@@ -19,6 +19,9 @@ unfolding used_by
 returns c =
     let parts = c.args.parts.now in
     let wanted = c.in_ok-wanted.wanted.keys in
-    let same = λ (q : Column). c.in_ok-wanted.ensures q ∙ ap (λ (cs : List Column). is_among cs q) (c.deref.ensures.value ∙ c.in_ok-named.ensures) in
-    let all : c.in_ok-used.used ≡ used_by parts = c.in_ok-used.ensures ∙ (ap (λ scope. used_from wanted 0 scope) c.as_slice.ensures ∙ same_used wanted (wanted_by parts) same 0 parts.scope) in
+    let same = λ (q : Column). c.in_ok-wanted.ensures q
+    ∙ ap (λ (cs : List Column). is_among cs q) (c.deref.ensures.value ∙ c.in_ok-named.ensures) in
+    let all : c.in_ok-used.used ≡ used_by parts = c.in_ok-used.ensures
+    ∙ (ap (λ scope. used_from wanted 0 scope) c.as_slice.ensures
+    ∙ same_used wanted (wanted_by parts) same 0 parts.scope) in
     subst (λ (used : List UsedColumn). IfOk c.of.result (λ made. made ≡ used)) all c.of.ensures

@@ -16,7 +16,14 @@ returns c =
           let word = get_or words k d in
           let here = Contains-get_or words k d within in
           let there = c.words_of.ensures.part word here in
-          let member : IsMemberWord q word = subst (IsMemberWord q) there.2 (c.requires.closure.sound there.0 word there.1) in
-          (member.0, member.1, c.words_of.ensures.only member.0 (packed member.0 member.1) (subst (Contains words) (sym member.2) here), member.2);
-      complete = λ e member same. c.words_of.ensures.members e (packed e member) same (c.requires.closure.complete e member);
+          let member : IsMemberWord q word = subst (IsMemberWord q) there.2
+          (c.requires.closure.sound there.0 word there.1) in (
+            member.0,
+            member.1,
+            c.words_of.ensures.only member.0 (packed member.0 member.1)
+                (subst (Contains words) (sym member.2) here),
+            member.2,
+          );
+      complete = λ e member same. c.words_of.ensures.members e (packed e member) same
+          (c.requires.closure.complete e member);
     }

@@ -16,17 +16,21 @@ returns-clause-members c e packed same there =
       | inl less ↦ less
       | inr more ↦ absurd (omega (arith, key, (c.first_word-2.ensures e packed).0 more))
     ] in
-    in_part c.args.words.now c.count_below.result c.count_below-2.result low high (word_of e) c.count_below.ensures.before c.count_below-2.ensures.after above below there
+    in_part c.args.words.now c.count_below.result c.count_below-2.result low high (word_of e)
+    c.count_below.ensures.before c.count_below-2.ensures.after above below there
 
 -- no other key has words there
 pub returns-clause-only : goal.returns-clause-only
 returns-clause-only c e packed there =
     let low = c.first_word.result in
     let high = c.first_word-2.result in
-    let (above, below) = part_between c.args.words.now c.count_below.result c.count_below-2.result low high (word_of e) c.count_below.ensures.after c.count_below-2.ensures.before there in
+    let (above, below) = part_between c.args.words.now c.count_below.result c.count_below-2.result low high (word_of e)
+    c.count_below.ensures.after c.count_below-2.ensures.before there in
     let from : c.make-key.result.0 ≤ key_number e.group = (c.first_word.ensures e packed).0 above in
-    let to : key_number e.group < c.make-key.result.0 + 1 = elim (cases_lt (key_number e.group) (c.make-key.result.0 + 1)) [
+    let to : key_number e.group < c.make-key.result.0 + 1 =
+    elim (cases_lt (key_number e.group) (c.make-key.result.0 + 1)) [
       | inl less ↦ less
       | inr more ↦ absurd (omega (arith, below, (c.first_word-2.ensures e packed).1 more))
     ] in
-    c.expressions_are_one.ensures.groups e.group c.args.group packed.group c.requires.in_range (omega (arith, from, to, c.make-key.ensures.number))
+    c.expressions_are_one.ensures.groups e.group c.args.group packed.group c.requires.in_range
+    (omega (arith, from, to, c.make-key.ensures.number))

@@ -7,4 +7,5 @@ use Rattle.xform_rules.proofs.expand_n_ary.without.Goals as goal
 pub returns : goal.returns
 returns c =
     without_one c.args.set c.args.table c.difference.result c.requires
-    (subst (λ one. (t : ℕ) → bit c.difference.result t ≡ bit c.args.set t - bit one t) c.of_one.ensures c.difference.ensures)
+    (subst (λ one. (t : ℕ) → bit c.difference.result t ≡ bit c.args.set t - bit one t) c.of_one.ensures
+    c.difference.ensures)

@@ -11,7 +11,8 @@ returns-then-not-is_on c =
     let q = c.args.query.now in
     let groups : BeginsWith q c.all.result c.args.set ↔ HasJoinGroup q c.args.set =
     subst (λ x. BeginsWith q x c.args.set ↔ HasJoinGroup q c.args.set) (sym c.all.ensures)
-    (group_without q (c.members_are_candidates.ensures q) c.args.set c.requires (λ on. false≢true (sym c.if-not-is_on.true ∙ c.is_on.ensures.1 on))) in
+    (group_without q (c.members_are_candidates.ensures q) c.args.set c.requires
+    (λ on. false≢true (sym c.if-not-is_on.true ∙ c.is_on.ensures.1 on))) in
     (λ yes. groups.0 (c.begins_with.ensures.0 yes), λ member. c.begins_with.ensures.1 (groups.1 member))
 
 -- with JoinAssociate alone they are what the group of all tables leads to
@@ -29,6 +30,10 @@ pub returns : goal.returns
 returns c = (
   λ yes.
       c.splits_are_complete.ensures.groups c.args.query.now c.args.set
-      (record { commute = c.is_on-2.ensures.0 c.if-not-is_on-2.false; associate = c.is_on.ensures.0 c.if-not-is_on.false }) c.requires,
+      (record {
+        commute = c.is_on-2.ensures.0 c.if-not-is_on-2.false;
+        associate =
+            c.is_on.ensures.0 c.if-not-is_on.false;
+      }) c.requires,
   λ member. refl,
 )

@@ -6,7 +6,13 @@ use Rattle.xform_rules.proofs.laws.results_are_candidates.Goals as goal
 pub returns : goal.returns
 returns c =
     let known = c.sides_are_known.ensures in
-    let sides : AreSides = record { turned = known.turned; outer = known.outer; cut = known.cut; tables = known.tables } in
+    let sides : AreSides = record {
+      turned = known.turned;
+      outer = known.outer;
+      cut = known.cut;
+      tables =
+          known.tables;
+    } in
     record {
       candidates = result_candidate sides;
       one = result_one;

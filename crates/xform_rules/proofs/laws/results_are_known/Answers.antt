@@ -1,4 +1,5 @@
-use Rattle.xform_rules.proofs.Facts.{result_applies, result_logical, result_kind, result_binds, bound_left, bound_logical}
+use Rattle.xform_rules.proofs.Facts.{result_applies, result_logical, result_kind, result_binds, bound_left}
+use Rattle.xform_rules.proofs.Facts.{bound_logical}
 use Rattle.xform_rules.proofs.Fewer.{fewer_tables}
 use Rattle.xform_rules.proofs.laws.results_are_known.Goals as goal
 

@@ -6,7 +6,11 @@ use Rattle.xform_rules.proofs.membership.gives.Goals as goal
 
 -- the index fits its field
 pub overflow_add-n-end : goal.overflow_add-n-end
-overflow_add-n-end c = omega (arith, c.index_of-last.ensures, (c.candidates_are_known.ensures.packed c.args.query.now (physical_in c.args.group c.args.to) c.requires.to).index)
+overflow_add-n-end c = omega (
+  arith,
+  c.index_of-last.ensures,
+  (c.candidates_are_known.ensures.packed c.args.query.now (physical_in c.args.group c.args.to) c.requires.to).index,
+)
 
 -- no later result reads it
 pub returns : goal.returns

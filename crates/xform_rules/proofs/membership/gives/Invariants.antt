@@ -6,4 +6,5 @@ use Rattle.xform_rules.proofs.membership.gives.Given as goal
 
 -- no result so far is the other
 abbrev pub invariant-loop-n : goal.invariant-loop-n
-invariant-loop-n l = (k : ℕ) → k < l.n → HasResult l.query l.rule (logical_in l.group l.from) None k (physical_in l.group l.to) → ⊥
+invariant-loop-n l = (k : ℕ) → k < l.n → HasResult l.query l.rule (logical_in l.group l.from) None k
+    (physical_in l.group l.to) → ⊥

@@ -9,5 +9,6 @@ returns c =
     let own = c.candidate_of.ensures in (
       λ yes. (c.candidate_of.result, c.in_closure_at.ensures.0 yes, own.value.1),
       λ (e, member, word).
-          c.in_closure_at.ensures.1 (subst (IsMember q) (own.only e (c.members_are_candidates.ensures q e member, word)) member),
+          c.in_closure_at.ensures.1 (subst (IsMember q) (own.only e (c.members_are_candidates.ensures q e member, word))
+          member),
     )

@@ -7,9 +7,11 @@ use Rattle.xform_rules.proofs.one_order.begins_with.Goals as goal
 -- a part that isn't all that is left is a beginning of what the cut leaves
 pub loop-left-preserved : goal.loop-left-preserved
 loop-left-preserved c = record {
-  onto = λ begins. c.loop-left.invariant.onto (less c.loop-left.left c.in-Some.next c.args.part c.in-Some.ensures begins);
+  onto = λ begins. c.loop-left.invariant.onto
+      (less c.loop-left.left c.in-Some.next c.args.part c.in-Some.ensures begins);
   back = λ begins.
-      begins_next c.args.query.now c.loop-left.left c.in-Some.next c.args.part c.in-Some.ensures (c.loop-left.invariant.back begins)
+      begins_next c.args.query.now c.loop-left.left c.in-Some.next c.args.part c.in-Some.ensures
+      (c.loop-left.invariant.back begins)
       (λ same. c.loop-left-test.true (sym same));
 }
 
@@ -18,13 +20,15 @@ pub returns-in-None : goal.returns-in-None
 returns-in-None c = (
   λ never. absurd (false≢true never),
   λ begins.
-      let (next, cuts) = begins_cut c.args.query.now c.loop-left.left c.args.part (c.loop-left.invariant.back begins) (λ same. c.loop-left-test.true (sym same)) in
+      let (next, cuts) = begins_cut c.args.query.now c.loop-left.left c.args.part (c.loop-left.invariant.back begins)
+      (λ same. c.loop-left-test.true (sym same)) in
       absurd (c.in-None.ensures next cuts),
 )
 
 -- what is left begins with itself
 pub returns : goal.returns
 returns c = (
-  λ yes. c.loop-left.invariant.onto (subst (BeginsWith c.args.query.now c.loop-left.left) c.loop-left-test.false (begun c.loop-left.left)),
+  λ yes. c.loop-left.invariant.onto (subst (BeginsWith c.args.query.now c.loop-left.left) c.loop-left-test.false
+      (begun c.loop-left.left)),
   λ begins. refl,
 )

@@ -5,4 +5,5 @@ use Rattle.xform_rules.proofs.one_order.others.Goals as goal
 
 -- both have the tables that the part leaves
 pub returns : goal.returns
-returns c = same_tables c.difference.result (c.args.set - c.args.part) (λ t. c.difference.ensures t ∙ sym (rest_bit c.args.set c.args.part c.requires t))
+returns c = same_tables c.difference.result (c.args.set - c.args.part) (λ t. c.difference.ensures t
+    ∙ sym (rest_bit c.args.set c.args.part c.requires t))

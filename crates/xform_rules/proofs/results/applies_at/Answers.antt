@@ -9,4 +9,5 @@ pub returns-then-is_on-clause-needed : goal.returns-then-is_on-clause-needed
 returns-then-is_on-clause-needed c bound n other has =
     let q = c.args.query.now in
     let e = c.args.e in
-    c.is_for.ensures.1 (subst (IsLogical (IsFor q c.args.rule e.group)) c.in-Logical.is (result_applies q c.args.rule e bound n other has).is_for)
+    c.is_for.ensures.1 (subst (IsLogical (IsFor q c.args.rule e.group)) c.in-Logical.is
+    (result_applies q c.args.rule e bound n other has).is_for)

@@ -11,6 +11,11 @@ returns-in-SelectToIndexSeek c =
     let q = c.args.query.now in
     let group = c.args.group in
     let from = c.args.from in
-    let first = finds_some (IsUsableSelect q group from 0) c.usable_index.result c.is_some-in-SelectToIndexSeek.result c.is_some-in-SelectToIndexSeek.ensures c.usable_index.ensures in
-    subst (λ rule. IsTrue c.is_some-in-SelectToIndexSeek.result ↔ IsFor q rule group from) (sym c.in-SelectToIndexSeek.is)
-    (λ yes. let (index, usable) = first.0 yes in (0, index, usable), λ (n, index, usable). first.1 (first_usable q group from n index usable))
+    let first = finds_some (IsUsableSelect q group from 0) c.usable_index.result c.is_some-in-SelectToIndexSeek.result
+    c.is_some-in-SelectToIndexSeek.ensures c.usable_index.ensures in
+    subst (λ rule. IsTrue c.is_some-in-SelectToIndexSeek.result ↔ IsFor q rule group from)
+    (sym c.in-SelectToIndexSeek.is) (
+      λ yes. let (index, usable) = first.0 yes in
+          (0, index, usable),
+      λ (n, index, usable). first.1 (first_usable q group from n index usable),
+    )

@@ -11,4 +11,10 @@ returns c index nth =
     let usable = is_usable c.args.query.now c.args.table in
     let all : count_by usable (take c.loop-number.number c.args.indexes.now) ≡ count_by usable c.args.indexes.now =
     ap (count_by usable) (take_all c.loop-number.number c.args.indexes.now c.loop-number-test.false) in
-    absurd (omega (arith, all, c.loop-number.invariant.counted, nth.before, counted_with c.args.query.now c.args.table c.args.indexes.now index nth.usable))
+    absurd (omega (
+      arith,
+      all,
+      c.loop-number.invariant.counted,
+      nth.before,
+      counted_with c.args.query.now c.args.table c.args.indexes.now index nth.usable,
+    ))

@@ -9,4 +9,5 @@ returns-in-Some-clause-needed c bound n other (rule, e, result, member, number, 
     let found : Some c.in-Some.rule ≡ Some rule = c.in-Some.ensures.only rule number in
     let same : rule ≡ c.in-Some.rule = cc in
     c.applies_at.ensures.needed member n result
-    (subst (λ x. HasResult q c.in-Some.rule x member n result) (c.candidate_of.ensures.only e is_word) (subst (λ r. HasResult q r e member n result) same has))
+    (subst (λ x. HasResult q c.in-Some.rule x member n result) (c.candidate_of.ensures.only e is_word)
+    (subst (λ r. HasResult q r e member n result) same has))

@@ -13,11 +13,14 @@ returns-in_err-other c =
     let found : Some c.in_ok-rule.rule ≡ Some rule = c.in_ok-rule.ensures.only rule number in
     let same : rule ≡ c.in_ok-rule.rule = cc in
     c.in_err-other.ensures result
-    (subst (λ m. HasResult q c.in_ok-rule.rule c.candidate_of-e.result m n result) (c.member_of-member.ensures.only member is_bound)
-    (subst (λ x. HasResult q c.in_ok-rule.rule x member n result) (c.candidate_of-e.ensures.only e is_word) (subst (λ r. HasResult q r e member n result) same has))))
+    (subst (λ m. HasResult q c.in_ok-rule.rule c.candidate_of-e.result m n result)
+    (c.member_of-member.ensures.only member is_bound)
+    (subst (λ x. HasResult q c.in_ok-rule.rule x member n result) (c.candidate_of-e.ensures.only e is_word)
+    (subst (λ r. HasResult q r e member n result) same has))))
 
 -- the result of a candidate is one
 pub word_of-requires : goal.word_of-requires
 word_of-requires c =
-    c.results_are_candidates.ensures.candidates c.args.query.now c.in_ok-rule.rule c.candidate_of-e.result c.member_of-member.result c.args.n c.in_ok-other.other
+    c.results_are_candidates.ensures.candidates c.args.query.now c.in_ok-rule.rule c.candidate_of-e.result
+    c.member_of-member.result c.args.n c.in_ok-other.other
     c.candidate_of-e.ensures.value.0 c.member_of-member.ensures.candidate c.in_ok-other.ensures

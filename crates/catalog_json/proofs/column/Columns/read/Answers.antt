@@ -14,6 +14,9 @@ unfolding column_at new_name_at
 returns c =
     let name = c.in_ok-name.name in
     let old = c.args.self.now in
-    let fresh : list_any (bytes_eq (string_bytes name)) (names_of old) ≡ false = rw (← c.as_str.ensures.value) (sym c.has.ensures ∙ c.if-has.false) in
+    let fresh : list_any (bytes_eq (string_bytes name)) (names_of old) ≡ false =
+    rw (← c.as_str.ensures.value) (sym c.has.ensures ∙ c.if-has.false) in
     let made : column_at c.args.t old (view c.args.value) ≡ Ok (column_of (name, c.in_ok-ndv.ndv)) = search rules in
-    rw (made, c.in_ok-insert.ensures.entries, ← c.self.view_is) (ap (λ (columns : List ColumnInfo). Ok columns) (sym (goes_last c.self.inside.ndvs.entries name c.in_ok-ndv.ndv (rw (← c.self.view_is) at fresh))))
+    rw (made, c.in_ok-insert.ensures.entries, ← c.self.view_is)
+    (ap (λ (columns : List ColumnInfo). Ok columns)
+    (sym (goes_last c.self.inside.ndvs.entries name c.in_ok-ndv.ndv (rw (← c.self.view_is) at fresh))))

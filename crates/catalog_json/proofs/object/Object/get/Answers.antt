@@ -6,4 +6,5 @@ use Rattle.catalog_json.proofs.Members.{member_found}
 use Rattle.catalog_json.proofs.object.Object.get.Goals as goal
 
 pub returns : goal.returns
-returns c = view_of_ref c.get.result ∙ ap (option_map view) c.get.ensures.value ∙ member_found c.args.name.now c.args.self.now.members.entries
+returns c = view_of_ref c.get.result ∙ ap (option_map view) c.get.ensures.value
+    ∙ member_found c.args.name.now c.args.self.now.members.entries

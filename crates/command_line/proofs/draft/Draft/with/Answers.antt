@@ -11,4 +11,5 @@ returns-in_err-with-in-Name-clause-refused c = λ same command before after is.
 -- the name is behind the others
 pub returns-in_ok-with-in-Name-clause-added : goal.returns-in_ok-with-in-Name-clause-added
 returns-in_ok-with-in-Name-clause-added c = λ command before is.
-    rw c.in-Name.is (with_name command before c.args.self is c.in-Name.name.now _ refl refl refl c.in_ok-with-in-Name.ensures.more)
+    rw c.in-Name.is (with_name command before c.args.self is c.in-Name.name.now _ refl refl refl
+    c.in_ok-with-in-Name.ensures.more)

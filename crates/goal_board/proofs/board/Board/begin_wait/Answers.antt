@@ -19,7 +19,8 @@ fetch_or-requires g c =
 
 pub invariant_of-seat : goal.invariant_of-seat
 invariant_of-seat g c =
-    let after = still_awake c.args.seat.now (c.fetch_or.ensures.2 c.args.place c.run_at.ensures).hands_are c.args.seat.now.awake in
+    let after = still_awake c.args.seat.now (c.fetch_or.ensures.2 c.args.place c.run_at.ensures).hands_are
+    c.args.seat.now.awake in
     record { bare = after.bare; awake = after.awake }
 
 pub returns-clause-told : goal.returns-clause-told
@@ -27,5 +28,6 @@ returns-clause-told g c = leaves c.run_at.ensures (c.fetch_or.ensures.2 c.args.p
 
 pub returns-clause-seat : goal.returns-clause-seat
 returns-clause-seat g c =
-    in_call_beside (c.fetch_or.ensures.0 ∙ c.requires.seat.same_table) (returns-clause-told g c).hands_are refl refl refl (λ p e. omega arith)
+    in_call_beside (c.fetch_or.ensures.0 ∙ c.requires.seat.same_table) (returns-clause-told g c).hands_are refl refl
+    refl (λ p e. omega arith)
     (all_changed _ _ _ _ c.requires.seat.over.all) c.requires.seat.over

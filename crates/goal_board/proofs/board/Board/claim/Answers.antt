@@ -3,18 +3,26 @@ use Rattle.std.proofs.Common.{sym, ◌∙◌, inl, inr}
 use Rattle.goal_board.proofs.Findings.{finds_no_goal, claims_goal, finds_busy}
 use Rattle.goal_board.proofs.Told.{looks_at}
 use Rattle.goal_board.proofs.board.Board.claim.Goals as goal
-use Rattle.goal_board.proofs.board.Board.claim.Goals.{then-goal-eq0-via-then-goal-eq0, then-goal-eq0-via-else-goal-eq0+then-not-is_goal}
+use Rattle.goal_board.proofs.board.Board.claim.Goals.{then-goal-eq0-via-then-goal-eq0}
+use Rattle.goal_board.proofs.board.Board.claim.Goals.{then-goal-eq0-via-else-goal-eq0+then-not-is_goal}
 
 pub returns-then-goal-eq0-clause-answer : goal.returns-then-goal-eq0-clause-answer
 returns-then-goal-eq0-clause-answer g c =
     finds_no_goal c.requires.seat.over (looks_at c.cell_at.ensures c.look-goal.ensures.told)
-    (elim c.then-goal-eq0.branch [ then-goal-eq0-via-then-goal-eq0 w ↦ inl w.if-goal-eq0.true | then-goal-eq0-via-else-goal-eq0+then-not-is_goal w ↦ inr (sym w.is_goal.ensures ∙ w.if-not-is_goal.true) ])
+    (elim c.then-goal-eq0.branch [
+      | then-goal-eq0-via-then-goal-eq0 w ↦
+          inl w.if-goal-eq0.true
+      | then-goal-eq0-via-else-goal-eq0+then-not-is_goal w ↦
+          inr (sym w.is_goal.ensures ∙ w.if-not-is_goal.true)
+    ])
 
 pub returns-then-hold-eq0-clause-answer : goal.returns-then-hold-eq0-clause-answer
 returns-then-hold-eq0-clause-answer g c =
-    claims_goal c.requires.near c.requires.seat.over c.look-goal.ensures.seat.over (looks_at c.cell_at.ensures c.look-goal.ensures.told) c.if-goal-eq0.false
+    claims_goal c.requires.near c.requires.seat.over c.look-goal.ensures.seat.over
+    (looks_at c.cell_at.ensures c.look-goal.ensures.told) c.if-goal-eq0.false
     (sym c.is_goal.ensures ∙ c.if-not-is_goal.false) c.hold.ensures.told c.if-hold-eq0.true
 
 pub returns-else-hold-eq0-clause-answer : goal.returns-else-hold-eq0-clause-answer
 returns-else-hold-eq0-clause-answer g c =
-    finds_busy c.requires.seat.over c.look-goal.ensures.seat.over (looks_at c.cell_at.ensures c.look-goal.ensures.told) c.hold.ensures.told c.if-hold-eq0.false
+    finds_busy c.requires.seat.over c.look-goal.ensures.seat.over (looks_at c.cell_at.ensures c.look-goal.ensures.told)
+    c.hold.ensures.told c.if-hold-eq0.false

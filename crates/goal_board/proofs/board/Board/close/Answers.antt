@@ -12,7 +12,8 @@ use Rattle.goal_board.proofs.LastSeat.{has_workers, closes_with}
 use Rattle.goal_board.proofs.board.Board.close.Goals as goal
 
 -- what follows from what was read
-from_read : {E : Type 0} → (meaning : Meaning) (room : ℕ) (m : Mem) (P : Closed → Type 0) (r : Result Closed E) → IfOk r (λ c. ReadsBoard meaning room m c) → ((c : Closed) → ReadsBoard meaning room m c → P c) → IfOk r P
+from_read : {E : Type 0} → (meaning : Meaning) (room : ℕ) (m : Mem) (P : Closed → Type 0) (r : Result Closed E)
+    → IfOk r (λ c. ReadsBoard meaning room m c) → ((c : Closed) → ReadsBoard meaning room m c → P c) → IfOk r P
 from_read meaning room m P (Ok c) reads so = so c reads
 from_read meaning room m P (Err e) reads so = tt
 
@@ -21,9 +22,11 @@ read_all-read-requires-clause-workers g c κs within =
     let b = c.args.self in
     let last = c.close_with-words.ensures.values.2 in
     let v = hands c.args.seat in
-    let sound = subst (λ (k : Key _). IsSound (g.R.GoalRules.meaning k.rules) k.rules k.room last.0.words last.0.views) b.keyed last.1.0 in
+    let sound = subst (λ (k : Key _). IsSound (g.R.GoalRules.meaning k.rules) k.rules k.room last.0.words last.0.views)
+    b.keyed last.1.0 in
     subst (λ ws. HasWorkers (mem ws) b.key.room) last.2
-    (has_workers (g.R.GoalRules.meaning b.key.rules) b.key.rules b.key.room last.0.words last.0.views sound c.args.seat.seat.id v last.1.1 c.requires.parts)
+    (has_workers (g.R.GoalRules.meaning b.key.rules) b.key.rules b.key.room last.0.words last.0.views sound
+    c.args.seat.seat.id v last.1.1 c.requires.parts)
 
 pub returns : goal.returns
 returns g c =
@@ -33,7 +36,11 @@ returns g c =
     let v = hands c.args.seat in
     let items = slots_items c.close_with-words.result.words in
     let sound = subst (λ ws. IsSound (g.R.GoalRules.meaning b.key.rules) b.key.rules b.key.room ws last.0.views) last.2
-    (subst (λ (k : Key _). IsSound (g.R.GoalRules.meaning k.rules) k.rules k.room last.0.words last.0.views) b.keyed last.1.0) in
-    from_read (g.R.GoalRules.meaning b.key.rules) b.key.room (mem items) (ClosesWith g.R.GoalRules.meaning b.key.rules b.key.room v) c.read_all-read.result c.read_all-read.ensures
-    (λ closed reads. closes_with g.R.GoalRules.meaning b.key.rules b.key.room items last.0.views sound c.args.seat.seat.id v last.1.1 c.requires.parts c.requires.rights c.requires.seat.free
-    (λ goal child enters is. (laws.children_enter b.key.rules goal child enters is).1) (g.R.GoalRules.rank_of b.key.rules) (laws.ranks_fall b.key.rules) closed reads)
+    (subst (λ (k : Key _). IsSound (g.R.GoalRules.meaning k.rules) k.rules k.room last.0.words last.0.views) b.keyed
+    last.1.0) in
+    from_read (g.R.GoalRules.meaning b.key.rules) b.key.room (mem items)
+    (ClosesWith g.R.GoalRules.meaning b.key.rules b.key.room v) c.read_all-read.result c.read_all-read.ensures
+    (λ closed reads. closes_with g.R.GoalRules.meaning b.key.rules b.key.room items last.0.views sound
+    c.args.seat.seat.id v last.1.1 c.requires.parts c.requires.rights c.requires.seat.free
+    (λ goal child enters is. (laws.children_enter b.key.rules goal child enters is).1)
+    (g.R.GoalRules.rank_of b.key.rules) (laws.ranks_fall b.key.rules) closed reads)

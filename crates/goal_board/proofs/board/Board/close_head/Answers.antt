@@ -11,23 +11,35 @@ use Rattle.goal_board.proofs.board.Board.close_head.Goals as goal
 pub swap-requires : goal.swap-requires
 swap-requires g c =
     let b = c.args.self.now in
-    let may = lawful b (λ rules room. CanClose (g.R.GoalRules.meaning rules) room (hands c.args.seat.now) c.args.place c.args._worker c.args._cost c.args._node) c.requires.may in (
+    let may = lawful b (λ rules room. CanClose (g.R.GoalRules.meaning rules) room (hands c.args.seat.now) c.args.place
+    c.args._worker c.args._cost c.args._node) c.requires.may in (
       c.requires.seat.same_table,
       (let at = c.head_at.ensures in let near = c.requires.may.near in let sized = b.sized.0 in omega arith),
-      close_allowed g.R.GoalRules.meaning _ _ _ _ _ _ _ _ _ _ c.head_at.ensures c.args.seat.now.awake may c.requires.seat.free.no_wait c.requires.seat.free.no_walk,
+      close_allowed g.R.GoalRules.meaning _ _ _ _ _ _ _ _ _ _ c.head_at.ensures c.args.seat.now.awake may
+          c.requires.seat.free.no_wait c.requires.seat.free.no_walk,
     )
 
 pub invariant_of-seat : goal.invariant_of-seat
 invariant_of-seat g c =
-    let after = still_awake c.args.seat.now (c.swap.ensures.2 c.args.place c.args._worker c.args._cost c.args._node c.head_at.ensures c.requires.may.stored).tells.hands_are c.args.seat.now.awake in
+    let after = still_awake c.args.seat.now (c.swap.ensures.2 c.args.place c.args._worker c.args._cost c.args._node
+    c.head_at.ensures c.requires.may.stored).tells.hands_are c.args.seat.now.awake in
     record { bare = after.bare; awake = after.awake }
 
 pub returns-clause-told : goal.returns-clause-told
 returns-clause-told g c =
-    let told = c.swap.ensures.2 c.args.place c.args._worker c.args._cost c.args._node c.head_at.ensures c.requires.may.stored in
-    record { waiters = told.waiters; named = told.named; near = told.near; few = told.few; leaves = leaves c.head_at.ensures told.tells }
+    let told = c.swap.ensures.2 c.args.place c.args._worker c.args._cost c.args._node c.head_at.ensures
+    c.requires.may.stored in
+    record {
+      waiters = told.waiters;
+      named = told.named;
+      near = told.near;
+      few = told.few;
+      leaves =
+          leaves c.head_at.ensures told.tells;
+    }
 
 pub returns-clause-seat : goal.returns-clause-seat
 returns-clause-seat g c =
-    in_call_beside (c.swap.ensures.0 ∙ c.requires.seat.same_table) (returns-clause-told g c).leaves.hands_are refl refl refl (λ p e. omega arith)
+    in_call_beside (c.swap.ensures.0 ∙ c.requires.seat.same_table) (returns-clause-told g c).leaves.hands_are refl refl
+    refl (λ p e. omega arith)
     (all_changed _ _ _ _ c.requires.seat.over.all) c.requires.seat.over

@@ -15,18 +15,22 @@ fetch_and-requires g c =
       c.requires.seat.same_table,
       (let at = c.run_at.ensures in let near = c.requires.near in let sized = b.sized.0 in omega arith),
       drop_allowed g.R.GoalRules.meaning _ _ _ _ _ _ (the_wait (hands c.args.seat.now)) _
-          (c.run_at.ensures ∙ ap (λ q. run_word (q / 8)) (sym c.requires.waiter)) (c.all_but.ensures ∙ ap (λ q. 2 ^ 64 - 1 - 2 ^ (q % 8)) (sym c.requires.waiter)) c.args.seat.now.awake c.requires.may,
+          (c.run_at.ensures ∙ ap (λ q. run_word (q / 8)) (sym c.requires.waiter)) (c.all_but.ensures
+          ∙ ap (λ q. 2 ^ 64 - 1 - 2 ^ (q % 8)) (sym c.requires.waiter)) c.args.seat.now.awake c.requires.may,
     )
 
 pub invariant_of-seat : goal.invariant_of-seat
 invariant_of-seat g c =
-    let after = still_awake c.args.seat.now (c.fetch_and.ensures.2 (the_wait (hands c.args.seat.now)) c.requires.may.is).hands_are c.args.seat.now.awake in
+    let after = still_awake c.args.seat.now (c.fetch_and.ensures.2 (the_wait (hands c.args.seat.now))
+    c.requires.may.is).hands_are c.args.seat.now.awake in
     record { bare = after.bare; awake = after.awake }
 
 pub returns-clause-told : goal.returns-clause-told
-returns-clause-told g c = leaves c.run_at.ensures (c.fetch_and.ensures.2 (the_wait (hands c.args.seat.now)) c.requires.may.is)
+returns-clause-told g c = leaves c.run_at.ensures
+    (c.fetch_and.ensures.2 (the_wait (hands c.args.seat.now)) c.requires.may.is)
 
 pub returns-clause-seat : goal.returns-clause-seat
 returns-clause-seat g c =
-    in_call_beside (c.fetch_and.ensures.0 ∙ c.requires.seat.same_table) (returns-clause-told g c).hands_are refl refl refl (λ p e. omega arith)
+    in_call_beside (c.fetch_and.ensures.0 ∙ c.requires.seat.same_table) (returns-clause-told g c).hands_are refl refl
+    refl (λ p e. omega arith)
     (all_changed _ _ _ _ c.requires.seat.over.all) c.requires.seat.over

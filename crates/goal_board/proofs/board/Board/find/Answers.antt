@@ -14,12 +14,14 @@ look-found-requires-clause-word g c κs within =
 pub returns-then-found-eq0-clause-answer : goal.returns-then-found-eq0-clause-answer
 returns-then-found-eq0-clause-answer g c =
     let inv = c.loop-step.invariant in
-    ends_at_gap inv.probes inv.seat.over (looks_at c.cell_at.ensures c.look-found.ensures.told) c.if-found-eq0.true c.loop-step-test.true
+    ends_at_gap inv.probes inv.seat.over (looks_at c.cell_at.ensures c.look-found.ensures.told) c.if-found-eq0.true
+    c.loop-step-test.true
 
 pub returns-then-found-eq0-clause-shown : goal.returns-then-found-eq0-clause-shown
 returns-then-found-eq0-clause-shown g c shows =
     let inv = c.loop-step.invariant in
-    absurd (not_at_gap inv.probes inv.seat.over (looks_at c.cell_at.ensures c.look-found.ensures.told) c.if-found-eq0.true c.loop-step-test.true shows)
+    absurd (not_at_gap inv.probes inv.seat.over (looks_at c.cell_at.ensures c.look-found.ensures.told)
+    c.if-found-eq0.true c.loop-step-test.true shows)
 
 pub returns-then-found-word-clause-answer : goal.returns-then-found-word-clause-answer
 returns-then-found-word-clause-answer g c =
@@ -31,12 +33,16 @@ loop-step-preserved g c =
     let inv = c.loop-step.invariant in
     record {
       seat = c.look-found.ensures.seat;
-      probes = goes_on inv.probes inv.seat.over c.loop-step.seat.awake (looks_at c.cell_at.ensures c.look-found.ensures.told) c.if-found-eq0.false c.if-found-word.false
+      probes = goes_on inv.probes inv.seat.over c.loop-step.seat.awake
+          (looks_at c.cell_at.ensures c.look-found.ensures.told) c.if-found-eq0.false c.if-found-word.false
           c.loop-step-test.true c.next_place-place.ensures.value;
     }
 
 pub returns-clause-answer : goal.returns-clause-answer
-returns-clause-answer g c = finds_none (omega (arith, c.loop-step-test.false, c.loop-step.auto._step-end)) c.args.self.now.sized.2 c.loop-step.invariant.probes
+returns-clause-answer g c = finds_none (omega (arith, c.loop-step-test.false, c.loop-step.auto._step-end))
+    c.args.self.now.sized.2 c.loop-step.invariant.probes
 
 pub returns-clause-shown : goal.returns-clause-shown
-returns-clause-shown g c shows = absurd (not_once_round (omega (arith, c.loop-step-test.false, c.loop-step.auto._step-end)) c.args.self.now.sized.2 c.loop-step.invariant.probes shows)
+returns-clause-shown g c shows = absurd (not_once_round
+    (omega (arith, c.loop-step-test.false, c.loop-step.auto._step-end)) c.args.self.now.sized.2
+    c.loop-step.invariant.probes shows)

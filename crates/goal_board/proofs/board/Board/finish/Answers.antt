@@ -2,35 +2,45 @@
 use Rattle.std.proofs.Common.{◌≡◌, ◌+◌, ◌*◌, ◌<◌, ◌≤◌, length, sym, ap, subst, ◌∙◌}
 use Rattle.board_rule.specs.Words.{head_word}
 use Rattle.board_rule.specs.May.{HasRight, MayClose}
-use Rattle.board_rule.specs.Seats.{Each, fresh_right, with_cost, with_node, cost_stored, node_stored, who_stored, finished}
+use Rattle.board_rule.specs.Seats.{Each, fresh_right, with_cost, with_node, cost_stored, node_stored, who_stored}
+use Rattle.board_rule.specs.Seats.{finished}
 use Rattle.board_rule.specs.declared.hands.Hands.{Hands}
 use Rattle.board_rule.proofs.Rights.{rights_at}
 use Rattle.goal_board.specs.Seats.{hands}
 use Rattle.board_rule.specs.Waiters.{head_of}
 use Rattle.goal_board.specs.Calls.{finishes, Wakes}
-use Rattle.goal_board.proofs.Finishing.{held_fresh, with_first, with_second, cost_among, node_among, who_among, has_right, left_over, once_held, open_before}
+use Rattle.goal_board.proofs.Finishing.{held_fresh, with_first, with_second, cost_among, node_among, who_among}
+use Rattle.goal_board.proofs.Finishing.{has_right, left_over, once_held, open_before}
 use Rattle.goal_board.proofs.board.Board.finish.Goals as goal
 
 pub store_cost-requires-clause-may : goal.store_cost-requires-clause-may
 store_cost-requires-clause-may g c κs within =
-    has_right c.args.self.now.key.room (hands c.args.seat.now).rights (fresh_right c.args.right.place) c.requires.right.near (held_fresh (hands c.args.seat.now).rights c.args.right.place c.args.right.waits c.requires.waits c.requires.right.held)
+    has_right c.args.self.now.key.room (hands c.args.seat.now).rights (fresh_right c.args.right.place)
+    c.requires.right.near (held_fresh (hands c.args.seat.now).rights c.args.right.place c.args.right.waits
+    c.requires.waits c.requires.right.held)
 
 pub store_node-requires-clause-may : goal.store_node-requires-clause-may
 store_node-requires-clause-may g c κs within =
     let v = hands c.args.seat.now in
     let p = c.args.right.place in
     subst (λ (h : Hands _). HasRight c.args.self.now.key.room h.rights p) (sym c.store_cost.ensures.hands)
-    (has_right c.args.self.now.key.room (with_cost p c.args.answer.cost v.rights) (with_first p c.args.answer.cost) c.requires.right.near
-    (cost_among v.rights p c.args.answer.cost (held_fresh v.rights p c.args.right.waits c.requires.waits c.requires.right.held)))
+    (has_right c.args.self.now.key.room (with_cost p c.args.answer.cost v.rights) (with_first p c.args.answer.cost)
+    c.requires.right.near
+    (cost_among v.rights p c.args.answer.cost
+    (held_fresh v.rights p c.args.right.waits c.requires.waits c.requires.right.held)))
 
 pub store_who-requires-clause-may : goal.store_who-requires-clause-may
 store_who-requires-clause-may g c κs within =
     let v = hands c.args.seat.now in
     let p = c.args.right.place in
     let a = c.args.answer in
-    subst (λ (h : Hands _). HasRight c.args.self.now.key.room h.rights p) (sym (c.store_node.ensures.hands ∙ ap (λ (h : Hands _). node_stored h p a.node) c.store_cost.ensures.hands))
-    (has_right c.args.self.now.key.room (with_node p a.node (with_cost p a.cost v.rights)) (with_second p a.cost a.node) c.requires.right.near
-    (node_among (with_cost p a.cost v.rights) p a.cost a.node (cost_among v.rights p a.cost (held_fresh v.rights p c.args.right.waits c.requires.waits c.requires.right.held))))
+    subst (λ (h : Hands _). HasRight c.args.self.now.key.room h.rights p)
+    (sym (c.store_node.ensures.hands ∙ ap (λ (h : Hands _). node_stored h p a.node) c.store_cost.ensures.hands))
+    (has_right c.args.self.now.key.room (with_node p a.node (with_cost p a.cost v.rights)) (with_second p a.cost a.node)
+    c.requires.right.near
+    (node_among (with_cost p a.cost v.rights) p a.cost a.node
+    (cost_among v.rights p a.cost (held_fresh v.rights p c.args.right.waits c.requires.waits
+    c.requires.right.held))))
 
 pub close_head-head-requires-clause-may : goal.close_head-head-requires-clause-may
 close_head-head-requires-clause-may g c κs within =
@@ -38,12 +48,16 @@ close_head-head-requires-clause-may g c κs within =
     let p = c.args.right.place in
     let a = c.args.answer in
     let r = c.requires.right in
-    let stored : hands c.store_who.new.seat ≡ who_stored (node_stored (cost_stored v p a.cost) p a.node) p (c.args.worker + 1) =
-    c.store_who.ensures.hands ∙ ap (λ (h : Hands _). who_stored h p (c.args.worker + 1)) (c.store_node.ensures.hands ∙ ap (λ (h : Hands _). node_stored h p a.node) c.store_cost.ensures.hands) in
-    subst (λ (h : Hands _). MayClose (g.R.GoalRules.meaning c.args.self.now.key.rules) c.args.self.now.key.room h.looks h.rights p c.args.worker a.cost a.node) (sym stored) (record {
+    let stored : hands c.store_who.new.seat ≡ who_stored (node_stored (cost_stored v p a.cost) p a.node) p
+    (c.args.worker + 1) =
+    c.store_who.ensures.hands ∙ ap (λ (h : Hands _). who_stored h p (c.args.worker + 1)) (c.store_node.ensures.hands
+    ∙ ap (λ (h : Hands _). node_stored h p a.node) c.store_cost.ensures.hands) in
+    subst (λ (h : Hands _). MayClose (g.R.GoalRules.meaning c.args.self.now.key.rules) c.args.self.now.key.room h.looks
+    h.rights p c.args.worker a.cost a.node) (sym stored) (record {
       near = r.near;
       stored = who_among (with_node p a.node (with_cost p a.cost v.rights)) p c.args.worker a.cost a.node
-          (node_among (with_cost p a.cost v.rights) p a.cost a.node (cost_among v.rights p a.cost (held_fresh v.rights p c.args.right.waits c.requires.waits r.held)));
+          (node_among (with_cost p a.cost v.rights) p a.cost a.node
+          (cost_among v.rights p a.cost (held_fresh v.rights p c.args.right.waits c.requires.waits r.held)));
       goal = c.args.right.goal;
       some_goal = r.some_goal;
       stands = r.stands;
@@ -55,23 +69,28 @@ close_head-head-requires-clause-may g c κs within =
 
 pub wake-requires-clause-no_wait : goal.wake-requires-clause-no_wait
 wake-requires-clause-no_wait g c κs within =
-    ap (λ (h : Hands _). h.pending) c.close_head-head.ensures.told.leaves.hands_are ∙ c.store_who.ensures.seat.free.no_wait
+    ap (λ (h : Hands _). h.pending) c.close_head-head.ensures.told.leaves.hands_are
+    ∙ c.store_who.ensures.seat.free.no_wait
 
 pub wake-requires-clause-named : goal.wake-requires-clause-named
 wake-requires-clause-named g c κs within =
-    let told = c.close_head-head.ensures.told in told.named ∙ ap (λ (h : Hands _). head_of h.walk.waiters) (sym told.leaves.hands_are)
+    let told = c.close_head-head.ensures.told in told.named
+    ∙ ap (λ (h : Hands _). head_of h.walk.waiters) (sym told.leaves.hands_are)
 
 pub wake-requires-clause-near : goal.wake-requires-clause-near
 wake-requires-clause-near g c κs within =
     let told = c.close_head-head.ensures.told in
-    subst (λ n. Each (λ q. q < 8 * n) (hands c.close_head-head.new.seat).walk.waiters) c.store_who.ensures.seat.over.its_room
-    (subst (λ (h : Hands _). Each (λ q. q < 8 * (hands c.store_who.new.seat).room) h.walk.waiters) (sym told.leaves.hands_are) told.near)
+    subst (λ n. Each (λ q. q < 8 * n) (hands c.close_head-head.new.seat).walk.waiters)
+    c.store_who.ensures.seat.over.its_room
+    (subst (λ (h : Hands _). Each (λ q. q < 8 * (hands c.store_who.new.seat).room) h.walk.waiters)
+    (sym told.leaves.hands_are) told.near)
 
 pub wake-requires-clause-few : goal.wake-requires-clause-few
 wake-requires-clause-few g c κs within =
     let told = c.close_head-head.ensures.told in
     subst (λ n. length (hands c.close_head-head.new.seat).walk.waiters ≤ 8 * n) c.store_who.ensures.seat.over.its_room
-    (subst (λ (h : Hands _). length h.walk.waiters ≤ 8 * (hands c.store_who.new.seat).room) (sym told.leaves.hands_are) told.few)
+    (subst (λ (h : Hands _). length h.walk.waiters ≤ 8 * (hands c.store_who.new.seat).room) (sym told.leaves.hands_are)
+    told.few)
 
 pub returns-clause-answer : goal.returns-clause-answer
 returns-clause-answer g c =
@@ -79,9 +98,12 @@ returns-clause-answer g c =
     let p = c.args.right.place in
     let a = c.args.answer in
     let told = c.close_head-head.ensures.told in
-    let stored : hands c.store_who.new.seat ≡ who_stored (node_stored (cost_stored v p a.cost) p a.node) p (c.args.worker + 1) =
-    c.store_who.ensures.hands ∙ ap (λ (h : Hands _). who_stored h p (c.args.worker + 1)) (c.store_node.ensures.hands ∙ ap (λ (h : Hands _). node_stored h p a.node) c.store_cost.ensures.hands) in
-    let few = once_held g.R.GoalRules.meaning c.args.self.now.key.rules c.args.self.now.key.room (hands c.store_who.new.seat) (head_word p) c.close_head-head.result p
+    let stored : hands c.store_who.new.seat ≡ who_stored (node_stored (cost_stored v p a.cost) p a.node) p
+    (c.args.worker + 1) =
+    c.store_who.ensures.hands ∙ ap (λ (h : Hands _). who_stored h p (c.args.worker + 1)) (c.store_node.ensures.hands
+    ∙ ap (λ (h : Hands _). node_stored h p a.node) c.store_cost.ensures.hands) in
+    let few = once_held g.R.GoalRules.meaning c.args.self.now.key.rules c.args.self.now.key.room
+    (hands c.store_who.new.seat) (head_word p) c.close_head-head.result p
     c.store_who.ensures.seat.over told.leaves.moment c.requires.right.near in
     let is : hands c.close_head-head.new.seat ≡ finishes v p c.args.worker a.cost a.node told.waiters =
     told.leaves.hands_are
@@ -90,7 +112,10 @@ returns-clause-answer g c =
     (left_over v.rights p c.args.worker a.cost a.node (subst (λ (h : Hands _). rights_at p h.rights ≤ 1) stored few)) in
     record {
       waiters = told.waiters;
-      wakes = subst (λ (h : Hands _). Wakes c.args.self.now.key.room h c.wake.result (hands c.wake.new.seat)) is c.wake.ensures.answer;
-      was_open = open_before g.R.GoalRules.meaning c.args.self.now.key.rules c.args.self.now.key.room v (hands c.store_who.new.seat) p c.args.worker a.cost a.node c.close_head-head.result
-          c.store_who.ensures.seat.over stored told.leaves.moment c.requires.right.near (held_fresh v.rights p c.args.right.waits c.requires.waits c.requires.right.held);
+      wakes = subst (λ (h : Hands _). Wakes c.args.self.now.key.room h c.wake.result (hands c.wake.new.seat)) is
+          c.wake.ensures.answer;
+      was_open = open_before g.R.GoalRules.meaning c.args.self.now.key.rules c.args.self.now.key.room v
+          (hands c.store_who.new.seat) p c.args.worker a.cost a.node c.close_head-head.result
+          c.store_who.ensures.seat.over stored told.leaves.moment c.requires.right.near
+          (held_fresh v.rights p c.args.right.waits c.requires.waits c.requires.right.held);
     }

@@ -12,7 +12,8 @@ use Rattle.goal_board.proofs.board.Board.hold.Goals as goal
 pub compare_exchange-requires : goal.compare_exchange-requires
 compare_exchange-requires g c =
     let b = c.args.self.now in
-    let may = lawful b (λ rules room. CanClaim (g.R.GoalRules.meaning rules) room (hands c.args.seat.now) c.args.place) c.requires.may in (
+    let may = lawful b (λ rules room. CanClaim (g.R.GoalRules.meaning rules) room (hands c.args.seat.now) c.args.place)
+    c.requires.may in (
       c.requires.seat.same_table,
       (let at = c.run_at.ensures in let near = c.requires.may.near in let sized = b.sized.0 in omega arith),
       claim_allowed g.R.GoalRules.meaning _ _ _ _ _ _ _ c.run_at.ensures c.args.seat.now.awake may,
@@ -33,5 +34,6 @@ returns-clause-seat g c =
     let over = c.requires.seat.over in
     let free = c.requires.seat.free in
     seat_tried (c.compare_exchange.ensures.0 ∙ c.requires.seat.same_table) (returns-clause-told g c)
-    (over_beside g.R.GoalRules.meaning _ _ _ _ (run_word c.args.place) 0 refl refl refl (λ p e. omega arith) (all_changed _ _ _ _ over.all) over)
+    (over_beside g.R.GoalRules.meaning _ _ _ _ (run_word c.args.place) 0 refl refl refl (λ p e. omega arith)
+    (all_changed _ _ _ _ over.all) over)
     (record { no_wait = free.no_wait; no_walk = free.no_walk }) over free

@@ -21,8 +21,10 @@ join_seat-requires g c =
       c.requires.seats.1.same_table,
       c.args.other.bare,
       (let sized = b.sized.0 in omega arith),
-      subst (λ (k : Key _). Joins (Holds meaning k.rules k.room) s.id s.me.0 o.id o.me.0 (joined s.me.0 o.me.0) spent) (sym b.keyed)
-          (join_allowed meaning b.key.rules b.key.room s.id o.id s.me.0 o.me.0 c.args.seat.now.awake c.requires.rights c.requires.seats.1.free.no_wait c.requires.seats.1.free.no_walk),
+      subst (λ (k : Key _). Joins (Holds meaning k.rules k.room) s.id s.me.0 o.id o.me.0 (joined s.me.0 o.me.0) spent)
+          (sym b.keyed)
+          (join_allowed meaning b.key.rules b.key.room s.id o.id s.me.0 o.me.0 c.args.seat.now.awake c.requires.rights
+          c.requires.seats.1.free.no_wait c.requires.seats.1.free.no_walk),
     )
 
 pub returns-clause-seat : goal.returns-clause-seat
@@ -35,6 +37,8 @@ returns-clause-seat g c =
     record {
       same_table = told.0 ∙ c.requires.seats.0.same_table;
       over = subst (λ (m : Sat _). AreHandsOver meaning b.key.rules b.key.room m.0) (sym told.2)
-          (over_joined meaning b.key.rules b.key.room s.me.0 c.args.other.seat.me.0 c.requires.seats.0.over c.requires.seats.1.over);
-      free = subst (λ (m : Sat _). IsFree m.0) (sym told.2) (record { no_wait = c.requires.seats.0.free.no_wait; no_walk = c.requires.seats.0.free.no_walk });
+          (over_joined meaning b.key.rules b.key.room s.me.0 c.args.other.seat.me.0 c.requires.seats.0.over
+          c.requires.seats.1.over);
+      free = subst (λ (m : Sat _). IsFree m.0) (sym told.2)
+          (record { no_wait = c.requires.seats.0.free.no_wait; no_walk = c.requires.seats.0.free.no_walk });
     }

@@ -19,7 +19,8 @@ compare_exchange-requires g c =
       c.requires.seat.same_table,
       (let at = c.head_at.ensures in let near = c.requires.near in let sized = b.sized.0 in omega arith),
       push_allowed g.R.GoalRules.meaning _ _ room _ _ _ _ (the_wait (hands c.args.seat.now)) _ _
-          (c.head_at.ensures ∙ ap head_word (sym c.requires.child)) (ap (pushed c.args.head) (sym c.requires.waiter)) c.args.seat.now.awake c.requires.may,
+          (c.head_at.ensures ∙ ap head_word (sym c.requires.child)) (ap (pushed c.args.head) (sym c.requires.waiter))
+          c.args.seat.now.awake c.requires.may,
     )
 
 -- either way the seat is awake, and its hands are over the board's rules
@@ -28,7 +29,8 @@ invariant_of-seat g c =
     let s = c.args.seat.now in
     let told = c.compare_exchange.ensures.2 in
     let may = c.requires.may in
-    let after = awake_either_way s (told.hit (the_wait (hands s)) may.is may.seen) (told.miss (the_wait (hands s)) may.is) s.awake s.awake in
+    let after = awake_either_way s (told.hit (the_wait (hands s)) may.is may.seen)
+    (told.miss (the_wait (hands s)) may.is) s.awake s.awake in
     record { bare = after.bare; awake = after.awake }
 
 pub returns-clause-seat : goal.returns-clause-seat
@@ -40,8 +42,10 @@ returns-clause-seat g c =
     let over = c.requires.seat.over in
     record {
       same_table = c.compare_exchange.ensures.0 ∙ c.requires.seat.same_table;
-      over = either_way (λ (m : Sat _). AreHandsOver g.R.GoalRules.meaning b.key.rules b.key.room m.0) (told.hit wait may.is may.seen) (told.miss wait may.is)
-          (over_beside g.R.GoalRules.meaning _ _ _ _ _ _ refl refl refl (λ p e. omega arith) (all_changed _ _ _ _ over.all) over)
+      over = either_way (λ (m : Sat _). AreHandsOver g.R.GoalRules.meaning b.key.rules b.key.room m.0)
+          (told.hit wait may.is may.seen) (told.miss wait may.is)
+          (over_beside g.R.GoalRules.meaning _ _ _ _ _ _ refl refl refl (λ p e. omega arith)
+          (all_changed _ _ _ _ over.all) over)
           (over_beside g.R.GoalRules.meaning _ _ _ _ _ _ refl refl refl (λ p e. omega arith) over.all over);
     }
 
@@ -52,6 +56,7 @@ returns-clause-told g c =
     let may = c.requires.may in
     record {
       hit = λ hit. ap (λ (m : Sat _). m.0) (told.hit (the_wait v) may.is may.seen hit);
-      miss = λ miss. ap (λ (m : Sat _). m.0) (told.miss (the_wait v) may.is miss) ∙ ap (λ k. head_seen v (the_wait v) k c.compare_exchange.result) c.requires.child;
+      miss = λ miss. ap (λ (m : Sat _). m.0) (told.miss (the_wait v) may.is miss)
+          ∙ ap (λ k. head_seen v (the_wait v) k c.compare_exchange.result) c.requires.child;
       moment = subst (λ k. Moment g.R.GoalRules.meaning v k c.compare_exchange.result) c.head_at.ensures told.moment;
     }

@@ -15,7 +15,8 @@ load-requires g c =
 
 pub invariant_of-seat : goal.invariant_of-seat
 invariant_of-seat g c =
-    let after = still_awake c.args.seat.now (c.load.ensures.2 c.args.waiter c.next_at.ensures).hands_are c.args.seat.now.awake in
+    let after = still_awake c.args.seat.now (c.load.ensures.2 c.args.waiter c.next_at.ensures).hands_are
+    c.args.seat.now.awake in
     record { bare = after.bare; awake = after.awake }
 
 pub returns-clause-told : goal.returns-clause-told
@@ -23,5 +24,6 @@ returns-clause-told g c = leaves c.next_at.ensures (c.load.ensures.2 c.args.wait
 
 pub returns-clause-seat : goal.returns-clause-seat
 returns-clause-seat g c =
-    in_call_beside (c.load.ensures.0 ∙ c.requires.seat.same_table) (returns-clause-told g c).hands_are refl refl refl (λ p e. omega arith)
+    in_call_beside (c.load.ensures.0 ∙ c.requires.seat.same_table) (returns-clause-told g c).hands_are refl refl refl
+    (λ p e. omega arith)
     c.requires.seat.over.all c.requires.seat.over

@@ -11,12 +11,14 @@ fetch_and-requires g c =
     let b = c.args.self.now in (
       c.requires.seat.same_table,
       (let at = c.run_at.ensures in let near = c.requires.may.near in let sized = b.sized.0 in omega arith),
-      suspend_allowed g.R.GoalRules.meaning _ _ _ _ _ _ _ c.run_at.ensures c.args.seat.now.awake (lawful_right b c.requires.may) c.requires.seat.free.no_wait,
+      suspend_allowed g.R.GoalRules.meaning _ _ _ _ _ _ _ c.run_at.ensures c.args.seat.now.awake
+          (lawful_right b c.requires.may) c.requires.seat.free.no_wait,
     )
 
 pub invariant_of-seat : goal.invariant_of-seat
 invariant_of-seat g c =
-    let after = still_awake c.args.seat.now (c.fetch_and.ensures.2 c.args.place c.run_at.ensures).hands_are c.args.seat.now.awake in
+    let after = still_awake c.args.seat.now (c.fetch_and.ensures.2 c.args.place c.run_at.ensures).hands_are
+    c.args.seat.now.awake in
     record { bare = after.bare; awake = after.awake }
 
 pub returns-clause-told : goal.returns-clause-told
@@ -25,6 +27,7 @@ returns-clause-told g c = leaves c.run_at.ensures (c.fetch_and.ensures.2 c.args.
 pub returns-clause-seat : goal.returns-clause-seat
 returns-clause-seat g c =
     let free = c.requires.seat.free in
-    seat_beside (c.fetch_and.ensures.0 ∙ c.requires.seat.same_table) (returns-clause-told g c).hands_are refl refl refl (λ p e. omega arith)
+    seat_beside (c.fetch_and.ensures.0 ∙ c.requires.seat.same_table) (returns-clause-told g c).hands_are refl refl refl
+    (λ p e. omega arith)
     (all_changed _ _ _ _ c.requires.seat.over.all)
     (record { no_wait = free.no_wait; no_walk = free.no_walk }) c.requires.seat.over

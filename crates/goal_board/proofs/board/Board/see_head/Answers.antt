@@ -10,7 +10,8 @@ use Rattle.goal_board.proofs.board.Board.see_head.Goals as goal
 pub load-requires : goal.load-requires
 load-requires g c =
     let b = c.args.self.now in
-    let may = lawful b (λ rules room. CanSee (g.R.GoalRules.meaning rules) room (hands c.args.seat.now) c.args.child) c.requires.may in (
+    let may = lawful b (λ rules room. CanSee (g.R.GoalRules.meaning rules) room (hands c.args.seat.now) c.args.child)
+    c.requires.may in (
       c.requires.seat.same_table,
       (let at = c.head_at.ensures in let near = c.requires.may.near in let sized = b.sized.0 in omega arith),
       see_allowed g.R.GoalRules.meaning _ _ _ _ _ _ _ _ c.head_at.ensures c.args.seat.now.awake may,
@@ -18,13 +19,16 @@ load-requires g c =
 
 pub invariant_of-seat : goal.invariant_of-seat
 invariant_of-seat g c =
-    let after = still_awake c.args.seat.now (c.load.ensures.2 (the_wait (hands c.args.seat.now)) c.args.child c.requires.may.is c.head_at.ensures).hands_are c.args.seat.now.awake in
+    let after = still_awake c.args.seat.now (c.load.ensures.2 (the_wait (hands c.args.seat.now)) c.args.child
+    c.requires.may.is c.head_at.ensures).hands_are c.args.seat.now.awake in
     record { bare = after.bare; awake = after.awake }
 
 pub returns-clause-told : goal.returns-clause-told
-returns-clause-told g c = leaves c.head_at.ensures (c.load.ensures.2 (the_wait (hands c.args.seat.now)) c.args.child c.requires.may.is c.head_at.ensures)
+returns-clause-told g c = leaves c.head_at.ensures
+    (c.load.ensures.2 (the_wait (hands c.args.seat.now)) c.args.child c.requires.may.is c.head_at.ensures)
 
 pub returns-clause-seat : goal.returns-clause-seat
 returns-clause-seat g c =
-    in_call_beside (c.load.ensures.0 ∙ c.requires.seat.same_table) (returns-clause-told g c).hands_are refl refl refl (λ p e. omega arith)
+    in_call_beside (c.load.ensures.0 ∙ c.requires.seat.same_table) (returns-clause-told g c).hands_are refl refl refl
+    (λ p e. omega arith)
     c.requires.seat.over.all c.requires.seat.over

@@ -15,6 +15,7 @@ split_seat-requires g c =
     let meaning = g.R.GoalRules.meaning in (
       c.requires.seat.same_table,
       (let sized = b.sized.0 in omega arith),
-      subst (λ (k : Key _). Splits (Holds meaning k.rules k.room) s.id s.me.0 (parted s.me.0) (part s.me.0)) (sym b.keyed)
+      subst (λ (k : Key _). Splits (Holds meaning k.rules k.room) s.id s.me.0 (parted s.me.0) (part s.me.0))
+          (sym b.keyed)
           (split_allowed meaning b.key.rules b.key.room s.id s.me.0 c.requires.parts),
     )

@@ -14,16 +14,20 @@ store-requires g c =
     let b = c.args.self.now in (
       c.requires.seat.same_table,
       (let at = c.next_at.ensures in let near = c.requires.near in let sized = b.sized.0 in omega arith),
-      link_allowed g.R.GoalRules.meaning _ _ _ _ _ _ (the_wait (hands c.args.seat.now)) _ _ (c.next_at.ensures ∙ ap next_word (sym c.requires.waiter)) c.first_name.ensures c.args.seat.now.awake c.requires.may,
+      link_allowed g.R.GoalRules.meaning _ _ _ _ _ _ (the_wait (hands c.args.seat.now)) _ _ (c.next_at.ensures
+          ∙ ap next_word (sym c.requires.waiter)) c.first_name.ensures c.args.seat.now.awake c.requires.may,
     )
 
 pub invariant_of-seat : goal.invariant_of-seat
 invariant_of-seat g c =
-    let after = still_awake c.args.seat.now (c.store.ensures.2 (the_wait (hands c.args.seat.now)) c.args.head c.requires.may.is c.requires.may.seen) c.args.seat.now.awake in
+    let after = still_awake c.args.seat.now (c.store.ensures.2 (the_wait (hands c.args.seat.now)) c.args.head
+    c.requires.may.is c.requires.may.seen) c.args.seat.now.awake in
     record { bare = after.bare; awake = after.awake }
 
 pub returns-clause-hands : goal.returns-clause-hands
-returns-clause-hands g c = ap (λ (m : Sat _). m.0) (c.store.ensures.2 (the_wait (hands c.args.seat.now)) c.args.head c.requires.may.is c.requires.may.seen)
+returns-clause-hands g c = ap (λ (m : Sat _). m.0)
+    (c.store.ensures.2 (the_wait (hands c.args.seat.now)) c.args.head c.requires.may.is c.requires.may.seen)
 
 pub returns-clause-seat : goal.returns-clause-seat
-returns-clause-seat g c = in_call_same (c.store.ensures.0 ∙ c.requires.seat.same_table) (returns-clause-hands g c) refl refl refl (all_changed _ _ _ _ c.requires.seat.over.all) c.requires.seat.over
+returns-clause-seat g c = in_call_same (c.store.ensures.0 ∙ c.requires.seat.same_table) (returns-clause-hands g c) refl
+    refl refl (all_changed _ _ _ _ c.requires.seat.over.all) c.requires.seat.over

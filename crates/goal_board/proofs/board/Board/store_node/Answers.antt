@@ -10,7 +10,8 @@ store-requires g c =
     let b = c.args.self.now in (
       c.requires.seat.same_table,
       (let at = c.node_at.ensures in let near = c.requires.may.near in let sized = b.sized.0 in omega arith),
-      store_node_allowed g.R.GoalRules.meaning _ _ _ _ _ _ _ _ c.node_at.ensures c.args.seat.now.awake (lawful_right b c.requires.may),
+      store_node_allowed g.R.GoalRules.meaning _ _ _ _ _ _ _ _ c.node_at.ensures c.args.seat.now.awake
+          (lawful_right b c.requires.may),
     )
 
 pub invariant_of-seat : goal.invariant_of-seat
@@ -22,4 +23,5 @@ pub returns-clause-hands : goal.returns-clause-hands
 returns-clause-hands g c = ap (λ (m : Sat _). m.0) (c.store.ensures.2 c.args.place c.node_at.ensures)
 
 pub returns-clause-seat : goal.returns-clause-seat
-returns-clause-seat g c = seat_stored (c.store.ensures.0 ∙ c.requires.seat.same_table) _ _ (returns-clause-hands g c) c.requires.seat.over c.requires.seat.free
+returns-clause-seat g c = seat_stored (c.store.ensures.0 ∙ c.requires.seat.same_table) _ _ (returns-clause-hands g c)
+    c.requires.seat.over c.requires.seat.free

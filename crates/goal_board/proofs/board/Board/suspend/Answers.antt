@@ -7,7 +7,8 @@ use Rattle.goal_board.proofs.board.Board.suspend.Goals as goal
 
 pub release-requires-clause-may : goal.release-requires-clause-may
 release-requires-clause-may g c κs within =
-    has_right c.args.self.now.key.room (hands c.args.seat.now).rights (waiting_right c.args.right.place c.args.right.waits) c.requires.right.near c.requires.right.held
+    has_right c.args.self.now.key.room (hands c.args.seat.now).rights
+    (waiting_right c.args.right.place c.args.right.waits) c.requires.right.near c.requires.right.held
 
 pub returns-then-release-eq-HELD-clause-answer : goal.returns-then-release-eq-HELD-clause-answer
 returns-then-release-eq-HELD-clause-answer g c =

@@ -1,5 +1,7 @@
--- A wait is put in by its bit, its next word and the child's head, in this order; where the child is finished the bit is cleared again.
-use Rattle.std.proofs.Common.{◌≡◌, ℕ, ◌+◌, ◌*◌, ◌/◌, ◌%◌, ◌^◌, ◌<◌, [], ◌∷◌, ◌++◌, Some, sym, refl, ap, subst, ◌∙◌, inl, inr, ⊎_elim, arith}
+-- A wait is put in by its bit, its next word and the child's head, in this order; where the child is finished the bit
+-- is cleared again.
+use Rattle.std.proofs.Common.{◌≡◌, ℕ, ◌+◌, ◌*◌, ◌/◌, ◌%◌, ◌^◌, ◌<◌, [], ◌∷◌, ◌++◌, Some, sym, refl, ap, subst, ◌∙◌, inl}
+use Rattle.std.proofs.Common.{inr, ⊎_elim, arith}
 use Rattle.board_rule.specs.Words.{cell_word, head_word, run_word}
 use Rattle.board_rule.specs.Looks.{Looked}
 use Rattle.board_rule.specs.May.{MaySee, MayLink, MayPush, MayDrop}
@@ -12,13 +14,20 @@ use Rattle.goal_board.specs.Calls.{waiting_right, IsRightOf}
 use Rattle.goal_board.specs.Steps.{the_wait}
 use Rattle.goal_board.proofs.Finishing.{has_right}
 use Rattle.goal_board.proofs.Seen.{looked_later}
-use Rattle.goal_board.proofs.Putting.{Begun, seen_wait, its_waits, head_bound, head_later, nearer, right_registered, right_kept}
+use Rattle.goal_board.proofs.Putting.{Begun, seen_wait, its_waits, head_bound, head_later, nearer, right_registered}
+use Rattle.goal_board.proofs.Putting.{right_kept}
 use Rattle.goal_board.proofs.Registering.{kept_begun, kept_linked, registers, finds_finished}
 use Rattle.goal_board.proofs.board.Board.wait_for.Goals as goal
 
 pub begin_wait-requires-clause-may : goal.begin_wait-requires-clause-may
 begin_wait-requires-clause-may g c κs within =
-    let r = c.requires.right in record { near = r.near; held = r.held; fewer = c.requires.fewer; free = c.requires.seat.free.no_wait }
+    let r = c.requires.right in record {
+      near = r.near;
+      held = r.held;
+      fewer = c.requires.fewer;
+      free =
+          c.requires.seat.free.no_wait;
+    }
 
 pub see_head-head-requires-clause-may : goal.see_head-head-requires-clause-may
 see_head-head-requires-clause-may g c κs within =
@@ -29,15 +38,18 @@ see_head-head-requires-clause-may g c κs within =
     let child = c.requires.child in
     let told = c.begin_wait.ensures.told in
     let place : ℕ = c.args.right.now.place in
-    let waits = its_waits g.R.GoalRules.meaning b.key.rules b.key.room v (run_word place) c.begin_wait.result place c.args.right.now.waits c.requires.seat.over told.moment r.near r.held in
+    let waits = its_waits g.R.GoalRules.meaning b.key.rules b.key.room v (run_word place) c.begin_wait.result place
+    c.args.right.now.waits c.requires.seat.over told.moment r.near r.held in
     let few : waits_at place v.rights < 8 = subst (λ n. n < 8) (sym waits) c.requires.fewer in
     let at : (8 * place + waits_at place v.rights) / 8 ≡ place = omega arith in
-    subst (λ (h : Hands _). MaySee (g.R.GoalRules.meaning b.key.rules) b.key.room h.looks h.pending (the_wait h) c.args.child_at) (sym told.hands_are) (record {
+    subst (λ (h : Hands _). MaySee (g.R.GoalRules.meaning b.key.rules) b.key.room h.looks h.pending (the_wait h)
+    c.args.child_at) (sym told.hands_are) (record {
       is = refl;
       near = c.requires.near;
       goal = c.args.right.now.goal;
       some_goal = r.some_goal;
-      goal_stands = subst (λ p. Looked (wait_begun v place c.begin_wait.result).looks (cell_word p) c.args.right.now.goal) (sym at) (inr r.stands);
+      goal_stands = subst (λ p. Looked (wait_begun v place c.begin_wait.result).looks (cell_word p)
+          c.args.right.now.goal) (sym at) (inr r.stands);
       other = child.other;
       some_other = child.some_other;
       other_stands = inr child.stands;
@@ -54,8 +66,10 @@ loop-head-init g c =
     let saw = c.see_head-head.ensures.told in
     let place : ℕ = c.args.right.now.place in
     let head : ℕ = c.see_head-head.result in
-    let waits = its_waits g.R.GoalRules.meaning b.key.rules b.key.room v (run_word place) c.begin_wait.result place c.args.right.now.waits c.requires.seat.over told.moment r.near r.held in
-    let is : hands c.see_head-head.new.seat ≡ head_seen (wait_begun v place c.begin_wait.result) (the_wait (wait_begun v place c.begin_wait.result)) c.args.child_at head =
+    let waits = its_waits g.R.GoalRules.meaning b.key.rules b.key.room v (run_word place) c.begin_wait.result place
+    c.args.right.now.waits c.requires.seat.over told.moment r.near r.held in
+    let is : hands c.see_head-head.new.seat ≡ head_seen (wait_begun v place c.begin_wait.result)
+    (the_wait (wait_begun v place c.begin_wait.result)) c.args.child_at head =
     saw.hands_are ∙ ap (λ (h : Hands _). head_seen h (the_wait h) c.args.child_at head) told.hands_are in
     record {
       right = refl;
@@ -64,37 +78,55 @@ loop-head-init g c =
         more = (head_word c.args.child_at, head) ∷ ((run_word place, c.begin_wait.result) ∷ []);
         quiet = λ value at. ⊎_elim (λ t. omega (arith, t.0)) (⊎_elim (λ t. omega (arith, t.0)) (λ t. t)) at;
         saw = inl (refl, refl);
-        bound = head_bound g.R.GoalRules.meaning b.key.rules b.key.room (hands c.begin_wait.new.seat) c.args.child_at head b.sized.3 c.requires.near c.begin_wait.ensures.seat.over saw.moment;
+        bound = head_bound g.R.GoalRules.meaning b.key.rules b.key.room (hands c.begin_wait.new.seat) c.args.child_at
+            head b.sized.3 c.requires.near c.begin_wait.ensures.seat.over saw.moment;
         hands_are = is
-            ∙ ap (λ (n : ℕ). record (head_seen (wait_begun v place c.begin_wait.result) (the_wait (wait_begun v place c.begin_wait.result)) c.args.child_at head) { pending = Some (seen_wait (8 * place + n) c.args.child_at head) }) waits
-            ∙ ap (λ (words : _). record v { alone = words; looks = (head_word c.args.child_at, head) ∷ ((run_word place, c.begin_wait.result) ∷ v.looks); pending = Some (seen_wait (8 * place + c.args.right.now.waits) c.args.child_at head) })
+            ∙ ap (λ (n : ℕ). record (head_seen (wait_begun v place c.begin_wait.result)
+            (the_wait (wait_begun v place c.begin_wait.result)) c.args.child_at head) {
+              pending =
+                  Some (seen_wait (8 * place + n) c.args.child_at head);
+            }) waits
+            ∙ ap (λ (words : _). record v {
+              alone = words;
+              looks =
+                  (head_word c.args.child_at, head) ∷ ((run_word place, c.begin_wait.result) ∷ v.looks);
+              pending =
+                  Some (seen_wait (8 * place + c.args.right.now.waits) c.args.child_at head);
+            })
             (sym (ap (λ (h : Hands _). h.alone) is));
         kept = subst (Begun (8 * place + c.args.right.now.waits) v.alone) (sym (ap (λ (h : Hands _). h.alone) is))
-            (kept_begun g.R.GoalRules.meaning b.key.rules b.key.room v place c.args.right.now.waits c.begin_wait.result c.requires.seat.over told.moment r.near c.requires.fewer waits);
+            (kept_begun g.R.GoalRules.meaning b.key.rules b.key.room v place c.args.right.now.waits c.begin_wait.result
+            c.requires.seat.over told.moment r.near c.requires.fewer waits);
       };
     }
 
 pub store_next-requires-clause-may : goal.store_next-requires-clause-may
 store_next-requires-clause-may g c κs within =
     let p = c.loop-head.invariant.putting in
-    subst (λ (h : Hands _). MayLink h.pending (the_wait h) c.loop-head.head) (sym p.hands_are) (record { is = refl; seen = refl; was_open = c.loop-head-test.true })
+    subst (λ (h : Hands _). MayLink h.pending (the_wait h) c.loop-head.head) (sym p.hands_are)
+    (record { is = refl; seen = refl; was_open = c.loop-head-test.true })
 
 pub store_next-requires-clause-waiter : goal.store_next-requires-clause-waiter
-store_next-requires-clause-waiter g c κs within = ap (λ (h : Hands _). (the_wait h).waiter) c.loop-head.invariant.putting.hands_are
+store_next-requires-clause-waiter g c κs within =
+    ap (λ (h : Hands _). (the_wait h).waiter) c.loop-head.invariant.putting.hands_are
 
 pub put_wait-found-requires-clause-may : goal.put_wait-found-requires-clause-may
 put_wait-found-requires-clause-may g c κs within =
     let p = c.loop-head.invariant.putting in
-    subst (λ (h : Hands _). MayPush h.pending (the_wait h) c.loop-head.head) (sym (c.store_next.ensures.hands ∙ ap (λ (h : Hands _). next_stored h (the_wait h) c.loop-head.head) p.hands_are))
+    subst (λ (h : Hands _). MayPush h.pending (the_wait h) c.loop-head.head)
+    (sym (c.store_next.ensures.hands ∙ ap (λ (h : Hands _). next_stored h (the_wait h) c.loop-head.head)
+    p.hands_are))
     (record { is = refl; seen = refl; linked = refl })
 
 pub put_wait-found-requires-clause-waiter : goal.put_wait-found-requires-clause-waiter
 put_wait-found-requires-clause-waiter g c κs within =
-    ap (λ (h : Hands _). (the_wait h).waiter) (c.store_next.ensures.hands ∙ ap (λ (h : Hands _). next_stored h (the_wait h) c.loop-head.head) c.loop-head.invariant.putting.hands_are)
+    ap (λ (h : Hands _). (the_wait h).waiter) (c.store_next.ensures.hands
+    ∙ ap (λ (h : Hands _). next_stored h (the_wait h) c.loop-head.head) c.loop-head.invariant.putting.hands_are)
 
 pub put_wait-found-requires-clause-child : goal.put_wait-found-requires-clause-child
 put_wait-found-requires-clause-child g c κs within =
-    ap (λ (h : Hands _). (the_wait h).child) (c.store_next.ensures.hands ∙ ap (λ (h : Hands _). next_stored h (the_wait h) c.loop-head.head) c.loop-head.invariant.putting.hands_are)
+    ap (λ (h : Hands _). (the_wait h).child) (c.store_next.ensures.hands
+    ∙ ap (λ (h : Hands _). next_stored h (the_wait h) c.loop-head.head) c.loop-head.invariant.putting.hands_are)
 
 pub put_wait-found-requires-clause-fits : goal.put_wait-found-requires-clause-fits
 put_wait-found-requires-clause-fits g c κs within =
@@ -112,8 +144,10 @@ loop-head-preserved g c =
     let told = c.put_wait-found.ensures.told in
     let found : ℕ = c.put_wait-found.result in
     let q : ℕ = 8 * c.args.right.now.place + c.args.right.now.waits in
-    let linked = c.store_next.ensures.hands ∙ ap (λ (h : Hands _). next_stored h (the_wait h) c.loop-head.head) p.hands_are in
-    let is = told.miss c.if-found-head.false ∙ ap (λ (h : Hands _). head_seen h (the_wait h) c.args.child_at found) linked in
+    let linked = c.store_next.ensures.hands ∙ ap (λ (h : Hands _). next_stored h (the_wait h) c.loop-head.head)
+    p.hands_are in
+    let is = told.miss c.if-found-head.false
+    ∙ ap (λ (h : Hands _). head_seen h (the_wait h) c.args.child_at found) linked in
     record {
       right = c.loop-head.invariant.right;
       seat = c.put_wait-found.ensures.seat;
@@ -121,10 +155,18 @@ loop-head-preserved g c =
         more = (head_word c.args.child_at, found) ∷ p.more;
         quiet = λ value at. ⊎_elim (λ t. omega (arith, t.0)) (λ t. p.quiet value t) at;
         saw = inl (refl, refl);
-        bound = head_bound g.R.GoalRules.meaning b.key.rules b.key.room (hands c.store_next.new.seat) c.args.child_at found b.sized.3 c.requires.near c.store_next.ensures.seat.over told.moment;
-        hands_are = is ∙ ap (λ (words : _). record v { alone = words; looks = (head_word c.args.child_at, found) ∷ (p.more ++ v.looks); pending = Some (seen_wait (8 * c.args.right.now.place + c.args.right.now.waits) c.args.child_at found) })
+        bound = head_bound g.R.GoalRules.meaning b.key.rules b.key.room (hands c.store_next.new.seat) c.args.child_at
+            found b.sized.3 c.requires.near c.store_next.ensures.seat.over told.moment;
+        hands_are = is ∙ ap (λ (words : _). record v {
+          alone = words;
+          looks =
+              (head_word c.args.child_at, found) ∷ (p.more ++ v.looks);
+          pending =
+              Some (seen_wait (8 * c.args.right.now.place + c.args.right.now.waits) c.args.child_at found);
+        })
             (sym (ap (λ (h : Hands _). h.alone) is));
-        kept = subst (Begun q v.alone) (sym (ap (λ (h : Hands _). h.alone) is)) (kept_linked q (c.loop-head.head % 2 ^ 24) v.alone (hands c.loop-head.seat).alone p.kept);
+        kept = subst (Begun q v.alone) (sym (ap (λ (h : Hands _). h.alone) is))
+            (kept_linked q (c.loop-head.head % 2 ^ 24) v.alone (hands c.loop-head.seat).alone p.kept);
       };
     }
 
@@ -133,22 +175,33 @@ loop-head-smaller g c =
     let b = c.args.self.now in
     let v = hands c.args.seat.now in
     let p = c.loop-head.invariant.putting in
-    let linked = c.store_next.ensures.hands ∙ ap (λ (h : Hands _). next_stored h (the_wait h) c.loop-head.head) p.hands_are in
+    let linked = c.store_next.ensures.hands ∙ ap (λ (h : Hands _). next_stored h (the_wait h) c.loop-head.head)
+    p.hands_are in
     let saw : Looked (hands c.store_next.new.seat).looks (head_word c.args.child_at) c.loop-head.head =
-    subst (λ (h : Hands _). Looked h.looks (head_word c.args.child_at) c.loop-head.head) (sym linked) (looked_later p.more v.looks (head_word c.args.child_at) c.loop-head.head p.saw) in
-    nearer b.key.room c.loop-head.head c.put_wait-found.result b.sized.3 c.loop-head-test.true (p.bound c.loop-head-test.true)
-    (head_later g.R.GoalRules.meaning b.key.rules b.key.room (hands c.store_next.new.seat) c.args.child_at c.loop-head.head c.put_wait-found.result c.store_next.ensures.seat.over c.put_wait-found.ensures.told.moment saw)
+    subst (λ (h : Hands _). Looked h.looks (head_word c.args.child_at) c.loop-head.head) (sym linked)
+    (looked_later p.more v.looks (head_word c.args.child_at) c.loop-head.head p.saw) in
+    nearer b.key.room c.loop-head.head c.put_wait-found.result b.sized.3 c.loop-head-test.true
+    (p.bound c.loop-head-test.true)
+    (head_later g.R.GoalRules.meaning b.key.rules b.key.room (hands c.store_next.new.seat) c.args.child_at
+    c.loop-head.head c.put_wait-found.result c.store_next.ensures.seat.over c.put_wait-found.ensures.told.moment
+    saw)
     c.if-found-head.false
 
 pub returns-then-found-head-clause-seat : goal.returns-then-found-head-clause-seat
 returns-then-found-head-clause-seat g c =
     let p = c.loop-head.invariant.putting in
-    let linked = c.store_next.ensures.hands ∙ ap (λ (h : Hands _). next_stored h (the_wait h) c.loop-head.head) p.hands_are in
-    let is = c.put_wait-found.ensures.told.hit c.if-found-head.true ∙ ap (λ (h : Hands _). wait_put h (the_wait h) c.loop-head.head) linked in
+    let linked = c.store_next.ensures.hands ∙ ap (λ (h : Hands _). next_stored h (the_wait h) c.loop-head.head)
+    p.hands_are in
+    let is = c.put_wait-found.ensures.told.hit c.if-found-head.true
+    ∙ ap (λ (h : Hands _). wait_put h (the_wait h) c.loop-head.head) linked in
     record {
       same_table = c.put_wait-found.ensures.seat.same_table;
       over = c.put_wait-found.ensures.seat.over;
-      free = record { no_wait = ap (λ (h : Hands _). h.pending) is; no_walk = ap (λ (h : Hands _). h.walk.waiters) is ∙ c.requires.seat.free.no_walk };
+      free = record {
+        no_wait = ap (λ (h : Hands _). h.pending) is;
+        no_walk = ap (λ (h : Hands _). h.walk.waiters) is
+            ∙ c.requires.seat.free.no_walk;
+      };
     }
 
 pub returns-then-found-head-clause-answer : goal.returns-then-found-head-clause-answer
@@ -159,28 +212,39 @@ returns-then-found-head-clause-answer g c =
     let place : ℕ = c.args.right.now.place in
     let waits : ℕ = c.args.right.now.waits in
     let told = c.put_wait-found.ensures.told in
-    let its = its_waits g.R.GoalRules.meaning b.key.rules b.key.room v (run_word place) c.begin_wait.result place waits c.requires.seat.over c.begin_wait.ensures.told.moment r.near r.held in
-    registers g.R.GoalRules.meaning b.key.rules b.key.room v (hands c.loop-head.seat) (hands c.store_next.new.seat) (hands c.put_wait-found.new.seat) place waits c.args.child_at c.loop-head.head
-    b.sized.3 r.near c.requires.fewer its c.requires.seat.free.no_wait c.loop-head.invariant.putting c.store_next.ensures.hands c.store_next.ensures.seat.over
-    (subst (Moment g.R.GoalRules.meaning (hands c.store_next.new.seat) (head_word c.args.child_at)) c.if-found-head.true told.moment)
+    let its = its_waits g.R.GoalRules.meaning b.key.rules b.key.room v (run_word place) c.begin_wait.result place waits
+    c.requires.seat.over c.begin_wait.ensures.told.moment r.near r.held in
+    registers g.R.GoalRules.meaning b.key.rules b.key.room v (hands c.loop-head.seat) (hands c.store_next.new.seat)
+    (hands c.put_wait-found.new.seat) place waits c.args.child_at c.loop-head.head
+    b.sized.3 r.near c.requires.fewer its c.requires.seat.free.no_wait c.loop-head.invariant.putting
+    c.store_next.ensures.hands c.store_next.ensures.seat.over
+    (subst (Moment g.R.GoalRules.meaning (hands c.store_next.new.seat) (head_word c.args.child_at)) c.if-found-head.true
+    told.moment)
     c.requires.near c.loop-head-test.true (told.hit c.if-found-head.true)
 
 pub drop_wait-requires-clause-may : goal.drop_wait-requires-clause-may
 drop_wait-requires-clause-may g c κs within =
     let p = c.loop-head.invariant.putting in
-    subst (λ (h : Hands _). MayDrop h.pending (the_wait h)) (sym p.hands_are) (record { is = refl; head = c.loop-head.head; seen = refl; closed = c.loop-head-test.false })
+    subst (λ (h : Hands _). MayDrop h.pending (the_wait h)) (sym p.hands_are)
+    (record { is = refl; head = c.loop-head.head; seen = refl; closed = c.loop-head-test.false })
 
 pub drop_wait-requires-clause-waiter : goal.drop_wait-requires-clause-waiter
-drop_wait-requires-clause-waiter g c κs within = ap (λ (h : Hands _). (the_wait h).waiter) c.loop-head.invariant.putting.hands_are
+drop_wait-requires-clause-waiter g c κs within =
+    ap (λ (h : Hands _). (the_wait h).waiter) c.loop-head.invariant.putting.hands_are
 
 pub returns-clause-seat : goal.returns-clause-seat
 returns-clause-seat g c =
     let p = c.loop-head.invariant.putting in
-    let is = c.drop_wait.ensures.told.hands_are ∙ ap (λ (h : Hands _). wait_dropped h (the_wait h) c.drop_wait.result) p.hands_are in
+    let is = c.drop_wait.ensures.told.hands_are
+    ∙ ap (λ (h : Hands _). wait_dropped h (the_wait h) c.drop_wait.result) p.hands_are in
     record {
       same_table = c.drop_wait.ensures.seat.same_table;
       over = c.drop_wait.ensures.seat.over;
-      free = record { no_wait = ap (λ (h : Hands _). h.pending) is; no_walk = ap (λ (h : Hands _). h.walk.waiters) is ∙ c.requires.seat.free.no_walk };
+      free = record {
+        no_wait = ap (λ (h : Hands _). h.pending) is;
+        no_walk = ap (λ (h : Hands _). h.walk.waiters) is
+            ∙ c.requires.seat.free.no_walk;
+      };
     }
 
 pub returns-clause-answer : goal.returns-clause-answer
@@ -190,12 +254,16 @@ returns-clause-answer g c =
     let v = hands c.args.seat.now in
     let place : ℕ = c.args.right.now.place in
     let waits : ℕ = c.args.right.now.waits in
-    finds_finished g.R.GoalRules.meaning b.key.rules b.key.room v (hands c.loop-head.seat) (hands c.drop_wait.new.seat) place waits c.args.child_at c.loop-head.head c.begin_wait.result c.drop_wait.result
-    r.near c.requires.fewer c.requires.seat.free.no_wait r.held (has_right b.key.room v.rights (waiting_right place waits) r.near r.held)
-    c.requires.seat.over c.begin_wait.ensures.told.moment c.loop-head.invariant.putting c.loop-head-test.false c.loop-head.invariant.seat.over c.drop_wait.ensures.told
+    finds_finished g.R.GoalRules.meaning b.key.rules b.key.room v (hands c.loop-head.seat) (hands c.drop_wait.new.seat)
+    place waits c.args.child_at c.loop-head.head c.begin_wait.result c.drop_wait.result
+    r.near c.requires.fewer c.requires.seat.free.no_wait r.held
+    (has_right b.key.room v.rights (waiting_right place waits) r.near r.held)
+    c.requires.seat.over c.begin_wait.ensures.told.moment c.loop-head.invariant.putting c.loop-head-test.false
+    c.loop-head.invariant.seat.over c.drop_wait.ensures.told
 
 pub returns-then-found-head-clause-right : goal.returns-then-found-head-clause-right
-returns-then-found-head-clause-right g c = ap (λ (r : Right). record r { waits = r.waits + 1 }) c.loop-head.invariant.right
+returns-then-found-head-clause-right g c =
+    ap (λ (r : Right). record r { waits = r.waits + 1 }) c.loop-head.invariant.right
 
 pub returns-clause-right : goal.returns-clause-right
 returns-clause-right g c = c.loop-head.invariant.right
@@ -206,8 +274,10 @@ returns-then-found-head-clause-its g c =
     let meaning = g.R.GoalRules.meaning b.key.rules in
     let w = hands c.put_wait-found.new.seat in
     let a = returns-then-found-head-clause-answer g c in
-    subst (λ (r : Right). IsRightOf meaning b.key.room w (record r { waits = r.waits + 1 })) (sym c.loop-head.invariant.right)
-    (right_registered meaning b.key.room (hands c.args.seat.now) w c.args.right.now a.words a.more c.requires.fewer a.hands_are c.requires.right)
+    subst (λ (r : Right). IsRightOf meaning b.key.room w (record r { waits = r.waits + 1 }))
+    (sym c.loop-head.invariant.right)
+    (right_registered meaning b.key.room (hands c.args.seat.now) w c.args.right.now a.words a.more c.requires.fewer
+    a.hands_are c.requires.right)
 
 pub returns-clause-its : goal.returns-clause-its
 returns-clause-its g c =
@@ -216,4 +286,5 @@ returns-clause-its g c =
     let w = hands c.drop_wait.new.seat in
     let a = returns-clause-answer g c in
     subst (λ (r : Right). IsRightOf meaning b.key.room w r) (sym c.loop-head.invariant.right)
-    (right_kept meaning b.key.room (hands c.args.seat.now) w c.args.right.now a.words a.more a.hands_are c.requires.right)
+    (right_kept meaning b.key.room (hands c.args.seat.now) w c.args.right.now a.words a.more a.hands_are
+    c.requires.right)

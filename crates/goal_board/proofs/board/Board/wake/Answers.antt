@@ -11,7 +11,8 @@ loop-name-init g c =
     let v = hands c.args.seat.now in
     record {
       seat = c.requires.seat;
-      named = c.first_name-name.ensures ∙ first_name_of b.key.room v.walk.waiters c.args.head b.sized.3 c.requires.named c.requires.near;
+      named = c.first_name-name.ensures ∙ first_name_of b.key.room v.walk.waiters c.args.head b.sized.3 c.requires.named
+          c.requires.near;
       near = c.requires.near;
       few = let few = c.requires.few in omega arith;
       woken = woken_begins b.key.room v;
@@ -24,7 +25,8 @@ read_next-name-requires-clause-first g c κs within =
 
 pub clear_bit-requires-clause-first : goal.clear_bit-requires-clause-first
 clear_bit-requires-clause-first g c κs within =
-    let first = named_first (hands c.loop-name.seat).walk.waiters c.loop-name.name c.loop-name.invariant.named c.loop-name-test.true in
+    let first = named_first (hands c.loop-name.seat).walk.waiters c.loop-name.name c.loop-name.invariant.named
+    c.loop-name-test.true in
     (first.0, ap (λ (h : Hands _). h.walk.waiters) c.read_next-name.ensures.told.hands_are ∙ first.1)
 
 pub loop-name-preserved-then-clear_bit-bit_of : goal.loop-name-preserved-then-clear_bit-bit_of
@@ -33,15 +35,32 @@ loop-name-preserved-then-clear_bit-bit_of g c =
     let first = named_first (hands c.loop-name.seat).walk.waiters c.loop-name.name inv.named c.loop-name-test.true in
     let t = (turns first.1 inv.near inv.few inv.woken inv.seat.over c.read_next-name.ensures.seat.over
     c.read_next-name.ensures.told c.clear_bit.ensures.told).0 (c.if-clear_bit-bit_of.true ∙ c.bit_of.ensures) in
-    record { seat = c.clear_bit.ensures.seat; named = t.named; near = t.near; few = t.few; woken = t.woken; hints = c.hint.ensures ∙ inv.hints }
+    record {
+      seat = c.clear_bit.ensures.seat;
+      named = t.named;
+      near = t.near;
+      few = t.few;
+      woken = t.woken;
+      hints =
+          c.hint.ensures ∙ inv.hints;
+    }
 
 pub loop-name-preserved : goal.loop-name-preserved
 loop-name-preserved g c =
     let inv = c.loop-name.invariant in
     let first = named_first (hands c.loop-name.seat).walk.waiters c.loop-name.name inv.named c.loop-name-test.true in
     let t = (turns first.1 inv.near inv.few inv.woken inv.seat.over c.read_next-name.ensures.seat.over
-    c.read_next-name.ensures.told c.clear_bit.ensures.told).1 (λ is. c.if-clear_bit-bit_of.false (is ∙ sym c.bit_of.ensures)) in
-    record { seat = c.clear_bit.ensures.seat; named = t.named; near = t.near; few = t.few; woken = t.woken; hints = inv.hints }
+    c.read_next-name.ensures.told c.clear_bit.ensures.told).1
+    (λ is. c.if-clear_bit-bit_of.false (is ∙ sym c.bit_of.ensures)) in
+    record {
+      seat = c.clear_bit.ensures.seat;
+      named = t.named;
+      near = t.near;
+      few = t.few;
+      woken = t.woken;
+      hints =
+          inv.hints;
+    }
 
 pub returns-clause-seat : goal.returns-clause-seat
 returns-clause-seat g c =

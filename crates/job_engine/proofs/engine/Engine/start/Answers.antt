@@ -8,6 +8,14 @@ use Rattle.job_engine.proofs.engine.Engine.start.Goals as goal
 
 pub start-requires-clause-goal : goal.start-requires-clause-goal
 start-requires-clause-goal c κs within = (
-  subst (λ q. IsEntry q c.root_word-root.result.0) (sym c.new-rules.ensures) (inr (root_goal_of c.args.query.now, record { is_goal = root_goal; number = sym c.root_word-root.ensures.number })),
+  subst (λ q. IsEntry q c.root_word-root.result.0) (sym c.new-rules.ensures)
+      (inr (
+        root_goal_of c.args.query.now,
+        record {
+          is_goal = root_goal;
+          number =
+              sym c.root_word-root.ensures.number;
+        },
+      )),
   le-leb goal_bit c.root_word-root.result.0 c.root_word-root.ensures.high,
 )

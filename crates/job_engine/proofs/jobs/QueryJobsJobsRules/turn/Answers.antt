@@ -18,13 +18,17 @@ returns-clause-turns c =
     let right = c.args.right in
     let w = hands c.turn.new.seat in
     let t = c.turn.ensures.turns in
-    subst (λ (r : Rules). Turns room (AddsOf r.query.now right.goal) v right c.args.worker c.turn.result w) c.self.view_is
-    (turns_wider (Adds q t.goal) (AddsOf q right.goal) (λ word adds. (t.goal, t.names, adds)) room v right c.args.worker c.turn.result w t.turns)
+    subst (λ (r : Rules). Turns room (AddsOf r.query.now right.goal) v right c.args.worker c.turn.result w)
+    c.self.view_is
+    (turns_wider (Adds q t.goal) (AddsOf q right.goal) (λ word adds. (t.goal, t.names, adds)) room v right c.args.worker
+    c.turn.result w t.turns)
 
 pub returns-clause-alone : goal.returns-clause-alone
 returns-clause-alone c =
     let q = c.self.inside.rules.query.now in
     let key = c.args.board.now.key in
     let t = c.turn.ensures.turns in
-    turns_alone (meaning_of key.rules.query.now) key.room (Adds q t.goal) (hands c.args.seat.now) c.args.right c.args.worker
-    c.requires.right.near c.requires.fresh c.requires.seat.over.all (adds_some q t.goal) c.turn.result (hands c.turn.new.seat) t.turns
+    turns_alone (meaning_of key.rules.query.now) key.room (Adds q t.goal) (hands c.args.seat.now) c.args.right
+    c.args.worker
+    c.requires.right.near c.requires.fresh c.requires.seat.over.all (adds_some q t.goal) c.turn.result
+    (hands c.turn.new.seat) t.turns

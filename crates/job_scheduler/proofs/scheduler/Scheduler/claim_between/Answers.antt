@@ -8,7 +8,8 @@ loop-at-init g c = (c.requires.worker, refl, none_busy _ _ _ _)
 
 pub loop-at-preserved : goal.loop-at-preserved
 loop-at-preserved g c = (
-  worker_after _ _ _ _ c.loop-at.worker _ c.loop-at.invariant.0 c.claim.ensures.seat (claim_later _ _ _ _ _ _ c.claim.ensures.answer) c.loop-at.invariant.0.hints c.loop-at.invariant.0.next refl,
+  worker_after _ _ _ _ c.loop-at.worker _ c.loop-at.invariant.0 c.claim.ensures.seat
+      (claim_later _ _ _ _ _ _ c.claim.ensures.answer) c.loop-at.invariant.0.hints c.loop-at.invariant.0.next refl,
   c.loop-at.invariant.1,
   busy_more _ _ _ _ _ _ _ c.loop-at.invariant.2 c.in_default.ensures.answer,
 )

@@ -10,4 +10,9 @@ pub returns-in-Some-clause-claims : goal.returns-in-Some-clause-claims
 returns-in-Some-clause-claims g c = claims_after _ _ _ _ _ _ c.loop-other.invariant.2 c.in-Some.ensures.claims
 
 pub loop-other-preserved : goal.loop-other-preserved
-loop-other-preserved g c = (c.in_default.ensures.worker, c.in_default.ensures.number ∙ c.loop-other.invariant.1, looks_both _ _ _ c.loop-other.invariant.2 c.in_default.ensures.claims)
+loop-other-preserved g c = (
+  c.in_default.ensures.worker,
+  c.in_default.ensures.number
+      ∙ c.loop-other.invariant.1,
+  looks_both _ _ _ c.loop-other.invariant.2 c.in_default.ensures.claims,
+)

@@ -18,7 +18,8 @@ loop-number-preserved g c =
     let near = c.loop-number-test.true in
     let few = c.requires.few in (
       member_left _ _ _ _ _ c.loop-number.first _ c.loop-number.invariant.0 s.this s.same s.left,
-      all_push (IsOfCrew g.R.GoalRules.meaning c.args.self.now.board c.args.self.now.root c.args.self.now.goal c.args.n) _ _ _ c.in_ok-push.ensures.items c.loop-number.invariant.1
+      all_push (IsOfCrew g.R.GoalRules.meaning c.args.self.now.board c.args.self.now.root c.args.self.now.goal c.args.n)
+          _ _ _ c.in_ok-push.ensures.items c.loop-number.invariant.1
           (member_new _ _ _ _ _ c.loop-number.first _ c.loop-number.number near s.other s.number s.right),
       omega (arith, before, left, near, few),
       omega (arith, all, before, left, right, pushed, near, few),
@@ -26,7 +27,8 @@ loop-number-preserved g c =
 
 pub returns-clause-each : goal.returns-clause-each
 returns-clause-each g c =
-    all_push (IsOfCrew g.R.GoalRules.meaning c.args.self.now.board c.args.self.now.root c.args.self.now.goal c.args.n) _ _ _ c.in_ok-push-2.ensures.items c.loop-number.invariant.1 c.loop-number.invariant.0
+    all_push (IsOfCrew g.R.GoalRules.meaning c.args.self.now.board c.args.self.now.root c.args.self.now.goal c.args.n) _
+    _ _ c.in_ok-push-2.ensures.items c.loop-number.invariant.1 c.loop-number.invariant.0
 
 pub returns-clause-parts : goal.returns-clause-parts
 returns-clause-parts g c =

@@ -9,7 +9,8 @@ use Rattle.job_scheduler.proofs.scheduler.Scheduler.join.Goals as goal
 pub returns-clause-worker : goal.returns-clause-worker
 returns-clause-worker g c = record {
   its = worker_after _ _ _ _ c.args.worker.now _ c.requires.worker.its c.join.ensures.seat
-      (λ word found look. subst (λ (h : Hands _). Looked h.looks word found) (sym c.join.ensures.hands) (looked_earlier _ _ word found look))
+      (λ word found look. subst (λ (h : Hands _). Looked h.looks word found) (sym c.join.ensures.hands)
+      (looked_earlier _ _ word found look))
       c.requires.worker.its.hints c.requires.worker.its.next refl;
   free = ap (λ (h : Hands _). h.rights) c.join.ensures.hands ∙ c.requires.worker.free;
 }

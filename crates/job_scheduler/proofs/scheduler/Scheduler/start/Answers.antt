@@ -11,10 +11,12 @@ unreachable-requires g c =
     let room = c.in_ok-board.ensures.board.1 in
     not_known c.args.rules c.args.cap _ c.in_ok-board.ensures.seat.1 c.args.goal c.in-Known._at _
     (laws.zero_enters_not c.args.rules c.args.goal c.requires.goal.0)
-    (subst (λ n. FindsAt n (hands c.in_ok-board.seat) c.args.goal c.in-Known._at (hands c.insert.new.seat)) room c.in-Known.ensures.answer)
+    (subst (λ n. FindsAt n (hands c.in_ok-board.seat) c.args.goal c.in-Known._at (hands c.insert.new.seat)) room
+    c.in-Known.ensures.answer)
 
 pub unreachable-requires-in-Full : goal.unreachable-requires-in-Full
 unreachable-requires-in-Full g c =
     let room = c.in_ok-board.ensures.board.1 in
     not_full c.args.rules c.args.cap _ c.in_ok-board.ensures.seat.1 c.args.goal _ (omega (arith, c.requires.capacity.0))
-    (subst (λ n. FindsFull n (hands c.in_ok-board.seat) c.args.goal (hands c.insert.new.seat)) room c.in-Full.ensures.answer)
+    (subst (λ n. FindsFull n (hands c.in_ok-board.seat) c.args.goal (hands c.insert.new.seat)) room
+    c.in-Full.ensures.answer)

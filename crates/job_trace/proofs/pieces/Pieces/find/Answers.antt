@@ -8,6 +8,7 @@ pub returns-in-Some-Some : goal.returns-in-Some-Some
 returns-in-Some-Some c = λ q kept.
     let all : c.as_slice.result.now ≡ c.args.self.now = c.as_slice.ensures.value ∙ c.self.view_is in
     let lookup = c.in-Some-Some.ensures.lookup in
-    let text = kept_at q c.as_slice.result.now c.args.place c.in-Some-Some.field-0.now c.in-Some-Some.kept (subst (AreKept q) (sym all) kept) lookup.3.0 lookup.1 c.in-Some-Some.field-0-is in
+    let text = kept_at q c.as_slice.result.now c.args.place c.in-Some-Some.field-0.now c.in-Some-Some.kept
+    (subst (AreKept q) (sym all) kept) lookup.3.0 lookup.1 c.in-Some-Some.field-0-is in
     let same : c.in-Some-Some.kept.piece ≡ c.args.piece = c.is_same.ensures c.if-is_same.true in
     c.as_str.ensures ∙ text ∙ ap (piece_text q) same

@@ -8,4 +8,5 @@ make-requires c =
     let q = c.args.self.now.query.now in
     let group = c.args.self.now.group in
     let known = c.candidates_are_known.ensures in
-    subst IsPacked (sym c.origin_of_group.ensures) (known.packed q (origin_of q group) (known.origins q group c.requires.0))
+    subst IsPacked (sym c.origin_of_group.ensures)
+    (known.packed q (origin_of q group) (known.origins q group c.requires.0))

@@ -1,7 +1,8 @@
 use Rattle.std.proofs.Common.{rules, IfErr, IsTrue, IsFalse, subst}
 use Rattle.orca_io.specs.MemShelf.{fails, IsRefusal}
 use Rattle.orca_io.proofs.mem_shelf.MemShelfShelf.read_all.Goals as goal
-use Rattle.orca_io.proofs.mem_shelf.MemShelfShelf.read_all.Goals.{in_default-via-in-Some+else-not-named, in_default-via-in_default}
+use Rattle.orca_io.proofs.mem_shelf.MemShelfShelf.read_all.Goals.{in_default-via-in-Some+else-not-named}
+use Rattle.orca_io.proofs.mem_shelf.MemShelfShelf.read_all.Goals.{in_default-via-in_default}
 
 -- bytes that are held are added or refused for their length or for memory, and here the reading doesn't fail
 pub returns-in-Some-clause-failed : goal.returns-in-Some-clause-failed

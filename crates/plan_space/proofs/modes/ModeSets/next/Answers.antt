@@ -13,13 +13,16 @@ returns-then-one-lt-COPIED-clause-none c number from below has = elim (has_cases
 pub returns-then-copied-lt-HASHED-clause-none : goal.returns-then-copied-lt-HASHED-clause-none
 returns-then-copied-lt-HASHED-clause-none c number from below has = elim (has_cases c.args.self number has) [
   | inl near ↦ c.next-one.ensures.none number from (omega (arith, near.0, c.if-one-lt-COPIED.false)) near.1
-  | inr (inl far) ↦ c.next-copied.ensures.none (number - 64) (omega (arith, from, far.0, c.max.ensures)) (omega (arith, below, far.0)) far.2
+  | inr (inl far) ↦ c.next-copied.ensures.none (number - 64) (omega (arith, from, far.0, c.max.ensures))
+      (omega (arith, below, far.0)) far.2
   | inr (inr beyond) ↦ absurd (omega (arith, c.if-copied-lt-HASHED.true, beyond.0, below))
 ]
 
 pub returns-clause-none : goal.returns-clause-none
 returns-clause-none c number from below has = elim (has_cases c.args.self number has) [
   | inl near ↦ c.next-one.ensures.none number from (omega (arith, near.0, c.if-one-lt-COPIED.false)) near.1
-  | inr (inl far) ↦ c.next-copied.ensures.none (number - 64) (omega (arith, from, far.0, c.max.ensures)) (omega (arith, far.1, far.0, c.if-copied-lt-HASHED.false)) far.2
-  | inr (inr beyond) ↦ c.next.ensures.none (number - 128) (omega (arith, from, beyond.0, c.max-2.ensures)) (omega (arith, below, beyond.0)) beyond.1
+  | inr (inl far) ↦ c.next-copied.ensures.none (number - 64) (omega (arith, from, far.0, c.max.ensures))
+      (omega (arith, far.1, far.0, c.if-copied-lt-HASHED.false)) far.2
+  | inr (inr beyond) ↦ c.next.ensures.none (number - 128) (omega (arith, from, beyond.0, c.max-2.ensures))
+      (omega (arith, below, beyond.0)) beyond.1
 ]

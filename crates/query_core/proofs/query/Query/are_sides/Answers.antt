@@ -19,7 +19,9 @@ returns-then-eq c =
           (tables, other, falls, sym first ∙ c.top_group.ensures, sym second ∙ c.top_group-then-eq.ensures),
       λ (a, b, part, left, right).
           let own : tables ≡ a = c.tables-tables.ensures ∙ (ap tables_of left ∙ tables_top q a) in
-          let rest : b ≡ other = right_one q set a b other part (subst (λ x. (t : ℕ) → bit other t ≡ bit set t - bit x t) own (right_bit q set tables other falls)) in
-          let second : c.top_group-then-eq.result ≡ c.args.right = c.top_group-then-eq.ensures ∙ (ap (top_of q) (sym rest) ∙ sym right) in
+          let rest : b ≡ other = right_one q set a b other part
+          (subst (λ x. (t : ℕ) → bit other t ≡ bit set t - bit x t) own (right_bit q set tables other falls)) in
+          let second : c.top_group-then-eq.result ≡ c.args.right = c.top_group-then-eq.ensures
+          ∙ (ap (top_of q) (sym rest) ∙ sym right) in
           search rules,
     )

@@ -8,5 +8,6 @@ unreachable-requires c = key_in_range c.args.self.now c.args.key c.in-None.ensur
 pub returns : goal.returns
 returns c = record {
   named = known_named c.args.self.now c.args.key c.in-Some.group c.in-Some.ensures.0 c.in-Some.ensures.1 c.requires;
-  only = λ g names. named_one c.args.self.now c.args.key c.in-Some.group g c.in-Some.ensures.0 c.in-Some.ensures.1 names;
+  only = λ g names. named_one c.args.self.now c.args.key c.in-Some.group g c.in-Some.ensures.0 c.in-Some.ensures.1
+      names;
 }

@@ -12,7 +12,8 @@ returns-in-Some c =
     let (packed, number) = c.in-Some.ensures in (
       λ held. (c.in-Some.parts, c.can_hold.ensures.0 held, number),
       λ (e, candidate, word). c.can_hold.ensures.1
-          (subst (IsCandidate q) (word_one e c.in-Some.parts (candidate_packed q e candidate) packed (word ∙ sym number)) candidate),
+          (subst (IsCandidate q) (word_one e c.in-Some.parts (candidate_packed q e candidate) packed (word
+          ∙ sym number)) candidate),
     )
 
 -- the number is no word

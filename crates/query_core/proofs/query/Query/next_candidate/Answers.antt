@@ -9,12 +9,15 @@ use Rattle.query_core.proofs.query.Query.next_candidate.Goals as goal
 -- no word comes after the last number of 64 bits
 pub returns-in_err-bound_after : goal.returns-in_err-bound_after
 returns-in_err-bound_after c g names = rw c.from_residual.ensures (λ w (e, candidate, same, number) later.
-    c.in_err-bound_after.ensures w (omega (arith, number, word_small e (candidate_packed c.args.self.now e candidate))) later)
+    c.in_err-bound_after.ensures w (omega (arith, number, word_small e (candidate_packed c.args.self.now e candidate)))
+    later)
 
 -- the key names one group
 pub returns : goal.returns
 returns c g names =
-    subst (λ x. MatchOption c.next_in.result (IsLast c.args.self.now x c.args.after) (λ next. IsNext c.args.self.now x c.args.after next.0))
+    subst (λ x. MatchOption c.next_in.result (IsLast c.args.self.now x c.args.after)
+    (λ next. IsNext c.args.self.now x c.args.after next.0))
     (sym (c.group.ensures.only g names))
-    (next_is c.args.self.now c.group.result c.args.after c.in_ok-bound_after.field-0 c.next_in.result c.group.ensures.named.known
+    (next_is c.args.self.now c.group.result c.args.after c.in_ok-bound_after.field-0 c.next_in.result
+    c.group.ensures.named.known
     c.in_ok-bound_after.ensures c.next_in.ensures)

@@ -5,7 +5,12 @@ use Rattle.query_core.proofs.Least.{sooner_is}
 use Rattle.query_core.proofs.query.Query.next_of_join.Goals as goal
 
 pub word_from-many-requires : goal.word_from-many-requires
-word_from-many-requires c = record { group = group_in_range c.args.self.now (Join c.args.set) c.requires; index = omega arith; children = refl }
+word_from-many-requires c = record {
+  group = group_in_range c.args.self.now (Join c.args.set) c.requires;
+  index =
+      omega arith;
+  children = refl;
+}
 
 pub next_join-join-requires : goal.next_join-join-requires
 next_join-join-requires c = group_in_range c.args.self.now (Join c.args.set) c.requires

@@ -12,17 +12,21 @@ overflow_cast-index c = omega (arith, count_few c.args.self.now c.args.table c.l
 pub word_from-requires : goal.word_from-requires
 word_from-requires c =
     subst (λ o. IsPacked (expr c.args.group o)) (sym c.at.ensures)
-    (read_packed c.args.group c.args.kind c.loop-index.index c.requires (count_few c.args.self.now c.args.table c.loop-index.index (omega arith)))
+    (read_packed c.args.group c.args.kind c.loop-index.index c.requires
+    (count_few c.args.self.now c.args.table c.loop-index.index (omega arith)))
 
 pub loop-index-preserved : goal.loop-index-preserved
 loop-index-preserved c =
-    let this = subst (λ o. FindsFrom (λ e. e ≡ expr c.args.group o) c.args.bound c.word_from.result) c.at.ensures c.word_from.ensures in
-    subst (FindsFrom _ _) (sym c.sooner-next.ensures) (read_more c.args.group c.args.kind c.args.bound c.loop-index.index _ _ c.loop-index.invariant this)
+    let this = subst (λ o. FindsFrom (λ e. e ≡ expr c.args.group o) c.args.bound c.word_from.result) c.at.ensures
+    c.word_from.ensures in
+    subst (FindsFrom _ _) (sym c.sooner-next.ensures)
+    (read_more c.args.group c.args.kind c.args.bound c.loop-index.index _ _ c.loop-index.invariant this)
 
 -- the table has the indexes below the count
 pub returns : goal.returns
 returns c =
-    finds_as (IsReadBelow c.args.group c.args.kind c.loop-index.index) (IsRead c.args.self.now c.args.table c.args.group c.args.kind) c.args.bound c.loop-index.next
+    finds_as (IsReadBelow c.args.group c.args.kind c.loop-index.index)
+    (IsRead c.args.self.now c.args.table c.args.group c.args.kind) c.args.bound c.loop-index.next
     (λ e (index, below, same). (index, (index_there c.args.self.now c.args.table index).0 (omega (arith, below)), same))
     (λ e (index, there, same). (index, omega (arith, (index_there c.args.self.now c.args.table index).1 there), same))
     c.loop-index.invariant

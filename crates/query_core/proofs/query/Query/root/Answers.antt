@@ -11,7 +11,8 @@ make-requires-2 c = group_in_range c.args.self.now c.input.result c.input.ensure
 pub returns : goal.returns
 returns c =
     let same : c.input.result ≡ root_of c.args.self.now =
-    subst (λ b. c.input.result ≡ (if b then Agg else input_of c.args.self.now)) (sym c.if-self.false) c.input.ensures.value in
+    subst (λ b. c.input.result ≡ (if b then Agg else input_of c.args.self.now)) (sym c.if-self.false)
+    c.input.ensures.value in
     record {
       number = c.make-2.ensures.number ∙ ap key_number same;
       known = subst (IsGroup c.args.self.now) same c.input.ensures.known;

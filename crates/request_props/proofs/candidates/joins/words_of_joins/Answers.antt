@@ -17,12 +17,17 @@ words_by_sides-requires-clause-in_range c =
     let q = c.args.query.now in
     let set = c.args.set in
     let sides = c.in_ok-sides.sides in
-    subst (All AreBothInRange) (sym c.as_slice.ensures) (all_in_range q set (of_tables_small q set c.requires.known.0) sides c.in_ok-sides.ensures)
+    subst (All AreBothInRange) (sym c.as_slice.ensures)
+    (all_in_range q set (of_tables_small q set c.requires.known.0) sides c.in_ok-sides.ensures)
 
 pub returns : goal.returns
 returns c =
     let q = c.args.query.now in
     let set = c.args.set in
     let sides = c.in_ok-sides.sides in
-    let over = candidates_over q set (of_tables_small q set c.requires.known.0) sides c.in_ok-sides.ensures c.requires.known in
-    IfOk-weaker c.words_by_sides.result (λ words. words ≡ words_over set c.as_slice.result.now) (AreCandidatesOf q (Join set)) (λ words same. subst (AreCandidatesOf q (Join set)) (sym (same ∙ ap (words_over set) c.as_slice.ensures)) over) c.words_by_sides.ensures
+    let over = candidates_over q set (of_tables_small q set c.requires.known.0) sides c.in_ok-sides.ensures
+    c.requires.known in
+    IfOk-weaker c.words_by_sides.result (λ words. words ≡ words_over set c.as_slice.result.now)
+    (AreCandidatesOf q (Join set)) (λ words same.
+    subst (AreCandidatesOf q (Join set)) (sym (same ∙ ap (words_over set) c.as_slice.ensures)) over)
+    c.words_by_sides.ensures

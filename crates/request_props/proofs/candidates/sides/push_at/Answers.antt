@@ -9,8 +9,10 @@ use Rattle.request_props.proofs.candidates.sides.push_at.Goals as goal
 pub returns-in-Some : goal.returns-in-Some
 returns-in-Some c =
     let q = c.args.query.now in
-    let more = sides_more q c.args.set (of_tables_small q c.args.set c.requires.known.0) c.args.left c.args.found.now c.in-Some.sides c.in-Some.ensures c.requires.before in
-    on_ok_weaker c.push.result (λ grown. subst (AreSidesBelow q c.args.set (c.args.left + 1)) (sym grown) more) c.push.ensures.ok
+    let more = sides_more q c.args.set (of_tables_small q c.args.set c.requires.known.0) c.args.left c.args.found.now
+    c.in-Some.sides c.in-Some.ensures c.requires.before in
+    on_ok_weaker c.push.result (λ grown. subst (AreSidesBelow q c.args.set (c.args.left + 1)) (sym grown) more)
+    c.push.ensures.ok
 
 pub returns-in-None : goal.returns-in-None
 returns-in-None c =

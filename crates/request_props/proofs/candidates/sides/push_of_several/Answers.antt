@@ -19,10 +19,12 @@ loop-tables-preserved c =
     let next : 1024 + tables + 1 ≡ 1024 + (tables + 1) = omega arith in
     subst (λ bound. AreSidesBelow q set bound c.if-union-set.found) next
     (elim c.if-union-set.branch [
-      | then-union-set+in_ok-push_at w ↦ subst (AreSidesBelow q set (1024 + tables + 1)) (sym w.found-is) w.in_ok-push_at.ensures
+      | then-union-set+in_ok-push_at w ↦ subst (AreSidesBelow q set (1024 + tables + 1)) (sym w.found-is)
+          w.in_ok-push_at.ensures
       | else-union-set w ↦ subst (AreSidesBelow q set (1024 + tables + 1)) (sym w.found-is)
           (no_sides_at q set (1024 + tables) c.loop-tables.found
-          (no_sides_among q set (of_tables_small q set c.requires.known.0) tables c.union.result c.union.ensures.each w.if-union-set.false)
+          (no_sides_among q set (of_tables_small q set c.requires.known.0) tables c.union.result c.union.ensures.each
+          w.if-union-set.false)
           c.loop-tables.invariant)
     ])
 

@@ -10,16 +10,21 @@ use Rattle.query_core.proofs.Unions.{one_connected}
 use Rattle.request_props.proofs.SideLemmas.{only_table}
 use Rattle.request_props.proofs.candidates.sides.side.Goals as goal
 
-pub alone-requires-clause-of_tables : goal.alone-requires-clause-of_tables
-alone-requires-clause-of_tables c =
+pub table_group-requires-clause-of_tables : goal.table_group-requires-clause-of_tables
+table_group-requires-clause-of_tables c =
     let q = c.args.query.now in
     let found : Some c.in-Some.table ≡ only_of c.args.tables = sym c.in-Some.is ∙ c.only.ensures in
-    exponent_lt c.in-Some.table (length q.tables) (subst (λ x. x < 2 ^ length q.tables) (only_table c.args.tables c.in-Some.table found) c.requires.of_tables)
+    exponent_lt c.in-Some.table (length q.tables)
+    (subst (λ x. x < 2 ^ length q.tables) (only_table c.args.tables c.in-Some.table found) c.requires.of_tables)
 
 pub returns-in-Some : goal.returns-in-Some
 returns-in-Some c =
     let q = c.args.query.now in
     let found : Some c.in-Some.table ≡ only_of c.args.tables = sym c.in-Some.is ∙ c.only.ensures in (
       c.alone.ensures ∙ ap (λ o. option_map_or (alone q) o (Join c.args.tables)) found,
-      (omega (arith, c.if-tables-eq0.false), subst (IsConnected q.links) (sym (only_table c.args.tables c.in-Some.table found)) (one_connected q.links c.in-Some.table)),
+      (
+        omega (arith, c.if-tables-eq0.false),
+        subst (IsConnected q.links)
+            (sym (only_table c.args.tables c.in-Some.table found)) (one_connected q.links c.in-Some.table),
+      ),
     )

@@ -8,5 +8,6 @@ pub returns : goal.returns
 returns c pred =
     let q = c.args.query.now in
     let IsOne = λ (column : ℕ). column_list q column ≡ c.args.list in
-    let in_sets = narrowed_in q c.args.left c.args.right pred c.ends.result c.ends-2.result c.ends.ensures c.ends-2.ensures IsOne c.ends_listed-listed.result c.ends_listed-listed.ensures in
+    let in_sets = narrowed_in q c.args.left c.args.right pred c.ends.result c.ends-2.result c.ends.ensures
+    c.ends-2.ensures IsOne c.ends_listed-listed.result c.ends_listed-listed.ensures in
     (λ has. in_sets.1 ((c.across_by.ensures pred).0 has), λ crosses. (c.across_by.ensures pred).1 (in_sets.0 crosses))

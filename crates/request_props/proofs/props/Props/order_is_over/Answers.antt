@@ -11,4 +11,5 @@ returns-in-Some c =
     let known = c.requires.placement.of_orders in
     let inside : place < length found = grind arith in
     let is : c.in-Some.tables.now ≡ slice_index_or found place None = grind arith in
-    order_over q c.args.order place c.args.set c.in-Some.tables.now c.covers.result (omega arith) found known inside is c.covers.ensures
+    order_over q c.args.order place c.args.set c.in-Some.tables.now c.covers.result (omega arith) found known inside is
+    c.covers.ensures
