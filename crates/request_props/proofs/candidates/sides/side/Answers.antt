@@ -2,7 +2,7 @@
 use Rattle.std.proofs.Common.{◌≡◌, ◌^◌, ◌<◌, Some, length, ap, sym, subst, ◌∙◌, arith}
 use Rattle.std.specs.Option.{option_map_or}
 use Rattle.query_core.specs.Sets.{only_of}
-use Rattle.query_core.specs.Keys.{alone}
+use Rattle.query_core.specs.Keys.{group_of_table}
 use Rattle.query_core.specs.Connected.{IsConnected}
 use Rattle.query_core.specs.declared.words.KeyParts.TheVariants.{Join}
 use Rattle.query_core.proofs.GroupLemmas.{exponent_lt}
@@ -21,7 +21,7 @@ pub returns-in-Some : goal.returns-in-Some
 returns-in-Some c =
     let q = c.args.query.now in
     let found : Some c.in-Some.table ≡ only_of c.args.tables = sym c.in-Some.is ∙ c.only.ensures in (
-      c.alone.ensures ∙ ap (λ o. option_map_or (alone q) o (Join c.args.tables)) found,
+      c.table_group.ensures ∙ ap (λ o. option_map_or (group_of_table q) o (Join c.args.tables)) found,
       (
         omega (arith, c.if-tables-eq0.false),
         subst (IsConnected q.links)
