@@ -4,7 +4,7 @@ use Rattle.std.proofs.Common.{◌≡◌, ℕ, ◌-◌, ◌^◌, refl, ap, sym, s
 use Rattle.std.specs.Prelude.{bit_or, is_none}
 use Rattle.std.specs.Option.{option_map_or}
 use Rattle.std.proofs.lemmas.Bool.{cond_both, false≢true}
-use Rattle.query_core.specs.Keys.{IsGroup, alone, top_of, tables_of, input_of, root_of}
+use Rattle.query_core.specs.Keys.{IsGroup, group_of_table, top_of, tables_of, input_of, root_of}
 use Rattle.query_core.specs.Expressions.{IsChild, children_of, HasLogical, HasShape, IsJoin, IsCandidate}
 use Rattle.query_core.specs.Expressions.{origin_operator}
 use Rattle.query_core.specs.declared.query.Query.{Query}
@@ -33,7 +33,7 @@ use Rattle.xform_rules.proofs.Implementing.{explored, implemented_child}
 
 -- the group of several tables is a join group
 pub one_or_join : (q : Query) (set : ℕ) (o : Option ℕ) → IsTrue (is_none o)
-    → option_map_or (alone q) o (groups.Join set) ≡ groups.Join set
+    → option_map_or (group_of_table q) o (groups.Join set) ≡ groups.Join set
 one_or_join q set None none = refl
 one_or_join q set (Some t) none = absurd (false≢true none)
 

@@ -7,7 +7,7 @@ use Rattle.std.specs.Int.{trailing_zeros, w32}
 use Rattle.std.proofs.lemmas.Nat.{pow_pos}
 use Rattle.std.proofs.lemmas.Bool.{cases_eq, cond_both, eq-eqb}
 use Rattle.query_core.specs.Sets.{Has}
-use Rattle.query_core.specs.Keys.{has_own, alone, top_of, input_of, root_of}
+use Rattle.query_core.specs.Keys.{has_own, group_of_table, top_of, input_of, root_of}
 use Rattle.query_core.specs.Expressions.{origin_of}
 use Rattle.query_core.specs.declared.query.Query.{Query}
 use Rattle.query_core.specs.declared.words.KeyParts.TheVariants as groups
@@ -29,7 +29,7 @@ abbrev pub split_parts : ExprParts
 split_parts = logical_in groups.Agg (logical.Agg groups.Partial)
 
 -- the group of one table
-top_one : (q : Query) (t : ℕ) → t < 32 → top_of q (2 ^ t) ≡ alone q t
+top_one : (q : Query) (t : ℕ) → t < 32 → top_of q (2 ^ t) ≡ group_of_table q t
 top_one q t within =
     let least = trailing_zeros w32 (2 ^ t) in
     let has : Has (2 ^ t) least = (least-found (2 ^ t) (pow_pos t) (power_below t 32 within)).here in
@@ -38,7 +38,8 @@ top_one q t within =
       | inr other ↦ absurd (omega (arith, bit-one_other t least other, has))
     ] in
     let one : (2 ^ t == 2 ^ least) ≡ true = eq-eqb (2 ^ t) (2 ^ least) (ap (λ x. 2 ^ x) (sym same)) in
-    ap (λ b. option_map_or (alone q) (if b then Some least else None) (groups.Join (2 ^ t))) one ∙ ap (alone q) same
+    ap (λ b. option_map_or (group_of_table q) (if b then Some least else None) (groups.Join (2 ^ t))) one
+    ∙ ap (group_of_table q) same
 
 module _ (q : Query) where
   -- every table's group is held: the last cuts go down to it
@@ -73,7 +74,7 @@ module _ (q : Query) where
   ]
 
   -- so the group of one table is in the closure
-  alone_member : (t : ℕ) → t < length q.tables → IsMember q (origin_of q (alone q t))
+  alone_member : (t : ℕ) → t < length q.tables → IsMember q (origin_of q (group_of_table q t))
   alone_member t there =
       let held = one_held (suc (all_of q)) (all_of q) t (omega arith) all (bit-first (length q.tables) t there) in
       subst (λ g. IsMember q (origin_of q g)) (top_one q t (omega (arith, there, q.tables_valid.few)))
@@ -88,7 +89,7 @@ module _ (q : Query) where
 
   pub filter_member : (t : ℕ) → t < length q.tables → IsTrue (has_own q t) → IsMember q (origin_of q (groups.Filter t))
   filter_member t there own =
-      let filters : alone q t ≡ groups.Filter t = ap (λ b. if b then groups.Filter t else groups.Get t) own in
+      let filters : group_of_table q t ≡ groups.Filter t = ap (λ b. if b then groups.Filter t else groups.Get t) own in
       subst (λ g. IsMember q (origin_of q g)) filters (alone_member t there)
 
   -- ---- GROUP BY

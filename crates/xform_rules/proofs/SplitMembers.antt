@@ -4,7 +4,7 @@ use Rattle.std.specs.Prelude.{bit_or}
 use Rattle.std.specs.Option.{option_map_or}
 use Rattle.std.proofs.lemmas.Bool.{cond_both}
 use Rattle.query_core.specs.Sets.{only_of}
-use Rattle.query_core.specs.Keys.{IsGroup, has_own, alone, top_of, tables_of, input_of, root_of}
+use Rattle.query_core.specs.Keys.{IsGroup, has_own, group_of_table, top_of, tables_of, input_of, root_of}
 use Rattle.query_core.specs.Expressions.{IsChild, children_of, HasLogical, HasShape, IsCandidate, origin_operator}
 use Rattle.query_core.specs.declared.query.Query.{Query}
 use Rattle.query_core.specs.declared.words.KeyParts.{KeyParts}
@@ -27,7 +27,8 @@ use Rattle.xform_rules.proofs.Implementing.{explored, implemented_child}
 use Rattle.xform_rules.proofs.LogicalMembers.{get_member, filter_member, agg_member, split_member, partial_member}
 
 -- a group that joins tables isn't that of groups that are not complete
-not_partial : (q : Query) (set : ℕ) (o : Option ℕ) → groups.Partial ≡ option_map_or (alone q) o (groups.Join set) → ⊥
+not_partial : (q : Query) (set : ℕ) (o : Option ℕ)
+    → groups.Partial ≡ option_map_or (group_of_table q) o (groups.Join set) → ⊥
 not_partial q set None same = let never : groups.Partial ≡ groups.Join set = same in cc
 not_partial q set (Some t) same =
     cond_both (has_own q t) (groups.Filter t) (groups.Get t) (λ g. groups.Partial ≡ g → ⊥)
