@@ -4,6 +4,8 @@
 #[cfg(test)]
 mod answer_tests;
 #[cfg(test)]
+mod child_tests;
+#[cfg(test)]
 mod closure_tests;
 #[cfg(test)]
 mod goal_word_tests;

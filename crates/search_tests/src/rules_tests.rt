@@ -5,7 +5,7 @@ use std::alloc::Global;
 use std::process::Abort;
 use std::test::Fail;
 use worked_queries::{compared_tables, three_indexes};
-use xform_rules::nth_result;
+use xform_rules::{applies, nth_result};
 
 // The joins of the first table and the second: a word has the key from bit 36 on, the operator from bit 31, the index
 // from bit 26, and the children.
@@ -61,6 +61,57 @@ fn assert_first_steps(
         );
     }
     Ok(())
+}
+
+// Whether the rule applies to the expression with which the group of this key begins.
+fn applies_first(query: &Query, key: u32, rule: u32) -> Option<bool> {
+    if !query.is_key(Key(key)) {
+        return None;
+    }
+    // For the proof: an origin is a candidate.
+    candidates_are_known();
+    Some(applies(query, query.origin(Key(key)), rule))
+}
+
+// Asserts which rules apply to the first expressions of groups, whose keys come first.
+fn assert_applies(
+    rt: &impl Abort,
+    alloc: Global,
+    query: Result<Query, Fail>,
+    rows: &[(u32, u32, bool)],
+) -> Result<(), Fail> {
+    let query = Box::new(alloc, query?)?;
+    for (key, rule, expected) in rows {
+        assert!(rt;
+            applies_first(&query, *key, *rule) == Some(*expected),
+            "{key} {rule}"
+        );
+    }
+    Ok(())
+}
+
+// Numbers of rules are 1 to 14.
+#[test]
+fn a_rule_applies_where_it_is_on_and_for_the_expression(rt: HostRuntime) -> Result<(), Fail> {
+    let alloc = rt.alloc();
+    let joined = [
+        (1027, 1, true),
+        (1027, 2, false),
+        (0, 5, true),
+        (0, 6, false),
+        (0, 0, false),
+        (0, 15, false),
+    ];
+    assert_applies(&rt, alloc, compared_tables(alloc, CmpOp::Eq, 0), &joined)?;
+    let without_scans = [(0, 5, false), (1027, 1, true)];
+    assert_applies(
+        &rt,
+        alloc,
+        compared_tables(alloc, CmpOp::Eq, 1 << 5),
+        &without_scans,
+    )?;
+    let indexed = [(0, 6, true), (16, 5, false), (16, 7, true), (16, 8, true)];
+    assert_applies(&rt, alloc, three_indexes(alloc), &indexed)
 }
 
 #[test]
