@@ -37,7 +37,7 @@ module _ (q : Query) (group_below : (e : ExprParts) (g : KeyParts) → IsCandida
         numbered =
             tt;
       })
-  child_over words (ExpE e) child over (inr (rule, (kind, applies), is)) =
+  child_over words (ExpE e) child over (inr (rule, (tried, is))) =
       of_group (Xf e rule) child is (record { of_candidate = over.of_candidate; numbered = tt })
   child_over words (Xf e rule) child over (group, associates, left, is) =
       of_group (Exp group) child is (record {
@@ -55,7 +55,7 @@ module _ (q : Query) (group_below : (e : ExprParts) (g : KeyParts) → IsCandida
         numbered =
             tt;
       })
-  child_over words (ImpE e) child over (inr (rule, (kind, applies), is)) =
+  child_over words (ImpE e) child over (inr (rule, (tried, is))) =
       of_group (Xf e rule) child is (record { of_candidate = over.of_candidate; numbered = tt })
   child_over words (Opt group wanted) child over (inl is) =
       of_group (Imp group) child is (record { of_candidate = over.of_candidate; numbered = tt })

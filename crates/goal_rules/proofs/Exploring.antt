@@ -75,7 +75,7 @@ module _ (q : Query) (group : KeyParts) (is_goal : IsGoal q (Exp group)) (
     goal = ExpE e;
     other = Xf e leads.rule;
     names = record { is_goal = explored_goal e is_in; number = refl };
-    is_child = inr (leads.rule, (leads.exploring, leads.applies), refl);
+    is_child = inr (leads.rule, ((leads.exploring, leads.applies), refl));
     number = refl;
   }
 
@@ -86,7 +86,7 @@ module _ (q : Query) (group : KeyParts) (is_goal : IsGoal q (Exp group)) (
     member = other;
     names = record {
       is_goal = child_goal (ExpE e) (Xf e leads.rule) (explored_goal e is_in)
-          (inr (leads.rule, (leads.exploring, leads.applies), refl));
+          (inr (leads.rule, ((leads.exploring, leads.applies), refl)));
       number = refl;
     };
     asks = (other, leads.is_result, inl refl);

@@ -78,7 +78,7 @@ module _ (fewer : FewerTables) (Member : ExprParts → Type 0) (q : Query) where
       as_goal (Exp group) child (ExpE e) is (omega (arith, ap level_of is_in.of_group))
   rank_falls (ExpE e) child known (inl (group, below, is)) =
       as_goal (ExpE e) child (Exp group) is (omega (arith, child_below fewer q e group known below))
-  rank_falls (ExpE e) child known (inr (rule, (kind, applies), is)) =
+  rank_falls (ExpE e) child known (inr (rule, (tried, is))) =
       as_goal (ExpE e) child (Xf e rule) is (omega arith)
   rank_falls (Xf e rule) child known (group, associates, left, is) =
       as_goal (Xf e rule) child (Exp group) is
@@ -88,7 +88,7 @@ module _ (fewer : FewerTables) (Member : ExprParts → Type 0) (q : Query) where
       as_goal (Imp group) child (ImpE e) is (omega (arith, ap level_of is_in.of_group))
   rank_falls (ImpE e) child known (inl (group, below, is)) =
       as_goal (ImpE e) child (Imp group) is (omega (arith, child_below fewer q e group known below))
-  rank_falls (ImpE e) child known (inr (rule, (kind, applies), is)) =
+  rank_falls (ImpE e) child known (inr (rule, (tried, is))) =
       as_goal (ImpE e) child (Xf e rule) is (omega arith)
   rank_falls (Opt group wanted) child known (inl is) = as_goal (Opt group wanted) child (Imp group) is (omega arith)
   rank_falls (Opt group wanted) child known (inr (inl (e, can, is))) =

@@ -38,12 +38,12 @@ module _ (q : Query) (root_fits : RootRequestFits q) (asks_what_fits : AsksWhatF
       → IsChildGoal (IsMember q) q goal child → HasFittingRequest q child
   child_fits (Exp group) child known fits (e, is_in, is) = subst (HasFittingRequest q) (sym is) tt
   child_fits (ExpE e) child known fits (inl (group, below, is)) = subst (HasFittingRequest q) (sym is) tt
-  child_fits (ExpE e) child known fits (inr (rule, (kind, applies), is)) = subst (HasFittingRequest q) (sym is) tt
+  child_fits (ExpE e) child known fits (inr (rule, (tried, is))) = subst (HasFittingRequest q) (sym is) tt
   child_fits (Xf e rule) child known fits (group, associates, left, is) = subst (HasFittingRequest q) (sym is) tt
   child_fits (Imp group) child known fits (inl is) = subst (HasFittingRequest q) (sym is) tt
   child_fits (Imp group) child known fits (inr (e, is_in, is)) = subst (HasFittingRequest q) (sym is) tt
   child_fits (ImpE e) child known fits (inl (group, below, is)) = subst (HasFittingRequest q) (sym is) tt
-  child_fits (ImpE e) child known fits (inr (rule, (kind, applies), is)) = subst (HasFittingRequest q) (sym is) tt
+  child_fits (ImpE e) child known fits (inr (rule, (tried, is))) = subst (HasFittingRequest q) (sym is) tt
   child_fits (Opt group wanted) child known fits (inl is) = subst (HasFittingRequest q) (sym is) tt
   child_fits (Opt group wanted) child known fits (inr (inl (e, can, is))) =
       subst (HasFittingRequest q) (sym is) (subst (λ (g : KeyParts). Fits q g wanted) (sym can.of_group) fits)

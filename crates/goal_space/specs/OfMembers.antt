@@ -64,8 +64,8 @@ child_of_members q (Exp group) child known (e, is_in, is) =
     subst (IsOfMember q) (sym is) (record { member = is_in.member; logical = is_in.logical })
 child_of_members q (ExpE e) child known (inl (group, below, is)) =
     subst (IsOfMember q) (sym is) (child_origin e group known.member below)
-child_of_members q (ExpE e) child known (inr (rule, kind, applies, is)) =
-    subst (IsOfMember q) (sym is) (known.member, applies)
+child_of_members q (ExpE e) child known (inr (rule, (tried, is))) =
+    subst (IsOfMember q) (sym is) (known.member, tried.1)
 child_of_members q (Xf e rule) child known (group, associates, left, is) =
     subst (IsOfMember q) (sym is) (child_origin e group known.0 (left_child (children_of e.operator) group left))
 child_of_members q (Imp group) child known (inl is) = subst (IsOfMember q) (sym is) known
@@ -73,8 +73,8 @@ child_of_members q (Imp group) child known (inr (e, is_in, is)) =
     subst (IsOfMember q) (sym is) (record { member = is_in.member; logical = is_in.logical })
 child_of_members q (ImpE e) child known (inl (group, below, is)) =
     subst (IsOfMember q) (sym is) (child_origin e group known.member below)
-child_of_members q (ImpE e) child known (inr (rule, kind, applies, is)) =
-    subst (IsOfMember q) (sym is) (known.member, applies)
+child_of_members q (ImpE e) child known (inr (rule, (tried, is))) =
+    subst (IsOfMember q) (sym is) (known.member, tried.1)
 child_of_members q (Opt group wanted) child known (inl is) = subst (IsOfMember q) (sym is) known
 child_of_members q (Opt group wanted) child known (inr (inl (e, can, is))) =
     subst (IsOfMember q) (sym is) (can.mode, can.member, can.serves)

@@ -118,7 +118,7 @@ module _ (q : Query) (laws : ResultLaws q) where
         let (e, rule, from) = implemented_from x member physical in
         let is_in : IsLogicalIn (IsMember q) group e = subst (λ g. IsLogicalIn (IsMember q) g e) of_group from.from in
         let implements : IsGoal q (ImpE e) = child_goal (Imp group) (ImpE e) is_goal (inr (e, is_in, refl)) in
-        let of_rule : IsChildGoal (IsMember q) q (ImpE e) (Xf e rule) = inr (rule, (from.kind, from.applies), refl) in
+        let of_rule : IsChildGoal (IsMember q) q (ImpE e) (Xf e rule) = inr (rule, ((from.kind, from.applies), refl)) in
         asked_by (goal_word (Xf e rule)) (word_of x)
         (child_of (goal_word (ImpE e)) (goal_word (Xf e rule)) (finished e is_in)
         (record {
