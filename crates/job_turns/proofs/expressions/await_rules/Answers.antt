@@ -18,14 +18,9 @@ loop-rule-init g c = record {
 
 pub await_if-requires-clause-child : goal.await_if-requires-clause-child
 await_if-requires-clause-child g c = λ child is.
-    let rule = (c.rule_goal-goal.ensures child).0 is in
+    let of_rule = (c.rule_goal-goal.ensures child).0 is in
     subst (λ k. IsChildOf c.args.query.now k child) (sym c.loop-rule.invariant.awaited.proceeds.same_goal)
-    (c.requires.children child (
-      get_or c.all-rules.result c.loop-rule.rule-index ExpandNAry,
-      rule.0,
-      rule.1,
-      rule.2,
-    ))
+    (c.requires.children child (get_or c.all-rules.result c.loop-rule.rule-index ExpandNAry, of_rule))
 
 pub returns-then-not-await_if-clause-awaits : goal.returns-then-not-await_if-clause-awaits
 returns-then-not-await_if-clause-awaits g c =
