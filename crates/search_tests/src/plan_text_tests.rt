@@ -97,6 +97,15 @@ fn a_plan_is_printed_a_node_a_line(rt: HostRuntime) -> Result<(), Fail> {
 }
 
 #[test]
+fn a_copy_of_a_plan_has_the_same_text(rt: HostRuntime) -> Result<(), Fail> {
+    let alloc = rt.alloc();
+    let plan = two_table_plan(alloc)?;
+    let text = text_of_plan(alloc, two_tables_descending(alloc), plan.copy(alloc)?, 7506)?;
+    assert_text(&rt, text.as_slice(), PLAN);
+    Ok(())
+}
+
+#[test]
 fn no_plan_is_one_line(rt: HostRuntime) -> Result<(), Fail> {
     let alloc = rt.alloc();
     let text = text_of(alloc, two_tables_descending(alloc), &Found::NoPlan)?;
