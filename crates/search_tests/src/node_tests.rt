@@ -12,7 +12,7 @@ use request_props::{Dist, Props, Request};
 use std::alloc::Global;
 use std::process::Abort;
 use std::test::Fail;
-use worked_queries::{compared_tables, implied};
+use worked_queries::{compared_tables, implied, one_linked_pair};
 use xform_rules::{Rule, result_at, results_are_candidates};
 
 // Two tables that are joined by this comparison, and what the query implies.
@@ -307,6 +307,27 @@ fn a_sort_comes_before_a_merge(rt: HostRuntime) -> Result<(), Fail> {
     for (dist, order, n, wanted) in &ENFORCERS {
         assert_enforced(&rt, &query, &props, ask(*dist, *order), *n, *wanted);
     }
+    Ok(())
+}
+
+// Whether a filter of the second table serves a request for its rows where they lie, in the order of this number.
+fn filter_serves(query: &Query, props: &Props, order: u32) -> Option<bool>
+    requires { IsProps query.now props.now }
+{
+    let group = KeyParts::Filter(1);
+    if !query.has_group(group) || order as usize > props.orders.len() {
+        return None;
+    }
+    let filter = made(query, Rule::SelectToFilter, origin(query, group))?;
+    Some(alternative(query, props, filter, ask(Dist::Spread, order), 0).is_some())
+}
+
+// The orders are those of U.x and of V.y, and the filter is of U.
+#[test]
+fn a_filter_serves_no_order_of_another_table(rt: HostRuntime) -> Result<(), Fail> {
+    let (query, props) = implied(rt.alloc(), one_linked_pair(rt.alloc())?)?;
+    assert!(rt; filter_serves(&query, &props, 1) == Some(true));
+    assert!(rt; filter_serves(&query, &props, 2) == Some(false));
     Ok(())
 }
 

@@ -67,7 +67,7 @@ fn orders_are_numbered_by_their_elements(rt: HostRuntime) -> Result<(), Fail> {
 #[test]
 fn what_is_collected_can_be_shared(rt: HostRuntime) -> Result<(), Fail> {
     let (_query, props) = equated(rt.alloc())?;
-    assert!(rt; lent(&props).orders.len() == 3);
+    assert!(rt; lent::<Props>(&props).orders.len() == 3);
     Ok(())
 }
 
