@@ -100,7 +100,8 @@ fn a_plan_is_printed_a_node_a_line(rt: HostRuntime) -> Result<(), Fail> {
 fn a_copy_of_a_plan_has_the_same_text(rt: HostRuntime) -> Result<(), Fail> {
     let alloc = rt.alloc();
     let plan = two_table_plan(alloc)?;
-    let text = text_of_plan(alloc, two_tables_descending(alloc), plan.copy(alloc)?, 7506)?;
+    let copied = plan.copy(alloc)?;
+    let text = text_of_plan(alloc, two_tables_descending(alloc), copied, 7506)?;
     assert_text(&rt, text.as_slice(), PLAN);
     Ok(())
 }
