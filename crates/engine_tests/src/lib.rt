@@ -8,4 +8,6 @@ mod outcome_tests;
 #[cfg(test)]
 mod run_tests;
 #[cfg(test)]
+mod settled_tests;
+#[cfg(test)]
 mod turn_tests;
