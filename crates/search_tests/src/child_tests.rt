@@ -4,7 +4,7 @@ ghost use Rattle.std.specs.Prelude.{All};
 ghost use Rattle.std.specs.List.Sorted.{IsStrictlyIncreasing};
 ghost use Rattle.query_core.specs.Expressions.{IsCandidateWord};
 ghost use Rattle.request_props.specs.Numbered.{IsProps};
-ghost use Rattle.goal_children.specs.Over.{IsGoalWordOver};
+ghost use Rattle.goal_children.specs.Over.{AreGoalWords, IsGoalWordOver};
 
 use goal_children::{child, goal_lists_are_known};
 use goal_list::plain_goals;
@@ -40,7 +40,7 @@ fn push_children(
     requires props { IsProps query.now props.now }
     requires candidates { All (IsCandidateWord query.now) members.now }
     requires ascending { IsStrictlyIncreasing members.now }
-    requires goals { All (IsGoalWordOver query.now) goals.now }
+    requires goals { AreGoalWords query.now goals.now }
 {
     for goal in goals {
         children.push((

@@ -310,26 +310,28 @@ fn a_sort_comes_before_a_merge(rt: HostRuntime) -> Result<(), Fail> {
     Ok(())
 }
 
-// Whether a filter of the second table is there for a request for its rows where they lie, in the order of this
-// number.
-fn filter_is_there(query: &Query, props: &Props, order: u32) -> Option<bool>
+// Whether a filter of the second table is there for the request.
+fn filter_is_there(query: &Query, props: &Props, request: Request) -> Option<bool>
     requires { IsProps query.now props.now }
 {
     let group = KeyParts::Filter(1);
-    if !query.has_group(group) || order as usize > props.orders.len() {
+    if !query.has_group(group) {
         return None;
     }
     let filter = made(query, Rule::SelectToFilter, origin(query, group))?;
-    Some(alternative(query, props, filter, ask(Dist::Spread, order), 0).is_some())
+    if request.order as usize > props.orders.len() {
+        return None;
+    }
+    Some(alternative(query, props, filter, request, 0).is_some())
 }
 
 // The orders are those of U.x and of V.y, and the filter is of U: a line over one child asks for no fit.
 #[test]
 fn a_filter_is_there_for_an_order_of_another_table(rt: HostRuntime) -> Result<(), Fail> {
     let (query, props) = implied(rt.alloc(), one_linked_pair(rt.alloc())?)?;
-    assert!(rt; filter_is_there(&query, &props, 1) == Some(true));
-    assert!(rt; filter_is_there(&query, &props, 2) == Some(true));
-    assert!(rt; filter_is_there(&query, &props, 3).is_none());
+    assert!(rt; filter_is_there(&query, &props, ask(Dist::Spread, 1)) == Some(true));
+    assert!(rt; filter_is_there(&query, &props, ask(Dist::Spread, 2)) == Some(true));
+    assert!(rt; filter_is_there(&query, &props, ask(Dist::Spread, 3)).is_none());
     Ok(())
 }
 
