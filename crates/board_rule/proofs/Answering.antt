@@ -1,15 +1,16 @@
 -- Stores of the answer words of a goal, by the seat that holds it, keep soundness.
-use Rattle.std.proofs.Common.{cond, eqb, eq-eqb, ne_eqb, length-set, ◌≡◌, ℕ, ◌<◌, ◌≢◌, set, sym, refl, ap, subst, ◌∙◌}
-use Rattle.std.proofs.Common.{arith, Some}
+use Rattle.std.proofs.Common.{cond, eqb, eq-eqb, ne_eqb, length-set, ◌≡◌, ℕ, ◌<◌, ◌≢◌, List, map, set, sym, refl, ap}
+use Rattle.std.proofs.Common.{subst, ◌∙◌, arith, Some}
 use mathlib.Core.Logic.{dite}
 use native.Mathlib.Decide.{ℕ_discrete}
-use mathlib.Core.Option.{none}
+use mathlib.Core.Option.{some, none}
+use lib.ListN.{get_elem?}
 use Rattle.atomic_table.specs.Table.{keeps, step, Allows}
 use Rattle.board_rule.specs.Meaning.{Meaning}
 use Rattle.board_rule.specs.Records.{Claimed}
 use Rattle.board_rule.specs.Words.{Mem, mem, put, cost_word, node_word, who_word}
-use Rattle.board_rule.specs.Seats.{cost_stored, node_stored, who_stored}
-use Rattle.board_rule.specs.Rule.{IsStored, IsSoundBy}
+use Rattle.board_rule.specs.Seats.{changed, cost_stored, node_stored, who_stored}
+use Rattle.board_rule.specs.Rule.{IsStored, IsSoundBy, IsSound}
 use Rattle.board_rule.specs.May.{HasRight}
 use Rattle.board_rule.specs.Plays.{Sat, StoresCost, StoresNode, StoresWho}
 use Rattle.board_rule.specs.declared.hands.Hands.{Hands}
@@ -43,13 +44,11 @@ answers_cost m place x = record {
       (λ e. record {
         cost_is = λ y is. stored_there m.cost place x r.place y e is;
         node_is = old.node_is;
-        who_is =
-            old.who_is;
+        who_is = old.who_is;
       })
       (λ ne. record {
         cost_is = λ y is. put_else m.cost place x r.place ne ∙ old.cost_is y is;
-        node_is =
-            old.node_is;
+        node_is = old.node_is;
         who_is = old.who_is;
       });
 }
@@ -66,13 +65,11 @@ answers_node m place x = record {
       (λ e. record {
         cost_is = old.cost_is;
         node_is = λ y is. stored_there m.node place x r.place y e is;
-        who_is =
-            old.who_is;
+        who_is = old.who_is;
       })
       (λ ne. record {
         cost_is = old.cost_is;
-        node_is = λ y is. put_else m.node place x r.place ne
-            ∙ old.node_is y is;
+        node_is = λ y is. put_else m.node place x r.place ne ∙ old.node_is y is;
         who_is = old.who_is;
       });
 }
@@ -89,38 +86,48 @@ answers_who m place x = record {
       (λ e. record {
         cost_is = old.cost_is;
         node_is = old.node_is;
-        who_is =
-            λ y is. stored_there m.who place x r.place y e is;
+        who_is = λ y is. stored_there m.who place x r.place y e is;
       })
       (λ ne. record {
         cost_is = old.cost_is;
         node_is = old.node_is;
-        who_is = λ y is. put_else m.who place x r.place ne
-            ∙ old.who_is y is;
+        who_is = λ y is. put_else m.who place x r.place ne ∙ old.who_is y is;
       });
 }
 
 module _ {R : Type 0} (meaning_of : R → Meaning) (rules : R) (room : ℕ) where
+  -- a board is sound once a seat has stored an answer word of a goal that it holds
+  stored_keeps : (words : List ℕ) (views : List (Hands R)) (id : ℕ) (v : Hands R) (word place x : ℕ)
+      (cost node who : ℕ → ℕ) (stores : Claimed → Claimed)
+      → IsSound (meaning_of rules) rules room words views → get_elem? views id ≡ some v → 0 < v.parts
+      → HasRight room v.rights place
+      → mem (set words word x) ≡ record (mem words) { cost = cost; node = node; who = who }
+      → Answers (mem words) place cost node who stores
+      → IsSound (meaning_of rules) rules room (set words word x)
+      (set views id (record v { alone = changed word x v.alone; rights = map stores v.rights }))
+  stored_keeps words views id v word place x cost node who stores sound mine some_part has stored answers =
+      let w : Hands R = record v { alone = changed word x v.alone; rights = map stores v.rights } in
+      record {
+        count = length-set words word x ∙ sound.count;
+        by_kinds = subst (λ b. IsSoundBy (meaning_of rules) rules room b (set views id w)) (sym stored)
+            (store_keeps (meaning_of rules) rules room (mem words) place cost node who stores answers has.near views id v
+            w.alone mine some_part has sound.by_kinds);
+        alone = alone_set words views id word x v w mine refl sound.alone;
+      }
+
   cost_at : (slots id : ℕ) (me : Sat R) (place x : ℕ) → 0 < me.0.parts → HasRight room me.0.rights place
       → Allows (Holds meaning_of rules room) slots id me (cost_word place) (λ _. x)
       (λ _. StoresCost meaning_of (step slots (cost_word place) x 0 none) me x)
   cost_at slots id me place x some_part has s sound homes mine fits =
       let m : Mem = mem s.words in
       let near = has.near in
-      let count = sound.count in
-      let w : Hands R = cost_stored me.0 place x in (
-        w,
+      let count = sound.count in (
+        cost_stored me.0 place x,
         keeps,
         tt,
-        record {
-          count = length-set s.words (cost_word place) x ∙ count;
-          by_kinds = subst (λ b. IsSoundBy (meaning_of rules) rules room b (set s.views id w))
-              (sym (put_cost s.words place x (omega arith)))
-              (store_keeps (meaning_of rules) rules room m place (put m.cost place x) m.node m.who
-              (λ r. cond (eqb r.place place) (record r { cost = Some x }) r) (answers_cost m place x) near
-              s.views id me.0 w.alone mine some_part has sound.by_kinds);
-          alone = alone_set s.words s.views id (cost_word place) x me.0 w mine refl sound.alone;
-        },
+        stored_keeps s.words s.views id me.0 (cost_word place) place x (put m.cost place x) m.node m.who
+            (λ r. cond (eqb r.place place) (record r { cost = Some x }) r) sound mine some_part has
+            (put_cost s.words place x (omega arith)) (answers_cost m place x),
         λ p same. ap (λ q. (cost_stored me.0 q x, me.1)) (omega (arith, same)),
       )
 
@@ -139,20 +146,13 @@ module _ {R : Type 0} (meaning_of : R → Meaning) (rules : R) (room : ℕ) wher
   node_at slots id me place x some_part has s sound homes mine fits =
       let m : Mem = mem s.words in
       let near = has.near in
-      let count = sound.count in
-      let w : Hands R = node_stored me.0 place x in (
-        w,
+      let count = sound.count in (
+        node_stored me.0 place x,
         keeps,
         tt,
-        record {
-          count = length-set s.words (node_word place) x ∙ count;
-          by_kinds = subst (λ b. IsSoundBy (meaning_of rules) rules room b (set s.views id w))
-              (sym (put_node s.words place x (omega arith)))
-              (store_keeps (meaning_of rules) rules room m place m.cost (put m.node place x) m.who
-              (λ r. cond (eqb r.place place) (record r { node = Some x }) r) (answers_node m place x) near
-              s.views id me.0 w.alone mine some_part has sound.by_kinds);
-          alone = alone_set s.words s.views id (node_word place) x me.0 w mine refl sound.alone;
-        },
+        stored_keeps s.words s.views id me.0 (node_word place) place x m.cost (put m.node place x) m.who
+            (λ r. cond (eqb r.place place) (record r { node = Some x }) r) sound mine some_part has
+            (put_node s.words place x (omega arith)) (answers_node m place x),
         λ p same. ap (λ q. (node_stored me.0 q x, me.1)) (omega (arith, same)),
       )
 
@@ -171,20 +171,13 @@ module _ {R : Type 0} (meaning_of : R → Meaning) (rules : R) (room : ℕ) wher
   who_at slots id me place x some_part has s sound homes mine fits =
       let m : Mem = mem s.words in
       let near = has.near in
-      let count = sound.count in
-      let w : Hands R = who_stored me.0 place x in (
-        w,
+      let count = sound.count in (
+        who_stored me.0 place x,
         keeps,
         tt,
-        record {
-          count = length-set s.words (who_word place) x ∙ count;
-          by_kinds = subst (λ b. IsSoundBy (meaning_of rules) rules room b (set s.views id w))
-              (sym (put_who s.words place x (omega arith)))
-              (store_keeps (meaning_of rules) rules room m place m.cost m.node (put m.who place x)
-              (λ r. cond (eqb r.place place) (record r { who = Some x }) r) (answers_who m place x) near
-              s.views id me.0 w.alone mine some_part has sound.by_kinds);
-          alone = alone_set s.words s.views id (who_word place) x me.0 w mine refl sound.alone;
-        },
+        stored_keeps s.words s.views id me.0 (who_word place) place x m.cost m.node (put m.who place x)
+            (λ r. cond (eqb r.place place) (record r { who = Some x }) r) sound mine some_part has
+            (put_who s.words place x (omega arith)) (answers_who m place x),
         λ p same. ap (λ q. (who_stored me.0 q x, me.1)) (omega (arith, same)),
       )
 

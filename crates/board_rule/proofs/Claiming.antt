@@ -1,6 +1,6 @@
 -- A compare-exchange of a run word from 0 to 256 keeps soundness.
-use Rattle.std.proofs.Common.{IsTrue, cond, ne_eqb, length-set, ◌≡◌, ℕ, ◌+◌, ◌/◌, ◌<◌, ◌≢◌, List, ◌∷◌, get_or, set, eqb}
-use Rattle.std.proofs.Common.{sym, refl, ap, subst, ◌∙◌, inr, ⊎_elim, arith}
+use Rattle.std.proofs.Common.{IsTrue, cond, ne_eqb, ◌≡◌, ℕ, ◌+◌, ◌/◌, ◌<◌, ◌≢◌, List, ◌∷◌, get_or, set, eqb}
+use Rattle.std.proofs.Common.{sym, refl, ap, subst, ◌∙◌, inr, arith}
 use mathlib.Core.Option.{some, none}
 use lib.ListN.{get_elem?}
 use prog.Atomic.{either}
@@ -9,37 +9,20 @@ use Rattle.atomic_table.proofs.Lists.{exchanged}
 use Rattle.std.specs.Int.{bit_at}
 use Rattle.std.proofs.lemmas.Nat.Bits.{bit_at-zero, bit_at-pow_other}
 use Rattle.board_rule.specs.Meaning.{Meaning}
-use Rattle.board_rule.specs.Words.{Mem, mem, put, full_word, cell_word, run_word, head_word}
-use Rattle.board_rule.specs.Looks.{RemembersAbsence}
+use Rattle.board_rule.specs.Words.{Mem, mem, put, run_word}
 use Rattle.board_rule.specs.Seats.{waits_at, fresh_right, looked, claimed}
-use Rattle.board_rule.specs.Rule.{HoldsGoal, KeepsBlank, KeepsRights, Stays, AreHands, ArePending, IsSoundBy, IsSound}
+use Rattle.board_rule.specs.Rule.{HoldsGoal, KeepsRights, ArePending, IsSound}
 use Rattle.board_rule.specs.Rule.{held, ended}
 use Rattle.board_rule.specs.May.{MayClaim}
 use Rattle.board_rule.specs.Plays.{Sat, Claims}
 use Rattle.board_rule.specs.declared.hands.Hands.{Hands}
-use Rattle.board_rule.proofs.Lists.{put_here, put_else, total_same, term_le}
-use Rattle.board_rule.proofs.Stores.{put_run}
-use Rattle.board_rule.proofs.Frames.{awake_has, of_others_set, alone_set, moment_of}
+use Rattle.board_rule.proofs.Lists.{put_here, put_else, term_le}
+use Rattle.board_rule.proofs.Frames.{moment_of}
 use Rattle.board_rule.proofs.Waits.{SameBits, handed_same, waits_as, raised_as, pending_as, same_bits_put, none_pending}
+use Rattle.board_rule.proofs.RunWords.{blank_run, run_step_keeps}
 use Rattle.board_rule.proofs.Looking.{Holds}
 use Rattle.board_rule.proofs.Putting.{Leads, miss_leads}
 use Rattle.board_rule.proofs.Rights.{rights_at, counts_one, counts_none, held-set, ended-set, rights_moved}
-
--- a look at a word that is no cell, no head and not the full word shows nothing that has to stay
-pub stays_beside : (cell head : ℕ → ℕ) (full : ℕ) (looks : List (ℕ × ℕ)) (word found : ℕ) → full_word ≢ word
-    → ((p : ℕ) → cell_word p ≢ word) → ((p : ℕ) → head_word p ≢ word)
-    → Stays cell head full looks → Stays cell head full ((word, found) ∷ looks)
-stays_beside cell head full looks word found no_full no_cell no_head old = record {
-  cells = λ p x at some. ⊎_elim (λ t. absurd (no_cell p (sym t.0))) (λ t. old.cells p x t some) at;
-  heads = λ p x at. ⊎_elim (λ t. absurd (no_head p (sym t.0))) (λ t. old.heads p x t) at;
-  set_full = λ x at some. ⊎_elim (λ t. absurd (no_full (sym t.0))) (λ t. old.set_full x t some) at;
-}
-
--- a look at a word that is no cell tells of no absence
-pub absence_beside : (meaning : Meaning) (room : ℕ) (looks : List (ℕ × ℕ)) (word found : ℕ)
-    → ((p : ℕ) → cell_word p ≢ word)
-    → RemembersAbsence meaning room looks → RemembersAbsence meaning room ((word, found) ∷ looks)
-absence_beside meaning room looks word found no_cell old = ((λ _ shown p _ is _ _. absurd (no_cell p is)), old)
 
 -- 256 has the held bit alone
 pub held_alone : (i : ℕ) → i ≢ 8 → bit_at 256 i ≡ 0
@@ -71,31 +54,6 @@ rights_claimed room m views id v place mine ready near old =
     })
     old
 
--- the words of empty cells and of members are 0 where the goal's run word has changed
-pub blank_run : (meaning : Meaning) (room : ℕ) (m : Mem) (place x : ℕ) → HoldsGoal meaning room m.cell place
-    → KeepsBlank meaning room m
-    → KeepsBlank meaning room (record m { run = put m.run place x })
-blank_run meaning room m place x holds old p near no_goal = let b = old p near no_goal in record {
-  run = put_else m.run place x p (λ e. no_goal (subst (HoldsGoal meaning room m.cell) (sym e) holds)) ∙ b.run;
-  head = b.head;
-  cost = b.cost;
-  node = b.node;
-  who = b.who;
-  next = b.next;
-}
-
--- also where it was not 0
-pub blank_running : (meaning : Meaning) (room : ℕ) (m : Mem) (place x : ℕ) → m.run place ≢ 0 → KeepsBlank meaning room m
-    → KeepsBlank meaning room (record m { run = put m.run place x })
-blank_running meaning room m place x runs old p near no_goal = let b = old p near no_goal in record {
-  run = put_else m.run place x p (λ e. runs (ap m.run (sym e) ∙ b.run)) ∙ b.run;
-  head = b.head;
-  cost = b.cost;
-  node = b.node;
-  who = b.who;
-  next = b.next;
-}
-
 -- a wait that is being put in is for another goal than one that is claimed
 pends_claimed : {R : Type 0} (meaning : Meaning) (room : ℕ) (cell next : ℕ → ℕ) (v : Hands R) (place : ℕ)
     → rights_at place v.rights ≡ 0
@@ -124,80 +82,43 @@ module _ {R : Type 0} (meaning_of : R → Meaning) (rules : R) (room : ℕ) wher
   claim_keeps words views id v place sound mine some_part may ready =
       let meaning : Meaning = meaning_of rules in
       let m : Mem = mem words in
-      let n : Mem = record m { run = put m.run place 256 } in
+      let run : ℕ → ℕ = put m.run place 256 in
       let w : Hands R = claimed v place in
       let k = sound.by_kinds in
       let own = k.hands id v mine in
       let near = may.near in
-      let count = sound.count in
       let stands : m.cell place ≡ may.goal = own.stays.cells place may.goal may.stands may.some_goal in
       let holds : HoldsGoal meaning room m.cell place =
       subst (λ x. (x ≢ 0) × IsTrue (meaning.goal x)) (sym stands) (may.some_goal, may.is_goal) in
-      let same : SameBits m.run n.run = same_bits_put m.run place 256
+      let same : SameBits m.run run = same_bits_put m.run place 256
       (λ b few. held_alone b (λ e. omega arith) ∙ sym (bit_at-zero b) ∙ ap (λ x. bit_at x b) (sym ready)) in
       let own_rights = term_le (λ (u : Hands R). rights_at place u.rights) views id v mine in
       let running : bit_at (m.run place) 8 ≡ held views place + ended views place = (k.rights place near).running in
       let no_bit : bit_at (m.run place) 8 ≡ 0 = ap (λ x. bit_at x 8) ready ∙ bit_at-zero 8 in
       let none_mine : rights_at place v.rights ≡ 0 = omega (arith, own_rights, running, no_bit) in
-      record {
-        count = length-set words (run_word place) 256 ∙ count;
-        by_kinds = subst (λ b. IsSoundBy meaning rules room b (set views id w))
-            (sym (put_run words place 256 (omega arith))) (record {
-              cells = k.cells;
-              blank = blank_run meaning room m place 256 holds k.blank;
-              rights = rights_claimed room m views id v place mine ready near k.rights;
-              waits = waits_as meaning room m.cell m.head m.next m.run n.run views (set views id w) same
-                  (handed_same views id v w mine refl) k.waits;
-              promises = k.promises;
-              full = k.full;
-              hands = of_others_set (AreHands meaning rules room m) (AreHands meaning rules room n) views id w
-                  (λ other u ne there h. record {
-                    stays = h.stays;
-                    absence = h.absence;
-                    recorded = h.recorded;
-                    stored =
-                        h.stored;
-                    ends = h.ends;
-                    raised = raised_as m.run n.run u.pending u.rights same h.raised;
-                    pends =
-                        h.pends;
-                    walked = h.walked;
-                    awake = h.awake;
-                  })
-                  k.hands
-                  (record {
-                    stays = stays_beside m.cell m.head m.full v.looks (run_word place) 0 (λ e. omega arith)
-                        (λ p e. omega arith) (λ p e. omega arith) own.stays;
-                    absence = absence_beside meaning room v.looks (run_word place) 0 (λ p e. omega arith) own.absence;
-                    recorded = own.recorded;
-                    stored = (
-                      record {
-                        cost_is = λ x e. absurd (cc);
-                        node_is = λ x e. absurd (cc);
-                        who_is =
-                            λ x e. absurd (cc);
-                      },
-                      own.stored,
-                    );
-                    ends = λ p. omega (arith, own.ends p);
-                    raised = (
-                      record {
-                        few = omega arith;
-                        others = λ b _ few. ap (λ x. bit_at x b) (put_here m.run place 256)
-                            ∙ held_alone b (λ e. omega arith)
-                            ∙ sym (none_pending meaning room m.cell m.next v.looks v.rights v.pending place b few none_mine
-                            own.pends);
-                      },
-                      raised_as m.run n.run v.pending v.rights same own.raised,
-                    );
-                    pends = pends_claimed meaning room m.cell m.next v place none_mine own.pends;
-                    walked = own.walked;
-                    awake = inr (awake_has rules room v some_part own.awake);
-                  });
-              parts = total_same (λ (h : Hands R). h.parts) views id v w mine refl ∙ k.parts;
-            });
-        alone = alone_set words views id (run_word place) 256 v w mine refl sound.alone;
-      }
+      run_step_keeps meaning_of rules room words views id v w place 0 256 sound mine some_part near (record {
+        blank = blank_run meaning room m place 256 holds k.blank;
+        rights = rights_claimed room m views id v place mine ready near k.rights;
+        waits = waits_as meaning room m.cell m.head m.next m.run run views (set views id w) same
+            (handed_same views id v w mine refl) k.waits;
+        others = λ other u ne there h. raised_as m.run run u.pending u.rights same h.raised;
+        stored = (
+          record { cost_is = λ x e. absurd (cc); node_is = λ x e. absurd (cc); who_is = λ x e. absurd (cc) },
+          own.stored,
+        );
+        ends = λ p. omega (arith, own.ends p);
+        raised = (
+          record {
+            few = omega arith;
+            others = λ b _ few. ap (λ x. bit_at x b) (put_here m.run place 256) ∙ held_alone b (λ e. omega arith)
+                ∙ sym (none_pending meaning room m.cell m.next v.looks v.rights v.pending place b few none_mine
+                own.pends);
+          },
+          raised_as m.run run v.pending v.rights same own.raised,
+        );
+        pends = pends_claimed meaning room m.cell m.next v place none_mine own.pends;
+        walked = own.walked;
+      })
 
   claim_at : (slots id : ℕ) (me : Sat R) (place : ℕ) → 0 < me.0.parts
       → MayClaim (meaning_of rules) room me.0.looks place

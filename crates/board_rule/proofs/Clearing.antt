@@ -1,7 +1,7 @@
 -- A fetch-and that clears the bit of a waiter keeps soundness: by the seat that walks, and by the one that puts the
 -- wait in.
-use Rattle.std.proofs.Common.{length-set, ◌≡◌, ℕ, ◌+◌, ◌-◌, ◌/◌, ◌%◌, ◌^◌, ◌<◌, ◌≤◌, List, [], ◌∷◌, Option, None, Some}
-use Rattle.std.proofs.Common.{bit_and, get_or, set, sym, refl, ap, subst, ◌∙◌, inr, arith}
+use Rattle.std.proofs.Common.{◌≡◌, ℕ, ◌+◌, ◌-◌, ◌/◌, ◌%◌, ◌^◌, ◌<◌, ◌≤◌, List, [], ◌∷◌, Option, None, Some}
+use Rattle.std.proofs.Common.{bit_and, get_or, set, sym, refl, ap, subst, ◌∙◌, arith}
 use mathlib.Core.Option.{some, none}
 use lib.ListN.{get_elem?}
 use Rattle.atomic_table.specs.Table.{keeps, step, Allows}
@@ -10,17 +10,15 @@ use Rattle.board_rule.specs.Records.{Pending, Walk}
 use Rattle.board_rule.specs.Words.{Mem, mem, run_word}
 use Rattle.board_rule.specs.Waiters.{rest_of, wait_bit, cleared}
 use Rattle.board_rule.specs.Seats.{Each, in_hand, woken_by, changed, bit_cleared, wait_dropped}
-use Rattle.board_rule.specs.Rule.{IsRaised, ArePending, IsWalked, WaitedFor, AreHands, IsSoundBy, IsSound}
+use Rattle.board_rule.specs.Rule.{IsRaised, ArePending, IsWalked, WaitedFor, IsSound}
 use Rattle.board_rule.specs.May.{MayDrop}
 use Rattle.board_rule.specs.Plays.{Sat, ClearsBit, DropsWait}
 use Rattle.board_rule.specs.declared.hands.Hands.{Hands}
-use Rattle.board_rule.proofs.Lists.{total_same}
-use Rattle.board_rule.proofs.Stores.{put_run}
-use Rattle.board_rule.proofs.Frames.{awake_has, of_others_set, alone_set, moment_of}
+use Rattle.board_rule.proofs.Frames.{moment_of}
 use Rattle.board_rule.proofs.Rights.{bit_runs}
 use Rattle.board_rule.proofs.Chains.{count, chain_rest}
 use Rattle.board_rule.proofs.Waits.{pending_looked, hand_parts}
-use Rattle.board_rule.proofs.Claiming.{stays_beside, absence_beside, blank_running}
+use Rattle.board_rule.proofs.RunWords.{blank_running, run_step_keeps}
 use Rattle.board_rule.proofs.Cleared.{run_cleared, raised_cleared, raised_dropped, was_set, not_others, not_again}
 use Rattle.board_rule.proofs.Cleared.{waits_cleared, rights_cleared}
 use Rattle.board_rule.proofs.Looking.{Holds}
@@ -69,55 +67,25 @@ module _ {R : Type 0} (meaning_of : R → Meaning) (rules : R) (room : ℕ) wher
       let place : ℕ = q / 8 in
       let found : ℕ = m.run place in
       let x : ℕ = cleared found (q % 8) in
-      let n : Mem = record m { run = run_cleared m.run q } in
       let w : Hands R = after_clear v q found pending walk in
       let k = sound.by_kinds in
       let own = k.hands id v mine in
-      let total_count = sound.count in
       let is_set = was_set meaning room m views id v w q mine one_less k.waits in
       let near : place < room = k.waits.near q (omega (arith, is_set)) in
-      record {
-        count = length-set words (run_word place) x ∙ total_count;
-        by_kinds = subst (λ k. IsSoundBy meaning rules room k (set views id w))
-            (sym (put_run words place x (omega arith))) (record {
-              cells = k.cells;
-              blank = blank_running meaning room m place x (bit_runs found (q % 8) (omega (arith, is_set))) k.blank;
-              rights = rights_cleared meaning room m views id v w q mine one_less k.waits refl refl k.rights;
-              waits = waits_cleared meaning room m views id v w q mine one_less k.waits;
-              promises = k.promises;
-              full = k.full;
-              hands = of_others_set (AreHands meaning rules room m) (AreHands meaning rules room n) views id w
-                  (λ other u ne there h.
-                  let none_of = not_others meaning room m views id v w q mine one_less k.waits other u ne there in
-                  let parts = hand_parts q u.pending u.walk in
-                  record {
-                    stays = h.stays;
-                    absence = h.absence;
-                    recorded = h.recorded;
-                    stored = h.stored;
-                    ends = h.ends;
-                    raised = raised_cleared m.run q u.pending u.rights (omega (arith, is_set)) (omega arith) h.raised;
-                    pends = h.pends;
-                    walked = h.walked;
-                    awake = h.awake;
-                  })
-                  k.hands
-                  (record {
-                    stays = stays_beside m.cell m.head m.full v.looks (run_word place) found (λ e. omega arith)
-                        (λ p e. omega arith) (λ p e. omega arith) own.stays;
-                    absence = absence_beside meaning room v.looks (run_word place) found (λ p e. omega arith) own.absence;
-                    recorded = own.recorded;
-                    stored = own.stored;
-                    ends = own.ends;
-                    raised = raised (omega (arith, is_set));
-                    pends = pends v.looks (run_word place, found) refl;
-                    walked = walked;
-                    awake = inr (awake_has rules room v some_part own.awake);
-                  });
-              parts = total_same (λ (h : Hands R). h.parts) views id v w mine refl ∙ k.parts;
-            });
-        alone = alone_set words views id (run_word place) x v w mine refl sound.alone;
-      }
+      run_step_keeps meaning_of rules room words views id v w place found x sound mine some_part near (record {
+        blank = blank_running meaning room m place x (bit_runs found (q % 8) (omega (arith, is_set))) k.blank;
+        rights = rights_cleared meaning room m views id v w q mine one_less k.waits refl refl k.rights;
+        waits = waits_cleared meaning room m views id v w q mine one_less k.waits;
+        others = λ other u ne there h.
+            let none_of = not_others meaning room m views id v w q mine one_less k.waits other u ne there in
+            let parts = hand_parts q u.pending u.walk in
+            raised_cleared m.run q u.pending u.rights (omega (arith, is_set)) (omega arith) h.raised;
+        stored = own.stored;
+        ends = own.ends;
+        raised = raised (omega (arith, is_set));
+        pends = pends v.looks (run_word place, found) refl;
+        walked = walked;
+      })
 
   -- the first waiter of a walk, and those after it
   walk_counts : (pending : Option Pending) (walk : Walk) (q : ℕ) (others : List ℕ) → walk.waiters ≡ q ∷ others → (p : ℕ)

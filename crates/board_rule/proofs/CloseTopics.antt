@@ -41,8 +41,7 @@ module _ (meaning : Meaning) (room : ℕ) (m : Mem) (place : ℕ) where
   recorded_close e old = record {
     near = old.near;
     closed = closed_stays e.place old.closed;
-    cost_is =
-        old.cost_is;
+    cost_is = old.cost_is;
     node_is = old.node_is;
     who_is = old.who_is;
     few = old.few;

@@ -188,8 +188,7 @@ module _ {R : Type 0} (meaning_of : R → Meaning) (rules : R) (room : ℕ) wher
                         closed = put_cases m.head place (2 ^ 63) place (λ x. 2 ^ 63 ≤ x)
                             (λ _. omega arith) (λ ne. absurd (ne refl));
                         cost_is = stored.cost_is cost refl;
-                        node_is =
-                            stored.node_is node refl;
+                        node_is = stored.node_is node refl;
                         who_is = stored.who_is (worker + 1) refl;
                         few = may.few;
                       },
@@ -233,8 +232,7 @@ module _ {R : Type 0} (meaning_of : R → Meaning) (rules : R) (room : ℕ) wher
       let has : HasRight room me.0.rights place =
       record {
         near = may.near;
-        held = among_counts (λ (r : Claimed). r.place) me.0.rights
-            (answered_right place worker cost node) may.stored;
+        held = among_counts (λ (r : Claimed). r.place) me.0.rights (answered_right place worker cost node) may.stored;
       } in
       let is = held_by room (mem s.words).run (mem s.words).head s.views id me.0 place mine has k.rights in
       let its_room : me.0.room ≡ room = (awake_has rules room me.0 some_part (k.hands id me.0 mine).awake).2 in
@@ -263,8 +261,7 @@ module _ {R : Type 0} (meaning_of : R → Meaning) (rules : R) (room : ℕ) wher
                   (mem s.words).next s.views k.waits place may.near);
               tells = record {
                 hands_are = λ i. (finished me.0 (e i) (ea i) (ec i) (ex i) waiters, me.1);
-                moment =
-                    moment;
+                moment = moment;
               };
             },
       )

@@ -35,8 +35,7 @@ stays_full : (cell head : ℕ → ℕ) (full : ℕ) (looks : List (ℕ × ℕ)) 
 stays_full cell head full looks old = record {
   cells = old.cells;
   heads = old.heads;
-  set_full =
-      λ found at some_found none. absurd (omega arith);
+  set_full = λ found at some_found none. absurd (omega arith);
 }
 
 -- also where it is seen set
@@ -76,14 +75,12 @@ module _ {R : Type 0} (meaning_of : R → Meaning) (rules : R) (room : ℕ) wher
               hands = of_others_set (AreHands meaning rules room m) (AreHands meaning rules room n) views id w
                   (λ other u ne there h. record {
                     stays = stays_full m.cell m.head m.full u.looks h.stays;
-                    absence =
-                        h.absence;
+                    absence = h.absence;
                     recorded = h.recorded;
                     stored = h.stored;
                     ends = h.ends;
                     raised = h.raised;
-                    pends =
-                        h.pends;
+                    pends = h.pends;
                     walked = h.walked;
                     awake = h.awake;
                   })

@@ -6,10 +6,12 @@ pub mod Truths
 pub mod Looking
 pub mod Putting
 pub mod Opening
+pub mod SeenByTwo
 pub mod Seating
 pub mod Rights
 pub mod Waits
 pub mod CellWaits
+pub mod RunWords
 pub mod Claiming
 pub mod Suspending
 pub mod AnswerWords

@@ -70,7 +70,6 @@ module _ {R : Type 0} (meaning_of : R → Meaning) (rules : R) (room : ℕ) wher
         (look_keeps s.words s.views id me.0 word sound mine some_part),
     record {
       hands_are = refl;
-      moment = moment_of meaning_of rules room s.words s.views id me.0 word sound mine
-          some_part;
+      moment = moment_of meaning_of rules room s.words s.views id me.0 word sound mine some_part;
     },
   )

@@ -1,6 +1,6 @@
 -- A board is sound at the start.
 use Rattle.std.proofs.Common.{◌/◌, ◌≡◌, ℕ, zero, suc, ◌+◌, ◌*◌, ◌%◌, List, [], ◌∷◌, get_or, replicate, sym, refl, ap}
-use Rattle.std.proofs.Common.{subst, ◌∙◌, inr, arith}
+use Rattle.std.proofs.Common.{None, subst, ◌∙◌, inr, arith}
 use Rattle.std.proofs.lemmas.List.{length-replicate}
 use mathlib.Core.Option.{some, some-injective, some-ne-none}
 use lib.ListN.{get_elem?}
@@ -9,10 +9,10 @@ use Rattle.word_table.proofs.ProbingLemmas.{empty_is_set}
 use Rattle.std.specs.Int.{bit_at}
 use Rattle.std.proofs.lemmas.Nat.Bits.{bit_at-zero}
 use Rattle.board_rule.specs.Meaning.{Meaning}
-use Rattle.board_rule.specs.Words.{mem, full_word, cell_word, run_word, head_word}
+use Rattle.board_rule.specs.Words.{Mem, mem, full_word, cell_word, run_word, head_word}
 use Rattle.board_rule.specs.Waiters.{wait_bit, no_walk}
 use Rattle.board_rule.specs.Seats.{opening_hands}
-use Rattle.board_rule.specs.Rule.{IsWalked, AreHands, KeepsAlone}
+use Rattle.board_rule.specs.Rule.{IsWalked, IsAwake, AreHands, KeepsAlone}
 use Rattle.board_rule.specs.declared.hands.Hands.{Hands}
 use Rattle.board_rule.proofs.Chains.{count, below_none}
 use Rattle.board_rule.proofs.Looking.{Holds}
@@ -33,6 +33,37 @@ pub walks_none : (meaning : Meaning) (room : ℕ) (cell head next : ℕ → ℕ)
 walks_none meaning room cell head next =
     record { chained = tt; read = λ found is. let no : ⊥ = cc in absurd no; waited = tt }
 
+module _ {R : Type 0} where
+  -- a seat that has looked at nothing, and neither did anything nor holds anything
+  abbrev pub with_nothing : Hands R → Hands R
+  with_nothing v = record v {
+    looks = [];
+    claims = [];
+    suspensions = [];
+    done = [];
+    rights = [];
+    pending = None;
+    walk = no_walk;
+  }
+
+  pub hands_of_nothing : (meaning : Meaning) (rules : R) (room : ℕ) (m : Mem) (v : Hands R)
+      → IsAwake rules room (with_nothing v) → AreHands meaning rules room m (with_nothing v)
+  hands_of_nothing meaning rules room m v awake = record {
+    stays = record {
+      cells = λ p found at. absurd at;
+      heads = λ p found at. absurd at;
+      set_full = λ found at. absurd at;
+    };
+    absence = tt;
+    recorded = tt;
+    stored = tt;
+    ends = λ p. refl;
+    raised = tt;
+    pends = tt;
+    walked = walks_none meaning room m.cell m.head m.next;
+    awake = awake;
+  }
+
 module _ {R : Type 0} (meaning_of : R → Meaning) (rules : R) (room : ℕ) where
   -- at the start all words are 0, and one seat has all parts
   pub start_sound : Holds meaning_of rules room (opening (replicate (14 * room + 1) 0) [] (opening_hands rules room))
@@ -45,8 +76,7 @@ module _ {R : Type 0} (meaning_of : R → Meaning) (rules : R) (room : ℕ) wher
         by_kinds = record {
           cells = record {
             enter = λ p near taken. absurd (taken (z (cell_word p)));
-            are_set =
-                empty_is_set room (mem words).cell (λ p _. z (cell_word p));
+            are_set = empty_is_set room (mem words).cell (λ p _. z (cell_word p));
           };
           blank = λ p near _. record { run = z _; head = z _; cost = z _; node = z _; who = z _; next = λ b _. z _ };
           rights = λ p near. record {
@@ -75,22 +105,7 @@ module _ {R : Type 0} (meaning_of : R → Meaning) (rules : R) (room : ℕ) wher
           };
           full = λ set_full. absurd (set_full (z full_word));
           hands = λ id u there. subst (AreHands (meaning_of rules) rules room (mem words)) (only_of v u id there)
-              (record {
-                stays = record {
-                  cells = λ p found at. absurd at;
-                  heads = λ p found at. absurd at;
-                  set_full =
-                      λ found at. absurd at;
-                };
-                absence = tt;
-                recorded = tt;
-                stored = tt;
-                ends = λ p. refl;
-                raised = tt;
-                pends = tt;
-                walked = walks_none (meaning_of rules) room (mem words).cell (mem words).head (mem words).next;
-                awake = inr (omega arith, refl, refl);
-              });
+              (hands_of_nothing (meaning_of rules) rules room (mem words) v (inr (omega arith, refl, refl)));
           parts = refl;
         };
         alone = λ id u there. subst (KeepsAlone words (v ∷ [])) (only_of v u id there)

@@ -51,8 +51,7 @@ module _ (meaning : Meaning) (room : ℕ) (m : Mem) (c to : ℕ) (was_open : m.h
           near = old.near;
           closed = closed_still e.place old.closed;
           cost_is = old.cost_is;
-          node_is =
-              old.node_is;
+          node_is = old.node_is;
           who_is = old.who_is;
           few = old.few;
         })

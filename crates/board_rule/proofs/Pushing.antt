@@ -24,7 +24,7 @@ use Rattle.board_rule.proofs.Chains.{count, put_list, put_list_cases, below_put_
 use Rattle.board_rule.proofs.AnswerWords.{times_map}
 use Rattle.board_rule.proofs.Waits.{pending_at}
 use Rattle.board_rule.proofs.WaitLooks.{wait_look_keeps}
-use Rattle.board_rule.proofs.Claiming.{absence_beside}
+use Rattle.board_rule.proofs.RunWords.{absence_beside}
 use Rattle.board_rule.proofs.Lengths.{list_length, first_within}
 use Rattle.board_rule.proofs.PushTopics.{promises_push, recorded_push, walked_push, stays_push, blank_push, rights_push}
 use Rattle.board_rule.proofs.PushTopics.{more_waits, same_place, stored_push, raised_push}

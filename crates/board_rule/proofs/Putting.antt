@@ -133,12 +133,10 @@ module _ {R : Type 0} (meaning_of : R → Meaning) (rules : R) (room : ℕ) wher
                     recorded = h.recorded;
                     stored = h.stored;
                     ends = h.ends;
-                    raised =
-                        h.raised;
+                    raised = h.raised;
                     pends = pends_put meaning room m views place word empty k.blank k.waits other u there
                         u.looks u.rights h.pends;
-                    walked = walked_put meaning room m views place word empty k.blank k.waits
-                        other u there h.walked;
+                    walked = walked_put meaning room m views place word empty k.blank k.waits other u there h.walked;
                     awake = h.awake;
                   })
                   k.hands

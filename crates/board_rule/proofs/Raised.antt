@@ -79,8 +79,7 @@ raised_else run new_run place pending rights same none_of old =
     each_both (IsRaised run pending) (λ r. r.place ≢ place) (IsRaised new_run pending)
     (λ r was ne. record {
       few = was.few;
-      others = λ b more few. ap (λ n. bit_at n b) (same r.place ne)
-          ∙ was.others b more few;
+      others = λ b more few. ap (λ n. bit_at n b) (same r.place ne) ∙ was.others b more few;
     })
     rights old (absent_each (λ (r : Claimed). r.place) place rights none_of)
 

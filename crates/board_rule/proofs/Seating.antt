@@ -1,5 +1,5 @@
 -- A board is sound once a seat was split in two or has taken in another.
-use Rattle.std.proofs.Common.{ne_eqb, None, ◌≡◌, ℕ, ◌<◌, ◌≤◌, ◌≢◌, ◌⊎◌, Bool, true, false, ◌&&◌, ◌||◌, ◌==◌, ◌%◌, cond}
+use Rattle.std.proofs.Common.{None, ◌≡◌, ℕ, ◌<◌, ◌≤◌, ◌≢◌}
 use Rattle.std.proofs.Common.{List, [], ◌∷◌, ◌++◌, set, Some, sym, refl, ap, subst, ◌∙◌, inl, inr, ⊎_elim, arith}
 use mathlib.Core.Option.{some}
 use lib.ListN.{get_elem?}
@@ -7,9 +7,8 @@ use Rattle.atomic_table.specs.Table.{Splits, Joins}
 use Rattle.atomic_table.proofs.Lists.{at_set, at_snoc, set_else}
 use Rattle.board_rule.specs.Meaning.{Meaning}
 use Rattle.board_rule.specs.Records.{Claimed, Paused, Ended}
-use Rattle.board_rule.specs.Words.{mem, full_word, cell_word}
-use Rattle.board_rule.specs.Looks.{Looked, RemembersAbsence}
-use Rattle.board_rule.specs.Seats.{times, in_hand, lasts, lasting, spent, parted, part, joined}
+use Rattle.board_rule.specs.Words.{mem}
+use Rattle.board_rule.specs.Seats.{times, in_hand, lasting, spent, parted, part, joined}
 use Rattle.board_rule.specs.Rule.{IsRecorded, AreHands, OfAll, KeepsAlone, IsSound, held, ended}
 use Rattle.board_rule.specs.declared.hands.Hands.{Hands}
 use Rattle.board_rule.proofs.Lists.{some_below, each_append, times-append, total-append, total-set, total_same}
@@ -17,56 +16,8 @@ use Rattle.board_rule.proofs.Frames.{are_rights_as, awake_has, of_all_set}
 use Rattle.board_rule.proofs.Chains.{count}
 use Rattle.board_rule.proofs.Waits.{waits_as, pending_as}
 use Rattle.board_rule.proofs.Looking.{Holds}
-use Rattle.board_rule.proofs.Opening.{walks_none}
-
--- what was looked at by two seats
-pub looked_append : (ls ms : List (ℕ × ℕ)) (word found : ℕ) → Looked (ls ++ ms) word found → Looked ls word found
-    ⊎ Looked ms word found
-looked_append [] ms word found at = inr at
-looked_append (l ∷ ls) ms word found at =
-    ⊎_elim (λ (t : (l.0 ≡ word) × (l.1 ≡ found)). inl (inl t))
-    (λ (t : Looked (ls ++ ms) word found). ⊎_elim (λ u. inl (inr u)) (λ u. inr u) (looked_append ls ms word found t)) at
-
-pub lasting_looked : (ls : List (ℕ × ℕ)) (word found : ℕ) → Looked (lasting ls) word found → Looked ls word found
-lasting_looked [] word found at = at
-lasting_looked (l ∷ ls) word found at = by (lasts l) (lasting_looked ls word found) at
-  where
-    by : (b : Bool) → (Looked (lasting ls) word found → Looked ls word found)
-        → Looked (cond b (l ∷ lasting ls) (lasting ls)) word found → Looked (l ∷ ls) word found
-    by true more h = ⊎_elim (λ (t : (l.0 ≡ word) × (l.1 ≡ found)). inl t)
-        (λ (t : Looked (lasting ls) word found). inr (more t)) h
-    by false more h = inr (more h)
-
--- a look at an empty cell tells of the past alone
-lasts_not : (look : ℕ × ℕ) (p : ℕ) → cell_word p ≡ look.0 → look.1 ≡ 0 → lasts look ≡ false
-lasts_not look p is e =
-    let other : (look.0 % 14 == 3) ≡ false = ne_eqb (look.0 % 14) 3 (λ three. omega arith) in
-    ap (λ (x : ℕ). lasts (look.0, x)) e ∙ none_of (look.0 == full_word) (look.0 % 14 == 1) (look.0 % 14 == 3) other
-  where
-    none_of : (a b c : Bool) → c ≡ false → ((a && false) || ((b && false) || c)) ≡ false
-    none_of true true c h = h
-    none_of true false c h = h
-    none_of false true c h = h
-    none_of false false c h = h
-
-absence_append : (meaning : Meaning) (room : ℕ) (ls ms : List (ℕ × ℕ)) → RemembersAbsence meaning room ms
-    → RemembersAbsence meaning room (lasting ls ++ ms)
-absence_append meaning room [] ms h = h
-absence_append meaning room (l ∷ ls) ms h = by (lasts l) refl (absence_append meaning room ls ms h)
-  where
-    by : (b : Bool) → lasts l ≡ b → RemembersAbsence meaning room (lasting ls ++ ms)
-        → RemembersAbsence meaning room (cond b (l ∷ lasting ls) (lasting ls) ++ ms)
-    by true is more = (
-      (λ e word p near at shows saw. let no : true ≡ false = sym is ∙ lasts_not l p at e in
-          let bad : ⊥ = cc in bad),
-      more,
-    )
-    by false is more = more
-
--- a look of the second seat is one of both
-looked_right : (ls ms : List (ℕ × ℕ)) (word found : ℕ) → Looked ms word found → Looked (ls ++ ms) word found
-looked_right [] ms word found at = at
-looked_right (l ∷ ls) ms word found at = inr (looked_right ls ms word found at)
+use Rattle.board_rule.proofs.Opening.{walks_none, hands_of_nothing}
+use Rattle.board_rule.proofs.SeenByTwo.{looked_append, lasting_looked, absence_append, looked_right}
 
 module _ {R : Type 0} where
   -- a seat that is not alone keeps nothing of the words
@@ -74,8 +25,7 @@ module _ {R : Type 0} where
       → KeepsAlone words views u
   not_alone words views u never = record {
     every_word = λ kept is. absurd (never kept is);
-    only =
-        λ kept is. absurd (never kept is);
+    only = λ kept is. absurd (never kept is);
   }
 
   -- where there are two seats, none is alone
@@ -110,13 +60,11 @@ module _ {R : Type 0} (meaning_of : R → Meaning) (rules : R) (room : ℕ) wher
         absence = own.absence;
         recorded = own.recorded;
         stored = own.stored;
-        ends =
-            own.ends;
+        ends = own.ends;
         raised = own.raised;
         pends = own.pends;
         walked = own.walked;
-        awake =
-            inr (omega arith, has.1, has.2);
+        awake = inr (omega arith, has.1, has.2);
       } in
       let is_right : AreHands (meaning_of rules) rules room (mem words) right =
       record {
@@ -125,11 +73,9 @@ module _ {R : Type 0} (meaning_of : R → Meaning) (rules : R) (room : ℕ) wher
         recorded = tt;
         stored = tt;
         ends = λ p. refl;
-        raised =
-            tt;
+        raised = tt;
         pends = tt;
-        walked = walks_none (meaning_of rules) room (mem words).cell (mem words).head
-            (mem words).next;
+        walked = walks_none (meaning_of rules) room (mem words).cell (mem words).head (mem words).next;
         awake = inr (omega arith, has.1, has.2);
       } in
       record {
@@ -226,28 +172,13 @@ module _ {R : Type 0} (meaning_of : R → Meaning) (rules : R) (room : ℕ) wher
               has = old.has;
               its_wait = old.its_wait;
               seen = old.seen;
-              looked =
-                  λ head at. looked_right (lasting w.looks) v.looks _ head (old.looked head at);
+              looked = λ head at. looked_right (lasting w.looks) v.looks _ head (old.looked head at);
             }) own.pends;
         walked = own.walked;
         awake = inr (omega arith, has.1, has.2);
       } in
-      let is_spent : AreHands (meaning_of rules) rules room (mem words) spent = record {
-        stays = record {
-          cells = λ p found at. absurd at;
-          heads = λ p found at. absurd at;
-          set_full =
-              λ found at. absurd at;
-        };
-        absence = tt;
-        recorded = tt;
-        stored = tt;
-        ends = λ p. refl;
-        raised = tt;
-        pends = tt;
-        walked = walks_none (meaning_of rules) room (mem words).cell (mem words).head (mem words).next;
-        awake = inl refl;
-      } in
+      let is_spent : AreHands (meaning_of rules) rules room (mem words) spent =
+      hands_of_nothing (meaning_of rules) rules room (mem words) spent (inl refl) in
       let all = AreHands (meaning_of rules) rules room (mem words) in
       record {
         count = sound.count;

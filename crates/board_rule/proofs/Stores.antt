@@ -17,8 +17,7 @@ agree m n full cell run head cost node who next =
       cell = λ p. cell p i;
       run = λ p. run p i;
       head = λ p. head p i;
-      cost =
-          λ p. cost p i;
+      cost = λ p. cost p i;
       node = λ p. node p i;
       who = λ p. who p i;
       next = λ p. next p i;

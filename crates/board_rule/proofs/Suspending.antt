@@ -1,5 +1,5 @@
 -- A fetch-and that clears the held bit of a run word keeps soundness.
-use Rattle.std.proofs.Common.{length-set, ◌≡◌, ℕ, ◌+◌, ◌<◌, List, get_or, set, sym, refl, ap, subst, ◌∙◌, inr, ⊎_elim}
+use Rattle.std.proofs.Common.{◌≡◌, ℕ, ◌+◌, ◌<◌, List, get_or, set, sym, refl, ap, subst, ◌∙◌, ⊎_elim}
 use Rattle.std.proofs.Common.{arith, bit_and, None}
 use mathlib.Core.Option.{some, none}
 use lib.ListN.{get_elem?}
@@ -11,20 +11,19 @@ use Rattle.board_rule.specs.Records.{Paused, Ended}
 use Rattle.board_rule.specs.Words.{Mem, mem, put, run_word}
 use Rattle.board_rule.specs.Waiters.{cleared}
 use Rattle.board_rule.specs.Seats.{times, suspended}
-use Rattle.board_rule.specs.Rule.{KeepsRights, AreHands, IsStored, IsRaised, ArePending, IsSoundBy, IsSound, held}
+use Rattle.board_rule.specs.Rule.{KeepsRights, IsStored, IsRaised, ArePending, IsSound, held}
 use Rattle.board_rule.specs.Rule.{ended}
 use Rattle.board_rule.specs.May.{HasRight}
 use Rattle.board_rule.specs.Plays.{Sat, Suspends}
 use Rattle.board_rule.specs.declared.hands.Hands.{Hands}
-use Rattle.board_rule.proofs.Lists.{put_here, put_else, total_same}
-use Rattle.board_rule.proofs.Stores.{put_run}
-use Rattle.board_rule.proofs.Frames.{awake_has, of_others_set, alone_set, moment_of}
+use Rattle.board_rule.proofs.Lists.{put_here, put_else}
+use Rattle.board_rule.proofs.Frames.{moment_of}
 use Rattle.board_rule.proofs.Chains.{cleared_same, cleared_other, cleared_none}
 use Rattle.board_rule.proofs.Waits.{SameBits, handed_same, waits_as, raised_as, same_bits_put}
 use Rattle.board_rule.proofs.Looking.{Holds}
 use Rattle.board_rule.proofs.Rights.{bit_runs, held_by, rights_at, without_here, without_else, each_without, counts_one}
 use Rattle.board_rule.proofs.Rights.{counts_none, held-set, ended-set, rights_moved}
-use Rattle.board_rule.proofs.Claiming.{stays_beside, absence_beside, blank_running}
+use Rattle.board_rule.proofs.RunWords.{blank_running, run_step_keeps}
 
 -- a held goal that is suspended is held by no seat
 rights_suspended : {R : Type 0} (room : ℕ) (m : Mem) (views : List (Hands R)) (id : ℕ) (v : Hands R) (place : ℕ)
@@ -68,70 +67,38 @@ module _ {R : Type 0} (meaning_of : R → Meaning) (rules : R) (room : ℕ) wher
       let meaning : Meaning = meaning_of rules in
       let m : Mem = mem words in
       let x : ℕ = cleared (m.run place) 8 in
-      let n : Mem = record m { run = put m.run place x } in
+      let run : ℕ → ℕ = put m.run place x in
       let w : Hands R = suspended v place (m.run place) in
       let k = sound.by_kinds in
       let own = k.hands id v mine in
-      let near = has.near in
-      let count = sound.count in
       let gone = without_here place v.rights has.held in
       let is = held_by room m.run m.head views id v place mine has k.rights in
-      let same : SameBits m.run n.run = same_bits_put m.run place x
+      let same : SameBits m.run run = same_bits_put m.run place x
       (λ b few. cleared_other (m.run place) 8 b (omega arith) (omega arith) (λ e. omega arith)) in
-      record {
-        count = length-set words (run_word place) x ∙ count;
-        by_kinds = subst (λ b. IsSoundBy meaning rules room b (set views id w))
-            (sym (put_run words place x (omega arith))) (record {
-              cells = k.cells;
-              blank = blank_running meaning room m place x (bit_runs (m.run place) 8 (omega (arith, is.runs))) k.blank;
-              rights = rights_suspended room m views id v place mine has k.rights;
-              waits = waits_as meaning room m.cell m.head m.next m.run n.run views (set views id w) same
-                  (handed_same views id v w mine refl) k.waits;
-              promises = k.promises;
-              full = k.full;
-              hands = of_others_set (AreHands meaning rules room m) (AreHands meaning rules room n) views id w
-                  (λ other u ne there h. record {
-                    stays = h.stays;
-                    absence = h.absence;
-                    recorded = h.recorded;
-                    stored =
-                        h.stored;
-                    ends = h.ends;
-                    raised = raised_as m.run n.run u.pending u.rights same h.raised;
-                    pends =
-                        h.pends;
-                    walked = h.walked;
-                    awake = h.awake;
-                  })
-                  k.hands
-                  (record {
-                    stays = stays_beside m.cell m.head m.full v.looks (run_word place) (m.run place) (λ e. omega arith)
-                        (λ p e. omega arith) (λ p e. omega arith) own.stays;
-                    absence = absence_beside meaning room v.looks (run_word place) (m.run place) (λ p e. omega arith)
-                        own.absence;
-                    recorded = own.recorded;
-                    stored = each_without (IsStored m.cost m.node m.who) place v.rights own.stored;
-                    ends = λ p. ⊎_elim
-                        (λ e. subst (λ q. times (λ (c : ℕ). c) q v.claims ≡ times (λ (s : Paused). s.place) q
-                        w.suspensions + times (λ (e : Ended). e.place) q v.done + rights_at q w.rights) (sym e)
-                        (omega (arith, own.ends place, gone, counts_one place place refl)))
-                        (λ ne. omega (
-                          arith,
-                          own.ends p,
-                          without_else place p v.rights ne,
-                          counts_none place p (λ e. ne (sym e)),
-                        ))
-                        (cases_eq p place);
-                    raised = each_without (IsRaised n.run v.pending) place v.rights
-                        (raised_as m.run n.run v.pending v.rights same own.raised);
-                    pends = subst (λ o. ArePending meaning room m.cell m.next w.looks w.rights o) (sym free) tt;
-                    walked = own.walked;
-                    awake = inr (awake_has rules room v some_part own.awake);
-                  });
-              parts = total_same (λ (h : Hands R). h.parts) views id v w mine refl ∙ k.parts;
-            });
-        alone = alone_set words views id (run_word place) x v w mine refl sound.alone;
-      }
+      run_step_keeps meaning_of rules room words views id v w place (m.run place) x sound mine some_part has.near
+      (record {
+        blank = blank_running meaning room m place x (bit_runs (m.run place) 8 (omega (arith, is.runs))) k.blank;
+        rights = rights_suspended room m views id v place mine has k.rights;
+        waits = waits_as meaning room m.cell m.head m.next m.run run views (set views id w) same
+            (handed_same views id v w mine refl) k.waits;
+        others = λ other u ne there h. raised_as m.run run u.pending u.rights same h.raised;
+        stored = each_without (IsStored m.cost m.node m.who) place v.rights own.stored;
+        ends = λ p. ⊎_elim
+            (λ e. subst (λ q. times (λ (c : ℕ). c) q v.claims ≡ times (λ (s : Paused). s.place) q w.suspensions
+            + times (λ (e : Ended). e.place) q v.done + rights_at q w.rights) (sym e)
+            (omega (arith, own.ends place, gone, counts_one place place refl)))
+            (λ ne. omega (
+              arith,
+              own.ends p,
+              without_else place p v.rights ne,
+              counts_none place p (λ e. ne (sym e)),
+            ))
+            (cases_eq p place);
+        raised = each_without (IsRaised run v.pending) place v.rights
+            (raised_as m.run run v.pending v.rights same own.raised);
+        pends = subst (λ o. ArePending meaning room m.cell m.next w.looks w.rights o) (sym free) tt;
+        walked = own.walked;
+      })
 
   suspend_at : (slots id : ℕ) (me : Sat R) (place : ℕ) → 0 < me.0.parts → HasRight room me.0.rights place
       → me.0.pending ≡ None

@@ -28,8 +28,7 @@ raised_by run pending new_pending rights same =
     each_as (IsRaised run pending) (IsRaised run new_pending)
     (λ r old. record {
       few = old.few;
-      others = λ b more few. old.others b more few
-          ∙ ap (times (λ (q : ℕ). q) (8 * r.place + b)) (sym same);
+      others = λ b more few. old.others b more few ∙ ap (times (λ (q : ℕ). q) (8 * r.place + b)) (sym same);
     }) rights
 
 module _ {R : Type 0} (meaning_of : R → Meaning) (rules : R) (room : ℕ) where

@@ -1,6 +1,6 @@
 -- A fetch-or that sets the bit of a right's next wait keeps soundness.
-use Rattle.std.proofs.Common.{length-set, ◌≡◌, ℕ, ◌+◌, ◌*◌, ◌/◌, ◌%◌, ◌^◌, ◌<◌, ◌≤◌, ◌≢◌, false, List, [], ◌∷◌, None}
-use Rattle.std.proofs.Common.{Some, bit_or, get_or, set, sym, refl, ap, subst, ◌∙◌, inr, ⊎_elim, arith}
+use Rattle.std.proofs.Common.{◌≡◌, ℕ, ◌+◌, ◌*◌, ◌/◌, ◌%◌, ◌^◌, ◌<◌, ◌≤◌, ◌≢◌, false, List, [], ◌∷◌, None}
+use Rattle.std.proofs.Common.{Some, bit_or, get_or, set, sym, refl, ap, subst, ◌∙◌, ⊎_elim, arith}
 use mathlib.Core.Option.{some, none}
 use lib.ListN.{get_elem?}
 use Rattle.std.specs.Int.{bit_at}
@@ -11,17 +11,16 @@ use Rattle.board_rule.specs.Records.{Claimed}
 use Rattle.board_rule.specs.Words.{Mem, mem, put, run_word}
 use Rattle.board_rule.specs.Waiters.{wait_bit}
 use Rattle.board_rule.specs.Seats.{Each, waits_at, in_hand, wait_begun}
-use Rattle.board_rule.specs.Rule.{IsRaised, KeepsRights, KeepsWaits, AreHands, IsSoundBy, IsSound, held, ended}
+use Rattle.board_rule.specs.Rule.{IsRaised, KeepsRights, KeepsWaits, IsSound, held, ended}
 use Rattle.board_rule.specs.May.{HasRight, MayWait, MayBegin}
 use Rattle.board_rule.specs.Plays.{Sat, BeginsWait}
 use Rattle.board_rule.specs.declared.hands.Hands.{Hands}
 use Rattle.board_rule.proofs.Lists.{among_counts, put_here, put_else, put_cases, each_as, total_same, total-set}
 use Rattle.board_rule.proofs.Lists.{terms_le}
-use Rattle.board_rule.proofs.Stores.{put_run}
-use Rattle.board_rule.proofs.Frames.{awake_has, of_others_set, alone_set, moment_of}
+use Rattle.board_rule.proofs.Frames.{moment_of}
 use Rattle.board_rule.proofs.Rights.{rights_at, done_at, bit_runs, held_by, rights_moved}
 use Rattle.board_rule.proofs.Chains.{count, set_same, set_other}
-use Rattle.board_rule.proofs.Claiming.{stays_beside, absence_beside, blank_running}
+use Rattle.board_rule.proofs.RunWords.{blank_running, run_step_keeps}
 use Rattle.board_rule.proofs.Raised.{count_one, count_none, raised_at, raised_else, waits_known}
 use Rattle.board_rule.proofs.Looking.{Holds}
 
@@ -142,13 +141,12 @@ module _ {R : Type 0} (meaning_of : R → Meaning) (rules : R) (room : ℕ) wher
       let m : Mem = mem words in
       let b : ℕ = waits_at place v.rights in
       let x : ℕ = bit_or (m.run place) (2 ^ b) in
-      let n : Mem = record m { run = put m.run place x } in
+      let run : ℕ → ℕ = put m.run place x in
       let w : Hands R = wait_begun v place (m.run place) in
       let k = sound.by_kinds in
       let own = k.hands id v mine in
       let near = may.has.near in
       let within = may.fewer in
-      let total_count = sound.count in
       let is = held_by room m.run m.head views id v place mine may.has k.rights in
       let raised : Each (IsRaised m.run None) v.rights =
       subst (λ o. Each (IsRaised m.run o) v.rights) may.free own.raised in
@@ -156,55 +154,26 @@ module _ {R : Type 0} (meaning_of : R → Meaning) (rules : R) (room : ℕ) wher
       (raised_at m.run None place v.rights may.has.held raised).1 b (omega arith) within in
       let at : (8 * place + b) / 8 ≡ place = omega arith in
       let bit : (8 * place + b) % 8 ≡ b = omega arith in
-      record {
-        count = length-set words (run_word place) x ∙ total_count;
-        by_kinds = subst (λ k. IsSoundBy meaning rules room k (set views id w))
-            (sym (put_run words place x (omega arith))) (record {
-              cells = k.cells;
-              blank = blank_running meaning room m place x (bit_runs (m.run place) 8 (omega (arith, is.runs))) k.blank;
-              rights = rights_begun room m views id v place mine may k.rights;
-              waits = waits_begun meaning room m views id v w place b mine near within unset
-                  (ap (λ o. (8 * place + b) ∷ in_hand o v.walk) (sym may.free)) k.waits;
-              promises = k.promises;
-              full = k.full;
-              hands = of_others_set (AreHands meaning rules room m) (AreHands meaning rules room n) views id w
-                  (λ other u ne there h.
-                  let both = terms_le (λ (y : Hands R). rights_at place y.rights) views id other v u ne mine there in
-                  record {
-                    stays = h.stays;
-                    absence = h.absence;
-                    recorded = h.recorded;
-                    stored = h.stored;
-                    ends = h.ends;
-                    raised = raised_else m.run n.run place u.pending u.rights (λ p apart. put_else m.run place x p apart)
-                        (omega (arith, both, is.held_once, is.right_once)) h.raised;
-                    pends = h.pends;
-                    walked = h.walked;
-                    awake = h.awake;
-                  })
-                  k.hands
-                  (record {
-                    stays = stays_beside m.cell m.head m.full v.looks (run_word place) (m.run place) (λ e. omega arith)
-                        (λ p e. omega arith) (λ p e. omega arith) own.stays;
-                    absence = absence_beside meaning room v.looks (run_word place) (m.run place) (λ p e. omega arith)
-                        own.absence;
-                    recorded = own.recorded;
-                    stored = own.stored;
-                    ends = own.ends;
-                    raised = raised_begun m.run place b v.rights within raised;
-                    pends = record {
-                      has = subst (HasRight room v.rights) (sym at) may.has;
-                      its_wait = ap (λ p. waits_at p v.rights) at ∙ sym bit;
-                      seen = λ head e. let no : ⊥ = cc in absurd no;
-                      looked = λ head e. let no : ⊥ = cc in absurd no;
-                    };
-                    walked = own.walked;
-                    awake = inr (awake_has rules room v some_part own.awake);
-                  });
-              parts = total_same (λ (h : Hands R). h.parts) views id v w mine refl ∙ k.parts;
-            });
-        alone = alone_set words views id (run_word place) x v w mine refl sound.alone;
-      }
+      run_step_keeps meaning_of rules room words views id v w place (m.run place) x sound mine some_part near (record {
+        blank = blank_running meaning room m place x (bit_runs (m.run place) 8 (omega (arith, is.runs))) k.blank;
+        rights = rights_begun room m views id v place mine may k.rights;
+        waits = waits_begun meaning room m views id v w place b mine near within unset
+            (ap (λ o. (8 * place + b) ∷ in_hand o v.walk) (sym may.free)) k.waits;
+        others = λ other u ne there h.
+            let both = terms_le (λ (y : Hands R). rights_at place y.rights) views id other v u ne mine there in
+            raised_else m.run run place u.pending u.rights (λ p apart. put_else m.run place x p apart)
+            (omega (arith, both, is.held_once, is.right_once)) h.raised;
+        stored = own.stored;
+        ends = own.ends;
+        raised = raised_begun m.run place b v.rights within raised;
+        pends = record {
+          has = subst (HasRight room v.rights) (sym at) may.has;
+          its_wait = ap (λ p. waits_at p v.rights) at ∙ sym bit;
+          seen = λ head e. let no : ⊥ = cc in absurd no;
+          looked = λ head e. let no : ⊥ = cc in absurd no;
+        };
+        walked = own.walked;
+      })
 
   begin_at : (slots id : ℕ) (me : Sat R) (r : Claimed) (mask : ℕ) → mask ≡ 2 ^ r.waits → 0 < me.0.parts
       → MayBegin room me.0.rights me.0.pending r

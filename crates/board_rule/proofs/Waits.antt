@@ -97,8 +97,7 @@ pending_looked meaning room cell next look looks rights pending =
       has = old.has;
       its_wait = old.its_wait;
       seen = old.seen;
-      looked =
-          λ head at. inr (old.looked head at);
+      looked = λ head at. inr (old.looked head at);
     })
 
 -- the wait that is being put in

@@ -37,8 +37,7 @@ answered_right place worker cost node = record {
   waits = 0;
   cost = Some cost;
   node = Some node;
-  who =
-      Some (worker + 1);
+  who = Some (worker + 1);
 }
 
 abbrev pub without : ℕ → List Claimed → List Claimed

@@ -1,0 +1,137 @@
+-- A step at a goal's run word keeps soundness where what is said of run words, rights and waits holds after it.
+use Rattle.std.proofs.Common.{length-set, ◌≡◌, ℕ, ◌<◌, ◌≢◌, List, ◌∷◌, set, sym, ap, subst, ◌∙◌, refl, inr, ⊎_elim, arith}
+use mathlib.Core.Option.{some}
+use lib.ListN.{get_elem?}
+use Rattle.board_rule.specs.Meaning.{Meaning}
+use Rattle.board_rule.specs.Words.{Mem, mem, put, full_word, cell_word, run_word, head_word}
+use Rattle.board_rule.specs.Looks.{RemembersAbsence}
+use Rattle.board_rule.specs.Seats.{Each, changed}
+use Rattle.board_rule.specs.Rule.{HoldsGoal, KeepsBlank, KeepsRights, KeepsWaits, Stays, AreHands, EndsClaims, IsStored}
+use Rattle.board_rule.specs.Rule.{IsRaised, ArePending, IsWalked, IsSoundBy, IsSound}
+use Rattle.board_rule.specs.declared.hands.Hands.{Hands}
+use Rattle.board_rule.proofs.Lists.{put_else, total_same}
+use Rattle.board_rule.proofs.Stores.{put_run}
+use Rattle.board_rule.proofs.Frames.{awake_has, of_others_set, alone_set}
+
+-- a look at a word that is no cell, no head and not the full word shows nothing that has to stay
+pub stays_beside : (cell head : ℕ → ℕ) (full : ℕ) (looks : List (ℕ × ℕ)) (word found : ℕ) → full_word ≢ word
+    → ((p : ℕ) → cell_word p ≢ word) → ((p : ℕ) → head_word p ≢ word)
+    → Stays cell head full looks → Stays cell head full ((word, found) ∷ looks)
+stays_beside cell head full looks word found no_full no_cell no_head old = record {
+  cells = λ p x at some. ⊎_elim (λ t. absurd (no_cell p (sym t.0))) (λ t. old.cells p x t some) at;
+  heads = λ p x at. ⊎_elim (λ t. absurd (no_head p (sym t.0))) (λ t. old.heads p x t) at;
+  set_full = λ x at some. ⊎_elim (λ t. absurd (no_full (sym t.0))) (λ t. old.set_full x t some) at;
+}
+
+-- a look at a word that is no cell tells of no absence
+pub absence_beside : (meaning : Meaning) (room : ℕ) (looks : List (ℕ × ℕ)) (word found : ℕ)
+    → ((p : ℕ) → cell_word p ≢ word)
+    → RemembersAbsence meaning room looks → RemembersAbsence meaning room ((word, found) ∷ looks)
+absence_beside meaning room looks word found no_cell old = ((λ _ shown p _ is _ _. absurd (no_cell p is)), old)
+
+-- the words of empty cells and of members are 0 where the goal's run word has changed
+pub blank_run : (meaning : Meaning) (room : ℕ) (m : Mem) (place x : ℕ) → HoldsGoal meaning room m.cell place
+    → KeepsBlank meaning room m
+    → KeepsBlank meaning room (record m { run = put m.run place x })
+blank_run meaning room m place x holds old p near no_goal = let b = old p near no_goal in record {
+  run = put_else m.run place x p (λ e. no_goal (subst (HoldsGoal meaning room m.cell) (sym e) holds)) ∙ b.run;
+  head = b.head;
+  cost = b.cost;
+  node = b.node;
+  who = b.who;
+  next = b.next;
+}
+
+-- also where it was not 0
+pub blank_running : (meaning : Meaning) (room : ℕ) (m : Mem) (place x : ℕ) → m.run place ≢ 0 → KeepsBlank meaning room m
+    → KeepsBlank meaning room (record m { run = put m.run place x })
+blank_running meaning room m place x runs old p near no_goal = let b = old p near no_goal in record {
+  run = put_else m.run place x p (λ e. runs (ap m.run (sym e) ∙ b.run)) ∙ b.run;
+  head = b.head;
+  cost = b.cost;
+  node = b.node;
+  who = b.who;
+  next = b.next;
+}
+
+module _ {R : Type 0} (meaning_of : R → Meaning) (rules : R) (room : ℕ) where
+  -- the hands of a seat that found a value in a run word and stored one there: its looks and the words that it keeps
+  -- are those of before with this look and this word, what it put in and finished is as before, the rest is in `given`
+  abbrev pub at_run : Hands R → ℕ → ℕ → ℕ → Hands R → Hands R
+  at_run v place found x given = record v {
+    alone = changed (run_word place) x v.alone;
+    looks = (run_word place, found) ∷ v.looks;
+    claims = given.claims;
+    suspensions = given.suspensions;
+    woken = given.woken;
+    rights = given.rights;
+    pending = given.pending;
+    walk = given.walk;
+  }
+
+  -- what has to hold after such a step
+  pub record HoldsAtRun (m : Mem) (run : ℕ → ℕ) (views : List (Hands R)) (id : ℕ) (w : Hands R) : Type 0 where
+    pub blank : KeepsBlank (meaning_of rules) room (record m { run = run })
+    pub rights : KeepsRights room run m.head (set views id w)
+    pub waits : KeepsWaits (meaning_of rules) room m.cell run m.head m.next (set views id w)
+    pub others : (other : ℕ) (u : Hands R) → other ≢ id → get_elem? views other ≡ some u
+        → AreHands (meaning_of rules) rules room m u → Each (IsRaised run u.pending) u.rights
+    pub stored : Each (IsStored m.cost m.node m.who) w.rights
+    pub ends : EndsClaims w
+    pub raised : Each (IsRaised run w.pending) w.rights
+    pub pends : ArePending (meaning_of rules) room m.cell m.next w.looks w.rights w.pending
+    pub walked : IsWalked (meaning_of rules) room m.cell m.head m.next w.walk
+
+  pub run_step_keeps : (words : List ℕ) (views : List (Hands R)) (id : ℕ) (v given : Hands R) (place found x : ℕ)
+      → IsSound (meaning_of rules) rules room words views → get_elem? views id ≡ some v → 0 < v.parts → place < room
+      → HoldsAtRun (mem words) (put (mem words).run place x) views id (at_run v place found x given)
+      → IsSound (meaning_of rules) rules room (set words (run_word place) x)
+      (set views id (at_run v place found x given))
+  run_step_keeps words views id v given place found x sound mine some_part near holds =
+      let meaning : Meaning = meaning_of rules in
+      let m : Mem = mem words in
+      let n : Mem = record m { run = put m.run place x } in
+      let w : Hands R = at_run v place found x given in
+      let k = sound.by_kinds in
+      let own = k.hands id v mine in
+      let count = sound.count in
+      record {
+        count = length-set words (run_word place) x ∙ count;
+        by_kinds = subst (λ b. IsSoundBy meaning rules room b (set views id w))
+            (sym (put_run words place x (omega arith))) (record {
+              cells = k.cells;
+              blank = holds.blank;
+              rights = holds.rights;
+              waits = holds.waits;
+              promises = k.promises;
+              full = k.full;
+              hands = of_others_set (AreHands meaning rules room m) (AreHands meaning rules room n) views id w
+                  (λ other u ne there h. record {
+                    stays = h.stays;
+                    absence = h.absence;
+                    recorded = h.recorded;
+                    stored = h.stored;
+                    ends = h.ends;
+                    raised = holds.others other u ne there h;
+                    pends = h.pends;
+                    walked = h.walked;
+                    awake = h.awake;
+                  })
+                  k.hands
+                  (record {
+                    stays = stays_beside m.cell m.head m.full v.looks (run_word place) found (λ e. omega arith)
+                        (λ p e. omega arith) (λ p e. omega arith) own.stays;
+                    absence = absence_beside meaning room v.looks (run_word place) found (λ p e. omega arith)
+                        own.absence;
+                    recorded = own.recorded;
+                    stored = holds.stored;
+                    ends = holds.ends;
+                    raised = holds.raised;
+                    pends = holds.pends;
+                    walked = holds.walked;
+                    awake = inr (awake_has rules room v some_part own.awake);
+                  });
+              parts = total_same (λ (h : Hands R). h.parts) views id v w mine refl ∙ k.parts;
+            });
+        alone = alone_set words views id (run_word place) x v w mine refl sound.alone;
+      }
