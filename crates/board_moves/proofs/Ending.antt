@@ -3,7 +3,7 @@ use Rattle.std.proofs.Common.{ℕ, sym, subst}
 use Rattle.board_rule.specs.Meaning.{Meaning}
 use Rattle.board_rule.specs.declared.hands.Hands.{Hands}
 use Rattle.goal_board.specs.declared.board.Right.{Right}
-use Rattle.goal_board.specs.Calls.{FinishesGoal}
+use Rattle.goal_board.specs.RightCalls.{FinishesGoal}
 use Rattle.board_moves.specs.declared.progress.Progress.{Progress}
 use Rattle.board_moves.specs.declared.progress.Progress.TheVariants as progress
 use Rattle.board_moves.specs.declared.progress.Turned.{Turned}
@@ -38,8 +38,7 @@ module _ {R : Type 0} (meaning : Meaning) (room : ℕ) (Adds : ℕ → Type 0) (
         after = after;
         proceeds = works.0;
         some_wait = works.1;
-        gives_up =
-            subst (λ place. GivesUp u place w) works.0.same_place ends.1;
+        gives_up = subst (λ place. GivesUp u place w) works.0.same_place ends.1;
       })
   turns_end worker progress.Full u after turned w works ends =
       subst (λ t. Turns room Adds v before worker t w) (sym ends.0)
@@ -47,6 +46,5 @@ module _ {R : Type 0} (meaning : Meaning) (room : ℕ) (Adds : ℕ → Type 0) (
         middle = u;
         after = after;
         runs_out = works;
-        gives_up =
-            subst (λ place. GivesUp u place w) works.proceeds.same_place ends.1;
+        gives_up = subst (λ place. GivesUp u place w) works.proceeds.same_place ends.1;
       })

@@ -12,7 +12,7 @@ use Rattle.board_rule.proofs.Lists.{each_as}
 use Rattle.goal_board.specs.Alone.{KeepsAll, StaysAlone, ChangesRuns, HasWait}
 use Rattle.goal_board.specs.declared.board.Right.{Right}
 use Rattle.goal_board.specs.declared.answers.Woken.{Woken}
-use Rattle.goal_board.specs.Calls.{ended_words}
+use Rattle.goal_board.specs.RightCalls.{ended_words}
 use Rattle.board_moves.specs.Counts.{has_ready, has_open, empty_count, open_count, Advances, AdvancesAlone, GoesOn}
 use Rattle.board_moves.specs.Counts.{finishes, fills, waits}
 use Rattle.board_moves.specs.Turns.{TurnFinishes, TurnSuspends, Turns}

@@ -8,7 +8,8 @@ use Rattle.board_rule.specs.Seats.{Each, changed, waits_at}
 use Rattle.board_rule.specs.declared.hands.Hands.{Hands}
 use Rattle.goal_board.specs.Alone.{StaysAlone, KeepsBoard, HasWait}
 use Rattle.std.specs.Prelude.{bit_or}
-use Rattle.goal_board.specs.Calls.{PutsFresh, Registers, FindsFinished}
+use Rattle.goal_board.specs.Calls.{PutsFresh}
+use Rattle.goal_board.specs.RightCalls.{Registers, FindsFinished}
 use Rattle.board_moves.specs.Counts.{has_empty, empty_count, GoesOn, GoesOnAlone}
 use Rattle.board_moves.proofs.CountLemmas.{one_if, number_same, one_changed}
 

@@ -8,9 +8,10 @@ use Rattle.board_rule.specs.Looks.{Looked}
 use Rattle.board_rule.specs.Seats.{Among, Each, placed}
 use Rattle.board_rule.specs.declared.hands.Hands.{Hands}
 use Rattle.board_rule.proofs.Lists.{each_append, each_as}
-use Rattle.board_rule.proofs.Seating.{looked_append}
+use Rattle.board_rule.proofs.SeenByTwo.{looked_append}
 use Rattle.goal_board.specs.declared.board.Right.{Right}
-use Rattle.goal_board.specs.Calls.{seen, IsSeen, PutsFresh, waiting_right, IsRightOf, Registers, FindsFinished}
+use Rattle.goal_board.specs.Calls.{seen, IsSeen, PutsFresh}
+use Rattle.goal_board.specs.RightCalls.{waiting_right, IsRightOf, Registers, FindsFinished}
 use Rattle.goal_board.proofs.Seen.{looked_earlier}
 use Rattle.board_moves.proofs.Going.{goes_none, goes_fresh, goes_registered, goes_finished, goes_then, each_first}
 use Rattle.board_moves.proofs.Going.{each_second}
@@ -86,8 +87,7 @@ module _ {R : Type 0} where
     words = t.words;
     more = t.more;
     quiet = t.quiet;
-    kept =
-        λ some. goes_registered v place at w t;
+    kept = λ some. goes_registered v place at w t;
     hands_are = t.hands_are;
   }
 
@@ -128,16 +128,14 @@ module _ {R : Type 0} where
           alone = b.words;
           looks = b.more ++ h.looks;
           puts = second ++ h.puts;
-          rights =
-              with_waits place others h.rights;
+          rights = with_waits place others h.rights;
         } in x) a.hands_are
         ∙ ap (λ (looks : List (ℕ × ℕ)). let x : Hands R =
         record v {
           alone = b.words;
           looks = looks;
           puts = second ++ (first ++ v.puts);
-          rights =
-              with_waits place others (with_waits place waits v.rights);
+          rights = with_waits place others (with_waits place waits v.rights);
         } in x)
         (sym (append_assoc b.more a.more v.looks))
         ∙ ap (λ (puts : List ℕ). let x : Hands R =
@@ -145,16 +143,14 @@ module _ {R : Type 0} where
           alone = b.words;
           looks = (b.more ++ a.more) ++ v.looks;
           puts = puts;
-          rights =
-              with_waits place others (with_waits place waits v.rights);
+          rights = with_waits place others (with_waits place waits v.rights);
         } in x)
         (sym (append_assoc second first v.puts))
         ∙ ap (λ (rights : List Claimed). let x : Hands R =
         record v {
           alone = b.words;
           looks = (b.more ++ a.more) ++ v.looks;
-          puts =
-              (second ++ first) ++ v.puts;
+          puts = (second ++ first) ++ v.puts;
           rights = rights;
         } in x)
         (waits_twice place waits others v.rights);
@@ -204,8 +200,7 @@ module _ {R : Type 0} (Adds : ℕ → Type 0) where
         moves = moves;
         same_place = refl;
         same_goal = refl;
-        more_waits =
-            omega arith;
+        more_waits = omega arith;
       }
 
   pub proceeds_then : (v : Hands R) (before : Right) (u : Hands R) (middle : Right) (w : Hands R) (after : Right)

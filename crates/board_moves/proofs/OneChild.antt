@@ -9,8 +9,10 @@ use Rattle.board_rule.specs.Looks.{Looked, seen_closed}
 use Rattle.board_rule.specs.declared.hands.Hands.{Hands}
 use Rattle.goal_board.specs.declared.board.Right.{Right}
 use Rattle.goal_board.specs.declared.answers.Answer.{Answer}
-use Rattle.goal_board.specs.Calls.{PutsFresh, FindsAt, FindsFull, Registers, FindsFinished, ReadsAnswer, FindsOpen}
-use Rattle.goal_board.specs.Calls.{Inserts, Reads, IsRightOf, waited}
+use Rattle.goal_board.specs.Calls.{PutsFresh, FindsAt, FindsFull, ReadsAnswer, FindsOpen}
+use Rattle.goal_board.specs.RightCalls.{Registers, FindsFinished}
+use Rattle.goal_board.specs.Calls.{Inserts, Reads}
+use Rattle.goal_board.specs.RightCalls.{IsRightOf, waited}
 use Rattle.goal_board.specs.declared.answers.Awaited.TheVariants as awaited
 use Rattle.goal_board.proofs.Seen.{looked_later, looked_earlier}
 use Rattle.board_moves.specs.declared.progress.Progress.{Progress}
@@ -27,10 +29,8 @@ module _ {R : Type 0} (meaning : Meaning) (room : ℕ) where
   pub reads_looks : (v : Hands R) (at : ℕ) (answer : Answer) (w : Hands R) → ReadsAnswer meaning room v at answer w
       → OnlyLooks v w
   reads_looks v at answer w t = record {
-    more =
-        (node_word at, answer.node) ∷ ((cost_word at, answer.cost) ∷ ((head_word at, t.head) ∷ []));
-    looks =
-        t.looks;
+    more = (node_word at, answer.node) ∷ ((cost_word at, answer.cost) ∷ ((head_word at, t.head) ∷ []));
+    looks = t.looks;
     hands_are = t.hands_are;
   }
 
@@ -130,8 +130,7 @@ module _ {R : Type 0} (meaning : Meaning) (room : ℕ) (child : ℕ) (some_child
     awaits_full w t = record {
       middle = v;
       proceeds = proceeds_none (meaning.child before.goal) v before;
-      word =
-          child;
+      word = child;
       adds_it = is_child;
       full = t;
     }

@@ -38,8 +38,7 @@ module _ (Has : ℕ → Type 0) (before : Option ℕ) (found : List ℕ) (number
   found_past = record {
     falls = so_far.falls;
     number_is = so_far.number_is;
-    below = λ other at. let old =
-        so_far.below other at in (old.0, let less = up_to other old.1 in omega arith);
+    below = λ other at. let old = so_far.below other at in (old.0, let less = up_to other old.1 in omega arith);
   }
 
   -- the next word is found
@@ -175,8 +174,7 @@ module _ {R : Type 0} (meaning : Meaning) (room : ℕ) (Has : ℕ → Type 0) (v
       pub collecting_past : SeesNone meaning room u word w → Collecting (Some word) number w
       collecting_past t = record {
         pass = passing_past before number u so_far.pass word next w t;
-        finished =
-            old_finished (later_seen t.more u w t.hands_are);
+        finished = old_finished (later_seen t.more u w t.hands_are);
       }
 
       pub collecting_next : SeesIn meaning room u word w → ShowsFinished meaning room w.looks (goal_of word)
@@ -192,8 +190,7 @@ module _ {R : Type 0} (meaning : Meaning) (room : ℕ) (Has : ℕ → Type 0) (v
         → IsNextOf Has before None → CollectsAll meaning room v Has goal_of number w
     collected before number w so_far none = record {
       pass = passed before number w so_far.pass none;
-      finished =
-          so_far.finished;
+      finished = so_far.finished;
     }
 
     -- a goal that isn't finished was met in the middle of the pass

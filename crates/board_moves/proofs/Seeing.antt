@@ -81,8 +81,7 @@ module _ {R : Type 0} (meaning : Meaning) (room : ℕ) where
     more = t.more;
     looks = t.looks;
     hands_are = t.hands_are;
-    nowhere =
-        nowhere v word w t;
+    nowhere = nowhere v word w t;
     unknown = unknown;
   }
 
@@ -91,8 +90,7 @@ module _ {R : Type 0} (meaning : Meaning) (room : ℕ) where
     more = t.more;
     looks = t.looks;
     hands_are = t.hands_are;
-    there =
-        (at, t.near, t.stands);
+    there = (at, t.near, t.stands);
   }
 
   -- a goal that was found in a cell and then answered
@@ -126,8 +124,7 @@ module _ {R : Type 0} (meaning : Meaning) (room : ℕ) where
     more = t.more;
     looks = t.looks;
     hands_are = t.hands_are;
-    not_finished =
-        inl (nowhere v goal w t);
+    not_finished = inl (nowhere v goal w t);
     unknown = λ shown. unknown (finished goal shown);
   }
 

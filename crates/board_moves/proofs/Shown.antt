@@ -5,7 +5,7 @@ use Rattle.board_rule.specs.Words.{full_word, cell_word}
 use Rattle.board_rule.specs.Looks.{Looked, ShowsFinished, seen_closed, child_of, ShowsEntry, seen_there, asked_by}
 use Rattle.board_rule.specs.Looks.{finished}
 use Rattle.board_rule.specs.declared.hands.Hands.{Hands}
-use Rattle.board_rule.proofs.Seating.{looked_append}
+use Rattle.board_rule.proofs.SeenByTwo.{looked_append}
 use Rattle.goal_board.specs.Calls.{seen, IsSeen}
 use Rattle.goal_board.proofs.Seen.{looked_earlier}
 use Rattle.board_moves.specs.Moves.{OnlyLooks}
@@ -67,8 +67,7 @@ module _ {R : Type 0} where
     looks = record {
       quiet = λ value at. absurd at;
       alone = λ kept has word value at. absurd at;
-      stays =
-          λ place word value saw is_word at. absurd at;
+      stays = λ place word value saw is_word at. absurd at;
     };
     hands_are = refl;
   }

@@ -34,8 +34,7 @@ module _ {R : Type 0} (meaning : Meaning) (room : ℕ) (Adds : ℕ → Type 0) w
     middle = v;
     proceeds = proceeds_none Adds v right;
     word = word;
-    adds_it =
-        adds;
+    adds_it = adds;
     full = t;
   }
 

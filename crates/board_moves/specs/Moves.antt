@@ -33,8 +33,7 @@ pub record Moves {R : Type 0} (place : ℕ) (v : Hands R) (puts : List ℕ) (wai
     alone = words;
     looks = more ++ v.looks;
     puts = puts ++ v.puts;
-    rights =
-        with_waits place waits v.rights;
+    rights = with_waits place waits v.rights;
   }
   -- how the words that a seat keeps while it is alone go on, where no put word is 0
   pub kept : Each (λ word. word ≢ 0) puts → GoesOnAlone place waits v.alone words

@@ -6,7 +6,7 @@ use Rattle.board_rule.specs.declared.hands.Hands.{Hands}
 use Rattle.goal_board.specs.declared.board.Right.{Right}
 use Rattle.goal_board.specs.declared.answers.Woken.{Woken}
 use Rattle.goal_board.specs.declared.answers.Suspended.{Suspended}
-use Rattle.goal_board.specs.Calls.{SuspendsGoal, FinishesGoal}
+use Rattle.goal_board.specs.RightCalls.{SuspendsGoal, FinishesGoal}
 use Rattle.board_moves.specs.Moves.{Proceeds, RunsOut}
 use Rattle.board_moves.specs.declared.progress.Progress.{Progress}
 use Rattle.board_moves.specs.declared.progress.Turned.{Turned}

@@ -14,8 +14,9 @@ use Rattle.goal_board.specs.declared.answers.Awaited.{Awaited}
 use Rattle.goal_board.specs.declared.answers.Awaited.TheVariants.{Registered, Finished}
 use Rattle.goal_board.specs.declared.board.Right.{Right}
 use Rattle.goal_board.specs.declared.answers.Answer.{Answer}
-use Rattle.goal_board.specs.Calls.{Inserts, seen, IsRightOf, ReadsCell, ReadsAnswer, Reads, ClaimsGoal, WaitsFor}
-use Rattle.goal_board.specs.Calls.{waited}
+use Rattle.goal_board.specs.Calls.{Inserts, seen, ReadsCell, ReadsAnswer, Reads}
+use Rattle.goal_board.specs.RightCalls.{IsRightOf, ClaimsGoal, WaitsFor}
+use Rattle.goal_board.specs.RightCalls.{waited}
 use Rattle.goal_board.proofs.Seen.{looked_earlier}
 
 pub parts_stay : {R : Type 0} → (room : ℕ) (v : Hands R) (word : ℕ) (answer : Inserted) (w : Hands R)

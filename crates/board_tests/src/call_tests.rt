@@ -3,7 +3,8 @@ ghost use Rattle.board_rule.specs.Looks.{ShowsFinished};
 ghost use Rattle.board_tests.specs.Numbers.{HasOnly};
 ghost use Rattle.board_tests.specs.Idle.{IsIdleAt};
 ghost use Rattle.goal_board.specs.Seats.{IsSeatOf, hands};
-ghost use Rattle.goal_board.specs.Calls.{Inserts, IsRightOf};
+ghost use Rattle.goal_board.specs.Calls.{Inserts};
+ghost use Rattle.goal_board.specs.RightCalls.{IsRightOf};
 ghost use Rattle.goal_board.specs.SeatCalls.{HasSeenPromise};
 
 use crate::Numbers;

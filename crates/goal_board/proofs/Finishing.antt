@@ -13,7 +13,7 @@ use Rattle.board_rule.specs.declared.hands.Hands.{Hands}
 use Rattle.board_rule.proofs.Lists.{among_map, among_counts, term_le}
 use Rattle.board_rule.proofs.Rights.{rights_at, held_by}
 use Rattle.goal_board.specs.Seats.{AreHandsOver}
-use Rattle.goal_board.specs.Calls.{waiting_right}
+use Rattle.goal_board.specs.RightCalls.{waiting_right}
 use Rattle.goal_board.proofs.Overs.{sound_at}
 
 -- the rights, changed at one place

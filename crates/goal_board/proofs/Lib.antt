@@ -5,9 +5,12 @@ pub mod Seated
 pub mod Seen
 pub mod Probes
 pub mod Findings
+pub mod AnswerFindings
 pub mod Finishing
 pub mod WokenLemmas
+pub mod Walking
 pub mod ClosedLemmas
 pub mod LastSeat
 pub mod Putting
 pub mod Registering
+pub mod WaitTurns

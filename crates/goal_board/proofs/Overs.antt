@@ -10,7 +10,7 @@ use Rattle.board_rule.specs.Seats.{changed, looked, placed, joined, lasting}
 use Rattle.board_rule.specs.Rule.{IsSound}
 use Rattle.board_rule.specs.Plays.{Moment}
 use Rattle.board_rule.specs.declared.hands.Hands.{Hands}
-use Rattle.board_rule.proofs.Seating.{looked_append, lasting_looked}
+use Rattle.board_rule.proofs.SeenByTwo.{looked_append, lasting_looked}
 use Rattle.board_rule.proofs.Frames.{changed_from}
 use Rattle.goal_board.specs.Alone.{KeepsAll}
 use Rattle.goal_board.specs.Seats.{AreHandsOver}

@@ -40,8 +40,7 @@ module _ {R : Type 0} {meaning_of : R → Meaning} {rules : R} {room : ℕ} {v :
     looks = record {
       quiet = λ value at. at;
       alone = λ kept is at value none_yet. absurd none_yet;
-      stays =
-          λ q found value saw is_word none_yet. absurd none_yet;
+      stays = λ q found value saw is_word none_yet. absurd none_yet;
     };
     passed = all_passed_none room (home_of word room) (SawOther [] word);
     here = λ _. ap (steps_to room (home_of word room)) is ∙ steps_to-self room (home_of word room);
@@ -186,8 +185,7 @@ module _ {R : Type 0} {meaning_of : R → Meaning} {rules : R} {room : ℕ} {v :
   finds_none round some_room p = record {
     more = p.more;
     looks = p.looks;
-    nowhere =
-        inr (saw_all round some_room p);
+    nowhere = inr (saw_all round some_room p);
     hands_are = p.hands_are;
   }
 

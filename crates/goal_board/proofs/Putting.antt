@@ -19,7 +19,7 @@ use Rattle.board_rule.proofs.Raised.{waits_known}
 use Rattle.board_rule.proofs.Lengths.{list_length, first_within}
 use Rattle.goal_board.specs.Alone.{StaysAlone, KeepsBoard}
 use Rattle.goal_board.specs.Seats.{AreHandsOver}
-use Rattle.goal_board.specs.Calls.{waiting_right, IsRightOf}
+use Rattle.goal_board.specs.RightCalls.{waiting_right, IsRightOf}
 use Rattle.goal_board.specs.declared.board.Right.{Right}
 use Rattle.goal_board.proofs.Finishing.{among_changed}
 use Rattle.goal_board.proofs.Seen.{looked_earlier}
@@ -42,8 +42,7 @@ pub record IsPutting {R : Type 0} (room : ℕ) (v : Hands R) (waiter child head 
   pub hands_are : w ≡ record v {
     alone = w.alone;
     looks = more ++ v.looks;
-    pending =
-        Some (seen_wait waiter child head);
+    pending = Some (seen_wait waiter child head);
   }
   pub kept : Begun waiter v.alone w.alone
 
@@ -58,8 +57,7 @@ module _ {R : Type 0} (meaning_of : R → Meaning) (rules : R) (room : ℕ) wher
       let has : HasRight room v.rights place =
       record {
         near = near;
-        held = among_counts (λ (q : Claimed). q.place) v.rights (waiting_right place waits)
-            at;
+        held = among_counts (λ (q : Claimed). q.place) v.rights (waiting_right place waits) at;
       } in
       let is = held_by room m.run m.head s.views s.id v place s.mine has s.sound.by_kinds.rights in
       waits_known v.rights (waiting_right place waits) (omega (arith, is.right_once)) at

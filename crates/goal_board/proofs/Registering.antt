@@ -16,7 +16,7 @@ use Rattle.board_rule.proofs.Lists.{each_at}
 use Rattle.board_rule.proofs.Chains.{count, set_same}
 use Rattle.goal_board.specs.Alone.{StaysAlone, KeepsBoard}
 use Rattle.goal_board.specs.Seats.{AreHandsOver}
-use Rattle.goal_board.specs.Calls.{waiting_right, Registers, FindsFinished}
+use Rattle.goal_board.specs.RightCalls.{waiting_right, Registers, FindsFinished}
 use Rattle.goal_board.specs.Steps.{the_wait, Leaves}
 use Rattle.goal_board.proofs.Overs.{sound_at}
 use Rattle.goal_board.proofs.Kept.{stays_changed, stays_then, stays_as, stays_from, board_then, run_set, next_set}
@@ -128,22 +128,19 @@ module _ {R : Type 0} (meaning_of : R → Meaning) (rules : R) (room : ℕ) wher
             ∙ ap (λ (o : _). record v {
               alone = o;
               looks = looks ++ v.looks;
-              rights =
-                  with_wait (q / 8) v.rights;
+              rights = with_wait (q / 8) v.rights;
               pending = None;
             }) (sym (ap (λ (h : Hands R). h.alone) all))
             ∙ ap (λ (n : ℕ). record v {
               alone = z.alone;
               looks = looks ++ v.looks;
-              rights =
-                  with_wait n v.rights;
+              rights = with_wait n v.rights;
               pending = None;
             }) parts.0
             ∙ ap (λ (o : _). record v {
               alone = z.alone;
               looks = looks ++ v.looks;
-              rights =
-                  with_wait place v.rights;
+              rights = with_wait place v.rights;
               pending = o;
             }) (sym none_pending);
         kept = kept;
@@ -187,15 +184,13 @@ module _ {R : Type 0} (meaning_of : R → Meaning) (rules : R) (room : ℕ) wher
             ∙ ap (λ (words : _). record v {
               alone = words;
               looks = looks ++ v.looks;
-              woken =
-                  woken_by found q v.woken;
+              woken = woken_by found q v.woken;
               pending = None;
             }) (sym (ap (λ (h : Hands R). h.alone) is))
             ∙ ap (λ (o : _). record v {
               alone = z.alone;
               looks = looks ++ v.looks;
-              woken =
-                  woken_by found q v.woken;
+              woken = woken_by found q v.woken;
               pending = o;
             }) (sym none_pending)
             ∙ ap (λ x. record v { alone = z.alone; looks = looks ++ v.looks; woken = cond x (q / 8 ∷ v.woken) v.woken })

@@ -84,8 +84,7 @@ module _ {R : Type 0} {meaning_of : R → Meaning} {b : Board R} {t : Seat R}
       record {
         same_table = same_table;
         over = call.over;
-        free =
-            subst IsFree (sym told) (record { no_wait = free.no_wait; no_walk = free.no_walk });
+        free = subst IsFree (sym told) (record { no_wait = free.no_wait; no_walk = free.no_walk });
       }
 
   -- and so does a compare-exchange from 0 that leaves such hands where it found 0

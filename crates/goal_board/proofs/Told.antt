@@ -26,8 +26,7 @@ module _ {R : Type 0} {meaning_of : R → Meaning} where
       (record {
         hit = λ e. ap (λ (m : Sat R). m.0) (t.hit e);
         miss = λ ne. ap (λ (m : Sat R). m.0) (t.miss ne);
-        moment =
-            t.moment;
+        moment = t.moment;
       })
 
   -- the number of the word may be said in other words

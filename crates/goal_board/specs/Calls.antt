@@ -1,25 +1,15 @@
--- What each call does to the hands of its seat, and what its answer means.
-use Rattle.std.specs.Prelude.{◌≡◌, ◌≢◌, ◌⊎◌, ℕ, ◌+◌, ◌^◌, ◌<◌, ◌≤◌, List, [], ◌∷◌, ◌++◌, length, bit_or, slice_index}
+-- What each call that puts, finds or reads does to the hands of its seat, and what its answer means.
+use Rattle.std.specs.Prelude.{◌≡◌, ◌≢◌, ◌⊎◌, ℕ, ◌^◌, ◌<◌, ◌≤◌, List, [], ◌∷◌, ◌++◌, slice_index}
 use Rattle.std.specs.Prelude.{Option, Some, None, is_some, Bool, false, IsTrue}
 use Rattle.word_table.specs.Probing.{home_of, steps_to}
 use Rattle.word_table.specs.declared.outcome.Inserted.{Inserted}
 use Rattle.word_table.specs.declared.outcome.Inserted.TheVariants.{Fresh, Known, Full}
 use Rattle.board_rule.specs.Meaning.{Meaning}
-use Rattle.board_rule.specs.Records.{Claimed, Walk}
-use Rattle.board_rule.specs.Words.{mem, full_word, cell_word, run_word, head_word, cost_word, node_word, who_word}
-use Rattle.board_rule.specs.Looks.{Looked, SawOther, SawOthers, ShowsFinished, ShowsEntry, ShowsFull, ShowsClosed}
-use Rattle.board_rule.specs.Waiters.{head_of, cleared}
-use Rattle.board_rule.specs.Seats.{Among, Each, without, changed, looked, placed, claimed, suspended, filled, waits_at}
-use Rattle.board_rule.specs.Seats.{with_wait}
+use Rattle.board_rule.specs.Words.{full_word, cell_word, run_word, head_word, cost_word, node_word}
+use Rattle.board_rule.specs.Looks.{Looked, SawOther, SawOthers, ShowsFinished, ShowsEntry, ShowsFull}
+use Rattle.board_rule.specs.Seats.{looked, placed, filled}
 use Rattle.board_rule.specs.declared.hands.Hands.{Hands}
-use Rattle.goal_board.specs.Alone.{KeepsAll, StaysAlone, ChangesRuns, KeepsBoard, HasWait}
-use Rattle.goal_board.specs.declared.board.Right.{Right}
 use Rattle.goal_board.specs.declared.answers.Answer.{Answer}
-use Rattle.goal_board.specs.declared.answers.Woken.{Woken}
-use Rattle.goal_board.specs.declared.answers.Awaited.{Awaited}
-use Rattle.goal_board.specs.declared.answers.Awaited.TheVariants.{Registered, Finished}
-use Rattle.goal_board.specs.declared.answers.Suspended.{Suspended}
-use Rattle.goal_board.specs.declared.answers.Suspended.TheVariants.{Ready, Waiting}
 
 -- the hands with further looks
 abbrev pub seen : {R : Type 0} → List (ℕ × ℕ) → Hands R → Hands R
@@ -101,134 +91,6 @@ pub record ReadsCell {R : Type 0} (v : Hands R) (at : ℕ) (found : Option ℕ) 
   pub hands_are : w ≡ looked v (cell_word at) (found_word found)
   pub some_word : (word : ℕ) → found ≡ Some word → word ≢ 0
   pub looks : IsSeen v ((cell_word at, found_word found) ∷ [])
-
--- a right to a goal that has waits, and no answer word yet
-abbrev pub waiting_right : ℕ → ℕ → Claimed
-waiting_right place waits = record { place = place; waits = waits; cost = None; node = None; who = None }
-
--- the seat's right to a goal
-pub record IsRightOf {R : Type 0} (meaning : Meaning) (room : ℕ) (v : Hands R) (right : Right) : Type 0 where
-  pub near : right.place < room
-  pub held : Among v.rights (waiting_right right.place right.waits)
-  pub few : right.waits ≤ 8
-  pub stands : Looked v.looks (cell_word right.place) right.goal
-  pub some_goal : right.goal ≢ 0
-  pub is_goal : IsTrue (meaning.goal right.goal)
-  pub enters : meaning.entry right.goal
-
--- the looks found no goal in the cell, or a run word other than 0
-abbrev pub ShowsBusy : Meaning → List (ℕ × ℕ) → ℕ → Type 0
-ShowsBusy meaning looks at =
-    ((word : ℕ) × Looked looks (cell_word at) word × ((word ≡ 0) ⊎ (meaning.goal word ≡ false)))
-    ⊎ ((value : ℕ) × Looked looks (run_word at) value × (value ≢ 0))
-
-module _ {R : Type 0} (meaning : Meaning) (room : ℕ) (v : Hands R) (at : ℕ) where
-  -- the goal was found ready, and claimed
-  pub record ClaimsGoal (right : Right) (w : Hands R) : Type 0 where
-    pub there : right.place ≡ at
-    pub no_waits : right.waits ≡ 0
-    pub its : IsRightOf meaning room w right
-    pub looks : IsSeen v ((run_word at, 0) ∷ ((cell_word at, right.goal) ∷ []))
-    pub hands_are : w ≡ claimed (looked v (cell_word at) right.goal) at
-    pub all : KeepsAll room v
-
-  -- it was found busy
-  pub record FindsBusy (w : Hands R) : Type 0 where
-    pub more : List (ℕ × ℕ)
-    pub looks : IsSeen v more
-    pub busy : ShowsBusy meaning more at
-    pub hands_are : w ≡ seen more v
-
-  abbrev pub Claims : Option Right → Hands R → Type 0
-  Claims (Some right) w = ClaimsGoal right w
-  Claims None w = FindsBusy w
-
--- the right was given up: the goal is ready exactly where no wait bit was found
-pub record SuspendsGoal {R : Type 0} (v : Hands R) (place : ℕ) (answer : Suspended) (w : Hands R) : Type 0 where
-  pub found : ℕ
-  pub hands_are : w ≡ suspended v place found
-  pub ready : answer ≡ Ready → found ≡ 256
-  pub waiting : answer ≡ Waiting → found ≢ 256
-  pub looks : IsSeen v ((run_word place, found) ∷ [])
-  -- a goal with a wait is not ready after it
-  pub not_ready : HasWait found → cleared found 8 ≢ 0
-
--- one of the looks found a child of the goal in the cell
-pub record SeesChild (meaning : Meaning) (looks : List (ℕ × ℕ)) (goal at : ℕ) : Type 0 where
-  pub other : ℕ
-  pub some_other : other ≢ 0
-  pub stands : Looked looks (cell_word at) other
-  pub is_child : meaning.child goal other
-
-module _ {R : Type 0} (v : Hands R) (place at : ℕ) where
-  -- the goal waits for the child: its right has one wait more
-  pub record Registers (w : Hands R) : Type 0 where
-    pub words : Option (List ℕ)
-    pub more : List (ℕ × ℕ)
-    pub quiet : (value : ℕ) → Looked more full_word value → ⊥
-    pub hands_are : w ≡ record v { alone = words; looks = more ++ v.looks; rights = with_wait place v.rights }
-    -- the bit of the right's next wait was set, where the seat is alone
-    pub kept : StaysAlone (KeepsBoard place (λ run. bit_or run (2 ^ waits_at place v.rights))) v.alone words
-    pub has_wait : (kept : List ℕ) → words ≡ Some kept → HasWait ((mem kept).run place)
-
-  -- the child was found finished, and no wait was added
-  pub record FindsFinished (w : Hands R) : Type 0 where
-    pub words : Option (List ℕ)
-    pub more : List (ℕ × ℕ)
-    pub quiet : (value : ℕ) → Looked more full_word value → ⊥
-    pub closed : ShowsClosed more at
-    pub hands_are : w ≡ record v { alone = words; looks = more ++ v.looks }
-    -- no run word has changed, where the seat is alone
-    pub kept : StaysAlone (KeepsBoard place (λ run. run)) v.alone words
-
-  abbrev pub WaitsFor : Awaited → Hands R → Type 0
-  WaitsFor Registered w = Registers w
-  WaitsFor Finished w = FindsFinished w
-
--- the right after it
-abbrev pub waited : Awaited → Right → Right
-waited Registered right = record right { waits = right.waits + 1 }
-waited Finished right = right
-
--- the words that a seat keeps while it is alone, once it has finished a goal
-abbrev pub ended_words : ℕ → ℕ → ℕ → ℕ → Option (List ℕ) → Option (List ℕ)
-ended_words place worker cost node words =
-    changed (head_word place) (2 ^ 63) (changed (who_word place) (worker + 1)
-    (changed (node_word place) node (changed (cost_word place) cost words)))
-
--- the goal went from the seat's rights to what it finished, and the seat walks the list of its waiters
-abbrev pub finishes : {R : Type 0} → Hands R → ℕ → ℕ → ℕ → ℕ → List ℕ → Hands R
-finishes v place worker cost node waiters = record v {
-  alone = ended_words place worker cost node v.alone;
-  looks = (head_word place, head_of waiters) ∷ v.looks;
-  done = record { place = place; worker = worker; cost = cost; node = node } ∷ v.done;
-  rights = without place v.rights;
-  walk = record { child = place; waiters = waiters; next = None };
-}
-
--- the seat has walked its list to the end: each waiter's bit was cleared, and those goals that this made ready are
--- counted
-pub record Wakes {R : Type 0} (room : ℕ) (v : Hands R) (woken : Woken) (w : Hands R) : Type 0 where
-  pub more : List (ℕ × ℕ)
-  pub words : Option (List ℕ)
-  pub gained : List ℕ
-  pub left : Walk
-  pub hands_are : w ≡ record v { alone = words; looks = more ++ v.looks; woken = gained ++ v.woken; walk = left }
-  pub at_end : left.waiters ≡ []
-  pub runs : StaysAlone ChangesRuns v.alone words
-  pub quiet : (value : ℕ) → Looked more full_word value → ⊥
-  pub near : Each (λ place. place < room) gained
-  pub counted : woken.count ≡ length gained
-  pub none : woken.one ≡ None → gained ≡ []
-  pub one : (place : ℕ) → woken.one ≡ Some place → Among gained place
-
--- the goal was finished with this answer, and its waiters were woken
-pub record FinishesGoal {R : Type 0} (room : ℕ) (v : Hands R) (place worker cost node : ℕ) (woken : Woken)
-    (w : Hands R) : Type 0 where
-  pub waiters : List ℕ
-  pub wakes : Wakes room (finishes v place worker cost node waiters) woken w
-  -- the goal was not finished before, where the seat is alone
-  pub was_open : (kept : List ℕ) → v.alone ≡ Some kept → (mem kept).head place < 2 ^ 63
 
 -- the goal that was looked at in the cell is ready in these words
 pub record IsReadyIn (meaning : Meaning) (room : ℕ) (words : List ℕ) (place : ℕ) : Type 0 where

@@ -2,6 +2,7 @@ pub mod Alone
 pub mod Seats
 pub mod Steps
 pub mod Calls
+pub mod RightCalls
 pub mod Closed
 pub mod Closing
 pub mod SeatCalls

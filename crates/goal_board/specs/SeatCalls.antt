@@ -8,7 +8,8 @@ use Rattle.goal_board.specs.declared.board.Right.{Right}
 use Rattle.goal_board.specs.declared.answers.Answer.{Answer}
 use Rattle.goal_board.specs.declared.answers.Woken.{Woken}
 use Rattle.goal_board.specs.Seats.{hands}
-use Rattle.goal_board.specs.Calls.{IsRightOf, SeesChild, Claims, FinishesGoal, Reads, ReadsFull}
+use Rattle.goal_board.specs.Calls.{Reads, ReadsFull}
+use Rattle.goal_board.specs.RightCalls.{IsRightOf, SeesChild, Claims, FinishesGoal}
 
 module _ {R : Type 0} (meaning_of : R → Meaning) (b : Board R) (s : Seat R) where
   -- the seat has the right

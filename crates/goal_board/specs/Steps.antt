@@ -9,7 +9,7 @@ use Rattle.board_rule.specs.Seats.{Each, looked, placed, claimed, suspended, fin
 use Rattle.board_rule.specs.Seats.{next_read, bit_cleared, wait_dropped}
 use Rattle.board_rule.specs.Plays.{Moment}
 use Rattle.board_rule.specs.declared.hands.Hands.{Hands}
-use Rattle.goal_board.specs.Calls.{waiting_right}
+use Rattle.goal_board.specs.RightCalls.{waiting_right}
 
 -- the wait that a seat puts in
 abbrev pub pending_or : Option Pending → Pending

@@ -1,6 +1,6 @@
 ghost use Rattle.std.specs.Prelude.{◌≡◌, ℕ, ◌<◌};
 ghost use Rattle.goal_board.specs.Seats.{IsSeatOf, hands};
-ghost use Rattle.goal_board.specs.Calls.{SuspendsGoal};
+ghost use Rattle.goal_board.specs.RightCalls.{SuspendsGoal};
 ghost use Rattle.goal_board.specs.SeatCalls.{HasRightTo, HasSeenPromise, SeatClaims, SeatFinishes, SeatReads};
 
 use crate::answers::{Answer, Suspended, Woken};

@@ -1,6 +1,6 @@
 ghost use Rattle.std.specs.Prelude.{◌≡◌, ℕ, ◌<◌};
 ghost use Rattle.goal_board.specs.Seats.{IsSeatOf, hands};
-ghost use Rattle.goal_board.specs.Calls.{WaitsFor, waited};
+ghost use Rattle.goal_board.specs.RightCalls.{WaitsFor, waited};
 ghost use Rattle.goal_board.specs.SeatCalls.{HasRightTo, HasSeenChild};
 
 use crate::answers::Awaited;

@@ -2,7 +2,7 @@ ghost use Rattle.std.specs.Prelude.{◌≡◌, ℕ, ◌*◌, ◌<◌, ◌≤◌,
 ghost use Rattle.board_rule.specs.Waiters.{head_of};
 ghost use Rattle.board_rule.specs.Seats.{Each};
 ghost use Rattle.goal_board.specs.Seats.{IsSeatOf, IsInCall, hands};
-ghost use Rattle.goal_board.specs.Calls.{Wakes};
+ghost use Rattle.goal_board.specs.RightCalls.{Wakes};
 
 use crate::answers::Woken;
 use crate::board::{Board, Seat};

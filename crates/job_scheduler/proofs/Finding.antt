@@ -10,7 +10,8 @@ use Rattle.board_rule.specs.Looks.{Looked, ShowsFull, ShowsClosed, seen_closed}
 use Rattle.board_rule.specs.declared.hands.Hands.{Hands}
 use Rattle.goal_board.specs.declared.board.Right.{Right}
 use Rattle.goal_board.specs.declared.answers.Answer.{Answer}
-use Rattle.goal_board.specs.Calls.{ShowsBusy, ClaimsGoal, Claims, Reads, ReadsFull}
+use Rattle.goal_board.specs.Calls.{Reads, ReadsFull}
+use Rattle.goal_board.specs.RightCalls.{ShowsBusy, ClaimsGoal, Claims}
 use Rattle.job_scheduler.specs.Workers.{OnlyLooked, ShowsGoal, Later}
 use Rattle.job_scheduler.specs.Claims.{LooksAndClaims, MayClaimOne, FindsAllBusy, FindsRootOpen, FindsRootClosed}
 use Rattle.job_scheduler.specs.Claims.{FindsFullSet}
@@ -27,8 +28,7 @@ module _ {R : Type 0} (meaning : Meaning) (room : ℕ) where
   claims_one v at (Some right) w t = record {
     middle = v;
     looks = no_look v;
-    claims =
-        subst (λ p. ClaimsGoal meaning room v p right w) (sym t.there) t;
+    claims = subst (λ p. ClaimsGoal meaning room v p right w) (sym t.there) t;
   }
   claims_one v at None w t = record { more = t.more; hands_are = t.hands_are; alone = t.looks.alone }
 
@@ -38,8 +38,7 @@ module _ {R : Type 0} (meaning : Meaning) (room : ℕ) where
   claims_after u v right w a t = record {
     middle = t.middle;
     looks = looks_both u v t.middle a t.looks;
-    claims =
-        t.claims;
+    claims = t.claims;
   }
 
   pub may_claim_after : (u v : Hands R) (result : Option Right) (w : Hands R) → OnlyLooked u v
@@ -113,15 +112,13 @@ module _ {R : Type 0} (meaning : Meaning) (room : ℕ) where
   answer_looks v at (Some answer) w t =
       record {
         more = (_, answer.node) ∷ ((_, answer.cost) ∷ ((head_word at, t.head) ∷ []));
-        hands_are =
-            t.hands_are;
+        hands_are = t.hands_are;
         alone = t.looks.alone;
       }
   answer_looks v at None w t = record {
     more = (head_word at, t.head) ∷ [];
     hands_are = t.hands_are;
-    alone =
-        t.looks.alone;
+    alone = t.looks.alone;
   }
 
   pub answer_closed : (v : Hands R) (at : ℕ) (answer : Answer) (w : Hands R) → Reads meaning room v at (Some answer) w
@@ -129,8 +126,7 @@ module _ {R : Type 0} (meaning : Meaning) (room : ℕ) where
   answer_closed v at answer w t = record {
     looks = record {
       more = (_, answer.node) ∷ ((_, answer.cost) ∷ ((head_word at, t.head) ∷ []));
-      hands_are =
-          t.hands_are;
+      hands_are = t.hands_are;
       alone = t.looks.alone;
     };
     closed = (t.head, inr (inr (inl (refl, refl))), t.closed);
@@ -154,8 +150,7 @@ module _ {R : Type 0} (meaning : Meaning) (room : ℕ) where
       let one : OnlyLooked u v = record {
         more = (head_word at, t.head) ∷ [];
         hands_are = t.hands_are;
-        alone =
-            t.looks.alone;
+        alone = t.looks.alone;
       } in record {
         looks = looks_both u v w one (full_looks v false w f);
         root_open = (t.head, inr (inl (refl, refl)), t.not_closed);
@@ -178,8 +173,7 @@ module _ {R : Type 0} (meaning : Meaning) (room : ℕ) where
       → FindsRootClosed meaning room u root w
   closed_after u v root w a t = record {
     looks = looks_both u v w a t.looks;
-    closed =
-        closed_later t.looks.more a.more root t.closed;
+    closed = closed_later t.looks.more a.more root t.closed;
     left_out = t.left_out;
   }
 

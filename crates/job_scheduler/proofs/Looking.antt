@@ -5,10 +5,11 @@ use Rattle.board_rule.specs.Meaning.{Meaning}
 use Rattle.board_rule.specs.Words.{cell_word, run_word, head_word, full_word}
 use Rattle.board_rule.specs.Looks.{Looked, ShowsFull, ShowsClosed}
 use Rattle.board_rule.specs.declared.hands.Hands.{Hands}
-use Rattle.board_rule.proofs.Seating.{looked_append}
+use Rattle.board_rule.proofs.SeenByTwo.{looked_append}
 use Rattle.goal_board.specs.declared.board.Board.{Board}
 use Rattle.goal_board.specs.Seats.{IsSeatOf, hands}
-use Rattle.goal_board.specs.Calls.{seen, AgreesAlone, ShowsBusy}
+use Rattle.goal_board.specs.Calls.{seen, AgreesAlone}
+use Rattle.goal_board.specs.RightCalls.{ShowsBusy}
 use Rattle.goal_board.proofs.Seen.{looked_later, looked_earlier}
 use Rattle.job_scheduler.specs.Workers.{OnlyLooked, IsWorkerOf, Later}
 use Rattle.job_scheduler.specs.Claims.{ShowsOpen}
@@ -86,8 +87,7 @@ module _ {R : Type 0} where
     root_shown = record {
       some_goal = its.root_shown.some_goal;
       is_goal = its.root_shown.is_goal;
-      stands =
-          later (cell_word root) goal its.root_shown.stands;
+      stands = later (cell_word root) goal its.root_shown.stands;
     };
     hints = hints;
     next = next;

@@ -8,7 +8,8 @@ use Rattle.board_rule.specs.Looks.{Looked}
 use Rattle.board_rule.specs.Seats.{fresh_right, changed}
 use Rattle.board_rule.specs.declared.hands.Hands.{Hands}
 use Rattle.goal_board.specs.declared.board.Right.{Right}
-use Rattle.goal_board.specs.Calls.{ShowsBusy, IsReadyIn}
+use Rattle.goal_board.specs.Calls.{IsReadyIn}
+use Rattle.goal_board.specs.RightCalls.{ShowsBusy}
 use Rattle.board_moves.specs.Counts.{empty_count, open_count, Advances, AdvancesAlone, finishes, fills, waits}
 use Rattle.board_moves.specs.Counts.{has_ready}
 use Rattle.board_moves.proofs.CountLemmas.{number_at_most, CountsClaim, claim_counts}
@@ -139,8 +140,7 @@ module _ {R : Type 0} (meaning : Meaning) (room : ℕ) where
           place = right.place;
           worker = number;
           cost = f.cost;
-          node =
-              f.node;
+          node = f.node;
         } ∷ done) claim_done;
         suspensions = f.suspensions ∙ claim_suspensions;
       });

@@ -9,7 +9,7 @@ use Rattle.board_rule.specs.Seats.{fresh_right, without, waits_at}
 use Rattle.board_rule.specs.declared.hands.Hands.{Hands}
 use Rattle.goal_board.specs.declared.board.Right.{Right}
 use Rattle.goal_board.specs.declared.answers.Woken.{Woken}
-use Rattle.goal_board.specs.Calls.{FinishesGoal, finishes}
+use Rattle.goal_board.specs.RightCalls.{FinishesGoal, finishes}
 use Rattle.goal_board.proofs.Seen.{looked_earlier}
 use Rattle.board_moves.specs.Moves.{with_waits, Moves}
 use Rattle.board_moves.specs.Turns.{GivesUp, TurnFinishes, TurnSuspends, TurnRunsOut}
@@ -48,11 +48,9 @@ module _ {R : Type 0} where
       (t : FinishesGoal room v place worker cost node woken w) where
     finish_is : w ≡ record (finishes v place worker cost node t.waiters) {
       alone = t.wakes.words;
-      looks =
-          t.wakes.more ++ ((head_word place, head_of t.waiters) ∷ v.looks);
+      looks = t.wakes.more ++ ((head_word place, head_of t.waiters) ∷ v.looks);
       woken = t.wakes.gained ++ v.woken;
-      walk =
-          t.wakes.left;
+      walk = t.wakes.left;
     }
     finish_is = t.wakes.hands_are
 
@@ -122,8 +120,7 @@ module _ {R : Type 0} (room : ℕ) (Adds : ℕ → Type 0) (v : Hands R) (right 
         suspensions = ap (λ (h : Hands R). h.suspensions) s
             ∙ ap (λ (h : Hands R). record {
               place = right.place;
-              waits =
-                  waits_at right.place t.middle.rights;
+              waits = waits_at right.place t.middle.rights;
             } ∷ h.suspensions) m.hands_are;
         done = ap (λ (h : Hands R). h.done) s ∙ ap (λ (h : Hands R). h.done) m.hands_are;
       }

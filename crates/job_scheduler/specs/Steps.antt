@@ -6,7 +6,8 @@ use Rattle.board_rule.specs.Seats.{fresh_right}
 use Rattle.board_rule.specs.declared.hands.Hands.{Hands}
 use Rattle.goal_board.specs.declared.board.Board.{Board}
 use Rattle.goal_board.specs.Seats.{hands}
-use Rattle.goal_board.specs.Calls.{ShowsBusy, LeavesOut}
+use Rattle.goal_board.specs.Calls.{LeavesOut}
+use Rattle.goal_board.specs.RightCalls.{ShowsBusy}
 use Rattle.board_moves.specs.Counts.{ready_count, empty_count, open_count, AdvancesAlone}
 use Rattle.job_scheduler.specs.Workers.{Later, OnlyLooked}
 use Rattle.job_scheduler.specs.Claims.{ShowsOpen}

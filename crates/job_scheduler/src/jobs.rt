@@ -1,6 +1,6 @@
 ghost use Rattle.std.specs.Prelude.{◌≡◌, ◌≢◌, ℕ, ◌<◌};
 ghost use Rattle.goal_board.specs.Seats.{IsSeatOf, hands};
-ghost use Rattle.goal_board.specs.Calls.{IsRightOf};
+ghost use Rattle.goal_board.specs.RightCalls.{IsRightOf};
 ghost use Rattle.board_moves.specs.Turns.{Turns};
 ghost use Rattle.board_moves.specs.Counts.{AdvancesAlone};
 ghost use Rattle.board_moves.specs.declared.progress.Turned.TheVariants as turned;

@@ -32,8 +32,7 @@ module _ (q : Query) (room : ℕ) where
       → ((child : GoalKind) → Wanted child → ⊥) → HasAwaited q room v before Wanted v before
   has_none v before Wanted none = record {
     proceeds = proceeds_none (IsChildWord q before.goal) v before;
-    finished =
-        λ no_wait child is. absurd (none child is);
+    finished = λ no_wait child is. absurd (none child is);
   }
 
   -- one goal was

@@ -31,8 +31,7 @@ module _ (q : Query) (group : KeyParts) (members : EntriesAreMembers q) (candida
       bound,
       record {
         candidate = candidates bound is_in.member;
-        of_group =
-            is_in.of_group;
+        of_group = is_in.of_group;
         logical = is_in.logical;
       },
       refl,
@@ -47,8 +46,7 @@ module _ (q : Query) (group : KeyParts) (members : EntriesAreMembers q) (candida
     e,
     record {
       member = members e logical.candidate (subst (IsEntry q) (sym is) enters);
-      of_group =
-          logical.of_group;
+      of_group = logical.of_group;
       logical = logical.logical;
     },
     is,

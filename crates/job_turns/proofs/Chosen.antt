@@ -56,8 +56,7 @@ answers_known q one words requests fit small goal word cost node names is =
       best = is.answer;
       is_answer = answer;
       words = is.words;
-      small =
-          best_small q fit goal is.answer (requests goal names.is_goal) answer;
+      small = best_small q fit goal is.answer (requests goal names.is_goal) answer;
     }
 
 module _ (q : Query) (room : ℕ) (small : IsSmall q) (children : ChildrenAreKnown q) (asked : AskedAreKnown q)

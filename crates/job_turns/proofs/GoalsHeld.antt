@@ -26,8 +26,7 @@ module _ (q : Query) where
     goal,
     names,
     (exact goal).0 (record {
-      in_range =
-          words small.few_lists small.few_orders goal names.is_goal;
+      in_range = words small.few_lists small.few_orders goal names.is_goal;
       number = names.number;
     }),
   )

@@ -70,8 +70,7 @@ module _ (q : Query) (laws : ResultLaws q) where
       from = record {
         member = member;
         of_group = sym (laws.group rule e None n other has);
-        logical =
-            laws.logical rule e None n other has;
+        logical = laws.logical rule e None n other has;
       };
       kind = sym (laws.explored rule e None n other has) ∙ physical;
       applies = laws.applies rule e None n other has;
@@ -85,8 +84,7 @@ module _ (q : Query) (laws : ResultLaws q) where
       from = record {
         member = member;
         of_group = sym (laws.group rule e (Some bound) n other has);
-        logical =
-            laws.logical rule e (Some bound) n other has;
+        logical = laws.logical rule e (Some bound) n other has;
       };
       kind = sym (laws.explored rule e (Some bound) n other has) ∙ physical;
       applies = laws.applies rule e (Some bound) n other has;
@@ -102,10 +100,8 @@ module _ (q : Query) (laws : ResultLaws q) where
         (record {
           goal = Exp group;
           member = e;
-          names =
-              record { is_goal = child_goal (Imp group) (Exp group) is_goal (inl refl); number = refl };
-          asks =
-              is_in;
+          names = record { is_goal = child_goal (Imp group) (Exp group) is_goal (inl refl); number = refl };
+          asks = is_in;
           number = refl;
         })
 
@@ -124,18 +120,15 @@ module _ (q : Query) (laws : ResultLaws q) where
         (record {
           goal = ImpE e;
           other = Xf e rule;
-          names =
-              record { is_goal = implements; number = refl };
+          names = record { is_goal = implements; number = refl };
           is_child = of_rule;
           number = refl;
         }))
         (record {
           goal = Xf e rule;
           member = x;
-          names =
-              record { is_goal = child_goal (ImpE e) (Xf e rule) implements of_rule; number = refl };
-          asks =
-              (x, from.is_result, inl refl);
+          names = record { is_goal = child_goal (ImpE e) (Xf e rule) implements of_rule; number = refl };
+          asks = (x, from.is_result, inl refl);
           number = refl;
         })
 
@@ -155,8 +148,7 @@ module _ (q : Query) (group : KeyParts) where
       → IsLogicalIn (IsMember q) group e
   logical_in members e logical enters = record {
     member = members e logical.candidate enters;
-    of_group =
-        logical.of_group;
+    of_group = logical.of_group;
     logical = logical.logical;
   }
 

@@ -36,8 +36,7 @@ module _ (q : Query) (room : ℕ) (right : Right) where
       → HasPut q room v right Wanted v
   put_none v Wanted none = record {
     proceeds = proceeds_none (IsAskedWord q right.goal) v right;
-    shown =
-        λ e is. absurd (none e is);
+    shown = λ e is. absurd (none e is);
   }
 
   pub put_others : (v : Hands Rules) (Wanted Others : ExprParts → Type 0) → ((e : ExprParts) → Others e → Wanted e)

@@ -121,8 +121,7 @@ bound_wanted q e rule left is_left binding side logical x (other, inr (bound, n,
     of_group =
         left_one (children_of e.operator) bound.group left
         (left_of q rule e bound n other has (side bound n other has)).1 is_left.1;
-    logical =
-        logical bound n other has;
+    logical = logical bound n other has;
   },
   (n, (other, has, brought)),
 )

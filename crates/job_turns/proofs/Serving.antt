@@ -55,8 +55,7 @@ module _ (q : Query) (group : KeyParts) (wanted : Request) where
   pub best_none : NoneIsBest q → IsBestAmong [] None
   best_none none_best = record {
     set = no_nodes;
-    has =
-        λ e mode (k, within, is) can. absurd (omega (arith, within));
+    has = λ e mode (k, within, is) can. absurd (omega (arith, within));
     is_best = none_best group wanted;
   }
 
@@ -142,8 +141,7 @@ module _ (q : Query) (group : KeyParts) (wanted : Request) where
     pub best_all : (best : Option Best) → IsBestAmong candidates best → IsBestOfMembers q group wanted best
     best_all best so_far = record {
       set = so_far.set;
-      has =
-          λ e mode can. so_far.has e mode (member_there e can) can;
+      has = λ e mode can. so_far.has e mode (member_there e can) can;
       is_best = so_far.is_best;
     }
 
@@ -153,8 +151,7 @@ module _ (q : Query) (group : KeyParts) (wanted : Request) where
   best_without none_best e none = record {
     set = no_nodes;
     has = λ mode can. none can;
-    is_best =
-        none_best e.group wanted;
+    is_best = none_best e.group wanted;
   }
 
   -- and that of one that is is its goal's
@@ -176,8 +173,7 @@ module _ (q : Query) (group : KeyParts) (wanted : Request) where
               member = member;
               of_group = of_group;
               mode = mode;
-              serves =
-                  (line, alternative);
+              serves = (line, alternative);
             }));
       }) (lesser_best props is_props group wanted (first_enforcers wanted) members.set first second fits enforcers
       members.is_best)

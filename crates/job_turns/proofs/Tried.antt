@@ -233,8 +233,7 @@ module _ (q : Query) (e : PhysicalExpr) (wanted : Request) where
         below = below;
         line = asks.line;
         is_alternative = asks.is_alternative;
-        is_asked =
-            asks.is_asked;
+        is_asked = asks.is_asked;
         is = is;
       },
     )

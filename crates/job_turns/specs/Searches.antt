@@ -6,7 +6,7 @@ use Rattle.goal_board.specs.declared.board.Board.{Board}
 use Rattle.goal_board.specs.declared.board.Seat.{Seat}
 use Rattle.goal_board.specs.declared.board.Right.{Right}
 use Rattle.goal_board.specs.Seats.{IsSeatOf, hands}
-use Rattle.goal_board.specs.Calls.{IsRightOf}
+use Rattle.goal_board.specs.RightCalls.{IsRightOf}
 use Rattle.board_moves.specs.declared.job.Job.{Job}
 use Rattle.goal_rules.specs.declared.rules.Rules.{Rules}
 use Rattle.goal_rules.specs.Meaning.{meaning_of}

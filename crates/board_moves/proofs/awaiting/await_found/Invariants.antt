@@ -1,7 +1,7 @@
 -- The pass has come to a word.
 use Rattle.std.proofs.Common.{◌≡◌}
 use Rattle.goal_board.specs.Seats.{IsSeatOf, hands}
-use Rattle.goal_board.specs.Calls.{IsRightOf}
+use Rattle.goal_board.specs.RightCalls.{IsRightOf}
 use Rattle.board_moves.proofs.Ascending.{left_above}
 use Rattle.board_moves.proofs.Rounds.{Awaiting}
 use Rattle.board_moves.proofs.awaiting.await_found.Given as goal

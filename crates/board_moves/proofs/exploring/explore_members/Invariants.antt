@@ -2,7 +2,7 @@
 use Rattle.std.proofs.Common.{◌≡◌, ◌-◌, ◌^◌}
 use Rattle.board_rule.specs.Looks.{ShowsEntry}
 use Rattle.goal_board.specs.Seats.{IsSeatOf, hands}
-use Rattle.goal_board.specs.Calls.{IsRightOf}
+use Rattle.goal_board.specs.RightCalls.{IsRightOf}
 use Rattle.board_moves.specs.Moves.{Proceeds}
 use Rattle.board_moves.proofs.Rounds.{Knows}
 use Rattle.board_moves.proofs.exploring.explore_members.Given as goal

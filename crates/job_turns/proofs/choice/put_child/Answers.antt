@@ -22,8 +22,7 @@ put_goal-requires-clause-enters g c κs within =
       c.args.child,
       record {
         is_goal = child_goal child.0 c.args.child child.1.is_goal child.2;
-        number =
-            sym c.word.ensures.number;
+        number = sym c.word.ensures.number;
       },
     ) in
     subst (λ (q : Query). IsEntry q c.word.result.0) (sym c.requires.at_work.has_job.board.same_query) enters

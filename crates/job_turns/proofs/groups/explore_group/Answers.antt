@@ -38,8 +38,7 @@ explore-requires-clause-answer g c κs within =
     (record {
       goal = Exp c.args.group;
       names = record { is_goal = c.requires.goal.is_goal; number = refl };
-      answer =
-          no_choice;
+      answer = no_choice;
       is_answer = refl;
       words = (refl, refl);
     })

@@ -61,8 +61,7 @@ returns-in-Some-clause-works g c =
     implement_works q c.args.group (record {
       applies = known.applies q;
       group = known.group q;
-      logical =
-          known.logical q;
+      logical = known.logical q;
       explored = known.explored q;
     }) (c.members_are_candidates.ensures q)
     (c.words_are_known.ensures.children q)

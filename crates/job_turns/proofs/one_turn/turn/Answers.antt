@@ -16,8 +16,7 @@ work-progress-requires-clause-at_work g c = record {
   has_job = record {
     board = record {
       same_query = c.requires.board;
-      small =
-          record { few_lists = c.requires.props.few_lists; few_orders = c.requires.props.few_orders };
+      small = record { few_lists = c.requires.props.few_lists; few_orders = c.requires.props.few_orders };
     };
     seat = c.requires.seat;
     right = subst (HasRight c.args.board.now c.args.seat.now) (sym c.of-job.ensures) c.requires.right;

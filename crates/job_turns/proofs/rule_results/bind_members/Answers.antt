@@ -58,8 +58,7 @@ put_with_members-requires-clause-shown g c = λ bound is_in.
       goal = Exp c.args.left;
       member = bound;
       names = record { is_goal = is_goal; number = refl };
-      asks =
-          is_in;
+      asks = is_in;
       number = refl;
     })
 

@@ -50,8 +50,7 @@ known_parts-bound-requires c =
       e,
       record {
         packed = c.candidates_are_known.ensures.packed c.args.query.now e logical.candidate;
-        number =
-            number;
+        number = number;
       },
     )
 
@@ -77,8 +76,7 @@ put_results-requires-clause-asked c = λ other brought.
     (c.members_are_candidates.ensures q) c.in-Some.word over in
     let same = c.known_parts-bound.ensures.only x
     (record {
-      packed = c.candidates_are_known.ensures.packed q x
-          (c.members_are_candidates.ensures q x is_in.member);
+      packed = c.candidates_are_known.ensures.packed q x (c.members_are_candidates.ensures q x is_in.member);
       number = number;
     }) in
     c.requires.asked c.known_parts-bound.result other (subst (IsLogicalIn (IsMember q) c.args.group) same is_in) brought
@@ -110,8 +108,7 @@ loop-word-preserved c =
           c.args.rule c.args.e c.loop-word.before c.in-Some.word next c.known_parts-bound.result
           (λ x is_in number. c.known_parts-bound.ensures.only x
           (record {
-            packed = c.candidates_are_known.ensures.packed q x
-                (c.members_are_candidates.ensures q x is_in.member);
+            packed = c.candidates_are_known.ensures.packed q x (c.members_are_candidates.ensures q x is_in.member);
             number = number;
           })))
           (hands c.put_results.new.seat)

@@ -1,5 +1,5 @@
 -- The answer words of a goal whose head was found closed.
-use Rattle.goal_board.proofs.Findings.{finds_open, reads_answer}
+use Rattle.goal_board.proofs.AnswerFindings.{finds_open, reads_answer}
 use Rattle.goal_board.proofs.Told.{looks_at}
 use Rattle.goal_board.proofs.board.Board.answer.Goals as goal
 

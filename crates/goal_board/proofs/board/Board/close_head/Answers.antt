@@ -34,8 +34,7 @@ returns-clause-told g c =
       named = told.named;
       near = told.near;
       few = told.few;
-      leaves =
-          leaves c.head_at.ensures told.tells;
+      leaves = leaves c.head_at.ensures told.tells;
     }
 
 pub returns-clause-seat : goal.returns-clause-seat

@@ -8,7 +8,7 @@ use Rattle.board_rule.specs.declared.hands.Hands.{Hands}
 use Rattle.board_rule.proofs.Rights.{rights_at}
 use Rattle.goal_board.specs.Seats.{hands}
 use Rattle.board_rule.specs.Waiters.{head_of}
-use Rattle.goal_board.specs.Calls.{finishes, Wakes}
+use Rattle.goal_board.specs.RightCalls.{finishes, Wakes}
 use Rattle.goal_board.proofs.Finishing.{held_fresh, with_first, with_second, cost_among, node_among, who_among}
 use Rattle.goal_board.proofs.Finishing.{has_right, left_over, once_held, open_before}
 use Rattle.goal_board.proofs.board.Board.finish.Goals as goal

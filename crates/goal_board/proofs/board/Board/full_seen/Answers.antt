@@ -1,5 +1,6 @@
 -- One look at the full word.
-use Rattle.goal_board.proofs.Findings.{found_set, found_unset, reads_full}
+use Rattle.goal_board.proofs.Findings.{found_set, found_unset}
+use Rattle.goal_board.proofs.AnswerFindings.{reads_full}
 use Rattle.goal_board.proofs.board.Board.full_seen.Goals as goal
 
 pub returns-clause-answer : goal.returns-clause-answer

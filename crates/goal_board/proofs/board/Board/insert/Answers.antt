@@ -7,8 +7,7 @@ use Rattle.goal_board.proofs.board.Board.insert.Goals as goal
 pub loop-step-init : goal.loop-step-init
 loop-step-init g c = record {
   seat = c.requires.seat;
-  probes =
-      begins c.home-place.ensures.value c.args.self.now.sized.2;
+  probes = begins c.home-place.ensures.value c.args.self.now.sized.2;
 }
 
 pub look-seen-requires-clause-word : goal.look-seen-requires-clause-word

@@ -1,6 +1,6 @@
 -- A right that was claimed is the seat's.
 use Rattle.goal_board.specs.Seats.{hands}
-use Rattle.goal_board.specs.Calls.{waiting_right}
+use Rattle.goal_board.specs.RightCalls.{waiting_right}
 use Rattle.goal_board.proofs.Finishing.{has_right}
 use Rattle.goal_board.proofs.Findings.{suspends_ready, suspends_waiting}
 use Rattle.goal_board.proofs.board.Board.suspend.Goals as goal

@@ -1,22 +1,23 @@
 -- A wait is put in by its bit, its next word and the child's head, in this order; where the child is finished the bit
 -- is cleared again.
-use Rattle.std.proofs.Common.{◌≡◌, ℕ, ◌+◌, ◌*◌, ◌/◌, ◌%◌, ◌^◌, ◌<◌, [], ◌∷◌, ◌++◌, Some, sym, refl, ap, subst, ◌∙◌, inl}
-use Rattle.std.proofs.Common.{inr, ⊎_elim, arith}
+use Rattle.std.proofs.Common.{◌≡◌, ℕ, ◌+◌, ◌*◌, ◌/◌, ◌<◌, sym, refl, ap, subst, ◌∙◌}
+use Rattle.std.proofs.Common.{inr, arith}
 use Rattle.board_rule.specs.Words.{cell_word, head_word, run_word}
 use Rattle.board_rule.specs.Looks.{Looked}
 use Rattle.board_rule.specs.May.{MaySee, MayLink, MayPush, MayDrop}
-use Rattle.board_rule.specs.Seats.{waits_at, wait_begun, head_seen, next_stored, wait_put, wait_dropped}
+use Rattle.board_rule.specs.Seats.{waits_at, wait_begun, next_stored, wait_put, wait_dropped}
 use Rattle.board_rule.specs.Plays.{Moment}
 use Rattle.board_rule.specs.declared.hands.Hands.{Hands}
 use Rattle.goal_board.specs.declared.board.Right.{Right}
 use Rattle.goal_board.specs.Seats.{hands}
-use Rattle.goal_board.specs.Calls.{waiting_right, IsRightOf}
+use Rattle.goal_board.specs.RightCalls.{waiting_right, IsRightOf}
 use Rattle.goal_board.specs.Steps.{the_wait}
 use Rattle.goal_board.proofs.Finishing.{has_right}
 use Rattle.goal_board.proofs.Seen.{looked_later}
-use Rattle.goal_board.proofs.Putting.{Begun, seen_wait, its_waits, head_bound, head_later, nearer, right_registered}
+use Rattle.goal_board.proofs.Putting.{its_waits, head_later, nearer, right_registered}
 use Rattle.goal_board.proofs.Putting.{right_kept}
-use Rattle.goal_board.proofs.Registering.{kept_begun, kept_linked, registers, finds_finished}
+use Rattle.goal_board.proofs.Registering.{registers, finds_finished}
+use Rattle.goal_board.proofs.WaitTurns.{putting_begins, putting_goes_on}
 use Rattle.goal_board.proofs.board.Board.wait_for.Goals as goal
 
 pub begin_wait-requires-clause-may : goal.begin_wait-requires-clause-may
@@ -25,8 +26,7 @@ begin_wait-requires-clause-may g c κs within =
       near = r.near;
       held = r.held;
       fewer = c.requires.fewer;
-      free =
-          c.requires.seat.free.no_wait;
+      free = c.requires.seat.free.no_wait;
     }
 
 pub see_head-head-requires-clause-may : goal.see_head-head-requires-clause-may
@@ -65,39 +65,15 @@ loop-head-init g c =
     let told = c.begin_wait.ensures.told in
     let saw = c.see_head-head.ensures.told in
     let place : ℕ = c.args.right.now.place in
-    let head : ℕ = c.see_head-head.result in
     let waits = its_waits g.R.GoalRules.meaning b.key.rules b.key.room v (run_word place) c.begin_wait.result place
     c.args.right.now.waits c.requires.seat.over told.moment r.near r.held in
-    let is : hands c.see_head-head.new.seat ≡ head_seen (wait_begun v place c.begin_wait.result)
-    (the_wait (wait_begun v place c.begin_wait.result)) c.args.child_at head =
-    saw.hands_are ∙ ap (λ (h : Hands _). head_seen h (the_wait h) c.args.child_at head) told.hands_are in
     record {
       right = refl;
       seat = c.see_head-head.ensures.seat;
-      putting = record {
-        more = (head_word c.args.child_at, head) ∷ ((run_word place, c.begin_wait.result) ∷ []);
-        quiet = λ value at. ⊎_elim (λ t. omega (arith, t.0)) (⊎_elim (λ t. omega (arith, t.0)) (λ t. t)) at;
-        saw = inl (refl, refl);
-        bound = head_bound g.R.GoalRules.meaning b.key.rules b.key.room (hands c.begin_wait.new.seat) c.args.child_at
-            head b.sized.3 c.requires.near c.begin_wait.ensures.seat.over saw.moment;
-        hands_are = is
-            ∙ ap (λ (n : ℕ). record (head_seen (wait_begun v place c.begin_wait.result)
-            (the_wait (wait_begun v place c.begin_wait.result)) c.args.child_at head) {
-              pending =
-                  Some (seen_wait (8 * place + n) c.args.child_at head);
-            }) waits
-            ∙ ap (λ (words : _). record v {
-              alone = words;
-              looks =
-                  (head_word c.args.child_at, head) ∷ ((run_word place, c.begin_wait.result) ∷ v.looks);
-              pending =
-                  Some (seen_wait (8 * place + c.args.right.now.waits) c.args.child_at head);
-            })
-            (sym (ap (λ (h : Hands _). h.alone) is));
-        kept = subst (Begun (8 * place + c.args.right.now.waits) v.alone) (sym (ap (λ (h : Hands _). h.alone) is))
-            (kept_begun g.R.GoalRules.meaning b.key.rules b.key.room v place c.args.right.now.waits c.begin_wait.result
-            c.requires.seat.over told.moment r.near c.requires.fewer waits);
-      };
+      putting = putting_begins g.R.GoalRules.meaning b.key.rules b.key.room v (hands c.begin_wait.new.seat)
+          (hands c.see_head-head.new.seat) place c.args.right.now.waits c.args.child_at c.begin_wait.result
+          c.see_head-head.result b.sized.3 r.near c.requires.near c.requires.fewer waits c.requires.seat.over
+          told.moment c.begin_wait.ensures.seat.over saw.moment told.hands_are saw.hands_are;
     }
 
 pub store_next-requires-clause-may : goal.store_next-requires-clause-may
@@ -139,35 +115,15 @@ put_wait-found-requires-clause-fits g c κs within =
 pub loop-head-preserved : goal.loop-head-preserved
 loop-head-preserved g c =
     let b = c.args.self.now in
-    let v = hands c.args.seat.now in
-    let p = c.loop-head.invariant.putting in
     let told = c.put_wait-found.ensures.told in
-    let found : ℕ = c.put_wait-found.result in
-    let q : ℕ = 8 * c.args.right.now.place + c.args.right.now.waits in
-    let linked = c.store_next.ensures.hands ∙ ap (λ (h : Hands _). next_stored h (the_wait h) c.loop-head.head)
-    p.hands_are in
-    let is = told.miss c.if-found-head.false
-    ∙ ap (λ (h : Hands _). head_seen h (the_wait h) c.args.child_at found) linked in
     record {
       right = c.loop-head.invariant.right;
       seat = c.put_wait-found.ensures.seat;
-      putting = record {
-        more = (head_word c.args.child_at, found) ∷ p.more;
-        quiet = λ value at. ⊎_elim (λ t. omega (arith, t.0)) (λ t. p.quiet value t) at;
-        saw = inl (refl, refl);
-        bound = head_bound g.R.GoalRules.meaning b.key.rules b.key.room (hands c.store_next.new.seat) c.args.child_at
-            found b.sized.3 c.requires.near c.store_next.ensures.seat.over told.moment;
-        hands_are = is ∙ ap (λ (words : _). record v {
-          alone = words;
-          looks =
-              (head_word c.args.child_at, found) ∷ (p.more ++ v.looks);
-          pending =
-              Some (seen_wait (8 * c.args.right.now.place + c.args.right.now.waits) c.args.child_at found);
-        })
-            (sym (ap (λ (h : Hands _). h.alone) is));
-        kept = subst (Begun q v.alone) (sym (ap (λ (h : Hands _). h.alone) is))
-            (kept_linked q (c.loop-head.head % 2 ^ 24) v.alone (hands c.loop-head.seat).alone p.kept);
-      };
+      putting = putting_goes_on g.R.GoalRules.meaning b.key.rules b.key.room (hands c.args.seat.now)
+          (hands c.loop-head.seat) (hands c.store_next.new.seat) (hands c.put_wait-found.new.seat)
+          (8 * c.args.right.now.place + c.args.right.now.waits) c.args.child_at c.loop-head.head
+          c.put_wait-found.result b.sized.3 c.requires.near c.store_next.ensures.seat.over told.moment
+          c.loop-head.invariant.putting c.store_next.ensures.hands (told.miss c.if-found-head.false);
     }
 
 pub loop-head-smaller : goal.loop-head-smaller
@@ -199,8 +155,7 @@ returns-then-found-head-clause-seat g c =
       over = c.put_wait-found.ensures.seat.over;
       free = record {
         no_wait = ap (λ (h : Hands _). h.pending) is;
-        no_walk = ap (λ (h : Hands _). h.walk.waiters) is
-            ∙ c.requires.seat.free.no_walk;
+        no_walk = ap (λ (h : Hands _). h.walk.waiters) is ∙ c.requires.seat.free.no_walk;
       };
     }
 
@@ -242,8 +197,7 @@ returns-clause-seat g c =
       over = c.drop_wait.ensures.seat.over;
       free = record {
         no_wait = ap (λ (h : Hands _). h.pending) is;
-        no_walk = ap (λ (h : Hands _). h.walk.waiters) is
-            ∙ c.requires.seat.free.no_walk;
+        no_walk = ap (λ (h : Hands _). h.walk.waiters) is ∙ c.requires.seat.free.no_walk;
       };
     }
 

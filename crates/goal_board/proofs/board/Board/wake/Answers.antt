@@ -2,7 +2,8 @@
 use Rattle.std.proofs.Common.{sym, ap, ◌∙◌, arith}
 use Rattle.board_rule.specs.declared.hands.Hands.{Hands}
 use Rattle.goal_board.specs.Seats.{hands}
-use Rattle.goal_board.proofs.WokenLemmas.{woken_begins, named_first, named_none, first_name_of, turns, woken_pending}
+use Rattle.goal_board.proofs.WokenLemmas.{woken_begins, woken_pending}
+use Rattle.goal_board.proofs.Walking.{named_first, named_none, first_name_of, turns}
 use Rattle.goal_board.proofs.board.Board.wake.Goals as goal
 
 pub loop-name-init : goal.loop-name-init
@@ -41,8 +42,7 @@ loop-name-preserved-then-clear_bit-bit_of g c =
       near = t.near;
       few = t.few;
       woken = t.woken;
-      hints =
-          c.hint.ensures ∙ inv.hints;
+      hints = c.hint.ensures ∙ inv.hints;
     }
 
 pub loop-name-preserved : goal.loop-name-preserved
@@ -58,8 +58,7 @@ loop-name-preserved g c =
       near = t.near;
       few = t.few;
       woken = t.woken;
-      hints =
-          inv.hints;
+      hints = inv.hints;
     }
 
 pub returns-clause-seat : goal.returns-clause-seat
