@@ -106,8 +106,7 @@ answer_stays q old new bound kept g r before (Some choice) (tree, is) = (
   record {
     stands = stands_on old new bound kept tree (place_of g r) before is.stands;
     least = is.least;
-    cost =
-        is.cost;
+    cost = is.cost;
   },
 )
 

@@ -95,8 +95,7 @@ module _ (q : Query) (e : PhysicalExpr) where
               (record {
                 expr = is_expr;
                 below = omega (arith, is_mode);
-                line = ap (λ n. line_of q e n) is_mode
-                    ∙ is_line;
+                line = ap (λ n. line_of q e n) is_mode ∙ is_line;
                 rows = rows;
               });
           rises = rises_push (number_of (nodes.Native e 0)) modes p (omega (arith, number)) so_far.rises
@@ -136,8 +135,7 @@ module _ (q : Query) (group : KeyParts) where
   up_to_more bound more list less up_to = record {
     are = up_to.are;
     rises = up_to.rises;
-    below =
-        below_more bound more list less up_to.below;
+    below = below_more bound more list less up_to.below;
   }
 
   up_to_push : (bound : ℕ) (list : List Native) (p : Native) → 2 ^ 56 ≤ mode_number p → bound ≤ mode_number p
@@ -190,8 +188,7 @@ module _ (q : Query) (group : KeyParts) where
   pub made_none : (words : List ℕ) → AreMade words 0 []
   made_none words = record {
     up_to = record { are = tt; rises = tt; below = tt };
-    complete =
-        λ k less. absurd (omega (arith, less));
+    complete = λ k less. absurd (omega (arith, less));
   }
 
   module _ (words : List ℕ) (ascending : IsStrictlyIncreasing words) where

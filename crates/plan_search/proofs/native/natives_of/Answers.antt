@@ -16,8 +16,7 @@ known_parts-requires c =
     let found = c.requires.members.sound c.loop-word.word-index 0 c.loop-word-test.true in (
       found.0,
       record {
-        packed = c.candidates_are_known.ensures.packed q found.0
-            (c.members_are_candidates.ensures q found.0 found.1);
+        packed = c.candidates_are_known.ensures.packed q found.0 (c.members_are_candidates.ensures q found.0 found.1);
         number = found.3;
       },
     )
