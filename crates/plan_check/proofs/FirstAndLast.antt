@@ -1,4 +1,4 @@
--- The first and the last place where a fact is lacking: in lists of two parts, and that each is one.
+-- The first and the last place where a fact is lacking: in lists of one element and of two parts, and that each is one.
 use Rattle.std.proofs.Common.{◌≡◌, ℕ, suc, ◌+◌, ◌-◌, ◌<◌, ◌↔◌, Bool, true, false, IsTrue, List, [], ◌∷◌, ◌++◌, length}
 use Rattle.std.proofs.Common.{get_or, Option, None, Some, refl, sym, ap, subst, ◌∙◌, append_assoc, length-append, arith}
 use Rattle.std.proofs.Common.{inl, inr}
@@ -100,62 +100,6 @@ module _ {X : Type 0} (Fact : X → Type 0) where
     lacks = second.lacks;
     others = second.others;
   }
-
-  -- ---- a list as a node and those below it: none, those of one plan, and those of two
-
-  -- the first place, by those of the parts
-  pub first_of_one : (list : List X) (x : X) (right : Bool) (own : Option ℕ) → list ≡ x ∷ [] → (IsTrue right ↔ Fact x)
-      → own ≡ own_place_of right
-      → IsFirst Fact list own
-  first_of_one list x right own parts tells own_is =
-      subst (λ zs. IsFirst Fact zs own) (sym parts)
-      (subst (λ place. IsFirst Fact (x ∷ []) place) (sym own_is) (first_alone x right tells))
-
-  pub first_of_more : (list : List X) (x : X) (ys : List X) (right : Bool) (own below found : Option ℕ) → list ≡ x ∷ ys
-      → (IsTrue right ↔ Fact x)
-      → own ≡ own_place_of right → IsFirst Fact ys below → found ≡ sooner_of own 1 below → IsFirst Fact list found
-  first_of_more list x ys right own below found parts tells own_is first found_is =
-      let root = first_of_one (x ∷ []) x right own refl tells own_is in
-      let all = first_joined (x ∷ []) ys own 1 below (omega arith) root first in
-      subst (λ zs. IsFirst Fact zs found) (sym parts) (subst (λ place. IsFirst Fact (x ∷ ys) place) (sym found_is) all)
-
-  pub first_of_both : (list : List X) (x : X) (ys zs : List X) (right : Bool) (own left second below found : Option ℕ)
-      (count : ℕ) → list ≡ x ∷ (ys ++ zs)
-      → (IsTrue right ↔ Fact x) → own ≡ own_place_of right → count ≡ length ys → IsFirst Fact ys left
-      → IsFirst Fact zs second
-      → below ≡ sooner_of left count second → found ≡ sooner_of own 1 below → IsFirst Fact list found
-  first_of_both list x ys zs right own left second below found count parts tells own_is many first other below_is
-      found_is =
-      let joined = first_joined ys zs left count second many first other in
-      first_of_more list x (ys ++ zs) right own below found parts tells own_is
-      (subst (λ place. IsFirst Fact (ys ++ zs) place) (sym below_is) joined) found_is
-
-  -- the last place, by those of the parts
-  pub last_of_one : (list : List X) (x : X) (right : Bool) (own : Option ℕ) → list ≡ x ∷ [] → (IsTrue right ↔ Fact x)
-      → own ≡ own_place_of right
-      → IsLast Fact list own
-  last_of_one list x right own parts tells own_is =
-      subst (λ zs. IsLast Fact zs own) (sym parts)
-      (subst (λ place. IsLast Fact (x ∷ []) place) (sym own_is) (last_alone x right tells))
-
-  pub last_of_more : (list : List X) (x : X) (ys : List X) (right : Bool) (own below found : Option ℕ) → list ≡ x ∷ ys
-      → (IsTrue right ↔ Fact x)
-      → own ≡ own_place_of right → IsLast Fact ys below → found ≡ later_of own 1 below → IsLast Fact list found
-  last_of_more list x ys right own below found parts tells own_is last found_is =
-      let root = last_of_one (x ∷ []) x right own refl tells own_is in
-      let all = last_joined (x ∷ []) ys own 1 below (omega arith) root last in
-      subst (λ zs. IsLast Fact zs found) (sym parts) (subst (λ place. IsLast Fact (x ∷ ys) place) (sym found_is) all)
-
-  pub last_of_both : (list : List X) (x : X) (ys zs : List X) (right : Bool) (own left second below found : Option ℕ)
-      (count : ℕ) → list ≡ x ∷ (ys ++ zs)
-      → (IsTrue right ↔ Fact x) → own ≡ own_place_of right → count ≡ length ys → IsLast Fact ys left
-      → IsLast Fact zs second
-      → below ≡ later_of left count second → found ≡ later_of own 1 below → IsLast Fact list found
-  last_of_both list x ys zs right own left second below found count parts tells own_is many last other below_is
-      found_is =
-      let joined = last_joined ys zs left count second many last other in
-      last_of_more list x (ys ++ zs) right own below found parts tells own_is
-      (subst (λ place. IsLast Fact (ys ++ zs) place) (sym below_is) joined) found_is
 
   -- ---- there is one
 

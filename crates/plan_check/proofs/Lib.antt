@@ -1,4 +1,5 @@
 mod FirstAndLast
+mod NodeAndBelow
 mod Lists
 mod Trees
 mod OneTree

@@ -4,15 +4,15 @@ use Rattle.plan_tree.specs.declared.plan.Plan.{Plan}
 use Rattle.plan_check.specs.Preorder.{nodes_of}
 use Rattle.plan_check.specs.Nodes.{IsNodeOf}
 use Rattle.plan_check.specs.Passes.{IsFirst}
-use Rattle.plan_check.proofs.FirstAndLast.{first_of_one, first_of_more, first_of_both}
+use Rattle.plan_check.proofs.NodeAndBelow.{first_by_parts, place_of_one, place_of_more, place_of_both}
 use Rattle.plan_check.proofs.Trees.{nodes_at_leaf, nodes_at_over, nodes_at_two}
 use Rattle.plan_check.proofs.passes.+first_unknown.Goals as goal
 
 -- there is one node
 pub returns-in-Leaf-clause-first : goal.returns-in-Leaf-clause-first
 returns-in-Leaf-clause-first t c =
-    first_of_one (IsNodeOf c.args.query.now) (nodes_of c.args.plan.now) c.root.result c.is_node_of.result
-    c.own_place-own.result
+    place_of_one (first_by_parts (IsNodeOf c.args.query.now)) (nodes_of c.args.plan.now) c.root.result
+    c.is_node_of.result c.own_place-own.result
     (nodes_at_leaf c.args.plan.now c.in-Leaf.field-0 c.root.result c.in-Leaf.is c.root.ensures.value)
     c.is_node_of.ensures c.own_place-own.ensures
 
@@ -24,7 +24,7 @@ returns-in-Over-clause-first t c =
     c.root.ensures.value in
     let below = subst (λ (p : Plan). IsFirst (IsNodeOf q) (nodes_of p) c.first_unknown.result) c.deref.ensures
     c.first_unknown.ensures.first in
-    first_of_more (IsNodeOf q) (nodes_of c.args.plan.now) c.root.result (nodes_of c.in-Over.kid.value)
+    place_of_more (first_by_parts (IsNodeOf q)) (nodes_of c.args.plan.now) c.root.result (nodes_of c.in-Over.kid.value)
     c.is_node_of.result c.own_place-own.result
     c.first_unknown.result c.sooner.result parts c.is_node_of.ensures c.own_place-own.ensures below c.sooner.ensures
 
@@ -39,7 +39,7 @@ returns-in-Two-clause-first t c =
     let right = subst (λ (p : Plan). IsFirst (IsNodeOf q) (nodes_of p) c.first_unknown-second.result)
     c.deref-in-Two-2.ensures c.first_unknown-second.ensures.first in
     let many = c.size.ensures ∙ ap (λ (p : Plan). length (nodes_of p)) c.deref-in-Two-3.ensures in
-    first_of_both (IsNodeOf q) (nodes_of c.args.plan.now) c.root.result (nodes_of c.in-Two.left.value)
+    place_of_both (first_by_parts (IsNodeOf q)) (nodes_of c.args.plan.now) c.root.result (nodes_of c.in-Two.left.value)
     (nodes_of c.in-Two.right.value) c.is_node_of.result
     c.own_place-own.result c.first_unknown-first.result c.first_unknown-second.result c.sooner-in-Two.result
     c.sooner-in-Two-2.result c.size.result parts
