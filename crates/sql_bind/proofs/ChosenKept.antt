@@ -96,10 +96,8 @@ module _ (scope : List FromTable) (n : ℕ) where
   call_kept func (Some reference) what takes e =
       let bound = seen_ok (λ c. call n (function_of func) (Some c)) (column_of scope reference) what e in
       subst (IsWhat scope n) bound.2 (record {
-        there =
-            and_from (has_column 0 scope bound.0) true (column_there scope reference bound.0 bound.1) refl;
-        number =
-            eq-eqb n n refl;
+        there = and_from (has_column 0 scope bound.0) true (column_there scope reference bound.0 bound.1) refl;
+        number = eq-eqb n n refl;
         argument = some_taken func reference takes;
       })
 
@@ -108,10 +106,8 @@ module _ (scope : List FromTable) (n : ℕ) where
   what_kept (exprs.Column reference) what takes e =
       let bound = seen_ok (λ c. whats.Column reference.at c) (column_of scope reference) what e in
       subst (IsWhat scope n) bound.2 (record {
-        there =
-            and_from (has_column 0 scope bound.0) true (column_there scope reference bound.0 bound.1) refl;
-        number =
-            refl;
+        there = and_from (has_column 0 scope bound.0) true (column_there scope reference bound.0 bound.1) refl;
+        number = refl;
         argument = refl;
       })
   what_kept (exprs.Agg func arg) what takes e = call_kept func arg what takes e

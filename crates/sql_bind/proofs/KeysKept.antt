@@ -148,8 +148,7 @@ head_case base n number agg aggs true rest is other found later =
     elim (or_cases (is_some agg.name && true) rest found) [
       | inl named ↦ record {
         low = omega (arith, first, same);
-        named =
-            rw here (and_parts (is_some agg.name) true named).0;
+        named = rw here (and_parts (is_some agg.name) true named).0;
       }
       | inr tail ↦ absurd (omega (arith, (later tail).low, first, same))
     ]

@@ -16,6 +16,7 @@ pub mod DistinctKept
 pub mod KeysKept
 pub mod RootKept
 pub mod Named
+pub mod NamedThere
 pub mod Valid
 pub mod Outcome
 pub mod MeaningLemmas

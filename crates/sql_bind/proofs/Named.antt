@@ -47,8 +47,7 @@ made scope chosen compared group keys = record {
   scope = scope;
   chosen = chosen;
   compared = compared;
-  group =
-      group;
+  group = group;
   keys = keys;
 }
 

@@ -26,7 +26,8 @@ use Rattle.sql_bind.specs.Used.{used_in}
 use Rattle.sql_bind.specs.Columns.{column}
 use Rattle.sql_bind.proofs.ItemsKept.{IsFromCatalogue}
 use Rattle.sql_bind.proofs.Named.{parts_bound}
-use Rattle.sql_bind.proofs.Valid.{IsValid, all_used, used_is, valid}
+use Rattle.sql_bind.proofs.NamedThere.{all_used, used_is}
+use Rattle.sql_bind.proofs.Valid.{IsValid, valid}
 
 within_1000 : (n : ℕ) → (nat_le 1 n && nat_le n 1000) ≡ true → n ≤ 1000
 within_1000 n e = let high = and_parts (nat_le 1 n) (nat_le n 1000) e in grind (arith, nat_tests)

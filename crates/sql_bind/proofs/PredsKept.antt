@@ -98,8 +98,7 @@ module _ (used : List UsedColumn) where
       and_from (has_argument (items_of used) (record {
         func = func;
         arg = option_map (number_of used) arg;
-        name =
-            name;
+        name = name;
       })) true (argument_in name number func arg takes used_there) refl
 
   -- each has the argument that it takes

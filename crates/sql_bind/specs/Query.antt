@@ -50,8 +50,7 @@ table_of used table t =
       alias = t.alias;
       rows = t.info.rows;
       hashed = hashed_of used table t.info.placing;
-      indexes =
-          indexes_of used table t.info.indexes;
+      indexes = indexes_of used table t.info.indexes;
     }
 
 -- the tables, which begin at this place of FROM
@@ -70,8 +69,7 @@ abbrev pub pred_of : List UsedColumn → Compared → Pred
 pred_of used compared = record {
   left = number_of used compared.left;
   op = compared.op;
-  right =
-      operand_of used compared.right;
+  right = operand_of used compared.right;
 }
 
 abbrev pub preds_of : List UsedColumn → List Compared → List Pred

@@ -1,4 +1,4 @@
-use Rattle.sql_bind.proofs.Valid.{columns_of_binding}
+use Rattle.sql_bind.proofs.NamedThere.{columns_of_binding}
 use Rattle.sql_bind.proofs.laws.used_columns_are_known.Goals as goal
 
 -- the columns that are named are there, and so are those that are listed
