@@ -8,4 +8,5 @@ pub mod Drafts
 pub mod FirstPieces
 pub mod Values
 pub mod Made
+pub mod SpelledPieces
 pub mod Spelling

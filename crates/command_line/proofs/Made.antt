@@ -73,8 +73,7 @@ input_parts (Some n) (Some t) (Some s) input is =
     let made : record { number = n; tables = t; shape = s } ≡ input = cc in
     record {
       its_number = ap (λ (i : GenInput). Some i.number) made;
-      its_tables =
-          ap (λ (i : GenInput). Some i.tables) made;
+      its_tables = ap (λ (i : GenInput). Some i.tables) made;
       its_shape = ap (λ (i : GenInput). Some i.shape) made;
     }
 

@@ -5,6 +5,5 @@ use Rattle.command_line.proofs.laws.commands_are_spelled.Goals as goal
 pub returns : goal.returns
 returns c = record {
   reads = λ words command. (spelled_read words command, read_spelled words command);
-  one =
-      one_command;
+  one = one_command;
 }
