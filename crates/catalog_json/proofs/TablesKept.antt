@@ -55,8 +55,7 @@ named_table_kept t name d table named e =
       rows = rows.0;
       placing = lists.0;
       columns = columns.0;
-      indexes =
-          lists.1;
+      indexes = lists.1;
     })) table columns.2 in
     let width : length (texts columns.0) ≡ length columns.0 = length-map columns.0 (λ c. c.name) in
     let are = columns_kept t (get (codes "columns") d) columns.0 columns.1 in
@@ -66,8 +65,7 @@ named_table_kept t name d table named e =
       rows = rows.0;
       placing = lists.0.0;
       columns = columns.0;
-      indexes =
-          lists.0.1;
+      indexes = lists.0.1;
     } in
     subst (IsTableNamed name) {x = made} (ok_is made table lists.2) (record {
       is = record {

@@ -75,8 +75,7 @@ module _ (q : Query) (e : PhysicalExpr) (wanted : Request) (mode : ℕ) where
         record {
           mode = mode;
           line = line;
-          is_alternative =
-              is.is_alternative;
+          is_alternative = is.is_alternative;
           is_asked = asked;
         },
         refl,

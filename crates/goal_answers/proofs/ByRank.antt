@@ -24,8 +24,7 @@ module _ (q : Query) (answers : List Answered) where
   pub told_below : (lower rank : ℕ) → lower ≤ rank → AreToldBelow q rank answers → AreToldBelow q lower answers
   told_below lower rank most told = record {
     goals = told.goals;
-    told =
-        λ k d within goal names below. told.told k d within goal names (omega (arith, most, below));
+    told = λ k d within goal names below. told.told k d within goal names (omega (arith, most, below));
   }
 
   -- a child has a lesser rank, so its answer is told
@@ -99,6 +98,5 @@ module _ (q : Query) (from : ℕ) (words : List ℕ) where
       let (k, within, at) = goals.complete goal is_goal in
       passed k within goal (record {
         is_goal = is_goal;
-        number =
-            sym (get_or_default words k 0 (goal_word goal) within ∙ at);
+        number = sym (get_or_default words k 0 (goal_word goal) within ∙ at);
       })

@@ -45,8 +45,7 @@ module _ (q : Query) (group : KeyParts) (wanted : Request) (place : ℕ) where
       record {
         e = there.0;
         is_there = there.1;
-        is =
-            record { among = among_at (enforcers_of wanted) place there.0 there.1; is = there.2 };
+        is = record { among = among_at (enforcers_of wanted) place there.0 there.1; is = there.2 };
       }
 
   -- what it asks for is a goal of a lesser rank

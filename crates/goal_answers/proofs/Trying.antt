@@ -48,6 +48,5 @@ module _ (q : Query) (group : KeyParts) (wanted : Request) (Those : NodeKind →
         set = best.set;
         has = λ node is. best.has node (fewer node is);
         within = best.within;
-        is_best =
-            best.is_best;
+        is_best = best.is_best;
       }

@@ -72,8 +72,7 @@ pub appends_inserted : (Kind : GoalKind → Type 0) (old new : List GoalKind) �
     → AppendsGoals Kind old new
 appends_inserted Kind old new inserts = record {
   collects = inserts.collects;
-  rises =
-      λ rises behind. inserts.rises rises;
+  rises = λ rises behind. inserts.rises rises;
 }
 
 -- children of a goal are those of the goal that it is, whether they came to the end or to their places

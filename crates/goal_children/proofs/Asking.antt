@@ -55,8 +55,7 @@ module _ (q : Query) where
   unordered_fits group dist fits = record {
     dist = fits;
     numbered = omega arith;
-    order =
-        λ k d below. absurd (omega (arith, below));
+    order = λ k d below. absurd (omega (arith, below));
   }
 
   plain_of_fits : (group : KeyParts) (dist : GivenDist) → Fits q group (request (plain_of dist) 0)
@@ -194,8 +193,7 @@ module _ (q : Query) where
       let alternative : IsAlternative q e (plain_request line) asks.mode line =
       record {
         is_line = asks.is_alternative.is_line;
-        serves =
-            plain_served line children wanted asks.is_alternative.serves;
+        serves = plain_served line children wanted asks.is_alternative.serves;
       } in
       let fit = asks_what_fits e asks.mode line (plain_request line) candidate (plain_fits e.group line) alternative in
       wish_numbered line children wanted group below numbered fit asks.is_asked

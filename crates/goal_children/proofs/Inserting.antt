@@ -147,8 +147,7 @@ pub inserts_both : (S T : GoalKind → Type 0) (old middle new : List GoalKind) 
 inserts_both S T old middle new first second =
     record {
       collects = collects_both S T old middle new first.collects second.collects;
-      rises =
-          λ rises. second.rises (first.rises rises);
+      rises = λ rises. second.rises (first.rises rises);
     }
 
 -- and are one kind

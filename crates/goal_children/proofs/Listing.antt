@@ -69,8 +69,7 @@ module _ (q : Query) (words : List ℕ) (goal : GoalKind) where
   pub up_to_none : AreUpTo None []
   up_to_none = record {
     rises = λ k within. absurd (omega (arith, within));
-    exact =
-        λ child. (λ (k, within, is). absurd (omega (arith, within)), λ is. absurd is.1);
+    exact = λ child. (λ (k, within, is). absurd (omega (arith, within)), λ is. absurd is.1);
   }
 
   -- with the next one

@@ -33,8 +33,7 @@ module _ (q : Query) where
     pub closure_listed : (words : List ℕ) → IsClosureOf q words → (e : ExprParts) → IsMember q e → IsListedIn q words e
     closure_listed words closure e member = record {
       candidate = candidates e member;
-      listed =
-          closure.complete e member;
+      listed = closure.complete e member;
     }
 
   -- and the other way round, since a word is that of one candidate
@@ -67,8 +66,7 @@ module _ (q : Query) where
             member = given _ can.member;
             of_group = can.of_group;
             mode = can.mode;
-            serves =
-                can.serves;
+            serves = can.serves;
           },
           is,
         ))

@@ -34,15 +34,13 @@ module _ (q : Query) (group_below : (e : ExprParts) (g : KeyParts) → IsCandida
   child_over words (ExpE e) child over (inl (group, below, is)) =
       of_group (Exp group) child is (record {
         of_candidate = group_below e group over.of_candidate below;
-        numbered =
-            tt;
+        numbered = tt;
       })
   child_over words (ExpE e) child over (inr (rule, (tried, is))) =
       of_group (Xf e rule) child is (record { of_candidate = over.of_candidate; numbered = tt })
   child_over words (Xf e rule) child over (group, associates, left, is) =
       of_group (Exp group) child is (record {
-        of_candidate =
-            group_below e group over.of_candidate (left_child (children_of e.operator) group left);
+        of_candidate = group_below e group over.of_candidate (left_child (children_of e.operator) group left);
         numbered = tt;
       })
   child_over words (Imp group) child over (inl is) =
@@ -52,8 +50,7 @@ module _ (q : Query) (group_below : (e : ExprParts) (g : KeyParts) → IsCandida
   child_over words (ImpE e) child over (inl (group, below, is)) =
       of_group (Imp group) child is (record {
         of_candidate = group_below e group over.of_candidate below;
-        numbered =
-            tt;
+        numbered = tt;
       })
   child_over words (ImpE e) child over (inr (rule, (tried, is))) =
       of_group (Xf e rule) child is (record { of_candidate = over.of_candidate; numbered = tt })
@@ -64,8 +61,7 @@ module _ (q : Query) (group_below : (e : ExprParts) (g : KeyParts) → IsCandida
   child_over words (Opt group wanted) child over (inr (inr (e, can, is))) =
       of_group (Opt group e.below) child is (record {
         of_candidate = over.of_candidate;
-        numbered =
-            enforcer_numbered q wanted e over.numbered can.among;
+        numbered = enforcer_numbered q wanted e over.numbered can.among;
       })
   child_over words (OptE e wanted) child over (group, below, asks, is) =
       of_group (Opt group below) child is (record {
@@ -87,8 +83,7 @@ module _ (q : Query) (few_lists : length (lists_of q) ≤ 60) (few_orders : leng
   pub request_in_range : (wanted : Request) → IsNumberedRequest q wanted → requests.IsInRange wanted
   request_in_range wanted numbered = record {
     list = dist_in_range wanted.dist numbered.dist;
-    numbered =
-        omega (arith, few_orders, numbered.order);
+    numbered = omega (arith, few_orders, numbered.order);
   }
 
   module _ (known_group : (g : KeyParts) → IsGroup q g → keys.IsInRange g) (packed : (e : ExprParts) → IsCandidate q e

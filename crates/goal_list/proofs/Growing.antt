@@ -29,8 +29,7 @@ module _ (q : Query) where
     kept = λ w has. has;
     goals = λ w has. inl has;
     longer = omega arith;
-    same =
-        λ no_longer. refl;
+    same = λ no_longer. refl;
   }
 
   -- what comes and then comes again

@@ -35,8 +35,7 @@ module _ (q : Query) (group : KeyParts) (is_goal : IsGoal q (Exp group)) (
       record {
         member = result e other rule n is_in.member has;
         of_group = has.group ∙ is_in.of_group;
-        logical =
-            given_kind rule e None n other has ∙ exploring;
+        logical = given_kind rule e None n other has ∙ exploring;
       }
   result_in e other is_in rule exploring (inr (bound, n, member_bound, has)) =
       record {
@@ -58,8 +57,7 @@ module _ (q : Query) (group : KeyParts) (is_goal : IsGoal q (Exp group)) (
   asked_word e is_in = record {
     goal = Exp group;
     member = e;
-    names =
-        record { is_goal = is_goal; number = refl };
+    names = record { is_goal = is_goal; number = refl };
     asks = is_in;
     number = refl;
   }

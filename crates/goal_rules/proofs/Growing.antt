@@ -29,8 +29,7 @@ module _ (q : Query) (
   found_from rule e other bound n has is_result is_wanted grown =
       let leads : LeadsTo q e other = record {
         rule = rule;
-        exploring = sym (explored rule e bound n other has)
-            ∙ is_wanted;
+        exploring = sym (explored rule e bound n other has) ∙ is_wanted;
         applies = applies rule e bound n other has;
         is_result = is_result;
       } in

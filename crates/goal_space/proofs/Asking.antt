@@ -108,8 +108,7 @@ implemented q e (child_origin before group member child) =
     let of_child = (implemented q before member).below group child in
     record {
       of_group = of_child;
-      below = logical_below q (origin_of q group) (child_origin before group member child)
-          refl of_child;
+      below = logical_below q (origin_of q group) (child_origin before group member child) refl of_child;
     }
 implemented q e (result before other rule n member has) =
     let earlier = implemented q before member in
@@ -129,8 +128,7 @@ implemented q e (bound_result before bound other rule n member member_bound has)
     let logical = bound_given q rule before.group bound n before.operator e.operator has.gives in
     record {
       of_group = of_same;
-      below = logical_below q e (bound_result before bound e rule n member member_bound has)
-          logical of_same;
+      below = logical_below q e (bound_result before bound e rule n member member_bound has) logical of_same;
     }
 
 pub member_asked : (q : Query) (e : ExprParts) → IsMember q e → (goal : GoalKind) × IsGoal q goal × AsksFor q goal e

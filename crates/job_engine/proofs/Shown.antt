@@ -32,8 +32,7 @@ module _ (q : Query) (room : ℕ) (looks : List (ℕ × ℕ)) where
         goal = goal;
         other = child;
         names = record { is_goal = is_goal; number = refl };
-        is_child =
-            is_child;
+        is_child = is_child;
         number = refl;
       })
 
@@ -49,8 +48,7 @@ module _ (q : Query) (room : ℕ) (looks : List (ℕ × ℕ)) where
         member = e;
         names = record { is_goal = is_goal; number = refl };
         asks = asks;
-        number =
-            refl;
+        number = refl;
       }))
   entries_shown root asked word (inr (goal, names)) =
       subst (ShowsEntry (meaning_of q) room looks) names.number

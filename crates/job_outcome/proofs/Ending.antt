@@ -112,8 +112,7 @@ module _ (q : Query) (cap place : ℕ) (m : Mem) (done : List Ended) (closed : C
           among = among;
           its_goal = ap m.cell at;
           its_worker = omega (arith, stored);
-          few =
-              omega (arith, stored, recorded.few);
+          few = omega (arith, stored, recorded.few);
         }
 
     finishers : AllZip (IsFinisher m.cell done) (map goal_in finished) (map (λ (f : Finished). f.who) finished)

@@ -39,8 +39,7 @@ module _ (q : Query) (room : ℕ) (m : Mem) (its : Searched q room m) where
         goal = goal;
         other = child;
         names = record { is_goal = is_goal; number = sym at };
-        is_child =
-            is_child;
+        is_child = is_child;
         number = refl;
       })
 
@@ -56,8 +55,7 @@ module _ (q : Query) (room : ℕ) (m : Mem) (its : Searched q room m) where
         member = e;
         names = record { is_goal = is_goal; number = sym at };
         asks = asks;
-        number =
-            refl;
+        number = refl;
       })
 
   -- a closed head is that of a goal of the query

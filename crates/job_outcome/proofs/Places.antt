@@ -34,8 +34,7 @@ goal_in f = f.goal
 pairs_push : (answers : List (ℕ × Answer)) (who : List ℕ) (x : ℕ × Answer) (worker : ℕ) → length answers ≡ length who
     → pairs_of (answers ++ x ∷ []) (who ++ worker ∷ []) ≡ pairs_of answers who ++ record {
       goal = x.0;
-      answer =
-          x.1;
+      answer = x.1;
       who = worker;
     } ∷ []
 pairs_push [] [] x worker same = refl
@@ -51,8 +50,7 @@ pub pairs_next : (answers : List (ℕ × Answer)) (who : List ℕ) (i : ℕ) (x 
     → after ≡ made ++ record {
       goal = (get_or answers i x).0;
       answer = (get_or answers i x).1;
-      who =
-          get_or who i worker;
+      who = get_or who i worker;
     } ∷ []
     → after ≡ pairs_of (take (i + 1) answers) (take (i + 1) who)
 pairs_next answers who i x worker made after same within so_far is =
@@ -61,8 +59,7 @@ pairs_next answers who i x worker made after same within so_far is =
     is ∙ ap (λ l. l ++ record {
       goal = (get_or answers i x).0;
       answer = (get_or answers i x).1;
-      who =
-          get_or who i worker;
+      who = get_or who i worker;
     } ∷ []) so_far
     ∙ sym (pairs_push (take i answers) (take i who) (get_or answers i x) (get_or who i worker) (first ∙ sym second))
     ∙ sym (λ j. pairs_of (take_more answers i x within j) (take_more who i worker (omega (arith, within, same)) j))

@@ -28,8 +28,7 @@ pub have_words : (q : Query) (words : List ℕ) (es : List ExprParts) → ((e : 
     → AreMembers q words es → AreOfWords words es
 have_words q words es packed are = record {
   numbers = are.numbers;
-  packed =
-      λ k d within. packed _ (are.candidates k d within);
+  packed = λ k d within. packed _ (are.candidates k d within);
 }
 
 module _ (words : List ℕ) (es : List ExprParts) (have : AreOfWords words es) where

@@ -23,8 +23,7 @@ pub have_words : (q : Query) (words : List ℕ) (goals : List GoalKind)
     → ((goal : GoalKind) → IsGoalOver q goal → IsInRange goal) → AreGoals q words goals → HaveGoalWords words goals
 have_words q words goals in_range are = record {
   numbers = are.numbers;
-  in_range =
-      λ k d within. in_range _ (are.over k d within);
+  in_range = λ k d within. in_range _ (are.over k d within);
 }
 
 module _ (q : Query) (words : List ℕ) (in_range : (goal : GoalKind) → IsGoalOver q goal → IsInRange goal)
@@ -77,8 +76,7 @@ module _ (q : Query) (members : List ℕ) where
   traced_none text = record {
     traced = [];
     are_goals = refl;
-    children =
-        λ k d within. absurd (omega (arith, within));
+    children = λ k d within. absurd (omega (arith, within));
     adds = sym (append-nil text);
   }
 

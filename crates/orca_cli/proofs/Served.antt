@@ -42,8 +42,7 @@ module _ (command : PlanCommand) (held : List ℕ → Option (List ℕ)) (empty 
         is_named = refl;
         query = query;
         asked = asked;
-        search =
-            search;
+        search = search;
       });
     }
 

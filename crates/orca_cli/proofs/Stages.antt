@@ -114,8 +114,7 @@ unnumbered_answer catalog choices asked given query fault bound too_many not_mem
       fault = fault;
       too_many = too_many;
       not_memory = not_memory;
-      caused =
-          refl;
+      caused = refl;
     } in
     refused_answer catalog choices asked (texts.props_cause fault) given (inr (inr why)) same
 
@@ -131,8 +130,7 @@ unbound_answer catalog choices asked given select fault reading first not_memory
       fault = fault;
       first = first;
       not_memory = not_memory;
-      caused =
-          refl;
+      caused = refl;
     } in
     refused_answer catalog choices asked (texts.bind_cause fault) given (inr (inl why)) same
 
@@ -205,14 +203,12 @@ long_catalog command held before after exceeds =
       fault = catalogs.TooLong;
       first = too_long long.bytes long.long;
       not_memory = λ same. cc;
-      caused =
-          refl;
+      caused = refl;
     } in
     catalog_refused refl (record {
       bytes = long.bytes;
       told = long.told;
-      cause =
-          texts.catalog_cause catalogs.TooLong;
+      cause = texts.catalog_cause catalogs.TooLong;
       no_catalog = none;
       line = refl;
     })

@@ -97,13 +97,11 @@ takes port view some_view xs items views _ _ h at =
       view,
       subst (AreHinted items) (sym same) (record {
         below = below_right (capacity_of views) xs items h.below;
-        known =
-            h.known;
+        known = h.known;
       }),
       record {
         stays = refl;
-        below = subst (λ c. AreBelow c xs) (sym is)
-            (below_left (capacity_of views) xs items h.below);
+        below = subst (λ c. AreBelow c xs) (sym is) (below_left (capacity_of views) xs items h.below);
       },
     )
 
@@ -114,14 +112,12 @@ pops port view some_view x items views h at =
     let is : view ≡ capacity_of views = known_capacity (items ++ x ∷ []) views port view some_view h at in (
       view,
       subst (AreHinted items) (sym same) (record {
-        below =
-            below_left (capacity_of views) items (x ∷ []) h.below;
+        below = below_left (capacity_of views) items (x ∷ []) h.below;
         known = h.known;
       }),
       record {
         stays = refl;
-        below = subst (λ c. AreBelow c (x ∷ [])) (sym is)
-            (below_right (capacity_of views) items (x ∷ []) h.below);
+        below = subst (λ c. AreBelow c (x ∷ [])) (sym is) (below_right (capacity_of views) items (x ∷ []) h.below);
       },
     )
 

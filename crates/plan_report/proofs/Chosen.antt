@@ -64,8 +64,7 @@ module _ (q : Query) (at : Linked) (fits : Fits q at.group at.wanted) where
           choice = least.choice.0;
           is_node = record {
             number = ap (λ b. b.node.0) same;
-            in_range =
-                roots props is_props at.group at.wanted plan fits least.choice.0;
+            in_range = roots props is_props at.group at.wanted plan fits least.choice.0;
           };
         },
         ap (λ b. b.cost) same,

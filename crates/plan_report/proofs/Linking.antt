@@ -95,8 +95,7 @@ module _ (q : Query) (falls : RanksFall q) (at : Linked) (goal : IsGoal q (goal_
                     member = member;
                     of_group = of_group;
                     mode = mode;
-                    serves =
-                        (line, alternative);
+                    serves = (line, alternative);
                   },
                   refl,
                 )))) (

@@ -153,8 +153,7 @@ module _ (Member : ExprParts → Type 0) (q : Query) (settled : AreSettled Membe
             | inr (e, replaces) ↦
                 at_replaced node kid e replaces (record {
                   valid = serves.valid.0;
-                  of_group =
-                      serves.of_group;
+                  of_group = serves.of_group;
                   satisfies = replaces.satisfies;
                 })
                 (is.enforcers e replaces.among)
@@ -190,8 +189,7 @@ module _ (Member : ExprParts → Type 0) (q : Query) (settled : AreSettled Membe
               at_most = facts.0;
               alike = facts.1;
               over_plans = over_plans;
-              beats =
-                  beats;
+              beats = beats;
             }
         settled_below e mode kids line of_children serve valid (inr lacks) =
             absurd (lacks_kids (groups_of (physical_children e.operator)) (asked_of line wanted) kids of_children serve

@@ -169,8 +169,7 @@ module _ (q : Query) (group left : KeyParts) (kept : HasItemsOf q group left) wh
       → LeftWithin q group left dist order
   items_within dist order fits = record {
     dist_within = dist_within dist fits.dist_fits;
-    order_within =
-        order_within order fits.order_fits;
+    order_within = order_within order fits.order_fits;
   }
 
 -- the item of an ascending element
@@ -233,6 +232,5 @@ pub plain_fits : (q : Query) (group : KeyParts) (dist : Dist) → DistFits q gro
 plain_fits q group dist fits = record {
   dist = fits;
   numbered = (no_order_fits q group).0;
-  order =
-      (no_order_fits q group).1;
+  order = (no_order_fits q group).1;
 }

@@ -166,8 +166,7 @@ module _ (q : Query) (a b : ℕ) (apart : AreApart a b) where
       subst (AreSides q left right) same (record {
         in_left = in_left;
         in_right = in_right;
-        left_joined =
-            joined.0;
+        left_joined = joined.0;
         right_joined = joined.1;
       }))
       (λ none.
@@ -182,8 +181,7 @@ module _ (q : Query) (a b : ℕ) (apart : AreApart a b) where
       subst (AreSides q left right) same (record {
         in_left = in_left;
         in_right = in_right;
-        left_joined =
-            joined.1;
+        left_joined = joined.1;
         right_joined = joined.0;
       }))
       (λ neither is. let never : None ≡ Some sides = is in cc))

@@ -162,8 +162,7 @@ module _ (Member : ExprParts → Type 0) (q : Query) (known : AreKnown Member q)
       (record {
         valid = (valid, valid_too, (member, joined.0));
         of_group = serves.of_group;
-        satisfies =
-            joined.1;
+        satisfies = joined.1;
       })) in
       omega (arith, below, root.nodes, node_small (native_shape q e mode (kid_of q left ∷ kid_of q right ∷ [])))
 

@@ -96,8 +96,7 @@ line_joins q (lines.Beside dist order request) (arities.Two left right) (first â
     let joined = left_joins q dist order first.given wanted serves.serves kids_serve.0 in (
       record {
         of_children = two_children first.group second.group left right of_children.0 of_children.1.0;
-        left =
-            joined.0;
+        left = joined.0;
         right = kids_serve.1.0;
       },
       joined.1,

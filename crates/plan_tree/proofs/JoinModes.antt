@@ -125,8 +125,7 @@ module _ (q : Query) (left right : KeyParts) (wanted : Request) where
               fits = record {
                 dist = suits_fit q left wanted.dist suits;
                 numbered = omega arith;
-                order =
-                    none_lies q left;
+                order = none_lies q left;
               };
             },
           )
@@ -160,8 +159,7 @@ module _ (q : Query) (left right : KeyParts) (wanted : Request) where
               fits = record {
                 dist = suits_fit q left wanted.dist suits;
                 numbered = order.numbered;
-                order =
-                    order.lies_in;
+                order = order.lies_in;
               };
             },
           )
@@ -194,8 +192,7 @@ module _ (q : Query) (left right : KeyParts) (wanted : Request) where
             fits = record {
               dist = suits_fit q left wanted.dist suits;
               numbered = order.numbered;
-              order =
-                  order.lies_in;
+              order = order.lies_in;
             };
           },
         )

@@ -108,8 +108,7 @@ module _ (IsWanted : ℕ → Type 0) (made links : List Link) where
       → AddsTrueLinks (WantedBelow IsWanted (bound + 1)) made links
   adds_same bound unwanted adds = record {
     made_first = adds.made_first;
-    true_last =
-        true_links_same IsWanted bound _ unwanted adds.true_last;
+    true_last = true_links_same IsWanted bound _ unwanted adds.true_last;
   }
 
   -- all that are wanted lie below the bound

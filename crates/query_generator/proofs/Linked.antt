@@ -49,8 +49,7 @@ module _ (count : ℕ) (links : List Link) (lesser : ℕ → ℕ)
 none_wanted : (IsWanted : ℕ → Type 0) → ((t : ℕ) → IsWanted t → ⊥) → AreTrueLinks IsWanted []
 none_wanted IsWanted none = record {
   ascending = refl;
-  tables =
-      λ t. (λ joined. absurd (false≢true joined), λ wanted. absurd (none t wanted));
+  tables = λ t. (λ joined. absurd (false≢true joined), λ wanted. absurd (none t wanted));
 }
 
 pub are_links : (tables : List QueryTable) (items : List Item) (preds : List Pred) (lesser : ℕ → ℕ)

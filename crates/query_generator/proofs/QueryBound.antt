@@ -64,8 +64,7 @@ module _ (select : Select) (catalog : Catalog) where
         scope = scope;
         chosen = chosen;
         compared = compared;
-        group =
-            group;
+        group = group;
         keys = keys;
       })
   unfolding parts_of
@@ -122,8 +121,7 @@ module _ (number tables : â„•) (shape : GenShape) (select : Select) (some : 1 â‰
       record {
         parts = parts;
         no_fault = judged_good select catalog parts is_parts refl joined.good.few_items;
-        good =
-            joined.good;
+        good = joined.good;
       }
 
   bound_links : AreLinksOf bound_well.parts (links_by bound_well.parts)

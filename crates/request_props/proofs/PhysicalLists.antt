@@ -107,8 +107,7 @@ module _ (q : Query) (group : KeyParts) (words : List ℕ) where
             sound = All-push (IsPhysicalOf q group) found (with_word new) so_far.sound
                 (record {
                   candidate = subst (IsCandidate q) same candidate;
-                  of_group =
-                      sym (ap (λ (x : ExprParts). x.group) same) ∙ of_group;
+                  of_group = sym (ap (λ (x : ExprParts). x.group) same) ∙ of_group;
                   number = refl;
                 });
             passed = λ word there. elim (Contains-push_cases (words_in found) (word_of (expr_of new)) word

@@ -81,8 +81,7 @@ weaker p = record {
   whole = p.whole;
   calls_are = p.calls_are;
   closed = p.closed;
-  line = λ rest
-      m. p.line rest tt;
+  line = λ rest m. p.line rest tt;
   plain = p.plain;
 }
 

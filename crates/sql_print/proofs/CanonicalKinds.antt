@@ -48,8 +48,7 @@ halves (u ∷ us) (k ∷ ks) ls e =
       front = u ∷ h.front;
       back = h.back;
       whole = ap (λ (ts : List Token). u ∷ ts) h.whole;
-      front_is =
-          (let f = h.front_is in cc);
+      front_is = (let f = h.front_is in cc);
       back_is = h.back_is;
     }
 

@@ -130,8 +130,7 @@ key_again k us e =
         value = c.0;
         whole = h.whole;
         first = c.1;
-        second =
-            direction_again c.0 k.desc h.back h.back_is;
+        second = direction_again c.0 k.desc h.back h.back_is;
       },
       ap (λ (l : ColRef). record { col = l; desc = k.desc }) c.2,
     )

@@ -148,8 +148,7 @@ made u v i f w g o items from preds group_by order_by s m is fs ws gs os = (
               value = order_by;
               whole = sym (append-nil o);
               first = os;
-              second =
-                  inr refl;
+              second = inr refl;
             };
           };
         };

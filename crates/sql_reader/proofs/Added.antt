@@ -140,6 +140,5 @@ found_some (Some p) kind more e =
     record {
       piece = p.0;
       is = rw (ap (λ (x : Option Kind × List ℕ). x.1) q) refl;
-      spells = ap
-          (λ (x : Option Kind × List ℕ). x.0) q;
+      spells = ap (λ (x : Option Kind × List ℕ). x.0) q;
     }

@@ -108,8 +108,7 @@ at_later at byte bytes f h =
       front = byte ∷ h.front;
       byte = h.byte;
       others = h.others;
-      whole = ap (λ (bs : List ℕ). byte ∷ bs)
-          h.whole;
+      whole = ap (λ (bs : List ℕ). byte ∷ bs) h.whole;
       bad = rw k h.bad;
     }
 

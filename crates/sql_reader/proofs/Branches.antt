@@ -169,8 +169,7 @@ module _ {V X : Type 0} (says : Token → Option V) (IsX : V → List Token → 
           more = y.start.more;
           value = y.start.value;
           member = inr y.start.member;
-          within =
-              y.start.within;
+          within = y.start.within;
         };
       }
 

@@ -50,8 +50,7 @@ moved IsX IsY Over read reads tokens into same (Err (unexpected rest)) a = recor
   goes = record {
     more = a.goes.more;
     value = a.goes.value;
-    member = into (a.front ++ a.goes.more) a.goes.value
-        a.goes.member;
+    member = into (a.front ++ a.goes.more) a.goes.value a.goes.member;
     within = a.goes.within;
   };
   more = a.more;
@@ -68,8 +67,7 @@ moved IsX IsY Over read reads tokens into same (Err (too_many w rest)) a = recor
   goes = record {
     more = a.goes.more;
     value = a.goes.value;
-    member = into (a.front ++ a.goes.more) a.goes.value
-        a.goes.member;
+    member = into (a.front ++ a.goes.more) a.goes.value a.goes.member;
     within = a.goes.within;
   };
   next = a.next;
@@ -103,8 +101,7 @@ behind IsX IsY Over read reads t tokens into same (Err (unexpected rest)) a = re
   goes = record {
     more = a.goes.more;
     value = a.goes.value;
-    member = into (a.front ++ a.goes.more) a.goes.value
-        a.goes.member;
+    member = into (a.front ++ a.goes.more) a.goes.value a.goes.member;
     within = a.goes.within;
   };
   more = a.more;
@@ -119,8 +116,7 @@ behind IsX IsY Over read reads t tokens into same (Err (too_many w rest)) a = re
   goes = record {
     more = a.goes.more;
     value = a.goes.value;
-    member = into (a.front ++ a.goes.more) a.goes.value
-        a.goes.member;
+    member = into (a.front ++ a.goes.more) a.goes.value a.goes.member;
     within = a.goes.within;
   };
   next = a.next;
@@ -163,8 +159,7 @@ same_exact {IsX = IsX} {IsY = IsY} {Over = Over} {read = read} into out e = reco
   start = record {
     more = e.start.more;
     value = e.start.value;
-    member = into e.start.more e.start.value
-        e.start.member;
+    member = into e.start.more e.start.value e.start.member;
     within = e.start.within;
   };
 }

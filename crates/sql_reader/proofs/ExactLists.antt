@@ -166,8 +166,7 @@ module _ {X : Type 0} (mark : Mark) (IsX : List Token → X → Type 0) (First M
       first = first_of_others;
       empty = λ x h. tt;
       again = again_at_none;
-      answers =
-          answers_at_none;
+      answers = answers_at_none;
       start = no_other;
     }
 

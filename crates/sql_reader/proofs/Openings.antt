@@ -48,8 +48,7 @@ begins_key t h =
         value = plain_column n.0;
         whole = refl;
         first = (n.0, n.1, inr refl);
-        second =
-            inr (inr refl);
+        second = inr (inr refl);
       },
     )
 
@@ -72,8 +71,7 @@ begins_pred t h =
             back = [];
             value = operands.Int (pos 0);
             whole = refl;
-            first =
-                inl (pos 0, refl, refl);
+            first = inl (pos 0, refl, refl);
             second = refl;
           },
         );
@@ -91,8 +89,7 @@ argument functions.Count = inr
       back = [];
       value = a_column;
       whole = refl;
-      first =
-          (record { at = 0; text = [] }, refl, inr refl);
+      first = (record { at = 0; text = [] }, refl, inr refl);
       second = refl;
     })
 argument functions.Sum = record {
@@ -100,8 +97,7 @@ argument functions.Sum = record {
   back = [];
   value = a_column;
   whole = refl;
-  first =
-      (record { at = 0; text = [] }, refl, inr refl);
+  first = (record { at = 0; text = [] }, refl, inr refl);
   second = refl;
 }
 argument functions.Min = record {
@@ -109,8 +105,7 @@ argument functions.Min = record {
   back = [];
   value = a_column;
   whole = refl;
-  first =
-      (record { at = 0; text = [] }, refl, inr refl);
+  first = (record { at = 0; text = [] }, refl, inr refl);
   second = refl;
 }
 argument functions.Max = record {
@@ -118,8 +113,7 @@ argument functions.Max = record {
   back = [];
   value = a_column;
   whole = refl;
-  first =
-      (record { at = 0; text = [] }, refl, inr refl);
+  first = (record { at = 0; text = [] }, refl, inr refl);
   second = refl;
 }
 
@@ -152,8 +146,7 @@ begins_item t = by (called_of t) refl
             back = [];
             value = aggregate function a_column;
             whole = refl;
-            first =
-                inl (function, e, call function);
+            first = inl (function, e, call function);
             second = inr refl;
           },
         )
@@ -167,8 +160,7 @@ begins_item t = by (called_of t) refl
           value = column;
           whole = refl;
           first = (n.0, n.1, inr refl);
-          second =
-              refl;
+          second = refl;
         } in (
           [],
           plain_item (exprs.Column column),
@@ -178,7 +170,6 @@ begins_item t = by (called_of t) refl
             value = exprs.Column column;
             whole = refl;
             first = inr expr;
-            second =
-                inr refl;
+            second = inr refl;
           },
         )

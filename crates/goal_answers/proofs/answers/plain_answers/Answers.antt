@@ -24,7 +24,6 @@ returns c =
     let told : AreToldBelow q c.ranks.from known =
     record {
       goals = subst (AreGoalsOf q) (sym c.ranks.invariant.words) c.requires.goals;
-      told =
-          c.ranks.invariant.told;
+      told = c.ranks.invariant.told;
     } in
     subst (AreAnswers q) (sym c.of.ensures) (all_told q known c.ranks.from c.in_default.ensures told)

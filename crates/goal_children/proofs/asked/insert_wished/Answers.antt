@@ -4,8 +4,7 @@ use Rattle.goal_children.proofs.asked.insert_wished.Goals as goal
 
 pub returns-in-Zero : goal.returns-in-Zero
 returns-in-Zero c = record {
-  ok = none_inserted c.args.children c.args.first c.args.second c.args.goals.now.items
-      c.in-Zero.is;
+  ok = none_inserted c.args.children c.args.first c.args.second c.args.goals.now.items c.in-Zero.is;
 }
 
 pub returns-in-One : goal.returns-in-One

@@ -12,8 +12,7 @@ children-init c = record {
   passed = record {
     children = [];
     are = up_to_none c.args.memo.query.now c.args.memo.members.now c.args.goal;
-    so_many =
-        refl;
+    so_many = refl;
   };
 }
 

@@ -8,8 +8,7 @@ use Rattle.goal_children.proofs.choice.asked_goal_from.Goals as goal
 pub modes-init : goal.modes-init
 modes-init c = record {
   within = omega arith;
-  finds =
-      no_modes c.args.memo.query.now c.args.e c.args.wanted c.args.bound;
+  finds = no_modes c.args.memo.query.now c.args.e c.args.wanted c.args.bound;
 }
 
 pub sooner-next-requires-clause-a : goal.sooner-next-requires-clause-a

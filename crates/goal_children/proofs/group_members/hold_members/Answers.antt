@@ -19,7 +19,6 @@ returns-in_ok-put_expressions-in_default c =
       rises = c.words_of.ensures.rises;
       part = c.words_of.ensures.part;
       only = c.words_of.ensures.only;
-      all =
-          c.words_of.ensures.members;
+      all = c.words_of.ensures.members;
     }) in
     record { ok = own; held = own }

@@ -7,7 +7,6 @@ returns c = record {
   over =
       λ q words are. record {
         over = list_over q words (c.goals_are_over_the_query.ensures.goals q) are;
-        ascending =
-            are.ascending;
+        ascending = are.ascending;
       };
 }

@@ -9,8 +9,7 @@ use Rattle.goal_list.proofs.goals.add_all.Goals as goal
 pub loop-goal-init : goal.loop-goal-init
 loop-goal-init c = record {
   grows = grows_not c.args.query.now c.args.found.now;
-  there =
-      λ k d within. absurd (omega (arith, within));
+  there = λ k d within. absurd (omega (arith, within));
 }
 
 -- one more goal is found, and those before it stay

@@ -10,8 +10,7 @@ use Rattle.goal_list.proofs.goals.add_children.Goals.{then-is_err+in_ok-add_chil
 pub loop-word-init : goal.loop-word-init
 loop-word-init c = record {
   grows = grows_not c.args.query.now c.args.found.now;
-  children =
-      λ k below. absurd (omega (arith, below));
+  children = λ k below. absurd (omega (arith, below));
 }
 
 -- the children of one more goal are found, or were before

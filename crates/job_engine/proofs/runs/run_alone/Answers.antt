@@ -18,6 +18,5 @@ end-requires c =
     let w = c.work_alone.ensures.worked in record {
       its = w.its;
       parts = w.parts ∙ c.requires.opening.parts;
-      ended =
-          w.ended;
+      ended = w.ended;
     }

@@ -16,6 +16,5 @@ end-requires g c =
     let w = c.in_ok-worker.ensures in record {
       its = w.its;
       parts = w.parts ∙ c.requires.fresh.opening.parts;
-      ended =
-          w.ended;
+      ended = w.ended;
     }

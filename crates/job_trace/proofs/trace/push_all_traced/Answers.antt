@@ -35,8 +35,7 @@ loop-goal-preserved c =
     record {
       added = added;
       kept = c.in_ok-push_child_lines.ensures.kept;
-      held =
-          c.in_ok-list_children_by_group.ensures.held;
+      held = c.in_ok-list_children_by_group.ensures.held;
     }
 
 pub returns : goal.returns

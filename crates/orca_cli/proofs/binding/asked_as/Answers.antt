@@ -10,8 +10,7 @@ pub returns-in-Ok : goal.returns-in-Ok
 returns-in-Ok c = λ catalog text bound. (
   record {
     bound = bound;
-    within =
-        record { few_lists = c.in-Ok.ensures.ok.few_lists; few_orders = c.in-Ok.ensures.ok.few_orders };
+    within = record { few_lists = c.in-Ok.ensures.ok.few_lists; few_orders = c.in-Ok.ensures.ok.few_orders };
   },
   c.in-Ok.ensures.ok,
 )

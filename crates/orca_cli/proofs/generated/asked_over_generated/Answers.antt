@@ -16,8 +16,7 @@ unreachable-requires c =
       some_tables = c.requires.few.from;
       few_tables = c.requires.few.to;
       text = c.args.text.now;
-      is_text =
-          written;
+      is_text = written;
       reading = written.read;
     } in
     let options : AreOptions c.usual.result.options = c.usual.ensures.allowed.options in
@@ -36,8 +35,7 @@ unreachable-requires c =
     }) in
     let one : OneReading = record {
       reading = c.one_outcome.ensures.reading;
-      fault =
-          c.one_outcome.ensures.fault;
+      fault = c.one_outcome.ensures.fault;
       either = c.one_outcome.ensures.either;
     } in
     let ended = rw c.in-Ended.is at c.in_ok-query.ensures in

@@ -15,8 +15,7 @@ returns c = IfOk-weaker c.crew_text.result _ _
     (λ text is. record {
       goals = c.args.search.goals.now;
       all_goals = c.requires.all_goals;
-      who =
-          c.args.search.who.now;
+      who = c.args.search.who.now;
       one_each = c.requires.one_each;
       below = c.requires.below;
       is_text = is;

@@ -17,8 +17,7 @@ returns c = IfOk-weaker c.trace_text.result _ _
     (λ text is. record {
       members = c.args.search.members.now;
       closure = c.requires.closure;
-      goals =
-          c.args.search.goals.now;
+      goals = c.args.search.goals.now;
       all_goals = c.requires.all_goals;
       is_text = is;
     }) c.trace_text.ensures

@@ -9,6 +9,5 @@ returns c = record {
   rise = middles_rise;
   few = λ (e : ExprParts). omega arith;
   logical_first = logical_first;
-  some =
-      word_some;
+  some = word_some;
 }

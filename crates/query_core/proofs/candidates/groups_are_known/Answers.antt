@@ -10,6 +10,5 @@ returns c = record {
   small = key_small;
   joined = top_group;
   input = input_group;
-  root =
-      root_group;
+  root = root_group;
 }

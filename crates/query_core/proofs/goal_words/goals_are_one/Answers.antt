@@ -8,7 +8,6 @@ returns c = record {
   fields = fields_read;
   small = number_small;
   kinds = kinds_rise;
-  high =
-      λ parts. omega arith;
+  high = λ parts. omega arith;
   low = λ word fits. omega (arith, fits);
 }

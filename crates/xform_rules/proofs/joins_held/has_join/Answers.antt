@@ -44,8 +44,7 @@ returns c = (
       (c.splits_are_complete.ensures.splits c.args.query.now c.args.set c.args.a c.args.b
       (record {
         commute = c.is_on-2.ensures.0 c.if-not-is_on-2.false;
-        associate =
-            c.is_on.ensures.0 c.if-not-is_on.false;
+        associate = c.is_on.ensures.0 c.if-not-is_on.false;
       }) c.requires.known).1 c.requires.falls,
   λ member. refl,
 )

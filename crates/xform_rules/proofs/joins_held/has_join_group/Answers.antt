@@ -32,8 +32,7 @@ returns c = (
       c.splits_are_complete.ensures.groups c.args.query.now c.args.set
       (record {
         commute = c.is_on-2.ensures.0 c.if-not-is_on-2.false;
-        associate =
-            c.is_on.ensures.0 c.if-not-is_on.false;
+        associate = c.is_on.ensures.0 c.if-not-is_on.false;
       }) c.requires,
   λ member. refl,
 )

@@ -12,8 +12,7 @@ sides_of : (c : goal.After-sides_are_known) → AreSides
 sides_of c = record {
   turned = c.sides_are_known.ensures.turned;
   outer = c.sides_are_known.ensures.outer;
-  cut =
-      c.sides_are_known.ensures.cut;
+  cut = c.sides_are_known.ensures.cut;
   tables = c.sides_are_known.ensures.tables;
 }
 

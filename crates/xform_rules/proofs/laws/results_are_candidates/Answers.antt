@@ -10,8 +10,7 @@ returns c =
       turned = known.turned;
       outer = known.outer;
       cut = known.cut;
-      tables =
-          known.tables;
+      tables = known.tables;
     } in
     record {
       candidates = result_candidate sides;

@@ -20,7 +20,6 @@ returns-clause-value c =
 pub returns-clause-only : goal.returns-clause-only
 returns-clause-only c e (candidate, number) =
     c.known_parts.ensures.only e (record {
-      packed =
-          c.candidates_are_known.ensures.packed c.args.query.now e candidate;
+      packed = c.candidates_are_known.ensures.packed c.args.query.now e candidate;
       number = number;
     })

@@ -13,8 +13,7 @@ start-requires-clause-goal c κs within = (
         root_goal_of c.args.query.now,
         record {
           is_goal = root_goal;
-          number =
-              sym c.root_word-root.ensures.number;
+          number = sym c.root_word-root.ensures.number;
         },
       )),
   le-leb goal_bit c.root_word-root.result.0 c.root_word-root.ensures.high,

@@ -7,8 +7,7 @@ use Rattle.query_core.proofs.query.Query.next_of_join.Goals as goal
 pub word_from-many-requires : goal.word_from-many-requires
 word_from-many-requires c = record {
   group = group_in_range c.args.self.now (Join c.args.set) c.requires;
-  index =
-      omega arith;
+  index = omega arith;
   children = refl;
 }
 
