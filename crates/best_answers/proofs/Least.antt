@@ -1,33 +1,31 @@
 -- The least of the choices with a root in a set of nodes.
-use Rattle.std.proofs.Common.{◌≡◌, ℕ, true, false, ◌<◌, ◌≤◌, ◌⊎◌, inl, inr, refl, ap, sym, ◌∙◌, subst, arith}
-use Rattle.std.specs.Prelude.{List, [], ◌∷◌, cond, Option, None, Some, option_map}
+use Rattle.std.proofs.Common.{◌≡◌, ℕ, true, false, ◌<◌, ◌≤◌, inl, inr, refl, ap, sym, subst}
+use Rattle.std.specs.Prelude.{◌∷◌, cond, Option, None, Some, option_map}
 use Rattle.std.proofs.Math.Nat.{eq-or-lt_of_le}
 use Rattle.std.proofs.lemmas.Bool.{cases_Bool}
-use Rattle.query_core.specs.Expressions.{expr_of, physical_children}
+use Rattle.query_core.specs.Expressions.{expr_of}
 use Rattle.query_core.specs.declared.query.Query.{Query}
 use Rattle.query_core.specs.declared.words.KeyParts.{KeyParts}
 use Rattle.query_core.specs.declared.expressions.PhysicalExpr.{PhysicalExpr}
 use Rattle.xform_rules.specs.Closure.{IsMember}
 use Rattle.request_props.specs.declared.request.Request.{Request}
 use Rattle.request_props.specs.Fitting.{Fits}
-use Rattle.plan_space.specs.Nodes.{number_of, Tree, over, code_of}
+use Rattle.plan_space.specs.Nodes.{number_of, Tree, code_of}
 use Rattle.plan_space.specs.declared.nodes.NodeKind.TheVariants as nodes
 use Rattle.plan_space.specs.declared.lines.Line.{Line}
-use Rattle.plan_space.specs.Alternatives.{IsAlternative, asked_of}
 use Rattle.plan_space.specs.Enforcers.{EnforcedBy, enforcers_of, Among}
 use Rattle.plan_space.specs.Cost.{cost_of}
 use Rattle.plan_space.specs.Order.{AtMost, IsAtMost}
-use Rattle.plan_space.specs.Least.{IsLeast}
-use Rattle.plan_space.specs.Choices.{groups_of, AreLeast, IsNodeOver, IsChoice, enforced_choice, native_choice, Beats}
-use Rattle.plan_space.specs.Choices.{IsEnforcerSettled, LacksOne, IsLineSettled, IsModeSettled}
+use Rattle.plan_space.specs.Choices.{IsChoice, Beats}
+use Rattle.plan_space.specs.Choices.{IsEnforcerSettled, IsLineSettled, IsModeSettled}
 use Rattle.plan_tree.specs.Seen.{root_node}
 use Rattle.best_answers.specs.Nodes.{Nodes, no_nodes, both_of, IsIn}
 use Rattle.best_answers.specs.Answers.{answer_of, is_lesser, lesser}
 use Rattle.best_answers.specs.Best.{IsChoiceIn, IsLeastIn, IsBest}
 use Rattle.best_answers.specs.Laws.{Covers}
 use Rattle.best_answers.specs.declared.best.Best.{Best}
-use Rattle.best_answers.proofs.Roots.{code_begins, root_over}
-use Rattle.best_answers.proofs.OneChoice.{AreTold, native_one, choice_one}
+use Rattle.best_answers.proofs.Roots.{code_begins}
+use Rattle.best_answers.proofs.OneChoice.{AreTold, choice_one}
 use Rattle.best_answers.proofs.Pairs.{less_by, not_less_by}
 
 -- plans are in order
@@ -54,185 +52,108 @@ line_stays q e mode line wanted best other improves (inl (kids, plan, least, is,
     inl (kids, plan, least, is, improves plan beats)
 line_stays q e mode line wanted best other improves (inr lacks) = inr lacks
 
--- ---- the least is at most each choice
+-- ---- the lesser of two
 
-lacks_none : (q : Query) (groups : List KeyParts) (wishes : List Request) (kids : List Tree)
-    → AreLeast (IsMember q) q groups wishes kids → LacksOne (IsMember q) q groups wishes → ⊥
-lacks_none q [] wishes kids least lacks = absurd lacks
-lacks_none q (group ∷ groups) [] kids least lacks = absurd lacks
-lacks_none q (group ∷ groups) (wanted ∷ wishes) [] least lacks = absurd least
-lacks_none q (group ∷ groups) (wanted ∷ wishes) (kid ∷ kids) least (inl none) = none kid least.0.serves
-lacks_none q (group ∷ groups) (wanted ∷ wishes) (kid ∷ kids) least (inr lacks) =
-    lacks_none q groups wishes kids least.1 lacks
-
-module _ (q : Query) (told : AreTold q) (group : KeyParts) (wanted : Request) where
-  enforcer_beats : (best : Option Tree) (e : EnforcedBy) (kid : Tree) → IsLeast (IsMember q) q group e.below kid
-      → IsEnforcerSettled (IsMember q) q group e best
-      → Beats q best (over (nodes.Enforcer e.node) kid)
-  enforcer_beats best e kid least (inl (other, least_too, beats)) =
-      subst (λ t. Beats q best (over (nodes.Enforcer e.node) t))
-      (told.least_one group e.below kid other least least_too) beats
-  enforcer_beats best e kid least (inr none) = absurd (none kid least.serves)
-
-  line_beats : (best : Option Tree) (e : PhysicalExpr) (mode : ℕ) (line : Line) (kids : List Tree) (plan : Tree)
-      → IsAlternative q e wanted mode line
-      → AreLeast (IsMember q) q (groups_of (physical_children e.operator)) (asked_of line wanted) kids
-      → IsNodeOver (nodes.Native e mode) kids plan
-      → IsLineSettled (IsMember q) q e mode line wanted best → Beats q best plan
-  line_beats best e mode line kids plan alternative least is (inl (others, other, least_too, also, beats)) =
-      subst (Beats q best) (native_one q told e mode wanted line line kids others plan other alternative alternative
-      least least_too is also) beats
-  line_beats best e mode line kids plan alternative least is (inr lacks) =
-      absurd (lacks_none q (groups_of (physical_children e.operator)) (asked_of line wanted) kids least lacks)
-
-  module _ (set : Nodes) (best : Option Tree) (is_least : IsLeastIn q group wanted set best) where
-    beats_choice : (plan : Tree) → IsChoice (IsMember q) q group wanted plan → IsIn set (root_node plan)
-        → Beats q best plan
-    beats_choice plan (enforced_choice e kid among least is) within =
-        subst (Beats q best) (sym is) (enforcer_beats best e kid least
-        (is_least.enforcers e among (subst (IsIn set) (ap root_node is) within)))
-    beats_choice plan (native_choice e mode line kids member of_group alternative least is) within =
-        line_beats best e mode line kids plan alternative least is
-        (is_least.members e mode member of_group
-        (subst (IsIn set) (root_over (nodes.Native e mode) kids plan is) within) line alternative)
-
-  -- ---- one answer is the best
-
-  codes_begin_alike : (a b : ℕ) (xs ys : List ℕ) → AtMost (a ∷ xs) (b ∷ ys) → AtMost (b ∷ ys) (a ∷ xs) → a ≡ b
-  codes_begin_alike a b xs ys (inl x) (inl y) = omega (arith, x, y)
-  codes_begin_alike a b xs ys (inl x) (inr y) = omega (arith, x, y.0)
-  codes_begin_alike a b xs ys (inr x) y = x.0
-
-  same_answers : (s t : Tree) → IsAtMost q s t → IsAtMost q t s → answer_of q s ≡ answer_of q t
-  same_answers s t (inl x) (inl y) = absurd (omega (arith, x, y))
-  same_answers s t (inl x) (inr y) = absurd (omega (arith, x, y.0))
-  same_answers s t (inr x) (inl y) = absurd (omega (arith, x.0, y))
-  same_answers s t (inr x) (inr y) =
+module _ (q : Query) (told : AreTold q) (group : KeyParts) (wanted : Request) (order : AreOrdered q)
+    (fits : Fits q group wanted) where
+  begins_less : (s t : Tree) → number_of (root_node s) < number_of (root_node t) → AtMost (code_of s) (code_of t)
+  begins_less s t less =
       let first = code_begins s in
       let second = code_begins t in
-      let cost = x.0 in
-      let there = subst (λ c. AtMost c (number_of (root_node t) ∷ second.0)) first.1
-      (subst (AtMost (code_of s)) second.1 x.1) in
-      let back = subst (λ c. AtMost c (number_of (root_node s) ∷ first.0)) second.1
-      (subst (AtMost (code_of t)) first.1 y.1) in
-      let node = codes_begin_alike (number_of (root_node s)) (number_of (root_node t)) first.0 second.0 there back in
-      cc
+      subst (λ c. AtMost c (code_of t)) (sym first.1)
+      (subst (AtMost (number_of (root_node s) ∷ first.0)) (sym second.1) (inl less))
 
-  one_by : (set : Nodes) (a b : Option Tree) → IsLeastIn q group wanted set a → IsLeastIn q group wanted set b
-      → option_map (answer_of q) a ≡ option_map (answer_of q) b
-  one_by set None None x y = refl
-  one_by set None (Some t) x y = absurd (beats_choice set None x t y.choice.0 y.choice.1)
-  one_by set (Some s) None x y = absurd (beats_choice set None y s x.choice.0 x.choice.1)
-  one_by set (Some s) (Some t) x y =
-      ap (λ answer. Some answer) (same_answers s t (beats_choice set (Some s) x t y.choice.0 y.choice.1)
-      (beats_choice set (Some t) y s x.choice.0 x.choice.1))
+  -- a choice that costs the same at a node that isn't greater is at most the other
+  begins_at_most : (s t : Tree) → IsChoice (IsMember q) q group wanted s → IsChoice (IsMember q) q group wanted t
+      → cost_of q s ≡ cost_of q t
+      → number_of (root_node s) ≤ number_of (root_node t) → IsAtMost q s t
+  begins_at_most s t x y cost most = elim (eq-or-lt_of_le most) [
+    | inl same ↦ subst (IsAtMost q s) (sym (choice_one q told group wanted s t fits x y (sym same))) (order.itself s)
+    | inr less ↦ inr (cost, begins_less s t less)
+  ]
 
-  -- for a request and a set of nodes one answer is the best
-  pub best_one : (set : Nodes) (answer other : Option Best) → IsBest q group wanted set answer
-      → IsBest q group wanted set other → answer ≡ other
-  best_one set answer other (a, x, is) (b, y, also) = is ∙ one_by set a b x y ∙ sym also
-
-  -- ---- the lesser of two
-
-  module _ (order : AreOrdered q) (fits : Fits q group wanted) where
-    begins_less : (s t : Tree) → number_of (root_node s) < number_of (root_node t) → AtMost (code_of s) (code_of t)
-    begins_less s t less =
-        let first = code_begins s in
-        let second = code_begins t in
-        subst (λ c. AtMost c (code_of t)) (sym first.1)
-        (subst (AtMost (number_of (root_node s) ∷ first.0)) (sym second.1) (inl less))
-
-    -- a choice that costs the same at a node that isn't greater is at most the other
-    begins_at_most : (s t : Tree) → IsChoice (IsMember q) q group wanted s → IsChoice (IsMember q) q group wanted t
-        → cost_of q s ≡ cost_of q t
-        → number_of (root_node s) ≤ number_of (root_node t) → IsAtMost q s t
-    begins_at_most s t x y cost most = elim (eq-or-lt_of_le most) [
-      | inl same ↦ subst (IsAtMost q s) (sym (choice_one q told group wanted s t fits x y (sym same))) (order.itself s)
-      | inr less ↦ inr (cost, begins_less s t less)
-    ]
-
-    lesser_at_most : (s t : Tree) → is_lesser (answer_of q s) (answer_of q t) ≡ true → IsAtMost q s t
-    lesser_at_most s t is = elim (less_by (cost_of q s) (number_of (root_node s)) (cost_of q t)
-        (number_of (root_node t)) is) [
-          | inl less ↦ inl less
-          | inr (same, less) ↦ inr (same, begins_less s t less)
-        ]
-
-    not_lesser_at_most : (s t : Tree) → IsChoice (IsMember q) q group wanted s → IsChoice (IsMember q) q group wanted t
-        → is_lesser (answer_of q t) (answer_of q s) ≡ false
-        → IsAtMost q s t
-    not_lesser_at_most s t x y is = elim (not_less_by (cost_of q t) (number_of (root_node t)) (cost_of q s)
-        (number_of (root_node s)) is) [
-          | inl less ↦ inl less
-          | inr (same, most) ↦ begins_at_most s t x y same most
-        ]
-
-    -- the one of the two plans that is at most the other is the least in both sets
-    module _ (some others : Nodes) where
-      both_by : (a b best : Option Tree) → IsLeastIn q group wanted some a → IsLeastIn q group wanted others b
-          → IsChoiceIn q group wanted (both_of some others) best
-          → Improves q a best → Improves q b best → IsLeastIn q group wanted (both_of some others) best
-      both_by a b best x y choice first second = record {
-        choice = choice;
-        enforcers = enforcers;
-        members = members;
-      }
-        where
-          enforcers : (e : EnforcedBy) → Among e (enforcers_of wanted)
-              → IsIn (both_of some others) (nodes.Enforcer e.node) → IsEnforcerSettled (IsMember q) q group e best
-          enforcers e among (inl within) = enforcer_stays q group e a best first (x.enforcers e among within)
-          enforcers e among (inr within) = enforcer_stays q group e b best second (y.enforcers e among within)
-
-          members : (e : PhysicalExpr) (mode : ℕ) → IsMember q (expr_of e) → e.group ≡ group
-              → IsIn (both_of some others) (nodes.Native e mode) → IsModeSettled (IsMember q) q wanted e mode best
-          members e mode member of_group (inl within) line alternative =
-              line_stays q e mode line wanted a best first (x.members e mode member of_group within line alternative)
-          members e mode member of_group (inr within) line alternative =
-              line_stays q e mode line wanted b best second (y.members e mode member of_group within line alternative)
-
-      lesser_of_plans : (s t : Tree) → IsLeastIn q group wanted some (Some s) → IsLeastIn q group wanted others (Some t)
-          → IsBest q group wanted (both_of some others) (lesser (Some (answer_of q s)) (Some (answer_of q t)))
-      lesser_of_plans s t x y = elim (cases_Bool (is_lesser (answer_of q t) (answer_of q s))) [
-        | inl is ↦ (
-          Some t,
-          both_by (Some s) (Some t) (Some t) x y (y.choice.0, inr y.choice.1)
-              (λ plan beats. order.along t s plan (lesser_at_most t s is) beats) (λ plan beats. beats),
-          ap (λ b. cond b (Some (answer_of q t)) (Some (answer_of q s))) is,
-        )
-        | inr is ↦ (
-          Some s,
-          both_by (Some s) (Some t) (Some s) x y (x.choice.0, inl x.choice.1) (λ plan beats. beats)
-              (λ plan beats. order.along s t plan (not_lesser_at_most s t x.choice.0 y.choice.0 is) beats),
-          ap (λ b. cond b (Some (answer_of q t)) (Some (answer_of q s))) is,
-        )
+  lesser_at_most : (s t : Tree) → is_lesser (answer_of q s) (answer_of q t) ≡ true → IsAtMost q s t
+  lesser_at_most s t is = elim (less_by (cost_of q s) (number_of (root_node s)) (cost_of q t)
+      (number_of (root_node t)) is) [
+        | inl less ↦ inl less
+        | inr (same, less) ↦ inr (same, begins_less s t less)
       ]
 
-      lesser_by : (a b : Option Tree) → IsLeastIn q group wanted some a → IsLeastIn q group wanted others b
-          → IsBest q group wanted (both_of some others)
-          (lesser (option_map (answer_of q) a) (option_map (answer_of q) b))
-      lesser_by None None x y = (None, both_by None None None x y tt (λ plan beats. beats) (λ plan beats. beats), refl)
-      lesser_by None (Some t) x y = (
-        Some t,
-        both_by None (Some t) (Some t) x y (y.choice.0, inr y.choice.1)
-            (λ plan beats. absurd beats) (λ plan beats. beats),
-        refl,
-      )
-      lesser_by (Some s) None x y = (
-        Some s,
-        both_by (Some s) None (Some s) x y (x.choice.0, inl x.choice.1)
-            (λ plan beats. beats) (λ plan beats. absurd beats),
-        refl,
-      )
-      lesser_by (Some s) (Some t) x y = lesser_of_plans s t x y
+  not_lesser_at_most : (s t : Tree) → IsChoice (IsMember q) q group wanted s → IsChoice (IsMember q) q group wanted t
+      → is_lesser (answer_of q t) (answer_of q s) ≡ false
+      → IsAtMost q s t
+  not_lesser_at_most s t x y is = elim (not_less_by (cost_of q t) (number_of (root_node t)) (cost_of q s)
+      (number_of (root_node s)) is) [
+        | inl less ↦ inl less
+        | inr (same, most) ↦ begins_at_most s t x y same most
+      ]
 
-      -- the lesser of the best of two sets is the best of both
-      pub lesser_best : (first second : Option Best) → IsBest q group wanted some first
-          → IsBest q group wanted others second
-          → IsBest q group wanted (both_of some others) (lesser first second)
-      lesser_best first second (a, x, is) (b, y, also) =
-          subst (λ f. IsBest q group wanted (both_of some others) (lesser f second)) (sym is)
-          (subst (λ s. IsBest q group wanted (both_of some others) (lesser (option_map (answer_of q) a) s)) (sym also)
-          (lesser_by a b x y))
+  -- the one of the two plans that is at most the other is the least in both sets
+  module _ (some others : Nodes) where
+    both_by : (a b best : Option Tree) → IsLeastIn q group wanted some a → IsLeastIn q group wanted others b
+        → IsChoiceIn q group wanted (both_of some others) best
+        → Improves q a best → Improves q b best → IsLeastIn q group wanted (both_of some others) best
+    both_by a b best x y choice first second = record {
+      choice = choice;
+      enforcers = enforcers;
+      members = members;
+    }
+      where
+        enforcers : (e : EnforcedBy) → Among e (enforcers_of wanted)
+            → IsIn (both_of some others) (nodes.Enforcer e.node) → IsEnforcerSettled (IsMember q) q group e best
+        enforcers e among (inl within) = enforcer_stays q group e a best first (x.enforcers e among within)
+        enforcers e among (inr within) = enforcer_stays q group e b best second (y.enforcers e among within)
+
+        members : (e : PhysicalExpr) (mode : ℕ) → IsMember q (expr_of e) → e.group ≡ group
+            → IsIn (both_of some others) (nodes.Native e mode) → IsModeSettled (IsMember q) q wanted e mode best
+        members e mode member of_group (inl within) line alternative =
+            line_stays q e mode line wanted a best first (x.members e mode member of_group within line alternative)
+        members e mode member of_group (inr within) line alternative =
+            line_stays q e mode line wanted b best second (y.members e mode member of_group within line alternative)
+
+    lesser_of_plans : (s t : Tree) → IsLeastIn q group wanted some (Some s) → IsLeastIn q group wanted others (Some t)
+        → IsBest q group wanted (both_of some others) (lesser (Some (answer_of q s)) (Some (answer_of q t)))
+    lesser_of_plans s t x y = elim (cases_Bool (is_lesser (answer_of q t) (answer_of q s))) [
+      | inl is ↦ (
+        Some t,
+        both_by (Some s) (Some t) (Some t) x y (y.choice.0, inr y.choice.1)
+            (λ plan beats. order.along t s plan (lesser_at_most t s is) beats) (λ plan beats. beats),
+        ap (λ b. cond b (Some (answer_of q t)) (Some (answer_of q s))) is,
+      )
+      | inr is ↦ (
+        Some s,
+        both_by (Some s) (Some t) (Some s) x y (x.choice.0, inl x.choice.1) (λ plan beats. beats)
+            (λ plan beats. order.along s t plan (not_lesser_at_most s t x.choice.0 y.choice.0 is) beats),
+        ap (λ b. cond b (Some (answer_of q t)) (Some (answer_of q s))) is,
+      )
+    ]
+
+    lesser_by : (a b : Option Tree) → IsLeastIn q group wanted some a → IsLeastIn q group wanted others b
+        → IsBest q group wanted (both_of some others)
+        (lesser (option_map (answer_of q) a) (option_map (answer_of q) b))
+    lesser_by None None x y = (None, both_by None None None x y tt (λ plan beats. beats) (λ plan beats. beats), refl)
+    lesser_by None (Some t) x y = (
+      Some t,
+      both_by None (Some t) (Some t) x y (y.choice.0, inr y.choice.1)
+          (λ plan beats. absurd beats) (λ plan beats. beats),
+      refl,
+    )
+    lesser_by (Some s) None x y = (
+      Some s,
+      both_by (Some s) None (Some s) x y (x.choice.0, inl x.choice.1)
+          (λ plan beats. beats) (λ plan beats. absurd beats),
+      refl,
+    )
+    lesser_by (Some s) (Some t) x y = lesser_of_plans s t x y
+
+    -- the lesser of the best of two sets is the best of both
+    pub lesser_best : (first second : Option Best) → IsBest q group wanted some first
+        → IsBest q group wanted others second
+        → IsBest q group wanted (both_of some others) (lesser first second)
+    lesser_best first second (a, x, is) (b, y, also) =
+        subst (λ f. IsBest q group wanted (both_of some others) (lesser f second)) (sym is)
+        (subst (λ s. IsBest q group wanted (both_of some others) (lesser (option_map (answer_of q) a) s)) (sym also)
+        (lesser_by a b x y))
 
 -- ---- no nodes, and nodes that can't serve
 

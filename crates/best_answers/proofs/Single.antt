@@ -149,7 +149,8 @@ module _ (q : Query) (e : PhysicalExpr) (mode : ℕ) (line : Line) (wanted : Req
       → (answers : List (Option Best)) → AreBest q (groups_of (physical_children e.operator)) (asked_of line wanted)
       answers → IfSome (costs_below answers) (λ below. below ≤ most_of_all)
   room_below best_least fit_costs member fits fit answers best =
-      elim (best_below q best_least (groups_of (physical_children e.operator)) (asked_of line wanted) answers fit best) [
+      elim (best_below q best_least (groups_of (physical_children e.operator))
+      (asked_of line wanted) answers fit best) [
         | inl (kids, least, costs) ↦
             let made = node_made q (nodes.Native e mode) (physical_children e.operator) (asked_of line wanted) kids
             least in

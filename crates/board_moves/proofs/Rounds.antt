@@ -84,8 +84,10 @@ module _ {R : Type 0} (meaning : Meaning) (room : ℕ) (Has : ℕ → Type 0) (g
             → Awaits meaning room x right (goal_of word) answer w after
             → Proceeds (meaning.child start.goal) x right w after
             × (after.waits ≡ 0 → ShowsFinished meaning room w.looks (goal_of word))
-        child_proceeds (progress.Complete answer) fits t =
-            (subst (λ g. Proceeds (meaning.child g) x right w after) so_far.proceeds.same_goal t.0, λ none. t.2.finished)
+        child_proceeds (progress.Complete answer) fits t = (
+          subst (λ g. Proceeds (meaning.child g) x right w after) so_far.proceeds.same_goal t.0,
+          λ none. t.2.finished,
+        )
         child_proceeds progress.Waiting fits t = (
           subst (λ g. Proceeds (meaning.child g) x right w after) so_far.proceeds.same_goal t.0,
           λ none. let some =

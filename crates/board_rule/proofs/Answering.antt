@@ -110,7 +110,8 @@ module _ {R : Type 0} (meaning_of : R → Meaning) (rules : R) (room : ℕ) wher
       record {
         count = length-set words word x ∙ sound.count;
         by_kinds = subst (λ b. IsSoundBy (meaning_of rules) rules room b (set views id w)) (sym stored)
-            (store_keeps (meaning_of rules) rules room (mem words) place cost node who stores answers has.near views id v
+            (store_keeps (meaning_of rules) rules room
+            (mem words) place cost node who stores answers has.near views id v
             w.alone mine some_part has sound.by_kinds);
         alone = alone_set words views id word x v w mine refl sound.alone;
       }

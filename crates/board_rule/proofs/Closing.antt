@@ -1,118 +1,33 @@
 -- A swap that closes a goal's head keeps soundness.
-use Rattle.std.proofs.Common.{length, ◌*◌, ◌≡◌, ℕ, ◌+◌, ◌^◌, ◌<◌, ◌≤◌, List, set, length-set, cond, eqb, eq-eqb, ne_eqb}
-use Rattle.std.proofs.Common.{Some, IsTrue, sym, refl, ap, subst, ◌∙◌, inr, ⊎_elim, arith, None, [], ◌/◌}
+use Rattle.std.proofs.Common.{length, ◌*◌, ◌≡◌, ℕ, ◌+◌, ◌^◌, ◌<◌, ◌≤◌, List, set, length-set}
+use Rattle.std.proofs.Common.{Some, IsTrue, sym, refl, ap, subst, ◌∙◌, inr, arith, None, [], ◌/◌}
 use mathlib.Core.Option.{some, none}
 use lib.ListN.{get_elem?}
-use Rattle.std.proofs.lemmas.Bool.{cases_eq, cases_lt}
 use Rattle.atomic_table.specs.Table.{keeps, step, Allows}
-use Rattle.std.specs.Int.{bit_at}
-use Rattle.std.proofs.lemmas.Nat.Bits.{same_from_bits}
 use Rattle.board_rule.specs.Meaning.{Meaning}
 use Rattle.board_rule.specs.Records.{Claimed}
 use Rattle.board_rule.specs.Words.{Mem, mem, put, head_word}
-use Rattle.board_rule.specs.Waiters.{head_of, IsChain}
-use Rattle.board_rule.specs.Seats.{Each, in_hand, answered_right, without, finished}
-use Rattle.board_rule.specs.Rule.{HoldsGoal, IsPromised, KeepsRights, IsRecorded, IsStored, IsRaised, ArePending}
-use Rattle.board_rule.specs.Rule.{WaitedFor, KeepsWaits, EndsClaims, AreHands, IsSoundBy, IsSound, held, ended}
+use Rattle.board_rule.specs.Waiters.{head_of}
+use Rattle.board_rule.specs.Seats.{Each, in_hand, answered_right, finished}
+use Rattle.board_rule.specs.Rule.{HoldsGoal, IsPromised, IsRecorded, IsStored, IsRaised, ArePending}
+use Rattle.board_rule.specs.Rule.{WaitedFor, AreHands, IsSoundBy, IsSound}
 use Rattle.board_rule.specs.May.{HasRight, MayClose}
 use Rattle.board_rule.specs.Plays.{Sat, Closes}
 use Rattle.board_rule.specs.declared.hands.Hands.{Hands}
-use Rattle.board_rule.proofs.Lists.{put_here, put_else, put_cases, each_as, each_at, among_counts, only_one, total-set}
+use Rattle.board_rule.proofs.Lists.{put_cases, each_as, each_at, among_counts, only_one}
 use Rattle.board_rule.proofs.Lists.{total_same}
 use Rattle.board_rule.proofs.Stores.{put_head}
 use Rattle.board_rule.proofs.Frames.{awake_has, of_others_set, alone_set, moment_of}
 use Rattle.board_rule.proofs.Truths.{shown_promise}
-use Rattle.board_rule.proofs.Rights.{held_by, counts_one, counts_none, held-set, ended-set, rights_moved, rights_at}
-use Rattle.board_rule.proofs.Rights.{without_here, without_else, each_without}
-use Rattle.board_rule.proofs.Chains.{count, put_list, put_list_cases, below_put_list}
-use Rattle.board_rule.proofs.Claiming.{held_alone}
+use Rattle.board_rule.proofs.Rights.{held_by, rights_at}
+use Rattle.board_rule.proofs.Rights.{each_without}
 use Rattle.board_rule.proofs.Lengths.{list_length, waiters_within}
 use Rattle.board_rule.proofs.Looking.{Holds}
 use Rattle.board_rule.proofs.CloseTopics.{stays_close, own_stays_close, recorded_close, promises_close, blank_close}
+use Rattle.board_rule.proofs.CloseTopics.{runs_alone, rights_close, waits_close, ends_close}
 use Rattle.board_rule.proofs.CloseTopics.{walked_close}
 
 module _ {R : Type 0} (meaning_of : R → Meaning) (rules : R) (room : ℕ) where
-  -- a held goal without waits has the held bit alone in its run word
-  runs_alone : (run : ℕ → ℕ) (place : ℕ) (r : Claimed) → r.place ≡ place → r.waits ≡ 0 → bit_at (run place) 8 ≡ 1
-      → ((i : ℕ) → 9 ≤ i → bit_at (run place) i ≡ 0)
-      → IsRaised run None r → run place ≡ 256
-  runs_alone run place r at waits runs small raised = same_from_bits (run place) 256 (λ i.
-      ⊎_elim
-      (λ low. ap (λ p. bit_at (run p) i) (sym at) ∙ raised.others i (omega arith) low
-      ∙ sym (held_alone i (λ e. omega arith)))
-      (λ high. ⊎_elim (λ e. ap (bit_at (run place)) e ∙ runs ∙ sym (ap (bit_at 256) e))
-      (λ ne. small i (omega arith) ∙ sym (held_alone i ne)) (cases_eq i 8))
-      (cases_lt i 8))
-
-  -- the right goes to what the seat finished
-  rights_close : (run head : ℕ → ℕ) (views : List (Hands R)) (id : ℕ) (v : Hands R) (place worker cost node : ℕ)
-      (waiters : List ℕ) → get_elem? views id ≡ some v
-      → HasRight room v.rights place → run place ≡ 256 → KeepsRights room run head views
-      → KeepsRights room run (put head place (2 ^ 63)) (set views id (finished v place worker cost node waiters))
-  rights_close run head views id v place worker cost node waiters mine has settled old =
-      let w : Hands R = finished v place worker cost node waiters in
-      let was = old place has.near in
-      let is = held_by room run head views id v place mine has old in
-      let gone = without_here place v.rights has.held in
-      let one : cond {A = ℕ} (eqb place place) 1 0 ≡ 1 = counts_one place place refl in
-      let h : held (set views id w) place ≡ 0 =
-      omega (arith, held-set views id v w mine place, is.held_once, is.right_once) in
-      let d : ended (set views id w) place ≡ 1 = omega (arith, ended-set views id v w mine place, is.not_ended) in
-      rights_moved views id v w mine room run head run (put head place (2 ^ 63)) place
-      (λ p ne. without_else place p v.rights ne) (λ p ne. omega (arith, counts_none place p (λ e. ne (sym e))))
-      (λ _ _. refl) (λ p ne. put_else head place (2 ^ 63) p ne)
-      (record {
-        once = omega (arith, h, d);
-        running = is.runs ∙ omega (arith, h, d);
-        small = was.small;
-        closed = λ _. put_here head place (2 ^ 63);
-        settled = λ _. settled;
-        is_open = λ none_done. absurd (omega arith);
-      })
-      old
-
-  -- the waiters of the goal go from its list to the seat's hands
-  waits_close : (m : Mem) (views : List (Hands R)) (id : ℕ) (v w : Hands R) (place : ℕ)
-      (old : KeepsWaits (meaning_of rules) room m.cell m.run m.head m.next views) → get_elem? views id ≡ some v
-      → place < room → in_hand v.pending v.walk ≡ [] → in_hand w.pending w.walk ≡ old.lists place
-      → KeepsWaits (meaning_of rules) room m.cell m.run (put m.head place (2 ^ 63)) m.next (set views id w)
-  waits_close m views id v w place old mine near free walks = record {
-    lists = put_list old.lists place [];
-    none_left = λ c in_room. put_cases m.head place (2 ^ 63) c (λ x. 2 ^ 63 ≤ x → put_list old.lists place [] c ≡ [])
-        (λ here _. put_list_cases old.lists place [] c (λ l. l ≡ []) (λ _. refl) (λ ne. absurd (ne here)))
-        (λ _ closed. put_list_cases old.lists place [] c (λ l. l ≡ []) (λ _. refl)
-        (λ _. old.none_left c in_room closed));
-    heads = λ c in_room. put_cases m.head place (2 ^ 63) c (λ x. x < 2 ^ 63
-        → x ≡ head_of (put_list old.lists place [] c))
-        (λ _ is_open. absurd (omega arith))
-        (λ ne is_open. put_list_cases old.lists place [] c (λ l. m.head c ≡ head_of l) (λ here. absurd (ne here))
-        (λ _. old.heads c in_room is_open));
-    chains = λ c in_room. put_list_cases old.lists place [] c (IsChain m.next) (λ _. tt) (λ _. old.chains c in_room);
-    joined = λ c in_room. put_list_cases old.lists place [] c
-        (Each (λ q. (meaning_of rules).child (m.cell (q / 8)) (m.cell c))) (λ _. tt) (λ _. old.joined c in_room);
-    once = λ q.
-        let lists = below_put_list old.lists room place [] q near in
-        let hands = total-set (λ (u : Hands R). count q (in_hand u.pending u.walk)) views id v w mine in
-        let were : count q (in_hand v.pending v.walk) ≡ 0 = ap (count q) free in
-        let are : count q (in_hand w.pending w.walk) ≡ count q (old.lists place) = ap (count q) walks in
-        let once = old.once q in
-        omega arith;
-    near = old.near;
-  }
-
-  ends_close : (v : Hands R) (place worker cost node : ℕ) (waiters : List ℕ) → 1 ≤ rights_at place v.rights
-      → EndsClaims v → EndsClaims (finished v place worker cost node waiters)
-  ends_close v place worker cost node waiters has old p = ⊎_elim
-      (λ here. let one : cond {A = ℕ} (eqb place p) 1 0 ≡ 1 = ap (λ b. cond b 1 0) (eq-eqb place p (sym here)) in
-      let less : rights_at p (without place v.rights) + 1 ≡ rights_at p v.rights =
-      subst (λ q. rights_at q (without place v.rights) + 1 ≡ rights_at q v.rights) (sym here)
-      (without_here place v.rights has) in
-      omega (arith, old p))
-      (λ else. let zero_here : cond {A = ℕ} (eqb place p) 1 0 ≡ 0 =
-      ap (λ b. cond b 1 0) (ne_eqb place p (λ e. else (sym e))) in
-      omega (arith, old p, without_else place p v.rights else))
-      (cases_eq p place)
-
   -- a board is sound once a seat has closed the head of a goal that it holds
   close_keeps : (words : List ℕ) (views : List (Hands R)) (id : ℕ) (v : Hands R) (place worker cost node : ℕ)
       (sound : IsSound (meaning_of rules) rules room words views)
@@ -153,8 +68,9 @@ module _ {R : Type 0} (meaning_of : R → Meaning) (rules : R) (room : ℕ) wher
             (sym (put_head words place (2 ^ 63) (omega arith))) (record {
               cells = k.cells;
               blank = blank_close meaning room m place is_goal k.blank;
-              rights = rights_close m.run m.head views id v place worker cost node waiters mine has_right settled k.rights;
-              waits = waits_close m views id v w place k.waits mine near (ap (λ o. in_hand o v.walk) free ∙ walked)
+              rights = rights_close room m.run m.head views id v place worker cost node waiters mine has_right settled k.rights;
+              waits = waits_close meaning room m views id v w place k.waits mine near
+                  (ap (λ o. in_hand o v.walk) free ∙ walked)
                   (ap (λ o. in_hand o w.walk) free);
               promises = promises_close meaning room m place
                   (subst (IsPromised meaning room m.cell m.head) (sym cell)

@@ -92,7 +92,8 @@ module _ {R : Type 0} (meaning_of : R → Meaning) (rules : R) (room : ℕ) wher
                     stored = own.stored;
                     ends = own.ends;
                     raised = own.raised;
-                    pends = pending_looked meaning room m.cell m.next (full_word, 1) v.looks v.rights v.pending own.pends;
+                    pends = pending_looked meaning room m.cell m.next
+                        (full_word, 1) v.looks v.rights v.pending own.pends;
                     walked = own.walked;
                     awake = inr (awake_has rules room v some_part own.awake);
                   });

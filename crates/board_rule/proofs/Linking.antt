@@ -145,7 +145,8 @@ module _ {R : Type 0} (meaning_of : R → Meaning) (rules : R) (room : ℕ) wher
               blank = blank_next meaning room m q to (bit_runs (m.run (q / 8)) (q % 8) bit) k.blank;
               rights = rights_stay room m.run m.head views id v w mine (λ p. refl) refl k.rights;
               waits = waits_stay meaning room m.cell m.head n.next m.run views id v w mine
-                  (ap (λ o. in_hand o v.walk) (sym may.is)) (waits_next meaning room m views id v x mine may.is k.waits to);
+                  (ap (λ o. in_hand o v.walk) (sym may.is))
+                  (waits_next meaning room m views id v x mine may.is k.waits to);
               promises = k.promises;
               full = k.full;
               hands = of_others_set (AreHands meaning rules room m) (AreHands meaning rules room n) views id w

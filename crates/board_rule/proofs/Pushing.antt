@@ -112,7 +112,8 @@ module _ {R : Type 0} (meaning_of : R → Meaning) (rules : R) (room : ℕ) (sma
             (sym (put_head words c to (omega arith))) (record {
               cells = k.cells;
               blank = blank_push meaning room m c to was_open is_open seen.child_goal k.blank;
-              rights = rights_push meaning room m c to was_open is_open views id v w mine near (λ p. counts p v.rights) refl
+              rights = rights_push meaning room m c to was_open is_open views id v w mine near
+                  (λ p. counts p v.rights) refl
                   k.rights;
               waits = waits_push meaning room m views id v w c q to k.waits mine near was_open is_open
                   (omega (arith, parts.0)) (seen.links may.linked ∙ parts.1) seen.is_child less;
@@ -132,7 +133,8 @@ module _ {R : Type 0} (meaning_of : R → Meaning) (rules : R) (room : ℕ) (sma
                   })
                   k.hands
                   (record {
-                    stays = stays_pushed m c head to v.looks head_open (subst (λ y. y / 2 ^ 24 < to / 2 ^ 24) found more)
+                    stays = stays_pushed m c head to v.looks head_open
+                        (subst (λ y. y / 2 ^ 24 < to / 2 ^ 24) found more)
                         (stays_push meaning room m c to was_open is_open more v.looks own.stays);
                     absence = absence_beside meaning room v.looks (head_word c) head (λ p e. omega arith) own.absence;
                     recorded = recorded_push meaning room m c to was_open is_open v.done own.recorded;

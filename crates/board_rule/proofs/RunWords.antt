@@ -55,8 +55,7 @@ blank_running meaning room m place x runs old p near no_goal = let b = old p nea
 }
 
 module _ {R : Type 0} (meaning_of : R → Meaning) (rules : R) (room : ℕ) where
-  -- the hands of a seat that found a value in a run word and stored one there: its looks and the words that it keeps
-  -- are those of before with this look and this word, what it put in and finished is as before, the rest is in `given`
+  -- the seat's hands after a step at a run word
   abbrev pub at_run : Hands R → ℕ → ℕ → ℕ → Hands R → Hands R
   at_run v place found x given = record v {
     alone = changed (run_word place) x v.alone;

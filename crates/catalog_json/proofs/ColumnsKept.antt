@@ -12,9 +12,9 @@ use Rattle.catalog_json.specs.declared.place.Place.TheVariants as places
 use Rattle.query_core.specs.Catalog.{trillion, within}
 use Rattle.query_core.specs.Differ.{all_differ}
 use Rattle.query_core.specs.Catalog.{IsColumn}
-use Rattle.catalog_json.specs.Walk.{◌>>=◌, column_at, columns_at, each, list_at, new_name_at, number_at, object_at}
+use Rattle.catalog_json.specs.Walk.{column_at, columns_at, list_at, new_name_at, number_at, object_at}
 use Rattle.query_core.proofs.Apart.{differ_push}
-use Rattle.orca_base.proofs.Checked.{bind_ok, done, each_counts, ok_is}
+use Rattle.orca_base.proofs.Checked.{bind_ok, each_counts, ok_is}
 use Rattle.catalog_json.proofs.Steps.{all_keep, list_kept, new_name_kept, number_kept}
 
 -- a number up to its limit
@@ -31,13 +31,20 @@ column_kept : (t : ℕ) (before : List ColumnInfo) (d : Data) (column : ColumnIn
 unfolding column_at
 column_kept t before d column so_far e =
     let at = length before in
-    let object = bind_ok (object_at (places.Column t at) d) (λ object. new_name_at (places.ColumnName t at) (map (λ c. c.name) before) (get (codes "name") object) >>= λ name. number_at 0 trillion (places.Ndv t at) (get (codes "ndv") object) >>= λ ndv. done (record { name = name; ndv = ndv })) column e in
-    let name = bind_ok (new_name_at (places.ColumnName t at) (map (λ c. c.name) before) (get (codes "name") object.0)) (λ name. number_at 0 trillion (places.Ndv t at) (get (codes "ndv") object.0) >>= λ ndv. done (record { name = name; ndv = ndv })) column object.2 in
-    let ndv = bind_ok (number_at 0 trillion (places.Ndv t at) (get (codes "ndv") object.0)) (λ ndv. done (record { name = name.0; ndv = ndv })) column name.2 in
-    let new = new_name_kept (places.ColumnName t at) (map (λ c. c.name) before) (get (codes "name") object.0) name.0 name.1 in
+    let object = bind_ok (object_at (places.Column t at) d) _ column e in
+    let name = bind_ok (new_name_at (places.ColumnName t at) (map (λ c. c.name) before)
+    (get (codes "name") object.0)) _ column object.2 in
+    let ndv = bind_ok (number_at 0 trillion (places.Ndv t at) (get (codes "ndv") object.0)) _ column name.2 in
+    let new = new_name_kept (places.ColumnName t at) (map (λ c. c.name) before)
+    (get (codes "name") object.0) name.0 name.1 in
     let made : ColumnInfo = record { name = name.0; ndv = ndv.0 } in
     subst (λ (c : ColumnInfo). AreColumns (before ++ c ∷ [])) {x = made} (ok_is made column ndv.2) (record {
-      all_are = All-push IsColumn before made so_far.all_are (record { named = new.0; values = below trillion ndv.0 (number_kept 0 trillion (places.Ndv t at) (get (codes "ndv") object.0) ndv.0 ndv.1) });
+      all_are = All-push IsColumn before made so_far.all_are
+          (record {
+            named = new.0;
+            values = below trillion ndv.0
+                (number_kept 0 trillion (places.Ndv t at) (get (codes "ndv") object.0) ndv.0 ndv.1);
+          });
       differ = rw (map_push (λ (c : ColumnInfo). c.name) before made)
           (differ_push bytes_eq nat_list_eq_equiv.symm (map (λ c. c.name) before) name.0 so_far.differ new.1);
     })
@@ -51,7 +58,7 @@ pub columns_kept : (t : ℕ) (found : Option Data) (columns : List ColumnInfo) �
     → AreAllColumns columns
 unfolding columns_at
 columns_kept t found columns e =
-    let ds = bind_ok (list_at 1 1000 (places.Columns t) found) (λ ds. each (column_at t) [] ds) columns e in
+    let ds = bind_ok (list_at 1 1000 (places.Columns t) found) _ columns e in
     record {
       width = rw (each_counts (column_at t) ds.0 columns ds.2) (list_kept 1 1000 (places.Columns t) found ds.0 ds.1);
       are = all_keep (column_at t) AreColumns (column_kept t) [] ds.0 columns

@@ -1,5 +1,5 @@
 -- A list of columns that is read has 1 to 8 different places among the table's columns.
-use Rattle.std.proofs.Common.{◌≡◌, All, ◌==◌, ℕ, ◌≤◌, true, List, [], ◌∷◌, ◌++◌, length, position, nat_lt, codes}
+use Rattle.std.proofs.Common.{◌≡◌, All, ◌==◌, ℕ, ◌≤◌, true, List, [], ◌∷◌, ◌++◌, length, nat_lt, codes}
 use Rattle.std.proofs.Common.{Option, Some, None, option_and_then, Ok, Err, refl, ◌∙◌, subst, arith}
 use Rattle.std.specs.List.{list_all}
 use Rattle.std.specs.Str.{bytes_eq}
@@ -17,7 +17,7 @@ use Rattle.catalog_json.specs.declared.place.Place.TheVariants as places
 use Rattle.catalog_json.specs.declared.fault.Fault.TheVariants.{Shape}
 use Rattle.query_core.specs.Differ.{all_differ}
 use Rattle.query_core.specs.Catalog.{IsColumnList, IsPlacing}
-use Rattle.catalog_json.specs.Walk.{Reading, each, index_at, indexes_at, list_at, listed_at, name_at, new_place}
+use Rattle.catalog_json.specs.Walk.{Reading, index_at, indexes_at, list_at, listed_at, name_at}
 use Rattle.catalog_json.specs.Walk.{places_at, placing_at, placing_by, random_at, seen}
 use Rattle.query_core.proofs.Apart.{differ_push}
 use Rattle.orca_base.proofs.Checked.{bind_ok, each_counts, met, ok_is}
@@ -35,7 +35,7 @@ listed_place_kept : (list : NameList) (names : List (List ℕ)) (before : List �
 unfolding listed_at
 listed_place_kept list names before d i so_far e =
     let at = places.Listed list (length before) in
-    let name = bind_ok (name_at at (Some d)) (λ name. new_place at before (position (bytes_eq name) names)) i e in
+    let name = bind_ok (name_at at (Some d)) _ i e in
     let new = listed_kept at before (bytes_eq name.0) names i name.2 in
     record {
       known = list_all-append (λ p. nat_lt p (length names)) before (i ∷ []) ∙ rw (so_far.known, new.0) refl;
@@ -46,7 +46,7 @@ pub places_kept : (list : NameList) (names : List (List ℕ)) (found : Option Da
     → places_at list names found ≡ Ok places → IsColumnList (length names) places
 unfolding places_at
 places_kept list names found listed e =
-    let ds = bind_ok (list_at 1 8 (places.Names list) found) (λ ds. each (listed_at list names) [] ds) listed e in
+    let ds = bind_ok (list_at 1 8 (places.Names list) found) _ listed e in
     let are = all_keep (listed_at list names) (ArePlaces (length names)) (listed_place_kept list names) [] ds.0 listed
     (record { known = refl; differ = refl }) ds.2 in
     record {
@@ -60,7 +60,8 @@ places_kept list names found listed e =
 
 random_kept : (at : Place) (text : List ℕ) (columns : ℕ) (placing : Placing) → random_at at text ≡ Ok placing
     → IsPlacing columns placing
-random_kept at text columns placing e = let test = met (bytes_eq text (codes "random")) (Shape at) Random placing e in subst (IsPlacing columns) test.1 tt
+random_kept at text columns placing e =
+    let test = met (bytes_eq text (codes "random")) (Shape at) Random placing e in subst (IsPlacing columns) test.1 tt
 
 hashed_kept : (columns : ℕ) (read : Reading (List ℕ)) (placing : Placing)
     → ((listed : List ℕ) → read ≡ Ok listed → IsColumnList columns listed) → seen Hashed read ≡ Ok placing
@@ -95,7 +96,7 @@ unfolding indexes_at
 indexes_kept t names None indexes e = subst (AreIndexes (length names)) (ok_is [] indexes e)
     (record { count = omega arith; all_are = All-nil (IsColumnList (length names)) })
 indexes_kept t names (Some d) indexes e =
-    let ds = bind_ok (list_at 0 16 (places.Indexes t) (Some d)) (λ ds. each (index_at t names) [] ds) indexes e in
+    let ds = bind_ok (list_at 0 16 (places.Indexes t) (Some d)) _ indexes e in
     let one = λ (before : List (List ℕ)) (x : Data) (index : List ℕ) (are : All (IsColumnList (length names)) before)
     (read : index_at t names before x ≡ Ok index).
     All-push (IsColumnList (length names)) before index are

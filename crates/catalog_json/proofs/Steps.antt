@@ -1,5 +1,5 @@
 -- What a reading without a fault says of its parts.
-use Rattle.std.proofs.Common.{◌≡◌, ◌==◌, ℕ, ◌≤◌, IfOk, map, Bool, true, false, cond, List, [], ◌∷◌, ◌++◌, length}
+use Rattle.std.proofs.Common.{◌≡◌, ◌==◌, ℕ, ◌≤◌, IfOk, map, Bool, true, false, List, [], ◌∷◌, ◌++◌, length}
 use Rattle.std.proofs.Common.{position, nat_lt, Option, Some, None, option_map, option_and_then, Ok, Err, refl, arith}
 use Rattle.std.specs.List.{list_any}
 use Rattle.orca_base.proofs.Checked.{all_pass, bind_ok, each_counts, each_keeps, met, not_met}
@@ -41,8 +41,7 @@ pub new_name_kept : (at : Place) (before : List (List ℕ)) (found : Option Data
     → new_name_at at before found ≡ Ok name → (is_catalog_name name ≡ true) × (list_any (bytes_eq name) before ≡ false)
 unfolding new_name_at
 new_name_kept at before found name e =
-    let text = bind_ok (name_at at found) (λ text. cond (list_any (bytes_eq text) before) (Err (Twice at)) (Ok text))
-    name e in
+    let text = bind_ok (name_at at found) _ name e in
     let test = not_met (list_any (bytes_eq text.0) before) (Twice at) text.0 name text.2 in
     rw (← test.1) (name_kept at found text.0 text.1, test.0)
 

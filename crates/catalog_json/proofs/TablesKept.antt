@@ -14,10 +14,10 @@ use Rattle.catalog_json.specs.declared.place.Place.TheVariants as places
 use Rattle.query_core.specs.Catalog.{trillion}
 use Rattle.query_core.specs.Differ.{all_differ}
 use Rattle.query_core.specs.Catalog.{is_catalog_name, IsPlacing, IsTable, IsCatalog}
-use Rattle.catalog_json.specs.Walk.{◌>>=◌, catalog_at, columns_at, each, indexes_at, list_at, lists_at, named_table_at}
+use Rattle.catalog_json.specs.Walk.{catalog_at, columns_at, indexes_at, list_at, lists_at, named_table_at}
 use Rattle.catalog_json.specs.Walk.{new_name_at, number_at, object_at, placing_at, table_at, tables_at, version_at}
 use Rattle.query_core.proofs.Apart.{differ_push}
-use Rattle.orca_base.proofs.Checked.{bind_ok, done, each_counts, ok_is}
+use Rattle.orca_base.proofs.Checked.{bind_ok, each_counts, ok_is}
 use Rattle.catalog_json.proofs.Steps.{all_keep, list_kept, new_name_kept, number_kept}
 use Rattle.catalog_json.proofs.ColumnsKept.{below, columns_kept}
 use Rattle.catalog_json.proofs.ListsKept.{AreIndexes, indexes_kept, placing_kept}
@@ -31,11 +31,14 @@ lists_kept : (t : ℕ) (names : List (List ℕ)) (d : Data) (lists : Placing × 
     → lists_at t names d ≡ Ok lists → IsPlacing (length names) lists.0 × AreIndexes (length names) lists.1
 unfolding lists_at
 lists_kept t names d lists e =
-    let placing = bind_ok (placing_at t names (get (codes "distribution") d)) (λ placing. indexes_at t names (get (codes "indexes") d) >>= λ indexes. done (placing, indexes)) lists e in
-    let indexes = bind_ok (indexes_at t names (get (codes "indexes") d)) (λ indexes. done (placing.0, indexes)) lists placing.2 in
+    let placing = bind_ok (placing_at t names (get (codes "distribution") d)) _ lists e in
+    let indexes = bind_ok (indexes_at t names (get (codes "indexes") d)) _ lists placing.2 in
     subst (λ (lists : Placing × List (List ℕ)). IsPlacing (length names) lists.0 × AreIndexes (length names) lists.1)
-    (ok_is (placing.0, indexes.0) lists indexes.2)
-    (placing_kept t names (get (codes "distribution") d) placing.0 placing.1, indexes_kept t names (get (codes "indexes") d) indexes.0 indexes.1)
+    (ok_is (placing.0, indexes.0) lists indexes.2) (
+      placing_kept t names (get (codes "distribution") d) placing.0 placing.1,
+      indexes_kept t names
+          (get (codes "indexes") d) indexes.0 indexes.1,
+    )
 
 -- a table that got a name
 record IsTableNamed (name : List ℕ) (table : TableInfo) : Type 0 where
@@ -47,16 +50,9 @@ named_table_kept : (t : ℕ) (name : List ℕ) (d : Data) (table : TableInfo) �
 unfolding named_table_at
 named_table_kept t name d table named e =
     let texts = λ (columns : List ColumnInfo). map (λ c. c.name) columns in
-    let rows = bind_ok (number_at 0 trillion (places.Rows t) (get (codes "rows") d)) (λ rows. columns_at t (get (codes "columns") d) >>= λ columns. lists_at t (texts columns) d >>= λ lists. done (record { name = name; rows = rows; placing = lists.0; columns = columns; indexes = lists.1 })) table e in
-    let columns = bind_ok (columns_at t (get (codes "columns") d)) (λ columns. lists_at t (texts columns) d >>= λ lists. done (record { name = name; rows = rows.0; placing = lists.0; columns = columns; indexes = lists.1 })) table rows.2 in
-    let lists = bind_ok (lists_at t (texts columns.0) d)
-    (λ lists. done (record {
-      name = name;
-      rows = rows.0;
-      placing = lists.0;
-      columns = columns.0;
-      indexes = lists.1;
-    })) table columns.2 in
+    let rows = bind_ok (number_at 0 trillion (places.Rows t) (get (codes "rows") d)) _ table e in
+    let columns = bind_ok (columns_at t (get (codes "columns") d)) _ table rows.2 in
+    let lists = bind_ok (lists_at t (texts columns.0) d) _ table columns.2 in
     let width : length (texts columns.0) ≡ length columns.0 = length-map columns.0 (λ c. c.name) in
     let are = columns_kept t (get (codes "columns") d) columns.0 columns.1 in
     let listed = rw width at (lists_kept t (texts columns.0) d lists.0 lists.1) in
@@ -87,8 +83,8 @@ unfolding table_at
 table_kept before d table so_far e =
     let t = length before in
     let names = map (λ t. t.name) before in
-    let object = bind_ok (object_at (places.Table t) d) (λ object. new_name_at (places.TableName t) names (get (codes "name") object) >>= λ name. named_table_at t name object) table e in
-    let name = bind_ok (new_name_at (places.TableName t) names (get (codes "name") object.0)) (λ name. named_table_at t name object.0) table object.2 in
+    let object = bind_ok (object_at (places.Table t) d) _ table e in
+    let name = bind_ok (new_name_at (places.TableName t) names (get (codes "name") object.0)) _ table object.2 in
     let new = new_name_kept (places.TableName t) names (get (codes "name") object.0) name.0 name.1 in
     let kept = named_table_kept t name.0 object.0 table new.0 name.2 in
     record {
@@ -105,7 +101,7 @@ record AreAllTables (tables : List TableInfo) : Type 0 where
 tables_kept : (found : Option Data) (tables : List TableInfo) → tables_at found ≡ Ok tables → AreAllTables tables
 unfolding tables_at
 tables_kept found tables e =
-    let ds = bind_ok (list_at 0 1000 places.Tables found) (λ ds. each table_at [] ds) tables e in
+    let ds = bind_ok (list_at 0 1000 places.Tables found) _ tables e in
     record {
       count = below 1000 (length tables) (rw (each_counts table_at ds.0 tables ds.2)
           (list_kept 0 1000 places.Tables found ds.0 ds.1));
@@ -116,11 +112,11 @@ tables_kept found tables e =
 pub catalog_kept : (d : Data) (catalog : Catalog) → catalog_at d ≡ Ok catalog → IsCatalog catalog
 unfolding catalog_at
 catalog_kept d catalog e =
-    let object = bind_ok (object_at places.Whole d) (λ object. version_at (get (codes "version") object) >>= λ version. number_at 1 1000 places.Segments (get (codes "segments") object) >>= λ segments. tables_at (get (codes "tables") object) >>= λ tables. done (record { segments = segments; tables = tables })) catalog e in
+    let object = bind_ok (object_at places.Whole d) _ catalog e in
     let o = object.0 in
-    let version = bind_ok (version_at (get (codes "version") o)) (λ version. number_at 1 1000 places.Segments (get (codes "segments") o) >>= λ segments. tables_at (get (codes "tables") o) >>= λ tables. done (record { segments = segments; tables = tables })) catalog object.2 in
-    let segments = bind_ok (number_at 1 1000 places.Segments (get (codes "segments") o)) (λ segments. tables_at (get (codes "tables") o) >>= λ tables. done (record { segments = segments; tables = tables })) catalog version.2 in
-    let tables = bind_ok (tables_at (get (codes "tables") o)) (λ tables. done (record { segments = segments.0; tables = tables })) catalog segments.2 in
+    let version = bind_ok (version_at (get (codes "version") o)) _ catalog object.2 in
+    let segments = bind_ok (number_at 1 1000 places.Segments (get (codes "segments") o)) _ catalog version.2 in
+    let tables = bind_ok (tables_at (get (codes "tables") o)) _ catalog segments.2 in
     let kept = tables_kept (get (codes "tables") o) tables.0 tables.1 in
     subst IsCatalog (ok_is _ catalog tables.2) (record {
       segment_count = number_kept 1 1000 places.Segments (get (codes "segments") o) segments.0 segments.1;

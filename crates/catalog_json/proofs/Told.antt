@@ -68,8 +68,10 @@ number_told least most at found = limits_told least most at (option_and_then who
 column_told : (t : ℕ) (before : List ColumnInfo) (d : Data) → IsTold (column_at t before d)
 unfolding column_at
 column_told t before d = goes_on faults.Memory _ _ (object_told (places.Column t (length before)) d)
-    (λ object. goes_on faults.Memory _ _ (new_name_told (places.ColumnName t (length before)) (map (λ c. c.name) before) (get (codes "name") object))
-    (λ name. goes_on faults.Memory _ _ (number_told 0 trillion (places.Ndv t (length before)) (get (codes "ndv") object)) (λ ndv. tt)))
+    (λ object. goes_on faults.Memory _ _ (new_name_told (places.ColumnName t (length before))
+    (map (λ c. c.name) before) (get (codes "name") object))
+    (λ name. goes_on faults.Memory _ _ (number_told 0 trillion (places.Ndv t (length before))
+    (get (codes "ndv") object)) (λ ndv. tt)))
 
 columns_told : (t : ℕ) (found : Option Data) → IsTold (columns_at t found)
 unfolding columns_at
@@ -111,7 +113,8 @@ indexes_told t names (Some d) = goes_on faults.Memory _ _ (list_told 0 16 (place
 
 lists_told : (t : ℕ) (names : List (List ℕ)) (d : Data) → IsTold (lists_at t names d)
 unfolding lists_at
-lists_told t names d = goes_on faults.Memory _ _ (placing_by_told t names (get (codes "distribution") d) (option_and_then as_str (get (codes "distribution") d)))
+lists_told t names d = goes_on faults.Memory _ _ (placing_by_told t names (get (codes "distribution") d)
+    (option_and_then as_str (get (codes "distribution") d)))
     (λ placing. goes_on faults.Memory _ _ (indexes_told t names (get (codes "indexes") d)) (λ indexes. tt))
 
 named_table_told : (t : ℕ) (name : List ℕ) (d : Data) → IsTold (named_table_at t name d)
@@ -123,7 +126,8 @@ named_table_told t name d = goes_on faults.Memory _ _ (number_told 0 trillion (p
 table_told : (before : List TableInfo) (d : Data) → IsTold (table_at before d)
 unfolding table_at
 table_told before d = goes_on faults.Memory _ _ (object_told (places.Table (length before)) d)
-    (λ object. goes_on faults.Memory _ _ (new_name_told (places.TableName (length before)) (map (λ t. t.name) before) (get (codes "name") object))
+    (λ object. goes_on faults.Memory _ _ (new_name_told (places.TableName (length before))
+    (map (λ t. t.name) before) (get (codes "name") object))
     (λ name. named_table_told (length before) name object))
 
 -- ---- the whole

@@ -61,7 +61,8 @@ placing_value columns Random = refl
 -- the members before, and the indexes where there are some
 abbrev pub with_indexes : List ColumnInfo → List (List ℕ) → Members → Members
 with_indexes columns [] found = found
-with_indexes columns (index ∷ indexes) found = put (codes "indexes") (list_data (places_data columns) (index ∷ indexes)) found
+with_indexes columns (index ∷ indexes) found = put (codes "indexes")
+    (list_data (places_data columns) (index ∷ indexes)) found
 
 indexes_value : (columns : List ColumnInfo) (indexes : List (List ℕ)) (found : Members)
     → of_members (indexes_member columns indexes) found ≡ Some (with_indexes columns indexes found)

@@ -21,7 +21,8 @@ list_json json xs = array (items_of (map json xs))
 
 -- a column: its name and the number of its distinct values
 abbrev pub column_json : ColumnInfo → Json
-column_json column = object (member (codes "name") (string column.name) (member (codes "ndv") (number (decimal column.ndv)) no_members))
+column_json column = object
+    (member (codes "name") (string column.name) (member (codes "ndv") (number (decimal column.ndv)) no_members))
 
 -- the name of the column at a place
 abbrev pub name_at : List ColumnInfo → ℕ → List ℕ
@@ -39,7 +40,8 @@ placing_json columns Random = string (codes "random")
 -- the member for the indexes, where there are some
 abbrev pub indexes_member : List ColumnInfo → List (List ℕ) → Members
 indexes_member columns [] = no_members
-indexes_member columns (index ∷ indexes) = member (codes "indexes") (list_json (places_json columns) (index ∷ indexes)) no_members
+indexes_member columns (index ∷ indexes) = member (codes "indexes")
+    (list_json (places_json columns) (index ∷ indexes)) no_members
 
 -- a table
 abbrev pub table_json : TableInfo → Json

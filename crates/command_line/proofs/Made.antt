@@ -25,9 +25,14 @@ name_read commands.Gen = refl
 pub name_spelled : (word : List ℕ) (name : CommandName) → command_named word ≡ Some name → word ≡ command_word name
 name_spelled word name is = of_word (bytes_eq word (codes "plan")) (bytes_eq word (codes "gen")) refl refl is
   where
-    of_word : (a b : Bool) → bytes_eq word (codes "plan") ≡ a → bytes_eq word (codes "gen") ≡ b → cond a (Some commands.Plan) (cond b (Some commands.Gen) None) ≡ Some name → word ≡ command_word name
-    of_word true b same other found = let here : commands.Plan ≡ name = cc in is_text word (codes "plan") same ∙ ap command_word here
-    of_word false true same other found = let here : commands.Gen ≡ name = cc in is_text word (codes "gen") other ∙ ap command_word here
+    of_word : (a b : Bool) → bytes_eq word (codes "plan") ≡ a → bytes_eq word (codes "gen") ≡ b
+        → cond a (Some commands.Plan) (cond b (Some commands.Gen) None) ≡ Some name → word ≡ command_word name
+    of_word true b same other found =
+        let here : commands.Plan ≡ name = cc in
+        is_text word (codes "plan") same ∙ ap command_word here
+    of_word false true same other found =
+        let here : commands.Gen ≡ name = cc in
+        is_text word (codes "gen") other ∙ ap command_word here
     of_word false false same other found = cc
 
 -- ---- shapes
@@ -38,12 +43,19 @@ shape_read Star = refl
 shape_read Clique = refl
 
 shape_spelled : (word : List ℕ) (shape : GenShape) → shape_of word ≡ Some shape → word ≡ shape_word shape
-shape_spelled word shape is = of_word (bytes_eq word (codes "chain")) (bytes_eq word (codes "star")) (bytes_eq word (codes "clique")) refl refl refl is
+shape_spelled word shape is = of_word (bytes_eq word (codes "chain")) (bytes_eq word (codes "star"))
+    (bytes_eq word (codes "clique")) refl refl refl is
   where
-    of_word : (a b c : Bool) → bytes_eq word (codes "chain") ≡ a → bytes_eq word (codes "star") ≡ b → bytes_eq word (codes "clique") ≡ c → cond a (Some Chain) (cond b (Some Star) (cond c (Some Clique) None)) ≡ Some shape → word ≡ shape_word shape
+    of_word : (a b c : Bool) → bytes_eq word (codes "chain") ≡ a → bytes_eq word (codes "star") ≡ b
+        → bytes_eq word (codes "clique") ≡ c
+        → cond a (Some Chain) (cond b (Some Star) (cond c (Some Clique) None)) ≡ Some shape → word ≡ shape_word shape
     of_word true b c x y z found = let here : Chain ≡ shape = cc in is_text word (codes "chain") x ∙ ap shape_word here
-    of_word false true c x y z found = let here : Star ≡ shape = cc in is_text word (codes "star") y ∙ ap shape_word here
-    of_word false false true x y z found = let here : Clique ≡ shape = cc in is_text word (codes "clique") z ∙ ap shape_word here
+    of_word false true c x y z found =
+        let here : Star ≡ shape = cc in
+        is_text word (codes "star") y ∙ ap shape_word here
+    of_word false false true x y z found =
+        let here : Clique ≡ shape = cc in
+        is_text word (codes "clique") z ∙ ap shape_word here
     of_word false false false x y z found = cc
 
 -- ---- what catalogues and queries are made of

@@ -30,9 +30,12 @@ root_read Spread = refl
 pub root_spelled : (value : List ℕ) (dist : RootDist) → root_of value ≡ Some dist → value ≡ root_word dist
 root_spelled value dist is = of_word (bytes_eq value (codes "one")) (bytes_eq value (codes "spread")) refl refl is
   where
-    of_word : (a b : Bool) → bytes_eq value (codes "one") ≡ a → bytes_eq value (codes "spread") ≡ b → cond a (Some One) (cond b (Some Spread) None) ≡ Some dist → value ≡ root_word dist
+    of_word : (a b : Bool) → bytes_eq value (codes "one") ≡ a → bytes_eq value (codes "spread") ≡ b
+        → cond a (Some One) (cond b (Some Spread) None) ≡ Some dist → value ≡ root_word dist
     of_word true b same other found = let here : One ≡ dist = cc in is_text value (codes "one") same ∙ ap root_word here
-    of_word false true same other found = let here : Spread ≡ dist = cc in is_text value (codes "spread") other ∙ ap root_word here
+    of_word false true same other found =
+        let here : Spread ≡ dist = cc in
+        is_text value (codes "spread") other ∙ ap root_word here
     of_word false false same other found = cc
 
 -- ---- rules

@@ -27,7 +27,10 @@ use Rattle.command_line.specs.declared.choices.Setting.TheVariants as settings
 
 -- the distribution of a word
 abbrev pub root_of : List ℕ → Option RootDist
-root_of word = if bytes_eq word (codes "one") then Some One else if bytes_eq word (codes "spread") then Some Spread else None
+root_of word =
+    if bytes_eq word (codes "one") then Some One
+    else if bytes_eq word (codes "spread") then Some Spread
+    else None
 
 -- the rule of a name
 abbrev pub rule_of_name : List ℕ → Option Rule
@@ -128,7 +131,10 @@ files_of (catalog ∷ query ∷ third ∷ more) = None
 -- the shape of a word
 abbrev pub shape_of : List ℕ → Option GenShape
 shape_of word =
-    if bytes_eq word (codes "chain") then Some Chain else if bytes_eq word (codes "star") then Some Star else if bytes_eq word (codes "clique") then Some Clique else None
+    if bytes_eq word (codes "chain") then Some Chain
+    else if bytes_eq word (codes "star") then Some Star
+    else if bytes_eq word (codes "clique") then Some Clique
+    else None
 
 -- what the words of a number, of a count of tables and of a shape say
 abbrev pub input_with : Option ℕ → Option ℕ → Option GenShape → Option GenInput
@@ -168,7 +174,10 @@ behind_name command words = option_and_then (command_from command) (pieces_of wo
 
 -- the command of a word
 abbrev pub command_named : List ℕ → Option CommandName
-command_named word = if bytes_eq word (codes "plan") then Some commands.Plan else if bytes_eq word (codes "gen") then Some commands.Gen else None
+command_named word =
+    if bytes_eq word (codes "plan") then Some commands.Plan
+    else if bytes_eq word (codes "gen") then Some commands.Gen
+    else None
 
 -- the command that the words are; there is none where they are spelled otherwise
 abbrev pub command_of : List (List ℕ) → Option AnyCommand

@@ -118,7 +118,8 @@ closes_with meaning_of rules room words views sound id v mine all no_right free 
       none_ready = λ none. all_finished (meaning_of rules) rules room words views sound id v mine all no_right free children
           rank falls (subst (IsFirstReady (meaning_of rules) (mem words) room) none reads.ready);
       finished_by = finished_by (meaning_of rules) rules room words views sound id v mine all;
-      registered = λ c q near at. registered_not_ready (meaning_of rules) room (mem words) views sound.by_kinds.waits c q
+      registered = λ c q near at. registered_not_ready (meaning_of rules) room
+          (mem words) views sound.by_kinds.waits c q
           near (among_counts (λ (p : ℕ). p) (sound.by_kinds.waits.lists c) q at);
       filled = λ shows. reads.full ∙ ap not (ne_eqb (mem words).full 0
           ((sound.by_kinds.hands id v mine).stays.set_full shows.0 shows.1 shows.2));

@@ -166,7 +166,8 @@ module _ (q : Query) where
                 is_asked = is_asked;
               }))
 
-          pub first_in_range : (first : Option Request) → first ≡ option_map (λ a. a.1) alt.left → IfSome first IsInRange
+          pub first_in_range : (first : Option Request) → first ≡ option_map (λ a. a.1) alt.left
+              → IfSome first IsInRange
           first_in_range first is_first = asked_in_range alt.left first is_first (λ ask is.
               let (group, is_asked) = left_is_asked (physical_children e.operator) (asked_of line wanted) by.asks ask
               is in ask_in_range group ask.1 is_asked)

@@ -17,7 +17,8 @@ left_from q goals who i = concat (crew_lines q (drop i goals) (drop i who))
 -- what was added, and the lines that are left, are the whole, also with one more line
 pub crew_more : (q : Query) (goals : List GoalKind) (who : List ℕ) (i : ℕ) (d : GoalKind) → i < length goals
     → i < length who → (text middle after whole : List ℕ)
-    → text ++ left_from q goals who i ≡ whole → Adds text (decimal (get_or who i 0) ++ codes " ") middle → Adds middle (goal_line q (get_or goals i d)) after
+    → text ++ left_from q goals who i ≡ whole → Adds text (decimal (get_or who i 0) ++ codes " ") middle
+    → Adds middle (goal_line q (get_or goals i d)) after
     → after ++ left_from q goals who (i + 1) ≡ whole
 crew_more q goals who i d within within_who text middle after whole is worker line =
     let this : List ℕ = (decimal (get_or who i 0) ++ codes " ") ++ goal_line q (get_or goals i d) in
@@ -25,7 +26,8 @@ crew_more q goals who i d within within_who text middle after whole is worker li
     let left : left_from q goals who i ≡ this ++ rest =
     ap (λ gs. concat (crew_lines q gs (drop i who))) (drop_more goals i d within)
     ∙ ap (λ ws. concat (crew_lines q (get_or goals i d ∷ drop (i + 1) goals) ws)) (drop_more who i 0 within_who) in
-    let added : after ≡ text ++ this = adds_more text (decimal (get_or who i 0) ++ codes " ") middle (goal_line q (get_or goals i d)) after worker line in
+    let added : after ≡ text ++ this =
+    adds_more text (decimal (get_or who i 0) ++ codes " ") middle (goal_line q (get_or goals i d)) after worker line in
     ap (λ t. t ++ rest) added ∙ append_assoc text this rest ∙ ap (λ t. text ++ t) (sym left) ∙ is
 
 -- at the end no line is left

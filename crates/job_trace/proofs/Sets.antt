@@ -13,7 +13,8 @@ behind separator [] = []
 behind separator (table ∷ tables) = separator ++ (table.alias ++ behind (codes ", ") tables)
 
 -- behind other aliases, each has its comma
-behind_comma : (tables : List QueryTable) → behind (codes ", ") tables ≡ flat_map (λ table. codes ", " ++ table.alias) tables
+behind_comma : (tables : List QueryTable)
+    → behind (codes ", ") tables ≡ flat_map (λ table. codes ", " ++ table.alias) tables
 behind_comma [] = refl
 behind_comma (table ∷ tables) = ap (λ rest. codes ", " ++ (table.alias ++ rest)) (behind_comma tables)
 
@@ -30,7 +31,8 @@ module _ (set place : ℕ) (tables : List QueryTable) (table : QueryTable) (with
 
   -- a table of the set is put down
   pub behind_one : (text separator more : List ℕ) → bit set place ≡ 1 → more ≡ (text ++ separator) ++ table.alias
-      → text ++ behind separator (tables_in set place (drop place tables)) ≡ more ++ behind (codes ", ") (tables_in set (place + 1) (drop (place + 1) tables))
+      → text ++ behind separator (tables_in set place (drop place tables))
+      ≡ more ++ behind (codes ", ") (tables_in set (place + 1) (drop (place + 1) tables))
   behind_one text separator more has is_more = rw (from_here, eq-eqb (bit set place) 1 has, is_more) (simp append_assoc)
 
   -- another table isn't

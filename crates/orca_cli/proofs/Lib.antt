@@ -5,6 +5,8 @@ pub mod Limits
 pub mod Refusals
 pub mod SectionTexts
 pub mod Stages
+pub mod QueryStages
+pub mod CatalogStages
 pub mod Puts
 pub mod Causes
 pub mod Served

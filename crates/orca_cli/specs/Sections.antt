@@ -96,7 +96,8 @@ first_line (byte ∷ more) = if byte == 10 then byte ∷ [] else byte ∷ first_
 
 -- the line of a number, of how many tables, and of the word of a shape
 abbrev pub gen_words : ℕ → ℕ → List ℕ → List ℕ
-gen_words number tables shape = codes "gen number=" ++ decimal number ++ codes " tables=" ++ decimal tables ++ codes " shape=" ++ shape ++ codes "\n"
+gen_words number tables shape = codes "gen number=" ++ decimal number ++ codes " tables=" ++ decimal tables
+    ++ codes " shape=" ++ shape ++ codes "\n"
 
 -- the line of what was generated
 abbrev pub gen_line : GenInput → List ℕ

@@ -117,7 +117,8 @@ module _ (q : Query) (falls : RanksFall q) (at : Linked) (goal : IsGoal q (goal_
           (lower first.group first.wanted (inl (refl, refl)), lower second.group second.wanted (inr (inl (refl, refl))))
 
       -- so is what an expression in a mode asks
-      pub native_lower : (found : Links) → AreLinked (groups_of (physical_children e.operator)) (asked_of line at.wanted)
+      pub native_lower : (found : Links) → AreLinked (groups_of (physical_children e.operator))
+          (asked_of line at.wanted)
           found → AreLower q (rank_of (goal_of at)) found
       native_lower found linked = lower_by found (λ group wanted asked.
           asked_lower group wanted (subst (λ g. IsAsked g (asked_of line at.wanted) group wanted) linked.groups_are

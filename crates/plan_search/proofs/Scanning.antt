@@ -163,7 +163,8 @@ module _ (q : Query) where
                 Some tree,
                 record {
                   is_best = (node, chosen);
-                  improves = λ plan beats. order.along tree before plan (inl (omega (arith, less, chosen.cost, is.1.cost)))
+                  improves = λ plan beats. order.along tree before plan
+                      (inl (omega (arith, less, chosen.cost, is.1.cost)))
                       beats;
                   root_below = omega (arith, root);
                   done = order.itself tree;

@@ -122,7 +122,8 @@ module _ (q : Query) (from : KeyParts) (has : HasGrouped q from) (order : ℕ)
     (order_fits : (group : KeyParts) → HasGrouped q group → IsNumbered q order × OrderLiesIn q group (order_of q order))
   where
     -- an aggregation that gives this order fits where its distribution does
-    agg_fits : (dist : LeftDist) → ((wanted : Dist) → DistServes q dist wanted → DistFits q from (dist_asked dist wanted))
+    agg_fits : (dist : LeftDist) → ((wanted : Dist) → DistServes q dist wanted → DistFits q from
+        (dist_asked dist wanted))
         → DistWithin q groups.Agg from dist
         → IsFitting q groups.Agg (One from) (lines.Above dist (in_order order))
     agg_fits dist asked within = record {
@@ -133,7 +134,8 @@ module _ (q : Query) (from : KeyParts) (has : HasGrouped q from) (order : ℕ)
     }
 
     -- one by the hash of a list does, where the list lies in GROUP BY
-    hashed_fits : (list : ℕ) → IsFitting q groups.Agg (One from) (lines.Above (left_dists.Grouped list) (in_order order))
+    hashed_fits : (list : ℕ) → IsFitting q groups.Agg (One from)
+        (lines.Above (left_dists.Grouped list) (in_order order))
     hashed_fits list =
         agg_fits (left_dists.Grouped list) (λ wanted serves. grouped_list_fits q from has list serves.0)
         (λ grouped. grouped_list_fits q groups.Agg (agg_has_grouped q) list grouped)
@@ -153,7 +155,8 @@ module _ (q : Query) (from : KeyParts) (has : HasGrouped q from) (order : ℕ)
         (λ other. no_line line)
     agg_line_fits (modes.Copied number) line = no_line line
     agg_line_fits (modes.Hashed list) line =
-        cond_both (nat_lt list (length (lists_of q))) (Some (lines.Above (left_dists.Grouped list) (in_order order))) None
+        cond_both (nat_lt list (length (lists_of q)))
+        (Some (lines.Above (left_dists.Grouped list) (in_order order))) None
         (λ found. found ≡ Some line → IsFitting q groups.Agg (One from) line)
         (λ numbered is.
         let same : lines.Above (left_dists.Grouped list) (in_order order) ≡ line = cc in

@@ -15,7 +15,7 @@ use Rattle.request_props.specs.Numbered.{dist_by, table_dist}
 use Rattle.request_props.specs.Lying.{ListLiesIn, OrderLiesIn}
 use Rattle.plan_space.specs.Laws.{GivenDistFits, DistLiesIn, GivenFits}
 use Rattle.plan_space.proofs.Numbers.{ListingIsOne, table_list_numbered}
-use Rattle.plan_space.proofs.Items.{hashed_columns, index_of_columns}
+use Rattle.plan_space.proofs.TableColumns.{hashed_columns, index_of_columns}
 use Rattle.plan_space.proofs.Fitting.{no_order_fits, dist_lies, half}
 
 module _ (one : ListingIsOne) (q : Query) (t : ℕ) (group : KeyParts) (columns : (i : ℕ)

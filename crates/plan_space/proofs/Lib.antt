@@ -1,5 +1,6 @@
 pub mod Numbers
 pub mod Items
+pub mod TableColumns
 pub mod Fitting
 pub mod Joins
 pub mod Leaves

@@ -44,7 +44,8 @@ AreLeast Member q (group ∷ groups) (wanted ∷ wishes) (plan ∷ plans) = IsLe
 -- an enforcer for the request over a least plan, or a member in a mode that is there for the request over least plans
 pub data IsChoice (Member : ExprParts → Type 0) (q : Query) (group : KeyParts) (wanted : Request) (plan : Tree) : Type 0
   where
-    enforced_choice : (e : EnforcedBy) → (kid : Tree) → Among e (enforcers_of wanted) → IsLeast Member q group e.below kid
+    enforced_choice : (e : EnforcedBy) → (kid : Tree) → Among e (enforcers_of wanted)
+        → IsLeast Member q group e.below kid
         → plan ≡ over (nodes.Enforcer e.node) kid
         → IsChoice Member q group wanted plan
     native_choice : (e : PhysicalExpr) → (mode : ℕ) → (line : Line) → (kids : List Tree) → Member (expr_of e)

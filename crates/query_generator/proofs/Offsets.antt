@@ -14,11 +14,11 @@ use Rattle.sql_bind.specs.declared.columns.Column.{Column}
 use Rattle.sql_bind.specs.declared.conditions.Compared.{Compared}
 use Rattle.sql_bind.specs.declared.conditions.Side.{Side}
 use Rattle.sql_bind.specs.declared.conditions.Side.TheVariants as sides
-use Rattle.sql_bind.specs.Steps.{Binding, ◌>>=◌, each}
+use Rattle.sql_bind.specs.Steps.{Binding, each}
 use Rattle.sql_bind.specs.Scope.{FromTable, alias_at, alias_of, aliased, from_table, has_alias, info_of, scope_of}
 use Rattle.sql_bind.specs.Columns.{candidates, column, column_of, only_one, place_in}
-use Rattle.sql_bind.specs.Conditions.{compared_in, compared_of, op_of, side_in}
-use Rattle.orca_base.proofs.Checked.{bind_ok, done, not_met, seen_ok}
+use Rattle.sql_bind.specs.Conditions.{compared_in, compared_of, side_in}
+use Rattle.orca_base.proofs.Checked.{bind_ok, not_met, seen_ok}
 
 -- what is bound without a fault element by element, where each element may be changed so
 each_same : {A X : Type 0} (change : X → X) (part : List A → X → Binding A)
@@ -28,7 +28,7 @@ each_same : {A X : Type 0} (change : X → X) (part : List A → X → Binding A
 unfolding each
 each_same change part same before [] ys e = e
 each_same change part same before (x ∷ xs) ys e =
-    let made = bind_ok (part before (change x)) (λ y. each part (before ++ y ∷ []) (map change xs)) ys e in
+    let made = bind_ok (part before (change x)) _ ys e in
     rw (same before x made.0 made.1) (each_same change part same (before ++ made.0 ∷ []) xs ys made.2)
 
 -- ---- FROM
@@ -79,11 +79,8 @@ comparison_same : (scope : List FromTable) (pred : SelPred) (c : Compared)
     → compared_in scope (unplaced_pred pred) ≡ Ok c → compared_in scope pred ≡ Ok c
 unfolding compared_in
 comparison_same scope pred c e =
-    let left = bind_ok (column_of scope (unplaced_column pred.left))
-    (λ left. side_in scope (unplaced_operand pred.right) >>= λ right.
-    done (record { left = left; op = op_of pred.op; right = right })) c e in
-    let right = bind_ok (side_in scope (unplaced_operand pred.right))
-    (λ right. done (record { left = left.0; op = op_of pred.op; right = right })) c left.2 in
+    let left = bind_ok (column_of scope (unplaced_column pred.left)) _ c e in
+    let right = bind_ok (side_in scope (unplaced_operand pred.right)) _ c left.2 in
     rw (column_same scope pred.left left.0 left.1, side_same scope pred.right right.0 right.1) right.2
 
 pub compared_same : (scope : List FromTable) (preds : List SelPred) (compared : List Compared)

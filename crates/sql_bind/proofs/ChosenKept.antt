@@ -196,8 +196,7 @@ chosen_step : (scope : List FromTable) (before : List Chosen) (item : SelItem) (
 unfolding chosen_in
 chosen_step scope before item c so_far good e =
     let parts = and_parts (is_expr item.expr) (is_named item.name) good in
-    let bound = bind_ok (what_in scope (aggregates before) item.expr)
-    (λ what. named_as before item.name_at item.name what) c e in
+    let bound = bind_ok (what_in scope (aggregates before) item.expr) _ c e in
     named_kept scope before so_far item.name_at item.name bound.0 c parts.1
     (what_kept scope (aggregates before) item.expr bound.0 parts.0 bound.1) bound.2
 

@@ -21,7 +21,6 @@ use Rattle.sql_bind.specs.declared.sort_keys.Target.TheVariants as targets
 use Rattle.sql_bind.specs.declared.select_list.Chosen.{Chosen}
 use Rattle.sql_bind.specs.declared.sort_keys.SortKey.{SortKey}
 use Rattle.sql_bind.specs.declared.parts.Parts.{Parts}
-use Rattle.sql_bind.specs.Steps.{◌>>=◌}
 use Rattle.sql_bind.specs.Scope.{FromTable, scope_of}
 use Rattle.sql_bind.specs.Columns.{column_of, columns_of}
 use Rattle.sql_bind.specs.SelectList.{chosen_of}
@@ -30,7 +29,7 @@ use Rattle.sql_bind.specs.SortKeys.{keys_of}
 use Rattle.sql_bind.specs.Parts.{parts_of}
 use Rattle.sql_bind.specs.Used.{in_compared, in_side, in_target, named_by_compared, named_by_keys}
 use Rattle.sql_bind.specs.Grouping.{first_of, is_grouped, item_count, judged, loose_places, none_loose, sized}
-use Rattle.orca_base.proofs.Checked.{bind_ok, done, not_met, ok_is, seen_ok}
+use Rattle.orca_base.proofs.Checked.{bind_ok, not_met, ok_is, seen_ok}
 use Rattle.sql_bind.proofs.Resolving.{has_column, column_there}
 use Rattle.sql_bind.proofs.KeysKept.{is_target}
 
@@ -55,22 +54,12 @@ pub parts_bound : (select : Select) (catalog : Catalog) (p : Parts) → parts_of
     → AreBound select catalog p
 unfolding parts_of
 parts_bound select catalog p e =
-    let scope = bind_ok (scope_of catalog select.from)
-    (λ scope. chosen_of scope select.items >>= λ chosen. compared_of scope select.preds >>= λ compared.
-    columns_of scope select.group_by >>= λ group. keys_of scope chosen select.order_by >>= λ keys.
-    done (made scope chosen compared group keys)) p e in
+    let scope = bind_ok (scope_of catalog select.from) _ p e in
     let s = scope.0 in
-    let chosen = bind_ok (chosen_of s select.items)
-    (λ chosen. compared_of s select.preds >>= λ compared. columns_of s select.group_by >>= λ group.
-    keys_of s chosen select.order_by >>= λ keys. done (made s chosen compared group keys)) p scope.2 in
-    let compared = bind_ok (compared_of s select.preds)
-    (λ compared. columns_of s select.group_by >>= λ group. keys_of s chosen.0 select.order_by >>= λ keys.
-    done (made s chosen.0 compared group keys)) p chosen.2 in
-    let group = bind_ok (columns_of s select.group_by)
-    (λ group. keys_of s chosen.0 select.order_by >>= λ keys. done (made s chosen.0 compared.0 group keys)) p
-    compared.2 in
-    let keys = bind_ok (keys_of s chosen.0 select.order_by) (λ keys. done (made s chosen.0 compared.0 group.0 keys)) p
-    group.2 in
+    let chosen = bind_ok (chosen_of s select.items) _ p scope.2 in
+    let compared = bind_ok (compared_of s select.preds) _ p chosen.2 in
+    let group = bind_ok (columns_of s select.group_by) _ p compared.2 in
+    let keys = bind_ok (keys_of s chosen.0 select.order_by) _ p group.2 in
     subst (AreBound select catalog) (ok_is (made s chosen.0 compared.0 group.0 keys.0) p keys.2)
     (record { scope = scope.1; chosen = chosen.1; compared = compared.1; group = group.1; keys = keys.1 })
 
@@ -133,10 +122,8 @@ pub compared_step : (scope : List FromTable) (before : List Compared) (pred : Se
     → list_all (λ x. list_all (has_column 0 scope) (in_compared x)) (before ++ c ∷ []) ≡ true
 unfolding compared_in
 compared_step scope before pred c so_far good e =
-    let lefts = bind_ok (column_of scope pred.left)
-    (λ l. side_in scope pred.right >>= λ r. done (record { left = l; op = op_of pred.op; right = r })) c e in
-    let rights = bind_ok (side_in scope pred.right)
-    (λ r. done (record { left = lefts.0; op = op_of pred.op; right = r })) c lefts.2 in
+    let lefts = bind_ok (column_of scope pred.left) _ c e in
+    let rights = bind_ok (side_in scope pred.right) _ c lefts.2 in
     let whole : Compared = record { left = lefts.0; op = op_of pred.op; right = rights.0 } in
     all_push (λ (x : Compared). list_all (has_column 0 scope) (in_compared x)) before c so_far
     (subst (λ (x : Compared). list_all (has_column 0 scope) (in_compared x) ≡ true) (ok_is whole c rights.2)

@@ -1,5 +1,5 @@
 -- The columns that a query names are there, and so they are used.
-use Rattle.std.proofs.Common.{◌≡◌, ◌+◌, true, List, [], ◌++◌, length}
+use Rattle.std.proofs.Common.{◌≡◌, true, List, [], ◌++◌, length}
 use Rattle.std.proofs.Common.{Ok, refl, subst}
 use Rattle.std.specs.List.{list_all}
 use Rattle.query_core.specs.declared.catalog.Catalog.{Catalog}
@@ -29,8 +29,8 @@ use Rattle.sql_bind.proofs.ChosenKept.{AreChosen, chosen_kept}
 use Rattle.sql_bind.proofs.PredsKept.{AreUsed}
 use Rattle.sql_bind.proofs.KeysKept.{is_target, keys_kept}
 use Rattle.sql_bind.proofs.Truths.{all_both}
-use Rattle.sql_bind.proofs.Named.{AreBound, compared_step, compared_there, group_step, judged_ok, keys_there}
-use Rattle.sql_bind.proofs.Named.{parts_bound}
+use Rattle.sql_bind.proofs.Named.{AreBound, AreJudged, compared_step, compared_there, group_step, judged_ok}
+use Rattle.sql_bind.proofs.Named.{keys_there, parts_bound}
 
 abbrev pub all_used : Parts → List UsedColumn
 all_used p = used_from (wanted_by p) 0 p.scope
@@ -142,12 +142,18 @@ pub bound_there : (select : Select) (catalog : Catalog) (p : Parts) → IsReadab
 bound_there select catalog p readable kept e =
     all_there select catalog p readable kept (parts_bound select catalog p e)
 
+-- a fact of parts that were judged and of all their used columns holds of a binding without a fault
+pub of_binding : (select : Select) (catalog : Catalog) (p : Parts) (Fact : Parts → List UsedColumn → Type 0)
+    → ((parts : Parts) → parts_of select catalog ≡ Ok parts → AreJudged parts → Fact parts (all_used parts))
+    → binding select catalog ≡ Ok p → Fact p (used_by p)
+unfolding binding
+of_binding select catalog p Fact fact e =
+    let parts = bind_ok (parts_of select catalog) judged p e in
+    let good = judged_ok parts.0 p parts.2 in
+    rw (used_is p) (subst (λ (q : Parts). Fact q (all_used q)) good.0 (fact parts.0 parts.1 good.1))
+
 -- the used columns of a binding without a fault
 pub columns_of_binding : (select : Select) (catalog : Catalog) (p : Parts) → IsReadable select → IsCatalog catalog
     → binding select catalog ≡ Ok p → AreUsedColumns p (used_by p)
-unfolding binding
-columns_of_binding select catalog p readable kept e =
-    let parts = bind_ok (parts_of select catalog) judged p e in
-    let good = judged_ok parts.0 p parts.2 in
-    rw (used_is p) (subst (λ (q : Parts). AreUsedColumns q (all_used q)) good.0
-    (columns_known select catalog parts.0 readable kept (parts_bound select catalog parts.0 parts.1)))
+columns_of_binding select catalog p readable kept = of_binding select catalog p AreUsedColumns
+    (λ parts is good. columns_known select catalog parts readable kept (parts_bound select catalog parts is))

@@ -1,6 +1,6 @@
 -- A query that is bound without a fault is valid.
 use Rattle.std.proofs.Common.{◌≡◌, ℕ, ◌≤◌, ◌<◌, ◌+◌, ◌||◌, Bool, true, false, List, [], ◌∷◌, length, map, nat_le}
-use Rattle.std.proofs.Common.{nat_lt, is_some, slice_get, option_to_list, Ok, refl, subst, arith}
+use Rattle.std.proofs.Common.{nat_lt, is_some, slice_get, option_to_list, Ok, refl, arith}
 use Rattle.std.specs.List.{list_all}
 use Rattle.std.specs.Option.{option_map_or}
 use Rattle.std.proofs.lemmas.List.{length-map}
@@ -13,6 +13,8 @@ use Rattle.query_core.specs.Grouping.{IsGrouping}
 use Rattle.query_core.specs.Results.{IsOutput, IsOrder, is_named, is_root_item}
 use Rattle.query_core.specs.declared.catalog.Catalog.{Catalog}
 use Rattle.query_core.specs.declared.output.OrderKey.{OrderKey}
+use Rattle.query_core.specs.declared.table.Item.{Item}
+use Rattle.query_core.specs.declared.aggregate.Agg.{Agg}
 use Rattle.query_core.specs.Catalog.{IsCatalog}
 use Rattle.sql_reader.specs.declared.syntax.Select.{Select}
 use Rattle.sql_bind.specs.declared.columns.Column.{Column}
@@ -20,16 +22,14 @@ use Rattle.sql_bind.specs.declared.select_list.Chosen.{Chosen}
 use Rattle.sql_bind.specs.declared.parts.Parts.{Parts}
 use Rattle.sql_bind.specs.Columns.{is_among}
 use Rattle.sql_bind.specs.SelectList.{aggregates}
-use Rattle.sql_bind.specs.Parts.{parts_of}
 use Rattle.sql_bind.specs.Used.{UsedColumn, listed_from, named_by}
 use Rattle.sql_bind.specs.Used.{used_by, wanted_by}
 use Rattle.sql_bind.specs.Numbers.{number_of}
 use Rattle.sql_bind.specs.Query.{aggs_of, distinct_by, group_numbers, items_of, item_of, itself, key_item, key_of}
 use Rattle.sql_bind.specs.Query.{order_of, outputs_of, output_of, preds_of, pred_of, tables_from}
-use Rattle.sql_bind.specs.Grouping.{is_grouped, judged, loose_chosen, loose_keys, loose_places}
+use Rattle.sql_bind.specs.Grouping.{is_grouped, loose_chosen, loose_keys, loose_places}
 use Rattle.sql_reader.specs.Readable.{IsReadable}
 use Rattle.sql_bind.specs.Binding.{binding}
-use Rattle.orca_base.proofs.Checked.{bind_ok}
 use Rattle.sql_bind.proofs.Found.{IsAt, within}
 use Rattle.sql_bind.proofs.ScopeKept.{are_tables}
 use Rattle.sql_bind.proofs.ItemsKept.{all_low}
@@ -41,8 +41,8 @@ use Rattle.sql_bind.proofs.KeysKept.{is_named_number, named_aggregate}
 use Rattle.sql_bind.proofs.RootKept.{chosen_root, keys_named, keys_root, named_low, nothing}
 use Rattle.std.proofs.Math.Nat.{zero-add}
 use Rattle.std.proofs.lemmas.Bool.{and_from, and_parts, or_right}
-use Rattle.sql_bind.proofs.Named.{AreJudged, judged_ok}
-use Rattle.sql_bind.proofs.NamedThere.{AreThere, all_used, bound_there, used_is}
+use Rattle.sql_bind.proofs.Named.{AreJudged}
+use Rattle.sql_bind.proofs.NamedThere.{AreThere, all_used, bound_there, of_binding, used_is}
 
 pub record IsValid (p : Parts) (used : List UsedColumn) : Type 0 where
   pub few : length used ≤ 60
@@ -115,8 +115,12 @@ module _ (select : Select) (p : Parts) (readable : IsReadable select) (there : A
       → option_map_or (λ agg. is_some agg.name) (slice_get (aggs_of (all_used p) p.chosen) n) false ≡ true
   names n found = named_aggregate (all_used p) p.chosen n there.list.numbered found
 
-  grouping : IsGrouping (items_of (all_used p)) (is_grouped p) (group_numbers (all_used p) p.group)
+  -- the items, whether they are grouped, the numbers of GROUP BY and the aggregates, of the query over all used columns
+  abbrev OfQuery : (List Item → Bool → List ℕ → List Agg → Type 0) → Type 0
+  OfQuery Fact = Fact (items_of (all_used p)) (is_grouped p) (group_numbers (all_used p) p.group)
       (aggs_of (all_used p) p.chosen)
+
+  grouping : OfQuery IsGrouping
   grouping =
       let u = all_used p in
       let columns = map (number_of u) p.group in
@@ -137,8 +141,8 @@ module _ (select : Select) (p : Parts) (readable : IsReadable select) (there : A
         items_fit = rw (length-map u item_of, as_counted u p.chosen) fits;
       }
 
-  output : IsOutput (items_of (all_used p)) (is_grouped p) (group_numbers (all_used p) p.group)
-      (aggs_of (all_used p) p.chosen) (outputs_of (all_used p) p.chosen)
+  output : OfQuery (λ items grouped columns aggs.
+      IsOutput items grouped columns aggs (outputs_of (all_used p) p.chosen))
   output =
       let u = all_used p in
       record {
@@ -149,8 +153,7 @@ module _ (select : Select) (p : Parts) (readable : IsReadable select) (there : A
         named = outputs_named u p.chosen there.list.named;
       }
 
-  order : IsOrder (items_of (all_used p)) (is_grouped p) (group_numbers (all_used p) p.group)
-      (aggs_of (all_used p) p.chosen) (order_of (all_used p) p.keys)
+  order : OfQuery (λ items grouped columns aggs. IsOrder items grouped columns aggs (order_of (all_used p) p.keys))
   order =
       let u = all_used p in
       let keys = map (key_of u) p.keys in
@@ -192,9 +195,5 @@ module _ (select : Select) (p : Parts) (readable : IsReadable select) (there : A
 -- the parts of a binding without a fault
 pub valid : (select : Select) (catalog : Catalog) (p : Parts) → IsReadable select → IsCatalog catalog
     → binding select catalog ≡ Ok p → IsValid p (used_by p)
-unfolding binding
-valid select catalog p readable kept e =
-    let parts = bind_ok (parts_of select catalog) judged p e in
-    let good = judged_ok parts.0 p parts.2 in
-    rw (used_is p) (subst (λ (q : Parts). IsValid q (all_used q)) good.0
-    (all_valid select parts.0 readable (bound_there select catalog parts.0 readable kept parts.1) good.1))
+valid select catalog p readable kept = of_binding select catalog p IsValid
+    (λ parts is good. all_valid select parts readable (bound_there select catalog parts readable kept is) good)

@@ -17,7 +17,8 @@ use Rattle.best_answers.specs.Answers.{answer_of}
 use Rattle.best_answers.specs.Best.{IsLeastIn}
 use Rattle.best_answers.specs.declared.best.Best.{Best}
 use Rattle.best_answers.proofs.OneChoice.{AreTold, choice_in_range}
-use Rattle.best_answers.proofs.Least.{AreOrdered, best_one, lesser_best, none_best, covered_best}
+use Rattle.best_answers.proofs.OneBest.{best_one}
+use Rattle.best_answers.proofs.Least.{AreOrdered, lesser_best, none_best, covered_best}
 use Rattle.best_answers.proofs.Single.{enforcer_best, mode_best}
 use Rattle.best_answers.proofs.laws.answers_are_best.Goals as goal
 

@@ -8,10 +8,16 @@ use Rattle.catalog_json.specs.Walk.{lists_at, named_table_at, table_at}
 use Rattle.catalog_json.proofs.table.read_table.Goals as goal
 
 -- once the name is known, the member that says it is read no more
-without_name : (t : ℕ) (name : List ℕ) (old new : Data) → ((other : List ℕ) → bytes_eq (codes "name") other ≡ false → get other new ≡ get other old)
+without_name : (t : ℕ) (name : List ℕ) (old new : Data)
+    → ((other : List ℕ) → bytes_eq (codes "name") other ≡ false → get other new ≡ get other old)
     → named_table_at t name new ≡ named_table_at t name old
 unfolding named_table_at lists_at
-without_name t name old new others = rw (others (codes "rows") refl, others (codes "columns") refl, others (codes "distribution") refl, others (codes "indexes") refl) refl
+without_name t name old new others = rw (
+  others (codes "rows") refl,
+  others (codes "columns") refl,
+  others (codes "distribution") refl,
+  others (codes "indexes") refl,
+) refl
 
 -- the name is read first, and then the other members
 pub returns-clause-read : goal.returns-clause-read

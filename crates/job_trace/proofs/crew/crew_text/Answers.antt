@@ -17,7 +17,8 @@ push_crew_lines-requires-clause-each c =
 pub returns : goal.returns
 returns c =
     let lines = λ (gs : List GoalKind). concat (crew_lines c.args.query.now gs c.args.who.now) in
-    let first : string_bytes c.push_str.new.self ≡ codes "by-worker\n" = c.in_ok-push_str.ensures.bytes ∙ ap (λ text. text ++ codes "by-worker\n") c.new-text.ensures.bytes in
+    let first : string_bytes c.push_str.new.self ≡ codes "by-worker\n" =
+    c.in_ok-push_str.ensures.bytes ∙ ap (λ text. text ++ codes "by-worker\n") c.new-text.ensures.bytes in
     record {
       kinds = c.in_ok-goals.goals.items;
       are = c.in_ok-goals.ensures;

@@ -11,4 +11,7 @@ returns c =
     let members : List ℕ = counted (codes " members=") c.args.members in
     let both = adds_more start groups (string_bytes c.push_count.new.text) members
     (string_bytes c.push_count-2.new.text) c.in_ok-push_count.ensures.ok c.in_ok-push_count-2.ensures.ok in
-    record { ok = adds_last c.push_str.result start (groups ++ members) (string_bytes c.push_count-2.new.text) (codes "\n") (string_bytes c.push_str.new.self) both c.push_str.ensures.bytes }
+    record {
+      ok = adds_last c.push_str.result start (groups ++ members) (string_bytes c.push_count-2.new.text)
+          (codes "\n") (string_bytes c.push_str.new.self) both c.push_str.ensures.bytes;
+    }

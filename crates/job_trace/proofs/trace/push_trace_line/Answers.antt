@@ -31,4 +31,8 @@ returns c =
     (string_bytes c.push_kind-6.new.text) to_impe c.in_ok-push_kind-6.ensures.ok in
     let to_opte = adds_more start (all ++ exp ++ expe ++ xf ++ imp ++ impe ++ opt) (string_bytes c.push_kind-6.new.text)
     opte (string_bytes c.push_kind-7.new.text) to_opt c.in_ok-push_kind-7.ensures.ok in
-    record { ok = adds_last c.push_str.result start (all ++ exp ++ expe ++ xf ++ imp ++ impe ++ opt ++ opte) (string_bytes c.push_kind-7.new.text) (codes "\n") (string_bytes c.push_str.new.self) to_opte c.push_str.ensures.bytes }
+    record {
+      ok = adds_last c.push_str.result start (all ++ exp ++ expe ++ xf ++ imp ++ impe ++ opt ++ opte)
+          (string_bytes c.push_kind-7.new.text) (codes "\n")
+          (string_bytes c.push_str.new.self) to_opte c.push_str.ensures.bytes;
+    }

@@ -2,7 +2,8 @@ use Rattle.std.proofs.Common.{◌∙◌}
 use Rattle.orca_cli.specs.Asked.{Asks}
 use Rattle.orca_cli.specs.Run.{IsAnswer}
 use Rattle.std.proofs.lemmas.Result.{IfOk-weaker}
-use Rattle.orca_cli.proofs.Stages.{stopped, unnumbered_answer}
+use Rattle.orca_cli.proofs.Stages.{stopped}
+use Rattle.orca_cli.proofs.QueryStages.{unnumbered_answer}
 use Rattle.orca_cli.proofs.binding.asked_as.Goals as goal
 
 -- the query is within the limits, since its lists and orders have numbers

@@ -2,7 +2,8 @@ use Rattle.std.proofs.Common.{◌∙◌}
 use Rattle.orca_cli.specs.Asked.{Asks, IsBoundAs}
 use Rattle.orca_cli.specs.Run.{IsAnswer}
 use Rattle.std.proofs.lemmas.Result.{IfOk-weaker}
-use Rattle.orca_cli.proofs.Stages.{stopped, unbound_answer}
+use Rattle.orca_cli.proofs.Stages.{stopped}
+use Rattle.orca_cli.proofs.QueryStages.{unbound_answer}
 use Rattle.orca_cli.proofs.binding.asked_by_select.Goals as goal
 
 -- the select is bound, so the text is

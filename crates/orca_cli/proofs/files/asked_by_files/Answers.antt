@@ -4,7 +4,8 @@ use Rattle.orca_cli.specs.Reading.{AreHeld}
 use Rattle.orca_cli.specs.Run.{IsAskedBy, IsEnding}
 use Rattle.orca_io.specs.Shelf.{Exceeds}
 use Rattle.std.proofs.lemmas.Result.{IfOk-weaker}
-use Rattle.orca_cli.proofs.Stages.{stopped, asking_then, long_catalog, retold_over, over_files, asked_files}
+use Rattle.orca_cli.proofs.Stages.{stopped, asking_then}
+use Rattle.orca_cli.proofs.CatalogStages.{long_catalog, retold_over, over_files, asked_files}
 use Rattle.orca_cli.proofs.files.asked_by_files.Goals as goal
 
 -- a file over the limit is no catalogue

@@ -2,7 +2,8 @@ use Rattle.std.proofs.Common.{sym, ◌∙◌}
 use Rattle.orca_cli.specs.Asked.{SaysCatalog}
 use Rattle.orca_cli.specs.Stages.{IsAskedOver, IsEndingOver, over}
 use Rattle.std.proofs.lemmas.Result.{IfOk-weaker}
-use Rattle.orca_cli.proofs.Stages.{stopped, asking_then, refused_over}
+use Rattle.orca_cli.proofs.Stages.{stopped, asking_then}
+use Rattle.orca_cli.proofs.CatalogStages.{refused_over}
 use Rattle.orca_cli.proofs.files.asked_over_bytes.Goals as goal
 
 -- the bytes say the catalogue

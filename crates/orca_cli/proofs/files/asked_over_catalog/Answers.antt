@@ -4,7 +4,8 @@ use Rattle.orca_cli.specs.Reading.{AreHeld}
 use Rattle.orca_cli.specs.Run.{IsAskedAt}
 use Rattle.orca_cli.specs.Stages.{IsEndingAt}
 use Rattle.std.proofs.lemmas.Result.{IfOk-weaker}
-use Rattle.orca_cli.proofs.Stages.{stopped, asking_then, long_query, asked_read, answer_read}
+use Rattle.orca_cli.proofs.Stages.{stopped, asking_then}
+use Rattle.orca_cli.proofs.QueryStages.{long_query, asked_read, answer_read}
 use Rattle.orca_cli.proofs.files.asked_over_catalog.Goals as goal
 
 -- a file over the limit is a text that is too long
