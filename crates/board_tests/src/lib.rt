@@ -1,4 +1,4 @@
-//! What the board's calls do, and the hints of places: tests, and the rules of their boards.
+//! What sets of words, the board's calls and the hints of places do: tests, and the rules of their boards.
 #![tactic(auto)]
 
 #[cfg(test)]
@@ -6,5 +6,7 @@ mod call_tests;
 #[cfg(test)]
 mod hint_tests;
 mod numbers;
+#[cfg(test)]
+mod word_tests;
 
 pub use numbers::Numbers;

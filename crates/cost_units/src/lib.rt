@@ -3,8 +3,6 @@
 
 mod cost;
 mod shape;
-#[cfg(test)]
-mod tests;
 
 pub use cost::{bits_are_digits, local, share};
 pub use shape::{Class, CostShape};

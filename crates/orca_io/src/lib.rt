@@ -8,8 +8,6 @@ mod mem_shelf;
 mod mem_sink;
 mod shelf;
 mod sink;
-#[cfg(test)]
-mod tests;
 
 pub use gate::{Gate, NoGate};
 pub use host::{FileShelf, StdSink};

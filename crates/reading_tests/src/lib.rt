@@ -1,4 +1,4 @@
-//! What is read, and what is written to be read: catalogues, queries, and the words of a command; tests alone.
+//! What is read, and what is written to be read: catalogues, queries, the words of a command, and their files; tests alone.
 #![tactic(auto)]
 
 #[cfg(test)]
@@ -9,6 +9,8 @@ mod catalog_tests;
 mod command_tests;
 #[cfg(test)]
 mod generator_tests;
+#[cfg(test)]
+mod io_tests;
 #[cfg(test)]
 mod print_tests;
 #[cfg(test)]

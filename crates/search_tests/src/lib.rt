@@ -8,6 +8,8 @@ mod child_tests;
 #[cfg(test)]
 mod closure_tests;
 #[cfg(test)]
+mod cost_tests;
+#[cfg(test)]
 mod goal_word_tests;
 #[cfg(test)]
 mod grouped_node_tests;

@@ -9,6 +9,3 @@ mod table;
 pub use outcome::Inserted;
 pub use places::{home, next_place};
 pub use table::WordTable;
-
-#[cfg(test)]
-mod tests;

@@ -1,4 +1,6 @@
-use crate::{Class, CostShape, local, share};
+//! What nodes cost, and how many rows a segment has.
+
+use cost_units::{Class, CostShape, local, share};
 
 #[test]
 fn costs_are_those_of_worked_examples(rt: HostRuntime) {

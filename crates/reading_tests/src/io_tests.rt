@@ -1,14 +1,15 @@
-// What no clause says: that calls succeed where memory is there, and what the host's calls answer.
-use super::*;
+//! Files and outputs, the host's and those in memory: what no clause says.
+
+use orca_io::{FileShelf, MemShelf, MemSink, Shelf, ShelfError, Sink, SinkError, StdSink};
 use std::alloc::{AllocError, Global};
 use std::fmt::Display;
 use std::io::ErrorKind;
 use std::test::Fail;
 use std::{fs, io};
 
-const FOLDER: &str = "orca_io_test";
+const FOLDER: &str = "reading_test";
 
-const FILE: &str = "orca_io_test/file";
+const FILE: &str = "reading_test/file";
 
 // Whether a read of the file is answered so, and leaves these bytes.
 fn reads<S: Shelf>(
@@ -33,7 +34,7 @@ fn a_file_is_read_whole_or_refused(rt: HostRuntime) -> Result<(), Fail> {
     for (name, limit, want, bytes) in [
         (FILE, 4, Err(ShelfError::TooLong { seen: 5 }), "old "),
         (FILE, 0, Err(ShelfError::TooLong { seen: 1 }), "old "),
-        ("orca_io_test/missing", 9, Err(ShelfError::Failed), "old "),
+        ("reading_test/missing", 9, Err(ShelfError::Failed), "old "),
         (FOLDER, 9, Err(ShelfError::Failed), "old "),
         (FILE, 5, Ok(()), "old three"),
         (FILE, u64::MAX, Ok(()), "old threethree"),

@@ -1,5 +1,7 @@
-use crate::{Inserted, WordTable, home};
+//! Sets of words by open addressing.
+
 use std::test::Fail;
+use word_table::{Inserted, WordTable, home};
 
 #[test]
 fn homes_are_as_the_formula_gives_them(rt: HostRuntime) {
