@@ -11,13 +11,10 @@ use std::alloc::{AllocError, Global};
 use std::sync::Wait;
 use std::test::Fail;
 use std::thread::Threads;
-use worked_queries::{implied, one_table};
+use worked_queries::{SCAN_ROOT, implied, one_table};
 
 // What a note has of a search: its capacity, its workers and its goals.
 type Noted = Option<(u32, u32, u32)>;
-
-// The word of the goal Opt Get(t) [One]: kind 5, key 0, request 0.
-const ROOT: u64 = 13 << 60;
 
 // Whether both searches found the same members, goals and answers.
 pub fn found_alike(one: &Outcome, other: &Outcome) -> bool {
@@ -60,7 +57,10 @@ fn ready_at_first(alloc: Global, query: &Query, props: &Props) -> Result<Option<
 #[test]
 fn a_search_without_a_step_is_unfinished(rt: HostRuntime) -> Result<(), Fail> {
     let (query, props) = implied(rt.alloc(), one_table(rt.alloc(), 0)?)?;
-    assert_eq!(rt; ready_at_first(rt.alloc(), &query, &props)?, Some(ROOT));
+    assert_eq!(rt;
+        ready_at_first(rt.alloc(), &query, &props)?,
+        Some(SCAN_ROOT)
+    );
     Ok(())
 }
 

@@ -14,7 +14,7 @@ use query_core::{Goal, Query};
 use request_props::Props;
 use std::alloc::{AllocError, Global};
 use std::test::Fail;
-use worked_queries::{implied, one_table};
+use worked_queries::{SCAN_ROOT, implied, one_table};
 use xform_rules::members_are_known;
 
 // The words of a goal's first three children.
@@ -91,7 +91,7 @@ fn are_those_of_a_table(goals: &[u64], children: &[FirstThree]) -> bool {
                 (Some(*imp), Some(*opt_e), None),
                 (None, None, None),
             ];
-            *opt_one == 13 << 60 && children == expected.as_slice()
+            *opt_one == SCAN_ROOT && children == expected.as_slice()
         }
         _ => false,
     }

@@ -10,7 +10,7 @@ use query_core::{Expr, Query};
 use std::alloc::{AllocError, Global};
 use std::process::Abort;
 use std::test::Fail;
-use worked_queries::{cycle, filtered_count, two_tables};
+use worked_queries::{JOIN_MEMO, cycle, filtered_count, two_tables};
 
 fn are_candidates(query: &Query, words: &[u64]) -> bool
     ensures { IsTrue result → All (IsCandidateWord query.now) words.now }
@@ -78,25 +78,7 @@ fn a_memo_is_shown_group_by_group(rt: HostRuntime) -> Result<(), Fail> {
         0x403580002002,
         0x403580004001,
     ];
-    let wanted = "memo groups=3 members=13
-group Get(T1) rows=1000
-  Get(T1)
-  Scan(T1)
-group Get(T2) rows=1000
-  Get(T2)
-  Scan(T2)
-group Join(T1, T2) rows=1000
-  NJoin(T1, T2)
-  Join(T1 | T2)
-  Join(T2 | T1)
-  HashJoin(T1 | T2)
-  HashJoin(T2 | T1)
-  MergeJoin(T1 | T2)
-  MergeJoin(T2 | T1)
-  LoopJoin(T1 | T2)
-  LoopJoin(T2 | T1)
-";
-    assert_memo(&rt, rt.alloc(), two_tables(rt.alloc()), &words, wanted)
+    assert_memo(&rt, rt.alloc(), two_tables(rt.alloc()), &words, JOIN_MEMO)
 }
 
 #[test]

@@ -11,7 +11,7 @@ use query_core::Query;
 use request_props::Props;
 use std::alloc::{AllocError, Global};
 use std::test::Fail;
-use worked_queries::{implied, one_table, two_tables};
+use worked_queries::{SCAN_BY_WORKER, SCAN_TRACE, implied, one_table, two_tables};
 use xform_rules::members_are_known;
 
 // The trace over all members and goals of the query.
@@ -48,47 +48,17 @@ fn crew_over(alloc: Global, query: &Query, props: &Props) -> Result<Vec<u8>, All
     crew_text(alloc, query, props, goals.as_slice(), &who)
 }
 
-const TRACE: &str = "trace goals=8 exp=1 expe=1 xf=1 imp=1 impe=1 opt=2 opte=1
-Exp Get(t)
-  ExpE Get(t)
-ExpE Get(t)
-Xf GetToScan Get(t)
-Imp Get(t)
-  Exp Get(t)
-  ImpE Get(t)
-ImpE Get(t)
-  Xf GetToScan Get(t)
-Opt Get(t) [One]
-  Imp Get(t)
-  Opt Get(t) [Spread]
-Opt Get(t) [Spread]
-  Imp Get(t)
-  OptE Scan(t) [Spread]
-OptE Scan(t) [Spread]
-";
-
-const CREW: &str = "by-worker
-0 Exp Get(t)
-0 ExpE Get(t)
-0 Xf GetToScan Get(t)
-0 Imp Get(t)
-0 ImpE Get(t)
-0 Opt Get(t) [One]
-0 Opt Get(t) [Spread]
-0 OptE Scan(t) [Spread]
-";
-
 #[test]
 fn a_table_that_is_read_has_eight_goals(rt: HostRuntime) -> Result<(), Fail> {
     let trace = trace_of(rt.alloc(), one_table(rt.alloc(), 0))?;
-    assert_text(&rt, trace.as_slice(), TRACE);
+    assert_text(&rt, trace.as_slice(), SCAN_TRACE);
     Ok(())
 }
 
 #[test]
 fn one_worker_finishes_the_eight_goals(rt: HostRuntime) -> Result<(), Fail> {
     let crew = crew_of_one(rt.alloc(), one_table(rt.alloc(), 0))?;
-    assert_text(&rt, crew.as_slice(), CREW);
+    assert_text(&rt, crew.as_slice(), SCAN_BY_WORKER);
     Ok(())
 }
 

@@ -5,6 +5,7 @@ mod groupings;
 mod joins;
 mod props;
 mod single;
+mod told;
 mod worked;
 
 pub use groupings::{filtered_count, grouped, hashed_count, per_group, totals};
@@ -15,3 +16,4 @@ pub use joins::{
 };
 pub use props::{implied, props_of};
 pub use single::{filtered_table, one_table, sorted_table, three_indexes};
+pub use told::{JOIN_MEMO, SCAN_BY_WORKER, SCAN_ROOT, SCAN_TRACE};

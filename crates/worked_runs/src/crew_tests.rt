@@ -1,8 +1,8 @@
 //! What the program prints by one worker and by several.
 use crate::join_tests::JOINED;
 use crate::runs::{
-    EMPTY, EMPTY_BY_WORKER, EMPTY_MEMO, EMPTY_PLAN, EMPTY_TRACE, JOIN, PLAN, TWO_TABLES,
-    assert_printed, assert_sections, noted, printed,
+    EMPTY, EMPTY_MEMO, EMPTY_PLAN, JOIN, PLAN, TWO_TABLES, assert_printed, assert_sections, noted,
+    printed,
 };
 use orca_cli::Status;
 use std::alloc::AllocGlobal;
@@ -10,11 +10,12 @@ use std::process::Abort;
 use std::sync::Wait;
 use std::test::Fail;
 use std::thread::Threads;
+use worked_queries::{SCAN_BY_WORKER, SCAN_TRACE};
 
 #[test]
 fn one_worker_prints_all_sections(rt: HostRuntime) -> Result<(), Fail> {
     let words = "plan c.json q.sql --memo --trace --by-worker";
-    let sections = [EMPTY_PLAN, EMPTY_MEMO, EMPTY_TRACE, EMPTY_BY_WORKER];
+    let sections = [EMPTY_PLAN, EMPTY_MEMO, SCAN_TRACE, SCAN_BY_WORKER];
     assert_sections(&rt, words, &sections)?;
     let (_, note) = noted(&rt, words, EMPTY.as_bytes(), b"SELECT a FROM t")?;
     assert_eq!(rt; note, Some((131_072, 1, 8)));

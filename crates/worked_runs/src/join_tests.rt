@@ -6,6 +6,7 @@ use std::process::Abort;
 use std::sync::Wait;
 use std::test::Fail;
 use std::thread::Threads;
+use worked_queries::JOIN_MEMO;
 
 const LARGE_AND_SMALL: &str =
     r#"{"version":1,"segments":4,"tables":[{"name":"b","rows":100000,"distribution":"random","columns":[{"name":"x","ndv":1000}]},{"name":"s","rows":10,"distribution":"random","columns":[{"name":"y","ndv":10}]}]}"#;
@@ -86,24 +87,6 @@ fn a_further_key_of_a_catalog_changes_nothing(rt: HostRuntime) -> Result<(), Fai
 
 #[test]
 fn prints_the_plan_and_the_memo_of_a_join(rt: HostRuntime) -> Result<(), Fail> {
-    let memo = "memo groups=3 members=13
-group Get(T1) rows=1000
-  Get(T1)
-  Scan(T1)
-group Get(T2) rows=1000
-  Get(T2)
-  Scan(T2)
-group Join(T1, T2) rows=1000
-  NJoin(T1, T2)
-  Join(T1 | T2)
-  Join(T2 | T1)
-  HashJoin(T1 | T2)
-  HashJoin(T2 | T1)
-  MergeJoin(T1 | T2)
-  MergeJoin(T2 | T1)
-  LoopJoin(T1 | T2)
-  LoopJoin(T2 | T1)
-";
     let told = printed(
         &rt,
         "plan c.json q.sql --memo",
@@ -111,7 +94,7 @@ group Join(T1, T2) rows=1000
         JOIN.as_bytes(),
         Status::Planned,
     )?;
-    assert_eq!(rt; told.strip_prefix(JOINED), Some(memo));
+    assert_eq!(rt; told.strip_prefix(JOINED), Some(JOIN_MEMO));
     Ok(())
 }
 

@@ -17,7 +17,7 @@ pub const JOIN: &str = "SELECT T1.a FROM T1, T2 WHERE T1.a = T2.b ORDER BY T1.a"
 pub const EMPTY: &str =
     r#"{"version":1,"segments":4,"tables":[{"name":"t","rows":0,"distribution":"random","columns":[{"name":"a","ndv":1000},{"name":"b","ndv":10}]}]}"#;
 
-/// What is printed for `SELECT a FROM t` over it: the plan, the memo, the trace, and who finished each goal.
+/// What is printed for `SELECT a FROM t` over it: the plan and the memo.
 pub const EMPTY_PLAN: &str = "cost 2
 output t.a
 Gather rows=0 cost=1
@@ -28,36 +28,6 @@ pub const EMPTY_MEMO: &str = "memo groups=1 members=2
 group Get(t) rows=0
   Get(t)
   Scan(t)
-";
-
-pub const EMPTY_TRACE: &str = "trace goals=8 exp=1 expe=1 xf=1 imp=1 impe=1 opt=2 opte=1
-Exp Get(t)
-  ExpE Get(t)
-ExpE Get(t)
-Xf GetToScan Get(t)
-Imp Get(t)
-  Exp Get(t)
-  ImpE Get(t)
-ImpE Get(t)
-  Xf GetToScan Get(t)
-Opt Get(t) [One]
-  Imp Get(t)
-  Opt Get(t) [Spread]
-Opt Get(t) [Spread]
-  Imp Get(t)
-  OptE Scan(t) [Spread]
-OptE Scan(t) [Spread]
-";
-
-pub const EMPTY_BY_WORKER: &str = "by-worker
-0 Exp Get(t)
-0 ExpE Get(t)
-0 Xf GetToScan Get(t)
-0 Imp Get(t)
-0 ImpE Get(t)
-0 Opt Get(t) [One]
-0 Opt Get(t) [Spread]
-0 OptE Scan(t) [Spread]
 ";
 
 /// The words of a line, between single spaces; an empty line has none.

@@ -1,14 +1,14 @@
 //! Plans of one table, refusals with their causes and places, and the greatest lengths of texts.
 use crate::runs::{
-    EMPTY, EMPTY_MEMO, EMPTY_PLAN, EMPTY_TRACE, PLAN, TWO_TABLES, assert_catalog_fault,
-    assert_planned, assert_plans, assert_printed, assert_query_fault, assert_sections, printed,
-    shelf_of, words_of,
+    EMPTY, EMPTY_MEMO, EMPTY_PLAN, PLAN, TWO_TABLES, assert_catalog_fault, assert_planned,
+    assert_plans, assert_printed, assert_query_fault, assert_sections, printed, shelf_of, words_of,
 };
 use command_line::{Command, read_command};
 use orca_cli::{RunNote, Status, orca_alone};
 use orca_io::{MemShelf, MemSink};
 use std::alloc::Global;
 use std::test::Fail;
+use worked_queries::SCAN_TRACE;
 
 const CATALOG: &str =
     r#"{"version":1,"segments":4,"tables":[{"name":"t","rows":1000,"distribution":"random","columns":[{"name":"a","ndv":1000},{"name":"b","ndv":10}]}]}"#;
@@ -90,7 +90,7 @@ fn prints_the_trace_behind_the_memo(rt: HostRuntime) -> Result<(), Fail> {
     assert_sections(
         &rt,
         "plan --trace c.json q.sql --memo",
-        &[EMPTY_PLAN, EMPTY_MEMO, EMPTY_TRACE],
+        &[EMPTY_PLAN, EMPTY_MEMO, SCAN_TRACE],
     )
 }
 
