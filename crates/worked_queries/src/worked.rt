@@ -18,12 +18,25 @@ pub fn worked(alloc: Global, tables: &str, text: &str) -> Result<Query, Fail> {
 pub fn worked_without(alloc: Global, tables: &str, text: &str, off: u32) -> Result<Query, Fail>
     requires { AreOptions (record { root = RootDist.One; off = off }) }
 {
-    let json = format!(in alloc; "{{\"version\":1,\"segments\":4,\"tables\":{tables}}}")?;
-    let catalog = read_catalog(alloc, json.as_bytes())?;
-    let select = read_sql(alloc, text.as_bytes())?;
     let options = Options {
         root: RootDist::One,
         off,
     };
+    query_over(alloc, 4, tables, text, options)
+}
+
+/// The same on so many segments, with these options.
+pub fn query_over(
+    alloc: Global,
+    segments: u32,
+    tables: &str,
+    text: &str,
+    options: Options,
+) -> Result<Query, Fail>
+    requires { AreOptions options }
+{
+    let json = format!(in alloc; "{{\"version\":1,\"segments\":{segments},\"tables\":{tables}}}")?;
+    let catalog = read_catalog(alloc, json.as_bytes())?;
+    let select = read_sql(alloc, text.as_bytes())?;
     Ok(bind(alloc, &select, &catalog, options)?)
 }

@@ -5,16 +5,14 @@ ghost use Rattle.job_engine.specs.Runs.{RunEnds};
 
 use crate::listing::least_listed;
 use crate::ranked::{Ranked, rank_of};
-use catalog_json::read_catalog;
 use job_engine::{Outcome, RunNote, search_alone};
 use plan_report::extract;
 use plan_tree::Found;
 use query_core::{Options, Query, RootDist};
 use request_props::Props;
-use sql_bind::bind;
-use sql_reader::read_sql;
 use std::alloc::{AllocError, Global};
 use std::test::Fail;
+use worked_queries::query_over;
 
 const ONE_TABLE: &str =
     r#"[{"name":"t","rows":100,"distribution":"random","columns":[{"name":"a","ndv":100},{"name":"b","ndv":10}]}]"#;
@@ -67,10 +65,7 @@ fn query_of(
     if options.off >= 32768 || options.off % 4 != 0 {
         return Err(Fail::new("a rule may not be off"));
     }
-    let json = format!(in alloc; "{{\"version\":1,\"segments\":{segments},\"tables\":{tables}}}")?;
-    let catalog = read_catalog(alloc, json.as_bytes())?;
-    let select = read_sql(alloc, text.as_bytes())?;
-    Ok(bind(alloc, &select, &catalog, options)?)
+    query_over(alloc, segments, tables, text, options)
 }
 
 // The outcome of the engine with one worker.
