@@ -13,27 +13,34 @@ const PLAIN: Options = Options {
     off: 0,
 };
 
+// These words, and the number behind them.
+fn numbered_line(alloc: Global, words: &str, number: u32) -> Result<String, AllocError> {
+    format!(in alloc; "{words} {number}")
+}
+
 fn told(alloc: Global, fault: BindFault) -> Result<String, AllocError> {
-    match fault {
-        BindFault::UnknownTable { at } => format!(in alloc; "unknown table at {at}"),
-        BindFault::TwiceAlias { at } => format!(in alloc; "name twice at {at}"),
-        BindFault::UnknownColumn { at } => format!(in alloc; "unknown column at {at}"),
-        BindFault::Ambiguous { at } => format!(in alloc; "ambiguous column at {at}"),
-        BindFault::NotGrouped { at } => format!(in alloc; "not grouped at {at}"),
-        BindFault::TooManyItems { found } => format!(in alloc; "too many columns: {found}"),
-        BindFault::Memory => String::from_str(alloc, "memory"),
-    }
+    let (words, number) = match fault {
+        BindFault::UnknownTable { at } => ("unknown table at", at),
+        BindFault::TwiceAlias { at } => ("name twice at", at),
+        BindFault::UnknownColumn { at } => ("unknown column at", at),
+        BindFault::Ambiguous { at } => ("ambiguous column at", at),
+        BindFault::NotGrouped { at } => ("not grouped at", at),
+        BindFault::TooManyItems { found } => ("too many columns:", found),
+        BindFault::Memory => return String::from_str(alloc, "memory"),
+    };
+    numbered_line(alloc, words, number)
 }
 
 fn told_of_text(alloc: Global, fault: SqlFault) -> Result<String, AllocError> {
-    match fault {
-        SqlFault::TooLong => String::from_str(alloc, "too long"),
-        SqlFault::NotAscii { at } => format!(in alloc; "not ASCII at {at}"),
-        SqlFault::Token { at } => format!(in alloc; "token at {at}"),
-        SqlFault::Grammar { at } => format!(in alloc; "grammar at {at}"),
-        SqlFault::TooMany { what: _, at } => format!(in alloc; "too many at {at}"),
-        SqlFault::Memory => String::from_str(alloc, "memory"),
-    }
+    let (words, at) = match fault {
+        SqlFault::TooLong => return String::from_str(alloc, "too long"),
+        SqlFault::NotAscii { at } => ("not ASCII at", at),
+        SqlFault::Token { at } => ("token at", at),
+        SqlFault::Grammar { at } => ("grammar at", at),
+        SqlFault::TooMany { what: _, at } => ("too many at", at),
+        SqlFault::Memory => return String::from_str(alloc, "memory"),
+    };
+    numbered_line(alloc, words, at)
 }
 
 fn push_items(alloc: Global, text: &mut String, items: &[Item]) -> Result<(), AllocError> {

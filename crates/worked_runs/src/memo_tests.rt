@@ -1,9 +1,11 @@
 //! The memos of queries, as the program prints them.
 
+ghost use Rattle.std.specs.Prelude.{◌≤◌};
+
 use crate::runs::printed;
 use orca_cli::Status;
+use query_generator::{GenShape, generate};
 use std::alloc::{AllocError, AllocGlobal, Global};
-use std::process::Abort;
 use std::sync::Wait;
 use std::test::Fail;
 use std::thread::Threads;
@@ -11,26 +13,13 @@ use std::thread::Threads;
 // The memo of a query over a catalogue, without its first word.
 fn memo_of<R: Threads + Wait + Sync + AllocGlobal>(
     rt: &R,
-    catalog: &str,
-    query: &str,
+    catalog: &[u8],
+    query: &[u8],
 ) -> Result<String, Fail> {
     let words = "plan c.json q.sql --memo";
-    let (catalog, query) = (catalog.as_bytes(), query.as_bytes());
     let told = printed(rt, words, catalog, query, Status::Planned)?;
     let (_, memo) = told.split_once("\nmemo ").ok_or("a memo is printed")?;
     Ok(String::from_str(rt.alloc(), memo)?)
-}
-
-// Asserts how many groups and members the memo of a query has.
-fn assert_counts<R: Threads + Wait + Sync + AllocGlobal + Abort>(
-    rt: &R,
-    catalog: &str,
-    query: &str,
-    counts: &str,
-) -> Result<(), Fail> {
-    let memo = memo_of(rt, catalog, query)?;
-    assert_eq!(rt; memo.lines().next(), Some(counts));
-    Ok(())
 }
 
 #[test]
@@ -40,8 +29,9 @@ fn three_tables_with_two_equalities_on_a_link(rt: HostRuntime) -> Result<(), Fai
     let catalog = format!(in rt.alloc();
         "{{\"version\":1,\"segments\":4,\"tables\":[{{\"name\":\"A\",\"rows\":100,\"distribution\":\"random\",{columns}}},{{\"name\":\"B\",\"rows\":100,\"distribution\":\"random\",{columns}}},{{\"name\":\"C\",\"rows\":100,\"distribution\":\"random\",{columns}}}]}}"
     )?;
-    let query = "SELECT A.x FROM A, B, C WHERE A.x = B.x AND A.y = B.y AND B.z = C.z AND A.w = C.w";
-    let memo = memo_of(&rt, catalog.as_str(), query)?;
+    let query =
+        b"SELECT A.x FROM A, B, C WHERE A.x = B.x AND A.y = B.y AND B.z = C.z AND A.w = C.w";
+    let memo = memo_of(&rt, catalog.as_bytes(), query)?;
     assert!(rt; memo.starts_with("groups=7 members=58\n"));
     for want in [
         "\ngroup Join(A, B) rows=100\n",
@@ -74,8 +64,10 @@ fn star_catalog(alloc: Global) -> Result<String, AllocError> {
 fn a_star_of_eight_tables_with_grouping(rt: HostRuntime) -> Result<(), Fail> {
     let catalog = star_catalog(rt.alloc())?;
     let query =
-        "SELECT d1.a, COUNT(*) AS n FROM sales, d1, d2, d3, d4, d5, d6, d7 WHERE sales.f1 = d1.id AND sales.f2 = d2.id AND sales.f3 = d3.id AND sales.f4 = d4.id AND sales.f5 = d5.id AND sales.f6 = d6.id AND sales.f7 = d7.id AND d2.a = 5 AND d3.a < 10 GROUP BY d1.a ORDER BY n DESC, d1.a";
-    assert_counts(&rt, catalog.as_str(), query, "groups=139 members=3739")
+        b"SELECT d1.a, COUNT(*) AS n FROM sales, d1, d2, d3, d4, d5, d6, d7 WHERE sales.f1 = d1.id AND sales.f2 = d2.id AND sales.f3 = d3.id AND sales.f4 = d4.id AND sales.f5 = d5.id AND sales.f6 = d6.id AND sales.f7 = d7.id AND d2.a = 5 AND d3.a < 10 GROUP BY d1.a ORDER BY n DESC, d1.a";
+    let memo = memo_of(&rt, catalog.as_bytes(), query)?;
+    assert!(rt; memo.starts_with("groups=139 members=3739\n"));
+    Ok(())
 }
 
 // ---- the joins of each group, counted without rules
@@ -87,19 +79,12 @@ struct Pair {
     b: u32,
 }
 
-#[derive(Clone, Copy)]
-enum Shape {
-    Chain,
-    Star,
-    Clique,
-}
-
 // Whether the shape links the table at one place to that at a later one.
-fn is_linked(shape: Shape, first: usize, later: usize) -> bool {
+fn is_linked(shape: GenShape, first: u32, later: u32) -> bool {
     match shape {
-        Shape::Chain => first.saturating_add(1) == later,
-        Shape::Star => first == 0,
-        Shape::Clique => true,
+        GenShape::Chain => first.saturating_add(1) == later,
+        GenShape::Star => first == 0,
+        GenShape::Clique => true,
     }
 }
 
@@ -155,69 +140,47 @@ fn joins_of_groups(alloc: Global, memo: &str) -> Result<Vec<u32>, AllocError> {
     Ok(counts)
 }
 
-// The pairs of tables that the shape links, and the predicates that say so.
-fn linked(alloc: Global, shape: Shape, tables: &[u32]) -> Result<(Vec<Pair>, String), AllocError> {
+// The pairs of tables that the shape links.
+fn linked(alloc: Global, shape: GenShape, tables: u32) -> Result<Vec<Pair>, AllocError>
+    requires { tables ≤ 8 }
+{
     let mut pairs = Vec::new(alloc);
-    let mut predicates = String::new(alloc);
-    for (j, b) in tables.iter().enumerate() {
-        for (i, a) in tables.iter().enumerate() {
-            if i < j && is_linked(shape, i, j) {
-                let front = if pairs.is_empty() { " WHERE" } else { " AND" };
-                let predicate = format!(in alloc; "{front} t{i}.a = t{j}.a")?;
-                predicates.push_str(predicate.as_str())?;
-                pairs.push(Pair { a: *a, b: *b })?;
+    for j in 0..tables {
+        for i in 0..j {
+            if is_linked(shape, i, j) {
+                pairs.push(Pair {
+                    a: 1 << i,
+                    b: 1 << j,
+                })?;
             }
         }
     }
-    Ok((pairs, predicates))
+    Ok(pairs)
 }
 
-// A catalogue of so many tables, and the list of their names.
-fn tables_text(alloc: Global, count: usize) -> Result<(String, String), AllocError> {
-    let mut tables = String::new(alloc);
-    let mut names = String::new(alloc);
-    for i in 0..count {
-        let comma = if i == 0 { "" } else { "," };
-        let table = format!(in alloc;
-            "{comma}{{\"name\":\"t{i}\",\"rows\":10,\"distribution\":\"random\",\"columns\":[{{\"name\":\"a\",\"ndv\":10}}]}}"
-        )?;
-        tables.push_str(table.as_str())?;
-        names.push_str(format!(in alloc; "{comma}t{i}")?.as_str())?;
-    }
-    let catalog = format!(in alloc; "{{\"version\":1,\"segments\":4,\"tables\":[{tables}]}}")?;
-    Ok((catalog, names))
-}
-
-// The joins of each group of the shape's memo, and those that there should be.
+// The joins of each group of the memo of a generated query, and those that there should be.
 fn counts<R: Threads + Wait + Sync + AllocGlobal>(
     rt: &R,
-    shape: Shape,
-    tables: &[u32],
-    limit: u32,
-) -> Result<(Vec<u32>, Vec<u32>), Fail> {
+    shape: GenShape,
+    tables: u32,
+) -> Result<(Vec<u32>, Vec<u32>), Fail>
+    requires { (1 ≤ tables) × (tables ≤ 8) }
+{
     let alloc = rt.alloc();
-    let (catalog, names) = tables_text(alloc, tables.len())?;
-    let (pairs, predicates) = linked(alloc, shape, tables)?;
-    let query = format!(in alloc; "SELECT t0.a FROM {names}{predicates}")?;
-    let memo = memo_of(rt, catalog.as_str(), query.as_str())?;
+    let (catalog, query) = generate(alloc, 1, tables, shape)?;
+    let memo = memo_of(rt, &catalog, &query)?;
+    let pairs = linked(alloc, shape, tables)?;
     Ok((
         joins_of_groups(alloc, &memo)?,
-        splits_of_sets(alloc, &pairs, limit)?,
+        splits_of_sets(alloc, &pairs, 1 << tables)?,
     ))
 }
 
 #[test]
 fn a_group_has_a_join_for_each_split_of_its_tables(rt: HostRuntime) -> Result<(), Fail> {
-    let sizes: [(&[u32], u32); 5] = [
-        (&[1, 2], 4),
-        (&[1, 2, 4], 8),
-        (&[1, 2, 4, 8], 16),
-        (&[1, 2, 4, 8, 16], 32),
-        (&[1, 2, 4, 8, 16, 32], 64),
-    ];
-    for shape in [Shape::Chain, Shape::Star, Shape::Clique] {
-        for (tables, limit) in sizes {
-            let (found, wanted) = counts(&rt, shape, tables, limit)?;
+    for shape in [GenShape::Chain, GenShape::Star, GenShape::Clique] {
+        for tables in 2..7u32 {
+            let (found, wanted) = counts(&rt, shape, tables)?;
             assert_eq!(rt; found.as_slice(), wanted.as_slice());
         }
     }
@@ -226,18 +189,12 @@ fn a_group_has_a_join_for_each_split_of_its_tables(rt: HostRuntime) -> Result<()
 
 #[test]
 fn chains_and_stars_of_four_tables(rt: HostRuntime) -> Result<(), Fail> {
-    let (catalog, _) = tables_text(rt.alloc(), 4)?;
-    for (query, want) in [
-        (
-            "SELECT t0.a FROM t0, t1, t2, t3 WHERE t0.a = t1.a AND t1.a = t2.a AND t2.a = t3.a",
-            "groups=10 members=94",
-        ),
-        (
-            "SELECT t0.a FROM t0, t1, t2, t3 WHERE t0.a = t1.a AND t0.a = t2.a AND t0.a = t3.a",
-            "groups=11 members=111",
-        ),
+    for (line, want) in [
+        ("gen 1 4 chain", "\nmemo groups=10 members=94\n"),
+        ("gen 1 4 star", "\nmemo groups=11 members=111\n"),
     ] {
-        assert_counts(&rt, catalog.as_str(), query, want)?;
+        let told = printed(&rt, line, b"", b"", Status::Planned)?;
+        assert!(rt; told.contains(want), "{line}");
     }
     Ok(())
 }
