@@ -12,7 +12,7 @@ use query_core::{Options, Query, RootDist};
 use request_props::Props;
 use std::alloc::{AllocError, Global};
 use std::test::Fail;
-use worked_queries::query_over;
+use worked_queries::{implied, query_over};
 
 const ONE_TABLE: &str =
     r#"[{"name":"t","rows":100,"distribution":"random","columns":[{"name":"a","ndv":100},{"name":"b","ndv":10}]}]"#;
@@ -113,8 +113,7 @@ fn both_of(
     options: Options,
     most: usize,
 ) -> Result<(Option<Ranked>, Option<Ranked>), Fail> {
-    let query = Box::new(alloc, query_of(alloc, segments, tables, text, options)?)?;
-    let props = Box::new(alloc, Props::collect(alloc, &query)?)?;
+    let (query, props) = implied(alloc, query_of(alloc, segments, tables, text, options)?)?;
     both_least(alloc, &query, &props, most)
 }
 
