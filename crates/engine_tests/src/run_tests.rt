@@ -107,7 +107,7 @@ fn is_whole(outcome: &Outcome) -> bool {
         } => {
             members.len() == 2
                 && goals.len() == 8
-                && goals.as_slice().contains(&ROOT)
+                && goals.as_slice().contains(&SCAN_ROOT)
                 && who.as_slice() == [0; 8].as_slice()
         }
         _ => false,
