@@ -8,6 +8,7 @@ ghost use Rattle.request_props.specs.Numbered.{IsProps, IsRefusedFor, IsRoot};
 ghost use Rattle.request_props.specs.Numbered.{lists_of, orders_of, order_among};
 ghost use Rattle.request_props.specs.Numbered.{root_dist as dist_of_root};
 
+mod equalities;
 mod fitting;
 mod lookups;
 

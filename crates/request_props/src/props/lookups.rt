@@ -1,33 +1,19 @@
 //! What a query implies, looked up. No call here takes memory.
 #![tactic(auto)]
 
-ghost use Rattle.std.specs.Prelude.{◌≡◌, ◌≤◌, ◌<◌, ◌↔◌, ℕ, IfSome, IsTrue, None, Some, length};
-ghost use Rattle.std.specs.Prelude.{slice_get, slice_index_or};
-ghost use Rattle.std.specs.Option.{option_map, option_map_or};
-ghost use Rattle.query_core.specs.Crossing.{crossing_of, sides_of};
+ghost use Rattle.std.specs.Prelude.{◌≡◌, ◌≤◌, ◌<◌, ◌↔◌, IsTrue, None, Some};
 ghost use Rattle.query_core.specs.Keys.{IsGroup, IsKey, Names};
 ghost use Rattle.query_core.specs.declared.words.KeyParts.{KeyParts as Group};
 ghost use Rattle.cardinality.specs.Rows.{rows_of};
 ghost use Rattle.request_props.specs.Candidates.{AreCandidatesOf, ArePhysicalOf, FindsNext};
-ghost use Rattle.request_props.specs.Counted.{IsAmong};
-ghost use Rattle.request_props.specs.Ends.{AreCrossingBy, AreEndsOf, HasColumn, IsGivenBy};
-ghost use Rattle.request_props.specs.NumberSets.{IsInSet};
-ghost use Rattle.request_props.specs.declared.given.GivenDist.TheVariants.{Hashed};
-ghost use Rattle.request_props.specs.declared.ends.EqualityEnds.{EqualityEnds as AnyEnds};
-ghost use Rattle.request_props.specs.Numbered.{IsProps, side_of, both_sides, equality_of};
+ghost use Rattle.request_props.specs.Numbered.{IsProps};
 ghost use Rattle.request_props.specs.Numbered.{table_dist as dist_of_table, group_order as order_of_groups};
-ghost use Rattle.request_props.specs.Outer.{CountsOuterColumns};
-ghost use Rattle.request_props.specs.Numbered.{is_grouped_list as is_list_grouped, order_of, column_list, column_order};
-ghost use Rattle.request_props.specs.Satisfied.{BeginsWith, Meets};
+ghost use Rattle.request_props.specs.Numbered.{is_grouped_list as is_list_grouped};
 
-use crate::ends::{CountedColumns, EqualityEnds, ends_of};
 use crate::given::GivenDist;
 use crate::groups::is_key;
-use crate::number_set::NumberSet;
 use crate::physical::PhysicalCandidate;
 use crate::props::Props;
-use crate::request::Dist;
-use crate::sides::{Equality, Side};
 use query_core::{Expr, KEYS, Key, KeyParts, Query, bound_after, count_below, groups_are_known};
 
 impl Props {
@@ -75,23 +61,6 @@ impl Props {
         self.groups.physical.as_slice()[Key::make(group).0 as usize].as_slice()
     }
 
-    /// How many columns of the group are equated with columns that it lacks, as far as each column has an order of its
-    /// own.
-    pub fn outer_columns(&self, query: &Query, group: KeyParts) -> usize
-        requires { IsProps query.now self.now }
-        ensures { CountsOuterColumns query.now group result }
-    {
-        let leaving = self.ends(query, group).leaving();
-        let mut count = 0;
-        for place in 0..self.orders.len() {
-            let giving = self.ends_giving(query, place as u32 + 1);
-            if leaving.shares(giving) {
-                count += 1;
-            }
-        }
-        count
-    }
-
     /// The estimated rows of the group that the key names; 0 where the query has no such group.
     pub fn rows(&self, query: &Query, key: Key) -> u64
         requires { IsProps query.now self.now }
@@ -115,137 +84,6 @@ impl Props {
     {
         groups_are_known();
         self.rows(query, Key::make(group))
-    }
-
-    /// The two columns that the predicate equates across the groups, that of the left group first.
-    pub fn crossing(
-        &self,
-        query: &Query,
-        left: KeyParts,
-        right: KeyParts,
-        pred: u32,
-    ) -> Option<(Side, Side)>
-        requires { IsProps query.now self.now }
-        ensures { result ≡
-            option_map (both_sides query.now) (crossing_of query.now left right pred) }
-    {
-        match self.equality(query, pred) {
-            Some(equality) => across(query, left, right, equality.left, equality.right),
-            None => None,
-        }
-    }
-
-    /// The predicates that equate columns across the groups.
-    pub fn crossings(&self, query: &Query, left: KeyParts, right: KeyParts) -> NumberSet
-        requires { IsProps query.now self.now }
-        ensures { (pred : ℕ) → IsInSet result pred ↔
-            (crossing_of query.now left right pred ≡ None → ⊥) }
-    {
-        self.ends(query, left).across(self.ends(query, right))
-    }
-
-    /// The predicates that equate columns across the groups, that of the left group giving the order.
-    pub fn merging(&self, query: &Query, left: KeyParts, right: KeyParts, order: u32) -> NumberSet
-        requires { IsProps query.now self.now }
-        ensures { AreCrossingBy query.now left right
-            (λ a. BeginsWith (order_of query.now (column_order query.now a)) (order_of query.now order))
-            result }
-    {
-        let giving = self.ends_giving(query, order);
-        self.ends(query, left)
-            .across_by(self.ends(query, right), giving)
-    }
-
-    /// The predicates that equate columns across the groups, so that rows hashed by that of the left group are
-    /// distributed as asked.
-    pub fn hashing(&self, query: &Query, left: KeyParts, right: KeyParts, wanted: Dist) -> NumberSet
-        requires { IsProps query.now self.now }
-        ensures { AreCrossingBy query.now left right
-            (λ a. Meets (Hashed (column_list query.now a)) wanted) result }
-    {
-        match wanted {
-            Dist::One => NumberSet::none(),
-            Dist::Spread => self.crossings(query, left, right),
-            Dist::Copies => NumberSet::none(),
-            Dist::Hashed(list) => self.hashing_by(query, left, right, list),
-        }
-    }
-
-    // The same for this list.
-    fn hashing_by(&self, query: &Query, left: KeyParts, right: KeyParts, list: u32) -> NumberSet
-        requires { IsProps query.now self.now }
-        ensures { AreCrossingBy query.now left right (λ a. column_list query.now a ≡ list) result }
-    {
-        let listed = self.ends_listed(query, list);
-        self.ends(query, left)
-            .across_by(self.ends(query, right), listed)
-    }
-
-    // The equalities of which the group has a column.
-    fn ends(&self, query: &Query, group: KeyParts) -> EqualityEnds
-        requires { IsProps query.now self.now }
-        ensures { AreEndsOf query.now (HasColumn query.now group) result }
-    {
-        match self.known_ends(query, group) {
-            Some(ends) => ends,
-            None => self.found_ends(query, CountedColumns::Of(group)),
-        }
-    }
-
-    // The same, where they were found before.
-    fn known_ends(&self, query: &Query, group: KeyParts) -> Option<EqualityEnds>
-        requires { IsProps query.now self.now }
-        ensures { IfSome result (AreEndsOf query.now (HasColumn query.now group)) }
-    {
-        match group {
-            KeyParts::Get(table) => ends_at(self.equalities.of_tables.as_slice(), table),
-            KeyParts::Filter(table) => ends_at(self.equalities.of_tables.as_slice(), table),
-            KeyParts::Join(set) => ends_at(self.equalities.of_sets.as_slice(), set),
-            KeyParts::Partial => None,
-            KeyParts::Agg => None,
-        }
-    }
-
-    // The equalities of which a column gives the order. Without a number it is the empty one.
-    fn ends_giving(&self, query: &Query, order: u32) -> EqualityEnds
-        requires { IsProps query.now self.now }
-        ensures { AreEndsOf query.now (IsGivenBy (order_of query.now order)) result }
-    {
-        match ends_at(self.equalities.of_orders.as_slice(), order) {
-            Some(ends) => ends,
-            None => self.found_ends(query, CountedColumns::All),
-        }
-    }
-
-    // The equalities of which a column's list has the number.
-    fn ends_listed(&self, query: &Query, list: u32) -> EqualityEnds
-        requires { IsProps query.now self.now }
-        ensures { AreEndsOf query.now (λ column. column_list query.now column ≡ list) result }
-    {
-        match ends_at(self.equalities.of_lists.as_slice(), list) {
-            Some(ends) => ends,
-            None => self.found_ends(query, CountedColumns::Listed(list)),
-        }
-    }
-
-    // The equalities that have one of the columns.
-    fn found_ends(&self, query: &Query, columns: CountedColumns) -> EqualityEnds
-        requires { IsProps query.now self.now }
-        ensures { AreEndsOf query.now (IsAmong query.now columns) result }
-    {
-        ends_of(query, self.equalities.sides.as_slice(), columns)
-    }
-
-    // Both sides of the predicate, where it is an equality of two items.
-    fn equality(&self, query: &Query, pred: u32) -> Option<Equality>
-        requires { IsProps query.now self.now }
-        ensures { result ≡
-            option_map_or (equality_of query.now) (slice_get query.now.preds pred) None }
-    {
-        match self.equalities.sides.as_slice().get(pred as usize) {
-            Some(equality) => *equality,
-            None => None,
-        }
     }
 
     /// Where the rows of a table lie.
@@ -279,18 +117,6 @@ impl Props {
     }
 }
 
-// What stands at this place of the list, if it has so many.
-fn ends_at(list: &[EqualityEnds], place: u32) -> Option<EqualityEnds>
-    ensures found { IfSome result (λ ends. (d : AnyEnds) → (place < length list.now) ×
-        (slice_index_or list.now place d ≡ ends)) }
-    ensures none { result ≡ None → length list.now ≤ place }
-{
-    match list.get(place as usize) {
-        Some(ends) => Some(*ends),
-        None => None,
-    }
-}
-
 // The first of the group's words after this one.
 fn next_among(query: &Query, words: &[u64], group: KeyParts, after: Option<Expr>) -> Option<Expr>
     requires { AreCandidatesOf query.now group words.now }
@@ -301,20 +127,4 @@ fn next_among(query: &Query, words: &[u64], group: KeyParts, after: Option<Expr>
         Some(word) => Some(Expr(*word)),
         None => None,
     }
-}
-
-// The two sides of an equality, where one lies in each group.
-fn across(query: &Query, left: KeyParts, right: KeyParts, a: Side, b: Side) -> Option<(Side, Side)>
-    requires a { a ≡ side_of query.now a.column }
-    requires b { b ≡ side_of query.now b.column }
-    ensures { result ≡
-        option_map (both_sides query.now) (sides_of query.now left right a.column b.column) }
-{
-    if query.group_has_item(left, a.column) && query.group_has_item(right, b.column) {
-        return Some((a, b));
-    }
-    if query.group_has_item(left, b.column) && query.group_has_item(right, a.column) {
-        return Some((b, a));
-    }
-    None
 }
