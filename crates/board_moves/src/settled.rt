@@ -10,7 +10,7 @@ pub enum Settled {
 }
 
 /// What was seen of a word that a group may have as a member.
-#[derive(Debug, Clone, Copy, PartialEq, Eq)]
+#[derive(Clone, Copy)]
 pub(crate) enum Seen {
     /// It was in no cell.
     Absent,

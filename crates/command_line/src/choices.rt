@@ -5,14 +5,14 @@ ghost use Rattle.command_line.specs.Options.{AreChoices, IsAllowed, chosen, gen_
 use query_core::{Options, RootDist};
 
 /// The commands.
-#[derive(Clone, Copy, Debug, PartialEq, Eq)]
+#[derive(Clone, Copy)]
 pub enum CommandName {
     Plan,
     Gen,
 }
 
 /// The options of the commands.
-#[derive(Clone, Copy, Debug, PartialEq, Eq)]
+#[derive(Clone, Copy)]
 pub enum OptionName {
     Workers,
     Capacity,
@@ -24,7 +24,7 @@ pub enum OptionName {
 }
 
 /// What an option asks for.
-#[derive(Clone, Copy, Debug)]
+#[derive(Clone, Copy)]
 pub enum Setting {
     Workers(u32),
     Capacity(u32),

@@ -5,7 +5,7 @@ ghost use Rattle.command_line.specs.Options.{AreChoices};
 use crate::choices::{Choices, CommandName};
 
 /// The names that were read.
-#[derive(Clone, Copy, Debug)]
+#[derive(Clone, Copy)]
 pub enum Names<'w> {
     Nothing,
     One(&'w str),
@@ -14,7 +14,7 @@ pub enum Names<'w> {
 }
 
 /// What was read of a command so far.
-#[derive(Clone, Copy, Debug)]
+#[derive(Clone, Copy)]
 pub struct Draft<'w> {
     pub command: CommandName,
     pub names: Names<'w>,

@@ -2,7 +2,7 @@
 ghost use Rattle.std.specs.Prelude.{◌≡◌, ◌<◌, ◌%◌};
 
 /// Rules that are off, as the bits of their numbers: some of those that can be off.
-#[derive(Clone, Copy, Debug)]
+#[derive(Clone, Copy)]
 pub struct OffSet {
     pub bits: u32,
     pub ghost below: { bits < 32768 },

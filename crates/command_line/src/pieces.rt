@@ -8,7 +8,7 @@ use crate::choices::Setting;
 use crate::options::option_of;
 
 /// A name, or an option with what it asks for.
-#[derive(Clone, Copy, Debug)]
+#[derive(Clone, Copy)]
 pub enum Word<'w> {
     Name(&'w str),
     Option(Setting),

@@ -1,7 +1,7 @@
 use goal_board::Right;
 
 /// How a board was found to stand.
-#[derive(Debug, Clone, Copy, PartialEq, Eq)]
+#[derive(Clone, Copy)]
 pub enum Standing {
     /// The root goal isn't finished.
     Open,

@@ -21,14 +21,14 @@ use request_props::{Props, Request};
 use xform_rules::members_are_candidates;
 
 /// A group, and what is asked of a plan of it.
-#[derive(Clone, Copy, Debug, PartialEq, Eq)]
+#[derive(Clone, Copy)]
 pub struct Linked {
     pub group: KeyParts,
     pub wanted: Request,
 }
 
 /// What a node asks of the plans below it, of the left one first.
-#[derive(Clone, Copy, Debug, PartialEq, Eq)]
+#[derive(Clone, Copy)]
 pub enum Links {
     Zero,
     One(Linked),
