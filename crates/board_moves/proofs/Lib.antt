@@ -1,5 +1,7 @@
 pub mod Shown
 pub mod Going
+pub mod WithWaits
+pub mod CallMoves
 pub mod MovesLemmas
 pub mod Putting
 pub mod Ascending

@@ -18,10 +18,10 @@ use Rattle.goal_board.proofs.Seen.{looked_later, looked_earlier}
 use Rattle.board_moves.specs.declared.progress.Progress.{Progress}
 use Rattle.board_moves.specs.declared.progress.Progress.TheVariants as progress
 use Rattle.board_moves.specs.Moves.{OnlyLooks, Moves, Proceeds, IsAnsweredBy, Awaits}
-use Rattle.board_moves.proofs.Shown.{Later, later_looked}
-use Rattle.board_moves.proofs.MovesLemmas.{moves_looks, moves_fresh, moves_registered, moves_finished, moves_then}
-use Rattle.board_moves.proofs.MovesLemmas.{later_moved, right_stays, proceeds_none, proceeds_moved, proceeds_then}
-use Rattle.board_moves.proofs.MovesLemmas.{runs_out_then}
+use Rattle.board_moves.proofs.Shown.{Later, later_looked, right_stays}
+use Rattle.board_moves.proofs.CallMoves.{moves_looks, moves_fresh, moves_registered, moves_finished, moves_then}
+use Rattle.board_moves.proofs.CallMoves.{later_moved}
+use Rattle.board_moves.proofs.MovesLemmas.{proceeds_none, proceeds_moved, proceeds_then, runs_out_then}
 use Rattle.board_moves.proofs.Putting.{only_looks_at}
 
 module _ {R : Type 0} (meaning : Meaning) (room : ℕ) where

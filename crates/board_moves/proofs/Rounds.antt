@@ -21,8 +21,8 @@ use Rattle.board_moves.specs.Collects.{Falls, Settles}
 use Rattle.board_moves.specs.Passes.{AwaitsAll}
 use Rattle.board_moves.proofs.Ascending.{IsUpTo, up_to_next, up_to_or_above}
 use Rattle.board_moves.proofs.Shown.{Later, later_seen, still_finished, still_shown}
-use Rattle.board_moves.proofs.MovesLemmas.{moves_looks, proceeds_none, proceeds_moved, proceeds_then, later_proceeded}
-use Rattle.board_moves.proofs.MovesLemmas.{runs_out_then}
+use Rattle.board_moves.proofs.CallMoves.{moves_looks}
+use Rattle.board_moves.proofs.MovesLemmas.{proceeds_none, proceeds_moved, proceeds_then, later_proceeded, runs_out_then}
 use Rattle.board_moves.proofs.Putting.{only_looks_at, only_looks_none}
 use Rattle.board_moves.proofs.OneChild.{stands_at}
 use Rattle.board_moves.proofs.Passing.{FoundUpTo, found_none, found_past, found_next}

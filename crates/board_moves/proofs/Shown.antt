@@ -9,6 +9,10 @@ use Rattle.board_rule.proofs.SeenByTwo.{looked_append}
 use Rattle.goal_board.specs.Calls.{seen, IsSeen}
 use Rattle.goal_board.proofs.Seen.{looked_earlier}
 use Rattle.board_moves.specs.Moves.{OnlyLooks}
+use Rattle.board_rule.specs.Records.{Claimed}
+use Rattle.board_rule.specs.Seats.{Among}
+use Rattle.goal_board.specs.declared.board.Right.{Right}
+use Rattle.goal_board.specs.RightCalls.{waiting_right, IsRightOf}
 
 -- each of the looks is one of the later ones too
 abbrev pub Later : (looks later : List (ℕ × ℕ)) → Type 0
@@ -82,3 +86,16 @@ module _ {R : Type 0} where
 
   pub later_looked : (v w : Hands R) → OnlyLooks v w → Later v.looks w.looks
   later_looked v w t = later_seen t.more v w t.hands_are
+
+-- a right that no call has changed, and whose goal stays seen
+pub right_stays : {R : Type 0} → (meaning : Meaning) (room : ℕ) (v w : Hands R) (right : Right) → w.rights ≡ v.rights
+    → Later v.looks w.looks → IsRightOf meaning room v right → IsRightOf meaning room w right
+right_stays meaning room v w right same on old = record {
+  near = old.near;
+  held = subst (λ (rights : List Claimed). Among rights (waiting_right right.place right.waits)) (sym same) old.held;
+  few = old.few;
+  stands = on (cell_word right.place) right.goal old.stands;
+  some_goal = old.some_goal;
+  is_goal = old.is_goal;
+  enters = old.enters;
+}

@@ -12,8 +12,9 @@ use Rattle.board_moves.specs.declared.progress.Progress.{Progress}
 use Rattle.board_moves.specs.declared.progress.Progress.TheVariants as progress
 use Rattle.board_moves.specs.Moves.{Proceeds, RunsOut, IsDoneUnlessWaiting}
 use Rattle.board_moves.specs.Turns.{Works}
-use Rattle.board_moves.proofs.MovesLemmas.{moves_looks, moves_fresh, proceeds_none, proceeds_moved, proceeds_then}
-use Rattle.board_moves.proofs.MovesLemmas.{proceeds_wider, runs_out_then, runs_out_wider}
+use Rattle.board_moves.proofs.CallMoves.{moves_looks, moves_fresh}
+use Rattle.board_moves.proofs.MovesLemmas.{proceeds_none, proceeds_moved, proceeds_then, proceeds_wider, runs_out_then}
+use Rattle.board_moves.proofs.MovesLemmas.{runs_out_wider}
 use Rattle.board_moves.proofs.Putting.{only_looks_at}
 use Rattle.board_moves.proofs.OneChild.{stands_at, stands_fresh}
 
