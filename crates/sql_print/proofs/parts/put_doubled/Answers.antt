@@ -1,7 +1,7 @@
 use Rattle.std.proofs.Common.{◌∷◌, [], get_or, take, append_assoc}
 use Rattle.sql_reader.specs.Pieces.{doubled}
 use Rattle.sql_print.proofs.Doubled.{doubled_next}
-use Rattle.sql_print.proofs.printer.put_doubled.Goals as goal
+use Rattle.sql_print.proofs.parts.put_doubled.Goals as goal
 
 -- one byte more is written
 pub loop-byte-preserved : goal.loop-byte-preserved
