@@ -8,6 +8,8 @@ pub mod Numbering
 pub mod ScopeKept
 pub mod ItemsKept
 pub mod Ascending
+pub mod Among
+pub mod ListedThere
 pub mod ListsKept
 pub mod Wanted
 pub mod ChosenKept

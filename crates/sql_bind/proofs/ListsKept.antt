@@ -1,13 +1,10 @@
 -- The distribution and the indexes of a query's tables are lists of used columns.
-use Rattle.std.proofs.Common.{◌≡◌, ◌∙◌, ℕ, ◌+◌, ◌&&◌, ◌==◌, ◌⊎◌, inl, inr, Bool, true, false, not, List, [], ◌∷◌, ◌++◌}
-use Rattle.std.proofs.Common.{length, nat_eq, nat_le, nat_lt, option_to_list, refl, sym, ap, subst}
+use Rattle.std.proofs.Common.{◌≡◌, ◌∙◌, ℕ, ◌+◌, ◌&&◌, ◌==◌, Bool, true, false, not, List, [], ◌∷◌, ◌++◌, length, nat_eq}
+use Rattle.std.proofs.Common.{nat_le, nat_lt, option_to_list, refl, ap}
 use Rattle.std.specs.List.{list_all, list_any, enumerate_from, AllByRecursion}
 use Rattle.std.proofs.lemmas.List.{length-map}
-use Rattle.std.proofs.lemmas.List.Folds.{list_any-append}
-use Rattle.std.proofs.lemmas.Bool.{eqb-true, eq-eqb, and_from, and_parts, not-true, or_cases, or_left, or_parts}
-use Rattle.std.proofs.lemmas.Bool.{or_right}
+use Rattle.std.proofs.lemmas.Bool.{eqb-true, eq-eqb, and_from, and_parts, not-true, or_parts}
 use Rattle.std.proofs.lemmas.List.Elements.{recursion_from_All}
-use Rattle.sql_bind.proofs.Truths.{all_both}
 use Rattle.query_core.specs.Differ.{all_differ, numbers_differ}
 use Rattle.query_core.specs.Items.{AreItems, has_own_lists, is_column_list, is_column_of}
 use Rattle.query_core.specs.declared.catalog.Placing.{Placing}
@@ -15,28 +12,17 @@ use Rattle.query_core.specs.declared.catalog.Placing.TheVariants.{Hashed, Random
 use Rattle.query_core.specs.Catalog.{IsColumnList, IsPlacing, IsTable}
 use Rattle.sql_bind.specs.declared.columns.Column.{Column}
 use Rattle.sql_bind.specs.Scope.{FromTable}
-use Rattle.sql_bind.specs.Columns.{column, is_among, is_same}
+use Rattle.sql_bind.specs.Columns.{column, is_among}
 use Rattle.sql_bind.specs.Used.{UsedColumn, indexed_by, listed_from, placed_by, places_of, used_from}
 use Rattle.sql_bind.specs.Numbers.{number_of, numbers_of}
 use Rattle.sql_bind.specs.Query.{hashed_of, indexes_of, item_of, items_of, table_of, tables_from}
 use Rattle.sql_bind.proofs.Resolving.{has_column, here, later}
-use Rattle.sql_bind.proofs.Found.{IsAt, there_is, found_from, is_itself, of_table, one_number}
+use Rattle.sql_bind.proofs.Found.{IsAt, found_from, of_table, one_number}
 use Rattle.orca_base.specs.Name.{has_name_form}
 use Rattle.sql_bind.proofs.ScopeKept.{as_many, at_most}
 use Rattle.sql_bind.proofs.ItemsKept.{IsFromCatalogue, all_apart, all_fit, all_map, all_named, all_placed}
-
--- one of the first columns, or one of the others
-pub among_left : (cs ds : List Column) (c : Column) → is_among cs c ≡ true → is_among (cs ++ ds) c ≡ true
-among_left cs ds c among = list_any-append (is_same c) cs ds ∙ or_left (is_among cs c) (is_among ds c) among
-
-pub among_right : (cs ds : List Column) (c : Column) → is_among ds c ≡ true → is_among (cs ++ ds) c ≡ true
-among_right cs ds c among = list_any-append (is_same c) cs ds ∙ or_right (is_among cs c) (is_among ds c) among
-
-pub among_first : (c : Column) (cs : List Column) → is_among (c ∷ cs) c ≡ true
-among_first c cs = or_left (is_same c c) (is_among cs c) (is_itself c)
-
-pub among_later : (c d : Column) (cs : List Column) → is_among cs c ≡ true → is_among (d ∷ cs) c ≡ true
-among_later c d cs among = or_right (is_same c d) (is_among cs c) among
+use Rattle.sql_bind.proofs.Among.{among_first, among_later, among_left, among_right}
+use Rattle.sql_bind.proofs.ListedThere.{known_own}
 
 itself_same : (n : ℕ) → (n == n) ≡ true
 itself_same n = eq-eqb n n refl
@@ -145,82 +131,6 @@ module _ (used : List UsedColumn) (table : ℕ) where
       (indexes_kept columns t.info.indexes (recursion_from_All (IsColumnList columns) t.info.indexes kept.each_index)
       (λ p among. at p (among_right (placed_by table t.info.placing) (indexed_by table t.info.indexes)
       (column table p) among)))
-
--- ---- a listed column is a column of its table
-
-is_place : (p q n : ℕ) (table : ℕ) → is_same (column table p) (column table q) ≡ true → nat_lt q n ≡ true
-    → nat_lt p n ≡ true
-is_place p q n table e low = let same : p ≡ q = eqb-true p q (and_parts (table == table) (p == q) e).1 in rw same low
-
-known_place : (table n p : ℕ) (places : List ℕ) → is_among (places_of table places) (column table p) ≡ true
-    → list_all (λ q. nat_lt q n) places ≡ true → nat_lt p n ≡ true
-known_place table n p [] among low = absurd cc
-known_place table n p (q ∷ qs) among low =
-    let parts = and_parts (nat_lt q n) (list_all (λ x. nat_lt x n) qs) low in
-    elim (or_cases (is_same (column table p) (column table q)) (is_among (places_of table qs) (column table p)) among) [
-      | inl same ↦ is_place p q n table same parts.0
-      | inr rest ↦ known_place table n p qs rest parts.1
-    ]
-
-known_placed : (table n p : ℕ) (placing : Placing) → is_among (placed_by table placing) (column table p) ≡ true
-    → IsPlacing n placing → nat_lt p n ≡ true
-known_placed table n p (Hashed places) among kept = known_place table n p places among kept.known
-known_placed table n p Random among kept = absurd cc
-
-pub either_list : (cs ds : List Column) (c : Column) → is_among (cs ++ ds) c ≡ true → (is_among cs c ≡ true)
-    ⊎ (is_among ds c ≡ true)
-either_list cs ds c among = or_cases (is_among cs c) (is_among ds c) (sym (list_any-append (is_same c) cs ds) ∙ among)
-
-known_indexed : (table n p : ℕ) (indexes : List (List ℕ)) → is_among (indexed_by table indexes) (column table p) ≡ true
-    → AllByRecursion (IsColumnList n) indexes → nat_lt p n ≡ true
-known_indexed table n p [] among kept = absurd cc
-known_indexed table n p (index ∷ indexes) among kept =
-    elim (either_list (places_of table index) (indexed_by table indexes) (column table p) among) [
-      | inl first ↦ known_place table n p index first kept.0.known
-      | inr rest ↦ known_indexed table n p indexes rest kept.1
-    ]
-
-known_own : (t : FromTable) (table p : ℕ) → IsTable t.info
-    → is_among (placed_by table t.info.placing ++ indexed_by table t.info.indexes) (column table p) ≡ true
-    → nat_lt p (length t.info.columns) ≡ true
-known_own t table p kept among =
-    elim (either_list (placed_by table t.info.placing) (indexed_by table t.info.indexes) (column table p) among) [
-      | inl first ↦ known_placed table (length t.info.columns) p t.info.placing first kept.placed
-      | inr rest ↦ known_indexed table (length t.info.columns) p t.info.indexes rest
-          (recursion_from_All (IsColumnList (length t.info.columns)) t.info.indexes kept.each_index)
-    ]
-
-own_place : (table : ℕ) (places : List ℕ) → list_all (λ c. c.table == table) (places_of table places) ≡ true
-own_place table [] = refl
-own_place table (p ∷ ps) = and_from (table == table) (list_all (λ c. c.table == table) (places_of table ps))
-    (itself_same table) (own_place table ps)
-
-own_placed : (table : ℕ) (placing : Placing) → list_all (λ c. c.table == table) (placed_by table placing) ≡ true
-own_placed table (Hashed places) = own_place table places
-own_placed table Random = refl
-
-own_indexed : (table : ℕ) (indexes : List (List ℕ)) → list_all (λ c. c.table == table) (indexed_by table indexes) ≡ true
-own_indexed table [] = refl
-own_indexed table (index ∷ indexes) = all_both (λ c. c.table == table) (places_of table index)
-    (indexed_by table indexes) (own_place table index) (own_indexed table indexes)
-
--- a listed column is there
-pub listed_there : (base : ℕ) (scope : List FromTable) (c : Column) → AllByRecursion IsFromCatalogue scope
-    → is_among (listed_from base scope) c ≡ true → has_column base scope c ≡ true
-listed_there base [] c from among = absurd cc
-listed_there base (t ∷ ts) c from among =
-    let own = placed_by base t.info.placing ++ indexed_by base t.info.indexes in
-    elim (either_list own (listed_from (base + 1) ts) c among) [
-      | inl first ↦
-          let all_own = all_both (λ d. d.table == base) (placed_by base t.info.placing) (indexed_by base t.info.indexes)
-          (own_placed base t.info.placing) (own_indexed base t.info.indexes) in
-          let same : c.table ≡ base = eqb-true c.table base (there_is (λ d. d.table == base) own c all_own first) in
-          let whole : c ≡ column base c.place = ap (λ table. column table c.place) same in
-          subst (λ (d : Column). has_column base (t ∷ ts) d ≡ true) (sym whole)
-          (here base t ts c.place (known_own t base c.place from.0
-          (subst (λ (d : Column). is_among own d ≡ true) whole first)))
-      | inr rest ↦ later base t ts c (listed_there (base + 1) ts c from.1 rest)
-    ]
 
 -- the lists of the tables
 pub lists_from : (used : List UsedColumn) (base : ℕ) (scope : List FromTable)

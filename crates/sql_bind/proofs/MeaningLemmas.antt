@@ -13,7 +13,7 @@ use Rattle.sql_bind.specs.Scope.{FromTable}
 use Rattle.sql_bind.specs.Columns.{candidates, column, column_of, is_among, is_same, only_one, place_in}
 use Rattle.sql_bind.specs.Meaning.{IsMeaning, Names}
 use Rattle.sql_bind.proofs.Found.{same_is}
-use Rattle.sql_bind.proofs.ListsKept.{among_first, among_later, among_right}
+use Rattle.sql_bind.proofs.Among.{among_first, among_later, among_right}
 
 -- the column can be named in tables that begin at this place of FROM
 record NamesFrom (reference : ColRef) (base : ℕ) (ts : List FromTable) (c : Column) : Type 0 where

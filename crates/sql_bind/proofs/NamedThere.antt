@@ -22,7 +22,8 @@ use Rattle.orca_base.proofs.Checked.{all_pass, bind_ok, each_counts, each_keeps}
 use Rattle.sql_bind.proofs.Resolving.{has_column}
 use Rattle.sql_bind.proofs.Found.{IsAt, found_from, there_is}
 use Rattle.sql_bind.proofs.ScopeKept.{AreFrom, scope_counts, scope_kept}
-use Rattle.sql_bind.proofs.ListsKept.{among_left, among_right, listed_there}
+use Rattle.sql_bind.proofs.Among.{among_left, among_right}
+use Rattle.sql_bind.proofs.ListedThere.{listed_there}
 use Rattle.sql_bind.proofs.Wanted.{only_wanted}
 use Rattle.sql_bind.proofs.Ascending.{ascend_from, only_number}
 use Rattle.sql_bind.proofs.ChosenKept.{AreChosen, chosen_kept}

@@ -25,7 +25,7 @@ use Rattle.sql_bind.specs.Numbers.{number_of}
 use Rattle.sql_bind.specs.Query.{agg_as, aggs_of, items_of, operand_of, preds_of}
 use Rattle.sql_reader.specs.Readable.{is_named}
 use Rattle.sql_bind.proofs.Found.{IsAt, within}
-use Rattle.sql_bind.proofs.ListsKept.{among_first, among_later, among_left, among_right}
+use Rattle.sql_bind.proofs.Among.{among_first, among_later, among_left, among_right}
 use Rattle.sql_bind.proofs.ChosenKept.{next_number, number_is, numbered_from, takes_its, counted_on, one_counted}
 
 module _ (used : List UsedColumn) where

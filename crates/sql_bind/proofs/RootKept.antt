@@ -24,7 +24,7 @@ use Rattle.sql_bind.specs.Grouping.{loose_chosen, loose_keys, loose_target, loos
 use Rattle.sql_bind.specs.Numbers.{number_of, target_number}
 use Rattle.sql_bind.specs.Query.{group_numbers, items_of, item_of, itself, key_of, outputs_of}
 use Rattle.sql_bind.proofs.Found.{IsAt, same_is, within}
-use Rattle.sql_bind.proofs.ListsKept.{among_first, among_left, among_right}
+use Rattle.sql_bind.proofs.Among.{among_first, among_left, among_right}
 use Rattle.sql_bind.proofs.ChosenKept.{one_counted}
 use Rattle.sql_bind.proofs.PredsKept.{AreUsed, number_below}
 use Rattle.sql_bind.proofs.DistinctKept.{number_kept}

@@ -1,5 +1,5 @@
 -- A query that is bound without a fault is valid.
-use Rattle.std.proofs.Common.{◌≡◌, ℕ, ◌≤◌, ◌<◌, ◌+◌, ◌||◌, Bool, true, false, List, [], ◌∷◌, length, map, nat_le}
+use Rattle.std.proofs.Common.{◌≡◌, ◌∙◌, ℕ, ◌≤◌, ◌<◌, ◌+◌, ◌||◌, Bool, true, false, List, [], ◌∷◌, length, map, nat_le}
 use Rattle.std.proofs.Common.{nat_lt, is_some, slice_get, option_to_list, Ok, refl, arith}
 use Rattle.std.specs.List.{list_all}
 use Rattle.std.specs.Option.{option_map_or}
@@ -33,7 +33,8 @@ use Rattle.sql_bind.specs.Binding.{binding}
 use Rattle.sql_bind.proofs.Found.{IsAt, within}
 use Rattle.sql_bind.proofs.ScopeKept.{are_tables}
 use Rattle.sql_bind.proofs.ItemsKept.{all_low}
-use Rattle.sql_bind.proofs.ListsKept.{among_first, among_later, among_right, are_items}
+use Rattle.sql_bind.proofs.Among.{among_first, among_later, among_right}
+use Rattle.sql_bind.proofs.ListsKept.{are_items}
 use Rattle.sql_bind.proofs.PredsKept.{arguments_in, as_counted, names_apart, names_formed, number_below}
 use Rattle.sql_bind.proofs.PredsKept.{numbers_low, preds_in}
 use Rattle.sql_bind.proofs.DistinctKept.{all_kept, map_itself, no_longer, no_twice, some_kept}
@@ -81,6 +82,11 @@ outputs_named used (c ∷ cs) named =
     (list_all (λ out. list_all has_name_form (option_to_list out.name)) (outputs_of used cs)) parts.0
     (outputs_named used cs parts.1)
 
+-- of at most eight, at most eight are kept
+few_kept : {A : Type 0} → (number : A → ℕ) (xs : List A) {n : ℕ} → length xs ≡ n → n ≤ 8
+    → length (distinct_by number xs) ≤ 8
+few_kept number xs counted few = omega (arith, no_longer number xs, counted, few)
+
 module _ (select : Select) (p : Parts) (readable : IsReadable select) (there : AreThere select p)
     (good : AreJudged p) where
   fits : length (all_used p) + aggregates p.chosen ≤ 60
@@ -126,13 +132,7 @@ module _ (select : Select) (p : Parts) (readable : IsReadable select) (there : A
       let columns = map (number_of u) p.group in
       record {
         marked = rw (as_counted u p.chosen, some_kept itself columns, length-map p.group (number_of u)) refl;
-        few = omega (
-          arith,
-          no_longer itself columns,
-          length-map p.group (number_of u),
-          there.group_counted,
-          readable.few_columns,
-        );
+        few = few_kept itself columns (length-map p.group (number_of u) ∙ there.group_counted) readable.few_columns;
         columns = all_kept itself (λ n. nat_lt n (length (items_of u))) columns (numbers_in u p.group there.group_used);
         apart = rw (map_itself (distinct_by itself columns)) at (no_twice itself columns);
         arguments = arguments_in u p.chosen there.list.arguments there.chosen_used;
@@ -158,13 +158,7 @@ module _ (select : Select) (p : Parts) (readable : IsReadable select) (there : A
       let u = all_used p in
       let keys = map (key_of u) p.keys in
       record {
-        few = omega (
-          arith,
-          no_longer key_item keys,
-          length-map p.keys (key_of u),
-          there.keys_counted,
-          readable.few_keys,
-        );
+        few = few_kept key_item keys (length-map p.keys (key_of u) ∙ there.keys_counted) readable.few_keys;
         of_root = all_kept key_item (λ (k : OrderKey).
             is_root_item (items_of u) (is_grouped p) (group_numbers u p.group) (aggs_of u p.chosen) k.item) keys
             (keys_root u p.group (is_grouped p) (aggs_of u p.chosen) p.scope p.chosen low_number named_groups names

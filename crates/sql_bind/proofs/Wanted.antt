@@ -10,7 +10,7 @@ use Rattle.sql_bind.specs.Columns.{column, is_among}
 use Rattle.sql_bind.specs.Used.{UsedColumn, used_from, used_in}
 use Rattle.sql_bind.specs.UsedColumns.{HasNumber}
 use Rattle.sql_bind.proofs.Ascending.{at_number}
-use Rattle.sql_bind.proofs.ListsKept.{either_list}
+use Rattle.sql_bind.proofs.Among.{either_list}
 
 -- ---- each used column is wanted
 
