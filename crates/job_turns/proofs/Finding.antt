@@ -7,7 +7,8 @@ use Rattle.best_answers.specs.Answers.{lesser}
 use Rattle.best_answers.specs.declared.best.Best.{Best}
 use Rattle.board_moves.specs.Moves.{OnlyLooks, Proceeds, RunsOut}
 use Rattle.board_moves.proofs.Shown.{still_finished, later_looked}
-use Rattle.board_moves.proofs.MovesLemmas.{moves_looks, proceeds_moved, proceeds_then, runs_out_then}
+use Rattle.board_moves.proofs.CallMoves.{moves_looks}
+use Rattle.board_moves.proofs.MovesLemmas.{proceeds_moved, proceeds_then, runs_out_then}
 use Rattle.goal_space.specs.Words.{goal_word}
 use Rattle.goal_space.specs.Entries.{IsChildWord}
 use Rattle.goal_space.specs.declared.goals.GoalKind.{GoalKind}
