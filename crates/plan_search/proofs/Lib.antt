@@ -9,6 +9,8 @@ pub mod Asked
 pub mod Kids
 pub mod Made
 pub mod Tried
+pub mod RisingNumbers
+pub mod ModesMade
 pub mod Listed
 pub mod Able
 pub mod EnforcerNumbers

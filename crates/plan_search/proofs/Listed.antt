@@ -1,6 +1,6 @@
 -- How the list of a group's members in their modes is made.
-use Rattle.std.proofs.Common.{◌≡◌, ℕ, ◌<◌, ◌≤◌, ◌+◌, ◌*◌, refl, subst, sym, ◌∙◌, ap, inl, inr, arith}
-use Rattle.std.specs.Prelude.{◌^◌, List, [], ◌∷◌, ◌++◌, length, slice_index, slice_index_or, None, Some, ⊤}
+use Rattle.std.proofs.Common.{◌≡◌, ℕ, ◌<◌, ◌≤◌, ◌+◌, ◌*◌, subst, sym, ◌∙◌, ap, inl, inr, arith}
+use Rattle.std.specs.Prelude.{◌^◌, List, [], ◌∷◌, ◌++◌, length, slice_index, slice_index_or, Some}
 use Rattle.std.proofs.Math.ListN.{get_or-eq_default}
 use Rattle.std.proofs.lemmas.Bool.{cases_eq, cases_lt}
 use Rattle.std.specs.List.{Contains}
@@ -13,111 +13,18 @@ use Rattle.query_core.specs.declared.expressions.PhysicalExpr.{PhysicalExpr}
 use Rattle.query_core.specs.declared.expressions.ExprParts.{ExprParts}
 use Rattle.query_core.specs.Expressions.{expr_of, word_of}
 use Rattle.xform_rules.specs.Closure.{IsMember}
-use Rattle.plan_space.specs.declared.nodes.NodeKind.TheVariants as nodes
-use Rattle.plan_space.specs.Nodes.{number_of}
 use Rattle.plan_space.specs.declared.lines.Line.{Line}
 use Rattle.plan_space.specs.Lines.{line_of}
 use Rattle.plan_tree.specs.Costs.{AreRowsOf}
-use Rattle.plan_tree.specs.Walks.{AreNone}
 use Rattle.plan_search.specs.declared.native.Native.{Native}
-use Rattle.plan_search.specs.Natives.{IsNative, AreNative, RisesFrom, mode_number, IsIn, HasMode, IsInMode, AreInModes}
-use Rattle.plan_search.specs.Natives.{AreModesOf, AddsModes, AreListed}
+use Rattle.plan_search.specs.Natives.{IsNative, AreNative, RisesFrom, mode_number, HasMode, IsInMode, AreInModes}
+use Rattle.plan_search.specs.Natives.{AddsModes, AreListed}
 use Rattle.plan_search.proofs.Tried.{rises_less}
+use Rattle.plan_search.proofs.RisingNumbers.{AreBelow, below_more, rises_push, below_push, in_front, in_behind}
 
 -- an expression has lines in modes below 192 only
 abbrev pub HasFewModes : Query → Type 0
 HasFewModes q = (e : PhysicalExpr) (mode : ℕ) (line : Line) → line_of q e mode ≡ Some line → mode < 192
-
--- all numbers of the list are below the bound
-abbrev pub AreBelow : ℕ → List Native → Type 0
-AreBelow bound [] = ⊤
-AreBelow bound (p ∷ ps) = (mode_number p < bound) × AreBelow bound ps
-
-below_more : (bound more : ℕ) (list : List Native) → bound ≤ more → AreBelow bound list → AreBelow more list
-below_more bound more [] less below = tt
-below_more bound more (p ∷ ps) less below = (omega (arith, less, below.0), below_more bound more ps less below.1)
-
-rises_push : (from : ℕ) (list : List Native) (p : Native) → from ≤ mode_number p → RisesFrom from list
-    → AreBelow (mode_number p) list → RisesFrom from (list ++ p ∷ [])
-rises_push from [] p least rises below = (least, tt)
-rises_push from (first ∷ others) p least rises below =
-    (rises.0, rises_push (mode_number first + 1) others p (omega (arith, below.0)) rises.1 below.1)
-
-below_push : (bound : ℕ) (list : List Native) (p : Native) → mode_number p < bound → AreBelow bound list
-    → AreBelow bound (list ++ p ∷ [])
-below_push bound [] p less below = (less, tt)
-below_push bound (first ∷ others) p less below = (below.0, below_push bound others p less below.1)
-
-in_front : (p : Native) (list others : List Native) → IsIn p list → IsIn p (list ++ others)
-in_front p [] others is = absurd is
-in_front p (first ∷ rest) others (inl is) = inl is
-in_front p (first ∷ rest) others (inr later) = inr (in_front p rest others later)
-
-in_behind : (p : Native) (list others : List Native) → IsIn p others → IsIn p (list ++ others)
-in_behind p [] others is = is
-in_behind p (first ∷ rest) others is = inr (in_behind p rest others is)
-
-in_end : (list : List Native) (p : Native) → IsIn p (list ++ p ∷ [])
-in_end [] p = inl refl
-in_end (first ∷ others) p = inr (in_end others p)
-
-module _ (q : Query) (e : PhysicalExpr) where
-  are_more : (bound more : ℕ) (list : List Native) → bound ≤ more → AreInModes q e bound list → AreInModes q e more list
-  are_more bound more [] less are = tt
-  are_more bound more (p ∷ ps) less are = (
-    record { expr = are.0.expr; below = omega (arith, are.0.below, less); line = are.0.line; rows = are.0.rows },
-    are_more bound more ps less are.1,
-  )
-
-  are_behind : (bound : ℕ) (list : List Native) (p : Native) → AreInModes q e bound list → IsInMode q e bound p
-      → AreInModes q e bound (list ++ p ∷ [])
-  are_behind bound [] p are is = (is, tt)
-  are_behind bound (first ∷ others) p are is = (are.0, are_behind bound others p are.1 is)
-
-  numbers_below : (bound : ℕ) (list : List Native) → AreInModes q e bound list
-      → AreBelow (number_of (nodes.Native e bound)) list
-  numbers_below bound [] are = tt
-  numbers_below bound (p ∷ ps) are = let number : word_of (expr_of p.expr) ≡ word_of (expr_of e) =
-      ap (λ x. word_of (expr_of x)) are.0.expr in (omega (arith, number, are.0.below), numbers_below bound ps are.1)
-
-  pub modes_none : AreModesOf q e 0 []
-  modes_none = record { are = tt; rises = tt; complete = λ mode line less. absurd (omega (arith, less)) }
-
-  module _ (m : ℕ) (modes : List Native) (so_far : AreModesOf q e m modes) where
-    -- a mode that has a line is added
-    pub mode_pushed : (p : Native) → p.expr ≡ e → p.mode ≡ m → line_of q e m ≡ Some p.line → AreRowsOf q e p.rows
-        → AreModesOf q e (m + 1) (modes ++ p ∷ [])
-    mode_pushed p is_expr is_mode is_line rows =
-        let number : mode_number p ≡ number_of (nodes.Native e m) = ap (λ x. number_of (nodes.Native x p.mode)) is_expr
-        ∙ ap (λ n. number_of (nodes.Native e n)) is_mode in
-        record {
-          are = are_behind (m + 1) modes p (are_more m (m + 1) modes (omega arith) so_far.are)
-              (record {
-                expr = is_expr;
-                below = omega (arith, is_mode);
-                line = ap (λ n. line_of q e n) is_mode ∙ is_line;
-                rows = rows;
-              });
-          rises = rises_push (number_of (nodes.Native e 0)) modes p (omega (arith, number)) so_far.rises
-              (subst (λ n. AreBelow n modes) (sym number) (numbers_below m modes so_far.are));
-          complete = λ mode line less has. elim (cases_eq mode m) [
-            | inl same ↦ (p, in_end modes p, is_expr, is_mode ∙ sym same)
-            | inr other ↦ let there = so_far.complete mode line (omega (arith, less, other)) has in
-                (there.0, in_front there.0 modes (p ∷ []) there.1, there.2, there.3)
-          ];
-        }
-
-  -- modes without a line are passed over
-  pub modes_passed : (from to : ℕ) (modes : List Native) → from ≤ to → AreNone q e from to → AreModesOf q e from modes
-      → AreModesOf q e to modes
-  modes_passed from to modes later none so_far = record {
-    are = are_more from to modes later so_far.are;
-    rises = so_far.rises;
-    complete = λ mode line less has. elim (cases_lt mode from) [
-      | inl before ↦ so_far.complete mode line before has
-      | inr after ↦ let never : None ≡ Some line = sym (none mode after less) ∙ has in cc
-    ];
-  }
 
 module _ (q : Query) (group : KeyParts) where
   are_push : (list : List Native) (p : Native) → IsNative q group p → AreNative q group list

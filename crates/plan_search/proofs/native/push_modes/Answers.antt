@@ -1,7 +1,7 @@
 use Rattle.std.proofs.Common.{◌∙◌, ap, ◌∷◌, [], ◌++◌, refl, arith}
 use Rattle.std.proofs.lemmas.List.{append_assoc}
 use Rattle.plan_search.specs.declared.native.Native.{Native}
-use Rattle.plan_search.proofs.Listed.{mode_pushed, modes_passed}
+use Rattle.plan_search.proofs.ModesMade.{mode_pushed, modes_passed}
 use Rattle.plan_search.proofs.native.push_modes.Goals as goal
 
 -- the mode comes behind the others, and those between have no line
