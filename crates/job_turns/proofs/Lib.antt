@@ -10,6 +10,7 @@ pub mod Bound
 pub mod Finding
 pub mod Chosen
 pub mod Told
+pub mod OneMode
 pub mod Tried
 pub mod Enforced
 pub mod Serving

@@ -13,7 +13,7 @@ use Rattle.job_turns.specs.declared.modes.Native.{Native}
 use Rattle.job_turns.specs.declared.choice.Choice.{Choice}
 use Rattle.job_turns.specs.declared.choice.Choice.TheVariants.{Known, Open}
 use Rattle.job_turns.proofs.Finding.{chooses_none, finds_two}
-use Rattle.job_turns.proofs.Tried.{children_asked, goal_of_one, best_in}
+use Rattle.job_turns.proofs.OneMode.{children_asked, goal_of_one, best_in}
 use Rattle.job_turns.proofs.modes.await_alternative.Goals as goal
 
 pub await_asked-requires-clause-asked : goal.await_asked-requires-clause-asked

@@ -10,7 +10,7 @@ use Rattle.goal_space.specs.declared.goals.GoalKind.TheVariants.{Opt}
 use Rattle.job_turns.specs.Choices.{Chooses, IsAskedByChild, IsGoalAsked}
 use Rattle.job_turns.specs.declared.choice.Choice.TheVariants.{Known}
 use Rattle.job_turns.proofs.Finding.{finds_none, chooses_others}
-use Rattle.job_turns.proofs.Tried.{goal_of_key, best_of_key, child_of_key}
+use Rattle.job_turns.proofs.OneMode.{goal_of_key, best_of_key, child_of_key}
 use Rattle.job_turns.proofs.modes.await_asked.Goals as goal
 
 pub group-requires : goal.group-requires
