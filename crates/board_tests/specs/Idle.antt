@@ -1,5 +1,7 @@
 -- What the tests leave of a seat between two of their steps.
-use Rattle.std.specs.Prelude.{◌≡◌, []}
+use Rattle.std.specs.Prelude.{◌≡◌, ℕ, List, []}
+use Rattle.board_rule.specs.declared.hands.Hands.{Hands}
+use Rattle.goal_board.specs.Calls.{seen}
 use Rattle.goal_board.specs.Seats.{IsSeatOf, hands}
 use Rattle.goal_board.specs.declared.board.Board.{Board}
 use Rattle.goal_board.specs.declared.board.Seat.{Seat}
@@ -11,3 +13,7 @@ pub record IsIdleAt (board : Board Numbers) (seat : Seat Numbers) : Type 0 where
   pub of_board : IsSeatOf (λ r. numbers r.limit) board seat
   pub limit : board.key.rules.limit ≡ 4
   pub rights : (hands seat).rights ≡ []
+
+-- the new hands are the old ones with further looks
+abbrev pub HasLooked : {R : Type 0} → Hands R → Hands R → Type 0
+HasLooked old new = (more : List (ℕ × ℕ)) × (new ≡ seen more old)

@@ -1,7 +1,7 @@
 ghost use Rattle.std.specs.Prelude.{◌≡◌, ℕ, ◌<◌, ◌≤◌, [], ◌∷◌};
 ghost use Rattle.board_rule.specs.Looks.{ShowsFinished};
 ghost use Rattle.board_tests.specs.Numbers.{HasOnly};
-ghost use Rattle.board_tests.specs.Idle.{IsIdleAt};
+ghost use Rattle.board_tests.specs.Idle.{IsIdleAt, HasLooked};
 ghost use Rattle.goal_board.specs.Seats.{IsSeatOf, hands};
 ghost use Rattle.goal_board.specs.Calls.{Inserts};
 ghost use Rattle.goal_board.specs.RightCalls.{IsRightOf};
@@ -68,6 +68,24 @@ fn claim_goal<R: GoalRules>(
     right
 }
 
+// A goal that is held or waits is not claimed.
+fn find_busy<R: GoalRules>(rt: &impl Abort, board: &Board<R>, seat: &mut Seat<R>, at: u32)
+    requires seat { IsSeatOf R.meaning board.now seat.old }
+    requires near { at < board.now.key.room }
+    ensures seat { IsSeatOf R.meaning board.now seat.new }
+    ensures looks { HasLooked (hands seat.old) (hands seat.new) }
+    ensures rights { (hands seat.new).rights ≡ (hands seat.old).rights }
+    ensures parts { (hands seat.new).parts ≡ (hands seat.old).parts }
+{
+    match board.claim(seat, at) {
+        None => {}
+        Some(right) => {
+            board.suspend(seat, right);
+            panic!(rt; "the goal is ready");
+        }
+    }
+}
+
 // A goal that is held is not claimed again.
 fn claim_in_vain<R: GoalRules>(
     rt: &impl Abort,
@@ -84,30 +102,7 @@ fn claim_in_vain<R: GoalRules>(
     ensures rights { (hands seat.new).rights ≡ (hands seat.old).rights }
     ensures parts { (hands seat.new).parts ≡ (hands seat.old).parts }
 {
-    match board.claim(seat, at) {
-        None => {}
-        Some(second) => {
-            board.suspend(seat, second);
-            panic!(rt; "the goal was claimed twice");
-        }
-    }
-}
-
-// A goal that waits is not claimed.
-fn find_busy<R: GoalRules>(rt: &impl Abort, board: &Board<R>, seat: &mut Seat<R>, at: u32)
-    requires seat { IsSeatOf R.meaning board.now seat.old }
-    requires near { at < board.now.key.room }
-    ensures seat { IsSeatOf R.meaning board.now seat.new }
-    ensures rights { (hands seat.new).rights ≡ (hands seat.old).rights }
-    ensures parts { (hands seat.new).parts ≡ (hands seat.old).parts }
-{
-    match board.claim(seat, at) {
-        None => {}
-        Some(right) => {
-            board.suspend(seat, right);
-            panic!(rt; "the goal is ready");
-        }
-    }
+    find_busy(rt, board, seat, at);
 }
 
 // Waits for a child that stands in the cell.
@@ -345,8 +340,8 @@ fn put_three_words(rt: &impl Abort, board: &Board<Numbers>, seat: &mut Seat<Numb
     ensures idle { IsIdleAt board.now seat.new }
     ensures parts { (hands seat.new).parts ≡ (hands seat.old).parts }
 {
-    assert!(rt; matches!(put_in(board, seat, 4), Inserted::Fresh { .. }));
-    assert!(rt; matches!(put_in(board, seat, 3), Inserted::Fresh { .. }));
+    place_of(rt, board, seat, 4);
+    place_of(rt, board, seat, 3);
     assert!(rt; matches!(put_in(board, seat, 3), Inserted::Known { .. }));
 }
 
