@@ -1,115 +1,108 @@
-use crate::catalog_tests::{TWO_TABLES, numbered};
+use crate::catalog_tests::TWO_TABLES;
+use crate::sql_tests::told_of_text;
+use crate::texts::{assert_told, numbered, numbered_line, push_number};
 use catalog_json::read_catalog;
 use query_core::{Catalog, Item, Link, Operand, Options, OrderKey, OutItem, Pred, Query, RootDist};
 use sql_bind::{BindFault, bind};
-use sql_reader::{SqlFault, read_sql};
+use sql_reader::read_sql;
 use std::alloc::{AllocError, Global};
 use std::test::Fail;
-
-// ---- the line that is told
 
 const PLAIN: Options = Options {
     root: RootDist::One,
     off: 0,
 };
 
-// These words, and the number behind them.
-fn numbered_line(alloc: Global, words: &str, number: u32) -> Result<String, AllocError> {
-    format!(in alloc; "{words} {number}")
-}
-
 fn told(alloc: Global, fault: BindFault) -> Result<String, AllocError> {
     let (words, number) = match fault {
-        BindFault::UnknownTable { at } => ("unknown table at", at),
-        BindFault::TwiceAlias { at } => ("name twice at", at),
-        BindFault::UnknownColumn { at } => ("unknown column at", at),
-        BindFault::Ambiguous { at } => ("ambiguous column at", at),
-        BindFault::NotGrouped { at } => ("not grouped at", at),
-        BindFault::TooManyItems { found } => ("too many columns:", found),
+        BindFault::UnknownTable { at } => ("unknown table at ", at),
+        BindFault::TwiceAlias { at } => ("name twice at ", at),
+        BindFault::UnknownColumn { at } => ("unknown column at ", at),
+        BindFault::Ambiguous { at } => ("ambiguous column at ", at),
+        BindFault::NotGrouped { at } => ("not grouped at ", at),
+        BindFault::TooManyItems { found } => ("too many columns: ", found),
         BindFault::Memory => return String::from_str(alloc, "memory"),
     };
-    numbered_line(alloc, words, number)
+    numbered_line(alloc, words, number as u64)
 }
 
-fn told_of_text(alloc: Global, fault: SqlFault) -> Result<String, AllocError> {
-    let (words, at) = match fault {
-        SqlFault::TooLong => return String::from_str(alloc, "too long"),
-        SqlFault::NotAscii { at } => ("not ASCII at", at),
-        SqlFault::Token { at } => ("token at", at),
-        SqlFault::Grammar { at } => ("grammar at", at),
-        SqlFault::TooMany { what: _, at } => ("too many at", at),
-        SqlFault::Memory => return String::from_str(alloc, "memory"),
-    };
-    numbered_line(alloc, words, at)
-}
-
-fn push_items(alloc: Global, text: &mut String, items: &[Item]) -> Result<(), AllocError> {
+fn push_items(text: &mut String, items: &[Item]) -> Result<(), AllocError> {
     for item in items {
-        let name = item.name.as_str();
-        text.push_str(format!(in alloc; "{}.{name}/{} ", item.table, item.ndv)?.as_str())?;
+        push_number(text, item.table as u64, ".")?;
+        text.push_str(item.name.as_str())?;
+        text.push_str("/")?;
+        push_number(text, item.ndv, " ")?;
     }
     Ok(())
 }
 
-fn push_preds(alloc: Global, text: &mut String, preds: &[Pred]) -> Result<(), AllocError> {
+fn push_operand(text: &mut String, operand: &Operand) -> Result<(), AllocError> {
+    match operand {
+        Operand::Item(item) => {
+            text.push_str("i")?;
+            push_number(text, *item as u64, " ")
+        }
+        Operand::Int(_) => text.push_str("n "),
+        Operand::Str(_) => text.push_str("s "),
+    }
+}
+
+fn push_preds(text: &mut String, preds: &[Pred]) -> Result<(), AllocError> {
     for pred in preds {
-        let word = match &pred.right {
-            Operand::Item(right) => format!(in alloc; "{}:i{right} ", pred.left)?,
-            Operand::Int(_) => format!(in alloc; "{}:n ", pred.left)?,
-            Operand::Str(_) => format!(in alloc; "{}:s ", pred.left)?,
-        };
-        text.push_str(word.as_str())?;
+        push_number(text, pred.left as u64, ":")?;
+        push_operand(text, &pred.right)?;
     }
     Ok(())
 }
 
-fn push_links(alloc: Global, text: &mut String, links: &[Link]) -> Result<(), AllocError> {
+fn push_links(text: &mut String, links: &[Link]) -> Result<(), AllocError> {
     for link in links {
-        text.push_str(format!(in alloc; "{}-{} ", link.a, link.b)?.as_str())?;
+        push_number(text, link.a as u64, "-")?;
+        push_number(text, link.b as u64, " ")?;
     }
     Ok(())
 }
 
-fn push_groups(alloc: Global, text: &mut String, columns: &[u32]) -> Result<(), AllocError> {
+fn push_groups(text: &mut String, columns: &[u32]) -> Result<(), AllocError> {
     for column in columns {
-        text.push_str(format!(in alloc; "{column} ")?.as_str())?;
+        push_number(text, *column as u64, " ")?;
     }
     Ok(())
 }
 
-fn push_output(alloc: Global, text: &mut String, output: &[OutItem]) -> Result<(), AllocError> {
+fn push_output(text: &mut String, output: &[OutItem]) -> Result<(), AllocError> {
     for item in output {
-        text.push_str(format!(in alloc; "{} ", item.item)?.as_str())?;
+        push_number(text, item.item as u64, " ")?;
     }
     Ok(())
 }
 
-fn push_order(alloc: Global, text: &mut String, order: &[OrderKey]) -> Result<(), AllocError> {
+fn push_order(text: &mut String, order: &[OrderKey]) -> Result<(), AllocError> {
     for key in order {
-        let down = if key.desc { "-" } else { "+" };
-        text.push_str(format!(in alloc; " {}{down}", key.item)?.as_str())?;
+        text.push_str(" ")?;
+        push_number(text, key.item as u64, if key.desc { "-" } else { "+" })?;
     }
     Ok(())
 }
 
 // The items, predicates, links, groups and aggregates, output and order of a query.
-fn push_query(alloc: Global, text: &mut String, query: &Query) -> Result<(), AllocError> {
-    push_items(alloc, text, query.items.as_slice())?;
+fn push_query(text: &mut String, query: &Query) -> Result<(), AllocError> {
+    push_items(text, query.items.as_slice())?;
     text.push_str("where ")?;
-    push_preds(alloc, text, query.preds.as_slice())?;
+    push_preds(text, query.preds.as_slice())?;
     text.push_str("links ")?;
-    push_links(alloc, text, query.links.as_slice())?;
+    push_links(text, query.links.as_slice())?;
     text.push_str("group ")?;
-    push_groups(alloc, text, query.group_by.as_slice())?;
+    push_groups(text, query.group_by.as_slice())?;
     text.push_str("output ")?;
-    push_output(alloc, text, query.output.as_slice())?;
+    push_output(text, query.output.as_slice())?;
     text.push_str("order")?;
-    push_order(alloc, text, query.order.as_slice())
+    push_order(text, query.order.as_slice())
 }
 
 fn shown(alloc: Global, query: &Query) -> Result<String, AllocError> {
     let mut text = String::new(alloc);
-    push_query(alloc, &mut text, query)?;
+    push_query(&mut text, query)?;
     Ok(text)
 }
 
@@ -141,7 +134,7 @@ SELECT T2.b FROM T2 GROUP BY T2.a | not grouped at 7
 SELECT T1.a FROM T1, T2 AS T1 | name twice at 27
 SELECT x FROM T9 | unknown table at 14
 SELECT a FROM T1 WHERE a = 'x | token at 27
-SELECT a FROM t,t,t,t,t,t,t,t,t,t,t | too many at 34
+SELECT a FROM t,t,t,t,t,t,t,t,t,t,t | too many tables at 34
  | grammar at 0
 ; | grammar at 0
 SELECT a FROM T1, T1 u, T2 u | name twice at 27
@@ -157,7 +150,7 @@ fn refused_queries_are_told_the_first_fault(rt: HostRuntime) -> Result<(), Fail>
     for line in REFUSED.lines() {
         let (text, want) = line.split_once(" | ").ok_or("a line has two parts")?;
         let told = said(rt.alloc(), TWO_TABLES, text)?;
-        assert_eq!(rt; told.as_str(), want, "of {text}");
+        assert_told(&rt, &told, want, text);
     }
     Ok(())
 }
@@ -178,21 +171,30 @@ fn queries_are_bound(rt: HostRuntime) -> Result<(), Fail> {
             "0.a/1000 0.b/500 1.a/1000 where 1:n 2:i0 links 1-0 group 1 output 1 3 4 order 4- 1+",
         ),
     ] {
-        let line = said(rt.alloc(), TWO_TABLES, text)?;
-        assert_eq!(rt; line.as_str(), want, "of {text}");
+        let told = said(rt.alloc(), TWO_TABLES, text)?;
+        assert_told(&rt, &told, want, text);
     }
     Ok(())
 }
 
-// What is said of a query of so many columns and this end, over a table of 61 columns, c0 and so on.
-fn said_of_columns(alloc: Global, count: u64, end: &str) -> Result<String, AllocError> {
-    let columns = numbered(alloc, "{\"name\":\"c", "\",\"ndv\":1}", 61)?;
-    let catalog = format!(in alloc;
-        "{{\"version\":1,\"segments\":1,\"tables\":[{{\"name\":\"t\",\"rows\":1000,\"distribution\":[\"c0\"],\"columns\":[{columns}]}}]}}"
+// A catalogue of one table, t, of 61 columns, c0 and so on.
+fn wide_catalog(alloc: Global) -> Result<String, AllocError> {
+    let mut text = String::from_str(
+        alloc,
+        r#"{"version":1,"segments":1,"tables":[{"name":"t","rows":1000,"distribution":["c0"],"columns":["#,
     )?;
-    let items = numbered(alloc, "c", "", count)?;
-    let text = format!(in alloc; "SELECT {items} FROM t{end}")?;
-    said(alloc, catalog.as_str(), text.as_str())
+    text.push_str(&numbered(alloc, r#"{"name":"c"#, r#"","ndv":1}"#, 61)?)?;
+    text.push_str("]}]}")?;
+    Ok(text)
+}
+
+// What is said of a query of so many of these columns, with this end.
+fn said_of_columns(alloc: Global, count: u64, end: &str) -> Result<String, AllocError> {
+    let mut text = String::from_str(alloc, "SELECT ")?;
+    text.push_str(&numbered(alloc, "c", "", count)?)?;
+    text.push_str(" FROM t")?;
+    text.push_str(end)?;
+    said(alloc, &wide_catalog(alloc)?, &text)
 }
 
 #[test]

@@ -1,4 +1,6 @@
+use crate::texts::{assert_told, numbered, numbered_line};
 use catalog_json::{CatalogFault, read_catalog};
+use orca_base::Text;
 use query_core::{Catalog, ColumnInfo, Placing, TableInfo};
 use std::alloc::{AllocError, Global};
 use std::process::Abort;
@@ -8,20 +10,29 @@ use std::test::Fail;
 pub const TWO_TABLES: &str =
     "{\"version\":1,\"segments\":4,\"tables\":[{\"name\":\"T1\",\"rows\":1000,\"distribution\":[\"a\"],\"columns\":[{\"name\":\"a\",\"ndv\":1000}]},{\"name\":\"T2\",\"rows\":1000,\"distribution\":[\"a\"],\"columns\":[{\"name\":\"a\",\"ndv\":1000},{\"name\":\"b\",\"ndv\":500}]}]}";
 
+// These words, and the path behind them.
+fn at_path(alloc: Global, words: &str, path: &Text) -> Result<String, AllocError> {
+    [words, path.as_str()].concat(alloc)
+}
+
+fn told(alloc: Global, fault: CatalogFault) -> Result<String, AllocError> {
+    match fault {
+        CatalogFault::TooLong => String::from_str(alloc, "too long"),
+        CatalogFault::NotJson => String::from_str(alloc, "not JSON"),
+        CatalogFault::Shape { path } => at_path(alloc, "shape at ", &path),
+        CatalogFault::Version { found } => numbered_line(alloc, "version ", found),
+        CatalogFault::Range { path } => at_path(alloc, "range at ", &path),
+        CatalogFault::Twice { path } => at_path(alloc, "twice at ", &path),
+        CatalogFault::UnknownColumn { path } => at_path(alloc, "unknown column at ", &path),
+        CatalogFault::Memory => String::from_str(alloc, "memory"),
+    }
+}
+
 // The line that says why the bytes are refused, or `read`.
 fn said(alloc: Global, bytes: &[u8]) -> Result<String, AllocError> {
     match read_catalog(alloc, bytes) {
         Ok(_) => String::from_str(alloc, "read"),
-        Err(CatalogFault::TooLong) => String::from_str(alloc, "too long"),
-        Err(CatalogFault::NotJson) => String::from_str(alloc, "not JSON"),
-        Err(CatalogFault::Shape { path }) => format!(in alloc; "shape at {}", path.as_str()),
-        Err(CatalogFault::Version { found }) => format!(in alloc; "version {found}"),
-        Err(CatalogFault::Range { path }) => format!(in alloc; "range at {}", path.as_str()),
-        Err(CatalogFault::Twice { path }) => format!(in alloc; "twice at {}", path.as_str()),
-        Err(CatalogFault::UnknownColumn { path }) => {
-            format!(in alloc; "unknown column at {}", path.as_str())
-        }
-        Err(CatalogFault::Memory) => String::from_str(alloc, "memory"),
+        Err(fault) => told(alloc, fault),
     }
 }
 
@@ -29,25 +40,6 @@ fn said(alloc: Global, bytes: &[u8]) -> Result<String, AllocError> {
 fn changed(alloc: Global, old: &str, new: &str) -> Result<String, AllocError> {
     let text = TWO_TABLES.replacen(alloc, old, new, 1)?;
     said(alloc, text.as_bytes())
-}
-
-fn repeated(alloc: Global, part: &str, times: usize) -> Result<String, AllocError> {
-    let mut text = String::new(alloc);
-    for _ in 0..times {
-        text.push_str(part)?;
-    }
-    Ok(text)
-}
-
-/// A list of this many parts, each numbered.
-pub fn numbered(alloc: Global, front: &str, back: &str, count: u64) -> Result<String, AllocError> {
-    let mut text = String::new(alloc);
-    for i in 0..count {
-        let comma = if i == 0 { "" } else { "," };
-        let part = format!(in alloc; "{comma}{front}{i}{back}")?;
-        text.push_str(part.as_str())?;
-    }
-    Ok(text)
 }
 
 // Whether it is T2.
@@ -140,7 +132,7 @@ fn one_change_is_refused_at_its_place(rt: HostRuntime) -> Result<(), Fail> {
     for line in CHANGES.lines() {
         let (old, new, want) = parts_of(line).ok_or("a line has three parts")?;
         let told = changed(rt.alloc(), old, new)?;
-        assert_eq!(rt; told.as_str(), want, "at {new}");
+        assert_told(&rt, &told, want, new);
     }
     Ok(())
 }
@@ -154,8 +146,8 @@ fn what_is_no_object_is_refused(rt: HostRuntime) -> Result<(), Fail> {
         (b"\"\xff\"", "not JSON"),
     ];
     for (bytes, want) in cases {
-        let line = said(rt.alloc(), bytes)?;
-        assert_eq!(rt; line.as_str(), want);
+        let told = said(rt.alloc(), bytes)?;
+        assert_told(&rt, &told, want, "bytes");
     }
     Ok(())
 }
@@ -172,45 +164,41 @@ fn each_proper_prefix_is_refused(rt: HostRuntime) -> Result<(), Fail> {
 
 // So many arrays, each but the last around another.
 fn nested(alloc: Global, arrays: usize) -> Result<String, AllocError> {
-    let open = repeated(alloc, "[", arrays)?;
-    let close = repeated(alloc, "]", arrays)?;
-    format!(in alloc; "{open}{close}")
+    let open = "[".repeat(alloc, arrays)?;
+    let close = "]".repeat(alloc, arrays)?;
+    [open, close].concat(alloc)
 }
 
 // What is said of the two tables with this value under a key that is passed over.
 fn said_beside(alloc: Global, value: &str) -> Result<String, AllocError> {
-    let beside = format!(in alloc; "{{\"x\":{value},\"version\"")?;
-    changed(alloc, "{\"version\"", beside.as_str())
+    let beside = ["{\"x\":", value, ",\"version\""].concat(alloc)?;
+    changed(alloc, "{\"version\"", &beside)
 }
 
 // And under one that is looked at.
 fn said_inside(alloc: Global, value: &str) -> Result<String, AllocError> {
-    let inside = format!(in alloc; "\"segments\":{value}")?;
-    changed(alloc, "\"segments\":4", inside.as_str())
+    let inside = ["\"segments\":", value].concat(alloc)?;
+    changed(alloc, "\"segments\":4", &inside)
 }
 
-fn assert_said(rt: &impl Abort, told: &str, wanted: &str) {
-    assert!(rt; told == wanted, "{told}, not {wanted}");
-}
-
-// Asserts what is said of the value alone, and of it under either key.
+// Asserts what is said of so many arrays alone, and of them under either key.
 fn assert_levels(
     rt: &impl Abort,
     alloc: Global,
-    value: &str,
+    arrays: usize,
     alone: &str,
     passed_over: &str,
     looked_at: &str,
 ) -> Result<(), AllocError> {
-    assert_said(rt, &said(alloc, value.as_bytes())?, alone);
-    assert_said(rt, &said_beside(alloc, value)?, passed_over);
-    assert_said(rt, &said_inside(alloc, value)?, looked_at);
+    let value = nested(alloc, arrays)?;
+    assert_told(rt, &said(alloc, value.as_bytes())?, alone, &value);
+    assert_told(rt, &said_beside(alloc, &value)?, passed_over, &value);
+    assert_told(rt, &said_inside(alloc, &value)?, looked_at, &value);
     Ok(())
 }
 
 #[test]
 fn a_hundred_and_twenty_seven_levels_are_read(rt: HostRuntime) -> Result<(), Fail> {
-    let alloc = rt.alloc();
     // Arrays alone, which are no object; and under the object, which is a level, where a key is
     // passed over and where one is looked at.
     for (arrays, alone, passed_over, looked_at) in [
@@ -218,101 +206,79 @@ fn a_hundred_and_twenty_seven_levels_are_read(rt: HostRuntime) -> Result<(), Fai
         (127, "shape at ", "not JSON", "not JSON"),
         (128, "not JSON", "not JSON", "not JSON"),
     ] {
-        let value = nested(alloc, arrays)?;
-        assert_levels(&rt, alloc, &value, alone, passed_over, looked_at)?;
+        assert_levels(&rt, rt.alloc(), arrays, alone, passed_over, looked_at)?;
     }
     Ok(())
 }
 
 // What is said of a catalogue of so many tables.
 fn said_of_tables(alloc: Global, count: u64) -> Result<String, AllocError> {
-    let tables = numbered(
-        alloc,
-        "{\"name\":\"n",
-        "\",\"rows\":0,\"distribution\":\"random\",\"columns\":[{\"name\":\"a\",\"ndv\":0}]}",
-        count,
-    )?;
-    let text = format!(in alloc; "{{\"version\":1,\"segments\":1,\"tables\":[{tables}]}}")?;
+    let back = r#"","rows":0,"distribution":"random","columns":[{"name":"a","ndv":0}]}"#;
+    let tables = numbered(alloc, r#"{"name":"n"#, back, count)?;
+    let text = [r#"{"version":1,"segments":1,"tables":["#, &tables, "]}"].concat(alloc)?;
     said(alloc, text.as_bytes())
 }
 
 // What is said of a catalogue of one table, with so many columns, a0 and so on, that is hashed on these names.
 fn said_of_columns(alloc: Global, count: u64, hashed: &str) -> Result<String, AllocError> {
-    let columns = numbered(alloc, "{\"name\":\"a", "\",\"ndv\":0}", count)?;
-    let text = format!(in alloc;
-        "{{\"version\":1,\"segments\":4,\"tables\":[{{\"name\":\"T1\",\"rows\":1000,\"distribution\":[{hashed}],\"columns\":[{columns}]}}]}}"
-    )?;
+    let columns = numbered(alloc, r#"{"name":"a"#, r#"","ndv":0}"#, count)?;
+    let front = r#"{"version":1,"segments":4,"tables":[{"name":"T1","rows":1000,"distribution":["#;
+    let text = [front, hashed, r#"],"columns":["#, &columns, "]}]}"].concat(alloc)?;
     said(alloc, text.as_bytes())
 }
 
 // The same of nine columns, of which the table is hashed on the first ones.
 fn said_of_hashed(alloc: Global, count: u64) -> Result<String, AllocError> {
     let hashed = numbered(alloc, "\"a", "\"", count)?;
-    said_of_columns(alloc, 9, hashed.as_str())
+    said_of_columns(alloc, 9, &hashed)
 }
 
-// What is said of the two tables where the first has so many indexes.
-fn said_of_indexes(alloc: Global, count: usize) -> Result<String, AllocError> {
-    let more = repeated(alloc, "[\"a\"],", count.saturating_sub(1))?;
-    let indexes = format!(in alloc; "[\"a\"],\"indexes\":[{more}[\"a\"]]")?;
-    changed(alloc, "[\"a\"]", indexes.as_str())
+// What is said of the two tables where the first has one index, and so many more.
+fn said_of_indexes(alloc: Global, more: usize) -> Result<String, AllocError> {
+    let others = "[\"a\"],".repeat(alloc, more)?;
+    let indexes = ["[\"a\"],\"indexes\":[", &others, "[\"a\"]]"].concat(alloc)?;
+    changed(alloc, "[\"a\"]", &indexes)
 }
 
 // What is said of the two tables where the first has a name of so many letters.
 fn said_of_name(alloc: Global, count: usize) -> Result<String, AllocError> {
-    let name = repeated(alloc, "n", count)?;
-    changed(alloc, "T1", name.as_str())
+    let name = "n".repeat(alloc, count)?;
+    changed(alloc, "T1", &name)
 }
 
-// What has a limit.
-#[derive(Clone, Copy)]
-enum Length {
-    Tables,
-    Columns,
-    Hashed,
-    Indexes,
-    Name,
-}
-
-fn said_of_length(alloc: Global, length: Length, count: u32) -> Result<String, AllocError> {
-    match length {
-        Length::Tables => said_of_tables(alloc, count as u64),
-        Length::Columns => said_of_columns(alloc, count as u64, "\"a999\""),
-        Length::Hashed => said_of_hashed(alloc, count as u64),
-        Length::Indexes => said_of_indexes(alloc, count as usize),
-        Length::Name => said_of_name(alloc, count as usize),
-    }
+// Asserts that what is as long as it may be is read, and what is said of what is longer by one.
+fn assert_limit(rt: &impl Abort, most: String, longer: String, wanted: &str) {
+    assert_told(rt, &most, "read", wanted);
+    assert_told(rt, &longer, wanted, wanted);
 }
 
 #[test]
 fn lengths_end_at_their_limits(rt: HostRuntime) -> Result<(), Fail> {
-    for (length, most, told) in [
-        (Length::Tables, 1000u32, "range at /tables"),
-        (Length::Columns, 1000, "range at /tables/0/columns"),
-        (Length::Hashed, 8, "range at /tables/0/distribution"),
-        (Length::Indexes, 16, "range at /tables/0/indexes"),
-        (Length::Name, 64, "shape at /tables/0/name"),
-    ] {
-        let longer = most.saturating_add(1);
-        assert_said(&rt, &said_of_length(rt.alloc(), length, most)?, "read");
-        assert_said(&rt, &said_of_length(rt.alloc(), length, longer)?, told);
-    }
+    let alloc = rt.alloc();
+    let (most, longer) = (said_of_tables(alloc, 1000)?, said_of_tables(alloc, 1001)?);
+    assert_limit(&rt, most, longer, "range at /tables");
+    let last = "\"a999\"";
+    let (most, longer) = (
+        said_of_columns(alloc, 1000, last)?,
+        said_of_columns(alloc, 1001, last)?,
+    );
+    assert_limit(&rt, most, longer, "range at /tables/0/columns");
+    let (most, longer) = (said_of_hashed(alloc, 8)?, said_of_hashed(alloc, 9)?);
+    assert_limit(&rt, most, longer, "range at /tables/0/distribution");
+    let (most, longer) = (said_of_indexes(alloc, 15)?, said_of_indexes(alloc, 16)?);
+    assert_limit(&rt, most, longer, "range at /tables/0/indexes");
+    let (most, longer) = (said_of_name(alloc, 64)?, said_of_name(alloc, 65)?);
+    assert_limit(&rt, most, longer, "shape at /tables/0/name");
     Ok(())
-}
-
-// The two tables with spaces behind, of so many bytes in all.
-fn spaced(alloc: Global, length: usize) -> Result<String, AllocError> {
-    let spaces = repeated(alloc, " ", length.saturating_sub(TWO_TABLES.len()))?;
-    format!(in alloc; "{TWO_TABLES}{spaces}")
 }
 
 #[test]
 fn a_mebibyte_is_read(rt: HostRuntime) -> Result<(), Fail> {
-    for (length, told) in [(1_048_576, "read"), (1_048_577, "too long")] {
-        let text = spaced(rt.alloc(), length)?;
+    for (length, wanted) in [(1_048_576usize, "read"), (1_048_577, "too long")] {
+        let spaces = " ".repeat(rt.alloc(), length.saturating_sub(TWO_TABLES.len()))?;
+        let text = [TWO_TABLES, &spaces].concat(rt.alloc())?;
         assert_eq!(rt; text.len(), length);
-        let line = said(rt.alloc(), text.as_bytes())?;
-        assert_eq!(rt; line.as_str(), told);
+        assert_told(&rt, &said(rt.alloc(), text.as_bytes())?, wanted, "spaces");
     }
     Ok(())
 }

@@ -16,4 +16,6 @@ mod print_tests;
 #[cfg(test)]
 mod sql_tests;
 #[cfg(test)]
+mod texts;
+#[cfg(test)]
 mod written_tests;

@@ -1,171 +1,140 @@
-use sql_reader::*;
+use crate::texts::{assert_told, numbered_line};
+use sql_reader::{Limit, SqlFault, read_sql};
 use std::alloc::{AllocError, Global};
 use std::test::Fail;
 
-/// The fault of a text, if it has one.
-fn fault(alloc: Global, text: &[u8]) -> Option<SqlFault> {
-    read_sql(alloc, text).err()
+fn too_many(what: Limit) -> &'static str {
+    match what {
+        Limit::Items => "too many items at ",
+        Limit::Tables => "too many tables at ",
+        Limit::Predicates => "too many predicates at ",
+        Limit::GroupBy => "too many group columns at ",
+        Limit::OrderBy => "too many order keys at ",
+    }
+}
+
+/// The line that tells the fault.
+pub fn told_of_text(alloc: Global, fault: SqlFault) -> Result<String, AllocError> {
+    let (words, at) = match fault {
+        SqlFault::TooLong => return String::from_str(alloc, "too long"),
+        SqlFault::NotAscii { at } => ("not ASCII at ", at),
+        SqlFault::Token { at } => ("token at ", at),
+        SqlFault::Grammar { at } => ("grammar at ", at),
+        SqlFault::TooMany { what, at } => (too_many(what), at),
+        SqlFault::Memory => return String::from_str(alloc, "memory"),
+    };
+    numbered_line(alloc, words, at as u64)
+}
+
+// The line that tells the fault of a text, or `read`.
+fn said(alloc: Global, text: &[u8]) -> Result<String, AllocError> {
+    match read_sql(alloc, text) {
+        Ok(_) => String::from_str(alloc, "read"),
+        Err(fault) => told_of_text(alloc, fault),
+    }
+}
+
+// In each line a text, and what is said of it. The first text is empty.
+const REFUSED: &str = " | grammar at 0
+; | grammar at 0
+SELECT a FROM T1 WHERE a = 'x | token at 27
+SELECT a FROM t,t,t,t,t,t,t,t,t,t,t | too many tables at 34
+SELECT a FROM t WHERE a = 9223372036854775808 | token at 26
+SELECT a FROM t WHERE a = -9223372036854775808 | token at 26
+SELECT a FROM t WHERE a = 5x | token at 26
+SELECT a\0 FROM t | token at 8
+SELECT a FROM t;; | grammar at 16
+SELECT a FROM t GROUP | grammar at 21
+SELECT COUNT(*) FROM t WHERE | grammar at 28
+SELECT a FROM t WHERE 5 = a | grammar at 22
+SELECT a b FROM t | grammar at 9
+SELECT a FROM t ORDER BY a, a, a, a, a, a, a, a, a | too many order keys at 49
+SELECT a FROM t WHERE a LIKE 'x' | grammar at 24
+SELECT a FROM t,t,t,t,t,t,t,t,t,t, | grammar at 34
+SELECT a FROM t,t,t,t,t,t,t,t,t,t,5 | grammar at 34
+SELECT a FROM count( | grammar at 14
+SELECT a FROM count \x01( | token at 20
+SELECT a FROM t -- x\x7f | token at 20
+SELECT limit FROM t | grammar at 7
+SELECT a FROM t WHERE a ! = b | token at 24
+SELECT a FROM t WHERE a = 'it'' | token at 26
+";
+
+#[test]
+fn refuses_with_the_first_fault(rt: HostRuntime) -> Result<(), Fail> {
+    for line in REFUSED.lines() {
+        let (text, want) = line.split_once(" | ").ok_or("a line has two parts")?;
+        let told = said(rt.alloc(), text.as_bytes())?;
+        assert_told(&rt, &told, want, text);
+    }
+    Ok(())
 }
 
 #[test]
-fn refuses_with_the_first_fault(rt: HostRuntime) {
-    let cases: [(&[u8], SqlFault); 26] = [
-        (b"", SqlFault::Grammar { at: 0 }),
-        (b";", SqlFault::Grammar { at: 0 }),
-        (b"SELECT a FROM T1 WHERE a = 'x", SqlFault::Token { at: 27 }),
-        (
-            b"SELECT a FROM t,t,t,t,t,t,t,t,t,t,t",
-            SqlFault::TooMany {
-                what: Limit::Tables,
-                at: 34,
-            },
-        ),
-        (
-            b"SELECT a FROM t WHERE a = 9223372036854775808",
-            SqlFault::Token { at: 26 },
-        ),
-        (
-            b"SELECT a FROM t WHERE a = -9223372036854775808",
-            SqlFault::Token { at: 26 },
-        ),
-        (b"SELECT a FROM t WHERE a = 5x", SqlFault::Token { at: 26 }),
-        (b"SELECT \xc3 FROM t", SqlFault::NotAscii { at: 7 }),
-        (b"SELECT a\0 FROM t", SqlFault::Token { at: 8 }),
-        (b"SELECT a FROM t;;", SqlFault::Grammar { at: 16 }),
-        (b"SELECT a FROM t GROUP", SqlFault::Grammar { at: 21 }),
-        (
-            b"SELECT COUNT(*) FROM t WHERE",
-            SqlFault::Grammar { at: 28 },
-        ),
-        (b"SELECT a FROM t WHERE 5 = a", SqlFault::Grammar { at: 22 }),
-        (b"SELECT a b FROM t", SqlFault::Grammar { at: 9 }),
-        (
-            b"SELECT a FROM t ORDER BY a, a, a, a, a, a, a, a, a",
-            SqlFault::TooMany {
-                what: Limit::OrderBy,
-                at: 49,
-            },
-        ),
-        (
-            b"SELECT a FROM t WHERE a LIKE 'x'",
-            SqlFault::Grammar { at: 24 },
-        ),
-        (
-            b"SELECT a FROM t,t,t,t,t,t,t,t,t,t,",
-            SqlFault::Grammar { at: 34 },
-        ),
-        (
-            b"SELECT a FROM t,t,t,t,t,t,t,t,t,t,5",
-            SqlFault::Grammar { at: 34 },
-        ),
-        (b"SELECT 'a\xff' FROM t", SqlFault::Grammar { at: 7 }),
-        (
-            b"SELECT a FROM t WHERE a = 'x\xff",
-            SqlFault::Token { at: 26 },
-        ),
-        (b"SELECT a FROM count(", SqlFault::Grammar { at: 14 }),
-        (b"SELECT a FROM count \x01(", SqlFault::Token { at: 20 }),
-        (b"SELECT a FROM t -- x\x7f", SqlFault::Token { at: 20 }),
-        (b"SELECT limit FROM t", SqlFault::Grammar { at: 7 }),
-        (b"SELECT a FROM t WHERE a ! = b", SqlFault::Token { at: 24 }),
-        (
-            b"SELECT a FROM t WHERE a = 'it''",
-            SqlFault::Token { at: 26 },
-        ),
+fn bytes_that_are_no_text_are_refused_at_their_place(rt: HostRuntime) -> Result<(), Fail> {
+    let cases: [(&[u8], &str); 3] = [
+        (b"SELECT \xc3 FROM t", "not ASCII at 7"),
+        (b"SELECT 'a\xff' FROM t", "grammar at 7"),
+        (b"SELECT a FROM t WHERE a = 'x\xff", "token at 26"),
     ];
-    for (text, expected) in &cases {
-        assert_eq!(rt; fault(rt.alloc(), text), Some(*expected));
+    for (text, want) in cases {
+        let told = said(rt.alloc(), text)?;
+        assert_told(&rt, &told, want, "bytes");
     }
+    Ok(())
 }
 
-/// A text of one part, others of one kind and an end.
-fn edge(
+// What is said of a text of one part, others of one kind and an end.
+fn said_of_parts(
     alloc: Global,
-    first: &[u8],
-    more: &[u8],
+    first: &str,
+    more: &str,
     count: usize,
-    last: &[u8],
-) -> Result<Vec<u8>, AllocError> {
-    let mut text = Vec::from_slice(alloc, first)?;
-    for _ in 0..count {
-        text.extend_from_slice(more)?;
-    }
-    text.extend_from_slice(last)?;
-    Ok(text)
-}
-
-/// The fault of such a text, if it has one.
-fn fault_at_edge(
-    alloc: Global,
-    first: &[u8],
-    more: &[u8],
-    count: usize,
-    last: &[u8],
-) -> Result<Option<SqlFault>, AllocError> {
-    let text = edge(alloc, first, more, count, last)?;
-    Ok(fault(alloc, text.as_slice()))
+    last: &str,
+) -> Result<String, AllocError> {
+    let others = more.repeat(alloc, count)?;
+    let text = [first, &others, last].concat(alloc)?;
+    said(alloc, text.as_bytes())
 }
 
 #[test]
 fn keeps_each_limit_to_its_edge(rt: HostRuntime) -> Result<(), Fail> {
-    let cases: [(&[u8], &[u8], usize, &[u8], SqlFault); 6] = [
+    for (first, more, count, last, one_more) in [
         (
-            b"SELECT a",
-            b",a",
-            59,
-            b" FROM t",
-            SqlFault::TooMany {
-                what: Limit::Items,
-                at: 127,
-            },
+            "SELECT a",
+            ",a",
+            59usize,
+            " FROM t",
+            "too many items at 127",
         ),
+        ("SELECT a FROM t", ",t", 9, "", "too many tables at 34"),
         (
-            b"SELECT a FROM t",
-            b",t",
-            9,
-            b"",
-            SqlFault::TooMany {
-                what: Limit::Tables,
-                at: 34,
-            },
-        ),
-        (
-            b"SELECT a FROM t WHERE a=1",
-            b" AND a=1",
+            "SELECT a FROM t WHERE a=1",
+            " AND a=1",
             39,
-            b"",
-            SqlFault::TooMany {
-                what: Limit::Predicates,
-                at: 342,
-            },
+            "",
+            "too many predicates at 342",
         ),
         (
-            b"SELECT a FROM t GROUP BY a",
-            b",a",
+            "SELECT a FROM t GROUP BY a",
+            ",a",
             7,
-            b"",
-            SqlFault::TooMany {
-                what: Limit::GroupBy,
-                at: 41,
-            },
+            "",
+            "too many group columns at 41",
         ),
         (
-            b"SELECT a FROM t ORDER BY a",
-            b",a",
+            "SELECT a FROM t ORDER BY a",
+            ",a",
             7,
-            b"",
-            SqlFault::TooMany {
-                what: Limit::OrderBy,
-                at: 41,
-            },
+            "",
+            "too many order keys at 41",
         ),
-        (b"SELECT a FROM t", b" ", 65_521, b"", SqlFault::TooLong),
-    ];
-    for (first, more, count, last, one_more) in &cases {
-        let full = fault_at_edge(rt.alloc(), first, more, *count, last)?;
-        assert_eq!(rt; full, None);
-        let over = fault_at_edge(rt.alloc(), first, more, *count + 1, last)?;
-        assert_eq!(rt; over, Some(*one_more));
+        ("SELECT a FROM t", " ", 65_521, "", "too long"),
+    ] {
+        let full = said_of_parts(rt.alloc(), first, more, count, last)?;
+        assert_told(&rt, &full, "read", first);
+        let over = said_of_parts(rt.alloc(), first, more, count.saturating_add(1), last)?;
+        assert_told(&rt, &over, one_more, first);
     }
     Ok(())
 }
