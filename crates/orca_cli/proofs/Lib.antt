@@ -9,6 +9,8 @@ pub mod QueryStages
 pub mod CatalogStages
 pub mod Puts
 pub mod Causes
+pub mod OneAnswer
+pub mod SureEndings
 pub mod Served
 pub mod ServedGen
 pub mod Made

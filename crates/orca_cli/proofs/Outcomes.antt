@@ -22,7 +22,7 @@ use Rattle.orca_cli.specs.Sections.{Tells}
 use Rattle.orca_cli.specs.Texts as texts
 use Rattle.orca_cli.specs.declared.status.Status.{Status}
 use Rattle.orca_cli.specs.declared.status.Status.TheVariants.{CatalogRefused}
-use Rattle.orca_cli.proofs.Causes.{OneAnswer, room_or_more, told_one, one_catalog, some_catalog}
+use Rattle.orca_cli.proofs.OneAnswer.{OneAnswer, room_or_more, told_one, one_catalog, some_catalog}
 use Rattle.orca_cli.proofs.SectionTexts.{OneSections, sections_same, first_lines_one, same_texts}
 use Rattle.orca_cli.proofs.Refusals.{one_query, never_refused, one_cause}
 

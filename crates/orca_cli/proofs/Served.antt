@@ -10,8 +10,9 @@ use Rattle.orca_cli.specs.Serves.{IsEnded, Serves, ServesWords}
 use Rattle.orca_cli.specs.declared.status.Status.{Status}
 use Rattle.orca_cli.specs.declared.status.Status.TheVariants.{Planned, NoPlan, Usage, QueryRefused, CatalogRefused}
 use Rattle.orca_cli.specs.declared.status.Status.TheVariants.{TooManyEntries, ReadFault, WriteFault, Memory}
-use Rattle.orca_cli.proofs.Causes.{OneAnswer, usage_cause, read_cause, write_cause, completed, overflowed}
-use Rattle.orca_cli.proofs.Causes.{refused_there}
+use Rattle.orca_cli.proofs.Causes.{usage_cause, read_cause, write_cause}
+use Rattle.orca_cli.proofs.OneAnswer.{OneAnswer}
+use Rattle.orca_cli.proofs.SureEndings.{completed, overflowed, refused_there}
 use Rattle.orca_cli.proofs.Others.{never}
 use Rattle.orca_cli.proofs.Puts.{put_ends}
 

@@ -18,7 +18,7 @@ use Rattle.orca_cli.specs.Sections.{Tells}
 use Rattle.orca_cli.specs.declared.status.Status.{Status}
 use Rattle.orca_cli.specs.declared.status.Status.TheVariants.{Planned, NoPlan, Usage, QueryRefused, CatalogRefused}
 use Rattle.orca_cli.specs.declared.status.Status.TheVariants.{TooManyEntries, ReadFault, WriteFault, Memory}
-use Rattle.orca_cli.proofs.Causes.{OneAnswer, settled_search, overflow_search}
+use Rattle.orca_cli.proofs.OneAnswer.{OneAnswer, settled_search, overflow_search}
 use Rattle.orca_cli.proofs.Others.{IsOther, never_searched}
 use Rattle.orca_cli.proofs.Puts.{put_ends, ends_give}
 use Rattle.orca_cli.proofs.Refusals.{one_query}

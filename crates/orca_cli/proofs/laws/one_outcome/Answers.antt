@@ -1,6 +1,6 @@
 use Rattle.query_core.specs.Keys.{root_of}
 use Rattle.request_props.specs.Numbered.{root_request}
-use Rattle.orca_cli.proofs.Causes.{one_answer_of}
+use Rattle.orca_cli.proofs.OneAnswer.{one_answer_of}
 use Rattle.orca_cli.proofs.Outcomes.{one_outcome_of, one_generated_of}
 use Rattle.orca_cli.proofs.SectionTexts.{OneSections}
 use Rattle.orca_cli.proofs.laws.one_outcome.Goals as goal

@@ -3,7 +3,7 @@ use Rattle.std.proofs.KnownBytes.{Keeps-refl}
 use Rattle.command_line.specs.Views.{gen_command}
 use Rattle.orca_cli.specs.Generated.{IsGenEnded}
 use Rattle.orca_cli.specs.Views.{text_of}
-use Rattle.orca_cli.proofs.Causes.{one_answer_of}
+use Rattle.orca_cli.proofs.OneAnswer.{one_answer_of}
 use Rattle.orca_cli.proofs.ServedGen.{put_gen, memory_gen}
 use Rattle.orca_cli.proofs.top.put_generated.Goals as goal
 

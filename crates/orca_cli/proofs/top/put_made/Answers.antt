@@ -3,7 +3,7 @@ use Rattle.std.proofs.KnownBytes.{Keeps-refl}
 use Rattle.command_line.specs.Views.{plan_command}
 use Rattle.orca_cli.specs.Serves.{IsEnded}
 use Rattle.orca_cli.specs.Views.{text_of}
-use Rattle.orca_cli.proofs.Causes.{one_answer_of}
+use Rattle.orca_cli.proofs.OneAnswer.{one_answer_of}
 use Rattle.orca_cli.proofs.Served.{put_served, memory_served}
 use Rattle.orca_cli.proofs.top.put_made.Goals as goal
 
