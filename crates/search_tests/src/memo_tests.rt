@@ -61,47 +61,47 @@ fn assert_memo(
 }
 
 // A word has the key from bit 36 on, the operator from bit 31, the index from bit 26, the children.
-#[test]
-fn a_memo_is_shown_group_by_group(rt: HostRuntime) -> Result<(), Fail> {
-    let words = [
-        0x80000000,
-        0x100000000,
-        0x1080000000,
-        0x1100000000,
-        0x403380000000,
-        0x403400002002,
-        0x403400004001,
-        0x403480002002,
-        0x403480004001,
-        0x403500002002,
-        0x403500004001,
-        0x403580002002,
-        0x403580004001,
-    ];
-    assert_memo(&rt, rt.alloc(), two_tables(rt.alloc()), &words, JOIN_MEMO)
-}
+const JOINED: [u64; 13] = [
+    0x80000000,
+    0x100000000,
+    0x1080000000,
+    0x1100000000,
+    0x403380000000,
+    0x403400002002,
+    0x403400004001,
+    0x403480002002,
+    0x403480004001,
+    0x403500002002,
+    0x403500004001,
+    0x403580002002,
+    0x403580004001,
+];
 
 #[test]
-fn indexes_and_aggregations_are_shown(rt: HostRuntime) -> Result<(), Fail> {
-    let words = [
-        0x80000000,
-        0x100000000,
-        0x180000000,
-        0x184000000,
-        0x10200002000,
-        0x10280002000,
-        0x10300000000,
-        0x10304000000,
-        0x800780022000,
-        0x800800022000,
-        0x801600022000,
-        0x801601002000,
-        0x801680022000,
-        0x801681002000,
-        0x801700022000,
-        0x801701002000,
-    ];
-    let wanted = "memo groups=4 members=16
+fn a_memo_is_shown_group_by_group(rt: HostRuntime) -> Result<(), Fail> {
+    assert_memo(&rt, rt.alloc(), two_tables(rt.alloc()), &JOINED, JOIN_MEMO)
+}
+
+const COUNTED: [u64; 16] = [
+    0x80000000,
+    0x100000000,
+    0x180000000,
+    0x184000000,
+    0x10200002000,
+    0x10280002000,
+    0x10300000000,
+    0x10304000000,
+    0x800780022000,
+    0x800800022000,
+    0x801600022000,
+    0x801601002000,
+    0x801680022000,
+    0x801681002000,
+    0x801700022000,
+    0x801701002000,
+];
+
+const COUNT_MEMO: &str = "memo groups=4 members=16
 group Get(t) rows=100000
   Get(t)
   Scan(t)
@@ -123,23 +123,34 @@ group Agg rows=10
   StreamAgg(input)
   StreamAgg(partial)
 ";
-    assert_memo(&rt, rt.alloc(), filtered_count(rt.alloc()), &words, wanted)
-}
 
 #[test]
-fn sides_of_several_tables_are_shown_in_order(rt: HostRuntime) -> Result<(), Fail> {
-    let words = [
-        0x407380000000,
-        0x407400006404,
-        0x407400808003,
-        0x407500004406,
-    ];
-    let wanted = "memo groups=1 members=4
+fn indexes_and_aggregations_are_shown(rt: HostRuntime) -> Result<(), Fail> {
+    assert_memo(
+        &rt,
+        rt.alloc(),
+        filtered_count(rt.alloc()),
+        &COUNTED,
+        COUNT_MEMO,
+    )
+}
+
+const OF_A_CYCLE: [u64; 4] = [
+    0x407380000000,
+    0x407400006404,
+    0x407400808003,
+    0x407500004406,
+];
+
+const CYCLE_MEMO: &str = "memo groups=1 members=4
 group Join(A, B, C) rows=1000
   NJoin(A, B, C)
   Join(C | A, B)
   Join(A, B | C)
   MergeJoin(B | A, C)
 ";
-    assert_memo(&rt, rt.alloc(), cycle(rt.alloc()), &words, wanted)
+
+#[test]
+fn sides_of_several_tables_are_shown_in_order(rt: HostRuntime) -> Result<(), Fail> {
+    assert_memo(&rt, rt.alloc(), cycle(rt.alloc()), &OF_A_CYCLE, CYCLE_MEMO)
 }

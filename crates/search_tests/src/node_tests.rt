@@ -223,20 +223,22 @@ fn joins_ask_as_by_hand(rt: HostRuntime) -> Result<(), Fail> {
     Ok(())
 }
 
+const ENFORCER_COSTS: [(Enforcer, u64); 5] = [
+    (Enforcer::Sort(1), 2001),
+    (Enforcer::Broadcast, 4001),
+    (Enforcer::Gather, 2001),
+    (Enforcer::GatherMerge(1), 3001),
+    (Enforcer::Redistribute(0), 1001),
+];
+
 // Whether a scan of the table and each enforcer over its rows cost what they do in worked examples.
 fn table_costs(query: &Query, props: &Props, table: KeyParts) -> bool
     requires props { IsProps query.now props.now }
     requires group { IsGroup query.now table }
 {
     let spread = ask(Dist::Spread, 0);
-    for (enforcer, cost) in [
-        (Enforcer::Sort(1), 2001),
-        (Enforcer::Broadcast, 4001),
-        (Enforcer::Gather, 2001),
-        (Enforcer::GatherMerge(1), 3001),
-        (Enforcer::Redistribute(0), 1001),
-    ] {
-        if enforcer_cost(query, props, enforcer, table, spread) != cost {
+    for (enforcer, cost) in &ENFORCER_COSTS {
+        if enforcer_cost(query, props, *enforcer, table, spread) != *cost {
             return false;
         }
     }

@@ -20,24 +20,26 @@ fn assert_outer_columns(
     Ok(())
 }
 
+const OF_A_CYCLE: [(KeyParts, usize); 4] = [
+    (KeyParts::Get(0), 3),
+    (KeyParts::Get(2), 2),
+    (KeyParts::Join(3), 2),
+    (KeyParts::Join(7), 0),
+];
+
 #[test]
 fn columns_equated_within_the_group_do_not_count(rt: HostRuntime) -> Result<(), Fail> {
-    let groups = [
-        (KeyParts::Get(0), 3),
-        (KeyParts::Get(2), 2),
-        (KeyParts::Join(3), 2),
-        (KeyParts::Join(7), 0),
-    ];
     let query = cycle_of_four_predicates(rt.alloc());
-    assert_outer_columns(&rt, rt.alloc(), query, &groups)
+    assert_outer_columns(&rt, rt.alloc(), query, &OF_A_CYCLE)
 }
+
+const OF_A_STAR: [(KeyParts, usize); 3] = [
+    (KeyParts::Get(0), 1),
+    (KeyParts::Get(1), 1),
+    (KeyParts::Join(3), 1),
+];
 
 #[test]
 fn a_column_of_several_equalities_counts_once(rt: HostRuntime) -> Result<(), Fail> {
-    let groups = [
-        (KeyParts::Get(0), 1),
-        (KeyParts::Get(1), 1),
-        (KeyParts::Join(3), 1),
-    ];
-    assert_outer_columns(&rt, rt.alloc(), star_of_four(rt.alloc()), &groups)
+    assert_outer_columns(&rt, rt.alloc(), star_of_four(rt.alloc()), &OF_A_STAR)
 }

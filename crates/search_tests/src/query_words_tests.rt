@@ -153,17 +153,18 @@ fn a_group_holds_its_candidates(rt: HostRuntime) -> Result<(), Fail> {
     Ok(())
 }
 
+const READS: [u64; 5] = [
+    0x80000000,
+    0x100000000,
+    0x180000000,
+    0x184000000,
+    0x188000000,
+];
+
 #[test]
 fn a_table_with_indexes_holds_its_candidates(rt: HostRuntime) -> Result<(), Fail> {
     let query = Box::new(rt.alloc(), three_indexes(rt.alloc())?)?;
-    let reads = [
-        0x80000000,
-        0x100000000,
-        0x180000000,
-        0x184000000,
-        0x188000000,
-    ];
-    assert_words(&rt, &query, 0, &reads);
+    assert_words(&rt, &query, 0, &READS);
     Ok(())
 }
 
@@ -174,14 +175,16 @@ fn assert_candidates(rt: &impl Abort, query: &Query, words: &[u64], are: bool) {
     }
 }
 
+const CANDIDATES: [u64; 4] = [0x80000000, 0x1100000000, 0x403380000000, 0x403580004001];
+
+// An index that isn't there, a join of a table with itself, a group that isn't there, and no word.
+const OTHER_WORDS: [u64; 4] = [0x180000000, 0x403400002001, 0x202100000, 0x403400002000];
+
 #[test]
 fn candidates_are_told_by_their_words(rt: HostRuntime) -> Result<(), Fail> {
     let query = compared(rt.alloc())?;
-    let candidates = [0x80000000, 0x1100000000, 0x403380000000, 0x403580004001];
-    assert_candidates(&rt, &query, &candidates, true);
-    // An index that isn't there, a join of a table with itself, a group that isn't there, and no word.
-    let others = [0x180000000, 0x403400002001, 0x202100000, 0x403400002000];
-    assert_candidates(&rt, &query, &others, false);
+    assert_candidates(&rt, &query, &CANDIDATES, true);
+    assert_candidates(&rt, &query, &OTHER_WORDS, false);
     assert!(rt; Key(1027).first_word() == 0x403000000000);
     Ok(())
 }

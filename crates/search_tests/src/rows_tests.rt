@@ -30,21 +30,24 @@ fn assert_rows(
     Ok(())
 }
 
+const OF_A_CYCLE: [(u32, u64); 4] = [(1027, 100), (1029, 1000), (1030, 1000), (1031, 100)];
+
 #[test]
 fn predicates_apply_when_their_last_table_joins(rt: HostRuntime) -> Result<(), Fail> {
     let query = cycle_of_four_predicates(rt.alloc());
-    let groups = [(1027, 100), (1029, 1000), (1030, 1000), (1031, 100)];
-    assert_rows(&rt, rt.alloc(), query, &groups)
+    assert_rows(&rt, rt.alloc(), query, &OF_A_CYCLE)
 }
+
+const OF_HUGE_TABLES: [(u32, u64); 2] = [(0, 1_000_000_000_000), (1027, 333_333_333_334)];
 
 #[test]
 fn no_estimate_is_above_the_limit(rt: HostRuntime) -> Result<(), Fail> {
-    let groups = [(0, 1_000_000_000_000), (1027, 333_333_333_334)];
-    assert_rows(&rt, rt.alloc(), huge_tables(rt.alloc()), &groups)
+    assert_rows(&rt, rt.alloc(), huge_tables(rt.alloc()), &OF_HUGE_TABLES)
 }
+
+const OF_A_COUNT: [(u32, u64); 4] = [(0, 100_000), (16, 1000), (2048, 40), (2049, 10)];
 
 #[test]
 fn own_predicates_and_grouping_reduce_rows(rt: HostRuntime) -> Result<(), Fail> {
-    let groups = [(0, 100_000), (16, 1000), (2048, 40), (2049, 10)];
-    assert_rows(&rt, rt.alloc(), filtered_count(rt.alloc()), &groups)
+    assert_rows(&rt, rt.alloc(), filtered_count(rt.alloc()), &OF_A_COUNT)
 }

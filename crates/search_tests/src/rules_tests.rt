@@ -90,68 +90,78 @@ fn assert_applies(
     Ok(())
 }
 
+const APPLY_TO_A_JOIN: [(u32, u32, bool); 6] = [
+    (1027, 1, true),
+    (1027, 2, false),
+    (0, 5, true),
+    (0, 6, false),
+    (0, 0, false),
+    (0, 15, false),
+];
+
+const APPLY_WITHOUT_SCANS: [(u32, u32, bool); 2] = [(0, 5, false), (1027, 1, true)];
+
+const APPLY_TO_INDEXES: [(u32, u32, bool); 4] = [
+    (0, 6, true),
+    (16, 5, false),
+    (16, 7, true),
+    (16, 8, true),
+];
+
 // Numbers of rules are 1 to 14.
 #[test]
 fn a_rule_applies_where_it_is_on_and_for_the_expression(rt: HostRuntime) -> Result<(), Fail> {
     let alloc = rt.alloc();
-    let joined = [
-        (1027, 1, true),
-        (1027, 2, false),
-        (0, 5, true),
-        (0, 6, false),
-        (0, 0, false),
-        (0, 15, false),
-    ];
-    assert_applies(&rt, alloc, compared_tables(alloc, CmpOp::Eq, 0), &joined)?;
-    let without_scans = [(0, 5, false), (1027, 1, true)];
-    assert_applies(
-        &rt,
-        alloc,
-        compared_tables(alloc, CmpOp::Eq, 1 << 5),
-        &without_scans,
-    )?;
-    let indexed = [(0, 6, true), (16, 5, false), (16, 7, true), (16, 8, true)];
-    assert_applies(&rt, alloc, three_indexes(alloc), &indexed)
+    let joined = compared_tables(alloc, CmpOp::Eq, 0);
+    assert_applies(&rt, alloc, joined, &APPLY_TO_A_JOIN)?;
+    let without_scans = compared_tables(alloc, CmpOp::Eq, 1 << 5);
+    assert_applies(&rt, alloc, without_scans, &APPLY_WITHOUT_SCANS)?;
+    assert_applies(&rt, alloc, three_indexes(alloc), &APPLY_TO_INDEXES)
 }
+
+const EQUALITY: [(u32, Option<u64>); 5] = [
+    (9, Some(HASH_JOIN)),
+    (10, Some(MERGE_JOIN)),
+    (11, Some(LOOP_JOIN)),
+    (2, Some(0x403400004001)),
+    (12, None),
+];
+
+const EQUALITY_STEPS: [(u32, u32, u32, Option<u64>); 2] = [(1027, 9, 0, None), (1027, 1, 1, None)];
 
 #[test]
 fn a_join_of_two_tables_is_implemented_in_three_ways(rt: HostRuntime) -> Result<(), Fail> {
-    let rules = [
-        (9, Some(HASH_JOIN)),
-        (10, Some(MERGE_JOIN)),
-        (11, Some(LOOP_JOIN)),
-        (2, Some(0x403400004001)),
-        (12, None),
-    ];
-    let query = compared_tables(rt.alloc(), CmpOp::Eq, 0);
-    assert_joined(&rt, rt.alloc(), query, &rules)?;
-    let steps = [(1027, 9, 0, None), (1027, 1, 1, None)];
-    let query = compared_tables(rt.alloc(), CmpOp::Eq, 0);
-    assert_first_steps(&rt, rt.alloc(), query, &steps)
+    let alloc = rt.alloc();
+    assert_joined(&rt, alloc, compared_tables(alloc, CmpOp::Eq, 0), &EQUALITY)?;
+    let query = compared_tables(alloc, CmpOp::Eq, 0);
+    assert_first_steps(&rt, alloc, query, &EQUALITY_STEPS)
 }
+
+const INEQUALITY: [(u32, Option<u64>); 3] = [(9, None), (10, None), (11, Some(LOOP_JOIN))];
 
 #[test]
 fn without_an_equality_a_join_is_by_loops(rt: HostRuntime) -> Result<(), Fail> {
-    let rules = [(9, None), (10, None), (11, Some(LOOP_JOIN))];
     let query = compared_tables(rt.alloc(), CmpOp::Lt, 0);
-    assert_joined(&rt, rt.alloc(), query, &rules)
+    assert_joined(&rt, rt.alloc(), query, &INEQUALITY)
 }
+
+const HASHES_OFF: [(u32, Option<u64>); 2] = [(9, None), (10, Some(MERGE_JOIN))];
 
 #[test]
 fn a_rule_that_is_off_has_no_result(rt: HostRuntime) -> Result<(), Fail> {
-    let rules = [(9, None), (10, Some(MERGE_JOIN))];
     let query = compared_tables(rt.alloc(), CmpOp::Eq, 1 << 9);
-    assert_joined(&rt, rt.alloc(), query, &rules)
+    assert_joined(&rt, rt.alloc(), query, &HASHES_OFF)
 }
+
+const INDEX_STEPS: [(u32, u32, u32, Option<u64>); 5] = [
+    (16, 8, 0, Some(0x10304000000)),
+    (16, 8, 1, Some(0x10308000000)),
+    (16, 8, 2, None),
+    (0, 6, 2, Some(0x188000000)),
+    (0, 6, 3, None),
+];
 
 #[test]
 fn an_index_is_sought_where_its_first_column_is_compared(rt: HostRuntime) -> Result<(), Fail> {
-    let steps = [
-        (16, 8, 0, Some(0x10304000000)),
-        (16, 8, 1, Some(0x10308000000)),
-        (16, 8, 2, None),
-        (0, 6, 2, Some(0x188000000)),
-        (0, 6, 3, None),
-    ];
-    assert_first_steps(&rt, rt.alloc(), three_indexes(rt.alloc()), &steps)
+    assert_first_steps(&rt, rt.alloc(), three_indexes(rt.alloc()), &INDEX_STEPS)
 }
