@@ -115,7 +115,8 @@ fn check_case(
         dist: case.dist,
         order: case.order,
     };
-    assert_eq!(rt; check_plan(query, props, &plan, wanted), case.says);
+    let told = check_plan(query, props, &plan, wanted);
+    assert!(rt; told == case.says, "{told:?}");
     Ok(())
 }
 
@@ -156,17 +157,16 @@ const LEAST: [(u64, u32); 6] = [
     (SCAN_2, 0),
 ];
 
-#[test]
-fn a_plan_costs_what_the_table_says(rt: HostRuntime) -> Result<(), Fail> {
+const JOINS: [Case; 3] = [
     // 4,001 for the copies, and 250 + 2 * 1,000 + 250 + 1 for the join
-    let copied = Case {
+    Case {
         nodes: &[(HASH + COPIED, 2), (SCAN_1, 0), (BROADCAST, 1), (SCAN_2, 0)],
         dist: Dist::Spread,
         order: 0,
         says: Ok(251 + 251 + 4001 + 2501),
-    };
+    },
     // each side sorted at 2,001, the right one hashed by T2.b at 1,001, and 751 for the join
-    let merged = Case {
+    Case {
         nodes: &[
             (MERGE + COLOCATED, 2),
             (SORT_A, 1),
@@ -178,9 +178,9 @@ fn a_plan_costs_what_the_table_says(rt: HostRuntime) -> Result<(), Fail> {
         dist: Dist::Hashed(0),
         order: 1,
         says: Ok(251 + 251 + 1001 + 2001 + 2001 + 751),
-    };
+    },
     // a gather of each side at 2,001, and 1,000 * 1,000 + 1 for the join
-    let looped = Case {
+    Case {
         nodes: &[
             (LOOP, 2),
             (GATHER, 1),
@@ -191,24 +191,29 @@ fn a_plan_costs_what_the_table_says(rt: HostRuntime) -> Result<(), Fail> {
         dist: Dist::One,
         order: 0,
         says: Ok(251 + 251 + 2001 + 2001 + 1_000_001),
-    };
-    let cases = [copied, merged, looped];
-    check_each(&rt, rt.alloc(), two_tables(rt.alloc()), &cases)
-}
+    },
+];
 
 #[test]
-fn the_least_plan_has_its_cost(rt: HostRuntime) -> Result<(), Fail> {
-    for order in [0, 1] {
-        let least = Case {
-            nodes: &LEAST,
-            dist: Dist::One,
-            order,
-            says: Ok(7506),
-        };
-        check_each(&rt, rt.alloc(), two_tables(rt.alloc()), &[least])?;
-    }
+fn a_plan_costs_what_the_table_says(rt: HostRuntime) -> Result<(), Fail> {
+    check_each(&rt, rt.alloc(), two_tables(rt.alloc()), &JOINS)
+}
+
+const LEAST_PLANS: [Case; 3] = [
+    Case {
+        nodes: &LEAST,
+        dist: Dist::One,
+        order: 0,
+        says: Ok(7506),
+    },
+    Case {
+        nodes: &LEAST,
+        dist: Dist::One,
+        order: 1,
+        says: Ok(7506),
+    },
     // a sort at 2,001 and a motion at 1,001 that change nothing
-    let redundant = Case {
+    Case {
         nodes: &[
             (MERGE_A, 1),
             (SORT_A, 1),
@@ -222,25 +227,30 @@ fn the_least_plan_has_its_cost(rt: HostRuntime) -> Result<(), Fail> {
         dist: Dist::One,
         order: 1,
         says: Ok(7506 + 2001 + 1001),
-    };
-    check_each(&rt, rt.alloc(), two_tables(rt.alloc()), &[redundant])
+    },
+];
+
+#[test]
+fn the_least_plan_has_its_cost(rt: HostRuntime) -> Result<(), Fail> {
+    check_each(&rt, rt.alloc(), two_tables(rt.alloc()), &LEAST_PLANS)
 }
+
+const COPIED_TABLE: [Case; 1] = [Case {
+    nodes: &[
+        (GATHER, 1),
+        (HASH + COPIED, 2),
+        (SCAN_1, 0),
+        (BROADCAST, 1),
+        (SCAN_2, 0),
+    ],
+    dist: Dist::One,
+    order: 0,
+    says: Ok(52318),
+}];
 
 #[test]
 fn copies_of_a_small_table_cost_little(rt: HostRuntime) -> Result<(), Fail> {
-    let copied = Case {
-        nodes: &[
-            (GATHER, 1),
-            (HASH + COPIED, 2),
-            (SCAN_1, 0),
-            (BROADCAST, 1),
-            (SCAN_2, 0),
-        ],
-        dist: Dist::One,
-        order: 0,
-        says: Ok(52318),
-    };
-    check_each(&rt, rt.alloc(), large_and_small(rt.alloc()), &[copied])
+    check_each(&rt, rt.alloc(), large_and_small(rt.alloc()), &COPIED_TABLE)
 }
 
 // What a check says of so many sorts over a scan.
@@ -268,39 +278,46 @@ fn a_thousand_nodes_are_few_enough(rt: HostRuntime) -> Result<(), Fail> {
     check_sorts(&rt, rt.alloc(), 1000, Err(over))
 }
 
+// Asserts that a check tells of the node with this number over another with it.
+fn check_unknown(rt: &impl Abort, alloc: Global, number: u64) -> Result<(), Fail> {
+    let unknown = Case {
+        nodes: &[
+            (SORT_A, 1),
+            (HASH + COLOCATED, 2),
+            (SCAN_1, 0),
+            (number, 1),
+            (number, 0),
+        ],
+        dist: Dist::Spread,
+        order: 1,
+        says: Err(PlanFault::Shape { node: 3 }),
+    };
+    check_each(rt, alloc, two_tables(alloc), &[unknown])
+}
+
+// Nothing; a sort by no order and by a third; a fourth list; a mode without a line; a table read by an index that it
+// hasn't; and the logical expression of the table.
+const UNKNOWN: [u64; 7] = [
+    0,
+    64,
+    67,
+    195,
+    HASH + COLOCATED + 1,
+    SCAN_1 + 256 * 2_147_483_648,
+    SCAN_1 - 256 * 2_147_483_648,
+];
+
 #[test]
 fn a_number_that_no_node_of_the_query_has_is_told(rt: HostRuntime) -> Result<(), Fail> {
-    // nothing; a sort by no order and by a third; a fourth list; a mode without a line; a table read
-    // by an index that it hasn't; and the logical expression of the table
-    for number in [
-        0,
-        64,
-        67,
-        195,
-        HASH + COLOCATED + 1,
-        SCAN_1 + 256 * 2_147_483_648,
-        SCAN_1 - 256 * 2_147_483_648,
-    ] {
-        let unknown = Case {
-            nodes: &[
-                (SORT_A, 1),
-                (HASH + COLOCATED, 2),
-                (SCAN_1, 0),
-                (number, 1),
-                (number, 0),
-            ],
-            dist: Dist::Spread,
-            order: 1,
-            says: Err(PlanFault::Shape { node: 3 }),
-        };
-        check_each(&rt, rt.alloc(), two_tables(rt.alloc()), &[unknown])?;
+    for number in &UNKNOWN {
+        check_unknown(&rt, rt.alloc(), *number)?;
     }
     Ok(())
 }
 
-#[test]
-fn the_last_node_with_wrong_kids_is_told(rt: HostRuntime) -> Result<(), Fail> {
-    let turned = Case {
+const WRONG_KIDS: [Case; 3] = [
+    // the hash join's sides are turned
+    Case {
         nodes: &[
             (SORT_A, 1),
             (HASH + COLOCATED, 2),
@@ -311,83 +328,113 @@ fn the_last_node_with_wrong_kids_is_told(rt: HostRuntime) -> Result<(), Fail> {
         dist: Dist::Spread,
         order: 1,
         says: Err(PlanFault::Kids { node: 1 }),
-    };
-    let of_two_over_nothing = Case {
+    },
+    // an enforcer of two over one of nothing
+    Case {
         nodes: &[(GATHER, 2), (SORT_A, 0), (SCAN_1, 0)],
         dist: Dist::One,
         order: 0,
         says: Err(PlanFault::Kids { node: 1 }),
-    };
-    let of_two = Case {
+    },
+    Case {
         nodes: &[(GATHER, 2), (SCAN_1, 0), (SCAN_1, 0)],
         dist: Dist::One,
         order: 0,
         says: Err(PlanFault::Kids { node: 0 }),
-    };
-    let cases = [turned, of_two_over_nothing, of_two];
-    check_each(&rt, rt.alloc(), two_tables(rt.alloc()), &cases)
-}
+    },
+];
 
 #[test]
-fn the_first_node_whose_needs_are_not_met_is_told(rt: HostRuntime) -> Result<(), Fail> {
-    let by_another_column = Case {
+fn the_last_node_with_wrong_kids_is_told(rt: HostRuntime) -> Result<(), Fail> {
+    check_each(&rt, rt.alloc(), two_tables(rt.alloc()), &WRONG_KIDS)
+}
+
+const UNMET_NEEDS: [Case; 5] = [
+    // the second table lies by another column
+    Case {
         nodes: &[(SORT_A, 1), (HASH + COLOCATED, 2), (SCAN_1, 0), (SCAN_2, 0)],
         dist: Dist::Spread,
         order: 1,
         says: Err(PlanFault::Needs { node: 1 }),
-    };
-    let gathered_thrice = Case {
+    },
+    // gathered thrice
+    Case {
         nodes: &[(GATHER, 1), (GATHER, 1), (GATHER, 1), (SCAN_1, 0)],
         dist: Dist::One,
         order: 0,
         says: Err(PlanFault::Needs { node: 0 }),
-    };
-    let cases = [by_another_column, gathered_thrice];
-    check_each(&rt, rt.alloc(), two_tables(rt.alloc()), &cases)?;
+    },
     // an order and a list that aren't in the table, and a merge of rows in no order
-    for number in [SORT_B, REDISTRIBUTE_B, MERGE_A] {
-        let apart = Case {
-            nodes: &[(number, 1), (SCAN_1, 0)],
-            dist: Dist::Spread,
-            order: 0,
-            says: Err(PlanFault::Needs { node: 0 }),
-        };
-        check_each(&rt, rt.alloc(), two_tables(rt.alloc()), &[apart])?;
-    }
-    Ok(())
+    Case {
+        nodes: &[(SORT_B, 1), (SCAN_1, 0)],
+        dist: Dist::Spread,
+        order: 0,
+        says: Err(PlanFault::Needs { node: 0 }),
+    },
+    Case {
+        nodes: &[(REDISTRIBUTE_B, 1), (SCAN_1, 0)],
+        dist: Dist::Spread,
+        order: 0,
+        says: Err(PlanFault::Needs { node: 0 }),
+    },
+    Case {
+        nodes: &[(MERGE_A, 1), (SCAN_1, 0)],
+        dist: Dist::Spread,
+        order: 0,
+        says: Err(PlanFault::Needs { node: 0 }),
+    },
+];
+
+#[test]
+fn the_first_node_whose_needs_are_not_met_is_told(rt: HostRuntime) -> Result<(), Fail> {
+    check_each(&rt, rt.alloc(), two_tables(rt.alloc()), &UNMET_NEEDS)
 }
+
+const NOT_ASKED_FOR: [Case; 3] = [
+    Case {
+        nodes: &LEAST,
+        dist: Dist::Spread,
+        order: 1,
+        says: Err(PlanFault::Unsatisfied),
+    },
+    Case {
+        nodes: &LEAST,
+        dist: Dist::One,
+        order: 2,
+        says: Err(PlanFault::Unsatisfied),
+    },
+    Case {
+        nodes: &LEAST,
+        dist: Dist::Copies,
+        order: 0,
+        says: Err(PlanFault::Unsatisfied),
+    },
+];
 
 #[test]
 fn a_valid_plan_may_not_be_what_is_asked_for(rt: HostRuntime) -> Result<(), Fail> {
-    for (dist, order) in [(Dist::Spread, 1), (Dist::One, 2), (Dist::Copies, 0)] {
-        let other = Case {
-            nodes: &LEAST,
-            dist,
-            order,
-            says: Err(PlanFault::Unsatisfied),
-        };
-        check_each(&rt, rt.alloc(), two_tables(rt.alloc()), &[other])?;
-    }
-    Ok(())
+    check_each(&rt, rt.alloc(), two_tables(rt.alloc()), &NOT_ASKED_FOR)
 }
 
-#[test]
-fn the_whole_plan_is_looked_through_for_one_fault_first(rt: HostRuntime) -> Result<(), Fail> {
-    // needs that aren't met stand above wrong kids, and these above a number of no node
-    let wrong_kids = Case {
+// Needs that aren't met stand above wrong kids, and these above a number of no node.
+const SEVERAL_FAULTS: [Case; 2] = [
+    Case {
         nodes: &[(REDISTRIBUTE_B, 1), (SORT_A, 2), (SCAN_1, 0), (SCAN_1, 0)],
         dist: Dist::Spread,
         order: 0,
         says: Err(PlanFault::Kids { node: 1 }),
-    };
-    let unknown = Case {
+    },
+    Case {
         nodes: &[(REDISTRIBUTE_B, 1), (SORT_A, 2), (SCAN_1, 0), (0, 0)],
         dist: Dist::Spread,
         order: 0,
         says: Err(PlanFault::Shape { node: 3 }),
-    };
-    let cases = [wrong_kids, unknown];
-    check_each(&rt, rt.alloc(), two_tables(rt.alloc()), &cases)
+    },
+];
+
+#[test]
+fn the_whole_plan_is_looked_through_for_one_fault_first(rt: HostRuntime) -> Result<(), Fail> {
+    check_each(&rt, rt.alloc(), two_tables(rt.alloc()), &SEVERAL_FAULTS)
 }
 
 // ---- one table
