@@ -50,16 +50,11 @@ fn has_orders(props: &Props) -> bool {
         && has_order(props, 2, 2, false)
 }
 
+// Lists by their length and then by their elements, and orders by their elements.
 #[test]
-fn lists_are_numbered_by_length_and_then_by_their_elements(rt: HostRuntime) -> Result<(), Fail> {
+fn lists_and_orders_are_numbered(rt: HostRuntime) -> Result<(), Fail> {
     let (_query, props) = equated(rt.alloc())?;
     assert!(rt; has_lists(&props));
-    Ok(())
-}
-
-#[test]
-fn orders_are_numbered_by_their_elements(rt: HostRuntime) -> Result<(), Fail> {
-    let (_query, props) = equated(rt.alloc())?;
     assert!(rt; has_orders(&props));
     Ok(())
 }
@@ -100,12 +95,27 @@ fn has_its_dists(query: &Query, props: &Props) -> bool
         && props.group_order(query) == 0
 }
 
+// Whether a request, a list and an order fit the groups that have their columns, and no others.
+fn fit_groups(query: &Query, props: &Props) -> bool
+    requires { IsProps query.now props.now }
+{
+    let wanted = Request {
+        dist: Dist::Hashed(1),
+        order: 3,
+    };
+    props.fits(query, KeyParts::Join(3), wanted)
+        && !props.fits(query, KeyParts::Get(0), wanted)
+        && props.hash_fits(query, KeyParts::Filter(0), 2)
+        && !props.order_fits(query, KeyParts::Agg, 3)
+}
+
 #[test]
 fn what_a_query_implies_is_looked_up(rt: HostRuntime) -> Result<(), Fail> {
     let (query, props) = equated(rt.alloc())?;
     assert!(rt; has_its_groups(&query, &props));
     assert!(rt; has_its_crossings(&query, &props));
     assert!(rt; has_its_dists(&query, &props));
+    assert!(rt; fit_groups(&query, &props));
     Ok(())
 }
 
@@ -156,24 +166,25 @@ fn assert_merging(
     );
 }
 
+// Two groups, an order and the predicates. The order of a column has the number after the column's.
+const MERGES: [(KeyParts, KeyParts, u32, &[u32]); 10] = [
+    (KeyParts::Join(3), KeyParts::Get(2), 0, &[2, 3]),
+    (KeyParts::Join(3), KeyParts::Get(2), 6, &[2]),
+    (KeyParts::Join(3), KeyParts::Get(2), 3, &[3]),
+    // A right column alone gives the first order, and a column of no such predicate the second.
+    (KeyParts::Join(3), KeyParts::Get(2), 7, &[]),
+    (KeyParts::Join(3), KeyParts::Get(2), 1, &[]),
+    (KeyParts::Get(2), KeyParts::Join(3), 7, &[2]),
+    (KeyParts::Get(2), KeyParts::Join(3), 6, &[]),
+    (KeyParts::Get(0), KeyParts::Filter(1), 0, &[0, 1]),
+    (KeyParts::Get(0), KeyParts::Filter(1), 2, &[1]),
+    (KeyParts::Filter(1), KeyParts::Get(0), 5, &[1]),
+];
+
 #[test]
 fn merges_are_by_a_left_column_that_gives_the_order(rt: HostRuntime) -> Result<(), Fail> {
     let (query, props) = implied(rt.alloc(), cycle_of_four_predicates(rt.alloc())?)?;
-    // Two groups, an order and the predicates. The order of a column has the number after the column's.
-    let rows: [(KeyParts, KeyParts, u32, &[u32]); 10] = [
-        (KeyParts::Join(3), KeyParts::Get(2), 0, &[2, 3]),
-        (KeyParts::Join(3), KeyParts::Get(2), 6, &[2]),
-        (KeyParts::Join(3), KeyParts::Get(2), 3, &[3]),
-        // A right column alone gives the first order, and a column of no such predicate the second.
-        (KeyParts::Join(3), KeyParts::Get(2), 7, &[]),
-        (KeyParts::Join(3), KeyParts::Get(2), 1, &[]),
-        (KeyParts::Get(2), KeyParts::Join(3), 7, &[2]),
-        (KeyParts::Get(2), KeyParts::Join(3), 6, &[]),
-        (KeyParts::Get(0), KeyParts::Filter(1), 0, &[0, 1]),
-        (KeyParts::Get(0), KeyParts::Filter(1), 2, &[1]),
-        (KeyParts::Filter(1), KeyParts::Get(0), 5, &[1]),
-    ];
-    for (left, right, order, preds) in &rows {
+    for (left, right, order, preds) in &MERGES {
         assert_merging(&rt, &query, &props, *left, *right, *order, preds);
     }
     Ok(())
@@ -195,44 +206,24 @@ fn assert_hashing(
     assert!(rt; has_just(hashing, preds), "{left:?} {right:?} {wanted:?}");
 }
 
+// Two groups, what is asked for and the predicates. The list of a column has the column's number.
+const HASHES: [(KeyParts, KeyParts, Dist, &[u32]); 7] = [
+    (KeyParts::Join(3), KeyParts::Get(2), Dist::Spread, &[2, 3]),
+    (KeyParts::Join(3), KeyParts::Get(2), Dist::Hashed(5), &[2]),
+    (KeyParts::Join(3), KeyParts::Get(2), Dist::Hashed(2), &[3]),
+    // A right column alone is the list.
+    (KeyParts::Join(3), KeyParts::Get(2), Dist::Hashed(6), &[]),
+    (KeyParts::Get(2), KeyParts::Join(3), Dist::Hashed(6), &[2]),
+    (KeyParts::Get(0), KeyParts::Filter(1), Dist::Hashed(1), &[1]),
+    (KeyParts::Filter(1), KeyParts::Get(0), Dist::Hashed(4), &[1]),
+];
+
 #[test]
 fn hashes_are_by_a_left_column_that_is_the_list(rt: HostRuntime) -> Result<(), Fail> {
     let (query, props) = implied(rt.alloc(), cycle_of_four_predicates(rt.alloc())?)?;
-    // Two groups, what is asked for and the predicates. The list of a column has the column's number.
-    let rows: [(KeyParts, KeyParts, Dist, &[u32]); 7] = [
-        (KeyParts::Join(3), KeyParts::Get(2), Dist::Spread, &[2, 3]),
-        (KeyParts::Join(3), KeyParts::Get(2), Dist::Hashed(5), &[2]),
-        (KeyParts::Join(3), KeyParts::Get(2), Dist::Hashed(2), &[3]),
-        // A right column alone is the list.
-        (KeyParts::Join(3), KeyParts::Get(2), Dist::Hashed(6), &[]),
-        (KeyParts::Get(2), KeyParts::Join(3), Dist::Hashed(6), &[2]),
-        (KeyParts::Get(0), KeyParts::Filter(1), Dist::Hashed(1), &[1]),
-        (KeyParts::Filter(1), KeyParts::Get(0), Dist::Hashed(4), &[1]),
-    ];
-    for (left, right, wanted, preds) in &rows {
+    for (left, right, wanted, preds) in &HASHES {
         assert_hashing(&rt, &query, &props, *left, *right, *wanted, preds);
     }
-    Ok(())
-}
-
-// Whether a request, a list and an order fit the groups that have their columns, and no others.
-fn fit_groups(query: &Query, props: &Props) -> bool
-    requires { IsProps query.now props.now }
-{
-    let wanted = Request {
-        dist: Dist::Hashed(1),
-        order: 3,
-    };
-    props.fits(query, KeyParts::Join(3), wanted)
-        && !props.fits(query, KeyParts::Get(0), wanted)
-        && props.hash_fits(query, KeyParts::Filter(0), 2)
-        && !props.order_fits(query, KeyParts::Agg, 3)
-}
-
-#[test]
-fn requests_fit_groups(rt: HostRuntime) -> Result<(), Fail> {
-    let (query, props) = equated(rt.alloc())?;
-    assert!(rt; fit_groups(&query, &props));
     Ok(())
 }
 
