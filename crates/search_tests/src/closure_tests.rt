@@ -20,7 +20,7 @@ fn assert_many(
     many: usize,
 ) -> Result<(), Fail> {
     let members = members_of(alloc, query)?;
-    assert_eq!(rt; members.len(), many);
+    assert!(rt; members.len() == many);
     Ok(())
 }
 

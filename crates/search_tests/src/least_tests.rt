@@ -48,7 +48,16 @@ fn least_of(alloc: Global, query: Result<Query, Fail>) -> Result<Found, Fail> {
     Ok(plain_least(alloc, &query, &props)?)
 }
 
-// Asserts that the least plan has this cost, this root and so many nodes.
+// Whether the least plan has this cost, this root and so many nodes.
+fn is_least(found: &Found, least: u64, root: NodeKind, nodes: u64) -> bool {
+    match found {
+        Found::Least { plan, cost } => {
+            *cost == least && root_of(plan).kind() == Some(root) && nodes_of(plan) == nodes
+        }
+        Found::NoPlan => false,
+    }
+}
+
 fn assert_least(
     rt: &impl Abort,
     alloc: Global,
@@ -58,11 +67,7 @@ fn assert_least(
     nodes: u64,
 ) -> Result<(), Fail> {
     let found = least_of(alloc, query)?;
-    assert!(rt;
-        matches!(&found, Found::Least { plan, cost }
-            if *cost == least && root_of(plan).kind() == Some(root) && nodes_of(plan) == nodes),
-        "{least}"
-    );
+    assert!(rt; is_least(&found, least, root, nodes), "{least}");
     Ok(())
 }
 
@@ -118,6 +123,14 @@ fn there_is_no_plan_where_no_rule_makes_a_join(rt: HostRuntime) -> Result<(), Fa
     Ok(())
 }
 
+// Whether the least plan has this cost, and this join on top.
+fn is_joined_by(found: &Found, least: u64, join: NodeKind) -> bool {
+    match found {
+        Found::Least { plan, cost } => *cost == least && join_of(plan) == Some(join),
+        Found::NoPlan => false,
+    }
+}
+
 // With the second table on the left the join costs as much. Its code comes later, since the key of that table is the
 // greater one.
 #[test]
@@ -125,8 +138,6 @@ fn of_plans_of_one_cost_the_first_by_code_is_least(rt: HostRuntime) -> Result<()
     let operator = Physical::HashJoin(KeyParts::Get(0), KeyParts::Get(1));
     let hashed_alike = NodeKind::Native(PhysicalExpr::new(KeyParts::Join(3), operator), 128);
     let found = least_of(rt.alloc(), two_tables(rt.alloc()))?;
-    assert!(rt;
-        matches!(&found, Found::Least { plan, cost: 7506 } if join_of(plan) == Some(hashed_alike))
-    );
+    assert!(rt; is_joined_by(&found, 7506, hashed_alike));
     Ok(())
 }
