@@ -28,7 +28,7 @@ fn assert_printed_by<R: Threads + Wait + Sync + AllocGlobal + Abort>(
     workers: &str,
     text: &str,
 ) -> Result<(), Fail> {
-    let words = format!(in rt.alloc(); "{PLAN} --memo --trace --workers {workers}")?;
+    let words = [PLAN, " --memo --trace --workers ", workers].concat(rt.alloc())?;
     let (catalog, query) = (TWO_TABLES.as_bytes(), JOIN.as_bytes());
     assert_printed(rt, &words, catalog, query, Status::Planned, text)
 }
@@ -56,7 +56,8 @@ fn assert_printed_within<R: Threads + Wait + Sync + AllocGlobal + Abort>(
     wanted: Status,
     text: &str,
 ) -> Result<(), Fail> {
-    let words = format!(in rt.alloc(); "{PLAN} --capacity {capacity} --workers {workers}")?;
+    let parts = [PLAN, " --capacity ", capacity, " --workers ", workers];
+    let words = parts.concat(rt.alloc())?;
     let (catalog, query) = (TWO_TABLES.as_bytes(), JOIN.as_bytes());
     assert_printed(rt, &words, catalog, query, wanted, text)
 }

@@ -1,6 +1,6 @@
 //! The running example over files that can't be read, and over output that can't be written.
 use crate::join_tests::JOINED;
-use crate::runs::{JOIN, PLAN, TWO_TABLES, run_over, shelf_of, text_at};
+use crate::runs::{JOIN, PLAN, TWO_TABLES, assert_told, run_over, shelf_of, text_at};
 use orca_cli::Status;
 use orca_io::{MemSink, NoGate};
 use std::alloc::{AllocError, AllocGlobal};
@@ -47,7 +47,7 @@ fn assert_taken<R: Threads + Wait + Sync + AllocGlobal + Abort>(
     text: &str,
 ) -> Result<(), Fail> {
     let told = taken_failing(rt, Some(read), put, wanted)?;
-    assert_eq!(rt; told.as_str(), text, "{read}");
+    assert_told(rt, &told, text, "a read that fails");
     Ok(())
 }
 

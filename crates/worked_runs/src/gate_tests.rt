@@ -1,6 +1,6 @@
 //! How many workers search: each passes a gate before each of its steps.
 use crate::join_tests::JOINED;
-use crate::runs::{JOIN, PLAN, TWO_TABLES, run_over, shelf_of, text_at};
+use crate::runs::{JOIN, PLAN, TWO_TABLES, assert_told, run_over, shelf_of, text_at};
 use orca_cli::Status;
 use orca_io::{Gate, MemSink};
 use std::alloc::AllocGlobal;
@@ -39,7 +39,7 @@ fn planned_past<R: Threads + Wait + Sync + AllocGlobal, G: Gate>(
 
 // How many workers pass the gate where the words ask for so many, and the plan is printed.
 fn passes<R: Threads + Wait + Sync + AllocGlobal>(rt: &R, workers: &str) -> Result<u32, Fail> {
-    let line = format!(in rt.alloc(); "{PLAN} --workers {workers}")?;
+    let line = [PLAN, " --workers ", workers].concat(rt.alloc())?;
     let gate = Counting {
         passed: AtomicU64::new(0),
     };
@@ -63,7 +63,7 @@ fn two_workers_of_a_run_meet(rt: HostRuntime) -> Result<(), Fail> {
     let gate = MeetingGate::new();
     let (text, note) = planned_past(&rt, "plan c.json q.sql --workers 2", &gate)?;
     assert!(rt; gate.have_met());
-    assert_eq!(rt; text.as_str(), JOINED);
+    assert_told(&rt, &text, JOINED, "two workers");
     assert_eq!(rt; note, Some((131_072, 2, 66)));
     Ok(())
 }

@@ -1,5 +1,7 @@
 //! What the program prints for queries over several tables.
-use crate::runs::{JOIN, TWO_TABLES, assert_planned, assert_plans, assert_query_fault, printed};
+use crate::runs::{
+    JOIN, TWO_TABLES, assert_planned, assert_plans, assert_printed, assert_query_fault,
+};
 use orca_cli::Status;
 use std::alloc::{AllocError, AllocGlobal, Global};
 use std::process::Abort;
@@ -87,15 +89,10 @@ fn a_further_key_of_a_catalog_changes_nothing(rt: HostRuntime) -> Result<(), Fai
 
 #[test]
 fn prints_the_plan_and_the_memo_of_a_join(rt: HostRuntime) -> Result<(), Fail> {
-    let told = printed(
-        &rt,
-        "plan c.json q.sql --memo",
-        TWO_TABLES.as_bytes(),
-        JOIN.as_bytes(),
-        Status::Planned,
-    )?;
-    assert_eq!(rt; told.strip_prefix(JOINED), Some(JOIN_MEMO));
-    Ok(())
+    let text = [JOINED, JOIN_MEMO].concat(rt.alloc())?;
+    let (catalog, query) = (TWO_TABLES.as_bytes(), JOIN.as_bytes());
+    let words = "plan c.json q.sql --memo";
+    assert_printed(&rt, words, catalog, query, Status::Planned, &text)
 }
 
 // Two tables of ten rows with 30 columns each, of which the first may be hashed on two.
@@ -114,15 +111,16 @@ fn push_wide_table(
     name: &str,
     distribution: &str,
 ) -> Result<(), AllocError> {
-    let front = format!(in alloc;
-        "{{\"name\":\"{name}\",\"rows\":10,\"distribution\":{distribution},\"columns\":["
-    )?;
-    text.push_str(&front)?;
-    for column in 0..30 {
-        if column > 0 {
-            text.push_str(",")?;
-        }
-        text.push_str(&format!(in alloc; "{{\"name\":\"c{column}\",\"ndv\":10}}")?)?;
+    let parts = [
+        r#"{"name":""#,
+        name,
+        r#"","rows":10,"distribution":"#,
+        distribution,
+        r#","columns":[{"name":"c0","ndv":10}"#,
+    ];
+    text.push_str(&parts.concat(alloc)?)?;
+    for column in 1..30u32 {
+        write!(text, ",{{\"name\":\"c{column}\",\"ndv\":10}}")?;
     }
     text.push_str("]}")
 }
@@ -130,8 +128,8 @@ fn push_wide_table(
 // `SELECT a.c0 FROM a, b WHERE a.c0 = b.c0 AND ..` over all 30 columns
 fn wide_query(alloc: Global, end: &str) -> Result<String, AllocError> {
     let mut text = String::from_str(alloc, "SELECT a.c0 FROM a, b WHERE a.c0 = b.c0")?;
-    for column in 1..30 {
-        text.push_str(&format!(in alloc; " AND a.c{column} = b.c{column}")?)?;
+    for column in 1..30u32 {
+        write!(text, " AND a.c{column} = b.c{column}")?;
     }
     text.push_str(end)?;
     Ok(text)

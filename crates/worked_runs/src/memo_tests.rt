@@ -26,9 +26,16 @@ fn memo_of<R: Threads + Wait + Sync + AllocGlobal>(
 fn three_tables_with_two_equalities_on_a_link(rt: HostRuntime) -> Result<(), Fail> {
     let columns =
         r#""columns":[{"name":"x","ndv":10},{"name":"y","ndv":10},{"name":"z","ndv":10},{"name":"w","ndv":10}]"#;
-    let catalog = format!(in rt.alloc();
-        "{{\"version\":1,\"segments\":4,\"tables\":[{{\"name\":\"A\",\"rows\":100,\"distribution\":\"random\",{columns}}},{{\"name\":\"B\",\"rows\":100,\"distribution\":\"random\",{columns}}},{{\"name\":\"C\",\"rows\":100,\"distribution\":\"random\",{columns}}}]}}"
-    )?;
+    let parts = [
+        r#"{"version":1,"segments":4,"tables":[{"name":"A","rows":100,"distribution":"random","#,
+        columns,
+        r#"},{"name":"B","rows":100,"distribution":"random","#,
+        columns,
+        r#"},{"name":"C","rows":100,"distribution":"random","#,
+        columns,
+        "}]}",
+    ];
+    let catalog = parts.concat(rt.alloc())?;
     let query =
         b"SELECT A.x FROM A, B, C WHERE A.x = B.x AND A.y = B.y AND B.z = C.z AND A.w = C.w";
     let memo = memo_of(&rt, catalog.as_bytes(), query)?;
@@ -49,15 +56,15 @@ fn star_catalog(alloc: Global) -> Result<String, AllocError> {
     let mut columns = String::new(alloc);
     let mut tables = String::new(alloc);
     for i in 1..8u32 {
-        columns.push_str(format!(in alloc; ",{{\"name\":\"f{i}\",\"ndv\":1000}}")?.as_str())?;
-        let table = format!(in alloc;
+        write!(columns, ",{{\"name\":\"f{i}\",\"ndv\":1000}}")?;
+        write!(
+            tables,
             ",{{\"name\":\"d{i}\",\"rows\":1000,\"distribution\":[\"id\"],\"columns\":[{{\"name\":\"id\",\"ndv\":1000}},{{\"name\":\"a\",\"ndv\":100}}]}}"
         )?;
-        tables.push_str(table.as_str())?;
     }
-    format!(in alloc;
-        "{{\"version\":1,\"segments\":4,\"tables\":[{{\"name\":\"sales\",\"rows\":10000000,\"distribution\":[\"id\"],\"columns\":[{{\"name\":\"id\",\"ndv\":10000000}}{columns}]}}{tables}]}}"
-    )
+    let sales =
+        r#"{"version":1,"segments":4,"tables":[{"name":"sales","rows":10000000,"distribution":["id"],"columns":[{"name":"id","ndv":10000000}"#;
+    [sales, &columns, "]}", &tables, "]}"].concat(alloc)
 }
 
 #[test]

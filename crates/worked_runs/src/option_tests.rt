@@ -1,5 +1,5 @@
 //! What the program prints where options are given.
-use crate::runs::{PLAN, answered, assert_plans, assert_printed, planned, printed};
+use crate::runs::{PLAN, answered, assert_plans, assert_printed, printed};
 use orca_cli::Status;
 use std::alloc::AllocGlobal;
 use std::sync::Wait;
@@ -112,8 +112,8 @@ plan --root spread c.json --memo q.sql
 
 #[test]
 fn options_stand_before_between_and_behind_the_names(rt: HostRuntime) -> Result<(), Fail> {
-    let mut text = String::from_str(rt.alloc(), SPREAD)?;
-    text.push_str("memo groups=1 members=2\ngroup Get(t) rows=1000\n  Get(t)\n  Scan(t)\n")?;
+    let memo = "memo groups=1 members=2\ngroup Get(t) rows=1000\n  Get(t)\n  Scan(t)\n";
+    let text = [SPREAD, memo].concat(rt.alloc())?;
     for words in PLACES.lines() {
         assert_printed(
             &rt,
@@ -206,7 +206,7 @@ fn costs_no_less_without<R: Threads + Wait + Sync + AllocGlobal>(
     second: &str,
     least: u64,
 ) -> Result<bool, Fail> {
-    let mut words = format!(in rt.alloc(); "{PLAN} --capacity 4096 --off {first}")?;
+    let mut words = [PLAN, " --capacity 4096 --off ", first].concat(rt.alloc())?;
     if first != second {
         words.push_str("+")?;
         words.push_str(second)?;
@@ -217,7 +217,8 @@ fn costs_no_less_without<R: Threads + Wait + Sync + AllocGlobal>(
 
 // The cost of the least plan with all rules.
 fn least_cost<R: Threads + Wait + Sync + AllocGlobal>(rt: &R, query: &str) -> Result<u64, Fail> {
-    let told = planned(rt, JOINED_WITH_INDEXES, query)?;
+    let (catalog, query) = (JOINED_WITH_INDEXES.as_bytes(), query.as_bytes());
+    let told = printed(rt, PLAN, catalog, query, Status::Planned)?;
     cost_of(told.as_bytes())
 }
 

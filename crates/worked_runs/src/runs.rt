@@ -89,21 +89,6 @@ pub fn printed<R: Threads + Wait + Sync + AllocGlobal>(
     text_at(rt.alloc(), status, wanted, &sink)
 }
 
-/// The text of a plan of the query over the catalogue, where there is one; else a line that no run prints.
-pub fn planned<R: Threads + Wait + Sync + AllocGlobal>(
-    rt: &R,
-    catalog: &str,
-    query: &str,
-) -> Result<String, Fail> {
-    printed(
-        rt,
-        PLAN,
-        catalog.as_bytes(),
-        query.as_bytes(),
-        Status::Planned,
-    )
-}
-
 /// Asserts that the words of a line over the two files end with the status, and print this text.
 pub fn assert_printed<R: Threads + Wait + Sync + AllocGlobal + Abort>(
     rt: &R,
@@ -114,8 +99,13 @@ pub fn assert_printed<R: Threads + Wait + Sync + AllocGlobal + Abort>(
     text: &str,
 ) -> Result<(), Fail> {
     let told = printed(rt, line, catalog, query, wanted)?;
-    assert_eq!(rt; told.as_str(), text, "{line}");
+    assert_told(rt, &told, text, line);
     Ok(())
+}
+
+/// Asserts what was told where this stood.
+pub fn assert_told(rt: &impl Abort, told: &str, wanted: &str, of: &str) {
+    assert!(rt; told == wanted, "{of}: {told}, not {wanted}");
 }
 
 /// Asserts that the words of a line print these sections for `SELECT a FROM t` over the table without rows.
@@ -124,17 +114,14 @@ pub fn assert_sections<R: Threads + Wait + Sync + AllocGlobal + Abort>(
     line: &str,
     sections: &[&str],
 ) -> Result<(), Fail> {
-    let mut text = String::new(rt.alloc());
-    for section in sections {
-        text.push_str(*section)?;
-    }
+    let text = sections.concat(rt.alloc())?;
     assert_printed(
         rt,
         line,
         EMPTY.as_bytes(),
         b"SELECT a FROM t",
         Status::Planned,
-        text.as_str(),
+        &text,
     )
 }
 
@@ -145,9 +132,8 @@ pub fn assert_planned<R: Threads + Wait + Sync + AllocGlobal + Abort>(
     query: &str,
     text: &str,
 ) -> Result<(), Fail> {
-    let told = planned(rt, catalog, query)?;
-    assert_eq!(rt; told.as_str(), text, "{query}");
-    Ok(())
+    let (catalog, query) = (catalog.as_bytes(), query.as_bytes());
+    assert_printed(rt, PLAN, catalog, query, Status::Planned, text)
 }
 
 /// Asserts that each query has the plan below it; empty lines part the plans from the queries that follow.
@@ -158,8 +144,8 @@ pub fn assert_plans<R: Threads + Wait + Sync + AllocGlobal + Abort>(
 ) -> Result<(), Fail> {
     for part in plans.split("\n\n") {
         let (query, plan) = part.split_once('\n').ok_or("a plan is below its query")?;
-        let told = planned(rt, catalog, query)?;
-        assert_eq!(rt; told.strip_suffix("\n"), Some(plan), "{query}");
+        let text = [plan, "\n"].concat(rt.alloc())?;
+        assert_planned(rt, catalog, query, &text)?;
     }
     Ok(())
 }
@@ -178,13 +164,6 @@ pub fn run_over<R: Threads + Wait + Sync + AllocGlobal, G: Gate>(
     Ok((status, note.last()))
 }
 
-// The line without this front and its end; the whole line, where it has another front.
-fn cause<'l>(line: &'l str, front: &str) -> &'l str {
-    line.strip_prefix(front)
-        .and_then(|rest| rest.strip_suffix("\n"))
-        .unwrap_or(line)
-}
-
 /// Asserts that the query of these two files is refused for this cause.
 pub fn assert_query_fault<R: Threads + Wait + Sync + AllocGlobal + Abort>(
     rt: &R,
@@ -192,9 +171,8 @@ pub fn assert_query_fault<R: Threads + Wait + Sync + AllocGlobal + Abort>(
     query: &[u8],
     told: &str,
 ) -> Result<(), Fail> {
-    let line = printed(rt, PLAN, catalog, query, Status::QueryRefused)?;
-    assert_eq!(rt; cause(line.as_str(), "query refused: "), told);
-    Ok(())
+    let text = ["query refused: ", told, "\n"].concat(rt.alloc())?;
+    assert_printed(rt, PLAN, catalog, query, Status::QueryRefused, &text)
 }
 
 /// Asserts that the catalogue of these two files is refused for this cause.
@@ -204,9 +182,8 @@ pub fn assert_catalog_fault<R: Threads + Wait + Sync + AllocGlobal + Abort>(
     query: &[u8],
     told: &str,
 ) -> Result<(), Fail> {
-    let line = printed(rt, PLAN, catalog, query, Status::CatalogRefused)?;
-    assert_eq!(rt; cause(line.as_str(), "catalog refused: "), told);
-    Ok(())
+    let text = ["catalog refused: ", told, "\n"].concat(rt.alloc())?;
+    assert_printed(rt, PLAN, catalog, query, Status::CatalogRefused, &text)
 }
 
 /// The status and the note of the words of a line over the two files `c.json` and `q.sql`.
