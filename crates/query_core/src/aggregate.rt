@@ -1,7 +1,7 @@
 use orca_base::Text;
 
 /// What an aggregate computes.
-#[derive(Clone, Copy, Debug, PartialEq, Eq)]
+#[derive(Clone, Copy)]
 pub enum AggFunc {
     CountAll,
     Count,

@@ -56,7 +56,7 @@ pub enum Operator {
 }
 
 /// The groups that an operator stands on.
-#[derive(Clone, Copy, Debug, PartialEq, Eq)]
+#[derive(Clone, Copy, PartialEq, Eq)]
 pub enum Children {
     Zero,
     One(KeyParts),

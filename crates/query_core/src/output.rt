@@ -10,7 +10,7 @@ pub struct OutItem {
 }
 
 /// An element of a sort order.
-#[derive(Clone, Copy, Debug, PartialEq, Eq)]
+#[derive(Clone, Copy, PartialEq, Eq)]
 pub struct OrderKey {
     /// The number of an item, or of an aggregate.
     pub item: u32,

@@ -1,7 +1,7 @@
 use orca_base::Text;
 
 /// A comparison.
-#[derive(Clone, Copy, Debug, PartialEq, Eq)]
+#[derive(Clone, Copy)]
 pub enum CmpOp {
     Eq,
     Ne,
@@ -29,7 +29,7 @@ pub struct Pred {
 }
 
 /// Two tables of a query that a predicate, or a TRUE link, joins.
-#[derive(Clone, Copy, Debug, PartialEq, Eq)]
+#[derive(Clone, Copy)]
 pub struct Link {
     pub a: u32,
     pub b: u32,

@@ -26,7 +26,7 @@ pub struct Expr(pub u64);
 pub struct Goal(pub u64);
 
 /// What a goal's word stands for: a kind of job and its subject.
-#[derive(Clone, Copy, Debug, PartialEq, Eq)]
+#[derive(Clone, Copy, PartialEq, Eq)]
 pub enum GoalParts {
     /// Exploration of a group.
     Exp(Key),
