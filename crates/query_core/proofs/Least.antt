@@ -5,12 +5,15 @@ use Rattle.std.specs.Prelude.{nat_lt}
 use Rattle.std.proofs.lemmas.Bool.{cond_both, cases_lt, ltb-true, ltb-false}
 use Rattle.query_core.specs.Keys.{IsInRange}
 use Rattle.query_core.specs.Expressions.{word_of, IsPacked}
-use Rattle.query_core.specs.ByKind.{expr, read_by, IsLeastFrom, FindsFrom, sooner_of}
+use Rattle.query_core.specs.ByKind.{expr, read_by, aggregate_by, IsLeastFrom, FindsFrom, sooner_of}
 use Rattle.query_core.specs.declared.words.Expr.{Expr}
 use Rattle.query_core.specs.declared.words.KeyParts.{KeyParts}
+use Rattle.query_core.specs.declared.words.KeyParts.TheVariants as groups
 use Rattle.query_core.specs.declared.expressions.ExprParts.{ExprParts}
 use Rattle.query_core.specs.declared.kinds.IndexKind.{IndexKind}
 use Rattle.query_core.specs.declared.kinds.IndexKind.TheVariants as indexes
+use Rattle.query_core.specs.declared.kinds.AggKind.{AggKind}
+use Rattle.query_core.specs.declared.kinds.AggKind.TheVariants as aggregations
 use Rattle.query_core.proofs.GroupLemmas.{group_in_range}
 
 -- the same kind in other words
@@ -113,5 +116,15 @@ read_packed group indexes.Scan index in_range few =
     record { group = in_range; index = omega (arith, few); children = refl }
 read_packed group indexes.Seek index in_range few =
     record { group = in_range; index = omega (arith, few); children = refl }
+
+-- and those of an aggregation
+pub aggregate_packed : (kind : AggKind) (child : KeyParts) → IsInRange child
+    → IsPacked (expr groups.Agg (aggregate_by kind child))
+aggregate_packed aggregations.Logical child in_range =
+    record { group = refl; index = omega arith; children = in_range }
+aggregate_packed aggregations.Hash child in_range =
+    record { group = refl; index = omega arith; children = in_range }
+aggregate_packed aggregations.Stream child in_range =
+    record { group = refl; index = omega arith; children = in_range }
 
 pub ruleset packing = (arith, group_in_range)

@@ -16,3 +16,4 @@ pub mod GoalLemmas
 pub mod Rising
 pub mod Contained
 pub mod CandidateOrder
+pub mod Lookups

@@ -1,4 +1,5 @@
 use Rattle.std.proofs.Common.{rules, ℕ, ◌≡◌, ◌-◌, ap, sym, subst, ◌∙◌}
+use Rattle.std.proofs.lemmas.Bool.{false≢true}
 use Rattle.query_core.specs.Sets.{bit}
 use Rattle.query_core.specs.Keys.{top_of, tables_of}
 use Rattle.query_core.specs.Expressions.{FallsInto}
@@ -24,4 +25,25 @@ returns-then-eq c =
           let second : c.top_group-then-eq.result ≡ c.args.right = c.top_group-then-eq.ensures
           ∙ (ap (top_of q) (sym rest) ∙ sym right) in
           search rules,
+    )
+
+-- the left group doesn't join its tables, and no other tables are the left side
+pub returns-else-eq : goal.returns-else-eq
+returns-else-eq c =
+    let q = c.args.self.now in
+    let never : c.top_group.result ≡ c.args.left → ⊥ = search rules in (
+      λ same. absurd (false≢true (sym c.if-eq.false ∙ same)),
+      λ (a, b, part, left, right).
+          let own : c.tables-tables.result ≡ a = c.tables-tables.ensures ∙ (ap tables_of left ∙ tables_top q a) in
+          absurd (never (c.top_group.ensures ∙ (ap (top_of q) own ∙ sym left))),
+    )
+
+-- the set doesn't fall into the left group's tables and others
+pub returns-in-None : goal.returns-in-None
+returns-in-None c =
+    let q = c.args.self.now in (
+      λ same. absurd (false≢true same),
+      λ (a, b, part, left, right).
+          let own : a ≡ c.tables-tables.result = sym (c.tables-tables.ensures ∙ (ap tables_of left ∙ tables_top q a)) in
+          absurd (c.in-None.ensures b (subst (λ x. FallsInto q c.args.set x b) own part)),
     )
