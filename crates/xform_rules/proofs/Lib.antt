@@ -26,3 +26,4 @@ pub mod LogicalMembers
 pub mod SplitMembers
 pub mod Numbers
 pub mod JoinMembers
+pub mod Names

@@ -216,23 +216,13 @@ pub fn rule_named(name: &str) -> Option<Rule>
     ensures found { IfSome result (λ rule. rule_name rule ≡ name.now) }
     ensures only { (rule : Rule) → rule_name rule ≡ name.now → result ≡ Some rule }
 {
-    match name {
-        "ExpandNAry" => Some(Rule::ExpandNAry),
-        "JoinCommute" => Some(Rule::JoinCommute),
-        "JoinAssociate" => Some(Rule::JoinAssociate),
-        "SplitAgg" => Some(Rule::SplitAgg),
-        "GetToScan" => Some(Rule::GetToScan),
-        "GetToIndexScan" => Some(Rule::GetToIndexScan),
-        "SelectToFilter" => Some(Rule::SelectToFilter),
-        "SelectToIndexSeek" => Some(Rule::SelectToIndexSeek),
-        "JoinToHash" => Some(Rule::JoinToHash),
-        "JoinToMerge" => Some(Rule::JoinToMerge),
-        "JoinToLoop" => Some(Rule::JoinToLoop),
-        "AggToHash" => Some(Rule::AggToHash),
-        "AggToStream" => Some(Rule::AggToStream),
-        "PartialToHash" => Some(Rule::PartialToHash),
-        _ => None,
+    let rules = Rule::all();
+    for rule in &rules {
+        if rule.name() == name {
+            return Some(*rule);
+        }
     }
+    None
 }
 
 /// Whether the query leaves the rule on.
