@@ -3,6 +3,7 @@ use Rattle.std.proofs.Common.{◌≡◌, ℕ, ◌+◌, ◌-◌, ◌<◌, ◌≤�
 use Rattle.std.proofs.Common.{arith, inl, inr, length-take, length-drop}
 use Rattle.std.specs.Prelude.{slice_index}
 use Rattle.std.specs.List.{Contains}
+use Rattle.std.specs.List.Sorted.{IsStrictlyIncreasing}
 use Rattle.std.proofs.lemmas.Bool.{cases_lt}
 use Rattle.std.proofs.lemmas.List.{get_or-take, get_or-drop, get_or_default, take_all}
 
@@ -57,3 +58,39 @@ part_between words start n low high w after before (k, within, is) =
       omega (arith, after (start + k) (omega arith) (omega (arith, count, length_rest, within)), moved),
       omega (arith, before k (omega (arith, count, within)), value),
     )
+
+-- ---- what a part keeps of the words
+
+-- the first words ascend as all do
+pub take_rises : (words : List ℕ) (n : ℕ) → IsStrictlyIncreasing words → IsStrictlyIncreasing (take n words)
+take_rises words n rises k within =
+    let fits : k + 1 < min n (length words) = omega (arith, length-take n words, within) in
+    omega (
+      arith,
+      get_or-take n words k 0 (omega (arith, fits)),
+      get_or-take n words (k + 1) 0 (omega (arith, fits)),
+      rises k (omega (arith, fits)),
+    )
+
+-- and so do those from a place on
+pub drop_rises : (words : List ℕ) (n : ℕ) → IsStrictlyIncreasing words → IsStrictlyIncreasing (drop n words)
+drop_rises words n rises k within =
+    let same : get_or words (n + (k + 1)) 0 ≡ get_or words (n + k + 1) 0 = ap (λ i. get_or words i 0) (omega arith) in
+    omega (
+      arith,
+      get_or-drop n words k 0,
+      get_or-drop n words (k + 1) 0,
+      same,
+      rises (n + k) (omega (arith, length-drop n words, within)),
+    )
+
+-- one of the first words is one of them all
+pub take_has : (words : List ℕ) (n word : ℕ) → Contains (take n words) word → Contains words word
+take_has words n word (k, within, is) =
+    let fits : k < min n (length words) = omega (arith, length-take n words, within) in
+    (k, omega (arith, fits), sym (get_or-take n words k word (omega (arith, fits))) ∙ is)
+
+-- and so is one from a place on
+pub drop_has : (words : List ℕ) (n word : ℕ) → Contains (drop n words) word → Contains words word
+drop_has words n word (k, within, is) =
+    (n + k, omega (arith, length-drop n words, within), sym (get_or-drop n words k word) ∙ is)

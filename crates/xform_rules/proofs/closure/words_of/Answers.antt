@@ -2,7 +2,7 @@ use Rattle.std.proofs.Common.{◌≡◌, ◌∙◌, ap, sym, arith, ◌+◌, ◌
 use Rattle.std.proofs.lemmas.Bool.{cases_lt}
 use Rattle.query_core.specs.Keys.{key_number}
 use Rattle.query_core.specs.Expressions.{word_of}
-use Rattle.xform_rules.proofs.Ranges.{in_part, part_between}
+use Rattle.xform_rules.proofs.Ranges.{in_part, part_between, take_rises, drop_rises, take_has, drop_has}
 use Rattle.xform_rules.proofs.closure.words_of.Goals as goal
 
 -- the group's words are not below the first word of its key, and below the first one of the next
@@ -34,3 +34,14 @@ returns-clause-only c e packed there =
     ] in
     c.expressions_are_one.ensures.groups e.group c.args.group packed.group c.requires.in_range
     (omega (arith, from, to, c.make-key.ensures.number))
+
+-- the words of a group are some of them, in their order
+pub returns-clause-rises : goal.returns-clause-rises
+returns-clause-rises c =
+    take_rises _ c.count_below-2.result
+    (take_rises _ _ (drop_rises c.args.words.now c.count_below.result c.requires.ascending))
+
+pub returns-clause-part : goal.returns-clause-part
+returns-clause-part c word there =
+    drop_has c.args.words.now c.count_below.result word
+    (take_has _ _ word (take_has _ c.count_below-2.result word there))
