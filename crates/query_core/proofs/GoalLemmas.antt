@@ -1,5 +1,5 @@
 -- Goals and the fields of their words.
-use Rattle.std.proofs.Common.{◌≡◌, ℕ, ◌+◌, ◌*◌, ◌^◌, ◌<◌, ap, sym, ◌∙◌, arith}
+use Rattle.std.proofs.Common.{◌≡◌, ◌+◌, ◌*◌, ◌^◌, ◌<◌, ap, sym, ◌∙◌, arith}
 use Rattle.query_core.specs.declared.words.GoalParts.{GoalParts}
 use Rattle.query_core.specs.declared.words.GoalParts.TheVariants as goals
 use Rattle.query_core.specs.Goals.{detail_of, goal_fields, goal_number, kind_of, subject_of, FitsGoal}
