@@ -3,7 +3,7 @@
 use std::alloc::{AllocError, AllocFailed};
 
 /// Why a query can't be bound: the first fault. Places are offsets in the query's text.
-#[derive(Clone, Copy, Debug, PartialEq, Eq)]
+#[derive(Clone, Copy, Debug)]
 pub enum BindFault {
     /// The catalogue has no table of this name.
     UnknownTable { at: u32 },
