@@ -1,6 +1,6 @@
 -- Sets of names and of columns, in the order in which they were added.
 use Rattle.std.proofs.Common.{◌≡◌, ℕ, ◌+◌, ◌<◌, Bool, true, false, not, cond, List, [], ◌∷◌, ◌++◌, length, map, drop}
-use Rattle.std.proofs.Common.{get_or, position, refl, ap, append_assoc}
+use Rattle.std.proofs.Common.{flat_map, get_or, position, refl, ap, append_assoc}
 use Rattle.std.specs.List.{list_any, prefix_len}
 use Rattle.std.proofs.lemmas.List.{length-map}
 use Rattle.query_core.specs.Differ.{all_differ}
@@ -27,7 +27,15 @@ is_new same turned f before xs i x differ so_far lt is =
 
 module _ {X A : Type 0} (f : X → A) (xs : List X) (i : ℕ) (x : X) (lt : i < length xs) (is : x ≡ get_or xs i x) where
   -- with the element at place i, those after it are left
-  pub next_added : (before after : List A) → before ++ map f (drop i xs) ≡ map f xs → after ≡ before ++ f x ∷ []
-      → after ++ map f (drop (i + 1) xs) ≡ map f xs
+  pub next_added : {whole : List A} → (before after : List A) → before ++ map f (drop i xs) ≡ whole
+      → after ≡ before ++ f x ∷ [] → after ++ map f (drop (i + 1) xs) ≡ whole
   next_added before after so_far added = rw (added, append_assoc before (f x ∷ []) (map f (drop (i + 1) xs)))
       (rw (next_of xs i x lt is) at so_far)
+
+module _ {X A : Type 0} (f : X → List A) (xs : List X) (i : ℕ) (x : X) (lt : i < length xs) (is : x ≡ get_or xs i x)
+  where
+    -- the same, where an element has several
+    pub next_several : {whole : List A} → (before after : List A) → before ++ flat_map f (drop i xs) ≡ whole
+        → after ≡ before ++ f x → after ++ flat_map f (drop (i + 1) xs) ≡ whole
+    next_several before after so_far added = rw (added, append_assoc before (f x) (flat_map f (drop (i + 1) xs)))
+        (rw (next_of xs i x lt is) at so_far)

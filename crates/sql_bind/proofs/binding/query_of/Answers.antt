@@ -1,4 +1,5 @@
 -- The parts are those of a binding without a fault, and so the query is valid.
+use Rattle.std.proofs.Common.{refl}
 use Rattle.sql_bind.proofs.Outcome.{at_least_1, at_most_1000, is_valid}
 use Rattle.sql_bind.proofs.binding.query_of.Goals as goal
 
@@ -98,3 +99,18 @@ invariant_of-result c =
       ) made.order;
       options_valid = c.requires.named.options;
     }
+
+pub returns : goal.returns
+returns c = record {
+  segments = refl;
+  tables = rw (c.in_ok-tables.ensures, c.as_slice.ensures, c.requires.used) refl;
+  items = rw (c.in_ok-items.ensures, c.as_slice-2.ensures, c.requires.used) refl;
+  preds = rw (c.in_ok-preds.ensures, c.as_slice-3.ensures, c.requires.used) refl;
+  links = rw (← c.as_slice-4.ensures, ← c.as_slice-5.ensures, ← c.as_slice-6.ensures) c.in_ok-links.ensures;
+  grouped = c.is_grouped.ensures;
+  group_by = rw (c.in_ok-group_by.ensures, c.as_slice-7.ensures, c.requires.used) refl;
+  aggs = rw (c.in_ok-aggs.ensures, c.as_slice-8.ensures, c.requires.used) refl;
+  output = rw (c.in_ok-output.ensures, c.as_slice-9.ensures, c.requires.used) refl;
+  order = rw (c.in_ok-order.ensures, c.as_slice-10.ensures, c.requires.used) refl;
+  options = refl;
+}
