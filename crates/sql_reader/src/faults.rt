@@ -6,7 +6,7 @@ ghost use Rattle.sql_reader.specs.declared.faults.SqlFault.TheVariants.{Memory};
 use std::alloc::{AllocError, AllocFailed};
 
 /// What there are too many of.
-#[derive(Clone, Copy, Debug, PartialEq, Eq)]
+#[derive(Clone, Copy, Debug)]
 pub enum Limit {
     /// More than 60 elements of the select list.
     Items,
@@ -21,7 +21,7 @@ pub enum Limit {
 }
 
 /// The first fault of a text. Offsets are bytes from 0.
-#[derive(Clone, Copy, Debug, PartialEq, Eq)]
+#[derive(Clone, Copy, Debug)]
 pub enum SqlFault {
     /// More than 65,536 bytes.
     TooLong,
