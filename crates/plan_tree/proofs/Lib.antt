@@ -16,4 +16,5 @@ pub mod JoinModes
 pub mod ExpressionModes
 pub mod TriedOfOperators
 pub mod JoinsServe
+pub mod FirstModes
 pub mod FoundEnforcers

@@ -10,17 +10,17 @@ use Rattle.plan_tree.proofs.enforcers.enforcer.Goals as goal
 -- the group has one key, so it is the one that was found
 pub returns-in-0-clause-at_place : goal.returns-in-0-clause-at_place
 returns-in-0-clause-at_place c = λ g names. rw (c.group.ensures.only g names, c.in-0.is) (record {
-      kept = c.both-first.ensures.kept;
-      are_kept = c.both-first.ensures.are_kept;
-      at_place = c.both-first.ensures.is_first;
-    })
+  kept = c.both-first.ensures.kept;
+  are_kept = c.both-first.ensures.are_kept;
+  at_place = c.both-first.ensures.is_first;
+})
 
 pub returns-in-1-clause-at_place : goal.returns-in-1-clause-at_place
 returns-in-1-clause-at_place c = λ g names. rw (c.group.ensures.only g names, c.in-1.is) (record {
-      kept = c.both-first.ensures.kept;
-      are_kept = c.both-first.ensures.are_kept;
-      at_place = c.both-first.ensures.is_second;
-    })
+  kept = c.both-first.ensures.kept;
+  are_kept = c.both-first.ensures.are_kept;
+  at_place = c.both-first.ensures.is_second;
+})
 
 -- there are at most two
 pub returns-in_default-clause-at_place : goal.returns-in_default-clause-at_place
@@ -28,10 +28,10 @@ returns-in_default-clause-at_place c =
     let kept = c.both-first.ensures.kept in
     let past = slice_get_past kept c.args.n (omega (arith, c.both-first.ensures.few)) in
     λ g names. rw (c.group.ensures.only g names) (record {
-          kept = kept;
-          are_kept = c.both-first.ensures.are_kept;
-          at_place = rw past tt;
-        })
+      kept = kept;
+      are_kept = c.both-first.ensures.are_kept;
+      at_place = rw past tt;
+    })
 
 -- where the request fits, all enforcers are kept
 pub returns-in_default-clause-fitting : goal.returns-in_default-clause-fitting
@@ -39,9 +39,9 @@ returns-in_default-clause-fitting c =
     let kept = c.both-first.ensures.kept in
     let past = slice_get_past kept c.args.n (omega (arith, c.both-first.ensures.few)) in
     λ g names fits.
-        let here = subst (λ (group : KeyParts). Fits c.args.query.now group c.args.request)
-        (c.group.ensures.only g names) fits in
-        rw (← fitting_kept c.args.query.now c.group.result c.args.request kept here c.both-first.ensures.are_kept, past) tt
+    let here = subst (λ (group : KeyParts). Fits c.args.query.now group c.args.request)
+    (c.group.ensures.only g names) fits in
+    rw (← fitting_kept c.args.query.now c.group.result c.args.request kept here c.both-first.ensures.are_kept, past) tt
 
 pub returns-in-0-clause-fitting : goal.returns-in-0-clause-fitting
 returns-in-0-clause-fitting c = λ g names fits.

@@ -1,9 +1,10 @@
--- A hash join serves exactly the requests without an order whose distribution it can give, a loop join those whose
--- order
--- fits its left child, and a merge join those whose order a column gives by which it merges.
+-- An operator with one line serves in its first mode or in none. A hash join serves exactly the requests without an order
+-- whose distribution it can give, a loop join those whose order fits its left child, and a merge join those whose order
+-- a column gives by which it merges.
 use Rattle.std.proofs.Common.{ap, sym, ◌∙◌}
 use Rattle.std.proofs.lemmas.Bool.{false≢true, false_from_ne_true, not-true, not_from_false}
 use Rattle.query_core.specs.Expressions.{physical_children}
+use Rattle.plan_tree.proofs.FirstModes.{serves_first}
 use Rattle.plan_tree.proofs.JoinsServe.{hash_join_serves, loop_join_serves, merge_join_serves}
 use Rattle.plan_tree.proofs.JoinsTried.{merge_join_merges}
 use Rattle.plan_tree.proofs.LeftFits.{dist_suits, order_suits}
@@ -75,3 +76,33 @@ returns-else-dist_suits-2 c =
           (dist_suits c.args.query.now c.args.expr join.left join.field-1 c.args.wanted (ap physical_children join.is)
           c.requires.numbered serves),
     )
+
+pub returns-in-Scan : goal.returns-in-Scan
+returns-in-Scan c = (
+  λ is. (0, c.serves_in_first.ensures.0 is),
+  λ serves. c.serves_in_first.ensures.1 (serves_first c.args.query.now c.args.expr c.args.wanted _ c.in-Scan.is tt serves),
+)
+
+pub returns-in-IndexScan : goal.returns-in-IndexScan
+returns-in-IndexScan c = (
+  λ is. (0, c.serves_in_first-in-IndexScan.ensures.0 is),
+  λ serves. c.serves_in_first-in-IndexScan.ensures.1 (serves_first c.args.query.now c.args.expr c.args.wanted _ c.in-IndexScan.is tt serves),
+)
+
+pub returns-in-Filter : goal.returns-in-Filter
+returns-in-Filter c = (
+  λ is. (0, c.serves_in_first-in-Filter.ensures.0 is),
+  λ serves. c.serves_in_first-in-Filter.ensures.1 (serves_first c.args.query.now c.args.expr c.args.wanted _ c.in-Filter.is tt serves),
+)
+
+pub returns-in-IndexSeek : goal.returns-in-IndexSeek
+returns-in-IndexSeek c = (
+  λ is. (0, c.serves_in_first-in-IndexSeek.ensures.0 is),
+  λ serves. c.serves_in_first-in-IndexSeek.ensures.1 (serves_first c.args.query.now c.args.expr c.args.wanted _ c.in-IndexSeek.is tt serves),
+)
+
+pub returns-in-PartialAgg : goal.returns-in-PartialAgg
+returns-in-PartialAgg c = (
+  λ is. (0, c.serves_in_first-in-PartialAgg.ensures.0 is),
+  λ serves. c.serves_in_first-in-PartialAgg.ensures.1 (serves_first c.args.query.now c.args.expr c.args.wanted _ c.in-PartialAgg.is tt serves),
+)
