@@ -106,3 +106,11 @@ returns-in-PartialAgg c = (
   λ is. (0, c.serves_in_first-in-PartialAgg.ensures.0 is),
   λ serves. c.serves_in_first-in-PartialAgg.ensures.1 (serves_first c.args.query.now c.args.expr c.args.wanted _ c.in-PartialAgg.is tt serves),
 )
+
+-- an aggregation's modes are looked at one by one
+pub returns-then-wants_no_order-2 : goal.returns-then-wants_no_order-2
+returns-then-wants_no_order-2 c = (λ is. c.serves_in_some.ensures.0 is, λ serves. c.serves_in_some.ensures.1 serves)
+
+pub returns-in-StreamAgg : goal.returns-in-StreamAgg
+returns-in-StreamAgg c =
+    (λ is. c.serves_in_some-in-StreamAgg.ensures.0 is, λ serves. c.serves_in_some-in-StreamAgg.ensures.1 serves)
