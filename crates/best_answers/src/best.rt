@@ -7,7 +7,7 @@ ghost use Rattle.best_answers.specs.Answers.{is_lesser as lesser_by, lesser as l
 use plan_tree::Node;
 
 /// What a least plan costs, and the node at its root.
-#[derive(Clone, Copy, Debug, PartialEq, Eq)]
+#[derive(Clone, Copy, PartialEq, Eq)]
 pub struct Best {
     pub cost: u64,
     pub node: Node,

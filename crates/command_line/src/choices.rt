@@ -37,7 +37,7 @@ pub enum Setting {
 }
 
 /// What a command chooses by its options.
-#[derive(Clone, Copy, Debug)]
+#[derive(Clone, Copy)]
 pub struct Choices {
     /// How many workers search.
     pub workers: u32,

@@ -7,14 +7,14 @@ use crate::choices::Choices;
 use query_generator::GenShape;
 
 /// The names of the files that `plan` reads.
-#[derive(Clone, Copy, Debug)]
+#[derive(Clone, Copy)]
 pub struct Files<'w> {
     pub catalog: &'w str,
     pub query: &'w str,
 }
 
 /// What `gen` makes a catalogue and a query of.
-#[derive(Clone, Copy, Debug)]
+#[derive(Clone, Copy)]
 pub struct GenInput {
     pub number: u64,
     /// How many tables there are.
@@ -23,7 +23,7 @@ pub struct GenInput {
 }
 
 /// What `plan` is asked for.
-#[derive(Clone, Copy, Debug)]
+#[derive(Clone, Copy)]
 pub struct PlanCommand<'w> {
     pub files: Files<'w>,
     pub choices: Choices,
@@ -31,7 +31,7 @@ pub struct PlanCommand<'w> {
 }
 
 /// What `gen` is asked for.
-#[derive(Clone, Copy, Debug)]
+#[derive(Clone, Copy)]
 pub struct GenCommand {
     pub input: GenInput,
     /// How many workers search.
@@ -44,7 +44,7 @@ pub struct GenCommand {
 }
 
 /// What the words of a command line ask for.
-#[derive(Clone, Copy, Debug)]
+#[derive(Clone, Copy)]
 pub enum Command<'w> {
     Plan(PlanCommand<'w>),
     Gen(GenCommand),

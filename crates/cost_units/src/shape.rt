@@ -1,5 +1,5 @@
 /// How many segments have a share of the rows.
-#[derive(Clone, Copy, Debug, PartialEq, Eq)]
+#[derive(Clone, Copy, PartialEq, Eq)]
 pub enum Class {
     /// Each segment has a part of the rows.
     Spread,
@@ -11,7 +11,7 @@ pub enum Class {
 
 /// What a node does, with the numbers of rows that its cost depends on. They are shares, but for
 /// Gather, GatherMerge and Broadcast, which go over all rows of the group.
-#[derive(Clone, Copy, Debug, PartialEq, Eq)]
+#[derive(Clone, Copy, PartialEq, Eq)]
 pub enum CostShape {
     /// The table's rows.
     Scan(u64),

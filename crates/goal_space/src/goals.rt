@@ -9,7 +9,7 @@ use request_props::Request;
 use xform_rules::Rule;
 
 /// A goal of a search.
-#[derive(Clone, Copy, Debug, PartialEq, Eq)]
+#[derive(Clone, Copy, PartialEq, Eq)]
 pub enum GoalKind {
     /// All logical members of the group are there.
     Exp(KeyParts),

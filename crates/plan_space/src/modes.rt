@@ -9,7 +9,7 @@ ghost use Rattle.plan_space.specs.declared.modes.Mode.{Mode as AnyMode};
 use request_props::NumberSet;
 
 /// How an expression works, with the number of an equality or of a hashed list where it works by one.
-#[derive(Clone, Copy, Debug, PartialEq, Eq)]
+#[derive(Clone, Copy, PartialEq, Eq)]
 pub enum Mode {
     /// All rows on one segment.
     One(u32),

@@ -4,7 +4,7 @@
 use query_core::PhysicalExpr;
 
 /// What moves or sorts the rows of a plan.
-#[derive(Clone, Copy, Debug, PartialEq, Eq)]
+#[derive(Clone, Copy, PartialEq, Eq)]
 pub enum Enforcer {
     /// Brings the rows of all segments to one.
     Gather,
@@ -19,7 +19,7 @@ pub enum Enforcer {
 }
 
 /// A node of a plan.
-#[derive(Clone, Copy, Debug, PartialEq, Eq)]
+#[derive(Clone, Copy, PartialEq, Eq)]
 pub enum NodeKind {
     /// A physical expression in the mode of this number.
     Native(PhysicalExpr, u32),

@@ -25,7 +25,7 @@ use query_core::{
 use request_props::{Props, Request};
 
 /// A node that may serve a request, and what it asks of the children, by the keys of their groups.
-#[derive(Clone, Copy, Debug, PartialEq, Eq)]
+#[derive(Clone, Copy, PartialEq, Eq)]
 pub struct Alt {
     pub node: Node,
     pub left: Option<(Key, Request)>,

@@ -8,7 +8,7 @@ use query_core::Goal;
 /// The answer to a goal: for a group or an expression and a request the root of the least plan and
 /// what that costs. Where there is no plan the node is 0; a goal of another kind has node 0 and cost
 /// 0.
-#[derive(Clone, Copy, Debug, PartialEq, Eq)]
+#[derive(Clone, Copy, PartialEq, Eq)]
 pub struct Answered {
     pub goal: Goal,
     pub node: Node,

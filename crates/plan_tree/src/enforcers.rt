@@ -17,7 +17,7 @@ use query_core::{Key, KeyParts, Query, groups_are_known};
 use request_props::{Dist, Props, Request};
 
 /// An enforcer that may meet a request, and what it asks of a plan of the same group.
-#[derive(Clone, Copy, Debug, PartialEq, Eq)]
+#[derive(Clone, Copy, PartialEq, Eq)]
 pub struct Enforced {
     pub node: Node,
     pub below: Request,

@@ -7,7 +7,7 @@ ghost use Rattle.query_core.specs.Expressions.{children_of, expr_of, fields_of, 
 use crate::words::KeyParts;
 
 /// What is wanted of a group's rows.
-#[derive(Clone, Copy, Debug, PartialEq, Eq)]
+#[derive(Clone, Copy, PartialEq, Eq)]
 pub enum Logical {
     /// The rows of a table.
     Get,
@@ -24,7 +24,7 @@ pub enum Logical {
 }
 
 /// How a group's rows are made.
-#[derive(Clone, Copy, Debug, PartialEq, Eq)]
+#[derive(Clone, Copy, PartialEq, Eq)]
 pub enum Physical {
     /// The table is read where it lies.
     Scan,
@@ -49,7 +49,7 @@ pub enum Physical {
 }
 
 /// What a group expression does, with the groups that it stands on.
-#[derive(Clone, Copy, Debug, PartialEq, Eq)]
+#[derive(Clone, Copy, PartialEq, Eq)]
 pub enum Operator {
     Logical(Logical),
     Physical(Physical),
@@ -75,14 +75,14 @@ pub struct Fields {
 }
 
 /// A group expression: its group, and its operator.
-#[derive(Clone, Copy, Debug, PartialEq, Eq)]
+#[derive(Clone, Copy, PartialEq, Eq)]
 pub struct ExprParts {
     pub group: KeyParts,
     pub operator: Operator,
 }
 
 /// A group expression that says how its group's rows are made.
-#[derive(Clone, Copy, Debug, PartialEq, Eq)]
+#[derive(Clone, Copy, PartialEq, Eq)]
 pub struct PhysicalExpr {
     pub group: KeyParts,
     pub operator: Physical,
