@@ -17,3 +17,4 @@ pub mod ListsOfEnds
 pub mod CrossingsByAny
 pub mod PhysicalLists
 pub mod OuterColumns
+pub mod Mapped
