@@ -7,5 +7,5 @@ pub loop-pred-preserved : goal.loop-pred-preserved
 loop-pred-preserved c =
     let all = c.as_slice-pred-items.ensures in
     map_push (equality_of c.args.query.now) c.args.query.now.preds c.loop-pred.found.items c.push.new.self.items
-    c.loop-pred.pred-index c.pred-item.result c.equality.result (rw all at c.loop-pred-test.true)
+    c.loop-pred.pred-index c.pred-item.result _ c.equality.result (rw all at c.loop-pred-test.true)
     (rw all at c.pred-item.is) c.equality.ensures c.in_ok-push.ensures.items c.loop-pred.invariant
