@@ -1,7 +1,7 @@
 -- What is made of each element of a list, one after the other.
 use Rattle.std.proofs.Common.{◌≡◌, ℕ, suc, ◌+◌, ◌<◌, List, [], ◌∷◌, ◌++◌, length, get_or, drop, map, flat_map, ap}
-use Rattle.std.proofs.Common.{sym, ◌∙◌, append_assoc, add-one, drop-cons}
-use Rattle.std.proofs.lemmas.List.{map-append}
+use Rattle.std.proofs.Common.{sym, ◌≤◌, ◌∙◌, append_assoc, append-nil, add-one, drop-cons}
+use Rattle.std.proofs.lemmas.List.{at_drop_all, map-append}
 
 -- the elements that are left begin with this one
 pub left_from : {X : Type 0} (xs : List X) (i : ℕ) (x default : X) → i < length xs → x ≡ get_or xs i default
@@ -28,3 +28,9 @@ pub unmap_push : {X Y : Type 0} (f : Y → X) (xs : List X) (found more : List Y
     → map f more ++ drop (i + 1) xs ≡ xs
 unmap_push f xs found more i default y within is pushed before =
     rw (pushed, map-append, append_assoc) (rw (left_from xs i (f y) default within is) at before)
+
+-- of all elements, where none is left
+pub map_done : {X Y : Type 0} (f : X → Y) (xs : List X) (found : List Y) (i : ℕ) → length xs ≤ i
+    → found ++ map f (drop i xs) ≡ map f xs → found ≡ map f xs
+map_done f xs found i past before =
+    sym (append-nil found) ∙ sym (at_drop_all (λ rest. found ++ map f rest) xs i past) ∙ before
