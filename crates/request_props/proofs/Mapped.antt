@@ -34,3 +34,15 @@ pub map_done : {X Y : Type 0} (f : X → Y) (xs : List X) (found : List Y) (i : 
     → found ++ map f (drop i xs) ≡ map f xs → found ≡ map f xs
 map_done f xs found i past before =
     sym (append-nil found) ∙ sym (at_drop_all (λ rest. found ++ map f rest) xs i past) ∙ before
+
+-- the same where several are made of an element
+pub flat_map_done : {X Y : Type 0} (f : X → List Y) (xs : List X) (found : List Y) (i : ℕ) → length xs ≤ i
+    → found ++ flat_map f (drop i xs) ≡ flat_map f xs → found ≡ flat_map f xs
+flat_map_done f xs found i past before =
+    sym (append-nil found) ∙ sym (at_drop_all (λ rest. found ++ flat_map f rest) xs i past) ∙ before
+
+-- the same where the elements are those that are made
+pub unmap_done : {X Y : Type 0} (f : Y → X) (xs : List X) (found : List Y) (i : ℕ) → length xs ≤ i
+    → map f found ++ drop i xs ≡ xs → map f found ≡ xs
+unmap_done f xs found i past before =
+    sym (append-nil (map f found)) ∙ sym (at_drop_all (λ rest. map f found ++ rest) xs i past) ∙ before
