@@ -5,7 +5,8 @@ use catalog_json::read_catalog;
 use query_core::{Catalog, Item, Link, Operand, Options, OrderKey, OutItem, Pred, Query, RootDist};
 use sql_bind::{BindFault, bind};
 use sql_reader::read_sql;
-use std::alloc::{AllocError, Global};
+use std::alloc::{AllocError, AllocGlobal, Global};
+use std::process::Abort;
 use std::test::Fail;
 
 const PLAIN: Options = Options {
@@ -145,36 +146,31 @@ SELECT a, COUNT(*) FROM T2 | not grouped at 7
 SELECT COUNT(*) AS n FROM T2 GROUP BY a ORDER BY b | not grouped at 49
 ";
 
-#[test]
-fn refused_queries_are_told_the_first_fault(rt: HostRuntime) -> Result<(), Fail> {
-    for line in REFUSED.lines() {
+// Asserts what is said of the query in each line.
+fn assert_lines(rt: &(impl Abort + AllocGlobal), lines: &str) -> Result<(), Fail> {
+    for line in lines.lines() {
         let (text, want) = line.split_once(" | ").ok_or("a line has two parts")?;
         let told = said(rt.alloc(), TWO_TABLES, text)?;
-        assert_told(&rt, &told, want, text);
+        assert_told(rt, &told, want, text);
     }
     Ok(())
 }
 
 #[test]
+fn refused_queries_are_told_the_first_fault(rt: HostRuntime) -> Result<(), Fail> {
+    assert_lines(&rt, REFUSED)
+}
+
+// The same of queries that are bound, each with what it is bound to.
+const BOUND: &str =
+    "SELECT T1.a FROM T1, T2 | 0.a/1000 1.a/1000 where links 0-1 group output 0 order
+SELECT a AS b FROM T2 ORDER BY b | 0.a/1000 where links group output 0 order 0+
+SELECT b AS x, COUNT(*), SUM(T2.a) AS s FROM T2, T1 AS u WHERE T2.b = 5 AND u.a = T2.a GROUP BY b, b ORDER BY s DESC, x, b DESC | 0.a/1000 0.b/500 1.a/1000 where 1:n 2:i0 links 1-0 group 1 output 1 3 4 order 4- 1+
+";
+
+#[test]
 fn queries_are_bound(rt: HostRuntime) -> Result<(), Fail> {
-    for (text, want) in [
-        (
-            "SELECT T1.a FROM T1, T2",
-            "0.a/1000 1.a/1000 where links 0-1 group output 0 order",
-        ),
-        (
-            "SELECT a AS b FROM T2 ORDER BY b",
-            "0.a/1000 where links group output 0 order 0+",
-        ),
-        (
-            "SELECT b AS x, COUNT(*), SUM(T2.a) AS s FROM T2, T1 AS u WHERE T2.b = 5 AND u.a = T2.a GROUP BY b, b ORDER BY s DESC, x, b DESC",
-            "0.a/1000 0.b/500 1.a/1000 where 1:n 2:i0 links 1-0 group 1 output 1 3 4 order 4- 1+",
-        ),
-    ] {
-        let told = said(rt.alloc(), TWO_TABLES, text)?;
-        assert_told(&rt, &told, want, text);
-    }
-    Ok(())
+    assert_lines(&rt, BOUND)
 }
 
 // A catalogue of one table, t, of 61 columns, c0 and so on.
@@ -202,6 +198,6 @@ fn sixty_items_are_the_most(rt: HostRuntime) -> Result<(), Fail> {
     let bound = said_of_columns(rt.alloc(), 60, "")?;
     assert!(rt; bound.as_str().starts_with("0.c0/1 0.c1/1 "));
     let refused = said_of_columns(rt.alloc(), 60, " WHERE c60 = 1")?;
-    assert_eq!(rt; refused.as_str(), "too many columns: 61");
+    assert!(rt; refused.as_str() == "too many columns: 61");
     Ok(())
 }

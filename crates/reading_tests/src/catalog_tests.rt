@@ -2,7 +2,7 @@ use crate::texts::{assert_told, numbered, numbered_line};
 use catalog_json::{CatalogFault, read_catalog};
 use orca_base::Text;
 use query_core::{Catalog, ColumnInfo, Placing, TableInfo};
-use std::alloc::{AllocError, Global};
+use std::alloc::{AllocError, AllocGlobal, Global};
 use std::process::Abort;
 use std::test::Fail;
 
@@ -137,15 +137,16 @@ fn one_change_is_refused_at_its_place(rt: HostRuntime) -> Result<(), Fail> {
     Ok(())
 }
 
+const NO_OBJECTS: [(&[u8], &str); 4] = [
+    (b"[]", "shape at "),
+    (b"1", "shape at "),
+    (b"", "not JSON"),
+    (b"\"\xff\"", "not JSON"),
+];
+
 #[test]
 fn what_is_no_object_is_refused(rt: HostRuntime) -> Result<(), Fail> {
-    let cases: [(&[u8], &str); 4] = [
-        (b"[]", "shape at "),
-        (b"1", "shape at "),
-        (b"", "not JSON"),
-        (b"\"\xff\"", "not JSON"),
-    ];
-    for (bytes, want) in cases {
+    for (bytes, want) in &NO_OBJECTS {
         let told = said(rt.alloc(), bytes)?;
         assert_told(&rt, &told, want, "bytes");
     }
@@ -156,8 +157,8 @@ fn what_is_no_object_is_refused(rt: HostRuntime) -> Result<(), Fail> {
 fn each_proper_prefix_is_refused(rt: HostRuntime) -> Result<(), Fail> {
     let bytes = TWO_TABLES.as_bytes();
     for end in 0..bytes.len() {
-        let line = said(rt.alloc(), &bytes[..end])?;
-        assert_eq!(rt; line.as_str(), "not JSON", "at {end}");
+        let told = said(rt.alloc(), &bytes[..end])?;
+        assert!(rt; told.as_str() == "not JSON", "at {end}");
     }
     Ok(())
 }
@@ -197,16 +198,18 @@ fn assert_levels(
     Ok(())
 }
 
+// How many arrays, and what is said of them alone, which are no object; and under the object, which is a level, where a
+// key is passed over and where one is looked at.
+const LEVELS: [(usize, &str, &str, &str); 3] = [
+    (126, "shape at ", "read", "shape at /segments"),
+    (127, "shape at ", "not JSON", "not JSON"),
+    (128, "not JSON", "not JSON", "not JSON"),
+];
+
 #[test]
 fn a_hundred_and_twenty_seven_levels_are_read(rt: HostRuntime) -> Result<(), Fail> {
-    // Arrays alone, which are no object; and under the object, which is a level, where a key is
-    // passed over and where one is looked at.
-    for (arrays, alone, passed_over, looked_at) in [
-        (126, "shape at ", "read", "shape at /segments"),
-        (127, "shape at ", "not JSON", "not JSON"),
-        (128, "not JSON", "not JSON", "not JSON"),
-    ] {
-        assert_levels(&rt, rt.alloc(), arrays, alone, passed_over, looked_at)?;
+    for (arrays, alone, passed_over, looked_at) in &LEVELS {
+        assert_levels(&rt, rt.alloc(), *arrays, alone, passed_over, looked_at)?;
     }
     Ok(())
 }
@@ -246,39 +249,60 @@ fn said_of_name(alloc: Global, count: usize) -> Result<String, AllocError> {
     changed(alloc, "T1", &name)
 }
 
-// Asserts that what is as long as it may be is read, and what is said of what is longer by one.
-fn assert_limit(rt: &impl Abort, most: String, longer: String, wanted: &str) {
-    assert_told(rt, &most, "read", wanted);
-    assert_told(rt, &longer, wanted, wanted);
+// Asserts what is said of what is as long as it may be, or longer by one.
+fn assert_said(
+    rt: &impl Abort,
+    said: Result<String, AllocError>,
+    wanted: &str,
+) -> Result<(), AllocError> {
+    assert_told(rt, &said?, wanted, wanted);
+    Ok(())
 }
 
 #[test]
 fn lengths_end_at_their_limits(rt: HostRuntime) -> Result<(), Fail> {
-    let alloc = rt.alloc();
-    let (most, longer) = (said_of_tables(alloc, 1000)?, said_of_tables(alloc, 1001)?);
-    assert_limit(&rt, most, longer, "range at /tables");
-    let last = "\"a999\"";
-    let (most, longer) = (
-        said_of_columns(alloc, 1000, last)?,
-        said_of_columns(alloc, 1001, last)?,
-    );
-    assert_limit(&rt, most, longer, "range at /tables/0/columns");
-    let (most, longer) = (said_of_hashed(alloc, 8)?, said_of_hashed(alloc, 9)?);
-    assert_limit(&rt, most, longer, "range at /tables/0/distribution");
-    let (most, longer) = (said_of_indexes(alloc, 15)?, said_of_indexes(alloc, 16)?);
-    assert_limit(&rt, most, longer, "range at /tables/0/indexes");
-    let (most, longer) = (said_of_name(alloc, 64)?, said_of_name(alloc, 65)?);
-    assert_limit(&rt, most, longer, "shape at /tables/0/name");
+    let (alloc, last) = (rt.alloc(), "\"a999\"");
+    assert_said(&rt, said_of_tables(alloc, 1000), "read")?;
+    assert_said(&rt, said_of_tables(alloc, 1001), "range at /tables")?;
+    assert_said(&rt, said_of_columns(alloc, 1000, last), "read")?;
+    assert_said(
+        &rt,
+        said_of_columns(alloc, 1001, last),
+        "range at /tables/0/columns",
+    )?;
+    assert_said(&rt, said_of_hashed(alloc, 8), "read")?;
+    assert_said(
+        &rt,
+        said_of_hashed(alloc, 9),
+        "range at /tables/0/distribution",
+    )?;
+    assert_said(&rt, said_of_indexes(alloc, 15), "read")?;
+    assert_said(
+        &rt,
+        said_of_indexes(alloc, 16),
+        "range at /tables/0/indexes",
+    )?;
+    assert_said(&rt, said_of_name(alloc, 64), "read")?;
+    assert_said(&rt, said_of_name(alloc, 65), "shape at /tables/0/name")?;
+    Ok(())
+}
+
+// The two tables with so many bytes, by spaces behind them.
+fn padded(alloc: Global, length: usize) -> Result<String, AllocError> {
+    let spaces = " ".repeat(alloc, length.saturating_sub(TWO_TABLES.len()))?;
+    [TWO_TABLES, &spaces].concat(alloc)
+}
+
+// Asserts what is said of the two tables with so many bytes.
+fn assert_length(rt: &(impl Abort + AllocGlobal), length: usize, wanted: &str) -> Result<(), Fail> {
+    let text = padded(rt.alloc(), length)?;
+    assert!(rt; text.len() == length);
+    assert_told(rt, &said(rt.alloc(), text.as_bytes())?, wanted, "spaces");
     Ok(())
 }
 
 #[test]
 fn a_mebibyte_is_read(rt: HostRuntime) -> Result<(), Fail> {
-    for (length, wanted) in [(1_048_576usize, "read"), (1_048_577, "too long")] {
-        let spaces = " ".repeat(rt.alloc(), length.saturating_sub(TWO_TABLES.len()))?;
-        let text = [TWO_TABLES, &spaces].concat(rt.alloc())?;
-        assert_eq!(rt; text.len(), length);
-        assert_told(&rt, &said(rt.alloc(), text.as_bytes())?, wanted, "spaces");
-    }
-    Ok(())
+    assert_length(&rt, 1_048_576, "read")?;
+    assert_length(&rt, 1_048_577, "too long")
 }

@@ -17,11 +17,21 @@ fn reads<S: Shelf>(
     name: &str,
     limit: u64,
     into: &mut Vec<u8>,
-    want: Result<(), ShelfError>,
+    want: &Result<(), ShelfError>,
     bytes: &str,
 ) -> bool {
-    shelf.read_all(name, limit, into) == want && into.as_slice() == bytes.as_bytes()
+    shelf.read_all(name, limit, into) == *want && into.as_slice() == bytes.as_bytes()
 }
+
+// The name of a file, the most bytes, what is answered, and all that was read by then.
+const READS: [(&str, u64, Result<(), ShelfError>, &str); 6] = [
+    (FILE, 4, Err(ShelfError::TooLong { seen: 5 }), "old "),
+    (FILE, 0, Err(ShelfError::TooLong { seen: 1 }), "old "),
+    ("reading_test/missing", 9, Err(ShelfError::Failed), "old "),
+    (FOLDER, 9, Err(ShelfError::Failed), "old "),
+    (FILE, 5, Ok(()), "old three"),
+    (FILE, u64::MAX, Ok(()), "old threethree"),
+];
 
 #[test]
 fn a_file_is_read_whole_or_refused(rt: HostRuntime) -> Result<(), Fail> {
@@ -31,15 +41,8 @@ fn a_file_is_read_whole_or_refused(rt: HostRuntime) -> Result<(), Fail> {
     fs::write(&rt, FILE, "three")?;
     let mut shelf = FileShelf::new(&rt);
     let mut into = b"old ".as_slice().to_vec(rt.alloc())?;
-    for (name, limit, want, bytes) in [
-        (FILE, 4, Err(ShelfError::TooLong { seen: 5 }), "old "),
-        (FILE, 0, Err(ShelfError::TooLong { seen: 1 }), "old "),
-        ("reading_test/missing", 9, Err(ShelfError::Failed), "old "),
-        (FOLDER, 9, Err(ShelfError::Failed), "old "),
-        (FILE, 5, Ok(()), "old three"),
-        (FILE, u64::MAX, Ok(()), "old threethree"),
-    ] {
-        let told = reads(&mut shelf, name, limit, &mut into, want, bytes);
+    for (name, limit, want, bytes) in &READS {
+        let told = reads(&mut shelf, name, *limit, &mut into, want, bytes);
         assert!(rt; told, "{name} {limit}");
     }
     fs::remove_dir_all(&rt, FOLDER)?;
@@ -65,18 +68,18 @@ impl Print for ClosedOutput {
 #[test]
 fn standard_output_takes_lines_unless_it_is_closed(rt: HostRuntime) {
     let mut out = StdSink::new(&rt);
-    assert_eq!(rt; out.put(b"a line\n"), Ok(()));
-    assert_eq!(rt; out.finish(), Ok(()));
+    assert!(rt; out.put(b"a line\n").is_ok());
+    assert!(rt; out.finish().is_ok());
     let mut closed = StdSink::new(&ClosedOutput);
     // A line is held back, and so are as many as there is room for.
     for _ in 0..1170 {
-        assert_eq!(rt; closed.put(b"a line\n"), Ok(()));
+        assert!(rt; closed.put(b"a line\n").is_ok());
     }
-    assert_eq!(rt; closed.put(b"a line\n"), Err(SinkError::Failed));
-    assert_eq!(rt; closed.put(b"a line\n"), Ok(()));
-    assert_eq!(rt; closed.finish(), Err(SinkError::Failed));
-    assert_eq!(rt; closed.finish(), Ok(()));
-    assert_eq!(rt; closed.put(&[b'.'; 8193]), Err(SinkError::Failed));
+    assert!(rt; closed.put(b"a line\n").is_err());
+    assert!(rt; closed.put(b"a line\n").is_ok());
+    assert!(rt; closed.finish().is_err());
+    assert!(rt; closed.finish().is_ok());
+    assert!(rt; closed.put(&[b'.'; 8193]).is_err());
 }
 
 // A full file and an empty one, where the second call fails.
@@ -89,20 +92,23 @@ fn shelf_of_two(alloc: Global) -> Result<MemShelf, AllocError> {
     Ok(shelf)
 }
 
+// The same of a shelf in memory.
+const READS_IN_MEMORY: [(&str, u64, Result<(), ShelfError>, &str); 6] = [
+    ("full", 3, Ok(()), "abc"),
+    ("full", 3, Err(ShelfError::Failed), "abc"),
+    ("other", 3, Err(ShelfError::Failed), "abc"),
+    ("full", 2, Err(ShelfError::TooLong { seen: 3 }), "abc"),
+    ("empty", 0, Ok(()), "abc"),
+    ("full", 4, Ok(()), "abcabc"),
+];
+
 #[test]
 fn the_shelf_in_memory_answers_as_told(rt: HostRuntime) -> Result<(), Fail> {
     let alloc = rt.alloc();
     let mut shelf = shelf_of_two(alloc)?;
     let mut into = Vec::new(alloc);
-    for (name, limit, want, bytes) in [
-        ("full", 3, Ok(()), "abc"),
-        ("full", 3, Err(ShelfError::Failed), "abc"),
-        ("other", 3, Err(ShelfError::Failed), "abc"),
-        ("full", 2, Err(ShelfError::TooLong { seen: 3 }), "abc"),
-        ("empty", 0, Ok(()), "abc"),
-        ("full", 4, Ok(()), "abcabc"),
-    ] {
-        let told = reads(&mut shelf, name, limit, &mut into, want, bytes);
+    for (name, limit, want, bytes) in &READS_IN_MEMORY {
+        let told = reads(&mut shelf, name, *limit, &mut into, want, bytes);
         assert!(rt; told, "{name} {limit}");
     }
     Ok(())
@@ -117,20 +123,23 @@ fn failing_sink(alloc: Global) -> Result<MemSink, AllocError> {
 }
 
 // Whether a put of the piece is answered so, and the sink then has taken these bytes.
-fn puts(sink: &mut MemSink, piece: &str, want: Result<(), SinkError>, taken: &str) -> bool {
-    sink.put(piece.as_bytes()) == want && sink.taken() == taken.as_bytes()
+fn puts(sink: &mut MemSink, piece: &str, want: &Result<(), SinkError>, taken: &str) -> bool {
+    sink.put(piece.as_bytes()) == *want && sink.taken() == taken.as_bytes()
 }
+
+// A piece, what is answered, and all that was taken by then.
+const PUTS: [(&str, Result<(), SinkError>, &str); 5] = [
+    ("ab", Ok(()), "ab"),
+    ("cde", Err(SinkError::Failed), "abcd"),
+    ("ef", Err(SinkError::Failed), "abcd"),
+    ("e", Err(SinkError::Failed), "abcde"),
+    ("", Ok(()), "abcde"),
+];
 
 #[test]
 fn the_sink_in_memory_answers_as_told(rt: HostRuntime) -> Result<(), Fail> {
     let mut sink = failing_sink(rt.alloc())?;
-    for (piece, want, taken) in [
-        ("ab", Ok(()), "ab"),
-        ("cde", Err(SinkError::Failed), "abcd"),
-        ("ef", Err(SinkError::Failed), "abcd"),
-        ("e", Err(SinkError::Failed), "abcde"),
-        ("", Ok(()), "abcde"),
-    ] {
+    for (piece, want, taken) in &PUTS {
         assert!(rt; puts(&mut sink, piece, want, taken), "{piece}");
     }
     Ok(())

@@ -70,14 +70,15 @@ fn refuses_with_the_first_fault(rt: HostRuntime) -> Result<(), Fail> {
     Ok(())
 }
 
+const NO_TEXTS: [(&[u8], &str); 3] = [
+    (b"SELECT \xc3 FROM t", "not ASCII at 7"),
+    (b"SELECT 'a\xff' FROM t", "grammar at 7"),
+    (b"SELECT a FROM t WHERE a = 'x\xff", "token at 26"),
+];
+
 #[test]
 fn bytes_that_are_no_text_are_refused_at_their_place(rt: HostRuntime) -> Result<(), Fail> {
-    let cases: [(&[u8], &str); 3] = [
-        (b"SELECT \xc3 FROM t", "not ASCII at 7"),
-        (b"SELECT 'a\xff' FROM t", "grammar at 7"),
-        (b"SELECT a FROM t WHERE a = 'x\xff", "token at 26"),
-    ];
-    for (text, want) in cases {
+    for (text, want) in &NO_TEXTS {
         let told = said(rt.alloc(), text)?;
         assert_told(&rt, &told, want, "bytes");
     }
@@ -97,41 +98,39 @@ fn said_of_parts(
     said(alloc, text.as_bytes())
 }
 
+// The first part of a text, a further one, how many of these are the most, the end, and what is said where there is one
+// more.
+const EDGES: [(&str, &str, usize, &str, &str); 6] = [
+    ("SELECT a", ",a", 59, " FROM t", "too many items at 127"),
+    ("SELECT a FROM t", ",t", 9, "", "too many tables at 34"),
+    (
+        "SELECT a FROM t WHERE a=1",
+        " AND a=1",
+        39,
+        "",
+        "too many predicates at 342",
+    ),
+    (
+        "SELECT a FROM t GROUP BY a",
+        ",a",
+        7,
+        "",
+        "too many group columns at 41",
+    ),
+    (
+        "SELECT a FROM t ORDER BY a",
+        ",a",
+        7,
+        "",
+        "too many order keys at 41",
+    ),
+    ("SELECT a FROM t", " ", 65_521, "", "too long"),
+];
+
 #[test]
 fn keeps_each_limit_to_its_edge(rt: HostRuntime) -> Result<(), Fail> {
-    for (first, more, count, last, one_more) in [
-        (
-            "SELECT a",
-            ",a",
-            59usize,
-            " FROM t",
-            "too many items at 127",
-        ),
-        ("SELECT a FROM t", ",t", 9, "", "too many tables at 34"),
-        (
-            "SELECT a FROM t WHERE a=1",
-            " AND a=1",
-            39,
-            "",
-            "too many predicates at 342",
-        ),
-        (
-            "SELECT a FROM t GROUP BY a",
-            ",a",
-            7,
-            "",
-            "too many group columns at 41",
-        ),
-        (
-            "SELECT a FROM t ORDER BY a",
-            ",a",
-            7,
-            "",
-            "too many order keys at 41",
-        ),
-        ("SELECT a FROM t", " ", 65_521, "", "too long"),
-    ] {
-        let full = said_of_parts(rt.alloc(), first, more, count, last)?;
+    for (first, more, count, last, one_more) in &EDGES {
+        let full = said_of_parts(rt.alloc(), first, more, *count, last)?;
         assert_told(&rt, &full, "read", first);
         let over = said_of_parts(rt.alloc(), first, more, count.saturating_add(1), last)?;
         assert_told(&rt, &over, one_more, first);

@@ -51,14 +51,21 @@ fn assert_taken<R: Threads + Wait + Sync + AllocGlobal + Abort>(
     Ok(())
 }
 
+// The same of the line where the sink takes it, and of what a sink has that takes nothing or three bytes.
+fn assert_read_fault<R: Threads + Wait + Sync + AllocGlobal + Abort>(
+    rt: &R,
+    read: u64,
+    line: &str,
+) -> Result<(), Fail> {
+    assert_taken(rt, read, None, Status::ReadFault, line)?;
+    assert_taken(rt, read, Some((0, 0)), Status::WriteFault, "")?;
+    assert_taken(rt, read, Some((0, 3)), Status::WriteFault, "rea")
+}
+
 #[test]
 fn a_file_that_fails_is_named(rt: HostRuntime) -> Result<(), Fail> {
-    for (read, line) in [(0, "read fault: c.json\n"), (1, "read fault: q.sql\n")] {
-        assert_taken(&rt, read, None, Status::ReadFault, line)?;
-        assert_taken(&rt, read, Some((0, 0)), Status::WriteFault, "")?;
-        assert_taken(&rt, read, Some((0, 3)), Status::WriteFault, "rea")?;
-    }
-    Ok(())
+    assert_read_fault(&rt, 0, "read fault: c.json\n")?;
+    assert_read_fault(&rt, 1, "read fault: q.sql\n")
 }
 
 // Whether a run whose put fails after so many bytes of the line leaves the lines before and these.
@@ -81,7 +88,7 @@ fn a_sink_that_fails_has_the_lines_before_and_a_part_of_one(rt: HostRuntime) -> 
             assert!(rt; leaves(&rt, put as u64, kept, before)?, "{line}");
             before = before.saturating_add(line.len());
         }
-        assert_eq!(rt; before, JOINED.len());
+        assert!(rt; before == JOINED.len());
     }
     Ok(())
 }

@@ -52,9 +52,9 @@ fn passes<R: Threads + Wait + Sync + AllocGlobal>(rt: &R, workers: &str) -> Resu
 
 #[test]
 fn each_worker_of_a_crew_passes_the_gate(rt: HostRuntime) -> Result<(), Fail> {
-    for (workers, count) in [("2", 2), ("8", 8), ("64", 64)] {
-        assert_eq!(rt; passes(&rt, workers)?, count);
-    }
+    assert!(rt; passes(&rt, "2")? == 2);
+    assert!(rt; passes(&rt, "8")? == 8);
+    assert!(rt; passes(&rt, "64")? == 64);
     Ok(())
 }
 
@@ -64,6 +64,6 @@ fn two_workers_of_a_run_meet(rt: HostRuntime) -> Result<(), Fail> {
     let (text, note) = planned_past(&rt, "plan c.json q.sql --workers 2", &gate)?;
     assert!(rt; gate.have_met());
     assert_told(&rt, &text, JOINED, "two workers");
-    assert_eq!(rt; note, Some((131_072, 2, 66)));
+    assert!(rt; note == Some((131_072, 2, 66)));
     Ok(())
 }

@@ -188,7 +188,7 @@ fn a_group_has_a_join_for_each_split_of_its_tables(rt: HostRuntime) -> Result<()
     for shape in [GenShape::Chain, GenShape::Star, GenShape::Clique] {
         for tables in 2..7u32 {
             let (found, wanted) = counts(&rt, shape, tables)?;
-            assert_eq!(rt; found.as_slice(), wanted.as_slice());
+            assert!(rt; found.as_slice() == wanted.as_slice());
         }
     }
     Ok(())
@@ -196,12 +196,9 @@ fn a_group_has_a_join_for_each_split_of_its_tables(rt: HostRuntime) -> Result<()
 
 #[test]
 fn chains_and_stars_of_four_tables(rt: HostRuntime) -> Result<(), Fail> {
-    for (line, want) in [
-        ("gen 1 4 chain", "\nmemo groups=10 members=94\n"),
-        ("gen 1 4 star", "\nmemo groups=11 members=111\n"),
-    ] {
-        let told = printed(&rt, line, b"", b"", Status::Planned)?;
-        assert!(rt; told.contains(want), "{line}");
-    }
+    let chain = printed(&rt, "gen 1 4 chain", b"", b"", Status::Planned)?;
+    assert!(rt; chain.contains("\nmemo groups=10 members=94\n"));
+    let star = printed(&rt, "gen 1 4 star", b"", b"", Status::Planned)?;
+    assert!(rt; star.contains("\nmemo groups=11 members=111\n"));
     Ok(())
 }
