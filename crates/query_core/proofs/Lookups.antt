@@ -1,17 +1,13 @@
--- What a place of a list holds, by what a lookup in an equal list told.
-use Rattle.std.proofs.Common.{ℕ, true, false, ltb, List, None, Some, length, get_or, refl, subst, sym, ◌≡◌}
+-- What a look into a list finds.
+use Rattle.std.proofs.Common.{ℕ, ◌<◌, ◌≤◌, List, None, Some, length, get_or, refl, ◌≡◌}
 use Rattle.std.specs.List.{slice_get}
-use Rattle.std.proofs.lemmas.Bool.{ltb-true, ltb-false}
 use Rattle.std.proofs.lemmas.Option.{slice_get_past, slice_get_read}
 
--- a place within the list holds what was read there
-pub found_at : {X : Type 0} (seen xs : List X) (i : ℕ) (x : X) → seen ≡ xs → true ≡ ltb i (length seen)
-    → x ≡ get_or seen i x → slice_get xs i ≡ Some x
-found_at seen xs i x same within read =
-    subst (λ l. slice_get l i ≡ Some x) same
-    (slice_get_read seen (length seen) i x refl (ltb-true i (length seen) (sym within)) read)
+-- the element at its place
+pub found_at : {X : Type 0} (xs slice : List X) (i : ℕ) (x : X) → slice ≡ xs → i < length slice
+    → x ≡ get_or slice i x → slice_get xs i ≡ Some x
+found_at xs slice i x same within here = rw (← same) (slice_get_read slice (length slice) i x refl within here)
 
--- no other place holds anything
-pub none_at : {X : Type 0} (seen xs : List X) (i : ℕ) → seen ≡ xs → false ≡ ltb i (length seen) → slice_get xs i ≡ None
-none_at seen xs i same past =
-    subst (λ l. slice_get l i ≡ None) same (slice_get_past seen i (ltb-false i (length seen) (sym past)))
+-- past the end there is none
+pub none_at : {X : Type 0} (xs slice : List X) (i : ℕ) → slice ≡ xs → length slice ≤ i → slice_get xs i ≡ None
+none_at xs slice i same past = rw (← same) (slice_get_past slice i past)

@@ -18,4 +18,4 @@ pub mod CrossingsByAny
 pub mod PhysicalLists
 pub mod OuterColumns
 pub mod Mapped
-pub mod LookUps
+pub mod MappedLookups

@@ -4,7 +4,7 @@ use Rattle.std.proofs.Math.ListN.{get_or-eq_default}
 use Rattle.query_core.specs.declared.query.Query.{Query}
 use Rattle.query_core.specs.declared.table.QueryTable.{QueryTable}
 use Rattle.request_props.specs.Satisfied.{index_columns}
-use Rattle.request_props.proofs.LookUps.{found_at, none_at}
+use Rattle.query_core.proofs.Lookups.{found_at, none_at}
 use Rattle.request_props.proofs.satisfaction.index_columns.Goals as goal
 
 -- the columns are those at the index's place

@@ -7,11 +7,11 @@ pub returns-in-Some : goal.returns-in-Some
 returns-in-Some c =
     c.len.ensures
     ∙ sym (ap (λ found. option_map_or (λ table. length table.indexes) found 0)
-    (found_at c.as_slice.result.now c.args.self.now.tables c.args.table c.in-Some.found.now c.as_slice.ensures
-    c.in-Some.ensures.lookup.0 c.in-Some.ensures.lookup.1))
+    (found_at c.args.self.now.tables c.as_slice.result.now c.args.table c.in-Some.found.now c.as_slice.ensures
+    c.in-Some.ensures.lookup.3.0 c.in-Some.ensures.lookup.1))
 
 pub returns-in-None : goal.returns-in-None
 returns-in-None c =
     sym (ap (λ found. option_map_or (λ table. length table.indexes) found 0)
-    (none_at c.as_slice.result.now c.args.self.now.tables c.args.table c.as_slice.ensures
-    c.in-None.ensures.lookup.0))
+    (none_at c.args.self.now.tables c.as_slice.result.now c.args.table c.as_slice.ensures
+    c.in-None.ensures.lookup.3))

@@ -14,10 +14,10 @@ returns-in-Some c =
     same_from_decides c.has.result (bit set table == 1) c.has.ensures
     (eqb-true (bit set table) 1, eq-eqb (bit set table) 1)
     ∙ sym (ap (λ found. option_map_or (λ item. bit set item.table == 1) found false)
-    (found_at c.as_slice.result.now c.args.self.now.items c.args.item c.in-Some.column.now c.as_slice.ensures
-    c.in-Some.ensures.lookup.0 c.in-Some.ensures.lookup.1))
+    (found_at c.args.self.now.items c.as_slice.result.now c.args.item c.in-Some.column.now c.as_slice.ensures
+    c.in-Some.ensures.lookup.3.0 c.in-Some.ensures.lookup.1))
 
 pub returns-in-None : goal.returns-in-None
 returns-in-None c =
     sym (ap (λ found. option_map_or (λ item. bit c.args.set item.table == 1) found false)
-    (none_at c.as_slice.result.now c.args.self.now.items c.args.item c.as_slice.ensures c.in-None.ensures.lookup.0))
+    (none_at c.args.self.now.items c.as_slice.result.now c.args.item c.as_slice.ensures c.in-None.ensures.lookup.3))

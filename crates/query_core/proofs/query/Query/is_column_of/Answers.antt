@@ -7,10 +7,10 @@ use Rattle.query_core.proofs.query.Query.is_column_of.Goals as goal
 pub returns-in-Some : goal.returns-in-Some
 returns-in-Some c =
     sym (ap (λ found. option_map_or (λ item. item.table == c.args.table) found false)
-    (found_at c.as_slice.result.now c.args.self.now.items c.args.item c.in-Some.column.now c.as_slice.ensures
-    c.in-Some.ensures.lookup.0 c.in-Some.ensures.lookup.1))
+    (found_at c.args.self.now.items c.as_slice.result.now c.args.item c.in-Some.column.now c.as_slice.ensures
+    c.in-Some.ensures.lookup.3.0 c.in-Some.ensures.lookup.1))
 
 pub returns-in-None : goal.returns-in-None
 returns-in-None c =
     sym (ap (λ found. option_map_or (λ item. item.table == c.args.table) found false)
-    (none_at c.as_slice.result.now c.args.self.now.items c.args.item c.as_slice.ensures c.in-None.ensures.lookup.0))
+    (none_at c.args.self.now.items c.as_slice.result.now c.args.item c.as_slice.ensures c.in-None.ensures.lookup.3))

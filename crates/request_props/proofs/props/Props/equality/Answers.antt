@@ -1,6 +1,7 @@
 use Rattle.std.proofs.Common.{None, map, ◌∙◌}
 use Rattle.request_props.specs.Numbered.{equality_of}
-use Rattle.request_props.proofs.LookUps.{found_at, none_at, made_at, none_made_at}
+use Rattle.query_core.proofs.Lookups.{found_at, none_at}
+use Rattle.request_props.proofs.MappedLookups.{made_at, none_made_at}
 use Rattle.request_props.proofs.props.Props.equality.Goals as goal
 
 -- it is made of the predicate at the place

@@ -5,7 +5,8 @@ use Rattle.query_core.specs.declared.query.Query.{Query}
 use Rattle.query_core.specs.declared.table.QueryTable.{QueryTable}
 use Rattle.request_props.specs.Numbered.{dist_by}
 use Rattle.request_props.specs.declared.given.GivenDist.TheVariants.{Random}
-use Rattle.request_props.proofs.LookUps.{found_at, none_at, made_at, none_made_at}
+use Rattle.query_core.proofs.Lookups.{found_at, none_at}
+use Rattle.request_props.proofs.MappedLookups.{made_at, none_made_at}
 use Rattle.request_props.proofs.props.Props.table_dist.Goals as goal
 
 -- without a table the rows lie as without a list

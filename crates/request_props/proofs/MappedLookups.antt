@@ -1,17 +1,8 @@
--- What a look into a list finds.
-use Rattle.std.proofs.Common.{◌≡◌, ℕ, ◌<◌, ◌≤◌, List, length, get_or, map, Option, Some, None, refl, sym, ◌∙◌}
+-- What a look into a list of what is made of each element finds.
+use Rattle.std.proofs.Common.{◌≡◌, ℕ, List, map, Option, Some, None, refl, sym, ◌∙◌}
 use Rattle.std.specs.Prelude.{slice_get}
 use Rattle.std.specs.Option.{option_map, option_map_or}
-use Rattle.std.proofs.lemmas.Option.{slice_get-map, slice_get_read, slice_get_past}
-
--- the element at its place
-pub found_at : {X : Type 0} (xs slice : List X) (i : ℕ) (x : X) → slice ≡ xs → i < length slice
-    → x ≡ get_or slice i x → slice_get xs i ≡ Some x
-found_at xs slice i x same within here = rw (← same) (slice_get_read slice (length slice) i x refl within here)
-
--- past the end there is none
-pub none_at : {X : Type 0} (xs slice : List X) (i : ℕ) → slice ≡ xs → length slice ≤ i → slice_get xs i ≡ None
-none_at xs slice i same past = rw (← same) (slice_get_past slice i past)
+use Rattle.std.proofs.lemmas.Option.{slice_get-map}
 
 made_of : {X Y : Type 0} (f : X → Y) (x : Option X) (y default : Y) → option_map f x ≡ Some y
     → y ≡ option_map_or f x default
