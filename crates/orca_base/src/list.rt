@@ -74,13 +74,3 @@ impl<T> List<T> {
         self.items.is_empty()
     }
 }
-
-impl<T: Clone> Clone for List<T> {
-    ghost is_clone = { λ l m. ((x y : T) → T.is_clone x y → y ≡ x) → m ≡ l };
-
-    fn clone(&self) -> Result<List<T>, AllocError> {
-        Ok(List {
-            items: self.items.clone()?,
-        })
-    }
-}

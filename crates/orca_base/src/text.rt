@@ -39,13 +39,3 @@ impl Text {
         self.text.as_str()
     }
 }
-
-impl Clone for Text {
-    ghost is_clone = { λ s t. t ≡ s };
-
-    fn clone(&self) -> Result<Text, AllocError> {
-        Ok(Text {
-            text: self.text.clone()?,
-        })
-    }
-}

@@ -21,7 +21,7 @@ pub struct Query {
     pub segments: u64,
     /// The tables of FROM, in text order.
     pub tables: List<QueryTable>,
-    /// The used columns, by table and then by place in the catalogue.
+    /// The columns that the query uses, each once.
     pub items: List<Item>,
     /// The predicates of WHERE, in text order.
     pub preds: List<Pred>,
