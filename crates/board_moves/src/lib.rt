@@ -1,4 +1,5 @@
-//! What the turn of a goal does over a board, whatever its rules: entries put in, children awaited, the double collection, and how it ends.
+//! What the turn of a goal does over a board, whatever its rules: entries put in, children awaited, the double
+//! collection, and how it ends.
 #![tactic(auto)]
 
 mod awaiting;

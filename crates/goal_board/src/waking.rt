@@ -11,7 +11,8 @@ use crate::wait_steps::{bit_of, first_name};
 use board_rule::GoalRules;
 
 impl<R: GoalRules> Board<R> {
-    // Walks the list that a closed head names: clears the bit of each waiter, and tells of those goals that this made ready.
+    // Walks the list that a closed head names: clears the bit of each waiter, and tells of those goals that this made
+    // ready.
     pub(crate) fn wake<H: Hints>(&self, seat: &mut Seat<R>, head: u64, hints: &mut H) -> Woken
         requires seat { IsInCall R.meaning self.now seat.old }
         requires no_wait { (hands seat.old).pending ≡ None }

@@ -46,8 +46,8 @@ pub fn list_children(
     Ok(())
 }
 
-/// The same. The members of a group are held for its next goal, since goals of one group for its requests come one after
-/// the other.
+/// The same. The members of a group are held for its next goal, since goals of one group for its requests come one
+/// after the other.
 pub fn list_children_by_group(
     query: &Query,
     props: &Props,

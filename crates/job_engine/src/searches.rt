@@ -18,8 +18,8 @@ use std::alloc::{AllocError, Global};
 use std::sync::Wait;
 use std::thread::Threads;
 
-// A board has a quarter more cells than members and goals are expected, and at least so many more. With too few cells the
-// search is made again; each cell too many is filled and read, and with few free ones a word is looked for in many
+// A board has a quarter more cells than members and goals are expected, and at least so many more. With too few cells
+// the search is made again; each cell too many is filled and read, and with few free ones a word is looked for in many
 // places.
 const LEAST_FREE: usize = 128;
 

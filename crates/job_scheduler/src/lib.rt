@@ -1,4 +1,5 @@
-//! Workers that make the turns of goals on a board: what is ready is found by hints and by scans, and any number of threads work.
+//! Workers that make the turns of goals on a board: what is ready is found by hints and by scans, and any number of
+//! threads work.
 #![tactic(auto)]
 
 mod claims;

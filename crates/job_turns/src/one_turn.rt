@@ -23,8 +23,8 @@ use query_core::{Goal, Query};
 use request_props::Props;
 use xform_rules::members_are_known;
 
-/// One turn of the job whose goal was claimed: it finishes the goal, or suspends it with a wait, or finds no cell for an
-/// entry. The worker's number is below 64. It claims no other goal.
+/// One turn of the job whose goal was claimed: it finishes the goal, or suspends it with a wait, or finds no cell for
+/// an entry. The worker's number is below 64. It claims no other goal.
 pub fn turn<'q, H: Hints>(
     query: &Query,
     props: &Props,

@@ -55,8 +55,9 @@ impl PlaceHints {
         self.others.steal(other)
     }
 
-    /// The hints of another worker, who has none of its own yet. It can steal from this one, and from those that this one can
-    /// steal from, while there are passes for more. This one can steal from it. After `Err` this one can steal as before.
+    /// The hints of another worker, who has none of its own yet. It can steal from this one, and from those that this
+    /// one can steal from, while there are passes for more. This one can steal from it. After `Err` this one can steal
+    /// as before.
     pub fn split(&mut self, alloc: Global) -> Result<PlaceHints, AllocError>
         ensures other { IfOk result (λ hints. hints ≡ self.old) }
         ensures same { self.new ≡ self.old }

@@ -26,7 +26,8 @@ const OPT: u64 = 5;
 const OPT_E: u64 = 6;
 
 impl Goal {
-    /// The word of a goal: the kind from bit 60 on, the key or the expression from bit 12 on, and the number of the rule or the code of the request.
+    /// The word of a goal: the kind from bit 60 on, the key or the expression from bit 12 on, and the number of the
+    /// rule or the code of the request.
     pub fn make(parts: GoalParts) -> Goal
         requires { FitsGoal parts }
         ensures { result.0 ≡ goal_number parts }

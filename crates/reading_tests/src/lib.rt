@@ -1,4 +1,5 @@
-//! What is read, and what is written to be read: catalogues, queries, the words of a command, and their files; tests alone.
+//! What is read, and what is written to be read: catalogues, queries, the words of a command, and their files; tests
+//! alone.
 #![tactic(auto)]
 
 #[cfg(test)]

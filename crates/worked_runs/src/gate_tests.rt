@@ -24,7 +24,8 @@ impl Gate for Counting {
     }
 }
 
-// The text of the words of a line over the running example, where there is a plan, and the note; the workers pass the gate.
+// The text of the words of a line over the running example, where there is a plan, and the note; the workers pass the
+// gate.
 fn planned_past<R: Threads + Wait + Sync + AllocGlobal, G: Gate>(
     rt: &R,
     line: &str,
