@@ -5,11 +5,11 @@
 # Usage: bench/memo.sh [RUNS]
 runs=${1:-10}
 . "$(dirname "${BASH_SOURCE[0]}")/timing.sh"
-tests=$top/crates/orca_cli/out/orca_cli_tests
+tests=$top/crates/worked_runs/out/worked_runs_tests
 name=memo_tests::a_star_of_eight_tables_with_grouping
 
 # builds the tests where they are missing, which proves them and runs each once
-[ -x "$tests" ] || (cd "$top/crates/orca_cli" && rt test >/dev/null) || exit 1
+[ -x "$tests" ] || (cd "$top/crates/worked_runs" && rt test >/dev/null) || exit 1
 
 first=$(least "$tests" --list)
 "$tests" "$name" >/dev/null || exit 1
