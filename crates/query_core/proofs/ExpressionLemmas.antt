@@ -4,6 +4,7 @@ use Rattle.query_core.specs.Keys.{key_number, IsInRange}
 use Rattle.query_core.specs.Expressions.{expr_of, fields, key_field, logical_fields, physical_fields, fields_of}
 use Rattle.query_core.specs.Expressions.{left_number, right_number, packed, word_of, AreInRange, HasWord, IsPacked}
 use Rattle.query_core.specs.Goals.{FitsExpr}
+use Rattle.query_core.specs.declared.keys.TheConstants.{KEYS}
 use Rattle.query_core.specs.declared.words.KeyParts.{KeyParts}
 use Rattle.query_core.specs.declared.expressions.Logical.{Logical}
 use Rattle.query_core.specs.declared.expressions.Logical.TheVariants as logical
@@ -22,8 +23,8 @@ use Rattle.query_core.proofs.GroupLemmas.{key_one}
 pub operator_small : (o : Operator) → (fields_of o).number < 32
 operator_small o = grind arith
 
--- keys have numbers below 2050
-pub key_small : (g : KeyParts) → IsInRange g → key_number g < 2050
+-- keys have numbers below the bound of keys
+pub key_small : (g : KeyParts) → IsInRange g → key_number g < KEYS
 key_small g in_g = grind arith
 
 pub left_small : (c : Children) → AreInRange c → left_number c < 2 ^ 13

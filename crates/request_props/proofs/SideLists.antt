@@ -11,8 +11,9 @@ use Rattle.std.proofs.lemmas.Nat.{or_disjoint}
 use Rattle.std.proofs.lemmas.List.{map-append}
 use Rattle.std.proofs.lemmas.List.Elements.{All-push, All-map, Contains-append_left, Contains-push}
 use Rattle.query_core.specs.Sets.{bit}
-use Rattle.query_core.specs.Keys.{key_number, has_own, group_of_table, top_of}
+use Rattle.query_core.specs.Keys.{key_number, IsInRange, has_own, group_of_table, top_of}
 use Rattle.query_core.specs.Expressions.{FallsInto}
+use Rattle.query_core.specs.declared.keys.TheConstants.{FIRST_SET_KEY, ONE_TABLE_KEYS}
 use Rattle.query_core.specs.declared.query.Query.{Query}
 use Rattle.query_core.specs.declared.words.KeyParts.TheVariants.{Get, Filter, Join}
 use Rattle.query_core.specs.declared.kinds.JoinKind.TheVariants as joins
@@ -23,15 +24,15 @@ use Rattle.query_core.proofs.Rising.{rises_push}
 use Rattle.request_props.specs.Joins.{HasSides, tops_of, AreSides, AreSidesAt, left_of, AreAllSides, AreSidesBelow}
 use Rattle.request_props.specs.declared.candidates.sides.Sides.{Sides}
 
--- the group of one table has a key below 26, and that of several the set's
-pub top_number : (q : Query) (a : ℕ) → a < 1024 → (key_number (top_of q a) < 26) ⊎ (key_number (top_of q a) ≡ 1024 + a)
+-- the group of one table has a key among the first, and that of several the set's
+pub top_number : (q : Query) (a : ℕ) → IsInRange (Join a) → (key_number (top_of q a) < ONE_TABLE_KEYS) ⊎ (key_number (top_of q a) ≡ FIRST_SET_KEY + a)
 top_number q a small =
     let least = trailing_zeros w32 a in
     let there : (a == 2 ^ least) ≡ true → least < 10 =
     λ same. exponent_lt least 10 (omega (arith, eqb-true a (2 ^ least) same, small)) in
-    cond_both (a == 2 ^ least) (Some least) None (λ o. (key_number (option_map_or (group_of_table q) o (Join a)) < 26)
-    ⊎ (key_number (option_map_or (group_of_table q) o (Join a)) ≡ 1024 + a))
-    (λ same. inl (cond_both (has_own q least) (Filter least) (Get least) (λ g. key_number g < 26)
+    cond_both (a == 2 ^ least) (Some least) None (λ o. (key_number (option_map_or (group_of_table q) o (Join a)) < ONE_TABLE_KEYS)
+    ⊎ (key_number (option_map_or (group_of_table q) o (Join a)) ≡ FIRST_SET_KEY + a))
+    (λ same. inl (cond_both (has_own q least) (Filter least) (Get least) (λ g. key_number g < ONE_TABLE_KEYS)
     (λ own. omega (arith, there same)) (λ none. omega (arith, there same))))
     (λ differs. inr refl)
 
@@ -82,7 +83,7 @@ module _ (q : Query) (set : ℕ) where
       ])
       so_far
 
-  module _ (small : set < 1024) where
+  module _ (small : IsInRange (Join set)) where
     -- sides with the next key come behind them
     pub sides_more : (bound : ℕ) (found : List Sides) (new : Sides) → AreSidesAt q set bound new
         → AreSidesBelow q set bound found → AreSidesBelow q set (bound + 1) (found ++ new ∷ [])
@@ -111,9 +112,9 @@ module _ (q : Query) (set : ℕ) where
     }
 
     -- behind the groups of one table come those of several
-    pub no_sides_between : (found : List Sides) → AreSidesBelow q set 26 found → AreSidesBelow q set 1024 found
+    pub no_sides_between : (found : List Sides) → AreSidesBelow q set ONE_TABLE_KEYS found → AreSidesBelow q set FIRST_SET_KEY found
     no_sides_between found so_far =
-        sides_further 26 1024 found (omega arith)
+        sides_further ONE_TABLE_KEYS FIRST_SET_KEY found (omega arith)
         (λ a b falls less. elim (top_number q a (omega (arith, left_less q set a b falls, small))) [
           | inl one ↦
               one
@@ -123,7 +124,7 @@ module _ (q : Query) (set : ℕ) where
 
     -- no left side has tables that the set doesn't have
     pub no_sides_among : (tables union : ℕ) → ((t : ℕ) → bit union t ≡ max (bit tables t) (bit set t))
-        → (union ≡ set → ⊥) → HasSides q set (1024 + tables) → ⊥
+        → (union ≡ set → ⊥) → HasSides q set (FIRST_SET_KEY + tables) → ⊥
     no_sides_among tables union each other (a, b, falls, number) =
         elim (top_number q a (omega (arith, left_less q set a b falls, small))) [
           | inl one ↦ omega (arith, one, number)
@@ -133,7 +134,7 @@ module _ (q : Query) (set : ℕ) where
         ]
 
     -- no left side has a key from that of the whole set on
-    pub all_found : (found : List Sides) → AreSidesBelow q set (1024 + set) found → AreAllSides q set found
+    pub all_found : (found : List Sides) → AreSidesBelow q set (FIRST_SET_KEY + set) found → AreAllSides q set found
     all_found found so_far = record {
       ascending = so_far.ascending;
       sound = so_far.sound;

@@ -5,6 +5,7 @@ use Rattle.std.specs.List.Sorted.{IsStrictlyIncreasing}
 use Rattle.query_core.specs.Keys.{key_number, IsGroup}
 use Rattle.query_core.specs.Candidates.{IsNext, IsLast}
 use Rattle.query_core.specs.Expressions.{IsCandidate, IsCandidateOf, expr_of, word_of}
+use Rattle.query_core.specs.declared.keys.TheConstants.{KEYS}
 use Rattle.query_core.specs.declared.query.Query.{Query}
 use Rattle.query_core.specs.declared.words.Expr.{Expr}
 use Rattle.query_core.specs.declared.words.KeyParts.{KeyParts}
@@ -24,8 +25,8 @@ AreCandidatesBelow q bound lists = (group : KeyParts) → IsGroup q group → ke
 
 -- the same of each group, by the key's number
 pub record AreCandidates (q : Query) (lists : List (List ℕ)) : Type 0 where
-  pub count : length lists ≡ 2050
-  pub each : AreCandidatesBelow q 2050 lists
+  pub count : length lists ≡ KEYS
+  pub each : AreCandidatesBelow q KEYS lists
 
 -- the next expression that the group can hold after the one before, or none where none is left
 abbrev pub FindsNext : Query → KeyParts → Option Expr → Option Expr → Type 0
@@ -56,5 +57,5 @@ ArePhysicalBelow q bound lists = (group : KeyParts) → IsGroup q group → key_
 
 -- the same of each group, by the key's number
 pub record ArePhysical (q : Query) (lists : List (List PhysicalCandidate)) : Type 0 where
-  pub count : length lists ≡ 2050
-  pub each : ArePhysicalBelow q 2050 lists
+  pub count : length lists ≡ KEYS
+  pub each : ArePhysicalBelow q KEYS lists

@@ -2,6 +2,7 @@
 use Rattle.std.specs.Prelude.{ℕ, Bool, false, List, All, ◌≡◌, ◌<◌, ◌≤◌, ◌↔◌, length, slice_index, slice_index_or}
 use Rattle.std.specs.Prelude.{IsTrue}
 use Rattle.query_core.specs.Keys.{key_number, IsGroup, IsKey}
+use Rattle.query_core.specs.declared.keys.TheConstants.{KEYS}
 use Rattle.query_core.specs.declared.query.Query.{Query}
 use Rattle.query_core.specs.declared.words.Key.{Key}
 use Rattle.query_core.specs.declared.words.KeyParts.{KeyParts}
@@ -17,8 +18,8 @@ AreKeysBelow q bound keys = (number : ℕ) → number < bound → IsTrue (slice_
 
 -- of each number whether it is that of a key of the query
 pub record AreKeys (q : Query) (keys : List Bool) : Type 0 where
-  pub count : length keys ≡ 2050
-  pub each : AreKeysBelow q 2050 keys
+  pub count : length keys ≡ KEYS
+  pub each : AreKeysBelow q KEYS keys
 
 -- the estimated rows of each group whose key has a number below the bound
 abbrev pub AreRowsBelow : Query → ℕ → List ℕ → Type 0
@@ -27,6 +28,6 @@ AreRowsBelow q bound rows = (group : KeyParts) → IsGroup q group → key_numbe
 
 -- the estimated rows of each group, by the key's number; none is above 10^12
 pub record AreGroupRows (q : Query) (rows : List ℕ) : Type 0 where
-  pub count : length rows ≡ 2050
-  pub each : AreRowsBelow q 2050 rows
+  pub count : length rows ≡ KEYS
+  pub each : AreRowsBelow q KEYS rows
   pub few : All (λ number. number ≤ 1000000000000) rows
