@@ -17,8 +17,8 @@ use Rattle.query_core.proofs.Splitting.{right_bit, right_one, set_one, left_with
 use Rattle.query_core.proofs.Splitting.{key_top_small}
 
 -- the parts of a join fit a word
-pub join_packed : (set : ℕ) (kind : JoinKind) (left right : KeyParts) → set < 1024 → IsInRange left → IsInRange right
-    → IsPacked (expr (groups.Join set) (join_by kind left right))
+pub join_packed : (set : ℕ) (kind : JoinKind) (left right : KeyParts) → IsInRange (groups.Join set) → IsInRange left
+    → IsInRange right → IsPacked (expr (groups.Join set) (join_by kind left right))
 join_packed set joins.Logical left right small in_left in_right =
     record { group = small; index = omega arith; children = (in_left, in_right) }
 join_packed set joins.Hash left right small in_left in_right =
@@ -61,7 +61,7 @@ abbrev pub NoneBefore : Query → ℕ → JoinKind → ℕ → ℕ → Type 0
 NoneBefore q set kind bound left = (a b : ℕ) → FallsInto q set a b → key_number (top_of q a) + 1 < left
     → word_of (join q set kind a b) < bound
 
-module _ (q : Query) (set : ℕ) (small : set < 1024) (kind : JoinKind) where
+module _ (q : Query) (set : ℕ) (small : IsInRange (groups.Join set)) (kind : JoinKind) where
   -- a set falls into one pair of sides whose left group has this key
   pub sides_one : (a b x y : ℕ) → FallsInto q set a b → FallsInto q set x y
       → key_number (top_of q a) ≡ key_number (top_of q x) → (a ≡ x) × (b ≡ y)

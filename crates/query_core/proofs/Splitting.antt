@@ -25,7 +25,7 @@ tables_top q set =
     (λ differs. refl)
 
 -- the group that joins tables of the first ten is in range
-pub top_in_range : (q : Query) (set : ℕ) → set < 1024 → IsInRange (top_of q set)
+pub top_in_range : (q : Query) (set : ℕ) → IsInRange (Join set) → IsInRange (top_of q set)
 top_in_range q set small =
     let least = trailing_zeros w32 set in
     let there : (set == 2 ^ least) ≡ true → least < 10 =
@@ -36,7 +36,7 @@ top_in_range q set small =
 
 -- of a number there is one such group, and one such set
 pub number_top : (q : Query) (set number : ℕ) (group : KeyParts) → IsInRange group → key_number group ≡ number
-    → set < 1024
+    → IsInRange (Join set)
     → key_number (top_of q set) ≡ number → group ≡ top_of q set
 number_top q set number group in_range is small top_is =
     key_one group (top_of q set) in_range (top_in_range q set small) (is ∙ sym top_is)
@@ -66,7 +66,7 @@ rest_disjoint set a rest left = same_tables (bit_and a rest) 0
     (λ t. omega (arith, left t, bit-and a rest t, bit-none t, bit-below a t, bit-below set t))
 
 -- groups in range join tables of the first ten
-pub tables_small : (group : KeyParts) → IsInRange group → tables_of group < 1024
+pub tables_small : (group : KeyParts) → IsInRange group → IsInRange (Join (tables_of group))
 tables_small (Get t) there = power_below t 10 there
 tables_small (Filter t) there = power_below t 10 there
 tables_small (Join set) small = small
@@ -74,7 +74,7 @@ tables_small Partial there = omega arith
 tables_small Agg there = omega arith
 
 -- the group of a set has a key below those of GROUP BY
-pub key_top_small : (q : Query) (set : ℕ) → set < 1024 → key_number (top_of q set) < 2048
+pub key_top_small : (q : Query) (set : ℕ) → IsInRange (Join set) → key_number (top_of q set) < 2048
 key_top_small q set small =
     let least = trailing_zeros w32 set in
     let there : (set == 2 ^ least) ≡ true → least < 10 =
@@ -86,7 +86,8 @@ key_top_small q set small =
     (λ differs. omega (arith, small))
 
 -- of a key there is one set whose group it names
-pub set_one : (q : Query) (a b : ℕ) → a < 1024 → b < 1024 → key_number (top_of q a) ≡ key_number (top_of q b) → a ≡ b
+pub set_one : (q : Query) (a b : ℕ) → IsInRange (Join a) → IsInRange (Join b)
+    → key_number (top_of q a) ≡ key_number (top_of q b) → a ≡ b
 set_one q a b a_small b_small same =
     let group = key_one (top_of q a) (top_of q b) (top_in_range q a a_small) (top_in_range q b b_small) same in
     sym (tables_top q a) ∙ (ap tables_of group ∙ tables_top q b)

@@ -127,7 +127,7 @@ impl Query {
     }
 
     fn next_join(&self, set: u32, kind: JoinKind, bound: u64) -> Option<Expr>
-        requires { set < 1024 }
+        requires { IsInRange (KeyParts.Join set) }
         ensures { FindsFrom (IsJoinBy self.now set kind) bound result }
     {
         for left in first_left(set, kind, bound)..2049 {
@@ -139,7 +139,7 @@ impl Query {
     }
 
     fn join_from(&self, set: u32, kind: JoinKind, left: u32, bound: u64) -> Option<Expr>
-        requires { set < 1024 }
+        requires { IsInRange (KeyParts.Join set) }
         ensures { FindsFrom (IsJoinAt self.now set kind left) bound result }
     {
         let a = self.left_side(left)?;
@@ -152,7 +152,7 @@ impl Query {
 // The number of the first left child with which a join of the set may have a word from the bound on. A left child's
 // number is that of its key, and 1.
 fn first_left(set: u32, kind: JoinKind, bound: u64) -> u64
-    requires { set < 1024 }
+    requires { IsInRange (KeyParts.Join set) }
     ensures { (left right : KeyParts) → key_number left + 1 < result → IsInRange right →
         word_of (expr (KeyParts.Join set) (join_by kind left right)) < bound }
 {

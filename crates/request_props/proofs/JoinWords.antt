@@ -7,7 +7,7 @@ use Rattle.std.proofs.lemmas.Bool.{cases_lt}
 use Rattle.std.proofs.lemmas.List.{get_or_append_left, get_or-append_right, get_or-map, get_or_default, length-map}
 use Rattle.std.proofs.lemmas.List.{length-append}
 use Rattle.std.proofs.lemmas.List.Elements.{All-map, All-append, Contains-append_left, Contains-append_right}
-use Rattle.query_core.specs.Keys.{IsGroup, key_number, top_of}
+use Rattle.query_core.specs.Keys.{IsInRange, IsGroup, key_number, top_of}
 use Rattle.query_core.specs.Expressions.{fields, fields_of, packed, word_of}
 use Rattle.query_core.specs.ByKind.{expr, join, join_by, IsJoinBy, IsOf}
 use Rattle.query_core.specs.declared.query.Query.{Query}
@@ -131,7 +131,7 @@ many_below set e same = omega (arith, ap word_of same)
 abbrev past_end : Sides
 past_end = record { left = Agg; right = Agg }
 
-module _ (q : Query) (set : ℕ) (small : set < 1024) where
+module _ (q : Query) (set : ℕ) (small : IsInRange (Join set)) where
   -- the words of the joins of a kind lie between where those of its operator begin and where those of the next do
   joins_below : (kind : JoinKind) (limit : ℕ) → words_from set (operator_number kind + 1) ≤ limit
       → AreBelow (IsJoinBy q set kind) limit

@@ -3,7 +3,7 @@
 
 ghost use Rattle.std.specs.Prelude.{◌≡◌, ◌<◌, [], ◌++◌, IfOk, OnOk};
 ghost use Rattle.std.specs.List.{All};
-ghost use Rattle.query_core.specs.Keys.{IsGroup};
+ghost use Rattle.query_core.specs.Keys.{IsInRange, IsGroup};
 ghost use Rattle.query_core.specs.Expressions.{word_of, IsPacked};
 ghost use Rattle.query_core.specs.ByKind.{expr};
 ghost use Rattle.request_props.specs.Groups.{AreKeys};
@@ -32,7 +32,7 @@ pub(crate) fn words_of_joins(
 
 // The word of the join of all tables, and behind it those of the joins over these sides.
 fn words_by_sides(alloc: Global, set: u32, sides: &[Sides]) -> Result<List<u64>, AllocError>
-    requires small { set < 1024 }
+    requires small { IsInRange (KeyParts.Join set) }
     requires in_range { All AreBothInRange sides.now }
     ensures { IfOk result (λ words. words ≡ words_over set sides.now) }
 {
@@ -43,7 +43,7 @@ fn words_by_sides(alloc: Global, set: u32, sides: &[Sides]) -> Result<List<u64>,
 
 fn push_words(words: &mut List<u64>, set: u32, sides: &[Sides]) -> Result<(), AllocError>
     requires none { words.old ≡ [] }
-    requires small { set < 1024 }
+    requires small { IsInRange (KeyParts.Join set) }
     requires in_range { All AreBothInRange sides.now }
     ensures { OnOk result (words.new ≡ words_over set sides.now) }
 {
@@ -61,7 +61,7 @@ fn push_joins(
     kind: JoinKind,
     sides: &[Sides],
 ) -> Result<(), AllocError>
-    requires small { set < 1024 }
+    requires small { IsInRange (KeyParts.Join set) }
     requires in_range { All AreBothInRange sides.now }
     ensures { OnOk result (words.new ≡ words.old ++ join_words set kind sides.now) }
 {
