@@ -1,5 +1,5 @@
 -- Requests, and their numbers.
-use Rattle.std.specs.Prelude.{ℕ, ◌≡◌, ◌+◌, ◌*◌, ◌<◌, ◌≤◌, ⊤}
+use Rattle.std.specs.Prelude.{ℕ, ◌≡◌, ◌+◌, ◌*◌, ◌/◌, ◌%◌, ◌<◌, ◌≤◌, ⊤}
 use Rattle.request_props.specs.declared.request.Dist.{Dist}
 use Rattle.request_props.specs.declared.request.Dist.TheVariants.{One, Spread, Copies, Hashed}
 use Rattle.request_props.specs.declared.request.Request.{Request}
@@ -26,6 +26,14 @@ dist_code (Hashed list) = 3 + list
 -- the number of a request
 abbrev pub code_of : Request → ℕ
 code_of request = dist_code request.dist * 64 + request.order
+
+-- the number of the distribution in that of a request, as a function of any number
+abbrev pub dist_field : ℕ → ℕ
+dist_field code = code / 64
+
+-- the number of the order in it
+abbrev pub order_field : ℕ → ℕ
+order_field code = code % 64
 
 -- the number is that of the request
 pub record HasCode (request : Request) (code : ℕ) : Type 0 where

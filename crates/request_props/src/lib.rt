@@ -27,6 +27,6 @@ pub use number_set::NumberSet;
 pub use numbering::listing_is_one;
 pub use physical::PhysicalCandidate;
 pub use props::Props;
-pub use request::{Dist, Request, code, request_of};
+pub use request::{Dist, Request, code, dist_code, dist_field, order_field, request_of};
 pub use satisfaction::{meets, satisfies};
 pub use sides::Side;

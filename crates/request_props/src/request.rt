@@ -3,6 +3,7 @@ ghost use Rattle.request_props.specs.declared.request.Request.{Request};
 ghost use Rattle.request_props.specs.declared.request.Dist.{Dist};
 ghost use Rattle.request_props.specs.Requests.{IsInRange, IsDistInRange, dist_code as dist_number};
 ghost use Rattle.request_props.specs.Requests.{code_of, HasCode};
+ghost use Rattle.request_props.specs.Requests.{dist_field as dist_in, order_field as order_in};
 
 /// The distribution that is asked for.
 #[derive(Clone, Copy, Debug, PartialEq, Eq)]
@@ -36,17 +37,32 @@ pub fn code(request: Request) -> u32
 pub fn request_of(code: u32) -> Option<Request>
     ensures exact { (r : Request) → HasCode r code ↔ (result ≡ Some r) }
 {
-    let order = code % 64;
+    let order = order_field(code);
     if order > 60 {
         return None;
     }
-    match dist_of(code / 64) {
+    match dist_of(dist_field(code)) {
         Some(dist) => Some(Request { dist, order }),
         None => None,
     }
 }
 
-fn dist_code(dist: Dist) -> u32
+/// The number of the distribution in that of a request.
+pub fn dist_field(code: u32) -> u32
+    ensures { result ≡ dist_in code }
+{
+    code / 64
+}
+
+/// The number of the order in that of a request.
+pub fn order_field(code: u32) -> u32
+    ensures { result ≡ order_in code }
+{
+    code % 64
+}
+
+/// The distribution's number.
+pub fn dist_code(dist: Dist) -> u32
     requires { IsDistInRange dist }
     ensures value { result ≡ dist_number dist }
     ensures few { result < 63 }
