@@ -75,7 +75,7 @@ fn push_joined(alloc: Global, found: &mut Vec<List<u32>>, query: &Query) -> Resu
     ensures { OnOk result (found.new.items ≡ found.old.items ++ one_each (columns_joined query.now)) }
 {
     let columns = joined_columns(alloc, query)?;
-    push_alone(alloc, found, columns.as_slice())
+    push_one_each(alloc, found, columns.as_slice())
 }
 
 fn push_joined_orders(
@@ -100,7 +100,7 @@ fn push_ascending(
     ensures { OnOk result (found.new.items ≡ found.old.items ++ one_each (ascending_of columns.now)) }
 {
     let orders = ascending(alloc, columns)?;
-    push_alone(alloc, found, orders.as_slice())
+    push_one_each(alloc, found, orders.as_slice())
 }
 
 fn push_table_lists(
@@ -181,7 +181,12 @@ fn are_apart(items: &[Item], left: u32, right: u32) -> bool
     }
 }
 
-fn push_alone(alloc: Global, found: &mut Vec<List<u32>>, numbers: &[u32]) -> Result<(), AllocError>
+// Adds each of the numbers as a list of its own.
+fn push_one_each(
+    alloc: Global,
+    found: &mut Vec<List<u32>>,
+    numbers: &[u32],
+) -> Result<(), AllocError>
     ensures { OnOk result (found.new.items ≡ found.old.items ++ one_each numbers.now) }
 {
     for number in numbers {
