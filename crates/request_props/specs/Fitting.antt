@@ -1,16 +1,16 @@
 -- Which requests fit which groups.
-use Rattle.std.specs.Prelude.{ℕ, ◌<◌, length, ⊤}
+use Rattle.std.specs.Prelude.{ℕ, ⊤}
 use Rattle.query_core.specs.declared.query.Query.{Query}
 use Rattle.query_core.specs.declared.words.KeyParts.{KeyParts}
 use Rattle.request_props.specs.Lying.{ListLiesIn, OrderLiesIn}
-use Rattle.request_props.specs.Numbered.{lists_of, list_of, IsNumbered, order_of}
+use Rattle.request_props.specs.Numbered.{list_of, IsList, IsNumbered, order_of}
 use Rattle.request_props.specs.declared.request.Dist.{Dist}
 use Rattle.request_props.specs.declared.request.Dist.TheVariants.{One, Spread, Copies, Hashed}
 use Rattle.request_props.specs.declared.request.Request.{Request}
 
 -- the list has a number, and lies in the group
 pub record HashFits (q : Query) (group : KeyParts) (list : ℕ) : Type 0 where
-  pub numbered : list < length (lists_of q)
+  pub numbered : IsList q list
   pub lies_in : ListLiesIn q group (list_of q list)
 
 -- the order has a number, and lies in the group

@@ -38,6 +38,10 @@ lists_of q = listing_of (found_lists q)
 abbrev pub orders_of : Query → List (List ℕ)
 orders_of q = listing_of (found_orders q)
 
+-- some hashed list has the number
+abbrev pub IsList : Query → ℕ → Type 0
+IsList q number = number < length (lists_of q)
+
 -- some order has the number; the empty order has 0
 abbrev pub IsNumbered : Query → ℕ → Type 0
 IsNumbered q number = number ≤ length (orders_of q)

@@ -19,7 +19,7 @@ pub fn satisfies(query: &Query, props: &Props, given: Given, request: Request) -
     requires request { IsNumbered query.now request.order }
     ensures { IsTrue result ↔ Satisfies query.now given request }
 {
-    meets(given.dist, request.dist) && has_order(query, props, given.order, request.order)
+    meets(given.dist, request.dist) && order_meets(query, props, given.order, request.order)
 }
 
 /// Whether rows that lie so are distributed as asked.
@@ -36,7 +36,7 @@ pub fn meets(given: GivenDist, wanted: Dist) -> bool
     }
 }
 
-fn has_order(query: &Query, props: &Props, given: GivenOrder, wanted: u32) -> bool
+fn order_meets(query: &Query, props: &Props, given: GivenOrder, wanted: u32) -> bool
     requires props { IsProps query.now props.now }
     requires given { IsOrderKnown query.now given }
     requires wanted { IsNumbered query.now wanted }

@@ -103,7 +103,7 @@ impl Props {
         requires { IsProps query.now self.now }
         ensures { IsTrue result ↔ OrderFits query.now group order }
     {
-        order as usize <= self.orders.len() && keys_lie_in(query, group, self.order(order))
+        self.has_order(query, order) && keys_lie_in(query, group, self.order(order))
     }
 }
 

@@ -6,7 +6,7 @@ ghost use Rattle.query_core.specs.Keys.{IsGroup, IsKey, Names};
 ghost use Rattle.query_core.specs.declared.words.KeyParts.{KeyParts as Group};
 ghost use Rattle.cardinality.specs.Rows.{rows_of};
 ghost use Rattle.request_props.specs.Candidates.{AreCandidatesOf, ArePhysicalOf, FindsNext};
-ghost use Rattle.request_props.specs.Numbered.{IsProps};
+ghost use Rattle.request_props.specs.Numbered.{IsProps, IsList, IsNumbered};
 ghost use Rattle.request_props.specs.Numbered.{table_dist as dist_of_table, group_order as order_of_groups};
 ghost use Rattle.request_props.specs.Numbered.{is_grouped_list as is_list_grouped};
 
@@ -95,6 +95,22 @@ impl Props {
             Some(dist) => *dist,
             None => GivenDist::Random,
         }
+    }
+
+    /// Whether a hashed list has the number.
+    pub fn has_list(&self, query: &Query, list: u32) -> bool
+        requires { IsProps query.now self.now }
+        ensures { IsTrue result ↔ IsList query.now list }
+    {
+        (list as usize) < self.hashed.len()
+    }
+
+    /// Whether an order has the number; the empty order has 0.
+    pub fn has_order(&self, query: &Query, order: u32) -> bool
+        requires { IsProps query.now self.now }
+        ensures { IsTrue result ↔ IsNumbered query.now order }
+    {
+        order as usize <= self.orders.len()
     }
 
     /// Whether the list has a number, and all of its columns are in GROUP BY.
