@@ -1,10 +1,10 @@
 -- The nodes of a query.
-use Rattle.std.specs.Prelude.{ℕ, ◌≤◌, ◌<◌, length, ⊤}
+use Rattle.std.specs.Prelude.{ℕ, ◌≤◌, ⊤}
 use Rattle.std.specs.Option.{IsSome}
 use Rattle.query_core.specs.Expressions.{expr_of, IsCandidate}
 use Rattle.query_core.specs.declared.query.Query.{Query}
 use Rattle.query_core.specs.declared.expressions.PhysicalExpr.{PhysicalExpr}
-use Rattle.request_props.specs.Numbered.{lists_of, IsNumbered}
+use Rattle.request_props.specs.Numbered.{IsList, IsNumbered}
 use Rattle.plan_space.specs.declared.nodes.Enforcer.{Enforcer}
 use Rattle.plan_space.specs.declared.nodes.Enforcer.TheVariants as enforcers
 use Rattle.plan_space.specs.declared.nodes.NodeKind.{NodeKind}
@@ -17,10 +17,6 @@ use Rattle.plan_tree.specs.declared.node.Node.{Node}
 pub record IsOrder (q : Query) (order : ℕ) : Type 0 where
   pub not_empty : 1 ≤ order
   pub numbered : IsNumbered q order
-
--- the query has the hashed list
-abbrev pub IsList : Query → ℕ → Type 0
-IsList q list = list < length (lists_of q)
 
 -- what the enforcer sorts or moves by is an order or a list of the query
 abbrev pub IsEnforcerOf : Query → Enforcer → Type 0

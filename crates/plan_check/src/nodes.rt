@@ -74,7 +74,7 @@ fn is_enforcer_of(query: &Query, props: &Props, enforcer: Enforcer) -> bool
         Enforcer::Broadcast => true,
         Enforcer::Sort(order) => is_order(query, props, order),
         Enforcer::GatherMerge(order) => is_order(query, props, order),
-        Enforcer::Redistribute(list) => (list as usize) < props.hashed.len(),
+        Enforcer::Redistribute(list) => props.has_list(query, list),
     }
 }
 
@@ -82,5 +82,5 @@ fn is_order(query: &Query, props: &Props, order: u32) -> bool
     requires { IsProps query.now props.now }
     ensures { IsTrue result ↔ IsOrder query.now order }
 {
-    1 <= order && order as usize <= props.orders.len()
+    1 <= order && props.has_order(query, order)
 }

@@ -77,7 +77,7 @@ fn keys_of<'a>(query: &Query, props: &'a Props, number: u32) -> &'a [OrderKey]
     requires { IsProps query.now props.now }
     ensures { elements_of result.now ≡ order_of query.now number }
 {
-    if number as usize <= props.orders.len() {
+    if props.has_order(query, number) {
         props.order(number)
     } else {
         &[]
