@@ -4,6 +4,7 @@ use Rattle.std.specs.Prelude.{IfSome}
 use Rattle.query_core.specs.declared.query.Query.{Query}
 use Rattle.query_core.specs.declared.expressions.ExprParts.{ExprParts}
 use Rattle.xform_rules.specs.Closure.{IsMember}
+use Rattle.request_props.specs.Numbered.{IsWithinLimits}
 use Rattle.board_rule.specs.Looks.{ShowsPromise}
 use Rattle.board_rule.specs.declared.hands.Hands.{Hands}
 use Rattle.goal_board.specs.declared.board.Right.{Right}
@@ -24,7 +25,7 @@ use Rattle.goal_space.specs.declared.goals.GoalKind.TheVariants.{Exp, ExpE, Xf, 
 use Rattle.goal_rules.specs.Meaning.{meaning_of}
 use Rattle.goal_rules.specs.Answers.{AreWordsOf, IsAnswerWord}
 use Rattle.goal_rules.specs.declared.rules.Rules.{Rules}
-use Rattle.job_turns.specs.Laws.{IsSmall, ChildrenAreKnown, AskedAreKnown}
+use Rattle.job_turns.specs.Laws.{ChildrenAreKnown, AskedAreKnown}
 use Rattle.job_turns.specs.Works.{WorksOn}
 use Rattle.job_turns.specs.Choices.{most_word, AnswersAreKnown, FindsChoice, Chooses, IsProgressOf}
 use Rattle.job_turns.specs.declared.choice.Choice.{Choice}
@@ -59,7 +60,7 @@ answers_known q one words requests fit small goal word cost node names is =
       small = best_small q fit goal is.answer (requests goal names.is_goal) answer;
     }
 
-module _ (q : Query) (room : ℕ) (small : IsSmall q) (children : ChildrenAreKnown q) (asked : AskedAreKnown q)
+module _ (q : Query) (room : ℕ) (small : IsWithinLimits q) (children : ChildrenAreKnown q) (asked : AskedAreKnown q)
     (goal : GoalKind) (asks_none : (e : ExprParts) → AsksFor q goal e → ⊥)
     (v : Hands Rules) (before : Right) (names : NamesGoal q before.goal goal) where
   -- the work waits, or found no cell

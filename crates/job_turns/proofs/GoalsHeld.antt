@@ -5,11 +5,11 @@ use Rattle.query_core.specs.Goals.{goal_bit, FitsExpr}
 use Rattle.query_core.specs.declared.query.Query.{Query}
 use Rattle.query_core.specs.declared.expressions.ExprParts.{ExprParts}
 use Rattle.xform_rules.specs.Closure.{IsMember}
+use Rattle.request_props.specs.Numbered.{IsWithinLimits}
 use Rattle.goal_space.specs.Words.{HasWord}
 use Rattle.goal_space.specs.Entries.{NamesGoal, IsEntry, IsGoalWord}
 use Rattle.goal_space.specs.Laws.{GoalsHaveWords}
 use Rattle.goal_space.specs.declared.goals.GoalKind.{GoalKind}
-use Rattle.job_turns.specs.Laws.{IsSmall}
 
 module _ (q : Query) where
   -- the word of a member lacks the bit of goals
@@ -19,7 +19,7 @@ module _ (q : Query) where
   held_goal small word (inr named) high = named
 
   -- the goal of a word that is told
-  pub kind_is : GoalsHaveWords q → IsSmall q → (word : ℕ) → IsGoalWord q word → (found : Option GoalKind)
+  pub kind_is : GoalsHaveWords q → IsWithinLimits q → (word : ℕ) → IsGoalWord q word → (found : Option GoalKind)
       → ((k : GoalKind) → HasWord k word ↔ (found ≡ Some k)) → (goal : GoalKind) × NamesGoal q word goal
       × (found ≡ Some goal)
   kind_is words small word (goal, names) found exact = (

@@ -4,6 +4,7 @@ use Rattle.query_core.specs.Expressions.{origin_of}
 use Rattle.query_core.specs.declared.query.Query.{Query}
 use Rattle.query_core.specs.declared.words.KeyParts.{KeyParts}
 use Rattle.query_core.proofs.ExpressionLemmas.{word_some}
+use Rattle.request_props.specs.Numbered.{IsWithinLimits}
 use Rattle.goal_space.specs.Words.{goal_word}
 use Rattle.goal_space.specs.Entries.{NamesGoal, IsChildWord}
 use Rattle.goal_space.specs.declared.goals.GoalKind.TheVariants.{Exp}
@@ -11,7 +12,7 @@ use Rattle.goal_rules.specs.Explored.{explored, origin_word, IsLogicalWord, IsEx
 use Rattle.goal_rules.specs.Explored.{IsExplorationOf}
 use Rattle.goal_rules.specs.Meaning.{meaning_of}
 use Rattle.board_moves.specs.Collects.{IsReached, from_origin, from_child, IsExploration, ExplorationAdds}
-use Rattle.job_turns.specs.Laws.{IsSmall, ChildrenAreKnown}
+use Rattle.job_turns.specs.Laws.{ChildrenAreKnown}
 use Rattle.job_turns.specs.Works.{Adds}
 
 module _ (q : Query) (group : KeyParts) where
@@ -38,7 +39,7 @@ module _ (q : Query) (group : KeyParts) where
   }
 
   -- what the work of an exploration puts in the turn may put in
-  pub exploration_adds : ChildrenAreKnown q → IsSmall q → (word : ℕ) → NamesGoal q word (Exp group) → (other : ℕ)
+  pub exploration_adds : ChildrenAreKnown q → IsWithinLimits q → (word : ℕ) → NamesGoal q word (Exp group) → (other : ℕ)
       → ExplorationAdds (meaning_of q) (origin_word q group) word other → Adds q (Exp group) other
   exploration_adds children small word names other adds =
       ⊎_elim (λ (is : IsChildWord q word other). inl (children small (Exp group) word other names is))

@@ -10,6 +10,7 @@ use Rattle.xform_rules.specs.Closure.{IsMember, root_origin, child_origin, resul
 use Rattle.xform_rules.specs.Results.{Applies, HasResult}
 use Rattle.xform_rules.specs.Rules.{explores}
 use Rattle.xform_rules.specs.declared.rules.Rule.{Rule}
+use Rattle.request_props.specs.Numbered.{IsWithinLimits}
 use Rattle.board_rule.specs.Looks.{ShowsFinished, child_of, ShowsEntry, asked_by}
 use Rattle.goal_space.specs.Words.{goal_word}
 use Rattle.goal_space.specs.Children.{IsChildGoal, IsLogicalIn}
@@ -31,7 +32,7 @@ use Rattle.board_moves.proofs.Shown.{still_finished}
 use Rattle.board_moves.proofs.MovesLemmas.{proceeds_then, later_proceeded}
 use Rattle.board_moves.proofs.Working.{works_end}
 use Rattle.job_turns.specs.Groups.{implemented}
-use Rattle.job_turns.specs.Laws.{IsSmall, ChildrenAreKnown, AskedAreKnown}
+use Rattle.job_turns.specs.Laws.{ChildrenAreKnown, AskedAreKnown}
 use Rattle.job_turns.specs.Works.{Adds, WorksOn}
 use Rattle.job_turns.proofs.Promises.{goes_on, promise_shown}
 
@@ -165,7 +166,7 @@ module _ (q : Query) (group : KeyParts) where
 
   -- the end of the work: the group is explored, and the goals of all logical members were awaited
   pub implement_works : ResultLaws q → ((e : ExprParts) → IsMember q e → IsCandidate q e) → ChildrenAreKnown q
-      → AskedAreKnown q → IsSmall q → (room : ℕ) (v u w : Hands Rules) (start middle after : Right) (number : ℕ)
+      → AskedAreKnown q → IsWithinLimits q → (room : ℕ) (v u w : Hands Rules) (start middle after : Right) (number : ℕ)
       (came : Progress)
       → NamesGoal q start.goal (Imp group) → Proceeds (IsChildWord q start.goal) v start u middle
       → ShowsFinished (meaning_of q) room u.looks (goal_word (Exp group))

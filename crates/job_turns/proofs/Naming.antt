@@ -2,6 +2,7 @@
 use Rattle.std.proofs.Common.{◌≡◌, ℕ, ◌∙◌, refl, sym, subst}
 use Rattle.query_core.specs.declared.query.Query.{Query}
 use Rattle.xform_rules.specs.Closure.{IsMember}
+use Rattle.request_props.specs.Numbered.{IsWithinLimits}
 use Rattle.goal_space.specs.Words.{goal_word, IsInRange}
 use Rattle.goal_space.specs.Children.{IsChildGoal}
 use Rattle.goal_space.specs.Asked.{AsksFor}
@@ -9,14 +10,14 @@ use Rattle.goal_space.specs.Goals.{child_goal}
 use Rattle.goal_space.specs.Entries.{NamesGoal}
 use Rattle.goal_space.specs.Laws.{GoalsHaveWords}
 use Rattle.goal_space.specs.declared.goals.GoalKind.{GoalKind}
-use Rattle.job_turns.specs.Laws.{IsSmall, ChildrenAreKnown, AskedAreKnown, ChildrenHaveWords}
+use Rattle.job_turns.specs.Laws.{ChildrenAreKnown, AskedAreKnown, ChildrenHaveWords}
 
 -- no two goals have one word
 abbrev pub WordsAreOne : Type 0
 WordsAreOne = (k l : GoalKind) → IsInRange k → IsInRange l → goal_word k ≡ goal_word l → k ≡ l
 
 module _ (q : Query) where
-  same_goal : WordsAreOne → GoalsHaveWords q → IsSmall q → (word : ℕ) (goal other : GoalKind) → NamesGoal q word goal
+  same_goal : WordsAreOne → GoalsHaveWords q → IsWithinLimits q → (word : ℕ) (goal other : GoalKind) → NamesGoal q word goal
       → NamesGoal q word other → other ≡ goal
   same_goal one words small word goal other names also =
       one other goal (words small.few_lists small.few_orders other also.is_goal)

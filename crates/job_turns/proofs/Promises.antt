@@ -4,6 +4,7 @@ use Rattle.query_core.specs.Expressions.{word_of}
 use Rattle.query_core.specs.declared.query.Query.{Query}
 use Rattle.query_core.specs.declared.expressions.ExprParts.{ExprParts}
 use Rattle.xform_rules.specs.Closure.{IsMember}
+use Rattle.request_props.specs.Numbered.{IsWithinLimits}
 use Rattle.board_rule.specs.Looks.{ShowsFinished, ShowsEntry, ShowsPromise}
 use Rattle.board_rule.specs.declared.hands.Hands.{Hands}
 use Rattle.goal_board.specs.declared.board.Right.{Right}
@@ -19,10 +20,10 @@ use Rattle.goal_space.specs.Entries.{NamesGoal, IsChildWord}
 use Rattle.goal_space.specs.declared.goals.GoalKind.{GoalKind}
 use Rattle.goal_rules.specs.Meaning.{meaning_of}
 use Rattle.goal_rules.specs.declared.rules.Rules.{Rules}
-use Rattle.job_turns.specs.Laws.{IsSmall, ChildrenAreKnown, AskedAreKnown}
+use Rattle.job_turns.specs.Laws.{ChildrenAreKnown, AskedAreKnown}
 use Rattle.job_turns.specs.Works.{Adds, HasAwaited, WorksOn}
 
-module _ (q : Query) (children : ChildrenAreKnown q) (small : IsSmall q) (goal : GoalKind) where
+module _ (q : Query) (children : ChildrenAreKnown q) (small : IsWithinLimits q) (goal : GoalKind) where
   -- a child's word may be put in
   pub child_adds : (word : ℕ) → NamesGoal q word goal → (child : ℕ) → IsChildWord q word child → Adds q goal child
   child_adds word names child is = inl (children small goal word child names is)

@@ -16,6 +16,7 @@ use Rattle.xform_rules.specs.Forms.{IsLogical, IsLeftSide}
 use Rattle.xform_rules.specs.Rules.{binds}
 use Rattle.xform_rules.specs.Results.{GivesWith, HasResult}
 use Rattle.xform_rules.specs.declared.rules.Rule.{Rule}
+use Rattle.request_props.specs.Numbered.{IsWithinLimits}
 use Rattle.board_rule.specs.Looks.{ShowsFinished}
 use Rattle.board_rule.specs.declared.hands.Hands.{Hands}
 use Rattle.goal_board.specs.declared.board.Right.{Right}
@@ -33,7 +34,7 @@ use Rattle.goal_space.specs.declared.goals.GoalKind.{GoalKind}
 use Rattle.goal_space.specs.declared.goals.GoalKind.TheVariants.{Exp, Xf}
 use Rattle.goal_rules.specs.Meaning.{meaning_of}
 use Rattle.goal_rules.specs.declared.rules.Rules.{Rules}
-use Rattle.job_turns.specs.Laws.{IsSmall, ChildrenAreKnown, AskedAreKnown}
+use Rattle.job_turns.specs.Laws.{ChildrenAreKnown, AskedAreKnown}
 use Rattle.job_turns.specs.Results.{IsBroughtAt, IsBroughtWith, IsBroughtBelow, IsBroughtFrom, IsLeftOf}
 use Rattle.job_turns.specs.Works.{Adds, HasPut, WorksOn}
 use Rattle.job_turns.proofs.Promises.{promise_shown}
@@ -71,7 +72,7 @@ left_one arities.Zero group other left also = absurd left
 left_one (arities.One child) group other left also = left ∙ sym also
 left_one (arities.Two first second) group other left also = left ∙ sym also
 
-module _ (q : Query) (children : ChildrenAreKnown q) (asked : AskedAreKnown q) (small : IsSmall q) (e : ExprParts)
+module _ (q : Query) (children : ChildrenAreKnown q) (asked : AskedAreKnown q) (small : IsWithinLimits q) (e : ExprParts)
     (rule : Rule) where
   asked_adds : (word : ℕ) → NamesGoal q word (Xf e rule) → (other : ℕ) → IsAskedWord q word other
       → Adds q (Xf e rule) other

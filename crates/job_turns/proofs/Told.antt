@@ -2,6 +2,7 @@
 use Rattle.std.proofs.Common.{◌≡◌, ◌<◌, ℕ, Option, refl, sym, subst}
 use Rattle.std.specs.Prelude.{IfSome}
 use Rattle.query_core.specs.declared.query.Query.{Query}
+use Rattle.request_props.specs.Numbered.{IsWithinLimits}
 use Rattle.board_rule.specs.declared.hands.Hands.{Hands}
 use Rattle.goal_board.specs.declared.board.Right.{Right}
 use Rattle.goal_board.specs.declared.answers.Answer.{Answer}
@@ -16,7 +17,6 @@ use Rattle.goal_space.specs.declared.goals.GoalKind.{GoalKind}
 use Rattle.goal_rules.specs.Meaning.{meaning_of}
 use Rattle.goal_rules.specs.Answers.{AreWordsOf}
 use Rattle.goal_rules.specs.declared.rules.Rules.{Rules}
-use Rattle.job_turns.specs.Laws.{IsSmall}
 use Rattle.job_turns.specs.Works.{IsChildOf}
 use Rattle.job_turns.specs.Choices.{most_word, AnswersAreKnown, FindsChoice}
 use Rattle.job_turns.specs.declared.choice.Choice.TheVariants.{Known}
@@ -28,7 +28,7 @@ module _ (q : Query) (room : ℕ) where
   names_child word child is = record { is_goal = child_goal is.0 child is.1.is_goal is.2; number = refl }
 
   -- the child is finished, and the words of its answer tell the answer
-  pub known_child : IsSmall q → AnswersAreKnown q → (v : Hands Rules) (before : Right) (child : GoalKind)
+  pub known_child : IsWithinLimits q → AnswersAreKnown q → (v : Hands Rules) (before : Right) (child : GoalKind)
       → IsChildOf q before.goal child → (answer : Answer) (w : Hands Rules) (after : Right)
       → Awaits (meaning_of q) room v before (goal_word child) (progress.Complete answer) w after → (best : Option Best)
       → ((other : Option Best) → AreWordsOf other answer.cost answer.node → IfSome other (λ b. b.cost < most_word)

@@ -8,6 +8,7 @@ use Rattle.query_core.specs.declared.words.KeyParts.{KeyParts}
 use Rattle.query_core.specs.declared.expressions.PhysicalExpr.{PhysicalExpr}
 use Rattle.xform_rules.specs.Closure.{IsMember}
 use Rattle.request_props.specs.Fitting.{Fits}
+use Rattle.request_props.specs.Numbered.{IsWithinLimits}
 use Rattle.request_props.specs.declared.request.Request.{Request}
 use Rattle.plan_space.specs.Lines.{line_of}
 use Rattle.plan_space.specs.Alternatives.{IsAlternative, asked_of}
@@ -33,7 +34,6 @@ use Rattle.goal_space.specs.declared.goals.GoalKind.{GoalKind}
 use Rattle.goal_space.specs.declared.goals.GoalKind.TheVariants.{Opt}
 use Rattle.goal_rules.specs.Answers.{AreWordsOf, IsAnswerWord}
 use Rattle.goal_rules.specs.declared.rules.Rules.{Rules}
-use Rattle.job_turns.specs.Laws.{IsSmall}
 use Rattle.job_turns.specs.Works.{IsChildOf, HasAwaited}
 use Rattle.job_turns.specs.declared.choice.Choice.{Choice}
 use Rattle.job_turns.specs.declared.choice.Choice.TheVariants.{Known, Open}
@@ -54,7 +54,7 @@ pub record TellsAnswer (q : Query) (goal : GoalKind) (cost node : ℕ) : Type 0 
 
 -- the words of the answer of a goal of the query tell it
 abbrev pub AnswersAreKnown : Query → Type 0
-AnswersAreKnown q = IsSmall q → (goal : GoalKind) (word cost node : ℕ) → NamesGoal q word goal
+AnswersAreKnown q = IsWithinLimits q → (goal : GoalKind) (word cost node : ℕ) → NamesGoal q word goal
     → IsAnswerWord q word cost node → TellsAnswer q goal cost node
 
 -- ---- choices

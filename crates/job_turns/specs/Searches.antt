@@ -1,6 +1,7 @@
 -- The board of a query's search, its seats, rights and jobs.
 use Rattle.std.specs.Prelude.{◌≡◌, ℕ}
 use Rattle.query_core.specs.declared.query.Query.{Query}
+use Rattle.request_props.specs.Numbered.{IsWithinLimits}
 use Rattle.board_rule.specs.Meaning.{Meaning}
 use Rattle.goal_board.specs.declared.board.Board.{Board}
 use Rattle.goal_board.specs.declared.board.Seat.{Seat}
@@ -10,7 +11,6 @@ use Rattle.goal_board.specs.RightCalls.{IsRightOf}
 use Rattle.board_moves.specs.declared.job.Job.{Job}
 use Rattle.goal_rules.specs.declared.rules.Rules.{Rules}
 use Rattle.goal_rules.specs.Meaning.{meaning_of}
-use Rattle.job_turns.specs.Laws.{IsSmall}
 
 -- what the rules of a search mean
 abbrev pub rules_mean : Rules → Meaning
@@ -19,7 +19,7 @@ rules_mean rules = meaning_of rules.query.now
 -- the board's rules are those of the query, which has at most 60 hashed lists and orders
 pub record IsBoardOf (q : Query) (b : Board Rules) : Type 0 where
   pub same_query : b.key.rules.query.now ≡ q
-  pub small : IsSmall q
+  pub small : IsWithinLimits q
 
 -- the seat is one of this board
 abbrev pub IsSeat : Board Rules → Seat Rules → Type 0

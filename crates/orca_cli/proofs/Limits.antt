@@ -4,10 +4,9 @@ use Rattle.std.proofs.Common.{arith}
 use Rattle.query_core.specs.declared.query.Query.{Query}
 use Rattle.request_props.specs.Found.{one_each, ascending, elements_of, sides_of, unless_empty}
 use Rattle.request_props.specs.Listing.{listing_of}
-use Rattle.request_props.specs.Numbered.{lists_of, orders_of, IsRefusedFor}
+use Rattle.request_props.specs.Numbered.{lists_of, orders_of, IsWithinLimits, IsRefusedFor}
 use Rattle.request_props.specs.declared.fault.PropsFault.{PropsFault}
 use Rattle.request_props.specs.declared.fault.PropsFault.TheVariants.{TooManyLists, TooManyOrders, Memory}
-use Rattle.orca_cli.specs.Asked.{IsWithinLimits}
 use Rattle.orca_cli.proofs.Queries.{AreAlike}
 
 module _ (q r : Query) (same : AreAlike q r) where

@@ -3,13 +3,13 @@ use Rattle.std.proofs.Common.{◌≡◌, ℕ, Bool, true, false, List, [], ◌++
 use Rattle.std.proofs.lemmas.List.{append-nil}
 use Rattle.query_core.specs.declared.query.Query.{Query}
 use Rattle.xform_rules.specs.Closure.{IsClosureOf}
+use Rattle.request_props.specs.Numbered.{IsWithinLimits}
 use Rattle.goal_children.specs.Listed.{AreGoalsOf}
 use Rattle.job_trace.specs.Memo as memos
 use Rattle.job_trace.specs.Trace as traces
 use Rattle.job_trace.specs.Trace.{IsTraceText}
 use Rattle.command_line.specs.declared.choices.Choices.{Choices}
 use Rattle.command_line.specs.declared.command.GenInput.{GenInput}
-use Rattle.orca_cli.specs.Asked.{IsWithinLimits}
 use Rattle.orca_cli.specs.Laws.{by, AreLines, SameTexts}
 use Rattle.orca_cli.specs.Sections.{IsMemo, IsTrace, StartsMemo, StartsTrace, IsSectionText, IsWhere, GoesOn}
 use Rattle.orca_cli.specs.Sections.{first_line, gen_line, HasFirstLines}

@@ -1,5 +1,5 @@
 -- What a text asks for over a catalogue: a query, or the cause why it is refused.
-use Rattle.std.specs.Prelude.{ℕ, List, ◌≡◌, ◌≢◌, ◌≤◌, ◌⊎◌, length, Ok, Err}
+use Rattle.std.specs.Prelude.{ℕ, List, ◌≡◌, ◌≢◌, ◌⊎◌, Ok, Err}
 use Rattle.catalog_json.specs.Outcome.{reading_of}
 use Rattle.catalog_json.specs.declared.fault.CatalogFault.{CatalogFault}
 use Rattle.catalog_json.specs.declared.fault.CatalogFault.TheVariants as catalogs
@@ -12,7 +12,7 @@ use Rattle.sql_bind.specs.declared.fault.BindFault.TheVariants as names
 use Rattle.query_core.specs.declared.catalog.Catalog.{Catalog}
 use Rattle.query_core.specs.declared.options.Options.{Options}
 use Rattle.query_core.specs.declared.query.Query.{Query}
-use Rattle.request_props.specs.Numbered.{lists_of, orders_of, IsRefusedFor}
+use Rattle.request_props.specs.Numbered.{IsWithinLimits, IsRefusedFor}
 use Rattle.request_props.specs.declared.fault.PropsFault.{PropsFault}
 use Rattle.request_props.specs.declared.fault.PropsFault.TheVariants as limits
 use Rattle.orca_cli.specs.Texts.{catalog_cause, sql_cause, bind_cause, props_cause}
@@ -37,11 +37,6 @@ pub record IsBoundAs (catalog : Catalog) (options : Options) (text : List ℕ) (
   pub select : Select
   pub reading : IsReading text select
   pub bound : IsBound select catalog options query
-
--- the query has at most 60 hashed lists and at most 60 orders
-pub record IsWithinLimits (query : Query) : Type 0 where
-  pub few_lists : length (lists_of query) ≤ 60
-  pub few_orders : length (orders_of query) ≤ 60
 
 -- the text asks for this query, and the query is within the limits
 pub record Asks (catalog : Catalog) (options : Options) (text : List ℕ) (query : Query) : Type 0 where

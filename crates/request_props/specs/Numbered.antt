@@ -165,6 +165,11 @@ pub record ArePlacementTables (q : Query) (tables : PlacementTables) : Type 0 wh
   pub of_orders : AreTablesOf q (map items_of (orders_of q)) tables.of_orders
   pub by_groups : tables.by_groups ≡ group_order q
 
+-- the query has at most 60 hashed lists and at most 60 orders
+pub record IsWithinLimits (q : Query) : Type 0 where
+  pub few_lists : length (lists_of q) ≤ 60
+  pub few_orders : length (orders_of q) ≤ 60
+
 -- the hashed lists and the orders of the query, at most 60 of each, what is asked of its whole plan, and what else a
 -- plan's nodes want to know
 pub record IsProps (q : Query) (props : Props) : Type 0 where
