@@ -1,5 +1,5 @@
 -- The rank by a goal's word is the goal's rank.
-use Rattle.std.proofs.Common.{◌≡◌, ℕ, ◌+◌, ◌-◌, ◌/◌, ◌%◌, refl, ap, ◌∙◌, arith}
+use Rattle.std.proofs.Common.{◌≡◌, ℕ, ◌+◌, ◌-◌, refl, ap, ◌∙◌, arith}
 use Rattle.std.proofs.lemmas.Bool.{lt-ltb, le-ltb, ne_eqb}
 use Rattle.query_core.specs.Keys as keys
 use Rattle.query_core.specs.Keys.{key_number}
@@ -11,7 +11,7 @@ use Rattle.query_core.specs.declared.words.KeyParts.TheVariants as groups
 use Rattle.query_core.specs.declared.expressions.ExprParts.{ExprParts}
 use Rattle.query_core.proofs.ExpressionLemmas.{key_read}
 use Rattle.request_props.specs.Requests as requests
-use Rattle.request_props.specs.Requests.{dist_code, code_of}
+use Rattle.request_props.specs.Requests.{dist_code, code_of, dist_field, order_field}
 use Rattle.request_props.specs.declared.request.Dist.{Dist}
 use Rattle.request_props.specs.declared.request.Dist.TheVariants as dists
 use Rattle.request_props.specs.declared.request.Request.{Request}
@@ -61,14 +61,14 @@ dist_ranked (dists.Hashed list) = rw (ne_eqb (3 + list) 1 (λ same. omega (arith
 
 -- the rank by a request's code is that of the request
 request_ranked : (wanted : Request) → requests.IsInRange wanted
-    → dist_rank_by (code_of wanted / 64) + order_rank (code_of wanted % 64) ≡ request_rank wanted
+    → dist_rank_by (dist_field (code_of wanted)) + order_rank (order_field (code_of wanted)) ≡ request_rank wanted
 request_ranked wanted in_range =
     let few = in_range.numbered in
-    let dist_is : code_of wanted / 64 ≡ dist_code wanted.dist = omega arith in
-    let order_is : code_of wanted % 64 ≡ wanted.order = omega arith in
-    let by_dist : dist_rank_by (code_of wanted / 64) ≡ dist_rank wanted.dist = ap dist_rank_by dist_is
+    let dist_is : dist_field (code_of wanted) ≡ dist_code wanted.dist = omega arith in
+    let order_is : order_field (code_of wanted) ≡ wanted.order = omega arith in
+    let by_dist : dist_rank_by (dist_field (code_of wanted)) ≡ dist_rank wanted.dist = ap dist_rank_by dist_is
     ∙ dist_ranked wanted.dist in
-    let by_order : order_rank (code_of wanted % 64) ≡ order_rank wanted.order = ap order_rank order_is in
+    let by_order : order_rank (order_field (code_of wanted)) ≡ order_rank wanted.order = ap order_rank order_is in
     omega (arith, by_dist, by_order)
 
 -- ---- goals

@@ -1,5 +1,5 @@
 -- The rank of a goal by its word, as a function of any number.
-use Rattle.std.specs.Prelude.{ℕ, ◌≡◌, ◌==◌, ◌+◌, ◌-◌, ◌*◌, ◌/◌, ◌%◌, ◌<◌, nat_lt, if◌then◌else◌}
+use Rattle.std.specs.Prelude.{ℕ, ◌≡◌, ◌==◌, ◌+◌, ◌-◌, ◌*◌, ◌<◌, nat_lt, if◌then◌else◌}
 use Rattle.query_core.specs.Keys.{key_number}
 use Rattle.query_core.specs.Expressions.{key_field}
 use Rattle.query_core.specs.Goals.{goal_fields}
@@ -8,6 +8,8 @@ use Rattle.query_core.specs.declared.words.GoalParts.{GoalParts}
 use Rattle.query_core.specs.declared.words.GoalParts.TheVariants as goals
 use Rattle.query_core.specs.declared.words.KeyParts.TheVariants.{Filter, Join, Partial}
 use Rattle.xform_rules.specs.Counts.{table_count}
+use Rattle.request_props.specs.Requests.{dist_code, dist_field, order_field}
+use Rattle.request_props.specs.declared.request.Dist.TheVariants.{Spread}
 use Rattle.goal_space.specs.Words.{goal_word, IsInRange}
 use Rattle.goal_space.specs.Ranks.{order_rank, rank_of}
 use Rattle.goal_space.specs.Entries.{IsChildWord}
@@ -26,9 +28,9 @@ level_by key =
 abbrev pub expr_level_by : ℕ → ℕ
 expr_level_by word = level_by (key_field word)
 
--- the distribution of code 1 may lie on any segments
+-- the rank of the distribution of a code: rows that may lie on any segments come first
 abbrev pub dist_rank_by : ℕ → ℕ
-dist_rank_by dist = if dist == 1 then 0 else 1
+dist_rank_by dist = if dist == dist_code Spread then 0 else 1
 
 -- the rank of a goal by the key of its group, the word of its expression, and the code of its request
 abbrev pub rank_of_parts : GoalParts → ℕ
@@ -38,7 +40,7 @@ rank_of_parts (goals.Xf expr rule) = 100 * expr_level_by expr.0
 rank_of_parts (goals.Imp key) = 100 * level_by key.0 + 40
 rank_of_parts (goals.ImpE expr) = 100 * expr_level_by expr.0 + 30
 rank_of_parts (goals.Opt key request) = 100 * level_by
-    key.0 + 60 + (dist_rank_by (request / 64) + order_rank (request % 64))
+    key.0 + 60 + (dist_rank_by (dist_field request) + order_rank (order_field request))
 rank_of_parts (goals.OptE expr request) = 100 * expr_level_by expr.0 + 50
 
 -- the rank of the goal whose fields the number has

@@ -1,13 +1,15 @@
 //! The ranks of goals by their words.
 #![tactic(auto)]
 
-ghost use Rattle.std.specs.Prelude.{◌≡◌, ◌≤◌, ◌+◌, ◌/◌, ◌%◌};
+ghost use Rattle.std.specs.Prelude.{◌≡◌, ◌≤◌, ◌+◌};
 ghost use Rattle.query_core.specs.Keys.{key_number, IsInRange};
+ghost use Rattle.request_props.specs.Requests.{dist_field as dist_in, order_field as order_in};
 ghost use Rattle.goal_space.specs.Ranks.{order_rank as rank_of_order};
 ghost use Rattle.goal_rules.specs.WordRanks.{dist_rank_by, expr_level_by, level_by, rank_of_word as rank_number};
 
 use goal_space::table_count;
 use query_core::{Expr, Goal, GoalParts, Key, KeyParts};
+use request_props::{Dist, dist_code, dist_field, order_field};
 
 /// The rank of the goal of this word.
 pub fn rank_of_word(word: u64) -> u64
@@ -57,10 +59,14 @@ fn expr_level(expr: Expr) -> u32
 
 // The rank of the request of this code.
 fn request_rank(code: u32) -> u64
-    ensures value { result ≡ dist_rank_by (code / 64) + rank_of_order (code % 64) }
+    ensures value { result ≡ dist_rank_by (dist_in code) + rank_of_order (order_in code) }
     ensures few { result ≤ 2 }
 {
-    let dist = if code / 64 == 1 { 0 } else { 1 };
-    let order = if code % 64 == 0 { 0 } else { 1 };
+    let dist = if dist_field(code) == dist_code(Dist::Spread) {
+        0
+    } else {
+        1
+    };
+    let order = if order_field(code) == 0 { 0 } else { 1 };
     dist + order
 }
