@@ -11,7 +11,8 @@ use Rattle.request_props.specs.declared.request.Request.{Request}
 use Rattle.request_props.specs.Fitting.{Fits}
 use Rattle.plan_space.specs.Nodes.{Tree, leaf, over, two}
 use Rattle.plan_space.specs.declared.nodes.NodeKind.{NodeKind}
-use Rattle.plan_space.specs.Gives.{Kid, kid_of}
+use Rattle.plan_space.specs.declared.seen.Kid.{Kid}
+use Rattle.plan_space.specs.Gives.{kid_of}
 use Rattle.plan_space.specs.Alternatives.{KidsServe}
 use Rattle.plan_space.specs.Cost.{cost_of, shape_of}
 use Rattle.plan_space.specs.Least.{IsAnswer, IsLeast, HasNoPlan}

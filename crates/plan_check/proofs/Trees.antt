@@ -7,7 +7,8 @@ use Rattle.query_core.specs.declared.query.Query.{Query}
 use Rattle.plan_space.specs.declared.nodes.NodeKind.{NodeKind}
 use Rattle.plan_space.specs.declared.nodes.NodeKind.TheVariants as nodes
 use Rattle.plan_space.specs.Nodes.{Tree, leaf, over, two}
-use Rattle.plan_space.specs.Gives.{Kid, first_group, node_group, kid_of}
+use Rattle.plan_space.specs.declared.seen.Kid.{Kid}
+use Rattle.plan_space.specs.Gives.{first_group, node_group, kid_of}
 use Rattle.plan_tree.specs.Spells.{Spells}
 use Rattle.plan_tree.specs.Seen.{kids_seen, kids_of, HaveGroups}
 use Rattle.plan_tree.specs.declared.seen.Below.{Below}

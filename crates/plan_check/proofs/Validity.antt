@@ -11,7 +11,7 @@ use Rattle.plan_space.specs.Nodes.{Tree, leaf, over, two}
 use Rattle.plan_space.specs.declared.lines.Line.{Line}
 use Rattle.plan_space.specs.declared.lines.Line.TheVariants.{Alone, Above, Beside}
 use Rattle.plan_space.specs.Lines.{line_of}
-use Rattle.plan_space.specs.Gives.{Kid}
+use Rattle.plan_space.specs.declared.seen.Kid.{Kid}
 use Rattle.plan_space.specs.Valid.{OverOne, FitsBy, NodeFits, IsValid, EnforcerFits}
 use Rattle.plan_space.specs.Choices.{groups_of}
 use Rattle.plan_space.specs.Laws.{AreOf}

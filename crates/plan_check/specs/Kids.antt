@@ -5,7 +5,7 @@ use Rattle.query_core.specs.declared.query.Query.{Query}
 use Rattle.plan_space.specs.declared.nodes.NodeKind.{NodeKind}
 use Rattle.plan_space.specs.declared.nodes.NodeKind.TheVariants as nodes
 use Rattle.plan_space.specs.Nodes.{Tree}
-use Rattle.plan_space.specs.Gives.{Kid}
+use Rattle.plan_space.specs.declared.seen.Kid.{Kid}
 use Rattle.plan_space.specs.Valid.{OverOne, NodeFits}
 use Rattle.plan_space.specs.Choices.{groups_of}
 use Rattle.plan_space.specs.Laws.{AreOf}

@@ -7,11 +7,11 @@ ghost use Rattle.request_props.specs.Numbered.{IsProps, order_of};
 ghost use Rattle.request_props.specs.Satisfied.{Meets, BeginsWith, given_order};
 ghost use Rattle.plan_space.specs.Valid.{IsSpread, DistNeeds, OrderNeeds, LeftNeeds, LineFits, NativeFits};
 ghost use Rattle.plan_space.specs.Valid.{CanSort, CanMerge, CanRedistribute, EnforcerFits, OverOne, NodeFits};
-ghost use Rattle.plan_tree.specs.Seen.{kid_seen, kids_seen};
+ghost use Rattle.plan_tree.specs.Seen.{kids_seen};
 ghost use Rattle.plan_check.specs.Nodes.{IsKindOf};
 
-use plan_space::{Enforcer, LeftDist, LeftOrder, Line, NodeKind};
-use plan_tree::{Below, Seen, given_satisfies, line_of};
+use plan_space::{Enforcer, Kid, LeftDist, LeftOrder, Line, NodeKind};
+use plan_tree::{Below, given_satisfies, line_of};
 use query_core::{Children, KeyParts, PhysicalExpr, Query};
 use request_props::{Dist, Given, GivenDist, GivenOrder, Props, Request};
 
@@ -42,9 +42,9 @@ fn over_one(query: &Query, props: &Props, enforcer: Enforcer, below: Below) -> b
     }
 }
 
-fn enforcer_fits(query: &Query, props: &Props, enforcer: Enforcer, kid: Seen) -> bool
+fn enforcer_fits(query: &Query, props: &Props, enforcer: Enforcer, kid: Kid) -> bool
     requires { IsProps query.now props.now }
-    ensures { IsTrue result ↔ EnforcerFits query.now enforcer (kid_seen kid) }
+    ensures { IsTrue result ↔ EnforcerFits query.now enforcer kid }
 {
     match enforcer {
         Enforcer::Gather => is_spread(kid.given.dist),
@@ -55,25 +55,25 @@ fn enforcer_fits(query: &Query, props: &Props, enforcer: Enforcer, kid: Seen) ->
     }
 }
 
-fn can_sort(query: &Query, props: &Props, order: u32, kid: Seen) -> bool
+fn can_sort(query: &Query, props: &Props, order: u32, kid: Kid) -> bool
     requires { IsProps query.now props.now }
-    ensures { IsTrue result ↔ CanSort query.now order (kid_seen kid) }
+    ensures { IsTrue result ↔ CanSort query.now order kid }
 {
     1 <= order && props.order_fits(query, kid.group, order)
 }
 
-fn can_merge(query: &Query, props: &Props, order: u32, kid: Seen) -> bool
+fn can_merge(query: &Query, props: &Props, order: u32, kid: Kid) -> bool
     requires { IsProps query.now props.now }
-    ensures { IsTrue result ↔ CanMerge query.now order (kid_seen kid) }
+    ensures { IsTrue result ↔ CanMerge query.now order kid }
 {
     can_sort(query, props, order, kid)
         && is_spread(kid.given.dist)
         && has_order(query, props, kid.given.order, order)
 }
 
-fn can_redistribute(query: &Query, props: &Props, list: u32, kid: Seen) -> bool
+fn can_redistribute(query: &Query, props: &Props, list: u32, kid: Kid) -> bool
     requires { IsProps query.now props.now }
-    ensures { IsTrue result ↔ CanRedistribute query.now list (kid_seen kid) }
+    ensures { IsTrue result ↔ CanRedistribute query.now list kid }
 {
     is_spread(kid.given.dist) && props.hash_fits(query, kid.group, list)
 }

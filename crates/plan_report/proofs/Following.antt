@@ -7,14 +7,14 @@ use Rattle.query_core.specs.Keys.{IsGroup}
 use Rattle.query_core.specs.declared.query.Query.{Query}
 use Rattle.plan_space.specs.declared.nodes.NodeKind.{NodeKind}
 use Rattle.plan_space.specs.Nodes.{Tree, leaf, over, two}
-use Rattle.plan_space.specs.Gives.{Kid, kid_of}
+use Rattle.plan_space.specs.declared.seen.Kid.{Kid}
+use Rattle.plan_space.specs.Gives.{kid_of}
 use Rattle.plan_tree.specs.Nodes.{IsNode}
 use Rattle.plan_tree.specs.Spells.{Spells}
-use Rattle.plan_tree.specs.Seen.{kid_seen, kids_seen, HasGroup, HaveGroups}
+use Rattle.plan_tree.specs.Seen.{kids_seen, HasGroup, HaveGroups}
 use Rattle.plan_tree.specs.declared.node.Node.{Node}
 use Rattle.plan_tree.specs.declared.plan.Plan.{Plan}
 use Rattle.plan_tree.specs.declared.plan.Plan.TheVariants.{Over', Two'}
-use Rattle.plan_tree.specs.declared.seen.Seen.{Seen}
 use Rattle.plan_tree.specs.declared.seen.Below.{Below}
 use Rattle.plan_tree.specs.declared.seen.Below.TheVariants as below
 use Rattle.plan_report.specs.Text.{indent, node_line, plan_lines}
@@ -27,11 +27,11 @@ abbrev pub Pointer : Type 0
 Pointer = Box (Unit {0}) Global
 
 -- what is seen of a plan is what is seen of the tree that it is
-abbrev pub IsSeenOf : Query → Plan → Seen → Type 0
-IsSeenOf q plan seen = (tree : Tree) → Spells plan tree → kid_seen seen ≡ kid_of q tree
+abbrev pub IsSeenOf : Query → Plan → Kid → Type 0
+IsSeenOf q plan seen = (tree : Tree) → Spells plan tree → seen ≡ kid_of q tree
 
 -- its group is one of the query's
-seen_group : (q : Query) (plan : Plan) (seen : Seen) (tree : Tree) → IsSeenOf q plan seen → Spells plan tree
+seen_group : (q : Query) (plan : Plan) (seen : Kid) (tree : Tree) → IsSeenOf q plan seen → Spells plan tree
     → HasGroups q tree → IsGroup q seen.group
 seen_group q plan seen tree is spells has =
     subst (λ (k : Kid). IsGroup q k.group) (sym (is tree spells)) (plan_group q tree has)
@@ -53,7 +53,7 @@ module _ (q : Query) (spaces deeper : List ℕ) (deepens : deeper ≡ spaces ++ 
       ∙ append_assoc before (node_line q depth kind kids) rest
 
   -- so is a node over one plan, and behind it come the lines of that plan
-  over_tree : (node : Node) (pointer : Pointer) (kid : Plan) (seen : Seen) (before middle after : List ℕ)
+  over_tree : (node : Node) (pointer : Pointer) (kid : Plan) (seen : Kid) (before middle after : List ℕ)
       → IsSeenOf q kid seen
       → AddsNode q spaces node (below.One seen) before middle → AddsPlan q deeper kid middle after
       → AddsPlan q spaces (Over' node pointer kid) before after
@@ -67,7 +67,7 @@ module _ (q : Query) (spaces deeper : List ℕ) (deepens : deeper ≡ spaces ++ 
       absurd spells
 
   -- so is a node over two plans, and behind it come the lines of the left one and then of the right one
-  two_tree : (node : Node) (pointer : Pointer) (left : Plan) (pointer' : Pointer) (right : Plan) (first second : Seen)
+  two_tree : (node : Node) (pointer : Pointer) (left : Plan) (pointer' : Pointer) (right : Plan) (first second : Kid)
       (before middle halfway after : List ℕ)
       → IsSeenOf q left first → IsSeenOf q right second → AddsNode q spaces node (below.Two first second) before middle
       → AddsPlan q deeper left middle halfway → AddsPlan q deeper right halfway after
@@ -82,7 +82,7 @@ module _ (q : Query) (spaces deeper : List ℕ) (deepens : deeper ≡ spaces ++ 
       let at_right = last (suc depth) t (deeper_by depth at) spells.2 has.2 in
       node_then node (below.Two first second) kind (kid_of q s ∷ kid_of q t ∷ []) depth before middle
       (concat (plan_lines q (suc depth) s ++ plan_lines q (suc depth) t)) after follows
-      (ap (λ (k : Kid). k ∷ kid_seen second ∷ []) (is_first s spells.1)
+      (ap (λ (k : Kid). k ∷ second ∷ []) (is_first s spells.1)
       ∙ ap (λ (k : Kid). kid_of q s ∷ k ∷ []) (is_second t spells.2)) spells.0 at has.0
       (seen_group q left first s is_first spells.1 has.1, seen_group q right second t is_second spells.2 has.2)
       (at_right ∙ ap (λ (m : List ℕ). m ++ concat (plan_lines q (suc depth) t)) at_left
@@ -91,7 +91,7 @@ module _ (q : Query) (spaces deeper : List ℕ) (deepens : deeper ≡ spaces ++ 
       (plan_lines q (suc depth) t))))
 
   -- the lines of a plan that is a node over one plan
-  pub over_follows : (plan : Plan) (node : Node) (pointer : Pointer) (kid : Plan) (seen : Seen)
+  pub over_follows : (plan : Plan) (node : Node) (pointer : Pointer) (kid : Plan) (seen : Kid)
       (before middle after : List ℕ) → plan ≡ Over' node pointer kid
       → IsSeenOf q kid seen → AddsNode q spaces node (below.One seen) before middle → AddsPlan q deeper kid middle after
       → AddsPlan q spaces plan before after
@@ -101,7 +101,7 @@ module _ (q : Query) (spaces deeper : List ℕ) (deepens : deeper ≡ spaces ++ 
 
   -- the lines of a plan that is a node over two plans
   pub two_follows : (plan : Plan) (node : Node) (pointer : Pointer) (left : Plan) (pointer' : Pointer) (right : Plan)
-      (first second : Seen) (before middle halfway after : List ℕ)
+      (first second : Kid) (before middle halfway after : List ℕ)
       → plan ≡ Two' node pointer left pointer' right → IsSeenOf q left first → IsSeenOf q right second
       → AddsNode q spaces node (below.Two first second) before middle
       → AddsPlan q deeper left middle halfway → AddsPlan q deeper right halfway after

@@ -9,7 +9,8 @@ use Rattle.xform_rules.specs.Closure.{IsMember}
 use Rattle.plan_space.specs.declared.nodes.NodeKind.{NodeKind}
 use Rattle.plan_space.specs.declared.nodes.NodeKind.TheVariants as nodes
 use Rattle.plan_space.specs.Nodes.{Tree, leaf, over, two}
-use Rattle.plan_space.specs.Gives.{Kid, first_group, node_group, kid_of}
+use Rattle.plan_space.specs.declared.seen.Kid.{Kid}
+use Rattle.plan_space.specs.Gives.{first_group, node_group, kid_of}
 use Rattle.plan_space.specs.Valid.{NodeFits, IsValid}
 use Rattle.plan_tree.specs.Seen.{HasGroup}
 use Rattle.plan_report.specs.Groups.{HasGroups}

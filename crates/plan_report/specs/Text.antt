@@ -19,7 +19,8 @@ use Rattle.plan_space.specs.Modes.{mode_at}
 use Rattle.plan_space.specs.declared.modes.Mode.{Mode}
 use Rattle.plan_space.specs.declared.modes.Mode.TheVariants as modes
 use Rattle.plan_space.specs.Lines.{table_in}
-use Rattle.plan_space.specs.Gives.{Kid, node_group, kid_of}
+use Rattle.plan_space.specs.declared.seen.Kid.{Kid}
+use Rattle.plan_space.specs.Gives.{node_group, kid_of}
 use Rattle.plan_space.specs.Cost.{shape_of, cost_of}
 
 -- ---- nodes

@@ -18,7 +18,8 @@ use Rattle.plan_space.specs.Nodes.{enforcer_number}
 use Rattle.plan_space.specs.declared.nodes.Enforcer.{Enforcer}
 use Rattle.plan_space.specs.declared.nodes.Enforcer.TheVariants as enforcers
 use Rattle.plan_space.specs.Lines.{request}
-use Rattle.plan_space.specs.Gives.{Kid, enforcer_gives}
+use Rattle.plan_space.specs.declared.seen.Kid.{Kid}
+use Rattle.plan_space.specs.Gives.{enforcer_gives}
 use Rattle.plan_space.specs.Valid.{IsSpread, CanSort, CanMerge, EnforcerFits}
 use Rattle.request_props.specs.Classes.{class_of}
 use Rattle.plan_space.specs.Enforcers.{EnforcedBy, enforced, enforcers_of, Among}

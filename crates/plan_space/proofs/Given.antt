@@ -23,7 +23,8 @@ use Rattle.plan_space.specs.declared.lines.LeftOrder.{LeftOrder}
 use Rattle.plan_space.specs.declared.lines.LeftOrder.TheVariants as left_orders
 use Rattle.plan_space.specs.declared.lines.Line.{Line}
 use Rattle.plan_space.specs.declared.lines.Line.TheVariants as lines
-use Rattle.plan_space.specs.Gives.{Kid, first_group, first_given, left_dist, left_order, left_gives, line_gives}
+use Rattle.plan_space.specs.declared.seen.Kid.{Kid}
+use Rattle.plan_space.specs.Gives.{first_group, first_given, left_dist, left_order, left_gives, line_gives}
 use Rattle.plan_space.specs.Gives.{gives_by, enforcer_gives, node_group, node_gives, kid_of, gives}
 use Rattle.plan_space.specs.Valid.{DistNeeds, LeftNeeds, OverOne, LineFits, FitsBy, EnforcerFits, NodeFits, IsValid}
 use Rattle.plan_space.specs.Laws.{DistLiesIn, GivenFits, KidsFit}

@@ -1,5 +1,5 @@
 -- Which items groups have, and which items a predicate equates across two groups.
-use Rattle.std.proofs.Common.{◌≡◌, ℕ, zero, ◌^◌, false, List, [], ◌∷◌, refl, ap, sym, subst, arith}
+use Rattle.std.proofs.Common.{◌≡◌, ℕ, ◌^◌, false, List, [], ◌∷◌, refl, ap, sym, subst, arith}
 use Rattle.std.proofs.Common.{IsTrue}
 use Rattle.std.specs.Prelude.{Option, Some, None, ◌==◌, ◌&&◌, bit_and, bit_or, slice_get, is_some}
 use Rattle.std.specs.Prelude.{if◌then◌else◌}

@@ -22,7 +22,8 @@ use Rattle.plan_space.specs.declared.lines.LeftDist.{LeftDist}
 use Rattle.plan_space.specs.declared.lines.LeftDist.TheVariants as left_dists
 use Rattle.plan_space.specs.declared.lines.LeftOrder.{LeftOrder}
 use Rattle.plan_space.specs.declared.lines.LeftOrder.TheVariants as left_orders
-use Rattle.plan_space.specs.Gives.{Kid, left_dist, left_order, left_gives}
+use Rattle.plan_space.specs.declared.seen.Kid.{Kid}
+use Rattle.plan_space.specs.Gives.{left_dist, left_order, left_gives}
 use Rattle.plan_space.specs.Valid.{IsSpread, DistNeeds, OrderNeeds, LeftNeeds}
 use Rattle.plan_space.specs.Alternatives.{WantsSpread, dist_asked, order_asked, left_asked, DistServes, OrderServes}
 use Rattle.plan_space.specs.Alternatives.{LeftServes}

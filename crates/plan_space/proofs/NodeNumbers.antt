@@ -24,7 +24,7 @@ use Rattle.plan_space.specs.declared.lines.LeftDist.{LeftDist}
 use Rattle.plan_space.specs.declared.lines.LeftOrder.{LeftOrder}
 use Rattle.plan_space.specs.declared.lines.Line.{Line}
 use Rattle.plan_space.specs.declared.lines.Line.TheVariants as lines
-use Rattle.plan_space.specs.Gives.{Kid}
+use Rattle.plan_space.specs.declared.seen.Kid.{Kid}
 use Rattle.plan_space.specs.Valid.{OverOne, OverTwo, OneFits, TwoFit, FitsBy, EnforcerFits, NodeFits}
 use Rattle.plan_space.proofs.FewModes.{byte_modes}
 

@@ -9,7 +9,8 @@ use Rattle.request_props.specs.Numbered.{lists_of, orders_of}
 use Rattle.request_props.specs.declared.request.Request.{Request}
 use Rattle.plan_space.specs.Nodes.{number_of, Tree, leaf, over, two, code_of}
 use Rattle.plan_space.specs.declared.nodes.NodeKind.{NodeKind}
-use Rattle.plan_space.specs.Gives.{Kid, kid_of}
+use Rattle.plan_space.specs.declared.seen.Kid.{Kid}
+use Rattle.plan_space.specs.Gives.{kid_of}
 use Rattle.plan_space.specs.Valid.{NodeFits, IsValid}
 use Rattle.plan_space.specs.Least.{IsLeast}
 use Rattle.plan_space.specs.Order.{IsAtMost}

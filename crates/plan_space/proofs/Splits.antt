@@ -15,7 +15,8 @@ use Rattle.request_props.specs.Fitting.{Fits}
 use Rattle.plan_space.specs.Lines.{line_of}
 use Rattle.plan_space.specs.declared.lines.Line.{Line}
 use Rattle.plan_space.specs.declared.lines.Line.TheVariants as lines
-use Rattle.plan_space.specs.Gives.{Kid, line_gives, gives_by, native_gives}
+use Rattle.plan_space.specs.declared.seen.Kid.{Kid}
+use Rattle.plan_space.specs.Gives.{line_gives, gives_by, native_gives}
 use Rattle.plan_space.specs.Valid.{LineFits, FitsBy, NativeFits}
 use Rattle.plan_space.specs.Alternatives.{JoinServes, LineServes, asked_of, KidsServe, IsAlternative}
 use Rattle.plan_space.specs.Choices.{groups_of}

@@ -15,7 +15,8 @@ use Rattle.plan_space.specs.declared.nodes.NodeKind.{NodeKind}
 use Rattle.plan_space.specs.declared.nodes.NodeKind.TheVariants as nodes
 use Rattle.plan_space.specs.declared.nodes.Enforcer.{Enforcer}
 use Rattle.plan_space.specs.declared.nodes.Enforcer.TheVariants as enforcers
-use Rattle.plan_space.specs.Gives.{Kid, first_group, native_gives, kid_of}
+use Rattle.plan_space.specs.declared.seen.Kid.{Kid}
+use Rattle.plan_space.specs.Gives.{first_group, native_gives, kid_of}
 use Rattle.request_props.specs.Classes.{class_of}
 
 -- how many of a group's rows the busiest segment has

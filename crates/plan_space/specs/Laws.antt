@@ -21,7 +21,8 @@ use Rattle.request_props.specs.Fitting.{HashFits, OrderFits, Fits}
 use Rattle.plan_space.specs.Nodes.{Tree}
 use Rattle.plan_space.specs.Lines.{line_of}
 use Rattle.plan_space.specs.declared.lines.Line.{Line}
-use Rattle.plan_space.specs.Gives.{Kid, kid_of, gives, native_gives}
+use Rattle.plan_space.specs.declared.seen.Kid.{Kid}
+use Rattle.plan_space.specs.Gives.{kid_of, gives, native_gives}
 use Rattle.plan_space.specs.Valid.{NativeFits, IsValid}
 use Rattle.plan_space.specs.Alternatives.{IsAlternative, asked_of, KidsServe}
 use Rattle.plan_space.specs.Cost.{cost_of, most_of_all}

@@ -29,7 +29,8 @@ use Rattle.plan_space.specs.declared.lines.LeftOrder.{LeftOrder}
 use Rattle.plan_space.specs.declared.lines.LeftOrder.TheVariants as left_orders
 use Rattle.plan_space.specs.declared.lines.Line.{Line}
 use Rattle.plan_space.specs.declared.lines.Line.TheVariants as lines
-use Rattle.plan_space.specs.Gives.{Kid, kid_of}
+use Rattle.plan_space.specs.declared.seen.Kid.{Kid}
+use Rattle.plan_space.specs.Gives.{kid_of}
 
 -- rows that lie so are shared out among the segments
 abbrev pub IsSpread : GivenDist → Type 0

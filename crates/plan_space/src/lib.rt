@@ -5,6 +5,7 @@ mod laws;
 mod lines;
 mod modes;
 mod nodes;
+mod seen;
 
 pub use laws::{
     choices_serve, costs_fit, keys_fall, least_is_one, modes_are_few, plans_are_ordered,
@@ -14,3 +15,4 @@ pub use laws::{
 pub use lines::{LeftDist, LeftOrder, Line};
 pub use modes::{END as MODES_END, Mode, ModeSets};
 pub use nodes::{Enforcer, NodeKind};
+pub use seen::Kid;

@@ -19,7 +19,8 @@ use Rattle.plan_space.specs.declared.lines.Line.TheVariants.{Alone, Above, Besid
 use Rattle.plan_space.specs.declared.nodes.Enforcer.{Enforcer}
 use Rattle.plan_space.specs.Enforcers.{EnforcedBy, enforcers_of, Among}
 use Rattle.plan_space.specs.Lines.{request}
-use Rattle.plan_space.specs.Gives.{Kid, left_dist, line_gives, native_gives}
+use Rattle.plan_space.specs.declared.seen.Kid.{Kid}
+use Rattle.plan_space.specs.Gives.{left_dist, line_gives, native_gives}
 use Rattle.plan_space.specs.Alternatives.{DistServes, dist_asked, LineServes, IsAlternative, asked_of, KidsServe}
 use Rattle.plan_space.specs.Choices.{groups_of}
 use Rattle.plan_space.specs.Laws.{AreOf}

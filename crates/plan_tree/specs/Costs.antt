@@ -15,7 +15,7 @@ use Rattle.plan_space.specs.declared.nodes.Enforcer.{Enforcer}
 use Rattle.plan_space.specs.declared.nodes.Enforcer.TheVariants.{Gather, Broadcast, Sort, GatherMerge, Redistribute}
 use Rattle.plan_space.specs.Lines.{request}
 use Rattle.plan_space.specs.Enforcers.{EnforcedBy, enforcers_of, Among}
-use Rattle.plan_space.specs.Gives.{Kid}
+use Rattle.plan_space.specs.declared.seen.Kid.{Kid}
 use Rattle.plan_space.specs.Alternatives.{IsAlternative, asked_of, KidsServe}
 use Rattle.plan_space.specs.Choices.{groups_of}
 use Rattle.plan_space.specs.Laws.{AreOf}

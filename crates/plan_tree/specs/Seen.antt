@@ -5,20 +5,16 @@ use Rattle.query_core.specs.declared.query.Query.{Query}
 use Rattle.plan_space.specs.Nodes.{Tree, leaf, over, two}
 use Rattle.plan_space.specs.declared.nodes.NodeKind.{NodeKind}
 use Rattle.plan_space.specs.declared.nodes.NodeKind.TheVariants as nodes
-use Rattle.plan_space.specs.Gives.{Kid, kid_of}
-use Rattle.plan_tree.specs.declared.seen.Seen.{Seen}
+use Rattle.plan_space.specs.declared.seen.Kid.{Kid}
+use Rattle.plan_space.specs.Gives.{kid_of}
 use Rattle.plan_tree.specs.declared.seen.Below.{Below}
 use Rattle.plan_tree.specs.declared.seen.Below.TheVariants.{Nothing, One, Two}
-
--- the plan's group, and what it gives
-abbrev pub kid_seen : Seen → Kid
-kid_seen seen = record { group = seen.group; given = seen.given }
 
 -- what is seen of each plan below, the left one first
 abbrev pub kids_seen : Below → List Kid
 kids_seen Nothing = []
-kids_seen (One kid) = kid_seen kid ∷ []
-kids_seen (Two left right) = kid_seen left ∷ kid_seen right ∷ []
+kids_seen (One kid) = kid ∷ []
+kids_seen (Two left right) = left ∷ right ∷ []
 
 -- the node at the root of a plan
 abbrev pub root_node : Tree → NodeKind

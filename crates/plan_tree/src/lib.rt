@@ -25,7 +25,7 @@ pub use enforcers::{Enforced, enforcer, enforcer_for};
 pub use lines::{line_of, table_in};
 pub use node::{Node, nodes_are_one};
 pub use plan::{Found, Plan};
-pub use seen::{Below, Seen, given_satisfies, plan_seen, seen_above, seen_below};
+pub use seen::{Below, given_satisfies, plan_seen, seen_above, seen_below};
 pub use seen_cost::{cost_above, cost_above_any, rows_above};
 pub use serving::may_give;
 pub use serving_modes::{may_serve, modes_to_try, next_alternative};

@@ -11,36 +11,29 @@ ghost use Rattle.plan_space.specs.Gives.{node_group as group_of_node, node_gives
 ghost use Rattle.plan_space.specs.Gives.{line_gives as given_by_line, left_gives as given_by_left, left_dist as dist_by_left, left_order as order_by_left};
 ghost use Rattle.plan_tree.specs.Nodes.{IsNode};
 ghost use Rattle.plan_tree.specs.Spells.{Spells};
-ghost use Rattle.plan_tree.specs.Seen.{kid_seen, kids_seen, kids_of};
+ghost use Rattle.plan_tree.specs.Seen.{kids_seen, kids_of};
 
 use crate::lines::line_of;
 use crate::node::Node;
 use crate::plan::Plan;
 use crate::serving::gives;
-use plan_space::{Enforcer, LeftDist, LeftOrder, Line, NodeKind};
+use plan_space::{Enforcer, Kid, LeftDist, LeftOrder, Line, NodeKind};
 use query_core::{KeyParts, PhysicalExpr, Query};
 use request_props::{Given, GivenDist, GivenOrder, Props, Request};
-
-/// What a node sees of a plan below it: the plan's group, and what it gives.
-#[derive(Clone, Copy)]
-pub struct Seen {
-    pub group: KeyParts,
-    pub given: Given,
-}
 
 /// What a node sees of all plans below it.
 #[derive(Clone, Copy)]
 pub enum Below {
     Nothing,
-    One(Seen),
+    One(Kid),
     /// The left plan and the right one.
-    Two(Seen, Seen),
+    Two(Kid, Kid),
 }
 
 /// What is seen of a plan.
-pub fn plan_seen(query: &Query, props: &Props, plan: &Plan) -> Seen
+pub fn plan_seen(query: &Query, props: &Props, plan: &Plan) -> Kid
     requires { IsProps query.now props.now }
-    ensures { (t : Tree) → Spells plan.now t → kid_seen result ≡ kid_of query.now t }
+    ensures { (t : Tree) → Spells plan.now t → result ≡ kid_of query.now t }
 {
     match plan {
         Plan::Leaf(node) => node_seen(query, props, *node, Below::Nothing),
@@ -76,11 +69,11 @@ pub fn seen_below(query: &Query, props: &Props, plan: &Plan) -> Below
 }
 
 /// What is seen of a node over plans that are seen so.
-pub fn seen_above(query: &Query, props: &Props, kind: NodeKind, below: Below) -> Seen
+pub fn seen_above(query: &Query, props: &Props, kind: NodeKind, below: Below) -> Kid
     requires { IsProps query.now props.now }
-    ensures { kid_seen result ≡ kid_under query.now kind (kids_seen below) }
+    ensures { result ≡ kid_under query.now kind (kids_seen below) }
 {
-    Seen {
+    Kid {
         group: node_group(kind, below),
         given: node_gives(query, props, kind, below),
     }
@@ -101,14 +94,14 @@ pub fn given_satisfies(query: &Query, props: &Props, given: Given, wanted: Reque
 }
 
 // The same of a node by its number; a number that no node has is seen as any plan.
-fn node_seen(query: &Query, props: &Props, node: Node, below: Below) -> Seen
+fn node_seen(query: &Query, props: &Props, node: Node, below: Below) -> Kid
     requires { IsProps query.now props.now }
     ensures { (kind : Kind) → IsNode node kind →
-        kid_seen result ≡ kid_under query.now kind (kids_seen below) }
+        result ≡ kid_under query.now kind (kids_seen below) }
 {
     match node.kind() {
         Some(kind) => seen_above(query, props, kind, below),
-        None => Seen {
+        None => Kid {
             group: KeyParts::Get(0),
             given: unordered(GivenDist::One),
         },

@@ -13,9 +13,9 @@ ghost use Rattle.plan_space.specs.Cost.{share_of, first_share as share_of_first,
 ghost use Rattle.plan_tree.specs.Seen.{kids_seen, HasGroup, HaveGroups};
 
 use crate::cost::operator_shape;
-use crate::seen::{Below, Seen, first_group, seen_above};
+use crate::seen::{Below, first_group, seen_above};
 use cost_units::{CostShape, local, share};
-use plan_space::{Enforcer, NodeKind};
+use plan_space::{Enforcer, Kid, NodeKind};
 use query_core::{Key, KeyParts, PhysicalExpr, Query, groups_are_known};
 use request_props::{Props, class_of};
 
@@ -142,7 +142,7 @@ fn second_share(query: &Query, props: &Props, below: Below) -> u64
 }
 
 // How many rows of the plan the busiest segment has.
-fn seen_share(query: &Query, props: &Props, kid: Seen) -> u64
+fn seen_share(query: &Query, props: &Props, kid: Kid) -> u64
     requires { IsProps query.now props.now }
     ensures value { IsGroup query.now kid.group →
         result ≡ share_of query.now kid.group (class_by_given kid.given.dist) }

@@ -1,5 +1,5 @@
 use Rattle.std.proofs.Common.{List, sym, subst}
-use Rattle.plan_space.specs.Gives.{Kid}
+use Rattle.plan_space.specs.declared.seen.Kid.{Kid}
 use Rattle.plan_check.proofs.Trees.{KidsKnown, tree_known, seen_known}
 use Rattle.plan_check.proofs.passes.known_below.Goals as goal
 
