@@ -15,16 +15,28 @@ pub record EnforcedBy : Type 0 where
 abbrev pub enforced : Enforcer → Request → EnforcedBy
 enforced node below = record { node = node; below = below }
 
+-- what an enforcer for a request asks of a plan of the same group
+abbrev pub below_of : Enforcer → Request → Request
+below_of enforcers.Gather wanted = request Spread 0
+below_of enforcers.Broadcast wanted = request Spread 0
+below_of (enforcers.Sort order) wanted = request wanted.dist 0
+below_of (enforcers.GatherMerge order) wanted = request Spread wanted.order
+below_of (enforcers.Redistribute list) wanted = request Spread 0
+
+-- the enforcer for a request, over a plan for what it asks
+abbrev pub enforced_for : Enforcer → Request → EnforcedBy
+enforced_for node wanted = enforced node (below_of node wanted)
+
 -- the enforcers for a distribution in no order
 abbrev pub movers_of : Dist → List EnforcedBy
-movers_of One = enforced enforcers.Gather (request Spread 0) ∷ []
+movers_of One = enforced_for enforcers.Gather (request One 0) ∷ []
 movers_of Spread = []
-movers_of Copies = enforced enforcers.Broadcast (request Spread 0) ∷ []
-movers_of (Hashed list) = enforced (enforcers.Redistribute list) (request Spread 0) ∷ []
+movers_of Copies = enforced_for enforcers.Broadcast (request Copies 0) ∷ []
+movers_of (Hashed list) = enforced_for (enforcers.Redistribute list) (request (Hashed list) 0) ∷ []
 
 -- the enforcers that keep an order while they bring rows to this distribution
 abbrev pub mergers_of : Dist → ℕ → List EnforcedBy
-mergers_of One order = enforced (enforcers.GatherMerge order) (request Spread order) ∷ []
+mergers_of One order = enforced_for (enforcers.GatherMerge order) (request One order) ∷ []
 mergers_of Spread order = []
 mergers_of Copies order = []
 mergers_of (Hashed list) order = []
@@ -32,7 +44,7 @@ mergers_of (Hashed list) order = []
 -- the enforcers for a distribution and an order; each order may be made by sorting
 abbrev pub enforcers_by : Dist → ℕ → List EnforcedBy
 enforcers_by dist zero = movers_of dist
-enforcers_by dist (suc o) = enforced (enforcers.Sort (suc o)) (request dist 0) ∷ mergers_of dist (suc o)
+enforcers_by dist (suc o) = enforced_for (enforcers.Sort (suc o)) (request dist (suc o)) ∷ mergers_of dist (suc o)
 
 -- the enforcers for a request, ascending by number
 abbrev pub enforcers_of : Request → List EnforcedBy

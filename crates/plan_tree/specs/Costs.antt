@@ -7,13 +7,10 @@ use Rattle.query_core.specs.declared.expressions.PhysicalExpr.{PhysicalExpr}
 use Rattle.cardinality.specs.Rows.{rows_of}
 use Rattle.cost_units.specs.Cost.{local_cost, most_rows}
 use Rattle.request_props.specs.Satisfied.{Satisfies}
-use Rattle.request_props.specs.declared.request.Dist.TheVariants.{Spread}
 use Rattle.request_props.specs.declared.request.Request.{Request}
 use Rattle.request_props.specs.Classes.{class_asked}
 use Rattle.plan_space.specs.declared.lines.Line.{Line}
 use Rattle.plan_space.specs.declared.nodes.Enforcer.{Enforcer}
-use Rattle.plan_space.specs.declared.nodes.Enforcer.TheVariants.{Gather, Broadcast, Sort, GatherMerge, Redistribute}
-use Rattle.plan_space.specs.Lines.{request}
 use Rattle.plan_space.specs.Enforcers.{EnforcedBy, enforcers_of, Among}
 use Rattle.plan_space.specs.declared.seen.Kid.{Kid}
 use Rattle.plan_space.specs.Alternatives.{IsAlternative, asked_of, KidsServe}
@@ -39,14 +36,6 @@ IsEnforcerCost q enforcer group below price =
 abbrev pub IsCostAmong : Query → Enforcer → KeyParts → Request → ℕ → Type 0
 IsCostAmong q enforcer group wanted price =
     (e : EnforcedBy) → Among e (enforcers_of wanted) → e.node ≡ enforcer → IsEnforcerCost q e.node group e.below price
-
--- what an enforcer for a request asks of a plan of the same group
-abbrev pub below_of : Enforcer → Request → Request
-below_of Gather wanted = request Spread 0
-below_of Broadcast wanted = request Spread 0
-below_of (Sort order) wanted = request wanted.dist 0
-below_of (GatherMerge order) wanted = request Spread wanted.order
-below_of (Redistribute list) wanted = request Spread 0
 
 -- the share of a group by what is asked of it; 0 where there is none
 abbrev pub share_asked : Query → Option KeyParts → Option Request → ℕ

@@ -10,17 +10,17 @@ ghost use Rattle.cost_units.specs.Cost.{IsBounded, most_rows, most_cost, share a
 ghost use Rattle.request_props.specs.Numbered.{IsProps};
 ghost use Rattle.plan_space.specs.Alternatives.{asked_of};
 ghost use Rattle.plan_space.specs.Choices.{groups_of};
-ghost use Rattle.plan_space.specs.Enforcers.{Among, EnforcedBy, enforcers_of};
 ghost use Rattle.plan_space.specs.Lines.{line_of as line_by_table};
 ghost use Rattle.plan_space.specs.Cost.{operator_shape as shape_by_operator, share_of};
 ghost use Rattle.plan_space.specs.declared.nodes.Enforcer.{Enforcer as AnyEnforcer};
 ghost use Rattle.plan_space.specs.declared.nodes.NodeKind.TheVariants.{Enforcer as enforcing};
 ghost use Rattle.plan_tree.specs.Nodes.{IsNode};
-ghost use Rattle.plan_tree.specs.Costs.{IsNativeCost, IsEnforcerCost, IsCostAmong, below_of};
+ghost use Rattle.plan_tree.specs.Costs.{IsNativeCost, IsEnforcerCost, IsCostAmong};
 ghost use Rattle.request_props.specs.Classes.{class_asked as class_by_dist};
 ghost use Rattle.plan_tree.specs.Costs.{first_asked, second_asked, share_asked as share_by_request};
 ghost use Rattle.plan_tree.specs.Costs.{AreRowsOf, rows_if};
 
+use crate::enforcers::asked_by;
 use crate::lines::line_of;
 use crate::node::Node;
 use crate::serving::{asked_left, asked_right, left_child, right_child};
@@ -119,27 +119,6 @@ pub fn enforcer_cost_by(query: &Query, rows: u64, request: Request, node: Node) 
         Some(NodeKind::Native(_, _)) => 1,
         None => 1,
     }
-}
-
-/// What an enforcer for the request asks of a plan of the same group.
-pub fn asked_by(enforcer: Enforcer, request: Request) -> Request
-    ensures value { result ≡ below_of enforcer request }
-    ensures only { (e : EnforcedBy) → Among e (enforcers_of request) → e.node ≡ enforcer →
-        e.below ≡ result }
-{
-    match enforcer {
-        Enforcer::Gather => ask(Dist::Spread, 0),
-        Enforcer::Broadcast => ask(Dist::Spread, 0),
-        Enforcer::Sort(_) => ask(request.dist, 0),
-        Enforcer::GatherMerge(_) => ask(Dist::Spread, request.order),
-        Enforcer::Redistribute(_) => ask(Dist::Spread, 0),
-    }
-}
-
-fn ask(dist: Dist, order: u32) -> Request
-    ensures { result ≡ record { dist = dist; order = order } }
-{
-    Request { dist, order }
 }
 
 // The cost of an enforcer for the request, over so many rows.

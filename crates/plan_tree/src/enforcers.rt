@@ -6,7 +6,7 @@ ghost use Rattle.query_core.specs.Keys.{IsGroup, IsKey, Names};
 ghost use Rattle.query_core.specs.declared.words.KeyParts.{KeyParts as Group};
 ghost use Rattle.request_props.specs.Numbered.{IsProps};
 ghost use Rattle.request_props.specs.Fitting.{Fits};
-ghost use Rattle.plan_space.specs.Enforcers.{enforcers_of, movers_of};
+ghost use Rattle.plan_space.specs.Enforcers.{Among, EnforcedBy, below_of, enforcers_of, movers_of};
 ghost use Rattle.plan_space.specs.declared.nodes.NodeKind.TheVariants.{Enforcer as enforcing};
 ghost use Rattle.plan_tree.specs.Nodes.{EnforcerInRange, IsNode};
 ghost use Rattle.plan_tree.specs.Enforcers.{AreBoth, IsEnforced, IsEnforcerAt};
@@ -64,6 +64,27 @@ pub fn enforcer_for(
     enforcer(query, props, Key::make(group), wanted, place)
 }
 
+/// What an enforcer for the request asks of a plan of the same group.
+pub fn asked_by(enforcer: Enforcer, request: Request) -> Request
+    ensures value { result ≡ below_of enforcer request }
+    ensures only { (e : EnforcedBy) → Among e (enforcers_of request) → e.node ≡ enforcer →
+        e.below ≡ result }
+{
+    match enforcer {
+        Enforcer::Gather => ask(Dist::Spread, 0),
+        Enforcer::Broadcast => ask(Dist::Spread, 0),
+        Enforcer::Sort(_) => ask(request.dist, 0),
+        Enforcer::GatherMerge(_) => ask(Dist::Spread, request.order),
+        Enforcer::Redistribute(_) => ask(Dist::Spread, 0),
+    }
+}
+
+fn ask(dist: Dist, order: u32) -> Request
+    ensures { result ≡ record { dist = dist; order = order } }
+{
+    Request { dist, order }
+}
+
 // The two enforcers for the request, where they fit the group.
 fn both(
     query: &Query,
@@ -75,16 +96,16 @@ fn both(
     ensures { AreBoth query.now group (enforcers_of request) result.0 result.1 }
 {
     if request.order == 0 {
-        return (mover(query, props, group, request.dist), None);
+        return (mover(query, props, group, request), None);
     }
     if !props.order_fits(query, group, request.order) {
         return (None, None);
     }
-    let sorted = over(Enforcer::Sort(request.order), request.dist, 0);
+    let sorted = over(Enforcer::Sort(request.order), request);
     match request.dist {
         Dist::One => {
             let merge = Enforcer::GatherMerge(request.order);
-            (Some(sorted), Some(over(merge, Dist::Spread, request.order)))
+            (Some(sorted), Some(over(merge, request)))
         }
         Dist::Spread => (Some(sorted), None),
         Dist::Copies => (Some(sorted), None),
@@ -92,32 +113,32 @@ fn both(
     }
 }
 
-// The enforcer that brings rows to the distribution, in no order.
-fn mover(query: &Query, props: &Props, group: KeyParts, dist: Dist) -> Option<Enforced>
+// The enforcer that brings rows to the distribution, where no order is asked for.
+fn mover(query: &Query, props: &Props, group: KeyParts, request: Request) -> Option<Enforced>
     requires { IsProps query.now props.now }
-    ensures { AreBoth query.now group (movers_of dist) result None }
+    ensures { AreBoth query.now group (movers_of request.dist) result None }
 {
-    match dist {
-        Dist::One => Some(over(Enforcer::Gather, Dist::Spread, 0)),
+    match request.dist {
+        Dist::One => Some(over(Enforcer::Gather, request)),
         Dist::Spread => None,
-        Dist::Copies => Some(over(Enforcer::Broadcast, Dist::Spread, 0)),
+        Dist::Copies => Some(over(Enforcer::Broadcast, request)),
         Dist::Hashed(list) => {
             if !props.hash_fits(query, group, list) {
                 return None;
             }
-            Some(over(Enforcer::Redistribute(list), Dist::Spread, 0))
+            Some(over(Enforcer::Redistribute(list), request))
         }
     }
 }
 
-// The enforcer over a plan for this distribution and this order.
-fn over(enforcer: Enforcer, dist: Dist, order: u32) -> Enforced
+// The enforcer for the request, over a plan for what it asks.
+fn over(enforcer: Enforcer, request: Request) -> Enforced
     requires { EnforcerInRange enforcer }
     ensures node { IsNode result.node (enforcing enforcer) }
-    ensures below { result.below ≡ record { dist = dist; order = order } }
+    ensures below { result.below ≡ below_of enforcer request }
 {
     Enforced {
         node: Node::make(NodeKind::Enforcer(enforcer)),
-        below: Request { dist, order },
+        below: asked_by(enforcer, request),
     }
 }

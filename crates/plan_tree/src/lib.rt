@@ -18,10 +18,8 @@ pub use alternatives::{
     Alt, alternative, alternative_at, alternative_by, alternative_in, modes_are_one,
 };
 pub use answers::{Answered, Answers};
-pub use cost::{
-    ExprRows, asked_by, enforcer_cost, enforcer_cost_by, expr_rows, native_cost, native_cost_by,
-};
-pub use enforcers::{Enforced, enforcer, enforcer_for};
+pub use cost::{ExprRows, enforcer_cost, enforcer_cost_by, expr_rows, native_cost, native_cost_by};
+pub use enforcers::{Enforced, asked_by, enforcer, enforcer_for};
 pub use lines::{line_of, table_in};
 pub use node::{Node, nodes_are_one};
 pub use plan::{Found, Plan};
