@@ -23,7 +23,7 @@ use Rattle.plan_space.specs.declared.lines.Line.TheVariants as lines
 use Rattle.plan_space.specs.Alternatives.{dist_asked, left_asked, asked_of, DistServes, OrderServes, LeftServes}
 use Rattle.plan_space.specs.Alternatives.{LineServes, IsAlternative}
 use Rattle.plan_space.specs.Choices.{groups_of}
-use Rattle.plan_space.specs.Enforcers.{EnforcedBy, movers_of, enforcers_by, enforcers_of, Among}
+use Rattle.plan_space.specs.Enforcers.{EnforcedBy, motions_of, enforcers_by, enforcers_of, Among}
 use Rattle.plan_space.specs.Laws.{RequestsFit, AsksWhatFits}
 use Rattle.goal_space.specs.Children.{IsAsked, AsksOf}
 use Rattle.goal_children.specs.Over.{IsDistNumbered, IsNumberedRequest}
@@ -203,22 +203,22 @@ module _ (q : Query) where
   unordered_numbered : (dist : Dist) → IsDistNumbered q dist → IsNumberedRequest q (request dist 0)
   unordered_numbered dist numbered = record { dist = numbered; order = omega arith }
 
-  mover_numbered : (dist : Dist) (e : EnforcedBy) → Among e (movers_of dist) → IsNumberedRequest q e.below
-  mover_numbered dists.One e (inl same) = subst (λ (x : EnforcedBy). IsNumberedRequest q x.below) (sym same)
+  motion_numbered : (dist : Dist) (e : EnforcedBy) → Among e (motions_of dist) → IsNumberedRequest q e.below
+  motion_numbered dists.One e (inl same) = subst (λ (x : EnforcedBy). IsNumberedRequest q x.below) (sym same)
       (unordered_numbered dists.Spread tt)
-  mover_numbered dists.One e (inr none) = absurd none
-  mover_numbered dists.Spread e none = absurd none
-  mover_numbered dists.Copies e (inl same) =
+  motion_numbered dists.One e (inr none) = absurd none
+  motion_numbered dists.Spread e none = absurd none
+  motion_numbered dists.Copies e (inl same) =
       subst (λ (x : EnforcedBy). IsNumberedRequest q x.below) (sym same) (unordered_numbered dists.Spread tt)
-  mover_numbered dists.Copies e (inr none) = absurd none
-  mover_numbered (dists.Hashed list) e (inl same) =
+  motion_numbered dists.Copies e (inr none) = absurd none
+  motion_numbered (dists.Hashed list) e (inl same) =
       subst (λ (x : EnforcedBy). IsNumberedRequest q x.below) (sym same) (unordered_numbered dists.Spread tt)
-  mover_numbered (dists.Hashed list) e (inr none) = absurd none
+  motion_numbered (dists.Hashed list) e (inr none) = absurd none
 
   enforcer_by_numbered : (dist : Dist) (order : ℕ) (e : EnforcedBy) → IsNumberedRequest q (request dist order)
       → Among e (enforcers_by dist order)
       → IsNumberedRequest q e.below
-  enforcer_by_numbered dist zero e numbered among = mover_numbered dist e among
+  enforcer_by_numbered dist zero e numbered among = motion_numbered dist e among
   enforcer_by_numbered dist (suc place) e numbered (inl same) =
       subst (λ (x : EnforcedBy). IsNumberedRequest q x.below) (sym same) (unordered_numbered dist numbered.dist)
   enforcer_by_numbered dists.One (suc place) e numbered (inr (inl same)) =

@@ -6,7 +6,7 @@ use Rattle.query_core.specs.declared.expressions.ExprParts.{ExprParts}
 use Rattle.request_props.specs.declared.request.Dist.{Dist}
 use Rattle.request_props.specs.declared.request.Dist.TheVariants as dists
 use Rattle.request_props.specs.declared.request.Request.{Request}
-use Rattle.plan_space.specs.Enforcers.{EnforcedBy, movers_of, enforcers_by, enforcers_of, Among}
+use Rattle.plan_space.specs.Enforcers.{EnforcedBy, motions_of, enforcers_by, enforcers_of, Among}
 use Rattle.goal_space.specs.Children.{IsChildGoal}
 use Rattle.goal_space.specs.Ranks.{level_of, dist_rank, order_rank, request_rank, rank_of}
 use Rattle.goal_space.specs.Laws.{IsOfCandidate}
@@ -37,14 +37,14 @@ AsksLess rank e = request_rank e.below < rank
 less_by : (rank : ℕ) (e other : EnforcedBy) → e ≡ other → AsksLess rank other → AsksLess rank e
 less_by rank e other same less = subst (AsksLess rank) (sym same) less
 
-mover_less : (dist : Dist) (e : EnforcedBy) → Among e (movers_of dist) → AsksLess (dist_rank dist + 0) e
-mover_less dists.One e (inl same) = less_by 1 e _ same (omega arith)
-mover_less dists.One e (inr none) = absurd none
-mover_less dists.Spread e none = absurd none
-mover_less dists.Copies e (inl same) = less_by 1 e _ same (omega arith)
-mover_less dists.Copies e (inr none) = absurd none
-mover_less (dists.Hashed list) e (inl same) = less_by 1 e _ same (omega arith)
-mover_less (dists.Hashed list) e (inr none) = absurd none
+motion_less : (dist : Dist) (e : EnforcedBy) → Among e (motions_of dist) → AsksLess (dist_rank dist + 0) e
+motion_less dists.One e (inl same) = less_by 1 e _ same (omega arith)
+motion_less dists.One e (inr none) = absurd none
+motion_less dists.Spread e none = absurd none
+motion_less dists.Copies e (inl same) = less_by 1 e _ same (omega arith)
+motion_less dists.Copies e (inr none) = absurd none
+motion_less (dists.Hashed list) e (inl same) = less_by 1 e _ same (omega arith)
+motion_less (dists.Hashed list) e (inr none) = absurd none
 
 sorter_less : (dist : Dist) (place : ℕ) (e : EnforcedBy) → Among e (enforcers_by dist (suc place))
     → AsksLess (dist_rank dist + 1) e
@@ -58,7 +58,7 @@ sorter_less (dists.Hashed list) place e (inr none) = absurd none
 -- an enforcer asks for less than it gives
 enforcer_by : (dist : Dist) (order : ℕ) (e : EnforcedBy) → Among e (enforcers_by dist order)
     → AsksLess (dist_rank dist + order_rank order) e
-enforcer_by dist zero e among = mover_less dist e among
+enforcer_by dist zero e among = motion_less dist e among
 enforcer_by dist (suc place) e among = sorter_less dist place e among
 
 enforcer_less : (wanted : Request) (e : EnforcedBy) → Among e (enforcers_of wanted)

@@ -27,12 +27,12 @@ below_of (enforcers.Redistribute list) wanted = request Spread 0
 abbrev pub enforced_for : Enforcer → Request → EnforcedBy
 enforced_for node wanted = enforced node (below_of node wanted)
 
--- the enforcers for a distribution in no order
-abbrev pub movers_of : Dist → List EnforcedBy
-movers_of One = enforced_for enforcers.Gather (request One 0) ∷ []
-movers_of Spread = []
-movers_of Copies = enforced_for enforcers.Broadcast (request Copies 0) ∷ []
-movers_of (Hashed list) = enforced_for (enforcers.Redistribute list) (request (Hashed list) 0) ∷ []
+-- the motions that bring rows to a distribution, in no order
+abbrev pub motions_of : Dist → List EnforcedBy
+motions_of One = enforced_for enforcers.Gather (request One 0) ∷ []
+motions_of Spread = []
+motions_of Copies = enforced_for enforcers.Broadcast (request Copies 0) ∷ []
+motions_of (Hashed list) = enforced_for (enforcers.Redistribute list) (request (Hashed list) 0) ∷ []
 
 -- the enforcers that keep an order while they bring rows to this distribution
 abbrev pub mergers_of : Dist → ℕ → List EnforcedBy
@@ -43,7 +43,7 @@ mergers_of (Hashed list) order = []
 
 -- the enforcers for a distribution and an order; each order may be made by sorting
 abbrev pub enforcers_by : Dist → ℕ → List EnforcedBy
-enforcers_by dist zero = movers_of dist
+enforcers_by dist zero = motions_of dist
 enforcers_by dist (suc o) = enforced_for (enforcers.Sort (suc o)) (request dist (suc o)) ∷ mergers_of dist (suc o)
 
 -- the enforcers for a request, ascending by number

@@ -9,7 +9,7 @@ use Rattle.request_props.specs.declared.request.Request.{Request}
 use Rattle.plan_space.specs.declared.nodes.Enforcer.TheVariants.{Sort, GatherMerge}
 use Rattle.plan_space.specs.declared.nodes.NodeKind.TheVariants as nodes
 use Rattle.plan_space.specs.Lines.{request}
-use Rattle.plan_space.specs.Enforcers.{EnforcedBy, enforced, movers_of, mergers_of, enforcers_by, enforcers_of}
+use Rattle.plan_space.specs.Enforcers.{EnforcedBy, enforced, motions_of, mergers_of, enforcers_by, enforcers_of}
 use Rattle.plan_tree.specs.Nodes.{IsNode}
 use Rattle.plan_tree.specs.declared.enforcers.Enforced.{Enforced}
 use Rattle.plan_tree.specs.Enforcers.{LiesIn, AreKept, AreBoth}
@@ -74,11 +74,11 @@ kept_all q group (e ∷ others) kept lie (inl (fits, (rest, are, is))) = let sam
     kept_all q group others rest lie.1 are in cc
 kept_all q group (e ∷ others) kept lie (inr (never, are)) = absurd (never lie.0)
 
-movers_lie : (q : Query) (group : KeyParts) (dist : Dist) → DistFits q group dist → AllLie q group (movers_of dist)
-movers_lie q group One fits = (tt, tt)
-movers_lie q group Spread fits = tt
-movers_lie q group Copies fits = (tt, tt)
-movers_lie q group (Hashed list) fits = (fits, tt)
+motions_lie : (q : Query) (group : KeyParts) (dist : Dist) → DistFits q group dist → AllLie q group (motions_of dist)
+motions_lie q group One fits = (tt, tt)
+motions_lie q group Spread fits = tt
+motions_lie q group Copies fits = (tt, tt)
+motions_lie q group (Hashed list) fits = (fits, tt)
 
 mergers_lie : (q : Query) (group : KeyParts) (dist : Dist) (order : ℕ) → OrderFits q group order
     → AllLie q group (mergers_of dist order)
@@ -89,7 +89,7 @@ mergers_lie q group (Hashed list) order fits = tt
 
 all_lie : (q : Query) (group : KeyParts) (dist : Dist) (order : ℕ) → DistFits q group dist → OrderFits q group order
     → AllLie q group (enforcers_by dist order)
-all_lie q group dist zero dist_fits order_fits = movers_lie q group dist dist_fits
+all_lie q group dist zero dist_fits order_fits = motions_lie q group dist dist_fits
 all_lie q group dist (suc o) dist_fits order_fits = (order_fits, mergers_lie q group dist (suc o) order_fits)
 
 -- so these are all that are kept

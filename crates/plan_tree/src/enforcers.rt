@@ -6,7 +6,7 @@ ghost use Rattle.query_core.specs.Keys.{IsGroup, IsKey, Names};
 ghost use Rattle.query_core.specs.declared.words.KeyParts.{KeyParts as Group};
 ghost use Rattle.request_props.specs.Numbered.{IsProps};
 ghost use Rattle.request_props.specs.Fitting.{Fits};
-ghost use Rattle.plan_space.specs.Enforcers.{Among, EnforcedBy, below_of, enforcers_of, movers_of};
+ghost use Rattle.plan_space.specs.Enforcers.{Among, EnforcedBy, below_of, enforcers_of, motions_of};
 ghost use Rattle.plan_space.specs.declared.nodes.NodeKind.TheVariants.{Enforcer as enforcing};
 ghost use Rattle.plan_tree.specs.Nodes.{EnforcerInRange, IsNode};
 ghost use Rattle.plan_tree.specs.Enforcers.{AreBoth, IsEnforced, IsEnforcerAt};
@@ -96,7 +96,7 @@ fn both(
     ensures { AreBoth query.now group (enforcers_of request) result.0 result.1 }
 {
     if request.order == 0 {
-        return (mover(query, props, group, request), None);
+        return (motion(query, props, group, request), None);
     }
     if !props.order_fits(query, group, request.order) {
         return (None, None);
@@ -114,9 +114,9 @@ fn both(
 }
 
 // The enforcer that brings rows to the distribution, where no order is asked for.
-fn mover(query: &Query, props: &Props, group: KeyParts, request: Request) -> Option<Enforced>
+fn motion(query: &Query, props: &Props, group: KeyParts, request: Request) -> Option<Enforced>
     requires { IsProps query.now props.now }
-    ensures { AreBoth query.now group (movers_of request.dist) result None }
+    ensures { AreBoth query.now group (motions_of request.dist) result None }
 {
     match request.dist {
         Dist::One => Some(over(Enforcer::Gather, request)),

@@ -4,7 +4,7 @@ use Rattle.plan_space.specs.declared.nodes.Enforcer.TheVariants.{Gather, Broadca
 use Rattle.plan_space.specs.Lines.{request}
 use Rattle.plan_space.specs.Enforcers.{enforced}
 use Rattle.plan_tree.proofs.Kept.{one_fits}
-use Rattle.plan_tree.proofs.enforcers.mover.Goals as goal
+use Rattle.plan_tree.proofs.enforcers.motion.Goals as goal
 
 pub returns-in-One : goal.returns-in-One
 returns-in-One c =
