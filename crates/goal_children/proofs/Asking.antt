@@ -46,7 +46,7 @@ plain_dist left_dists.SameSpread = dists.Spread
 
 -- a request that fits each group, and that the line serves if it serves any
 abbrev plain_request : Line → Request
-plain_request (lines.Alone dist order) = request (plain_of dist) 0
+plain_request (lines.Leaf dist order) = request (plain_of dist) 0
 plain_request (lines.Above dist order) = request (plain_dist dist) 0
 plain_request (lines.Beside dist order right) = request (plain_dist dist) 0
 
@@ -71,7 +71,7 @@ module _ (q : Query) where
   plain_dist_fits group left_dists.SameSpread = unordered_fits group dists.Spread tt
 
   plain_fits : (group : KeyParts) (line : Line) → Fits q group (plain_request line)
-  plain_fits group (lines.Alone dist order) = plain_of_fits group dist
+  plain_fits group (lines.Leaf dist order) = plain_of_fits group dist
   plain_fits group (lines.Above dist order) = plain_dist_fits group dist
   plain_fits group (lines.Beside dist order right) = plain_dist_fits group dist
 
@@ -118,12 +118,12 @@ module _ (q : Query) where
 
   plain_served : (line : Line) (children : Children) (wanted : Request) → LineServes q line children wanted
       → LineServes q line children (plain_request line)
-  plain_served (lines.Alone given.One order) arities.Zero wanted serves = record { dist = tt; order = tt }
-  plain_served (lines.Alone (given.Hashed list) order) arities.Zero wanted serves = record { dist = tt; order = tt }
-  plain_served (lines.Alone given.Random order) arities.Zero wanted serves = record { dist = tt; order = tt }
-  plain_served (lines.Alone given.Copies order) arities.Zero wanted serves = record { dist = tt; order = tt }
-  plain_served (lines.Alone dist order) (arities.One child) wanted serves = absurd serves
-  plain_served (lines.Alone dist order) (arities.Two left right) wanted serves = absurd serves
+  plain_served (lines.Leaf given.One order) arities.Zero wanted serves = record { dist = tt; order = tt }
+  plain_served (lines.Leaf (given.Hashed list) order) arities.Zero wanted serves = record { dist = tt; order = tt }
+  plain_served (lines.Leaf given.Random order) arities.Zero wanted serves = record { dist = tt; order = tt }
+  plain_served (lines.Leaf given.Copies order) arities.Zero wanted serves = record { dist = tt; order = tt }
+  plain_served (lines.Leaf dist order) (arities.One child) wanted serves = absurd serves
+  plain_served (lines.Leaf dist order) (arities.Two left right) wanted serves = absurd serves
   plain_served (lines.Above dist order) arities.Zero wanted serves = absurd serves
   plain_served (lines.Above dist order) (arities.One child) wanted serves = plain_left_served dist order wanted serves
   plain_served (lines.Above dist order) (arities.Two left right) wanted serves = absurd serves
@@ -168,8 +168,8 @@ module _ (q : Query) where
       → IsAsked (groups_of children) (asked_of line wanted) group below
       → IsNumberedRequest q below
   wish_numbered line arities.Zero wanted group below numbered fit asked = absurd asked
-  wish_numbered (lines.Alone dist order) (arities.One child) wanted group below numbered fit asked = absurd asked
-  wish_numbered (lines.Alone dist order) (arities.Two left right) wanted group below numbered fit asked = absurd asked
+  wish_numbered (lines.Leaf dist order) (arities.One child) wanted group below numbered fit asked = absurd asked
+  wish_numbered (lines.Leaf dist order) (arities.Two left right) wanted group below numbered fit asked = absurd asked
   wish_numbered (lines.Above dist order) (arities.One child) wanted group below numbered fit (inl same) =
       subst (IsNumberedRequest q) (sym same.1) (left_numbered child dist order wanted numbered fit.0)
   wish_numbered (lines.Above dist order) (arities.One child) wanted group below numbered fit (inr none) = absurd none

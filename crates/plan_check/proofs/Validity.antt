@@ -9,7 +9,7 @@ use Rattle.plan_space.specs.declared.nodes.NodeKind.{NodeKind}
 use Rattle.plan_space.specs.declared.nodes.NodeKind.TheVariants as nodes
 use Rattle.plan_space.specs.Nodes.{Tree, leaf, over, two}
 use Rattle.plan_space.specs.declared.lines.Line.{Line}
-use Rattle.plan_space.specs.declared.lines.Line.TheVariants.{Alone, Above, Beside}
+use Rattle.plan_space.specs.declared.lines.Line.TheVariants.{Leaf, Above, Beside}
 use Rattle.plan_space.specs.Lines.{line_of}
 use Rattle.plan_space.specs.declared.seen.Kid.{Kid}
 use Rattle.plan_space.specs.Valid.{OverOne, FitsBy, NodeFits, IsValid, EnforcerFits}
@@ -53,7 +53,7 @@ over_one Fact (kid ∷ other ∷ others) fits = absurd fits
 line_kids : (q : Query) (found : Option Line) (children : Children) (kids : List Kid) → FitsBy q found children kids
     → AreOf (groups_of children) kids
 line_kids q None children kids fits = absurd fits
-line_kids q (Some (Alone dist order)) children kids fits = rw (fits.0, fits.1) tt
+line_kids q (Some (Leaf dist order)) children kids fits = rw (fits.0, fits.1) tt
 line_kids q (Some (Above dist order)) children [] fits = absurd fits
 line_kids q (Some (Above dist order)) children (kid ∷ []) fits = rw fits.of_child (refl, tt)
 line_kids q (Some (Above dist order)) children (kid ∷ other ∷ others) fits = absurd fits

@@ -97,7 +97,7 @@ fn line_fits(query: &Query, props: &Props, line: Line, children: Children, below
         LineFits query.now line children (kids_seen below) }
 {
     match (line, below) {
-        (Line::Alone(_, _), Below::Nothing) => children == Children::Zero,
+        (Line::Leaf(_, _), Below::Nothing) => children == Children::Zero,
         (Line::Above(dist, order), Below::One(kid)) => {
             children == Children::One(kid.group) && left_needs(query, props, dist, order, kid.given)
         }

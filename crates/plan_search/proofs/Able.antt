@@ -8,7 +8,7 @@ use Rattle.query_core.specs.declared.expressions.Children.TheVariants.{Zero, One
 use Rattle.request_props.specs.declared.request.Dist.{Dist}
 use Rattle.request_props.specs.declared.request.Request.{Request}
 use Rattle.plan_space.specs.declared.lines.Line.{Line}
-use Rattle.plan_space.specs.declared.lines.Line.TheVariants.{Alone, Above, Beside}
+use Rattle.plan_space.specs.declared.lines.Line.TheVariants.{Leaf, Above, Beside}
 use Rattle.plan_space.specs.Lines.{line_of}
 use Rattle.plan_space.specs.Alternatives.{LineServes}
 use Rattle.plan_tree.specs.Alternatives.{MayGive}
@@ -20,9 +20,9 @@ use Rattle.plan_search.proofs.Tried.{rises_less, take_more}
 -- a line that serves a request may give its distribution
 pub serves_gives : (q : Query) (line : Line) (children : Children) (wanted : Request)
     → LineServes q line children wanted → MayGive q line wanted.dist
-serves_gives q (Alone given order) Zero wanted serves = serves.dist
-serves_gives q (Alone given order) (One child) wanted serves = absurd serves
-serves_gives q (Alone given order) (Two left right) wanted serves = absurd serves
+serves_gives q (Leaf given order) Zero wanted serves = serves.dist
+serves_gives q (Leaf given order) (One child) wanted serves = absurd serves
+serves_gives q (Leaf given order) (Two left right) wanted serves = absurd serves
 serves_gives q (Above left order) Zero wanted serves = absurd serves
 serves_gives q (Above left order) (One child) wanted serves = serves.dist_served
 serves_gives q (Above left order) (Two one two) wanted serves = absurd serves

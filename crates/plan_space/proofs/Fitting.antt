@@ -65,7 +65,7 @@ AsksAbove q group child dist order = (wanted : Request) → Fits q group wanted 
 
 -- what the line asks fits the children: of one child for what fits the group, and of two where the line fixes it
 abbrev pub AsksFitting : Query → KeyParts → Line → Children → Type 0
-AsksFitting q group (lines.Alone dist order) children = ⊤
+AsksFitting q group (lines.Leaf dist order) children = ⊤
 AsksFitting q group (lines.Above dist order) Zero = ⊤
 AsksFitting q group (lines.Above dist order) (One child) = AsksAbove q group child dist order
 AsksFitting q group (lines.Above dist order) (Two left right) = ⊤
@@ -98,7 +98,7 @@ pub record LeftWithin (q : Query) (group left : KeyParts) (dist : LeftDist) (ord
 
 -- what the line gives over its children lies in the group
 abbrev pub GivesWithin : Query → KeyParts → Line → Children → Type 0
-GivesWithin q group (lines.Alone dist order) children = GivenFits q group (gives_so dist order)
+GivesWithin q group (lines.Leaf dist order) children = GivenFits q group (gives_so dist order)
 GivesWithin q group (lines.Above dist order) Zero = ⊤
 GivesWithin q group (lines.Above dist order) (One child) = LeftWithin q group child dist order
 GivesWithin q group (lines.Above dist order) (Two left right) = ⊤

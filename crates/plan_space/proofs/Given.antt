@@ -64,7 +64,7 @@ module _ (q : Query) where
   line_gives_fits : (group : KeyParts) (children : Children) (line : Line) (kids : List Kid)
       → IsFitting q group children line → LineFits q line children kids
       → KidsFit q kids → GivenFits q group (line_gives line kids)
-  line_gives_fits group children (lines.Alone dist order) kids fitting fits kids_fit = fitting.gives
+  line_gives_fits group children (lines.Leaf dist order) kids fitting fits kids_fit = fitting.gives
   line_gives_fits group children (lines.Above dist order) [] fitting fits kids_fit = absurd fits
   line_gives_fits group children (lines.Above dist order) (kid ∷ []) fitting fits kids_fit =
       let own = subst (λ c. IsFitting q group c (lines.Above dist order)) fits.of_child fitting in

@@ -71,7 +71,7 @@ same_left_class left_dists.SameSpread kids others alike = same_first_class kids 
 same_given_class : (found : Option Line) (kids others : List Kid) → AreAlike kids others
     → class_of (gives_by found kids).dist ≡ class_of (gives_by found others).dist
 same_given_class None kids others alike = refl
-same_given_class (Some (lines.Alone dist order)) kids others alike = refl
+same_given_class (Some (lines.Leaf dist order)) kids others alike = refl
 same_given_class (Some (lines.Above dist order)) kids others alike = same_left_class dist kids others alike
 same_given_class (Some (lines.Beside dist order wanted)) kids others alike = same_left_class dist kids others alike
 
@@ -112,7 +112,7 @@ module _ (q : Query) (children : Children) where
   pub kids_of_children : (found : Option Line) (kids : List Kid) → FitsBy q found children kids
       → AreOf (groups_of children) kids
   kids_of_children None kids fits = absurd fits
-  kids_of_children (Some (lines.Alone dist order)) kids fits =
+  kids_of_children (Some (lines.Leaf dist order)) kids fits =
       subst (λ (c : Children). AreOf (groups_of c) kids) (sym fits.0)
       (subst (λ (k : List Kid). AreOf [] k) (sym fits.1) tt)
   kids_of_children (Some (lines.Above dist order)) kids fits = one_of dist order kids fits

@@ -99,7 +99,7 @@ module _ (q : Query) (children : Children) where
 
   line_arity : (found : Option Line) (kids : List Kid) → FitsBy q found children kids → length kids ≡ arity_in children
   line_arity None kids fits = absurd fits
-  line_arity (Some (lines.Alone dist order)) kids fits = ap length fits.1 ∙ sym (ap arity_in fits.0)
+  line_arity (Some (lines.Leaf dist order)) kids fits = ap length fits.1 ∙ sym (ap arity_in fits.0)
   line_arity (Some (lines.Above dist order)) kids fits = above_arity dist order kids fits
   line_arity (Some (lines.Beside dist order wanted)) kids fits = beside_arity dist order wanted kids fits
 

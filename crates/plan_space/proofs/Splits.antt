@@ -31,8 +31,8 @@ line_splits : (q : Query) (group : KeyParts) (line : Line) (children : Children)
     → AsksFitting q group line children → KidsFit q kids
     → IsNumbered q wanted.order → LineFits q line children kids → Satisfies q (line_gives line kids) wanted
     → LineServes q line children wanted × KidsServe q kids (asked_of line wanted)
-line_splits q group (lines.Alone dist order) children kids wanted asks fit numbered (none, no_kids) satisfies = (
-  subst (λ c. LineServes q (lines.Alone dist order) c wanted) (sym none) satisfies,
+line_splits q group (lines.Leaf dist order) children kids wanted asks fit numbered (none, no_kids) satisfies = (
+  subst (λ c. LineServes q (lines.Leaf dist order) c wanted) (sym none) satisfies,
   subst (λ ks. KidsServe q ks []) (sym no_kids) tt,
 )
 line_splits q group (lines.Above dist order) children [] wanted asks fit numbered fits satisfies = absurd fits
@@ -72,11 +72,11 @@ line_joins : (q : Query) (line : Line) (children : Children) (kids : List Kid) (
     → LineServes q line children wanted
     → AreOf (groups_of children) kids → KidsServe q kids (asked_of line wanted)
     → LineFits q line children kids × Satisfies q (line_gives line kids) wanted
-line_joins q (lines.Alone dist order) arities.Zero [] wanted serves of_children kids_serve = ((refl, refl), serves)
-line_joins q (lines.Alone dist order) arities.Zero (kid ∷ kids) wanted serves of_children kids_serve =
+line_joins q (lines.Leaf dist order) arities.Zero [] wanted serves of_children kids_serve = ((refl, refl), serves)
+line_joins q (lines.Leaf dist order) arities.Zero (kid ∷ kids) wanted serves of_children kids_serve =
     absurd of_children
-line_joins q (lines.Alone dist order) (arities.One child) kids wanted serves of_children kids_serve = absurd serves
-line_joins q (lines.Alone dist order) (arities.Two left right) kids wanted serves of_children kids_serve = absurd serves
+line_joins q (lines.Leaf dist order) (arities.One child) kids wanted serves of_children kids_serve = absurd serves
+line_joins q (lines.Leaf dist order) (arities.Two left right) kids wanted serves of_children kids_serve = absurd serves
 line_joins q (lines.Above dist order) arities.Zero kids wanted serves of_children kids_serve = absurd serves
 line_joins q (lines.Above dist order) (arities.One child) [] wanted serves of_children kids_serve = absurd of_children
 line_joins q (lines.Above dist order) (arities.One child) (kid ∷ []) wanted serves of_children kids_serve =
@@ -148,9 +148,9 @@ satisfaction_joins q e mode line kids wanted alternative of_children kids_serve 
 line_asks : (q : Query) (group : KeyParts) (line : Line) (children : Children) (wanted : Request)
     → AsksFitting q group line children → Fits q group wanted
     → LineServes q line children wanted → RequestsFit q (groups_of children) (asked_of line wanted)
-line_asks q group (lines.Alone dist order) arities.Zero wanted asks fits serves = tt
-line_asks q group (lines.Alone dist order) (arities.One child) wanted asks fits serves = absurd serves
-line_asks q group (lines.Alone dist order) (arities.Two left right) wanted asks fits serves = absurd serves
+line_asks q group (lines.Leaf dist order) arities.Zero wanted asks fits serves = tt
+line_asks q group (lines.Leaf dist order) (arities.One child) wanted asks fits serves = absurd serves
+line_asks q group (lines.Leaf dist order) (arities.Two left right) wanted asks fits serves = absurd serves
 line_asks q group (lines.Above dist order) arities.Zero wanted asks fits serves = absurd serves
 line_asks q group (lines.Above dist order) (arities.One child) wanted asks fits serves = (asks wanted fits serves, tt)
 line_asks q group (lines.Above dist order) (arities.Two left right) wanted asks fits serves = absurd serves

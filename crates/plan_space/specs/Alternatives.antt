@@ -71,9 +71,9 @@ pub record JoinServes (q : Query) (left : KeyParts) (dist : LeftDist) (order : L
 
 -- the line is there for the request, over these children
 abbrev pub LineServes : Query → Line → Children → Request → Type 0
-LineServes q (lines.Alone dist order) arities.Zero wanted = Satisfies q (gives_so dist order) wanted
-LineServes q (lines.Alone dist order) (arities.One child) wanted = ⊥
-LineServes q (lines.Alone dist order) (arities.Two left right) wanted = ⊥
+LineServes q (lines.Leaf dist order) arities.Zero wanted = Satisfies q (gives_so dist order) wanted
+LineServes q (lines.Leaf dist order) (arities.One child) wanted = ⊥
+LineServes q (lines.Leaf dist order) (arities.Two left right) wanted = ⊥
 LineServes q (lines.Above dist order) arities.Zero wanted = ⊥
 LineServes q (lines.Above dist order) (arities.One child) wanted = LeftServes q dist order wanted
 LineServes q (lines.Above dist order) (arities.Two left right) wanted = ⊥
@@ -83,7 +83,7 @@ LineServes q (lines.Beside dist order request) (arities.Two left right) wanted =
 
 -- what the line asks of each child, the left one first
 abbrev pub asked_of : Line → Request → List Request
-asked_of (lines.Alone dist order) wanted = []
+asked_of (lines.Leaf dist order) wanted = []
 asked_of (lines.Above dist order) wanted = left_asked dist order wanted ∷ []
 asked_of (lines.Beside dist order request) wanted = left_asked dist order wanted ∷ request ∷ []
 

@@ -54,7 +54,7 @@ left_gives dist order given = gives_so (left_dist dist given.dist) (left_order o
 
 -- what a line gives over its kids
 abbrev pub line_gives : Line → List Kid → Given
-line_gives (lines.Alone dist order) kids = gives_so dist order
+line_gives (lines.Leaf dist order) kids = gives_so dist order
 line_gives (lines.Above dist order) kids = left_gives dist order (first_given kids)
 line_gives (lines.Beside dist order right) kids = left_gives dist order (first_given kids)
 

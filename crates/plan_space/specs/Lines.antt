@@ -20,7 +20,7 @@ use Rattle.plan_space.specs.declared.lines.LeftDist.TheVariants as left_dists
 use Rattle.plan_space.specs.declared.lines.LeftOrder.{LeftOrder}
 use Rattle.plan_space.specs.declared.lines.LeftOrder.TheVariants as left_orders
 use Rattle.plan_space.specs.declared.lines.Line.{Line}
-use Rattle.plan_space.specs.declared.lines.Line.TheVariants.{Alone, Above, Beside}
+use Rattle.plan_space.specs.declared.lines.Line.TheVariants.{Leaf, Above, Beside}
 use Rattle.plan_space.specs.Modes.{mode_at}
 use Rattle.plan_space.specs.declared.modes.Mode.{Mode}
 use Rattle.plan_space.specs.declared.modes.Mode.TheVariants.{One, Copied, Hashed}
@@ -62,7 +62,7 @@ table_in groups.Agg = 0
 
 -- the rows of a group's table where they lie, in this order
 abbrev pub table_line : Query → KeyParts → GivenOrder → Line
-table_line q group order = Alone (table_dist q (table_in group)) order
+table_line q group order = Leaf (table_dist q (table_in group)) order
 
 -- a hash join of rows that are hashed alike on the two sides of an equality
 abbrev pub hash_colocated : Query → (ℕ × ℕ) → Line

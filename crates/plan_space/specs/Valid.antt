@@ -82,7 +82,7 @@ pub record TwoFit (q : Query) (children : Children) (dist : LeftDist) (order : L
 
 -- the line may stand over kids like these, where the children are these groups
 abbrev pub LineFits : Query → Line → Children → List Kid → Type 0
-LineFits q (lines.Alone dist order) children kids = (children ≡ arities.Zero) × (kids ≡ [])
+LineFits q (lines.Leaf dist order) children kids = (children ≡ arities.Zero) × (kids ≡ [])
 LineFits q (lines.Above dist order) children kids = OverOne (OneFits q children dist order) kids
 LineFits q (lines.Beside dist order request) children kids = OverTwo (TwoFit q children dist order request) kids
 

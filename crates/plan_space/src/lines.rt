@@ -30,7 +30,7 @@ pub enum LeftOrder {
 #[derive(Clone, Copy)]
 pub enum Line {
     /// Without children it gives this.
-    Alone(GivenDist, GivenOrder),
+    Leaf(GivenDist, GivenOrder),
     /// Over one child.
     Above(LeftDist, LeftOrder),
     /// Over a left child, and over a right child for this request.

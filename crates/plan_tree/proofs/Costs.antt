@@ -15,7 +15,7 @@ use Rattle.request_props.specs.declared.request.Request.{Request}
 use Rattle.plan_space.specs.declared.lines.LeftDist.{LeftDist}
 use Rattle.plan_space.specs.declared.lines.LeftDist.TheVariants as left_dists
 use Rattle.plan_space.specs.declared.lines.Line.{Line}
-use Rattle.plan_space.specs.declared.lines.Line.TheVariants.{Alone, Above, Beside}
+use Rattle.plan_space.specs.declared.lines.Line.TheVariants.{Leaf, Above, Beside}
 use Rattle.plan_space.specs.declared.nodes.Enforcer.{Enforcer}
 use Rattle.plan_space.specs.Enforcers.{EnforcedBy, enforcers_of, Among}
 use Rattle.plan_space.specs.Lines.{request}
@@ -73,9 +73,9 @@ module _ (agree : (dist : GivenDist) (asked : Dist) → Meets dist asked → cla
       → LineServes q line children wanted
       → AreOf (groups_of children) kids → KidsServe q kids (asked_of line wanted)
       → class_of (line_gives line kids).dist ≡ class_asked wanted.dist
-  line_met q (Alone dist order) arities.Zero kids wanted serves of serve = agree dist wanted.dist serves.dist
-  line_met q (Alone dist order) (arities.One child) kids wanted serves of serve = absurd serves
-  line_met q (Alone dist order) (arities.Two left right) kids wanted serves of serve = absurd serves
+  line_met q (Leaf dist order) arities.Zero kids wanted serves of serve = agree dist wanted.dist serves.dist
+  line_met q (Leaf dist order) (arities.One child) kids wanted serves of serve = absurd serves
+  line_met q (Leaf dist order) (arities.Two left right) kids wanted serves of serve = absurd serves
   line_met q (Above dist order) arities.Zero kids wanted serves of serve = absurd serves
   line_met q (Above dist order) (arities.One child) [] wanted serves of serve = absurd of
   line_met q (Above dist order) (arities.One child) (kid ∷ kids) wanted serves of serve =

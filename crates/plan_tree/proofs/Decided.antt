@@ -27,7 +27,7 @@ use Rattle.plan_space.specs.declared.lines.LeftDist.TheVariants as left_dists
 use Rattle.plan_space.specs.declared.lines.LeftOrder.{LeftOrder}
 use Rattle.plan_space.specs.declared.lines.LeftOrder.TheVariants as left_orders
 use Rattle.plan_space.specs.declared.lines.Line.{Line}
-use Rattle.plan_space.specs.declared.lines.Line.TheVariants.{Alone, Above, Beside}
+use Rattle.plan_space.specs.declared.lines.Line.TheVariants.{Leaf, Above, Beside}
 use Rattle.plan_space.specs.Lines.{line_of}
 use Rattle.plan_space.specs.Gives.{gives_so}
 use Rattle.plan_space.specs.Alternatives.{WantsSpread, DistServes, OrderServes, LeftServes, JoinServes, left_asked}
@@ -144,9 +144,9 @@ join_serves q left dist order wanted =
 
 line_serves : (q : Query) (line : Line) (children : Children) (wanted : Request)
     → IsDecided (LineServes q line children wanted)
-line_serves q (Alone dist order) arities.Zero wanted = satisfies q (gives_so dist order) wanted
-line_serves q (Alone dist order) (arities.One child) wanted = inr (λ serves. serves)
-line_serves q (Alone dist order) (arities.Two left right) wanted = inr (λ serves. serves)
+line_serves q (Leaf dist order) arities.Zero wanted = satisfies q (gives_so dist order) wanted
+line_serves q (Leaf dist order) (arities.One child) wanted = inr (λ serves. serves)
+line_serves q (Leaf dist order) (arities.Two left right) wanted = inr (λ serves. serves)
 line_serves q (Above dist order) arities.Zero wanted = inr (λ serves. serves)
 line_serves q (Above dist order) (arities.One child) wanted = left_serves q dist order wanted
 line_serves q (Above dist order) (arities.Two left right) wanted = inr (λ serves. serves)

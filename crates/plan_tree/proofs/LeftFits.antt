@@ -26,7 +26,7 @@ use Rattle.plan_space.specs.declared.lines.LeftDist.TheVariants as left_dists
 use Rattle.plan_space.specs.declared.lines.LeftOrder.{LeftOrder}
 use Rattle.plan_space.specs.declared.lines.LeftOrder.TheVariants as left_orders
 use Rattle.plan_space.specs.declared.lines.Line.{Line}
-use Rattle.plan_space.specs.declared.lines.Line.TheVariants.{Alone, Above, Beside}
+use Rattle.plan_space.specs.declared.lines.Line.TheVariants.{Leaf, Above, Beside}
 use Rattle.plan_space.specs.Modes.{mode_at}
 use Rattle.plan_space.specs.declared.modes.Mode.{Mode}
 use Rattle.plan_tree.specs.Alternatives.{HasAlternative}
@@ -59,7 +59,7 @@ dist_mode q left_dists.SameSpread mode (Hashed list) is serves = is
 
 pub mode_for : (q : Query) (line : Line) (children : Children) (mode : Mode) (wanted : Request) → IsLineIn line mode
     → LineServes q line children wanted → IsModeFor wanted.dist mode
-mode_for q (Alone dist order) children mode wanted is serves = absurd is
+mode_for q (Leaf dist order) children mode wanted is serves = absurd is
 mode_for q (Above dist order) arities.Zero mode wanted is serves = absurd serves
 mode_for q (Above dist order) (arities.One child) mode wanted is serves =
     dist_mode q dist mode wanted.dist is.0 serves.dist_served
@@ -110,7 +110,7 @@ order_fits q left left_orders.Same wanted is serves lies = lies
 line_fits : (q : Query) (line : Line) (left right : KeyParts) (mode : Mode) (wanted : Request)
     → IsNumbered q wanted.order → IsLineIn line mode
     → LineServes q line (arities.Two left right) wanted → Fits q left wanted
-line_fits q (Alone dist order) left right mode wanted numbered is serves = absurd is
+line_fits q (Leaf dist order) left right mode wanted numbered is serves = absurd is
 line_fits q (Above dist order) left right mode wanted numbered is serves = absurd serves
 line_fits q (Beside dist order asked) left right mode wanted numbered is serves = record {
   dist = dist_fits q left dist mode wanted.dist is.0 serves.serves.dist_served serves.fits.dist;

@@ -19,7 +19,7 @@ use Rattle.plan_space.specs.declared.lines.LeftDist.TheVariants as left_dists
 use Rattle.plan_space.specs.declared.lines.LeftOrder.{LeftOrder}
 use Rattle.plan_space.specs.declared.lines.LeftOrder.TheVariants as left_orders
 use Rattle.plan_space.specs.declared.lines.Line.{Line}
-use Rattle.plan_space.specs.declared.lines.Line.TheVariants.{Alone, Above, Beside}
+use Rattle.plan_space.specs.declared.lines.Line.TheVariants.{Leaf, Above, Beside}
 use Rattle.plan_space.specs.Modes.{IsOnOne, IsSpread}
 use Rattle.plan_space.specs.declared.modes.Mode.{Mode}
 use Rattle.plan_space.specs.declared.modes.Mode.TheVariants as modes
@@ -42,7 +42,7 @@ IsOrderOfLeft left_orders.Same = ⊤
 
 -- so is what the line gives, which has a child
 abbrev pub IsLineIn : Line → Mode → Type 0
-IsLineIn (Alone dist order) mode = ⊥
+IsLineIn (Leaf dist order) mode = ⊥
 IsLineIn (Above dist order) mode = IsDistIn dist mode × IsOrderOfLeft order
 IsLineIn (Beside dist order right) mode = IsDistIn dist mode × IsOrderOfLeft order
 

@@ -21,7 +21,7 @@ use Rattle.plan_space.specs.Alternatives.{LineServes, OrderServes}
 use Rattle.plan_space.specs.Lines.{only_line, hash_colocated, hash_line, operator_line, in_order}
 use Rattle.plan_space.specs.declared.lines.LeftOrder.{LeftOrder}
 use Rattle.plan_space.specs.declared.lines.Line.{Line}
-use Rattle.plan_space.specs.declared.lines.Line.TheVariants.{Alone, Above, Beside}
+use Rattle.plan_space.specs.declared.lines.Line.TheVariants.{Leaf, Above, Beside}
 use Rattle.plan_space.specs.Modes.{mode_at}
 use Rattle.plan_space.specs.declared.modes.Mode.{Mode}
 use Rattle.plan_space.specs.declared.modes.Mode.TheVariants as modes
@@ -29,7 +29,7 @@ use Rattle.plan_tree.specs.ServingModes.{MayServe}
 
 -- the line gives the empty order
 abbrev IsUnordered : Line → Type 0
-IsUnordered (Alone dist order) = order ≡ Listed 0
+IsUnordered (Leaf dist order) = order ≡ Listed 0
 IsUnordered (Above dist order) = order ≡ in_order 0
 IsUnordered (Beside dist order right) = order ≡ in_order 0
 
@@ -64,10 +64,10 @@ in_none q order wanted is serves = subst (λ (o : LeftOrder). OrderServes q o wa
 
 none_serves : (q : Query) (line : Line) (children : Children) (wanted : Request) → IsUnordered line
     → LineServes q line children wanted → BeginsWith [] (order_of q wanted.order)
-none_serves q (Alone dist order) arities.Zero wanted is serves =
+none_serves q (Leaf dist order) arities.Zero wanted is serves =
     subst (λ (o : GivenOrder). BeginsWith (given_order q o) (order_of q wanted.order)) is serves.order
-none_serves q (Alone dist order) (arities.One child) wanted is serves = absurd serves
-none_serves q (Alone dist order) (arities.Two left right) wanted is serves = absurd serves
+none_serves q (Leaf dist order) (arities.One child) wanted is serves = absurd serves
+none_serves q (Leaf dist order) (arities.Two left right) wanted is serves = absurd serves
 none_serves q (Above dist order) arities.Zero wanted is serves = absurd serves
 none_serves q (Above dist order) (arities.One child) wanted is serves =
     in_none q order wanted.order is serves.order_served

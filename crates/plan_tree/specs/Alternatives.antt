@@ -13,7 +13,7 @@ use Rattle.request_props.specs.declared.request.Dist.{Dist}
 use Rattle.request_props.specs.declared.request.Request.{Request}
 use Rattle.plan_space.specs.declared.nodes.NodeKind.TheVariants.{Native}
 use Rattle.plan_space.specs.declared.lines.Line.{Line}
-use Rattle.plan_space.specs.declared.lines.Line.TheVariants.{Alone, Above, Beside}
+use Rattle.plan_space.specs.declared.lines.Line.TheVariants.{Leaf, Above, Beside}
 use Rattle.plan_space.specs.Alternatives.{DistServes, IsAlternative, asked_of}
 use Rattle.plan_space.specs.Choices.{groups_of}
 use Rattle.plan_tree.specs.Nodes.{IsNode}
@@ -21,7 +21,7 @@ use Rattle.plan_tree.specs.declared.alternatives.Alt.{Alt}
 
 -- the line may give the distribution
 abbrev pub MayGive : Query → Line → Dist → Type 0
-MayGive q (Alone given order) dist = Meets given dist
+MayGive q (Leaf given order) dist = Meets given dist
 MayGive q (Above left order) dist = DistServes q left dist
 MayGive q (Beside left order request) dist = DistServes q left dist
 

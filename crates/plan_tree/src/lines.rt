@@ -81,7 +81,7 @@ fn table_line(query: &Query, props: &Props, group: KeyParts, order: GivenOrder) 
     requires { IsProps query.now props.now }
     ensures { result ≡ line_of_table query.now group order }
 {
-    Line::Alone(props.table_dist(query, table_in(group)), order)
+    Line::Leaf(props.table_dist(query, table_in(group)), order)
 }
 
 // An aggregation that gives this order, over a child in the same order: on one segment, or for

@@ -190,7 +190,7 @@ fn line_gives(line: Line, below: Below) -> Given
     ensures { result ≡ given_by_line line (kids_seen below) }
 {
     match line {
-        Line::Alone(dist, order) => Given { dist, order },
+        Line::Leaf(dist, order) => Given { dist, order },
         Line::Above(dist, order) => left_gives(dist, order, first_given(below)),
         Line::Beside(dist, order, _) => left_gives(dist, order, first_given(below)),
     }

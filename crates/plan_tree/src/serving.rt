@@ -23,7 +23,7 @@ pub fn serves(query: &Query, props: &Props, line: Line, children: Children, want
     ensures { IsTrue result ↔ LineServes query.now line children wanted }
 {
     match (line, children) {
-        (Line::Alone(dist, order), Children::Zero) => gives(query, props, dist, order, wanted),
+        (Line::Leaf(dist, order), Children::Zero) => gives(query, props, dist, order, wanted),
         (Line::Above(dist, order), Children::One(_)) => {
             left_serves(query, props, dist, order, wanted)
         }
@@ -40,7 +40,7 @@ pub fn may_give(query: &Query, props: &Props, line: Line, wanted: Dist) -> bool
     ensures { IsTrue result ↔ MayGive query.now line wanted }
 {
     match line {
-        Line::Alone(dist, _) => meets(dist, wanted),
+        Line::Leaf(dist, _) => meets(dist, wanted),
         Line::Above(dist, _) => dist_serves(query, props, dist, wanted),
         Line::Beside(dist, _, _) => dist_serves(query, props, dist, wanted),
     }
@@ -51,7 +51,7 @@ pub fn asked_left(line: Line, wanted: Request) -> Option<Request>
     ensures { result ≡ slice_get (asked_of line wanted) 0 }
 {
     match line {
-        Line::Alone(_, _) => None,
+        Line::Leaf(_, _) => None,
         Line::Above(dist, order) => Some(left_asked(dist, order, wanted)),
         Line::Beside(dist, order, _) => Some(left_asked(dist, order, wanted)),
     }
@@ -62,7 +62,7 @@ pub fn asked_right(line: Line, wanted: Request) -> Option<Request>
     ensures { result ≡ slice_get (asked_of line wanted) 1 }
 {
     match line {
-        Line::Alone(_, _) => None,
+        Line::Leaf(_, _) => None,
         Line::Above(_, _) => None,
         Line::Beside(_, _, right) => Some(right),
     }

@@ -6,7 +6,7 @@ use Rattle.request_props.specs.declared.request.Request.{Request}
 use Rattle.plan_space.specs.Alternatives.{LineServes, asked_of}
 use Rattle.plan_space.specs.Choices.{groups_of}
 use Rattle.plan_space.specs.declared.lines.Line.{Line}
-use Rattle.plan_space.specs.declared.lines.Line.TheVariants.{Alone, Above, Beside}
+use Rattle.plan_space.specs.declared.lines.Line.TheVariants.{Leaf, Above, Beside}
 use Rattle.plan_tree.specs.Alternatives.{AreAsked, IsAsk}
 use Rattle.plan_tree.specs.declared.alternatives.Alt.{Alt}
 use Rattle.plan_tree.proofs.alternatives.alt_over.Goals as goal
@@ -17,9 +17,9 @@ both_asked : (q : Query) (alt : Alt) (line : Line) (children : Children) (wanted
     → IsAsk q alt.left (slice_get (groups_of children) 0) (slice_get (asked_of line wanted) 0)
     → IsAsk q alt.right (slice_get (groups_of children) 1) (slice_get (asked_of line wanted) 1)
     → AreAsked q alt (groups_of children) (asked_of line wanted)
-both_asked q alt (Alone dist order) Zero wanted serves left right = (left, right)
-both_asked q alt (Alone dist order) (One child) wanted serves left right = absurd serves
-both_asked q alt (Alone dist order) (Two first second) wanted serves left right = absurd serves
+both_asked q alt (Leaf dist order) Zero wanted serves left right = (left, right)
+both_asked q alt (Leaf dist order) (One child) wanted serves left right = absurd serves
+both_asked q alt (Leaf dist order) (Two first second) wanted serves left right = absurd serves
 both_asked q alt (Above dist order) Zero wanted serves left right = absurd serves
 both_asked q alt (Above dist order) (One child) wanted serves left right = (left, right)
 both_asked q alt (Above dist order) (Two first second) wanted serves left right = absurd serves
