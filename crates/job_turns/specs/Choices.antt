@@ -10,6 +10,7 @@ use Rattle.xform_rules.specs.Closure.{IsMember}
 use Rattle.request_props.specs.Fitting.{Fits}
 use Rattle.request_props.specs.Numbered.{IsWithinLimits}
 use Rattle.request_props.specs.declared.request.Request.{Request}
+use Rattle.plan_space.specs.Nodes.{node_modes}
 use Rattle.plan_space.specs.Lines.{line_of}
 use Rattle.plan_space.specs.Alternatives.{IsAlternative, asked_of}
 use Rattle.plan_space.specs.Choices.{groups_of}
@@ -105,7 +106,7 @@ pub record IsNative (q : Query) (native : Native) : Type 0 where
   pub fits : Fits q native.expr.group native.wanted
   pub rows : AreRowsOf q native.expr native.rows
   pub line : line_of q native.expr native.mode ≡ Some native.line
-  pub few : native.mode < 256
+  pub few : native.mode < node_modes
 
 -- the goal of what is asked, if something is, is a child of the goal with the word
 abbrev pub IsAskedByChild : Query → ℕ → Option (Key × Request) → Type 0

@@ -6,7 +6,7 @@ ghost use Rattle.query_core.specs.Keys.{IsKey, Names};
 ghost use Rattle.query_core.specs.declared.words.KeyParts.{KeyParts as Group};
 ghost use Rattle.request_props.specs.Numbered.{IsProps};
 ghost use Rattle.request_props.specs.declared.request.Request.{Request as Wish};
-ghost use Rattle.plan_space.specs.Nodes.{Tree};
+ghost use Rattle.plan_space.specs.Nodes.{Tree, node_modes};
 ghost use Rattle.plan_space.specs.declared.nodes.NodeKind.TheVariants.{Native};
 ghost use Rattle.plan_tree.specs.Alternatives.{AreAsked};
 ghost use Rattle.goal_space.specs.Goals.{IsGoal};
@@ -60,7 +60,7 @@ pub fn links_at(query: &Query, props: &Props, at: Linked, node: Node) -> Links
 fn native_links(query: &Query, props: &Props, at: Linked, expr: PhysicalExpr, mode: u32) -> Links
     requires props { IsProps query.now props.now }
     requires goal { IsGoal query.now (goal_of at) }
-    requires few { mode < 256 }
+    requires few { mode < node_modes }
     requires rooted { (plan : Tree) × IsRooted query.now at (Native expr mode) plan }
     ensures over { (plan : Tree) → IsRooted query.now at (Native expr mode) plan →
         IsOver query.now result plan }

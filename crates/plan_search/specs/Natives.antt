@@ -8,6 +8,7 @@ use Rattle.xform_rules.specs.Closure.{IsMember}
 use Rattle.request_props.specs.declared.request.Dist.{Dist}
 use Rattle.plan_space.specs.declared.nodes.NodeKind.TheVariants as nodes
 use Rattle.plan_space.specs.Nodes.{number_of}
+use Rattle.plan_space.specs.Modes.{modes_end}
 use Rattle.plan_space.specs.declared.lines.Line.{Line}
 use Rattle.plan_space.specs.Lines.{line_of}
 use Rattle.plan_search.specs.declared.native.Native.{Native}
@@ -26,7 +27,7 @@ pub record IsNative (q : Query) (group : KeyParts) (p : Native) : Type 0 where
   pub of_group : p.expr.group ≡ group
   pub line : line_of q p.expr p.mode ≡ Some p.line
   pub rows : AreRowsOf q p.expr p.rows
-  pub few : p.mode < 192
+  pub few : p.mode < modes_end
   pub small : mode_number p + 1 ≤ 2 ^ 57
 
 -- so is each of the list
@@ -93,4 +94,4 @@ pub record AreModesOf (q : Query) (e : PhysicalExpr) (bound : ℕ) (list : List 
 
 -- the expression in all its modes comes behind the list
 abbrev pub AddsModes : Query → PhysicalExpr → List Native → List Native → Type 0
-AddsModes q e old new = (modes : List Native) × AreModesOf q e 192 modes × (new ≡ old ++ modes)
+AddsModes q e old new = (modes : List Native) × AreModesOf q e modes_end modes × (new ≡ old ++ modes)

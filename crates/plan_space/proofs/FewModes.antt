@@ -14,7 +14,8 @@ use Rattle.query_core.specs.declared.words.KeyParts.{KeyParts}
 use Rattle.request_props.specs.Numbered.{lists_of, group_order}
 use Rattle.plan_space.specs.Lines.{only_line, hash_colocated, merge_colocated, agg_line, operator_line, line_of}
 use Rattle.plan_space.specs.declared.lines.Line.{Line}
-use Rattle.plan_space.specs.Modes.{mode_at}
+use Rattle.plan_space.specs.Nodes.{node_modes}
+use Rattle.plan_space.specs.Modes.{mode_at, modes_end}
 use Rattle.plan_space.specs.declared.modes.Mode.{Mode}
 use Rattle.plan_space.specs.declared.modes.Mode.TheVariants.{Hashed}
 use Rattle.plan_space.proofs.Few.{lists_few}
@@ -83,11 +84,11 @@ module _ (q : Query) (most : ℕ) (lists_fit : length (lists_of q) ≤ most) (pr
         omega (arith, far, hashed_few group operator (mode - 128) there)
   ]
 
--- an expression has lines in modes below 192 only, where the query has few hashed lists
+-- an expression has lines in modes below their end only, where the query has few hashed lists
 pub few_modes : (q : Query) → length (lists_of q) ≤ 60 → (e : PhysicalExpr) (mode : ℕ) (line : Line)
-    → line_of q e mode ≡ Some line → mode < 192
+    → line_of q e mode ≡ Some line → mode < modes_end
 few_modes q few e mode line = line_few q 64 (omega (arith, few)) (omega arith) line e.group e.operator mode
 
--- and below 256 in each query
-pub byte_modes : (q : Query) (e : PhysicalExpr) (mode : ℕ) (line : Line) → line_of q e mode ≡ Some line → mode < 256
+-- and a node's number can name them in each query
+pub byte_modes : (q : Query) (e : PhysicalExpr) (mode : ℕ) (line : Line) → line_of q e mode ≡ Some line → mode < node_modes
 byte_modes q e mode line = line_few q 128 (omega (arith, lists_few q)) (omega arith) line e.group e.operator mode

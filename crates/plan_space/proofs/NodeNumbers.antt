@@ -14,7 +14,7 @@ use Rattle.query_core.specs.declared.expressions.PhysicalExpr.{PhysicalExpr}
 use Rattle.query_core.proofs.ExpressionLemmas.{expr_of_one}
 use Rattle.request_props.specs.Numbered.{lists_of, orders_of}
 use Rattle.request_props.specs.declared.request.Request.{Request}
-use Rattle.plan_space.specs.Nodes.{enforcer_number, number_of}
+use Rattle.plan_space.specs.Nodes.{enforcer_number, node_modes, number_of}
 use Rattle.plan_space.specs.declared.nodes.NodeKind.{NodeKind}
 use Rattle.plan_space.specs.declared.nodes.NodeKind.TheVariants as nodes
 use Rattle.plan_space.specs.declared.nodes.Enforcer.{Enforcer}
@@ -36,9 +36,9 @@ IsEnforcerInRange most (enforcers.Sort order) = order ≤ most
 IsEnforcerInRange most (enforcers.GatherMerge order) = order ≤ most
 IsEnforcerInRange most (enforcers.Redistribute list) = list ≤ most
 
--- an expression has a word, a mode is below 256, and orders and lists have no greater number than this
+-- an expression has a word, a node's number can name the mode, and orders and lists have no greater number than this
 abbrev pub IsInRange : ℕ → NodeKind → Type 0
-IsInRange most (nodes.Native e mode) = IsPacked (expr_of e) × (mode < 256)
+IsInRange most (nodes.Native e mode) = IsPacked (expr_of e) × (mode < node_modes)
 IsInRange most (nodes.Enforcer e) = IsEnforcerInRange most e
 
 only_kid : (Fact : Kid → Type 0) (kids : List Kid) → OverOne Fact kids → (kid : Kid) × Fact kid
@@ -49,7 +49,7 @@ only_kid Fact (kid ∷ other ∷ others) fits = absurd fits
 module _ (Member : ExprParts → Type 0) (packed : (e : ExprParts) → Member e → IsPacked e) (q : Query) (most : ℕ)
     (few_orders : length (orders_of q) ≤ most) (few_lists : length (lists_of q) ≤ most) where
   mode_fits : (e : PhysicalExpr) (mode : ℕ) (kids : List Kid) (found : Option Line) → line_of q e mode ≡ found
-      → FitsBy q found (physical_children e.operator) kids → mode < 256
+      → FitsBy q found (physical_children e.operator) kids → mode < node_modes
   mode_fits e mode kids None is fits = absurd fits
   mode_fits e mode kids (Some line) is fits = omega (arith, byte_modes q e mode line is)
 

@@ -19,6 +19,7 @@ use Rattle.request_props.specs.declared.request.Request.{Request}
 use Rattle.request_props.specs.Lying.{OrderLiesIn}
 use Rattle.request_props.specs.Fitting.{HashFits, OrderFits, Fits}
 use Rattle.plan_space.specs.Nodes.{Tree}
+use Rattle.plan_space.specs.Modes.{modes_end}
 use Rattle.plan_space.specs.Lines.{line_of}
 use Rattle.plan_space.specs.declared.lines.Line.{Line}
 use Rattle.plan_space.specs.declared.seen.Kid.{Kid}
@@ -158,7 +159,7 @@ RootRequestFits q = Fits q (root_of q) (root_request q)
 abbrev pub RootRequestIsCollected : Query → Type 0
 RootRequestIsCollected q = (props : Props) → IsProps q props → props.root ≡ root_request q
 
--- where a query has at most 60 hashed lists, an expression has lines in modes below 192 only
+-- where a query has at most 60 hashed lists, an expression has lines in modes below their end only
 abbrev pub ModesAreFew : Query → Type 0
 ModesAreFew q =
-    length (lists_of q) ≤ 60 → (e : PhysicalExpr) (mode : ℕ) (line : Line) → line_of q e mode ≡ Some line → mode < 192
+    length (lists_of q) ≤ 60 → (e : PhysicalExpr) (mode : ℕ) (line : Line) → line_of q e mode ≡ Some line → mode < modes_end

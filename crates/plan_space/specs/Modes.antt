@@ -12,6 +12,10 @@ mode_at number =
     else if nat_lt number 128 then Copied (number - 64)
     else Hashed (number - 128)
 
+-- where a query has at most 60 hashed lists, no mode from this number on has a line
+abbrev pub modes_end : ℕ
+modes_end = 192
+
 -- all rows are on one segment
 abbrev pub IsOnOne : Mode → Type 0
 IsOnOne (One number) = ⊤

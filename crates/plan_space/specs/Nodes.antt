@@ -14,9 +14,13 @@ enforcer_number (enforcers.Sort order) = 64 + order
 enforcer_number (enforcers.GatherMerge order) = 128 + order
 enforcer_number (enforcers.Redistribute list) = 192 + list
 
+-- so many modes the number of a node can name
+abbrev pub node_modes : ℕ
+node_modes = 2 ^ 8
+
 -- the number of a node, by which plans of one cost are told apart
 abbrev pub number_of : NodeKind → ℕ
-number_of (nodes.Native e mode) = 2 ^ 56 + word_of (expr_of e) * 2 ^ 8 + mode
+number_of (nodes.Native e mode) = 2 ^ 56 + word_of (expr_of e) * node_modes + mode
 number_of (nodes.Enforcer e) = enforcer_number e
 
 -- a plan: a node over none, one or two plans

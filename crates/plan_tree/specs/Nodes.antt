@@ -2,17 +2,17 @@
 use Rattle.std.specs.Prelude.{ℕ, ◌≡◌, ◌≤◌, ◌<◌, ⊤}
 use Rattle.query_core.specs.Expressions.{IsPacked, expr_of}
 use Rattle.query_core.specs.declared.expressions.PhysicalExpr.{PhysicalExpr}
-use Rattle.plan_space.specs.Nodes.{number_of}
+use Rattle.plan_space.specs.Nodes.{number_of, node_modes}
 use Rattle.plan_space.specs.declared.nodes.Enforcer.{Enforcer}
 use Rattle.plan_space.specs.declared.nodes.Enforcer.TheVariants.{Gather, Broadcast, Sort, GatherMerge, Redistribute}
 use Rattle.plan_space.specs.declared.nodes.NodeKind.{NodeKind}
 use Rattle.plan_space.specs.declared.nodes.NodeKind.TheVariants as nodes
 use Rattle.plan_tree.specs.declared.node.Node.{Node}
 
--- the expression has a word, and the mode is one of the 256 that a node's number can name
+-- the expression has a word, and the mode is one of those that a node's number can name
 pub record NativeInRange (expr : PhysicalExpr) (mode : ℕ) : Type 0 where
   pub packed : IsPacked (expr_of expr)
-  pub few : mode < 256
+  pub few : mode < node_modes
 
 -- the order is one of the 60 that a node's number can name
 pub record OrderInRange (order : ℕ) : Type 0 where

@@ -14,7 +14,7 @@ use Rattle.request_props.specs.declared.request.Dist.{Dist}
 use Rattle.request_props.specs.declared.request.Dist.TheVariants.{One, Spread, Copies, Hashed}
 use Rattle.request_props.specs.declared.request.Request.{Request}
 use Rattle.plan_space.specs.Alternatives.{IsAlternative}
-use Rattle.plan_space.specs.Modes.{mode_at, HasModeIn, IsOnOne, IsSpread}
+use Rattle.plan_space.specs.Modes.{mode_at, modes_end, HasModeIn, IsOnOne, IsSpread}
 use Rattle.plan_space.specs.declared.modes.Mode.{Mode}
 use Rattle.plan_space.specs.declared.lines.Line.{Line}
 use Rattle.plan_space.specs.declared.modes.ModeSets.{ModeSets}
@@ -87,5 +87,5 @@ pub record AreToTry (q : Query) (e : PhysicalExpr) (wanted : Request) (modes : M
 -- the first mode from the number on that is there for the request, with its line; or none is
 abbrev pub IsNextServing : Query → PhysicalExpr → Request → ℕ → Option (ℕ × Line) → Type 0
 IsNextServing q e wanted from None = (mode : ℕ) → from ≤ mode → HasAlternative q e wanted mode → ⊥
-IsNextServing q e wanted from (Some found) = (from ≤ found.0) × (found.0 < 192) × NoneServes q e wanted from found.0
+IsNextServing q e wanted from (Some found) = (from ≤ found.0) × (found.0 < modes_end) × NoneServes q e wanted from found.0
     × IsAlternative q e wanted found.0 found.1

@@ -10,7 +10,7 @@ use Rattle.request_props.specs.Numbered.{lists_of}
 use Rattle.request_props.specs.NumberSets.{HasBelow, IsInSet}
 use Rattle.request_props.specs.declared.number_set.NumberSet.{NumberSet}
 use Rattle.plan_space.specs.Lines.{line_of}
-use Rattle.plan_space.specs.Modes.{mode_at, HasModeIn}
+use Rattle.plan_space.specs.Modes.{mode_at, modes_end, HasModeIn}
 use Rattle.plan_space.specs.declared.lines.Line.{Line}
 use Rattle.plan_space.specs.declared.modes.ModeSets.{ModeSets}
 
@@ -21,7 +21,7 @@ AreNone q e from below = (mode : ℕ) → from ≤ mode → mode < below → lin
 -- the first mode from the number on that has a line, with its line; or there is none
 abbrev pub IsNextLine : Query → PhysicalExpr → ℕ → Option (ℕ × Line) → Type 0
 IsNextLine q e from None = (mode : ℕ) → from ≤ mode → line_of q e mode ≡ None
-IsNextLine q e from (Some found) = (from ≤ found.0) × (found.0 < 192) × AreNone q e from found.0
+IsNextLine q e from (Some found) = (from ≤ found.0) × (found.0 < modes_end) × AreNone q e from found.0
     × (line_of q e found.0 ≡ Some found.1)
 
 -- none of these modes from the number on and below the other has a line
@@ -34,7 +34,7 @@ AreNoneTried q e modes from below = (mode : ℕ) → from ≤ mode → mode < be
 abbrev pub IsNextTried : Query → PhysicalExpr → ModeSets → ℕ → Option (ℕ × Line) → Type 0
 IsNextTried q e modes from None = (mode : ℕ) → from ≤ mode → HasModeIn modes (mode_at mode) → line_of q e mode ≡ None
 IsNextTried q e modes from (Some found) =
-    (from ≤ found.0) × (found.0 < 192) × AreNoneTried q e modes from found.0 × (line_of q e found.0 ≡ Some found.1)
+    (from ≤ found.0) × (found.0 < modes_end) × AreNoneTried q e modes from found.0 × (line_of q e found.0 ≡ Some found.1)
     × HasModeIn modes (mode_at found.0)
 
 -- each predicate that equates columns across the groups is among these

@@ -10,6 +10,7 @@ ghost use Rattle.query_core.specs.declared.words.KeyParts.{KeyParts as Group};
 ghost use Rattle.query_core.specs.Expressions.{IsCandidate, IsChild, expr_of};
 ghost use Rattle.request_props.specs.Numbered.{IsProps, IsNumbered};
 ghost use Rattle.plan_space.specs.Alternatives.{IsAlternative, LineServes, asked_of};
+ghost use Rattle.plan_space.specs.Nodes.{node_modes};
 ghost use Rattle.plan_space.specs.Lines.{line_of as line_by_table};
 ghost use Rattle.plan_space.specs.Choices.{groups_of};
 ghost use Rattle.plan_tree.specs.Alternatives.{AreAsked, AreModes, IsAltAt, IsAltBy, IsAltIn, IsAsk};
@@ -43,7 +44,7 @@ pub fn alternative_in(
     requires props { IsProps query.now props.now }
     requires candidate { IsCandidate query.now (expr_of expr) }
     requires numbered { IsNumbered query.now request.order }
-    requires few { mode < 256 }
+    requires few { mode < node_modes }
     ensures { IsAltIn query.now expr request mode result }
 {
     let line = line_of(query, props, expr, mode)?;
@@ -62,7 +63,7 @@ pub fn alternative_by(
     requires props { IsProps query.now props.now }
     requires candidate { IsCandidate query.now (expr_of expr) }
     requires numbered { IsNumbered query.now request.order }
-    requires few { mode < 256 }
+    requires few { mode < node_modes }
     requires line { line_by_table query.now expr mode ≡ Some line }
     ensures { IsAltIn query.now expr request mode result }
 {
@@ -82,7 +83,7 @@ pub fn alternative_at(
     line: Line,
 ) -> Alt
     requires candidate { IsCandidate query.now (expr_of expr) }
-    requires few { mode < 256 }
+    requires few { mode < node_modes }
     requires alternative { IsAlternative query.now expr request mode line }
     ensures { IsAltBy query.now expr request mode result line }
 {
