@@ -103,13 +103,13 @@ fn roots_of(
     }
     let mut enforcers = vec![in alloc; enforced(Enforcer::Gather), enforced(Enforcer::Broadcast)]?;
     for order in 1..61u32 {
-        if order as usize <= props.orders.len() {
+        if props.has_order(query, order) {
             enforcers.push(enforced(Enforcer::Sort(order)))?;
             enforcers.push(enforced(Enforcer::GatherMerge(order)))?;
         }
     }
     for list in 0..60u32 {
-        if (list as usize) < props.hashed.len() {
+        if props.has_list(query, list) {
             enforcers.push(enforced(Enforcer::Redistribute(list)))?;
         }
     }

@@ -4,6 +4,7 @@ use Rattle.query_core.specs.Keys as keys
 use Rattle.query_core.specs.Keys.{key_number}
 use Rattle.query_core.specs.Expressions.{word_of, expr_of, IsPacked}
 use Rattle.query_core.specs.Goals.{goal_number, FitsExpr, FitsGoal}
+use Rattle.query_core.specs.declared.keys.TheConstants.{KEYS}
 use Rattle.query_core.specs.declared.words.Key.{Key}
 use Rattle.query_core.specs.declared.words.Expr.{Expr}
 use Rattle.query_core.specs.declared.words.KeyParts.{KeyParts}
@@ -24,7 +25,7 @@ module _ (
     ) (
     small_expr : (e : ExprParts) → IsPacked e → FitsExpr (word_of e)
     ) (
-    small_group : (g : KeyParts) → keys.IsInRange g → key_number g < 2050
+    small_group : (g : KeyParts) → keys.IsInRange g → key_number g < KEYS
     ) where
   -- the parts of a goal fit
   pub goal_fits : (k : GoalKind) → IsInRange k → FitsGoal (parts_of k)

@@ -1,4 +1,5 @@
-//! The logical expressions that a group may have as members, each with the goal of its exploration or of its implementation.
+//! The logical expressions that a group may have as members, each with the goal of its exploration or of its
+//! implementation.
 #![tactic(auto)]
 
 ghost use Rattle.std.specs.Prelude.{◌≡◌, ◌<◌, ◌^◌, ℕ};

@@ -68,7 +68,7 @@ fn can_merge(query: &Query, props: &Props, order: u32, kid: Kid) -> bool
 {
     can_sort(query, props, order, kid)
         && is_spread(kid.given.dist)
-        && has_order(query, props, kid.given.order, order)
+        && order_meets(query, props, kid.given.order, order)
 }
 
 fn can_redistribute(query: &Query, props: &Props, list: u32, kid: Kid) -> bool
@@ -144,7 +144,7 @@ fn order_needs(query: &Query, props: &Props, order: LeftOrder, given: GivenOrder
     ensures { IsTrue result ↔ OrderNeeds query.now order given }
 {
     match order {
-        LeftOrder::Fixed(_, asked) => has_order(query, props, given, asked),
+        LeftOrder::Fixed(_, asked) => order_meets(query, props, given, asked),
         LeftOrder::Same => true,
     }
 }
@@ -179,7 +179,7 @@ fn has_dist(query: &Query, props: &Props, dist: GivenDist, asked: Dist) -> bool
 }
 
 // Whether rows in this order are in the order that is asked for.
-fn has_order(query: &Query, props: &Props, order: GivenOrder, asked: u32) -> bool
+fn order_meets(query: &Query, props: &Props, order: GivenOrder, asked: u32) -> bool
     requires { IsProps query.now props.now }
     ensures { IsTrue result ↔
         BeginsWith (given_order query.now order) (order_of query.now asked) }

@@ -94,7 +94,7 @@ fn agg_line(query: &Query, props: &Props, order: u32, mode: Mode) -> Option<Line
         Mode::One(number) => only_line(Line::Above(left_on_one(), left_in_order(order)), number),
         Mode::Copied(_) => None,
         Mode::Hashed(list) => {
-            if (list as usize) < props.hashed.len() {
+            if props.has_list(query, list) {
                 Some(Line::Above(LeftDist::Grouped(list), left_in_order(order)))
             } else {
                 None

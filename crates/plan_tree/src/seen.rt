@@ -232,7 +232,7 @@ fn known_request(query: &Query, props: &Props, wanted: Request) -> Request
     ensures dist { result.dist ≡ wanted.dist }
     ensures same { order_of query.now result.order ≡ order_of query.now wanted.order }
 {
-    if wanted.order as usize <= props.orders.len() {
+    if props.has_order(query, wanted.order) {
         wanted
     } else {
         Request {

@@ -217,7 +217,7 @@ fn known_order(query: &Query, props: &Props, order: GivenOrder) -> GivenOrder
 {
     match order {
         GivenOrder::Listed(number) => {
-            if number as usize <= props.orders.len() {
+            if props.has_order(query, number) {
                 order
             } else {
                 GivenOrder::Listed(0)

@@ -1,6 +1,6 @@
-//! The modes in which an expression may serve a request, one after the other, and whether there are any. Of most operators
-//! the first mode or the request itself tells that, of a merge join the predicates whose left column gives the order, and
-//! only aggregations are looked at mode by mode.
+//! The modes in which an expression may serve a request, one after the other, and whether there are any. Of most
+//! operators the first mode or the request itself tells that, of a merge join the predicates whose left column gives
+//! the order, and only aggregations are looked at mode by mode.
 #![tactic(auto)]
 
 ghost use Rattle.std.specs.Prelude.{ℕ, [], ◌≡◌, ◌↔◌, IsTrue};
@@ -59,7 +59,7 @@ fn wants_no_order(query: &Query, props: &Props, order: u32) -> bool
     requires { IsProps query.now props.now }
     ensures { IsTrue result ↔ BeginsWith [] (order_of query.now order) }
 {
-    order as usize > props.orders.len() || props.order(order).is_empty()
+    !props.has_order(query, order) || props.order(order).is_empty()
 }
 
 // Whether a join over this left child can give the distribution.
@@ -116,8 +116,8 @@ pub fn modes_to_try(query: &Query, props: &Props, expr: PhysicalExpr, wanted: Re
     }
 }
 
-/// The first of the modes to try from this number on in which the expression serves the request, with its line. Of a join
-/// each of them is one.
+/// The first of the modes to try from this number on in which the expression serves the request, with its line. Of a
+/// join each of them is one.
 pub fn next_alternative(
     query: &Query,
     props: &Props,
@@ -143,9 +143,9 @@ pub fn next_alternative(
     None
 }
 
-// The modes to try, without a look at their kinds: of a hash join only where no order is asked for, of a merge join those
-// by predicates whose left column gives the order, of a loop join only where the order fits the left child; and hashed
-// those whose left column gives the hash that is asked for.
+// The modes to try, without a look at their kinds: of a hash join only where no order is asked for, of a merge join
+// those by predicates whose left column gives the order, of a loop join only where the order fits the left child; and
+// hashed those whose left column gives the hash that is asked for.
 fn modes_by_operator(query: &Query, props: &Props, expr: PhysicalExpr, wanted: Request) -> ModeSets
     requires { IsProps query.now props.now }
     ensures { AreServingByKind query.now expr wanted result }

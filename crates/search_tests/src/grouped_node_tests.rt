@@ -73,7 +73,7 @@ fn serving(
     requires props { IsProps query.now props.now }
     requires candidate { IsCandidate query.now (expr_of e) }
 {
-    if mode >= 256 || request.order as usize > props.orders.len() {
+    if mode >= 256 || !props.has_order(query, request.order) {
         return None;
     }
     let alt = alternative_in(query, props, e, request, mode)?;

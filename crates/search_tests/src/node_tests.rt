@@ -67,7 +67,7 @@ fn join_in(query: &Query, props: &Props, rule: Rule, request: Request, mode: u32
     requires { IsProps query.now props.now }
 {
     let join = join_by(query, rule)?;
-    if mode < 256 && request.order as usize <= props.orders.len() {
+    if mode < 256 && props.has_order(query, request.order) {
         alternative_in(query, props, join, request, mode)
     } else {
         None
@@ -79,7 +79,7 @@ fn mode_at(query: &Query, props: &Props, rule: Rule, request: Request, n: u32) -
     requires { IsProps query.now props.now }
 {
     let join = join_by(query, rule)?;
-    if request.order as usize > props.orders.len() {
+    if !props.has_order(query, request.order) {
         return None;
     }
     let alt = alternative(query, props, join, request, n)?;
@@ -321,7 +321,7 @@ fn filter_is_there(query: &Query, props: &Props, request: Request) -> Option<boo
         return None;
     }
     let filter = made(query, Rule::SelectToFilter, origin(query, group))?;
-    if request.order as usize > props.orders.len() {
+    if !props.has_order(query, request.order) {
         return None;
     }
     Some(alternative(query, props, filter, request, 0).is_some())

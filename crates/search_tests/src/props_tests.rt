@@ -240,7 +240,7 @@ fn is_known(query: &Query, props: &Props, order: GivenOrder) -> bool
     ensures { IsTrue result → IsOrderKnown query.now order }
 {
     match order {
-        GivenOrder::Listed(number) => number as usize <= props.orders.len(),
+        GivenOrder::Listed(number) => props.has_order(query, number),
         GivenOrder::Index(table, index) => query.has_index(table, index),
     }
 }
@@ -248,7 +248,7 @@ fn is_known(query: &Query, props: &Props, order: GivenOrder) -> bool
 fn answer(query: &Query, props: &Props, given: Given, request: Request) -> Option<bool>
     requires { IsProps query.now props.now }
 {
-    if is_known(query, props, given.order) && request.order as usize <= props.orders.len() {
+    if is_known(query, props, given.order) && props.has_order(query, request.order) {
         Some(satisfies(query, props, given, request))
     } else {
         None

@@ -1,6 +1,6 @@
--- An operator with one line serves in its first mode or in none. A hash join serves exactly the requests without an order
--- whose distribution it can give, a loop join those whose order fits its left child, and a merge join those whose order
--- a column gives by which it merges.
+-- An operator with one line serves in its first mode or in none. A hash join serves exactly the requests without an
+-- order whose distribution it can give, a loop join those whose order fits its left child, and a merge join those whose
+-- order a column gives by which it merges.
 use Rattle.std.proofs.Common.{ap, sym, ◌∙◌}
 use Rattle.std.proofs.lemmas.Bool.{false≢true, false_from_ne_true, not-true, not_from_false}
 use Rattle.query_core.specs.Expressions.{physical_children}
