@@ -5,7 +5,7 @@ ghost use Rattle.plan_tree.specs.Nodes.{EnforcerInRange};
 
 use crate::ranked::{Ranked, rank_of};
 use plan_check::{PlanFault, check_plan};
-use plan_space::{Enforcer, NodeKind, root_request_fits, root_request_is_collected};
+use plan_space::{Enforcer, MODES_END, NodeKind, root_request_fits, root_request_is_collected};
 use plan_tree::{Node, Plan, line_of};
 use query_core::{Children, Expr, KeyParts, PhysicalExpr, Query};
 use request_props::Props;
@@ -94,7 +94,7 @@ fn roots_of(
             continue;
         };
         if let Some(expr) = parts.as_physical() {
-            for mode in 0..192 {
+            for mode in 0..MODES_END {
                 if line_of(query, props, expr, mode).is_some() {
                     natives.push((expr, Node::make(NodeKind::Native(expr, mode))))?;
                 }
