@@ -56,6 +56,11 @@ HasResultsOf q e bound rule found = (n : ℕ) → HasResultAt q e bound rule n f
 abbrev pub HasResults : Query → ExprParts → Option ExprParts → List ℕ → Type 0
 HasResults q e bound found = (rule : Rule) → HasResultsOf q e bound rule found
 
+-- each result with the member of this word bound is found
+abbrev pub HasResultsWith : Query → ℕ → ExprParts → List ℕ → Type 0
+HasResultsWith q word e found = (bound : ExprParts) → IsMember q bound → word_of bound ≡ word
+    → HasResults q e (Some bound) found
+
 -- each result with a bound member among the words is found
 abbrev pub HasBoundResults : Query → List ℕ → ExprParts → List ℕ → Type 0
 HasBoundResults q words e found = (bound : ExprParts) → IsMember q bound → ContainsWordOf words bound

@@ -12,7 +12,7 @@ ghost use Rattle.xform_rules.specs.Forms.{IsLeftSide};
 ghost use Rattle.xform_rules.specs.Closure.{IsMember, IsMemberWord, IsClosureOf};
 ghost use Rattle.plan_search.specs.Steps.{AreMemberWords, AreMembers, GrowsTo, ContainsWordOf, HasOrigin};
 ghost use Rattle.plan_search.specs.Steps.{HasOrigins, HasResultAt, HasResultsOf, HasResults};
-ghost use Rattle.plan_search.specs.Steps.{HasBoundResults, HasSteps, AreSteps, AreBoundSteps, AreOthers};
+ghost use Rattle.plan_search.specs.Steps.{HasBoundResults, HasResultsWith, HasSteps, AreSteps, AreBoundSteps, AreOthers};
 
 use crate::word_set::WordSet;
 use orca_base::List;
@@ -261,10 +261,31 @@ fn add_results_with_each(
     ensures { OnOk result (GrowsTo query.now (HasBoundResults query.now members.now e) found.old found.new) }
 {
     for word in members {
-        let bound = member_of(query, Expr(*word));
-        add_results(query, e, Some(bound), found)?;
+        add_results_with(query, Expr(*word), e, found)?;
     }
     Ok(())
+}
+
+/// Adds each result with this member bound.
+fn add_results_with(
+    query: &Query,
+    member: Expr,
+    e: ExprParts,
+    found: &mut WordSet,
+) -> Result<(), AllocError>
+    requires member { IsMember query.now e }
+    requires bound { IsMemberWord query.now member.0 }
+    ensures { OnOk result (GrowsTo query.now (HasResultsWith query.now member.0 e) found.old found.new) }
+{
+    // For the proof: each member has a word.
+    members_are_known();
+    // For the proof: only logical members are bound.
+    results_are_known();
+    if member.logical() {
+        add_results(query, e, Some(member_of(query, member)), found)
+    } else {
+        Ok(())
+    }
 }
 
 /// Adds the n-th result of a rule, if it has so many.
