@@ -1,5 +1,5 @@
 -- The least plan for one request, and what it adds to the answers.
-use Rattle.std.proofs.Common.{◌≡◌, ℕ, false, ◌<◌, ◌+◌, refl, subst, sym, ◌∙◌, ap, inl, inr, arith}
+use Rattle.std.proofs.Common.{◌≡◌, ℕ, false, ◌<◌, ◌+◌, ◌*◌, refl, subst, sym, ◌∙◌, ap, inl, inr, arith}
 use Rattle.std.specs.Prelude.{◌^◌, List, Option, None, Some}
 use Rattle.std.specs.Ordering.{nat_cmp, is_eq}
 use Rattle.std.specs.BTreeMap.{Updates}
@@ -26,7 +26,7 @@ use Rattle.plan_search.proofs.Answered.{none_case, some_case}
 use Rattle.plan_search.specs.declared.kept_plans.KeptPlans.{KeptPlans}
 use Rattle.plan_search.specs.declared.choice.Choice.{Choice}
 use Rattle.plan_search.specs.declared.native.Native.{Native}
-use Rattle.plan_search.specs.Places.{dist_place, request_place, first_place, place_of}
+use Rattle.plan_search.specs.Places.{DISTS, ORDERS, dist_place, request_place, first_place, place_of}
 use Rattle.plan_search.specs.KeptPlans.{kept_at, IsKept, IsAnswerFor, IsAnswered, answer_at, AreAnswered}
 use Rattle.plan_search.specs.Natives.{AreListedFor, HasMode}
 use Rattle.plan_search.specs.BestSoFar.{IsBestChoice, IsBestSoFar, GoesOverEnforcers, GoesOverAll, AreEnforcersSettled}
@@ -138,7 +138,7 @@ dist_is_one (Hashed list) Copies is = absurd (omega (arith, is))
 dist_is_one (Hashed list) (Hashed other) is = let same : list ≡ other = omega (arith, is) in ap (λ l. Hashed l) same
 
 -- a place among those of a group is that of one request
-pub request_is_one : (r s : Request) → r.order < 64 → s.order < 64 → request_place r ≡ request_place s → r ≡ s
+pub request_is_one : (r s : Request) → r.order < ORDERS → s.order < ORDERS → request_place r ≡ request_place s → r ≡ s
 request_is_one r s few also is =
     let order : r.order ≡ s.order = omega (arith, few, also, is) in
     let place : dist_place r.dist ≡ dist_place s.dist = omega (arith, few, also, is) in
@@ -191,7 +191,7 @@ module _ (q : Query) (props : Props) (is_props : IsProps q props) (in_range : (g
 
   -- a request that doesn't fit has a place that no other has, so all before the next place are answered
   pub answered_past : (answers : KeptPlans) (group : KeyParts) (at : Request) → IsGroup q group
-      → request_place at < 4096 → at.order < 64
+      → request_place at < DISTS * ORDERS → at.order < ORDERS
       → (Fits q group at → ⊥) → AreAnswered q answers (place_of group at)
       → AreAnswered q answers (place_of group at + 1)
   answered_past answers group at known few small fits_not answered g r known_too fits less =

@@ -7,6 +7,14 @@ use Rattle.request_props.specs.declared.request.Dist.{Dist}
 use Rattle.request_props.specs.declared.request.Dist.TheVariants.{One, Spread, Copies, Hashed}
 use Rattle.request_props.specs.declared.request.Request.{Request}
 
+-- how many places there are for distributions
+abbrev pub DISTS : ℕ
+DISTS = 64
+
+-- how many there are for the orders with each
+abbrev pub ORDERS : ℕ
+ORDERS = 64
+
 -- spread rows come first, since all enforcers begin with them
 abbrev pub dist_place : Dist → ℕ
 dist_place Spread = 0
@@ -16,11 +24,11 @@ dist_place (Hashed list) = 3 + list
 
 -- the place of a request among those of a group
 abbrev pub request_place : Request → ℕ
-request_place wanted = dist_place wanted.dist * 64 + wanted.order
+request_place wanted = dist_place wanted.dist * ORDERS + wanted.order
 
 -- the place with which those of the group with this key begin
 abbrev pub first_place : ℕ → ℕ
-first_place key = key * 4096
+first_place key = key * (DISTS * ORDERS)
 
 -- the place of a request of the group with this key
 abbrev pub place_at : ℕ → Request → ℕ

@@ -7,11 +7,16 @@ ghost use Rattle.plan_search.specs.Places.{dist_place as place_of_dist, place_at
 use query_core::Key;
 use request_props::{Dist, Request};
 
+/// How many places there are for distributions, and for the orders with each.
+pub const DISTS: u32 = 64;
+
+pub const ORDERS: u32 = 64;
+
 /// The place of a request of the group with this key.
 pub fn place_at(key: Key, wanted: Request) -> u64
     ensures { result ≡ place_number key.0 wanted }
 {
-    key.0 as u64 * 4096 + dist_place(wanted.dist) * 64 + wanted.order as u64
+    (key.0 as u64 * DISTS as u64 + dist_place(wanted.dist)) * ORDERS as u64 + wanted.order as u64
 }
 
 fn dist_place(dist: Dist) -> u64
@@ -22,5 +27,17 @@ fn dist_place(dist: Dist) -> u64
         Dist::One => 1,
         Dist::Copies => 2,
         Dist::Hashed(list) => 3 + list as u64,
+    }
+}
+
+/// The distribution that has this place.
+pub fn dist_at(place: u32) -> Dist
+    ensures { place_of_dist result ≡ place }
+{
+    match place {
+        0 => Dist::Spread,
+        1 => Dist::One,
+        2 => Dist::Copies,
+        _ => Dist::Hashed(place - 3),
     }
 }

@@ -14,15 +14,11 @@ ghost use Rattle.plan_search.specs.BestSoFar.{HasRows};
 use crate::best::answer;
 use crate::kept_plans::KeptPlans;
 use crate::native::{Native, natives_of, those_for};
+use crate::places::{DISTS, ORDERS, dist_at};
 use query_core::{KEYS, Key, KeyParts, Query, expressions_are_one, groups_are_known};
 use request_props::{Dist, Props, Request};
 use std::alloc::{AllocError, Global};
 use xform_rules::members_of;
-
-/// How many places there are for distributions, and for the orders with each.
-const DISTS: u32 = 64;
-
-const ORDERS: u32 = 64;
 
 /// The answers to all requests that fit their groups. `words` are those of the query's members.
 pub fn answer_all(
@@ -153,16 +149,4 @@ fn answer_wanted(
         answer(query, props, list, group, rows, wanted, answers)?;
     }
     Ok(())
-}
-
-/// The distribution that has this place.
-fn dist_at(place: u32) -> Dist
-    ensures { dist_place_of result ≡ place }
-{
-    match place {
-        0 => Dist::Spread,
-        1 => Dist::One,
-        2 => Dist::Copies,
-        _ => Dist::Hashed(place - 3),
-    }
 }
