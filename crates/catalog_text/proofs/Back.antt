@@ -1,10 +1,8 @@
 -- The text of a catalogue says the catalogue.
-use Rattle.std.proofs.Common.{◌≡◌, ℕ, suc, ◌^◌, ◌<◌, ◌≤◌, List, [], ◌∷◌, map, length, Some, None, Ok, Err}
-use Rattle.std.proofs.Common.{option_and_then, nat_le, nat_lt, IsUtf8, cond, false, refl, sym, ap, ◌∙◌, arith}
+use Rattle.std.proofs.Common.{◌≡◌, ℕ, ◌^◌, ◌<◌, ◌≤◌, List, [], ◌∷◌, map, length, Ok}
+use Rattle.std.proofs.Common.{option_and_then, nat_le, IsUtf8, refl, sym, ap, ◌∙◌, arith}
 use Rattle.std.proofs.Common.{append-nil}
 use Rattle.std.proofs.lemmas.Bool.{leb-true, le-ltb, and_parts}
-use Rattle.std.specs.List.{All}
-use Rattle.std.specs.Str.{is_utf8}
 use Rattle.std.proofs.lemmas.Str.{is_utf8-from_IsUtf8}
 use Rattle.json.specs.Token.{Token}
 use Rattle.json.specs.Lex.{tokens}
@@ -12,7 +10,6 @@ use Rattle.json.specs.Json as json
 use Rattle.json.specs.Json.{Json, value, if_last}
 use Rattle.json.specs.Tree.{json_tokens, depth, items_depth, members_depth}
 use Rattle.json.proofs.Printed.Trees.{value-json_tokens}
-use Rattle.serde_json.specs.Data.{Data}
 use Rattle.serde_json.specs.Read.{of_json, read, max_depth}
 use Rattle.query_core.specs.declared.catalog.ColumnInfo.{ColumnInfo}
 use Rattle.query_core.specs.declared.catalog.Placing.{Placing}
@@ -20,11 +17,10 @@ use Rattle.query_core.specs.declared.catalog.Placing.TheVariants.{Hashed, Random
 use Rattle.query_core.specs.declared.catalog.TableInfo.{TableInfo}
 use Rattle.query_core.specs.declared.catalog.Catalog.{Catalog}
 use Rattle.query_core.specs.Catalog.{IsCatalog}
-use Rattle.catalog_json.specs.Walk.{catalog_at}
-use Rattle.catalog_json.specs.Outcome.{most_bytes, json_of, of_value, told_of, reading_of}
-use Rattle.catalog_text.specs.Text.{items_of, list_json, name_at, column_json, places_json, placing_json}
+use Rattle.catalog_json.specs.Outcome.{most_bytes, reading_of}
+use Rattle.catalog_text.specs.Text.{items_of, name_at, column_json, places_json, placing_json}
 use Rattle.catalog_text.specs.Text.{indexes_member, table_json, catalog_json}
-use Rattle.catalog_text.proofs.Values.{catalog_data, catalog_value}
+use Rattle.catalog_text.proofs.Values.{catalog_value}
 use Rattle.catalog_text.proofs.Walk.{catalog_read}
 
 -- ---- how deep it nests

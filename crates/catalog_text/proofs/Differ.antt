@@ -1,5 +1,5 @@
 -- Elements that differ, and the places of names that do.
-use Rattle.std.proofs.Common.{◌≡◌, ℕ, zero, suc, ◌+◌, ◌<◌, ◌==◌, Bool, true, false, not, cond, List, [], ◌∷◌, ◌++◌}
+use Rattle.std.proofs.Common.{◌≡◌, ℕ, zero, suc, ◌<◌, ◌==◌, Bool, true, false, not, cond, List, [], ◌∷◌, ◌++◌}
 use Rattle.std.proofs.Common.{length, get_or, nat_lt, Some, None, position, refl, sym, arith}
 use Rattle.std.proofs.lemmas.Bool.{and_parts, lt-ltb, not-true, or_parts}
 use Rattle.std.specs.Bool.{Decides}

@@ -1,6 +1,6 @@
 -- The value that the JSON of a catalogue is read as.
-use Rattle.std.proofs.Common.{◌≡◌, ℕ, suc, ◌^◌, ◌<◌, ◌≤◌, List, [], ◌∷◌, map, codes, decimal, Some, option_map, refl}
-use Rattle.std.proofs.Common.{ap, ◌∙◌, arith}
+use Rattle.std.proofs.Common.{◌≡◌, ℕ, suc, ◌^◌, ◌<◌, List, [], ◌∷◌, map, codes, Some, option_map, refl}
+use Rattle.std.proofs.Common.{ap, arith}
 use Rattle.std.specs.List.{All}
 use Rattle.json.specs.Json as json
 use Rattle.serde_json.specs.Data.{Data, string, number, unsigned, array, object, Members, no_members, put}
@@ -12,7 +12,7 @@ use Rattle.query_core.specs.declared.catalog.Placing.{Placing}
 use Rattle.query_core.specs.declared.catalog.Placing.TheVariants.{Hashed, Random}
 use Rattle.query_core.specs.declared.catalog.TableInfo.{TableInfo}
 use Rattle.query_core.specs.declared.catalog.Catalog.{Catalog}
-use Rattle.query_core.specs.Catalog.{IsColumn, IsTable, IsCatalog, within}
+use Rattle.query_core.specs.Catalog.{IsTable, IsCatalog}
 use Rattle.catalog_text.specs.Text.{items_of, list_json, name_at, column_json, places_json, placing_json}
 use Rattle.catalog_text.specs.Text.{indexes_member, table_json, catalog_json}
 

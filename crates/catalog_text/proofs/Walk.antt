@@ -1,13 +1,12 @@
 -- The walk over the value of a catalogue gives the catalogue.
-use Rattle.std.proofs.Common.{◌≡◌, ℕ, suc, ◌==◌, ◌<◌, ◌≤◌, Bool, true, false, List, [], ◌∷◌, ◌++◌, map, length, get_or}
-use Rattle.std.proofs.Common.{codes, Some, Ok, nat_lt, nat_le, refl, sym, ap, subst, ◌∙◌, arith, None}
+use Rattle.std.proofs.Common.{◌≡◌, ℕ, suc, ◌==◌, ◌<◌, ◌≤◌, true, false, List, [], ◌∷◌, ◌++◌, map, length}
+use Rattle.std.proofs.Common.{Some, Ok, nat_lt, nat_le, refl, sym, ap, subst, ◌∙◌, arith, None}
 use Rattle.std.proofs.lemmas.Bool.{le-leb, ltb-true, and_from}
 use Rattle.std.specs.List.{All, list_any, list_all}
 use Rattle.std.specs.Str.{bytes_eq}
 use Rattle.std.proofs.lemmas.List.{get_or-map, length-map, map-append}
 use Rattle.std.proofs.lemmas.List.Sums.{AllPass-from_list_all}
 use Rattle.serde_json.specs.Data.{Data, string, number, unsigned}
-use Rattle.serde_json.specs.View.{items_of}
 use Rattle.query_core.specs.declared.catalog.ColumnInfo.{ColumnInfo}
 use Rattle.query_core.specs.declared.catalog.Placing.{Placing}
 use Rattle.query_core.specs.declared.catalog.Placing.TheVariants.{Hashed, Random}
@@ -21,13 +20,14 @@ use Rattle.catalog_json.specs.declared.place.NameList.TheVariants.{Distribution,
 use Rattle.catalog_json.specs.declared.place.Place.{Place}
 use Rattle.catalog_json.specs.declared.place.Place.TheVariants as places
 use Rattle.catalog_json.specs.Columns.{names_of}
-use Rattle.catalog_json.specs.Walk.{elements, number_at, list_at, name_at as name_read, new_name_at, new_place}
+use Rattle.catalog_json.specs.Walk.{number_at, list_at, name_at as name_read, new_name_at}
 use Rattle.catalog_json.specs.Walk.{column_at, columns_at, listed_at, places_at, placing_at, placing_by, index_at}
-use Rattle.catalog_json.specs.Walk.{indexes_at, lists_at, named_table_at, table_at, tables_at, catalog_at, each}
+use Rattle.catalog_json.specs.Walk.{indexes_at, lists_at, named_table_at, table_at, tables_at, catalog_at}
+use Rattle.catalog_json.proofs.Elements.{elements_items_of}
 use Rattle.catalog_text.specs.Text.{name_at}
 use Rattle.catalog_text.proofs.Differ.{new_text, new_number, place_of}
 use Rattle.catalog_text.proofs.Each.{each_read}
-use Rattle.catalog_text.proofs.Values.{list_data, column_data, places_data, placing_data, with_indexes, table_members}
+use Rattle.catalog_text.proofs.Values.{list_data, column_data, places_data, placing_data}
 use Rattle.catalog_text.proofs.Values.{table_data, catalog_data}
 
 -- ---- numbers, names and lists
@@ -47,13 +47,9 @@ new_name : (at : Place) (before : List (List ℕ)) (text : List ℕ) → is_cata
 unfolding new_name_at
 new_name at before text named new = rw (named, new) refl
 
-elements-items_of : (ds : List Data) → elements (items_of ds) ≡ ds
-elements-items_of [] = refl
-elements-items_of (d ∷ ds) = ap (λ (es : List Data). d ∷ es) (elements-items_of ds)
-
 list_read : {X : Type 0} (form : X → Data) (least most : ℕ) (at : Place) (xs : List X)
     → within least most (length xs) ≡ true → list_at least most at (Some (list_data form xs)) ≡ Ok (map form xs)
-list_read form least most at xs h = rw (elements-items_of (map form xs), length-map xs form, h) refl
+list_read form least most at xs h = rw (elements_items_of (map form xs), length-map xs form, h) refl
 
 -- ---- an element of a list that keeps its limits
 

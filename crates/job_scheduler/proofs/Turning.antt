@@ -13,6 +13,7 @@ use Rattle.goal_board.specs.RightCalls.{FinishesGoal, finishes}
 use Rattle.goal_board.proofs.Seen.{looked_earlier}
 use Rattle.board_moves.specs.Moves.{with_waits, Moves}
 use Rattle.board_moves.specs.Turns.{GivesUp, TurnFinishes, TurnSuspends, TurnRunsOut}
+use Rattle.board_moves.proofs.CallMoves.{later_moved}
 use Rattle.job_scheduler.specs.Workers.{Later}
 use Rattle.job_scheduler.specs.Steps.{TurnKeeps, FinishesOne, SuspendsOne, RunsOut}
 
@@ -36,12 +37,6 @@ module _ {R : Type 0} where
       → v.rights ≡ fresh_right place ∷ [] → w.rights ≡ only place (0 + waits)
   moved_right place v puts waits w m is = ap (λ (h : Hands R). h.rights) m.hands_are
       ∙ (ap (with_waits place waits) is ∙ waits_only place waits)
-
-  moved_later : (place : ℕ) (v : Hands R) (puts : List ℕ) (waits : ℕ) (w : Hands R) → Moves place v puts waits w
-      → Later v.looks w.looks
-  moved_later place v puts waits w m word found look =
-      subst (λ (h : Hands R). Looked h.looks word found) (sym m.hands_are)
-      (looked_earlier m.more v.looks word found look)
 
   -- a goal that was finished
   module _ (room : ℕ) (v : Hands R) (place worker cost node : ℕ) (woken : Woken) (w : Hands R)
@@ -76,7 +71,7 @@ module _ {R : Type 0} (room : ℕ) (Adds : ℕ → Type 0) (v : Hands R) (right 
             ∙ spent_only right.place (0 + t.proceeds.waits));
         looks = λ word found look. finish_later room t.middle right.place number t.cost t.node woken w t.finishes word
             found
-            (moved_later right.place v t.proceeds.puts t.proceeds.waits t.middle m word found look);
+            (later_moved right.place v t.proceeds.puts t.proceeds.waits t.middle m word found look);
       }
 
   pub finishes_one : (woken : Woken) (w : Hands R) → TurnFinishes room Adds v right number woken w
@@ -102,7 +97,7 @@ module _ {R : Type 0} (room : ℕ) (Adds : ℕ → Type 0) (v : Hands R) (right 
             ∙ (ap (without right.place) (moved_right right.place v t.proceeds.puts t.proceeds.waits t.middle m is)
             ∙ spent_only right.place (0 + t.proceeds.waits));
         looks = λ word found look. give_up_later t.middle right.place w t.gives_up word found
-            (moved_later right.place v t.proceeds.puts t.proceeds.waits t.middle m word found look);
+            (later_moved right.place v t.proceeds.puts t.proceeds.waits t.middle m word found look);
       }
 
   pub suspends_one : right.waits ≡ 0 → v.rights ≡ fresh_right right.place ∷ [] → (w : Hands R)
@@ -144,7 +139,7 @@ module _ {R : Type 0} (room : ℕ) (Adds : ℕ → Type 0) (v : Hands R) (right 
         looks = λ word found look. give_up_later t.middle right.place w t.gives_up word found
             (subst (λ (h : Hands R). Looked h.looks word found) (sym f)
             (inr (looked_earlier t.runs_out.full.more middle.looks word found
-            (moved_later right.place v puts waits middle m word found look))));
+            (later_moved right.place v puts waits middle m word found look))));
       }
 
   pub runs_out : (w : Hands R) → TurnRunsOut room Adds v right number w → RunsOut v w

@@ -1,6 +1,6 @@
 -- What is known of a least plan by the node at its root.
 use Rattle.std.proofs.Common.{◌≡◌, ℕ, sym, ap, ◌∙◌, subst}
-use Rattle.std.specs.Prelude.{List, [], ◌∷◌, Option, Some, ◌↔◌}
+use Rattle.std.specs.Prelude.{List, Option, Some, ◌↔◌}
 use Rattle.query_core.specs.Expressions.{expr_of, physical_children}
 use Rattle.query_core.specs.declared.query.Query.{Query}
 use Rattle.query_core.specs.declared.expressions.PhysicalExpr.{PhysicalExpr}
@@ -17,15 +17,9 @@ use Rattle.plan_space.specs.Choices.{groups_of, IsNodeOver, AreLeast, IsChoice, 
 use Rattle.plan_tree.specs.declared.node.Node.{Node}
 use Rattle.plan_tree.specs.Nodes.{IsNode}
 use Rattle.plan_tree.specs.Seen.{root_node}
+use Rattle.best_answers.proofs.Roots.{root_over}
 use Rattle.plan_report.specs.declared.links.Linked.{Linked}
 use Rattle.plan_report.specs.Links.{IsChosen, IsRooted}
-
--- a node over plans is the root
-pub root_over : (node : NodeKind) (kids : List Tree) (plan : Tree) → IsNodeOver node kids plan → root_node plan ≡ node
-root_over node [] plan is = ap root_node is
-root_over node (kid ∷ []) plan is = ap root_node is
-root_over node (left ∷ right ∷ []) plan is = ap root_node is
-root_over node (left ∷ right ∷ other ∷ others) plan is = absurd is
 
 -- an expression in a mode over least plans of what its line asks
 pub record IsNativeRoot (q : Query) (at : Linked) (e : PhysicalExpr) (mode : ℕ) (plan : Tree) : Type 0 where
