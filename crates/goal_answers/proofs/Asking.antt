@@ -1,7 +1,7 @@
 -- What an expression asks in its modes, and the answers to that.
-use Rattle.std.proofs.Common.{◌≡◌, ◌⊎◌, ℕ, ◌+◌, ◌<◌, ◌≤◌, Option, None, Some, List, [], ◌∷◌, refl, sym, subst, inl, inr}
+use Rattle.std.proofs.Common.{◌≡◌, ◌⊎◌, ℕ, ◌+◌, ◌<◌, Option, None, Some, List, [], ◌∷◌, refl, sym, subst, inl, inr}
 use Rattle.std.proofs.Common.{arith}
-use Rattle.std.proofs.lemmas.Bool.{cases_eq}
+use Rattle.std.proofs.lemmas.Bool.{cases_lt}
 use Rattle.query_core.specs.Expressions.{physical_children}
 use Rattle.query_core.specs.Keys.{Names}
 use Rattle.query_core.specs.declared.query.Query.{Query}
@@ -15,18 +15,18 @@ use Rattle.plan_space.specs.Choices.{groups_of}
 use Rattle.plan_space.specs.declared.lines.Line.{Line}
 use Rattle.plan_space.specs.declared.nodes.NodeKind.{NodeKind}
 use Rattle.plan_space.specs.declared.nodes.NodeKind.TheVariants as nodes
-use Rattle.plan_tree.specs.Alternatives.{Asks, AreAsked, IsAltBy}
+use Rattle.plan_tree.specs.Alternatives.{Asks, AreAsked, IsAltBy, HasAlternative}
+use Rattle.plan_tree.specs.ServingModes.{NoneServes}
 use Rattle.plan_tree.specs.declared.alternatives.Alt.{Alt}
-use Rattle.best_answers.specs.Nodes.{one_node, modes_of, IsIn, IsModeOf}
+use Rattle.best_answers.specs.Nodes.{modes_of, IsIn, IsModeOf}
 use Rattle.best_answers.specs.Best.{IsBest}
-use Rattle.best_answers.specs.Laws.{NoneIsBest, CoveredIsBest}
+use Rattle.best_answers.specs.Laws.{CoveredIsBest}
 use Rattle.best_answers.specs.declared.best.Best.{Best}
 use Rattle.goal_space.specs.Children.{IsAsked, IsChildGoal}
 use Rattle.goal_space.specs.declared.goals.GoalKind.{GoalKind}
 use Rattle.goal_space.specs.declared.goals.GoalKind.TheVariants.{Opt, OptE}
 use Rattle.goal_answers.specs.Told.{IsAskedByChild}
-use Rattle.goal_answers.specs.Among.{IsBestAmong, IsInMode, IsBestInMode}
-use Rattle.goal_answers.proofs.Trying.{best_of_none}
+use Rattle.goal_answers.specs.Among.{IsBestAmong, IsInMode}
 
 -- ---- what one alternative asks
 
@@ -81,22 +81,6 @@ module _ (q : Query) (e : PhysicalExpr) (wanted : Request) (mode : ℕ) where
         refl,
       ))
 
-  -- the best answer of the node is that of the mode
-  pub best_in_one : (answer : Option Best) → IsBest q e.group wanted (one_node (nodes.Native e mode)) answer
-      → IsBestInMode q e wanted mode answer
-  best_in_one answer best = record {
-    set = one_node (nodes.Native e mode);
-    has = λ node is. is.1;
-    within = λ node same. subst (IsModeOf e) (sym same) refl;
-    is_best = best;
-  }
-
-  -- where the mode isn't there for the request, it has no answer
-  pub best_in_none : NoneIsBest q → ((line : Line) → IsAlternative q e wanted mode line → ⊥)
-      → IsBestInMode q e wanted mode None
-  best_in_none none_best none = best_of_none q e.group wanted (IsModeOf e) none_best (IsInMode q e wanted mode)
-      (λ node is. none is.0.0 is.0.1)
-
 -- a key is that of one group, so what is asked of the key is asked of the group
 pub child_of_key : (q : Query) (key : Key) (wanted : Request) (group : KeyParts)
     → ((other : KeyParts) → Names q key other → other ≡ group) → (goal : GoalKind)
@@ -114,20 +98,24 @@ module _ (q : Query) (e : PhysicalExpr) (wanted : Request) where
   pub none_below : (node : NodeKind) → IsInModeBelow 0 node → ⊥
   none_below node (mode, below, is) = omega (arith, below)
 
-  -- a mode below the next one is below this one, or is it
-  pub below_or_here : (bound : ℕ) (node : NodeKind) → IsInModeBelow (bound + 1) node → IsInModeBelow bound node
-      ⊎ IsInMode q e wanted bound node
-  below_or_here bound node (mode, below, is) = elim (cases_eq mode bound) [
-    | inl same ↦ inr (subst (λ m. IsInMode q e wanted m node) same is)
-    | inr other ↦ inl (mode, omega (arith, below, other), is)
+  -- up to the next mode that is there for the request, each that is there is below this one, or the next
+  pub below_or_next : (from next : ℕ) → NoneServes q e wanted from next → (node : NodeKind)
+      → IsInModeBelow (next + 1) node → IsInModeBelow from node ⊎ IsInMode q e wanted next node
+  below_or_next from next none node (mode, below, is) = elim (cases_lt mode from) [
+    | inl less ↦ inl (mode, less, is)
+    | inr most ↦ elim (cases_lt mode next) [
+      | inl between ↦ absurd (none mode most between is.0)
+      | inr more ↦
+          let same : mode ≡ next = omega (arith, below, more) in
+          inr (subst (λ m. IsInMode q e wanted m node) same is)
+    ]
   ]
 
-  -- where the expression has modes below an end only, the best answer of all these is that of the expression
-  pub best_of_modes : CoveredIsBest q → (end : ℕ)
-      → ((mode : ℕ) (line : Line) → IsAlternative q e wanted mode line → mode < end) → (bound : ℕ) → end ≤ bound
-      → (answer : Option Best) → IsBestAmong q e.group wanted (IsInModeBelow bound) (IsModeOf e) answer
+  -- where all modes that are there for the request are below this one, the best answer is that of the expression
+  pub best_of_modes : CoveredIsBest q → (from : ℕ) → ((mode : ℕ) → HasAlternative q e wanted mode → mode < from)
+      → (answer : Option Best) → IsBestAmong q e.group wanted (IsInModeBelow from) (IsModeOf e) answer
       → IsBest q e.group wanted (modes_of e) answer
-  best_of_modes covered end few bound most answer best = covered e.group wanted best.set (modes_of e) answer (record {
+  best_of_modes covered from all_below answer best = covered e.group wanted best.set (modes_of e) answer (record {
     within = best.within;
     enforcers = λ enforcer among at. absurd at;
     members = λ other mode line member of_group same alternative.
@@ -135,7 +123,7 @@ module _ (q : Query) (e : PhysicalExpr) (wanted : Request) where
         (let own = subst (λ (x : PhysicalExpr). IsAlternative q x wanted mode line) same alternative in
         best.has (nodes.Native e mode) (
           mode,
-          (let below = few mode line own in omega (arith, below, most)),
+          all_below mode (line, own),
           ((line, own), refl),
         ));
   }) best.is_best

@@ -3,6 +3,7 @@
 
 ghost use Rattle.std.specs.Prelude.{◌<◌, All, IfOk};
 ghost use Rattle.xform_rules.specs.Closure.{IsMember};
+ghost use Rattle.plan_space.specs.Alternatives.{IsAlternative};
 ghost use Rattle.plan_tree.specs.Costs.{AreRowsOf};
 ghost use Rattle.best_answers.specs.Best.{IsBest, IsBestAsked};
 ghost use Rattle.best_answers.specs.Nodes.{all_nodes};
@@ -16,8 +17,10 @@ use crate::told::{Source, told_to};
 use best_answers::{Best, answers_are_best, best_in_mode, best_of_enforcer, lesser};
 use goal_children::{goals_are_over_the_query, list_children};
 use goal_space::{GoalKind, goals_are_known, ranks_fall};
-use plan_space::{MODES_END, modes_are_few};
-use plan_tree::{ExprRows, Node, alternative_by, enforcer_for, expr_rows, line_of};
+use plan_space::{Line, MODES_END};
+use plan_tree::{
+    ExprRows, Node, alternative_at, enforcer_for, expr_rows, modes_to_try, next_alternative,
+};
 use query_core::{Key, KeyParts, PhysicalExpr};
 use request_props::Request;
 use std::alloc::{AllocError, Global};
@@ -162,40 +165,44 @@ fn best_mode(source: Source<'_>, expr: PhysicalExpr, wanted: Request) -> Option<
     requires ready { IsReady source.query.now source.known.now (OptE expr wanted) }
     ensures { IsAnswerTo source.entry.query.now (OptE expr wanted) result }
 {
-    // For the proof: the request fits, an expression has few modes, and the best of two sets is that of both.
+    // For the proof: the request fits, and the best of two sets is that of both.
     goals_are_known();
     members_are_candidates();
-    modes_are_few();
     answers_are_best();
-    let rows = expr_rows(source.query, source.props, expr);
-    let mut best = None;
-    for mode in 0..MODES_END {
-        best = lesser(best, best_in(source, expr, wanted, rows, mode));
+    let Source { query, props, .. } = source;
+    let rows = expr_rows(query, props, expr);
+    let modes = modes_to_try(query, props, expr, wanted);
+    let (mut best, mut from) = (None, 0);
+    'modes: while let Some((mode, line)) = next_alternative(
+        query, props, expr, wanted, modes, from,
+    ) {
+        best = lesser(best, best_in(source, expr, wanted, rows, mode, line));
+        from = mode + 1;
     }
     best
 }
 
-// The best answer of the expression in the mode, if that is there for the request.
+// The best answer of the expression in the mode, which is there for the request.
 fn best_in(
     source: Source<'_>,
     expr: PhysicalExpr,
     wanted: Request,
     rows: ExprRows,
     mode: u32,
+    line: Line,
 ) -> Option<Best>
     requires source { AreOf source.query.now source.props.now source.members.now }
     requires ready { IsReady source.query.now source.known.now (OptE expr wanted) }
     requires rows { AreRowsOf source.query.now expr rows }
     requires few { mode < MODES_END }
+    requires alternative { IsAlternative source.query.now expr wanted mode line }
     ensures { IsBestInMode source.entry.query.now expr wanted mode result }
 {
-    // For the proof: the expression is a member, the request fits, and the best of no nodes is none.
+    // For the proof: the expression is a member, and the request fits.
     goals_are_known();
     members_are_candidates();
-    answers_are_best();
-    let Source { query, props, .. } = source;
-    let line = line_of(query, props, expr, mode)?;
-    let alt = alternative_by(query, props, expr, wanted, mode, line)?;
+    let query = source.query;
+    let alt = alternative_at(query, expr, wanted, mode, line);
     let goal = GoalKind::OptE(expr, wanted);
     let left = best_asked(source, goal, alt.left);
     let right = best_asked(source, goal, alt.right);
