@@ -6,25 +6,26 @@ ghost use Rattle.sql_bind.specs.Conditions.{op_of as the_op, side_in as the_side
 use crate::columns::{Column, column_of};
 use crate::fault::BindFault;
 use crate::scope::Source;
-use orca_base::{List, Text};
+use crate::written::Written;
+use orca_base::List;
 use query_core::CmpOp;
 use sql_reader::{SelOp, SelOperand, SelPred};
 use std::alloc::Global;
 
 /// The right side of a predicate.
 #[derive(Drop)]
-pub enum Side {
+pub enum Side<'a> {
     Column(Column),
     Int(i64),
-    Str(Text),
+    Str(Written<'a>),
 }
 
 /// A predicate.
 #[derive(Drop)]
-pub struct Compared {
+pub struct Compared<'a> {
     pub left: Column,
     pub op: CmpOp,
-    pub right: Side,
+    pub right: Side<'a>,
 }
 
 fn op_of(op: SelOp) -> CmpOp
@@ -40,7 +41,11 @@ fn op_of(op: SelOp) -> CmpOp
     }
 }
 
-fn side_in(alloc: Global, sources: &[Source<'_>], operand: &SelOperand) -> Result<Side, BindFault>
+fn side_in<'a>(
+    alloc: Global,
+    sources: &[Source<'_>],
+    operand: &'a SelOperand,
+) -> Result<Side<'a>, BindFault>
     ensures { Gives (the_side sources.now operand.now) result }
 {
     match operand {
@@ -49,12 +54,16 @@ fn side_in(alloc: Global, sources: &[Source<'_>], operand: &SelOperand) -> Resul
             Ok(Side::Column(column))
         }
         SelOperand::Int(value) => Ok(Side::Int(*value)),
-        SelOperand::Str(text) => Ok(Side::Str(text.copy(alloc)?)),
+        SelOperand::Str(text) => Ok(Side::Str(Written::of(text))),
     }
 }
 
 #[tactic(auto, unfolding(crate::specs::Conditions::compared_in))]
-fn compared_in(alloc: Global, sources: &[Source<'_>], pred: &SelPred) -> Result<Compared, BindFault>
+fn compared_in<'a>(
+    alloc: Global,
+    sources: &[Source<'_>],
+    pred: &'a SelPred,
+) -> Result<Compared<'a>, BindFault>
     ensures { Gives (the_comparison sources.now pred.now) result }
 {
     let left = column_of(alloc, sources, &pred.left)?;
@@ -67,11 +76,11 @@ fn compared_in(alloc: Global, sources: &[Source<'_>], pred: &SelPred) -> Result<
 }
 
 /// The predicates in text order.
-pub fn compared_of(
+pub fn compared_of<'a>(
     alloc: Global,
     sources: &[Source<'_>],
-    preds: &[SelPred],
-) -> Result<List<Compared>, BindFault>
+    preds: &'a [SelPred],
+) -> Result<List<Compared<'a>>, BindFault>
     ensures { Gives (the_compared sources.now preds.now) result }
 {
     let mut compared = List::new(alloc);

@@ -20,7 +20,7 @@ pub fn is_grouped(parts: &Parts<'_>) -> bool
     1 <= parts.group.len() || 1 <= aggregates(parts.chosen.as_slice())
 }
 
-fn loose_chosen(group: &[Column], chosen: &[Chosen]) -> Option<u32>
+fn loose_chosen(group: &[Column], chosen: &[Chosen<'_>]) -> Option<u32>
     ensures { result ≡ first_of (all_loose_chosen group.now chosen.now) }
 {
     for element in chosen {

@@ -17,6 +17,7 @@ mod scope;
 mod select_list;
 mod sort_keys;
 mod used;
+mod written;
 
 pub use binding::bind;
 pub use fault::BindFault;

@@ -25,27 +25,27 @@ use std::alloc::Global;
 #[derive(Drop)]
 pub struct Parts<'a> {
     pub scope: List<Source<'a>>,
-    pub chosen: List<Chosen>,
-    pub compared: List<Compared>,
+    pub chosen: List<Chosen<'a>>,
+    pub compared: List<Compared<'a>>,
     pub group: List<Column>,
     pub keys: List<SortKey>,
 }
 
 /// WHERE, GROUP BY and ORDER BY over the tables and the select list.
 #[derive(Drop)]
-struct Clauses {
-    compared: List<Compared>,
+struct Clauses<'a> {
+    compared: List<Compared<'a>>,
     group: List<Column>,
     keys: List<SortKey>,
 }
 
 #[tactic(auto, unfolding(crate::specs::Parts::parts_of))]
-fn clauses_of(
+fn clauses_of<'a>(
     alloc: Global,
-    select: &Select,
+    select: &'a Select,
     sources: &[Source<'_>],
-    chosen: &[Chosen],
-) -> Result<Clauses, BindFault>
+    chosen: &[Chosen<'_>],
+) -> Result<Clauses<'a>, BindFault>
     ensures compared { IfOk result (λ c. the_compared sources.now select.now.preds ≡ Ok c.compared) }
     ensures group { IfOk result (λ c. the_columns sources.now select.now.group_by ≡ Ok c.group) }
     ensures keys { IfOk result (λ c. the_keys sources.now chosen.now select.now.order_by ≡ Ok c.keys) }

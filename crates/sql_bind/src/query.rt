@@ -11,6 +11,7 @@ use crate::scope::Source;
 use crate::select_list::{Chosen, What};
 use crate::sort_keys::target_of;
 use crate::used::Used;
+use crate::written::Written;
 use orca_base::{List, Text};
 use query_core::{Agg, Item, Operand, OutItem, Placing, Pred, QueryTable};
 use std::alloc::{AllocError, Global};
@@ -107,7 +108,7 @@ pub fn tables_of(
     Ok(tables)
 }
 
-fn operand_of(alloc: Global, used: &UsedColumns<'_>, side: &Side) -> Result<Operand, AllocError>
+fn operand_of(alloc: Global, used: &UsedColumns<'_>, side: &Side<'_>) -> Result<Operand, AllocError>
     requires { length used.now ≤ 60 }
     ensures { IfOk result (λ operand. operand ≡ the_operand used.now side.now) }
 {
@@ -121,7 +122,7 @@ fn operand_of(alloc: Global, used: &UsedColumns<'_>, side: &Side) -> Result<Oper
 fn add_pred(
     alloc: Global,
     used: &UsedColumns<'_>,
-    compared: &Compared,
+    compared: &Compared<'_>,
     preds: &mut List<Pred>,
 ) -> Result<(), AllocError>
     requires { length used.now ≤ 60 }
@@ -138,7 +139,7 @@ fn add_pred(
 pub fn preds_of(
     alloc: Global,
     used: &UsedColumns<'_>,
-    compared: &[Compared],
+    compared: &[Compared<'_>],
 ) -> Result<List<Pred>, AllocError>
     requires { length used.now ≤ 60 }
     ensures { IfOk result (λ preds. preds ≡ the_preds used.now compared.now) }
@@ -150,7 +151,7 @@ pub fn preds_of(
     Ok(preds)
 }
 
-fn name_of(alloc: Global, name: &Option<Text>) -> Result<Option<Text>, AllocError>
+fn name_of(alloc: Global, name: &Option<Written<'_>>) -> Result<Option<Text>, AllocError>
     ensures { IfOk result (λ copied. copied ≡ name.now) }
 {
     match name {
@@ -173,7 +174,7 @@ fn argument_of(used: &UsedColumns<'_>, arg: Option<Column>) -> Option<u32>
 fn add_agg(
     alloc: Global,
     used: &UsedColumns<'_>,
-    chosen: &Chosen,
+    chosen: &Chosen<'_>,
     aggs: &mut List<Agg>,
 ) -> Result<(), AllocError>
     requires { length used.now ≤ 60 }
@@ -197,7 +198,7 @@ fn add_agg(
 pub fn aggs_of(
     alloc: Global,
     used: &UsedColumns<'_>,
-    chosen: &[Chosen],
+    chosen: &[Chosen<'_>],
 ) -> Result<List<Agg>, AllocError>
     requires { length used.now ≤ 60 }
     ensures { IfOk result (λ aggs. aggs ≡ the_aggs used.now chosen.now) }
@@ -212,7 +213,7 @@ pub fn aggs_of(
 fn add_output(
     alloc: Global,
     used: &UsedColumns<'_>,
-    chosen: &Chosen,
+    chosen: &Chosen<'_>,
     outputs: &mut List<OutItem>,
 ) -> Result<(), AllocError>
     requires { length used.now ≤ 60 }
@@ -228,7 +229,7 @@ fn add_output(
 pub fn outputs_of(
     alloc: Global,
     used: &UsedColumns<'_>,
-    chosen: &[Chosen],
+    chosen: &[Chosen<'_>],
 ) -> Result<List<OutItem>, AllocError>
     requires { length used.now ≤ 60 }
     ensures { IfOk result (λ outputs. outputs ≡ the_outputs used.now chosen.now) }

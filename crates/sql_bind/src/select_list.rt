@@ -8,6 +8,7 @@ use crate::columns::{Column, column_of};
 use crate::fault::BindFault;
 use crate::names::Names;
 use crate::scope::Source;
+use crate::written::Written;
 use orca_base::{List, Text};
 use query_core::AggFunc;
 use sql_reader::{ColRef, SelExpr, SelFunc, SelItem};
@@ -31,10 +32,10 @@ pub enum What {
 
 /// An element of the select list.
 #[derive(Drop)]
-pub struct Chosen {
+pub struct Chosen<'a> {
     pub what: What,
     /// The output name, where one is given.
-    pub name: Option<Text>,
+    pub name: Option<Written<'a>>,
 }
 
 fn function_of(func: SelFunc) -> AggFunc
@@ -59,7 +60,7 @@ pub fn is_aggregate(what: What) -> bool
 }
 
 /// How many aggregates there are.
-pub fn aggregates(chosen: &[Chosen]) -> usize
+pub fn aggregates(chosen: &[Chosen<'_>]) -> usize
     ensures count { result ≡ all_aggregates chosen.now }
     ensures few { result ≤ length chosen.now }
 {
@@ -118,11 +119,11 @@ fn what_in(
     }
 }
 
-pub fn is_called(name: &Text, chosen: &Chosen) -> bool
+pub fn is_called(name: &Text, chosen: &Chosen<'_>) -> bool
     ensures { result ≡ has_name name.now chosen.now }
 {
     match &chosen.name {
-        Some(other) => other.as_str() == name.as_str(),
+        Some(other) => other.is(name),
         None => false,
     }
 }
@@ -130,11 +131,10 @@ pub fn is_called(name: &Text, chosen: &Chosen) -> bool
 /// An element under its output name, which is added.
 #[tactic(auto, unfolding(crate::specs::SelectList::any_called))]
 fn named_as<'a>(
-    alloc: Global,
     names: &mut Names<'a>,
     item: &'a SelItem,
     what: What,
-) -> Result<Chosen, BindFault>
+) -> Result<Chosen<'a>, BindFault>
     ensures bound { (before : List Chosen) → names.old ≡ output_names before
         → Gives (named_so before item.now.name_at item.now.name what) result }
     ensures added { IfOk result (λ c. names.new ≡ names.old ++ option_to_list c.name) }
@@ -148,7 +148,7 @@ fn named_as<'a>(
     names.add(name)?;
     Ok(Chosen {
         what,
-        name: Some(name.copy(alloc)?),
+        name: Some(Written::of(name)),
     })
 }
 
@@ -156,10 +156,10 @@ fn named_as<'a>(
 fn chosen_in<'a>(
     alloc: Global,
     sources: &[Source<'_>],
-    before: &[Chosen],
+    before: &[Chosen<'_>],
     names: &mut Names<'a>,
     item: &'a SelItem,
-) -> Result<Chosen, BindFault>
+) -> Result<Chosen<'a>, BindFault>
     requires few { length before.now ≤ 60 }
     requires names { names.old ≡ output_names before.now }
     ensures bound { Gives (chosen_of_item sources.now before.now item.now) result }
@@ -167,15 +167,15 @@ fn chosen_in<'a>(
 {
     let number = aggregates(before) as u8;
     let what = what_in(alloc, sources, number, &item.expr)?;
-    named_as(alloc, names, item, what)
+    named_as(names, item, what)
 }
 
 /// The select list in text order.
-pub fn chosen_of(
+pub fn chosen_of<'a>(
     alloc: Global,
     sources: &[Source<'_>],
-    items: &[SelItem],
-) -> Result<List<Chosen>, BindFault>
+    items: &'a [SelItem],
+) -> Result<List<Chosen<'a>>, BindFault>
     requires { length items.now ≤ 60 }
     ensures { Gives (the_chosen sources.now items.now) result }
 {
@@ -189,7 +189,7 @@ fn elements_of<'a>(
     sources: &[Source<'_>],
     items: &'a [SelItem],
     names: &mut Names<'a>,
-) -> Result<List<Chosen>, BindFault>
+) -> Result<List<Chosen<'a>>, BindFault>
     requires few { length items.now ≤ 60 }
     requires empty { names.old ≡ [] }
     ensures { Gives (the_chosen sources.now items.now) result }

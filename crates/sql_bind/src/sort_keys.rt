@@ -42,13 +42,13 @@ pub fn target_of(what: What) -> Target
 }
 
 #[tactic(auto, unfolding(crate::specs::SortKeys::first_called))]
-fn first_called<'c>(chosen: &'c [Chosen], name: &Text) -> Option<&'c Chosen>
+fn first_called<'c, 'a>(chosen: &'c [Chosen<'a>], name: &Text) -> Option<&'c Chosen<'a>>
     ensures { option_copied result ≡ first_called name.now chosen.now }
 {
     chosen.iter().find(|element| is_called(name, element))
 }
 
-fn named_target(found: Option<&Chosen>) -> Option<Target>
+fn named_target(found: Option<&Chosen<'_>>) -> Option<Target>
     ensures { result ≡ target_named (option_copied found.entry) }
 {
     match found {
@@ -58,7 +58,7 @@ fn named_target(found: Option<&Chosen>) -> Option<Target>
 }
 
 /// The output that a bare name means, where there is one of this name.
-fn meant_output(chosen: &[Chosen], reference: &ColRef) -> Option<Target>
+fn meant_output(chosen: &[Chosen<'_>], reference: &ColRef) -> Option<Target>
     ensures { result ≡ output_meant chosen.now reference.now.table reference.now.name }
 {
     match &reference.table {
@@ -87,7 +87,7 @@ fn target_in(
 fn key_in(
     alloc: Global,
     sources: &[Source<'_>],
-    chosen: &[Chosen],
+    chosen: &[Chosen<'_>],
     key: &SelKey,
 ) -> Result<SortKey, BindFault>
     ensures { Gives (key_of sources.now chosen.now key.now) result }
@@ -105,7 +105,7 @@ fn key_in(
 pub fn keys_of(
     alloc: Global,
     sources: &[Source<'_>],
-    chosen: &[Chosen],
+    chosen: &[Chosen<'_>],
     order_by: &[SelKey],
 ) -> Result<List<SortKey>, BindFault>
     ensures { Gives (the_keys sources.now chosen.now order_by.now) result }

@@ -74,7 +74,7 @@ fn add_what(what: What, wanted: &mut Vec<Column>) -> Result<(), AllocError>
     Ok(())
 }
 
-fn add_chosen(chosen: &[Chosen], wanted: &mut Vec<Column>) -> Result<(), AllocError>
+fn add_chosen(chosen: &[Chosen<'_>], wanted: &mut Vec<Column>) -> Result<(), AllocError>
     ensures { OnOk result (wanted.new.items ≡ wanted.old.items ++ named_by_chosen chosen.now) }
 {
     for element in chosen {
@@ -83,7 +83,7 @@ fn add_chosen(chosen: &[Chosen], wanted: &mut Vec<Column>) -> Result<(), AllocEr
     Ok(())
 }
 
-fn add_comparison(comparison: &Compared, wanted: &mut Vec<Column>) -> Result<(), AllocError>
+fn add_comparison(comparison: &Compared<'_>, wanted: &mut Vec<Column>) -> Result<(), AllocError>
     ensures { OnOk result (wanted.new.items ≡ wanted.old.items ++ in_compared comparison.now) }
 {
     wanted.push(comparison.left)?;
@@ -95,7 +95,7 @@ fn add_comparison(comparison: &Compared, wanted: &mut Vec<Column>) -> Result<(),
     Ok(())
 }
 
-fn add_compared(compared: &[Compared], wanted: &mut Vec<Column>) -> Result<(), AllocError>
+fn add_compared(compared: &[Compared<'_>], wanted: &mut Vec<Column>) -> Result<(), AllocError>
     ensures { OnOk result (wanted.new.items ≡ wanted.old.items ++ named_by_compared compared.now) }
 {
     for comparison in compared {
