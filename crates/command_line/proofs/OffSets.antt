@@ -1,5 +1,5 @@
 -- Which rules may be off together, and the set of their bits.
-use Rattle.std.proofs.Common.{◌≡◌, ℕ, ◌+◌, ◌^◌, ◌%◌, ◌<◌, ◌&&◌, ◌↔◌, Bool, true, false, IsTrue, List, [], ◌∷◌, ◌++◌}
+use Rattle.std.proofs.Common.{◌≡◌, ℕ, ◌+◌, ◌^◌, ◌&&◌, ◌↔◌, Bool, true, false, IsTrue, List, [], ◌∷◌, ◌++◌}
 use Rattle.std.proofs.Common.{length, nat_le, Some, refl, sym, ap, ◌∙◌, subst, arith, inl, inr}
 use Rattle.std.proofs.lemmas.List.Sums.{sum_by-append}
 use Rattle.std.proofs.Math.Bool.{and-false}
@@ -14,6 +14,7 @@ use Rattle.xform_rules.specs.Rules.{can_be_off, rule_number}
 use Rattle.xform_rules.specs.declared.rules.Rule.{Rule}
 use Rattle.xform_rules.specs.declared.rules.Rule.TheVariants as rules
 use Rattle.command_line.specs.Rules.{may_be_off, off_set}
+use Rattle.command_line.specs.Options.{MayBeOff}
 use Rattle.command_line.specs.Reading.{set_where_off}
 use Rattle.command_line.specs.Drafts.{IsOffSet}
 use Rattle.command_line.proofs.GivenNumbers.{no_bits, more_bits, comes_twice}
@@ -58,24 +59,63 @@ set_of_rules before rule new is =
     let some : nat_le 1 (length (before ++ rule ∷ [])) ≡ true = rw length-append (grind (arith, nat_tests)) in
     rw (some, is.can, is.are_bits.once) (ap Some is.sum_of)
 
--- a bit that isn't set yet has room among those from 2 to 14
-pub has_room : (rule : Rule) (set : ℕ) → set < 32768 → set % 4 ≡ 0 → can_be_off rule ≡ true
-    → bit set (rule_number rule) ≡ 0 → (set + 2 ^ rule_number rule < 32768) × ((set + 2 ^ rule_number rule) % 4 ≡ 0)
+-- a rule that can be off may be off beside others
+pub has_room : (rule : Rule) (set : ℕ) → MayBeOff set → can_be_off rule ≡ true → bit set (rule_number rule) ≡ 0
+    → MayBeOff (set + 2 ^ rule_number rule)
 unfolding bit
-has_room rules.ExpandNAry set small whole can none = absurd (false≢true can)
-has_room rules.JoinCommute set small whole can none = (omega (arith, small, none), omega (arith, whole))
-has_room rules.JoinAssociate set small whole can none = (omega (arith, small, none), omega (arith, whole))
-has_room rules.SplitAgg set small whole can none = (omega (arith, small, none), omega (arith, whole))
-has_room rules.GetToScan set small whole can none = (omega (arith, small, none), omega (arith, whole))
-has_room rules.GetToIndexScan set small whole can none = (omega (arith, small, none), omega (arith, whole))
-has_room rules.SelectToFilter set small whole can none = (omega (arith, small, none), omega (arith, whole))
-has_room rules.SelectToIndexSeek set small whole can none = (omega (arith, small, none), omega (arith, whole))
-has_room rules.JoinToHash set small whole can none = (omega (arith, small, none), omega (arith, whole))
-has_room rules.JoinToMerge set small whole can none = (omega (arith, small, none), omega (arith, whole))
-has_room rules.JoinToLoop set small whole can none = (omega (arith, small, none), omega (arith, whole))
-has_room rules.AggToHash set small whole can none = (omega (arith, small, none), omega (arith, whole))
-has_room rules.AggToStream set small whole can none = (omega (arith, small, none), omega (arith, whole))
-has_room rules.PartialToHash set small whole can none = (omega (arith, small, none), omega (arith, whole))
+has_room rules.ExpandNAry set is can none = absurd (false≢true can)
+has_room rules.JoinCommute set is can none = record {
+  below = omega (arith, is.below, none);
+  expansion_on = omega (arith, is.expansion_on);
+}
+has_room rules.JoinAssociate set is can none = record {
+  below = omega (arith, is.below, none);
+  expansion_on = omega (arith, is.expansion_on);
+}
+has_room rules.SplitAgg set is can none = record {
+  below = omega (arith, is.below, none);
+  expansion_on = omega (arith, is.expansion_on);
+}
+has_room rules.GetToScan set is can none = record {
+  below = omega (arith, is.below, none);
+  expansion_on = omega (arith, is.expansion_on);
+}
+has_room rules.GetToIndexScan set is can none = record {
+  below = omega (arith, is.below, none);
+  expansion_on = omega (arith, is.expansion_on);
+}
+has_room rules.SelectToFilter set is can none = record {
+  below = omega (arith, is.below, none);
+  expansion_on = omega (arith, is.expansion_on);
+}
+has_room rules.SelectToIndexSeek set is can none = record {
+  below = omega (arith, is.below, none);
+  expansion_on = omega (arith, is.expansion_on);
+}
+has_room rules.JoinToHash set is can none = record {
+  below = omega (arith, is.below, none);
+  expansion_on = omega (arith, is.expansion_on);
+}
+has_room rules.JoinToMerge set is can none = record {
+  below = omega (arith, is.below, none);
+  expansion_on = omega (arith, is.expansion_on);
+}
+has_room rules.JoinToLoop set is can none = record {
+  below = omega (arith, is.below, none);
+  expansion_on = omega (arith, is.expansion_on);
+}
+has_room rules.AggToHash set is can none = record {
+  below = omega (arith, is.below, none);
+  expansion_on = omega (arith, is.expansion_on);
+}
+has_room rules.AggToStream set is can none = record {
+  below = omega (arith, is.below, none);
+  expansion_on = omega (arith, is.expansion_on);
+}
+has_room rules.PartialToHash set is can none = record {
+  below = omega (arith, is.below, none);
+  expansion_on = omega (arith, is.expansion_on);
+}
 
 -- a bit that isn't 1 is 0
 pub unset : (set n : ℕ) → (Has set n → ⊥) → bit set n ≡ 0

@@ -1,5 +1,5 @@
 -- The options of the commands: which take them, how each is spelled, and what it chooses.
-use Rattle.std.specs.Prelude.{ℕ, List, [], ◌∷◌, ◌≡◌, ◌<◌, ◌%◌, ⊤, Bool, true, false, codes, IsTrue}
+use Rattle.std.specs.Prelude.{ℕ, List, [], ◌∷◌, ◌≡◌, ⊤, Bool, true, false, codes, IsTrue}
 use Rattle.std.specs.List.{fold}
 use Rattle.query_core.specs.declared.options.RootDist.{RootDist}
 use Rattle.query_core.specs.declared.options.RootDist.TheVariants.{One, Spread}
@@ -117,12 +117,16 @@ pub record AreChoices (c : Choices) : Type 0 where
   pub capacity : IsWithin 64 1048576 c.capacity
   pub options : AreOptions c.options
 
+-- the rules of the set may be off in a query
+abbrev pub MayBeOff : ℕ → Type 0
+MayBeOff set = AreOptions (record { root = One; off = set })
+
 -- the setting's number lies within its bounds, and its rules may be off
 abbrev pub IsAllowed : Setting → Type 0
 IsAllowed (settings.Workers number) = IsWithin 1 64 number
 IsAllowed (settings.Capacity number) = IsWithin 64 1048576 number
 IsAllowed (settings.Root dist) = ⊤
-IsAllowed (settings.Off set) = (set < 32768) × (set % 4 ≡ 0)
+IsAllowed (settings.Off set) = MayBeOff set
 IsAllowed settings.Memo = ⊤
 IsAllowed settings.Trace = ⊤
 IsAllowed settings.ByWorker = ⊤

@@ -1,12 +1,13 @@
 //! Which rules are off.
-ghost use Rattle.std.specs.Prelude.{◌≡◌, ◌<◌, ◌%◌};
+ghost use Rattle.std.specs.Prelude.{◌≡◌};
+ghost use Rattle.std.proofs.Props.{props};
+ghost use Rattle.command_line.specs.Options.{MayBeOff};
 
 /// Rules that are off, as the bits of their numbers: some of those that can be off.
 #[derive(Clone, Copy)]
 pub struct OffSet {
     pub bits: u32,
-    pub ghost below: { bits < 32768 },
-    pub ghost expansion_on: { bits % 4 ≡ 0 },
+    pub ghost may_be_off: { MayBeOff bits } by { Prim.hlevel props },
 }
 
 impl OffSet {

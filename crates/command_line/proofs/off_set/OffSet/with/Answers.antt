@@ -22,9 +22,10 @@ pub invariant_of-result : goal.invariant_of-result
 invariant_of-result c =
     let facts = fresh_sum c.args.self.bits c.number-number.result (rule_number c.args.rule) c.with.result c.has.result
     c.number-number.ensures.value c.has.ensures c.if-has.false c.with.ensures.grows in
-    let room = has_room c.args.rule c.args.self.bits c.args.self.below c.args.self.expansion_on
-    (sym c.can_be_off.ensures ∙ c.if-not-can_be_off.false) facts.1 in
-    rw facts.2 (record { below = room.0; expansion_on = room.1 })
+    rw facts.2 (record {
+      may_be_off = has_room c.args.rule c.args.self.bits c.args.self.may_be_off
+          (sym c.can_be_off.ensures ∙ c.if-not-can_be_off.false) facts.1;
+    })
 
 -- the rule is behind the others
 pub returns-clause-added : goal.returns-clause-added
