@@ -1,5 +1,5 @@
 -- Which rules may be off together, and the set of their bits.
-use Rattle.std.proofs.Common.{◌≡◌, ℕ, ◌+◌, ◌^◌, ◌&&◌, ◌↔◌, Bool, true, false, IsTrue, List, [], ◌∷◌, ◌++◌}
+use Rattle.std.proofs.Common.{◌≡◌, ℕ, ◌+◌, ◌^◌, ◌%◌, ◌<◌, ◌&&◌, ◌↔◌, Bool, true, false, IsTrue, List, [], ◌∷◌, ◌++◌}
 use Rattle.std.proofs.Common.{length, nat_le, Some, refl, sym, ap, ◌∙◌, subst, arith, inl, inr}
 use Rattle.std.proofs.lemmas.List.Sums.{sum_by-append}
 use Rattle.std.proofs.Math.Bool.{and-false}
@@ -59,63 +59,31 @@ set_of_rules before rule new is =
     let some : nat_le 1 (length (before ++ rule ∷ [])) ≡ true = rw length-append (grind (arith, nat_tests)) in
     rw (some, is.can, is.are_bits.once) (ap Some is.sum_of)
 
+-- a bit that isn't set yet has room among those from 2 to 14
+numbers_fit : (rule : Rule) (set : ℕ) → set < 32768 → set % 4 ≡ 0 → can_be_off rule ≡ true
+    → bit set (rule_number rule) ≡ 0 → (set + 2 ^ rule_number rule < 32768) × ((set + 2 ^ rule_number rule) % 4 ≡ 0)
+unfolding bit
+numbers_fit rules.ExpandNAry set small whole can none = absurd (false≢true can)
+numbers_fit rules.JoinCommute set small whole can none = (omega (arith, small, none), omega (arith, whole))
+numbers_fit rules.JoinAssociate set small whole can none = (omega (arith, small, none), omega (arith, whole))
+numbers_fit rules.SplitAgg set small whole can none = (omega (arith, small, none), omega (arith, whole))
+numbers_fit rules.GetToScan set small whole can none = (omega (arith, small, none), omega (arith, whole))
+numbers_fit rules.GetToIndexScan set small whole can none = (omega (arith, small, none), omega (arith, whole))
+numbers_fit rules.SelectToFilter set small whole can none = (omega (arith, small, none), omega (arith, whole))
+numbers_fit rules.SelectToIndexSeek set small whole can none = (omega (arith, small, none), omega (arith, whole))
+numbers_fit rules.JoinToHash set small whole can none = (omega (arith, small, none), omega (arith, whole))
+numbers_fit rules.JoinToMerge set small whole can none = (omega (arith, small, none), omega (arith, whole))
+numbers_fit rules.JoinToLoop set small whole can none = (omega (arith, small, none), omega (arith, whole))
+numbers_fit rules.AggToHash set small whole can none = (omega (arith, small, none), omega (arith, whole))
+numbers_fit rules.AggToStream set small whole can none = (omega (arith, small, none), omega (arith, whole))
+numbers_fit rules.PartialToHash set small whole can none = (omega (arith, small, none), omega (arith, whole))
+
 -- a rule that can be off may be off beside others
 pub has_room : (rule : Rule) (set : ℕ) → MayBeOff set → can_be_off rule ≡ true → bit set (rule_number rule) ≡ 0
     → MayBeOff (set + 2 ^ rule_number rule)
-unfolding bit
-has_room rules.ExpandNAry set is can none = absurd (false≢true can)
-has_room rules.JoinCommute set is can none = record {
-  below = omega (arith, is.below, none);
-  expansion_on = omega (arith, is.expansion_on);
-}
-has_room rules.JoinAssociate set is can none = record {
-  below = omega (arith, is.below, none);
-  expansion_on = omega (arith, is.expansion_on);
-}
-has_room rules.SplitAgg set is can none = record {
-  below = omega (arith, is.below, none);
-  expansion_on = omega (arith, is.expansion_on);
-}
-has_room rules.GetToScan set is can none = record {
-  below = omega (arith, is.below, none);
-  expansion_on = omega (arith, is.expansion_on);
-}
-has_room rules.GetToIndexScan set is can none = record {
-  below = omega (arith, is.below, none);
-  expansion_on = omega (arith, is.expansion_on);
-}
-has_room rules.SelectToFilter set is can none = record {
-  below = omega (arith, is.below, none);
-  expansion_on = omega (arith, is.expansion_on);
-}
-has_room rules.SelectToIndexSeek set is can none = record {
-  below = omega (arith, is.below, none);
-  expansion_on = omega (arith, is.expansion_on);
-}
-has_room rules.JoinToHash set is can none = record {
-  below = omega (arith, is.below, none);
-  expansion_on = omega (arith, is.expansion_on);
-}
-has_room rules.JoinToMerge set is can none = record {
-  below = omega (arith, is.below, none);
-  expansion_on = omega (arith, is.expansion_on);
-}
-has_room rules.JoinToLoop set is can none = record {
-  below = omega (arith, is.below, none);
-  expansion_on = omega (arith, is.expansion_on);
-}
-has_room rules.AggToHash set is can none = record {
-  below = omega (arith, is.below, none);
-  expansion_on = omega (arith, is.expansion_on);
-}
-has_room rules.AggToStream set is can none = record {
-  below = omega (arith, is.below, none);
-  expansion_on = omega (arith, is.expansion_on);
-}
-has_room rules.PartialToHash set is can none = record {
-  below = omega (arith, is.below, none);
-  expansion_on = omega (arith, is.expansion_on);
-}
+has_room rule set is can none =
+    let fit = numbers_fit rule set is.below is.expansion_on can none in
+    record { below = fit.0; expansion_on = fit.1 }
 
 -- a bit that isn't 1 is 0
 pub unset : (set n : ℕ) → (Has set n → ⊥) → bit set n ≡ 0
