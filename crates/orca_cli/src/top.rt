@@ -50,14 +50,14 @@ pub fn orca_run<R: Threads + Wait + Sync, S: Shelf, K: Sink, G: Gate>(
         None => put_usage(out),
         Some(Command::Plan(command)) => {
             if command.choices.workers == 1 {
-                return orca_alone(alloc, words, shelf, out, note);
+                return plan_alone(alloc, &command, shelf, out, note);
             }
             let made = ending_by_crew(rt, alloc, &command, shelf, gate, note);
             put_made(out, &command, made)
         }
         Some(Command::Gen(command)) => {
             if command.workers == 1 {
-                return orca_alone(alloc, words, shelf, out, note);
+                return generate_alone(alloc, command, out, note);
             }
             let made = generated_by_crew(rt, alloc, command, gate, note);
             put_generated(out, command, made)
@@ -80,14 +80,8 @@ pub fn orca_alone<S: Shelf, K: Sink>(
         (K.faults out.old) (K.faults out.new) note.old note.new result }
 {
     match read_command(words).unwrap() {
-        Command::Plan(command) => {
-            let made = ending_alone(alloc, &command, shelf, note);
-            put_made(out, &command, made)
-        }
-        Command::Gen(command) => {
-            let made = generated_alone(alloc, command, note);
-            put_generated(out, command, made)
-        }
+        Command::Plan(command) => plan_alone(alloc, &command, shelf, out, note),
+        Command::Gen(command) => generate_alone(alloc, command, out, note),
     }
 }
 
@@ -101,6 +95,38 @@ pub fn put_usage<K: Sink>(out: &mut K) -> Status
         Ok(()) => Status::Usage,
         Err(_) => Status::WriteFault,
     }
+}
+
+// Does what `plan` asks for, by one worker.
+fn plan_alone<S: Shelf, K: Sink>(
+    alloc: Global,
+    command: &PlanCommand<'_>,
+    shelf: &mut S,
+    out: &mut K,
+    note: &mut RunNote,
+) -> Status
+    requires { command.now.choices.workers ≡ 1 }
+    ensures { Serves (Some (plan_command command.now)) (S.held shelf.old)
+        (S.faults shelf.old) (S.faults shelf.new) (K.taken out.old) (K.taken out.new)
+        (K.faults out.old) (K.faults out.new) note.old note.new result }
+{
+    let made = ending_alone(alloc, command, shelf, note);
+    put_made(out, command, made)
+}
+
+// Does what `gen` asks for, by one worker.
+fn generate_alone<K: Sink>(
+    alloc: Global,
+    command: GenCommand,
+    out: &mut K,
+    note: &mut RunNote,
+) -> Status
+    requires { command.workers ≡ 1 }
+    ensures { ServesGen (gen_command command) (K.taken out.old) (K.taken out.new)
+        (K.faults out.old) (K.faults out.new) note.new result }
+{
+    let made = generated_alone(alloc, command, note);
+    put_generated(out, command, made)
 }
 
 // The ending of the run of a command, by one worker.
