@@ -206,6 +206,7 @@ fn partial_groups_stay_where_spread_rows_lie(rt: HostRuntime) -> Result<(), Fail
     let (query, props) = counted(rt.alloc(), "b")?;
     assert_partial(&rt, &query, &props, ask(Dist::Spread, 0), true);
     assert_partial(&rt, &query, &props, ask(HASHED, 0), true);
+    assert_partial(&rt, &query, &props, ask(Dist::Hashed(BY_A), 0), true);
     assert_partial(&rt, &query, &props, ask(Dist::One, 0), false);
     assert_partial(&rt, &query, &props, ask(Dist::Copies, 0), false);
     assert_partial(&rt, &query, &props, ask(Dist::Spread, WANTED), false);
