@@ -10,7 +10,7 @@ trap 'rm -rf "$folder"' EXIT
 
 # builds the program where it is missing or old
 build() {
-  "$top/orca" plan "$top/examples/t.json" "$top/examples/q.sql" >/dev/null
+  ORCA_PROVED_ONLY=1 "$top/orca" plan "$top/examples/t.json" "$top/examples/q.sql" >/dev/null
 }
 
 # the least time of the runs of a command, in microseconds

@@ -1,13 +1,17 @@
 #!/usr/bin/env python3
 """Proves and builds the libraries that a crate stands on, those side by side that don't stand on each other.
 
-Usage: tools/build_libraries.py CRATE
+Usage: tools/build_libraries.py CRATE [LIST]
+
+LIST gets the names of all files and folders that the crate is made from, each ended by a zero byte; its time is the
+moment before they were looked for.
 
 It prints a line as it begins with a library, and where one fails, all that `rt lib` said of it; it then begins with no
-further one, and ends with the status 1. One that is newer than its sources and those of all below it is passed; where
-that is wrong, as after a change of the toolchain, the build of the crate itself makes it.
+further one, and ends with the status 1. One whose build began after the last change of its sources and of those of all
+below it is passed; where that is wrong, as after a change of the toolchain, the build of the crate itself makes it.
 """
 
+import functools
 import os
 import shutil
 import subprocess
@@ -16,6 +20,7 @@ import tempfile
 from concurrent.futures import FIRST_COMPLETED, ThreadPoolExecutor, wait
 
 TOP = os.path.dirname(os.path.dirname(os.path.abspath(__file__)))
+SOURCES = ["src", "specs", "proofs"]
 PROCESSORS = os.cpu_count() or 1
 
 
@@ -40,21 +45,47 @@ def crates_below(name):
     return below
 
 
+def sources_of(crate):
+    """The files and folders that the crate's library is made from, by their names below the repository."""
+    for part in SOURCES:
+        for at, folders, names in os.walk(os.path.join(TOP, "crates", crate, part)):
+            folder = os.path.relpath(at, TOP)
+            yield folder
+            yield from (os.path.join(folder, name) for name in names)
+
+
+def time_now(file):
+    """The time that a file gets that is written now: makes it."""
+    open(file, "w").close()
+    return os.stat(file).st_mtime_ns
+
+
+def set_time(file, time):
+    os.utime(file, ns=(time, time))
+
+
+def write_list(crates, file):
+    """Writes the names of all that these crates are made from. The file's time is the moment before."""
+    before = time_now(file)
+    names = ["crates.txt", *(name for crate in crates for name in sources_of(crate))]
+    with open(file, "w") as out:
+        out.writelines(f"{name}\0" for name in names)
+    set_time(file, before)
+
+
+@functools.lru_cache(maxsize=None)
 def newest_source(crate):
-    """When a file that the crate's library is made from was last changed."""
-    folder = os.path.join(TOP, "crates", crate)
-    walks = [os.walk(os.path.join(folder, part)) for part in ("src", "specs", "proofs")]
-    return max((os.path.getmtime(os.path.join(at, name)) for walk in walks for at, folders, names in walk
-                for name in names + folders), default=0)
+    """When a source of the crate was last changed. (The time of a file's state can't be set back.)"""
+    return max((os.stat(os.path.join(TOP, name)).st_ctime_ns for name in sources_of(crate)), default=0)
 
 
 def is_current(crate, below):
-    """Whether the library is built, and newer than all sources from it down."""
+    """Whether the library is built, and its build began after the last change of all sources from it down."""
     try:
-        built = os.path.getmtime(os.path.join(TOP, "crates", crate, "out", "rlib", "stamp"))
+        built = os.stat(os.path.join(TOP, "crates", crate, "out", "rlib", "stamp")).st_mtime_ns
     except OSError:
         return False
-    return all(newest_source(it) <= built for it in {crate, *below})
+    return all(newest_source(it) < built for it in {crate, *below})
 
 
 def link(one, other):
@@ -65,12 +96,24 @@ def link(one, other):
         shutil.copy2(one, other)
 
 
-def take(crate, parts, copy):
+def take(crate, parts, copy, how):
     """Gives the copy of the repository these folders of a crate."""
     for part in parts:
         whole = os.path.join(TOP, "crates", crate, part)
         if os.path.isdir(whole):
-            shutil.copytree(whole, os.path.join(copy, "crates", crate, part), copy_function=link)
+            shutil.copytree(whole, os.path.join(copy, "crates", crate, part), copy_function=how)
+
+
+def bring_back(made, crate, began):
+    """Puts what was built of the crate in the repository. The time of its stamp is that at which the build began."""
+    for part in ["out/rlib", "out/incremental"]:
+        if os.path.isdir(os.path.join(made, part)):
+            kept = os.path.join(TOP, "crates", crate, part)
+            shutil.rmtree(kept, ignore_errors=True)
+            shutil.move(os.path.join(made, part), kept)
+    stamp = os.path.join(TOP, "crates", crate, "out", "rlib", "stamp")
+    if os.path.exists(stamp):
+        set_time(stamp, began)
 
 
 def lines_of(crates):
@@ -80,25 +123,25 @@ def lines_of(crates):
 
 
 def build(crate, below, jobs, yields):
-    """The status of the library's build, and what it said; whether it yields to builds that don't. It is built in a copy of the crates that it stands on: `rt lib`
-    holds the folders of all of them while it works, so two builds in one folder would wait for each other."""
+    """The status of the library's build, and what it said; whether it yields to builds that don't. It is built in a copy of the
+    crates that it stands on: `rt lib` holds the folders of all of them while it works, so two builds in one folder would
+    wait for each other. Sources are copied, so that an edit during the build doesn't reach it."""
     print(f"building {crate}\n", end="", flush=True)
     with tempfile.TemporaryDirectory(prefix="orca-build-") as copy:
-        with open(os.path.join(copy, "crates.txt"), "w") as file:
+        listed = os.path.join(copy, "crates.txt")
+        began = time_now(listed)
+        with open(listed, "w") as file:
             file.writelines(lines_of([*below, crate]))
-        for it in below:
-            take(it, ["src", "specs", "proofs", "out/rlib"], copy)
         folder = os.path.join(copy, "crates", crate)
         os.makedirs(folder)
-        take(crate, ["src", "specs", "proofs", "out/incremental"], copy)
+        for it in [*below, crate]:
+            take(it, SOURCES, copy, shutil.copy2)
+            take(it, ["out/incremental" if it == crate else "out/rlib"], copy, link)
         done = subprocess.run([*["nice"] * yields, "rt", "lib", "--jobs", str(jobs)], cwd=folder, text=True,
                               stdin=subprocess.DEVNULL, stdout=subprocess.PIPE, stderr=subprocess.STDOUT,
                               errors="replace")
-        for part in ["out/rlib", "out/incremental"] if done.returncode == 0 else []:
-            made, kept = os.path.join(folder, part), os.path.join(TOP, "crates", crate, part)
-            if os.path.isdir(made):
-                shutil.rmtree(kept, ignore_errors=True)
-                shutil.move(made, kept)
+        if done.returncode == 0:
+            bring_back(folder, crate, began)
     return done.returncode, done.stdout
 
 
@@ -127,7 +170,14 @@ def build_all(below):
     return not failed
 
 
+def main(crate, file=None):
+    below = crates_below(crate)
+    if file:
+        write_list([*below, crate], file)
+    sys.exit(0 if build_all(below) else 1)
+
+
 if __name__ == "__main__":
-    if len(sys.argv) != 2:
+    if len(sys.argv) not in (2, 3):
         sys.exit(__doc__)
-    sys.exit(0 if build_all(crates_below(sys.argv[1])) else 1)
+    main(*sys.argv[1:])
