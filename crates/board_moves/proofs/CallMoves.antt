@@ -47,21 +47,23 @@ module _ {R : Type 0} where
       }
 
   -- a wait was registered, or the child was found finished
-  pub moves_registered : (v : Hands R) (place at : ℕ) (w : Hands R) → Registers v place at w → Moves place v [] 1 w
-  moves_registered v place at w t = record {
+  pub moves_registered : (room : ℕ) (v : Hands R) (place at : ℕ) (w : Hands R) → Registers room v place at w
+      → Moves place v [] 1 w
+  moves_registered room v place at w t = record {
     words = t.words;
     more = t.more;
-    quiet = t.quiet;
-    kept = λ some. goes_registered v place at w t;
+    quiet = t.looks.quiet;
+    kept = λ some. goes_registered v place at room w t;
     hands_are = t.hands_are;
   }
 
-  pub moves_finished : (v : Hands R) (place at : ℕ) (w : Hands R) → FindsFinished v place at w → Moves place v [] 0 w
-  moves_finished v place at w t = record {
+  pub moves_finished : (room : ℕ) (v : Hands R) (place at : ℕ) (w : Hands R) → FindsFinished room v place at w
+      → Moves place v [] 0 w
+  moves_finished room v place at w t = record {
     words = t.words;
     more = t.more;
-    quiet = t.quiet;
-    kept = λ some. goes_finished v place at w t;
+    quiet = t.looks.quiet;
+    kept = λ some. goes_finished v place at room w t;
     hands_are = t.hands_are ∙ ap (λ (rights : List Claimed). let h : Hands R =
         record v { alone = t.words; looks = t.more ++ v.looks; rights = rights } in h)
         (sym (waits_none place v.rights));

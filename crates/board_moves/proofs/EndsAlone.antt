@@ -104,7 +104,7 @@ module _ {R : Type 0} (meaning : Meaning) (room : ℕ) (Adds : ℕ → Type 0) (
       let alone : t.middle.alone ≡ Some g.0 = ap (λ (h : Hands R). h.alone) m.hands_are ∙ g.1 in
       let ended : ended_words place worker t.cost t.node t.middle.alone ≡ Some
       (finished_words place worker t.cost t.node g.0) = ap (ended_words place worker t.cost t.node) alone in
-      let s = subst (λ o. StaysAlone ChangesRuns o t.finishes.wakes.words) ended t.finishes.wakes.runs in
+      let s = subst (λ o. StaysAlone ChangesRuns o t.finishes.wakes.words) ended t.finishes.wakes.lone in
       let long = all kept is in
       let same = g.2.same_length in
       let costed : List ℕ = set g.0 (cost_word place) t.cost in
@@ -126,7 +126,7 @@ module _ {R : Type 0} (meaning : Meaning) (room : ℕ) (Adds : ℕ → Type 0) (
             ∙ (get_or-set_other noded (who_word place) (head_word p) (worker + 1) 0 (λ e. omega arith)
             ∙ (get_or-set_other costed (node_word place) (head_word p) t.node 0 (λ e. omega arith)
             ∙ get_or-set_other g.0 (cost_word place) (head_word p) t.cost 0 (λ e. omega arith)))))
-            (t.finishes.was_open g.0 alone)
+            (t.finishes.lone g.0 alone)
             (s.2.others (head_word place) (λ q e. omega arith)
             ∙ get_or-set_same whoed (head_word place) (2 ^ 63) 0
             (omega (arith, near, long, same, first, second, third))),

@@ -85,11 +85,11 @@ module _ {R : Type 0} where
   )
 
   -- a wait was registered
-  pub goes_registered : (v : Hands R) (place at : ℕ) (w : Hands R) (t : Registers v place at w)
+  pub goes_registered : (v : Hands R) (place at : ℕ) (cells : ℕ) (w : Hands R) (t : Registers cells v place at w)
       → GoesOnAlone place 1 v.alone t.words
-  goes_registered v place at w t room before is long =
+  goes_registered v place at cells w t room before is long =
       let s = subst (λ o. StaysAlone (KeepsBoard place (λ run. bit_or run (2 ^ waits_at place v.rights))) o t.words) is
-      t.kept in (
+      t.lone.kept in (
         s.0,
         s.1,
         record {
@@ -97,15 +97,15 @@ module _ {R : Type 0} where
           heads = s.2.heads;
           others = s.2.others;
           cells = inl (λ p near. s.2.cells p);
-          waiting = λ has. t.has_wait s.0 s.1;
+          waiting = λ has. t.lone.has_wait s.0 s.1;
         },
       )
 
   -- a child was found finished
-  pub goes_finished : (v : Hands R) (place at : ℕ) (w : Hands R) (t : FindsFinished v place at w)
+  pub goes_finished : (v : Hands R) (place at : ℕ) (cells : ℕ) (w : Hands R) (t : FindsFinished cells v place at w)
       → GoesOnAlone place 0 v.alone t.words
-  goes_finished v place at w t room before is long =
-      let s = subst (λ o. StaysAlone (KeepsBoard place (λ run. run)) o t.words) is t.kept in (
+  goes_finished v place at cells w t room before is long =
+      let s = subst (λ o. StaysAlone (KeepsBoard place (λ run. run)) o t.words) is t.lone in (
         s.0,
         s.1,
         record {

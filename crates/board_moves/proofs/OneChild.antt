@@ -14,7 +14,7 @@ use Rattle.goal_board.specs.RightCalls.{Registers, FindsFinished}
 use Rattle.goal_board.specs.Calls.{Inserts, Reads}
 use Rattle.goal_board.specs.RightCalls.{IsRightOf, waited}
 use Rattle.goal_board.specs.declared.answers.Awaited.TheVariants as awaited
-use Rattle.goal_board.proofs.Seen.{looked_later, looked_earlier}
+use Rattle.goal_board.proofs.Seen.{last_looked, looked_later, looked_earlier}
 use Rattle.board_moves.specs.declared.progress.Progress.{Progress}
 use Rattle.board_moves.specs.declared.progress.Progress.TheVariants as progress
 use Rattle.board_moves.specs.Moves.{OnlyLooks, Moves, Proceeds, IsAnsweredBy, Awaits}
@@ -65,21 +65,22 @@ module _ {R : Type 0} (meaning : Meaning) (room : ℕ) (child : ℕ) (some_child
 
   -- a child whose head was found closed has an answer
   pub not_open : (v : Hands R) (place at : ℕ) (u w : Hands R) → at < room → Looked v.looks (cell_word at) child
-      → FindsFinished v place at u → FindsOpen meaning room u at w → ⊥
+      → FindsFinished room v place at u → FindsOpen meaning room u at w → ⊥
   not_open v place at u w near stands closed is_open =
-      let on : Later v.looks u.looks = later_moved place v [] 0 u (moves_finished v place at u closed) in
+      let on : Later v.looks u.looks = later_moved place v [] 0 u (moves_finished room v place at u closed) in
       let there : Looked u.looks (cell_word at) child = on (cell_word at) child stands in
       is_open.unfinished child some_child there (seen_closed child at near some_child there (
-        closed.closed.0,
-        subst (λ (looks : List (ℕ × ℕ)). Looked looks (head_word at) closed.closed.0)
+        closed.head,
+        subst (λ (looks : List (ℕ × ℕ)). Looked looks (head_word at) closed.head)
             (sym (ap (λ (h : Hands R). h.looks) closed.hands_are))
-            (looked_later closed.more v.looks (head_word at) closed.closed.0 closed.closed.1),
-        closed.closed.2,
+            (looked_later closed.more v.looks (head_word at) closed.head
+            (last_looked closed.more (head_word at) closed.head closed.looks.last)),
+        closed.closed,
       ))
 
   module _ (v : Hands R) (before : Right) (at : ℕ) (is_child : meaning.child before.goal child) where
     -- a wait was registered
-    pub awaits_registered : (w : Hands R) (after : Right) → Registers v before.place at w
+    pub awaits_registered : (w : Hands R) (after : Right) → Registers room v before.place at w
         → after ≡ waited awaited.Registered before → Awaits meaning room v before child progress.Waiting w after
     awaits_registered w after t is =
         let more : after.waits ≡ before.waits + 1 = ap (λ (r : Right). r.waits) is in (
@@ -87,7 +88,7 @@ module _ {R : Type 0} (meaning : Meaning) (room : ℕ) (child : ℕ) (some_child
             puts = [];
             adds = tt;
             waits = 1;
-            moves = moves_registered v before.place at w t;
+            moves = moves_registered room v before.place at w t;
             same_place = ap (λ (r : Right). r.place) is;
             same_goal = ap (λ (r : Right). r.goal) is;
             more_waits = more;
@@ -97,11 +98,11 @@ module _ {R : Type 0} (meaning : Meaning) (room : ℕ) (child : ℕ) (some_child
 
     -- the child was found finished
     pub awaits_finished : (u : Hands R) (answer : Answer) (w : Hands R) (after : Right) → at < room
-        → Looked v.looks (cell_word at) child → FindsFinished v before.place at u
+        → Looked v.looks (cell_word at) child → FindsFinished room v before.place at u
         → after ≡ waited awaited.Finished before → ReadsAnswer meaning room u at answer w
         → Awaits meaning room v before child (progress.Complete answer) w after
     awaits_finished u answer w after near stands closed is read =
-        let moved : Moves before.place v [] 0 u = moves_finished v before.place at u closed in
+        let moved : Moves before.place v [] 0 u = moves_finished room v before.place at u closed in
         let both : Moves before.place v [] 0 w =
         moves_then before.place v [] 0 u [] 0 w moved
         (moves_looks before.place u w (reads_looks meaning room u at answer w read)) in

@@ -1,18 +1,14 @@
 -- An entry that is put in: looks, and then a look that finds it, or a step that puts it in, or none that can.
-use Rattle.std.proofs.Common.{◌≡◌, ◌≢◌, ℕ, Bool, true, false, Option, None, Some, ◌∷◌, ◌++◌, ◌∙◌, refl, sym, ap, subst}
+use Rattle.std.proofs.Common.{◌≡◌, ◌≢◌, ℕ, Bool, true, false, Option, None, Some, sym, subst}
 use Rattle.std.specs.Prelude.{is_some}
-use Rattle.word_table.specs.declared.outcome.Inserted.{Inserted}
-use Rattle.word_table.specs.declared.outcome.Inserted.TheVariants.{Fresh, Known, Full}
 use Rattle.board_rule.specs.Words.{cell_word}
 use Rattle.board_rule.specs.Looks.{Looked}
-use Rattle.board_rule.specs.Seats.{placed, filled}
 use Rattle.board_rule.specs.declared.hands.Hands.{Hands}
 use Rattle.board_rule.specs.Meaning.{Meaning}
 use Rattle.goal_board.specs.Seats.{AreHandsOver}
-use Rattle.goal_board.specs.Calls.{seen, FindsAt, FindsNone, Finds, Inserts}
-use Rattle.goal_board.proofs.Seen.{looked_later, saw_later}
+use Rattle.goal_board.specs.Calls.{FindsAt, FindsNone, Finds}
+use Rattle.goal_board.proofs.Seen.{looked_later}
 use Rattle.board_moves.specs.Moves.{OnlyLooks}
-use Rattle.board_moves.proofs.Shown.{seen_both, seen_twice}
 
 module _ {R : Type 0} (room : ℕ) where
   pub only_looks_none : (v : Hands R) (word : ℕ) (w : Hands R) → FindsNone room v word w → OnlyLooks v w

@@ -11,8 +11,8 @@ use Rattle.board_rule.specs.Records.{Claimed}
 use Rattle.board_rule.specs.Words.{Mem, mem, put, cost_word, node_word, who_word}
 use Rattle.board_rule.specs.Seats.{changed, cost_stored, node_stored, who_stored}
 use Rattle.board_rule.specs.Rule.{IsStored, IsSoundBy, IsSound}
-use Rattle.board_rule.specs.May.{HasRight}
-use Rattle.board_rule.specs.Plays.{Sat, StoresCost, StoresNode, StoresWho}
+use Rattle.board_rule.specs.May.{HasRight, HasPart}
+use Rattle.board_rule.specs.Plays.{Sat, TellsStoreCost, TellsStoreNode, TellsStoreWho}
 use Rattle.board_rule.specs.declared.hands.Hands.{Hands}
 use Rattle.board_rule.proofs.Lists.{put_here, put_else}
 use Rattle.board_rule.proofs.Stores.{put_cost, put_node, put_who}
@@ -118,7 +118,7 @@ module _ {R : Type 0} (meaning_of : R → Meaning) (rules : R) (room : ℕ) wher
 
   cost_at : (slots id : ℕ) (me : Sat R) (place x : ℕ) → 0 < me.0.parts → HasRight room me.0.rights place
       → Allows (Holds meaning_of rules room) slots id me (cost_word place) (λ _. x)
-      (λ _. StoresCost meaning_of (step slots (cost_word place) x 0 none) me x)
+      (λ _. TellsStoreCost meaning_of (step slots (cost_word place) x 0 none) me x)
   cost_at slots id me place x some_part has s sound homes mine fits =
       let m : Mem = mem s.words in
       let near = has.near in
@@ -129,21 +129,21 @@ module _ {R : Type 0} (meaning_of : R → Meaning) (rules : R) (room : ℕ) wher
         stored_keeps s.words s.views id me.0 (cost_word place) place x (put m.cost place x) m.node m.who
             (λ r. cond (eqb r.place place) (record r { cost = Some x }) r) sound mine some_part has
             (put_cost s.words place x (omega arith)) (answers_cost m place x),
-        λ p same. ap (λ q. (cost_stored me.0 q x, me.1)) (omega (arith, same)),
+        λ p same. record { hands = ap (λ q. cost_stored me.0 q x) (omega (arith, same)); slots = refl },
       )
 
-  pub store_cost_allowed : (slots id : ℕ) (me : Sat R) (i place x : ℕ) → i ≡ cost_word place → 0 < me.0.parts
+  pub store_cost_allowed : (slots id : ℕ) (me : Sat R) (i place x : ℕ) → i ≡ cost_word place → HasPart me.0
       → HasRight room me.0.rights place
       → Allows (Holds meaning_of rules room) slots id me i (λ _. x)
-      (λ _. StoresCost meaning_of (step slots i x 0 none) me x)
+      (λ _. TellsStoreCost meaning_of (step slots i x 0 none) me x)
   store_cost_allowed slots id me i place x is some_part has =
       subst (λ j. Allows (Holds meaning_of rules room) slots id me j (λ _. x)
-      (λ _. StoresCost meaning_of (step slots j x 0 none) me x)) (sym is)
+      (λ _. TellsStoreCost meaning_of (step slots j x 0 none) me x)) (sym is)
       (cost_at slots id me place x some_part has)
 
   node_at : (slots id : ℕ) (me : Sat R) (place x : ℕ) → 0 < me.0.parts → HasRight room me.0.rights place
       → Allows (Holds meaning_of rules room) slots id me (node_word place) (λ _. x)
-      (λ _. StoresNode meaning_of (step slots (node_word place) x 0 none) me x)
+      (λ _. TellsStoreNode meaning_of (step slots (node_word place) x 0 none) me x)
   node_at slots id me place x some_part has s sound homes mine fits =
       let m : Mem = mem s.words in
       let near = has.near in
@@ -154,21 +154,21 @@ module _ {R : Type 0} (meaning_of : R → Meaning) (rules : R) (room : ℕ) wher
         stored_keeps s.words s.views id me.0 (node_word place) place x m.cost (put m.node place x) m.who
             (λ r. cond (eqb r.place place) (record r { node = Some x }) r) sound mine some_part has
             (put_node s.words place x (omega arith)) (answers_node m place x),
-        λ p same. ap (λ q. (node_stored me.0 q x, me.1)) (omega (arith, same)),
+        λ p same. record { hands = ap (λ q. node_stored me.0 q x) (omega (arith, same)); slots = refl },
       )
 
-  pub store_node_allowed : (slots id : ℕ) (me : Sat R) (i place x : ℕ) → i ≡ node_word place → 0 < me.0.parts
+  pub store_node_allowed : (slots id : ℕ) (me : Sat R) (i place x : ℕ) → i ≡ node_word place → HasPart me.0
       → HasRight room me.0.rights place
       → Allows (Holds meaning_of rules room) slots id me i (λ _. x)
-      (λ _. StoresNode meaning_of (step slots i x 0 none) me x)
+      (λ _. TellsStoreNode meaning_of (step slots i x 0 none) me x)
   store_node_allowed slots id me i place x is some_part has =
       subst (λ j. Allows (Holds meaning_of rules room) slots id me j (λ _. x)
-      (λ _. StoresNode meaning_of (step slots j x 0 none) me x)) (sym is)
+      (λ _. TellsStoreNode meaning_of (step slots j x 0 none) me x)) (sym is)
       (node_at slots id me place x some_part has)
 
   who_at : (slots id : ℕ) (me : Sat R) (place x : ℕ) → 0 < me.0.parts → HasRight room me.0.rights place
       → Allows (Holds meaning_of rules room) slots id me (who_word place) (λ _. x)
-      (λ _. StoresWho meaning_of (step slots (who_word place) x 0 none) me x)
+      (λ _. TellsStoreWho meaning_of (step slots (who_word place) x 0 none) me x)
   who_at slots id me place x some_part has s sound homes mine fits =
       let m : Mem = mem s.words in
       let near = has.near in
@@ -179,14 +179,14 @@ module _ {R : Type 0} (meaning_of : R → Meaning) (rules : R) (room : ℕ) wher
         stored_keeps s.words s.views id me.0 (who_word place) place x m.cost m.node (put m.who place x)
             (λ r. cond (eqb r.place place) (record r { who = Some x }) r) sound mine some_part has
             (put_who s.words place x (omega arith)) (answers_who m place x),
-        λ p same. ap (λ q. (who_stored me.0 q x, me.1)) (omega (arith, same)),
+        λ p same. record { hands = ap (λ q. who_stored me.0 q x) (omega (arith, same)); slots = refl },
       )
 
-  pub store_who_allowed : (slots id : ℕ) (me : Sat R) (i place x : ℕ) → i ≡ who_word place → 0 < me.0.parts
+  pub store_who_allowed : (slots id : ℕ) (me : Sat R) (i place x : ℕ) → i ≡ who_word place → HasPart me.0
       → HasRight room me.0.rights place
       → Allows (Holds meaning_of rules room) slots id me i (λ _. x)
-      (λ _. StoresWho meaning_of (step slots i x 0 none) me x)
+      (λ _. TellsStoreWho meaning_of (step slots i x 0 none) me x)
   store_who_allowed slots id me i place x is some_part has =
       subst (λ j. Allows (Holds meaning_of rules room) slots id me j (λ _. x)
-      (λ _. StoresWho meaning_of (step slots j x 0 none) me x)) (sym is)
+      (λ _. TellsStoreWho meaning_of (step slots j x 0 none) me x)) (sym is)
       (who_at slots id me place x some_part has)

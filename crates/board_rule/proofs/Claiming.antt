@@ -13,8 +13,8 @@ use Rattle.board_rule.specs.Words.{Mem, mem, put, run_word}
 use Rattle.board_rule.specs.Seats.{waits_at, fresh_right, looked, claimed}
 use Rattle.board_rule.specs.Rule.{HoldsGoal, KeepsRights, ArePending, IsSound}
 use Rattle.board_rule.specs.Rule.{held, ended}
-use Rattle.board_rule.specs.May.{MayClaim}
-use Rattle.board_rule.specs.Plays.{Sat, Claims}
+use Rattle.board_rule.specs.May.{MayClaim, HasPart}
+use Rattle.board_rule.specs.Plays.{Sat, TellsClaim, ClaimsAt, Tells}
 use Rattle.board_rule.specs.declared.hands.Hands.{Hands}
 use Rattle.board_rule.proofs.Lists.{put_here, put_else, term_le}
 use Rattle.board_rule.proofs.Frames.{moment_of}
@@ -77,7 +77,7 @@ module _ {R : Type 0} (meaning_of : R → Meaning) (rules : R) (room : ℕ) wher
   -- a board is sound once a seat has claimed a ready goal
   claim_keeps : (words : List ℕ) (views : List (Hands R)) (id : ℕ) (v : Hands R) (place : ℕ)
       → IsSound (meaning_of rules) rules room words views → get_elem? views id ≡ some v
-      → 0 < v.parts → MayClaim (meaning_of rules) room v.looks place → get_or words (run_word place) 0 ≡ 0
+      → 0 < v.parts → MayClaim (meaning_of rules) room v place → get_or words (run_word place) 0 ≡ 0
       → IsSound (meaning_of rules) rules room (set words (run_word place) 256) (set views id (claimed v place))
   claim_keeps words views id v place sound mine some_part may ready =
       let meaning : Meaning = meaning_of rules in
@@ -121,12 +121,12 @@ module _ {R : Type 0} (meaning_of : R → Meaning) (rules : R) (room : ℕ) wher
       })
 
   claim_at : (slots id : ℕ) (me : Sat R) (place : ℕ) → 0 < me.0.parts
-      → MayClaim (meaning_of rules) room me.0.looks place
+      → MayClaim (meaning_of rules) room me.0 place
       → Allows (Holds meaning_of rules room) slots id me (run_word place) (λ n. either (eqb n 0) 256 n)
-      (Claims meaning_of (step slots (run_word place) 0 256 none) me)
+      (TellsClaim meaning_of (step slots (run_word place) 0 256 none) me)
   claim_at slots id me place some_part may s sound homes mine fits =
       let i : ℕ = run_word place in
-      let then : ℕ → Sat R → Type 0 = Claims meaning_of (step slots i 0 256 none) me in
+      let then : ℕ → Sat R → Type 0 = TellsClaim meaning_of (step slots i 0 256 none) me in
       let moment = moment_of meaning_of rules room s.words s.views id me.0 i sound mine some_part in
       exchanged (get_or s.words i 0) 0 256 (Leads meaning_of rules room s i id me then)
       (λ hit. (
@@ -134,25 +134,26 @@ module _ {R : Type 0} (meaning_of : R → Meaning) (rules : R) (room : ℕ) wher
         keeps,
         tt,
         claim_keeps s.words s.views id me.0 place sound mine some_part may hit,
-        λ p same. let e : place ≡ p = omega (arith, same) in record {
-          hit = λ _. ap (λ q. (claimed me.0 q, me.1)) e;
-          miss = λ miss. absurd (miss hit);
-          moment = moment;
-        },
+        λ p same. let e : place ≡ p = omega (arith, same) in
+            subst (λ q. Tells meaning_of (ClaimsAt meaning_of me.0 q (get_or s.words i 0)) me (claimed me.0 place, me.1)) e
+            (record { hands = record { hit = λ _. refl; miss = λ miss. absurd (miss hit); moment = moment }; slots = refl }),
       ))
       (λ miss. (
         looked me.0 i (get_or s.words i 0),
         keeps,
         tt,
         miss_leads meaning_of rules room s id me i some_part sound mine,
-        λ p same. record { hit = λ hit. absurd (miss hit); miss = λ _. refl; moment = moment },
+        λ p same. let e : place ≡ p = omega (arith, same) in
+            subst (λ q. Tells meaning_of (ClaimsAt meaning_of me.0 q (get_or s.words i 0)) me
+            (looked me.0 i (get_or s.words i 0), me.1)) e
+            (record { hands = record { hit = λ hit. absurd (miss hit); miss = λ _. refl; moment = moment }; slots = refl }),
       ))
 
-  pub claim_allowed : (slots id : ℕ) (me : Sat R) (i place : ℕ) → i ≡ run_word place → 0 < me.0.parts
-      → MayClaim (meaning_of rules) room me.0.looks place
+  pub claim_allowed : (slots id : ℕ) (me : Sat R) (i place : ℕ) → i ≡ run_word place → HasPart me.0
+      → MayClaim (meaning_of rules) room me.0 place
       → Allows (Holds meaning_of rules room) slots id me i (λ n. either (eqb n 0) 256 n)
-      (Claims meaning_of (step slots i 0 256 none) me)
+      (TellsClaim meaning_of (step slots i 0 256 none) me)
   claim_allowed slots id me i place is some_part may =
       subst (λ j. Allows (Holds meaning_of rules room) slots id me j (λ n. either (eqb n 0) 256 n)
-      (Claims meaning_of (step slots j 0 256 none) me)) (sym is)
+      (TellsClaim meaning_of (step slots j 0 256 none) me)) (sym is)
       (claim_at slots id me place some_part may)

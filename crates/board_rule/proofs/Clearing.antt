@@ -11,8 +11,8 @@ use Rattle.board_rule.specs.Words.{Mem, mem, run_word}
 use Rattle.board_rule.specs.Waiters.{rest_of, wait_bit, cleared}
 use Rattle.board_rule.specs.Seats.{Each, in_hand, woken_by, changed, bit_cleared, wait_dropped}
 use Rattle.board_rule.specs.Rule.{IsRaised, ArePending, IsWalked, WaitedFor, IsSound}
-use Rattle.board_rule.specs.May.{MayDrop}
-use Rattle.board_rule.specs.Plays.{Sat, ClearsBit, DropsWait}
+use Rattle.board_rule.specs.May.{MayDrop, HasPart, MayWalk}
+use Rattle.board_rule.specs.Plays.{Sat, TellsClearBit, TellsDropWait, DropsWaitOf, ClearsBitOf, Tells}
 use Rattle.board_rule.specs.declared.hands.Hands.{Hands}
 use Rattle.board_rule.proofs.Frames.{moment_of}
 use Rattle.board_rule.proofs.Rights.{bit_runs}
@@ -98,11 +98,13 @@ module _ {R : Type 0} (meaning_of : R → Meaning) (rules : R) (room : ℕ) wher
       let rest : count p (rest_of walk.waiters) ≡ count p others = ap (λ l. count p (rest_of l)) is in
       omega arith
 
-  clear_at : (slots id : ℕ) (me : Sat R) (q : ℕ) (others : List ℕ) (mask : ℕ) → mask ≡ 2 ^ 64 - 1 - 2 ^ (q % 8)
-      → 0 < me.0.parts → me.0.walk.waiters ≡ q ∷ others
+  clear_at : (slots id : ℕ) (me : Sat R) (q : ℕ) (mask : ℕ) → mask ≡ 2 ^ 64 - 1 - 2 ^ (q % 8)
+      → 0 < me.0.parts → MayWalk me.0 q
       → Allows (Holds meaning_of rules room) slots id me (run_word (q / 8)) (λ n. bit_and n mask)
-      (ClearsBit meaning_of (step slots (run_word (q / 8)) mask 0 none) me)
-  clear_at slots id me q others mask is_mask some_part walks s sound homes mine fits =
+      (TellsClearBit meaning_of (step slots (run_word (q / 8)) mask 0 none) me)
+  clear_at slots id me q mask is_mask some_part may s sound homes mine fits =
+      let others = may.others in
+      let walks = may.first in
       let i : ℕ = run_word (q / 8) in
       let found : ℕ = get_or s.words i 0 in
       let v : Hands R = me.0 in
@@ -129,26 +131,30 @@ module _ {R : Type 0} (meaning_of : R → Meaning) (rules : R) (room : ℕ) wher
         λ p rest is.
             let one : (q ∷ others) ≡ (p ∷ rest) = sym walks ∙ is in
             let e : q ≡ p = cc in
-            record {
-              hands_are = ap (λ (r : ℕ). (bit_cleared v r (get_or s.words (run_word (q / 8)) 0), me.1)) e;
-              moment = moment_of meaning_of rules room s.words s.views id v i sound mine some_part;
-            },
+            subst (λ (r : ℕ). Tells meaning_of (ClearsBitOf meaning_of v r found) me (bit_cleared v q found, me.1)) e
+            (record {
+              hands = record {
+                hands_are = refl;
+                moment = moment_of meaning_of rules room s.words s.views id v i sound mine some_part;
+              };
+              slots = refl;
+            }),
       )
 
   -- the seat that walks clears the bit of the first waiter
-  pub clear_allowed : (slots id : ℕ) (me : Sat R) (i q : ℕ) (others : List ℕ) (mask : ℕ) → i ≡ run_word (q / 8)
-      → mask ≡ 2 ^ 64 - 1 - 2 ^ (q % 8) → 0 < me.0.parts → me.0.walk.waiters ≡ q ∷ others
+  pub clear_allowed : (slots id : ℕ) (me : Sat R) (i q : ℕ) (mask : ℕ) → i ≡ run_word (q / 8)
+      → mask ≡ 2 ^ 64 - 1 - 2 ^ (q % 8) → HasPart me.0 → MayWalk me.0 q
       → Allows (Holds meaning_of rules room) slots id me i (λ n. bit_and n mask)
-      (ClearsBit meaning_of (step slots i mask 0 none) me)
-  clear_allowed slots id me i q others mask is is_mask some_part walks =
+      (TellsClearBit meaning_of (step slots i mask 0 none) me)
+  clear_allowed slots id me i q mask is is_mask some_part may =
       subst (λ j. Allows (Holds meaning_of rules room) slots id me j (λ n. bit_and n mask)
-      (ClearsBit meaning_of (step slots j mask 0 none) me)) (sym is)
-      (clear_at slots id me q others mask is_mask some_part walks)
+      (TellsClearBit meaning_of (step slots j mask 0 none) me)) (sym is)
+      (clear_at slots id me q mask is_mask some_part may)
 
   drop_at : (slots id : ℕ) (me : Sat R) (x : Pending) (mask : ℕ) → mask ≡ 2 ^ 64 - 1 - 2 ^ (x.waiter % 8)
-      → 0 < me.0.parts → MayDrop me.0.pending x
+      → 0 < me.0.parts → MayDrop me.0 x
       → Allows (Holds meaning_of rules room) slots id me (run_word (x.waiter / 8)) (λ n. bit_and n mask)
-      (DropsWait meaning_of (step slots (run_word (x.waiter / 8)) mask 0 none) me)
+      (TellsDropWait meaning_of (step slots (run_word (x.waiter / 8)) mask 0 none) me)
   drop_at slots id me x mask is_mask some_part may s sound homes mine fits =
       let q : ℕ = x.waiter in
       let i : ℕ = run_word (q / 8) in
@@ -171,18 +177,22 @@ module _ {R : Type 0} (meaning_of : R → Meaning) (rules : R) (room : ℕ) wher
         λ y is.
             let one : Some x ≡ Some y = sym may.is ∙ is in
             let e : x ≡ y = cc in
-            record {
-              hands_are = ap (λ (z : Pending). (wait_dropped v z (get_or s.words (run_word (x.waiter / 8)) 0), me.1)) e;
-              moment = moment_of meaning_of rules room s.words s.views id v i sound mine some_part;
-            },
+            subst (λ (z : Pending). Tells meaning_of (DropsWaitOf meaning_of v z found) me (wait_dropped v x found, me.1)) e
+            (record {
+              hands = record {
+                hands_are = refl;
+                moment = moment_of meaning_of rules room s.words s.views id v i sound mine some_part;
+              };
+              slots = refl;
+            }),
       )
 
   -- the seat that puts a wait in clears its bit, as it saw the child finished
   pub drop_allowed : (slots id : ℕ) (me : Sat R) (i : ℕ) (x : Pending) (mask : ℕ) → i ≡ run_word (x.waiter / 8)
-      → mask ≡ 2 ^ 64 - 1 - 2 ^ (x.waiter % 8) → 0 < me.0.parts → MayDrop me.0.pending x
+      → mask ≡ 2 ^ 64 - 1 - 2 ^ (x.waiter % 8) → HasPart me.0 → MayDrop me.0 x
       → Allows (Holds meaning_of rules room) slots id me i (λ n. bit_and n mask)
-      (DropsWait meaning_of (step slots i mask 0 none) me)
+      (TellsDropWait meaning_of (step slots i mask 0 none) me)
   drop_allowed slots id me i x mask is is_mask some_part may =
       subst (λ j. Allows (Holds meaning_of rules room) slots id me j (λ n. bit_and n mask)
-      (DropsWait meaning_of (step slots j mask 0 none) me)) (sym is)
+      (TellsDropWait meaning_of (step slots j mask 0 none) me)) (sym is)
       (drop_at slots id me x mask is_mask some_part may)

@@ -1,6 +1,6 @@
 -- A swap that closes a goal's head keeps soundness.
-use Rattle.std.proofs.Common.{length, ◌*◌, ◌≡◌, ℕ, ◌+◌, ◌^◌, ◌<◌, ◌≤◌, List, set, length-set}
-use Rattle.std.proofs.Common.{Some, IsTrue, sym, refl, ap, subst, ◌∙◌, inr, arith, None, [], ◌/◌}
+use Rattle.std.proofs.Common.{length, ◌*◌, ◌≡◌, ℕ, ◌+◌, ◌^◌, ◌<◌, ◌≤◌, List, get_or, set, length-set}
+use Rattle.std.proofs.Common.{Some, IsTrue, sym, refl, ap, subst, ◌∙◌, inr, arith, ◌/◌}
 use mathlib.Core.Option.{some, none}
 use lib.ListN.{get_elem?}
 use Rattle.atomic_table.specs.Table.{keeps, step, Allows}
@@ -11,8 +11,8 @@ use Rattle.board_rule.specs.Waiters.{head_of}
 use Rattle.board_rule.specs.Seats.{Each, in_hand, answered_right, finished}
 use Rattle.board_rule.specs.Rule.{HoldsGoal, IsPromised, IsRecorded, IsStored, IsRaised, ArePending}
 use Rattle.board_rule.specs.Rule.{WaitedFor, AreHands, IsSoundBy, IsSound}
-use Rattle.board_rule.specs.May.{HasRight, MayClose}
-use Rattle.board_rule.specs.Plays.{Sat, Closes}
+use Rattle.board_rule.specs.May.{HasRight, MayClose, HasPart}
+use Rattle.board_rule.specs.Plays.{Sat, TellsClose, ClosesHead, Tells}
 use Rattle.board_rule.specs.declared.hands.Hands.{Hands}
 use Rattle.board_rule.proofs.Lists.{put_cases, each_as, each_at, among_counts, only_one}
 use Rattle.board_rule.proofs.Lists.{total_same}
@@ -32,11 +32,12 @@ module _ {R : Type 0} (meaning_of : R → Meaning) (rules : R) (room : ℕ) wher
   close_keeps : (words : List ℕ) (views : List (Hands R)) (id : ℕ) (v : Hands R) (place worker cost node : ℕ)
       (sound : IsSound (meaning_of rules) rules room words views)
       → (mine : get_elem? views id ≡ some v) → 0 < v.parts
-      → MayClose (meaning_of rules) room v.looks v.rights place worker cost node → v.pending ≡ None
-      → v.walk.waiters ≡ []
+      → MayClose (meaning_of rules) room v place worker cost node
       → IsSound (meaning_of rules) rules room (set words (head_word place) (2 ^ 63))
       (set views id (finished v place worker cost node (sound.by_kinds.waits.lists place)))
-  close_keeps words views id v place worker cost node sound mine some_part may free walked =
+  close_keeps words views id v place worker cost node sound mine some_part may =
+      let free = may.free in
+      let walked = may.walked in
       let meaning : Meaning = meaning_of rules in
       let m : Mem = mem words in
       let n : Mem = record m { head = put m.head place (2 ^ 63) } in
@@ -137,11 +138,10 @@ module _ {R : Type 0} (meaning_of : R → Meaning) (rules : R) (room : ℕ) wher
       }
 
   close_at : (slots id : ℕ) (me : Sat R) (place worker cost node : ℕ) → 0 < me.0.parts
-      → MayClose (meaning_of rules) room me.0.looks me.0.rights place worker cost node
-      → me.0.pending ≡ None → me.0.walk.waiters ≡ []
+      → MayClose (meaning_of rules) room me.0 place worker cost node
       → Allows (Holds meaning_of rules room) slots id me (head_word place) (λ _. 2 ^ 63)
-      (Closes meaning_of (step slots (head_word place) (2 ^ 63) 0 none) me)
-  close_at slots id me place worker cost node some_part may free walked s sound homes mine fits =
+      (TellsClose meaning_of (step slots (head_word place) (2 ^ 63) 0 none) me)
+  close_at slots id me place worker cost node some_part may s sound homes mine fits =
       let moment = moment_of meaning_of rules room s.words s.views id me.0 (head_word place) sound mine some_part in
       let k = sound.by_kinds in
       let waiters : List ℕ = k.waits.lists place in
@@ -156,7 +156,7 @@ module _ {R : Type 0} (meaning_of : R → Meaning) (rules : R) (room : ℕ) wher
         finished me.0 place worker cost node waiters,
         keeps,
         tt,
-        close_keeps s.words s.views id me.0 place worker cost node sound mine some_part may free walked,
+        close_keeps s.words s.views id me.0 place worker cost node sound mine some_part may,
         λ p a c x same stored.
             let e : place ≡ p = omega (arith, same) in
             let r : answered_right place worker cost node ≡ answered_right p a c x =
@@ -166,28 +166,30 @@ module _ {R : Type 0} (meaning_of : R → Meaning) (rules : R) (room : ℕ) wher
             let ex : node ≡ x = let t : Some node ≡ Some x = ap (λ (q : Claimed). q.node) r in cc in
             let more : worker + 1 ≡ a + 1 = let t : Some (worker + 1) ≡ Some (a + 1) = ap (λ (q : Claimed). q.who) r in
             cc in
-            let ea : worker ≡ a = omega arith in record {
-              waiters = waiters;
-              named = k.waits.heads place may.near is.is_open;
-              near = subst (λ n. Each (λ q. q < 8 * n) waiters) (sym its_room)
-                  (waiters_within (meaning_of rules) room (mem s.words).cell (mem s.words).run (mem s.words).head
-                  (mem s.words).next s.views k.waits place may.near);
-              few = subst (λ n. length waiters ≤ 8 * n) (sym its_room)
-                  (list_length (meaning_of rules) room (mem s.words).cell (mem s.words).run (mem s.words).head
-                  (mem s.words).next s.views k.waits place may.near);
-              tells = record {
-                hands_are = λ i. (finished me.0 (e i) (ea i) (ec i) (ex i) waiters, me.1);
-                moment = moment;
+            let ea : worker ≡ a = omega arith in
+            subst (λ (t : ℕ × (ℕ × (ℕ × ℕ))). Tells meaning_of (ClosesHead meaning_of me.0 t.0 t.1.0 t.1.1.0 t.1.1.1
+            (get_or s.words (head_word place) 0)) me (finished me.0 place worker cost node waiters, me.1))
+            (λ i. (e i, (ea i, (ec i, ex i)))) (record {
+              hands = record {
+                waiters = waiters;
+                named = k.waits.heads place may.near is.is_open;
+                near = subst (λ n. Each (λ q. q < 8 * n) waiters) (sym its_room)
+                    (waiters_within (meaning_of rules) room (mem s.words).cell (mem s.words).run (mem s.words).head
+                    (mem s.words).next s.views k.waits place may.near);
+                few = subst (λ n. length waiters ≤ 8 * n) (sym its_room)
+                    (list_length (meaning_of rules) room (mem s.words).cell (mem s.words).run (mem s.words).head
+                    (mem s.words).next s.views k.waits place may.near);
+                leaves = record { hands_are = refl; moment = moment };
               };
-            },
+              slots = refl;
+            }),
       )
 
-  pub close_allowed : (slots id : ℕ) (me : Sat R) (i place worker cost node : ℕ) → i ≡ head_word place → 0 < me.0.parts
-      → MayClose (meaning_of rules) room me.0.looks me.0.rights place worker cost node
-      → me.0.pending ≡ None → me.0.walk.waiters ≡ []
+  pub close_allowed : (slots id : ℕ) (me : Sat R) (i place worker cost node : ℕ) → i ≡ head_word place → HasPart me.0
+      → MayClose (meaning_of rules) room me.0 place worker cost node
       → Allows (Holds meaning_of rules room) slots id me i (λ _. 2 ^ 63)
-      (Closes meaning_of (step slots i (2 ^ 63) 0 none) me)
-  close_allowed slots id me i place worker cost node is some_part may free walked =
+      (TellsClose meaning_of (step slots i (2 ^ 63) 0 none) me)
+  close_allowed slots id me i place worker cost node is some_part may =
       subst (λ j. Allows (Holds meaning_of rules room) slots id me j (λ _. 2 ^ 63)
-      (Closes meaning_of (step slots j (2 ^ 63) 0 none) me)) (sym is)
-      (close_at slots id me place worker cost node some_part may free walked)
+      (TellsClose meaning_of (step slots j (2 ^ 63) 0 none) me)) (sym is)
+      (close_at slots id me place worker cost node some_part may)

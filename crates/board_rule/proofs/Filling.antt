@@ -7,8 +7,8 @@ use Rattle.board_rule.specs.Meaning.{Meaning}
 use Rattle.board_rule.specs.Words.{Mem, mem, full_word}
 use Rattle.board_rule.specs.Seats.{filled}
 use Rattle.board_rule.specs.Rule.{Stays, AreHands, IsFull, IsSoundBy, IsSound}
-use Rattle.board_rule.specs.May.{MayFill}
-use Rattle.board_rule.specs.Plays.{Sat, Fills}
+use Rattle.board_rule.specs.May.{MayFill, HasPart}
+use Rattle.board_rule.specs.Plays.{Sat, TellsFill}
 use Rattle.board_rule.specs.declared.hands.Hands.{Hands}
 use Rattle.board_rule.proofs.Lists.{total_same}
 use Rattle.board_rule.proofs.Stores.{put_full}
@@ -17,9 +17,9 @@ use Rattle.board_rule.proofs.Waits.{waits_stay, pending_looked}
 use Rattle.board_rule.proofs.Looking.{Holds}
 
 -- other words seen in all cells, none of them this one, show the board full
-fills : (meaning : Meaning) (room : ℕ) (cell head : ℕ → ℕ) (full : ℕ) (looks : List (ℕ × ℕ))
-    → Stays cell head full looks → MayFill meaning room looks → IsFull meaning room cell
-fills meaning room cell head full looks stays may = record {
+fills : {R : Type 0} (meaning : Meaning) (room : ℕ) (cell head : ℕ → ℕ) (full : ℕ) (v : Hands R)
+    → Stays cell head full v.looks → MayFill meaning room v → IsFull meaning room cell
+fills meaning room cell head full v stays may = record {
   taken = λ p near. let t = may.passed p near in let e = stays.cells p t.0 t.1 t.2 in λ none. t.2 (sym e ∙ none);
   left_out = (
     may.word,
@@ -51,7 +51,7 @@ module _ {R : Type 0} (meaning_of : R → Meaning) (rules : R) (room : ℕ) wher
   -- a board is sound once a seat that found all cells taken has set the full word
   fill_keeps : (words : List ℕ) (views : List (Hands R)) (id : ℕ) (v : Hands R)
       → IsSound (meaning_of rules) rules room words views → get_elem? views id ≡ some v
-      → 0 < v.parts → MayFill (meaning_of rules) room v.looks
+      → 0 < v.parts → MayFill (meaning_of rules) room v
       → IsSound (meaning_of rules) rules room (set words full_word 1) (set views id (filled v))
   fill_keeps words views id v sound mine some_part may =
       let meaning : Meaning = meaning_of rules in
@@ -71,7 +71,7 @@ module _ {R : Type 0} (meaning_of : R → Meaning) (rules : R) (room : ℕ) wher
               rights = rights_stay room m.run m.head views id v w mine (λ _. refl) refl k.rights;
               waits = waits_stay meaning room m.cell m.head m.next m.run views id v w mine refl k.waits;
               promises = k.promises;
-              full = λ _. fills meaning room m.cell m.head m.full v.looks own.stays may;
+              full = λ _. fills meaning room m.cell m.head m.full v own.stays may;
               hands = of_others_set (AreHands meaning rules room m) (AreHands meaning rules room n) views id w
                   (λ other u ne there h. record {
                     stays = stays_full m.cell m.head m.full u.looks h.stays;
@@ -102,13 +102,13 @@ module _ {R : Type 0} (meaning_of : R → Meaning) (rules : R) (room : ℕ) wher
         alone = alone_set words views id full_word 1 v w mine refl sound.alone;
       }
 
-  pub fill_allowed : (slots id : ℕ) (me : Sat R) → 0 < me.0.parts → MayFill (meaning_of rules) room me.0.looks
+  pub fill_allowed : (slots id : ℕ) (me : Sat R) → HasPart me.0 → MayFill (meaning_of rules) room me.0
       → Allows (Holds meaning_of rules room) slots id me full_word (λ _. 1)
-      (λ _. Fills meaning_of (step slots full_word 1 0 none) me 1)
+      (λ _. TellsFill meaning_of (step slots full_word 1 0 none) me 1)
   fill_allowed slots id me some_part may s sound homes mine fits = (
     filled me.0,
     keeps,
     tt,
     fill_keeps s.words s.views id me.0 sound mine some_part may,
-    refl,
+    record { hands = refl; slots = refl },
   )

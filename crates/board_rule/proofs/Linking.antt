@@ -11,8 +11,8 @@ use Rattle.board_rule.specs.Words.{Mem, mem, put, next_word}
 use Rattle.board_rule.specs.Waiters.{wait_bit, waiting}
 use Rattle.board_rule.specs.Seats.{in_hand, next_stored}
 use Rattle.board_rule.specs.Rule.{KeepsBlank, ArePending, IsWalked, KeepsWaits, AreHands, IsSoundBy, IsSound}
-use Rattle.board_rule.specs.May.{MayLink}
-use Rattle.board_rule.specs.Plays.{Sat, StoresNext}
+use Rattle.board_rule.specs.May.{MayLink, HasPart}
+use Rattle.board_rule.specs.Plays.{Sat, TellsStoreNext}
 use Rattle.board_rule.specs.declared.hands.Hands.{Hands}
 use Rattle.board_rule.proofs.Lists.{put_here, put_else, total_same, term_le, terms_le}
 use Rattle.board_rule.proofs.Stores.{put_next}
@@ -121,7 +121,7 @@ module _ {R : Type 0} (meaning_of : R → Meaning) (rules : R) (room : ℕ) wher
   -- a board is sound once a seat has stored the next word of the waiter that it puts in
   link_keeps : (words : List ℕ) (views : List (Hands R)) (id : ℕ) (v : Hands R) (x : Pending) (head : ℕ)
       → IsSound (meaning_of rules) rules room words views → get_elem? views id ≡ some v
-      → 0 < v.parts → MayLink v.pending x head
+      → 0 < v.parts → MayLink v x head
       → IsSound (meaning_of rules) rules room (set words (next_word x.waiter) (head % 2 ^ 24))
       (set views id (next_stored v x head))
   link_keeps words views id v x head sound mine some_part may =
@@ -196,9 +196,9 @@ module _ {R : Type 0} (meaning_of : R → Meaning) (rules : R) (room : ℕ) wher
         alone = alone_set words views id (next_word q) to v w mine refl sound.alone;
       }
 
-  link_at : (slots id : ℕ) (me : Sat R) (x : Pending) (head : ℕ) → 0 < me.0.parts → MayLink me.0.pending x head
+  link_at : (slots id : ℕ) (me : Sat R) (x : Pending) (head : ℕ) → 0 < me.0.parts → MayLink me.0 x head
       → Allows (Holds meaning_of rules room) slots id me (next_word x.waiter) (λ _. head % 2 ^ 24)
-      (λ _. StoresNext meaning_of (step slots (next_word x.waiter) (head % 2 ^ 24) 0 none) me (head % 2 ^ 24))
+      (λ _. TellsStoreNext meaning_of (step slots (next_word x.waiter) (head % 2 ^ 24) 0 none) me (head % 2 ^ 24))
   link_at slots id me x head some_part may s sound homes mine fits = (
     next_stored me.0 x head,
     keeps,
@@ -209,16 +209,16 @@ module _ {R : Type 0} (meaning_of : R → Meaning) (rules : R) (room : ℕ) wher
         let ex : x ≡ y = cc in
         let two : Some head ≡ Some h = sym may.seen ∙ ap (λ (z : Pending). z.seen) ex ∙ seen in
         let eh : head ≡ h = cc in
-        λ i. (next_stored me.0 (ex i) (eh i), me.1),
+        record { hands = λ i. next_stored me.0 (ex i) (eh i); slots = refl },
   )
 
   pub link_allowed : (slots id : ℕ) (me : Sat R) (i : ℕ) (x : Pending) (head to : ℕ) → i ≡ next_word x.waiter
-      → to ≡ head % 2 ^ 24 → 0 < me.0.parts → MayLink me.0.pending x head
+      → to ≡ head % 2 ^ 24 → HasPart me.0 → MayLink me.0 x head
       → Allows (Holds meaning_of rules room) slots id me i (λ _. to)
-      (λ _. StoresNext meaning_of (step slots i to 0 none) me to)
+      (λ _. TellsStoreNext meaning_of (step slots i to 0 none) me to)
   link_allowed slots id me i x head to is value some_part may =
       subst (λ j. Allows (Holds meaning_of rules room) slots id me j (λ _. to)
-      (λ _. StoresNext meaning_of (step slots j to 0 none) me to)) (sym is)
+      (λ _. TellsStoreNext meaning_of (step slots j to 0 none) me to)) (sym is)
       (subst (λ y. Allows (Holds meaning_of rules room) slots id me (next_word x.waiter) (λ _. y)
-      (λ _. StoresNext meaning_of (step slots (next_word x.waiter) y 0 none) me y)) (sym value)
+      (λ _. TellsStoreNext meaning_of (step slots (next_word x.waiter) y 0 none) me y)) (sym value)
       (link_at slots id me x head some_part may))

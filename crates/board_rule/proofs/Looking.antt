@@ -9,12 +9,13 @@ use Rattle.board_rule.specs.Meaning.{Meaning}
 use Rattle.board_rule.specs.Words.{mem}
 use Rattle.board_rule.specs.Seats.{looked}
 use Rattle.board_rule.specs.Rule.{AreHands, IsSound}
-use Rattle.board_rule.specs.Plays.{Sat, Looks}
+use Rattle.board_rule.specs.Plays.{Sat, TellsLook}
 use Rattle.board_rule.specs.declared.hands.Hands.{Hands}
 use Rattle.board_rule.proofs.Lists.{total_same}
 use Rattle.board_rule.proofs.Frames.{awake_has, of_all_set, rights_stay, alone_moved, moment_of}
 use Rattle.board_rule.proofs.Waits.{waits_stay, pending_looked}
 use Rattle.board_rule.proofs.Truths.{look_stays, forgets_none}
+use Rattle.board_rule.specs.May.{HasPart}
 
 module _ {R : Type 0} (meaning_of : R → Meaning) (rules : R) (room : ℕ) where
   abbrev pub Holds : State Unit (Hands R) → Type 0
@@ -59,8 +60,8 @@ module _ {R : Type 0} (meaning_of : R → Meaning) (rules : R) (room : ℕ) wher
         alone = alone_moved words words views id v w mine (λ kept is. (kept, is, λ e. e)) sound.alone;
       }
 
-  pub look_allowed : (slots id : ℕ) (me : Sat R) (word : ℕ) → 0 < me.0.parts
-      → Allows Holds slots id me word (λ n. n) (Looks meaning_of (step slots word 0 0 none) me)
+  pub look_allowed : (slots id : ℕ) (me : Sat R) (word : ℕ) → HasPart me.0
+      → Allows Holds slots id me word (λ n. n) (TellsLook meaning_of (step slots word 0 0 none) me)
   look_allowed slots id me word some_part s sound homes mine fits = (
     looked me.0 word (get_or s.words word 0),
     keeps,
@@ -69,7 +70,10 @@ module _ {R : Type 0} (meaning_of : R → Meaning) (rules : R) (room : ℕ) wher
         (set s.views id (looked me.0 word (get_or s.words word 0)))) (sym (set-get_or s.words word 0))
         (look_keeps s.words s.views id me.0 word sound mine some_part),
     record {
-      hands_are = refl;
-      moment = moment_of meaning_of rules room s.words s.views id me.0 word sound mine some_part;
+      hands = record {
+        hands_are = refl;
+        moment = moment_of meaning_of rules room s.words s.views id me.0 word sound mine some_part;
+      };
+      slots = refl;
     },
   )

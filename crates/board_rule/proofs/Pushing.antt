@@ -13,8 +13,8 @@ use Rattle.board_rule.specs.Words.{Mem, mem, put, head_word}
 use Rattle.board_rule.specs.Waiters.{first_of, head_of, pushed, IsChain, IsLater, waiting}
 use Rattle.board_rule.specs.Seats.{Each, in_hand, head_seen, wait_put}
 use Rattle.board_rule.specs.Rule.{ArePending, IsRaised, Stays, KeepsWaits, AreHands, IsSoundBy, IsSound}
-use Rattle.board_rule.specs.May.{MayPush}
-use Rattle.board_rule.specs.Plays.{Sat, PutsWait}
+use Rattle.board_rule.specs.May.{MayPush, HasPart}
+use Rattle.board_rule.specs.Plays.{Sat, TellsPutWait, PushesWait, Tells}
 use Rattle.board_rule.specs.declared.hands.Hands.{Hands}
 use Rattle.board_rule.proofs.Lists.{put_here, put_cases, total_same, total-set}
 use Rattle.board_rule.proofs.Stores.{put_head}
@@ -71,14 +71,15 @@ waits_push meaning room m views id v w c q to old mine near was_open is_open hea
   near = old.near;
 }
 
-module _ {R : Type 0} (meaning_of : R → Meaning) (rules : R) (room : ℕ) (small : room ≤ 2 ^ 20) where
+module _ {R : Type 0} (meaning_of : R → Meaning) (rules : R) (room : ℕ) where
   -- a board is sound once a seat has put a waiter first into a list
   push_keeps : (words : List ℕ) (views : List (Hands R)) (id : ℕ) (v : Hands R) (x : Pending) (head : ℕ)
       → IsSound (meaning_of rules) rules room words views → get_elem? views id ≡ some v
-      → 0 < v.parts → MayPush v.pending x head → get_or words (head_word x.child) 0 ≡ head
+      → 0 < v.parts → MayPush room v x head → get_or words (head_word x.child) 0 ≡ head
       → IsSound (meaning_of rules) rules room (set words (head_word x.child) (pushed head x.waiter))
       (set views id (wait_put v x head))
   push_keeps words views id v x head sound mine some_part may found =
+      let small = may.small in
       let meaning : Meaning = meaning_of rules in
       let m : Mem = mem words in
       let c : ℕ = x.child in
@@ -187,10 +188,10 @@ module _ {R : Type 0} (meaning_of : R → Meaning) (rules : R) (room : ℕ) (sma
         looked = λ h at. inl (refl, cc);
       }
 
-  push_at : (slots id : ℕ) (me : Sat R) (x : Pending) (head : ℕ) → 0 < me.0.parts → MayPush me.0.pending x head
+  push_at : (slots id : ℕ) (me : Sat R) (x : Pending) (head : ℕ) → 0 < me.0.parts → MayPush room me.0 x head
       → Allows (Holds meaning_of rules room) slots id me (head_word x.child)
       (λ n. either (eqb n head) (pushed head x.waiter) n)
-      (PutsWait meaning_of (step slots (head_word x.child) head (pushed head x.waiter) none) me)
+      (TellsPutWait meaning_of (step slots (head_word x.child) head (pushed head x.waiter) none) me)
   push_at slots id me x head some_part may s sound homes mine fits =
       let i : ℕ = head_word x.child in
       let to : ℕ = pushed head x.waiter in
@@ -199,18 +200,15 @@ module _ {R : Type 0} (meaning_of : R → Meaning) (rules : R) (room : ℕ) (sma
       let own = sound.by_kinds.hands id v mine in
       let moment = moment_of meaning_of rules room s.words s.views id v i sound mine some_part in
       exchanged found head to (Leads meaning_of rules room s i id me
-      (PutsWait meaning_of (step slots i head to none) me))
+      (TellsPutWait meaning_of (step slots i head to none) me))
       (λ hit. (
         wait_put v x head,
         keeps,
         tt,
         push_keeps s.words s.views id v x head sound mine some_part may hit,
-        record {
-          hit = λ y is seen _. let one : Some x ≡ Some y = sym may.is ∙ is in let e : x ≡ y = cc in
-              λ j. (wait_put v (e j) head, me.1);
-          miss = λ y is miss. absurd (miss hit);
-          moment = moment;
-        },
+        λ y is seen. let one : Some x ≡ Some y = sym may.is ∙ is in let e : x ≡ y = cc in
+            subst (λ z. Tells meaning_of (PushesWait meaning_of v z head found) me (wait_put v x head, me.1)) e
+            (record { hands = record { hit = λ _. refl; miss = λ miss. absurd (miss hit); moment = moment }; slots = refl }),
       ))
       (λ miss. (
         head_seen v x x.child found,
@@ -223,21 +221,18 @@ module _ {R : Type 0} (meaning_of : R → Meaning) (rules : R) (room : ℕ) (sma
             mine some_part
             (sym (ap waiting may.is)) refl (pends_missed (mem s.words) v.looks v.rights v.pending x head found may.is
             may.seen own.pends) own.walked),
-        record {
-          hit = λ y is seen hit. absurd (miss hit);
-          miss = λ y is _. let one : Some x ≡ Some y = sym may.is ∙ is in let e : x ≡ y = cc in
-              λ j. (head_seen v (e j) (e j).child found, me.1);
-          moment = moment;
-        },
+        λ y is seen. let one : Some x ≡ Some y = sym may.is ∙ is in let e : x ≡ y = cc in
+            subst (λ z. Tells meaning_of (PushesWait meaning_of v z head found) me (head_seen v x x.child found, me.1)) e
+            (record { hands = record { hit = λ hit. absurd (miss hit); miss = λ _. refl; moment = moment }; slots = refl }),
       ))
 
   pub push_allowed : (slots id : ℕ) (me : Sat R) (i : ℕ) (x : Pending) (head to : ℕ) → i ≡ head_word x.child
-      → to ≡ pushed head x.waiter → 0 < me.0.parts → MayPush me.0.pending x head
+      → to ≡ pushed head x.waiter → HasPart me.0 → MayPush room me.0 x head
       → Allows (Holds meaning_of rules room) slots id me i (λ n. either (eqb n head) to n)
-      (PutsWait meaning_of (step slots i head to none) me)
+      (TellsPutWait meaning_of (step slots i head to none) me)
   push_allowed slots id me i x head to is value some_part may =
       subst (λ j. Allows (Holds meaning_of rules room) slots id me j (λ n. either (eqb n head) to n)
-      (PutsWait meaning_of (step slots j head to none) me)) (sym is)
+      (TellsPutWait meaning_of (step slots j head to none) me)) (sym is)
       (subst (λ y. Allows (Holds meaning_of rules room) slots id me (head_word x.child) (λ n. either (eqb n head) y n)
-      (PutsWait meaning_of (step slots (head_word x.child) head y none) me)) (sym value)
+      (TellsPutWait meaning_of (step slots (head_word x.child) head y none) me)) (sym value)
       (push_at slots id me x head some_part may))

@@ -15,8 +15,8 @@ use Rattle.board_rule.specs.Words.{Mem, mem, put, cell_word}
 use Rattle.board_rule.specs.Seats.{looked, placed}
 use Rattle.board_rule.specs.Rule.{AreCells, HoldsGoal, IsBlank, KeepsBlank, IsPromised, KeepsPromises, Stays, AreHands}
 use Rattle.board_rule.specs.Rule.{IsSoundBy, IsSound}
-use Rattle.board_rule.specs.May.{MayPut}
-use Rattle.board_rule.specs.Plays.{Sat, Puts}
+use Rattle.board_rule.specs.May.{MayPut, HasPart}
+use Rattle.board_rule.specs.Plays.{Sat, TellsPut, PutsIn, Tells}
 use Rattle.board_rule.specs.declared.hands.Hands.{Hands}
 use Rattle.board_rule.proofs.Lists.{put_here, put_else, put_cases, total_same}
 use Rattle.board_rule.proofs.Stores.{put_cell}
@@ -33,14 +33,14 @@ module _ (meaning : Meaning) (room : ℕ) (m : Mem) (place word : ℕ) (empty : 
   taken_stays p x taken is = put_cases m.cell place word p (λ y. y ≡ x)
       (λ here. absurd (taken (sym is ∙ ap m.cell here ∙ empty))) (λ _. is)
 
-  cells_put : AreCells meaning room m.cell → (looks : List (ℕ × ℕ)) → Stays m.cell m.head m.full looks
+  cells_put : {R : Type 0} → AreCells meaning room m.cell → (v : Hands R) → Stays m.cell m.head m.full v.looks
       → KeepsPromises meaning room m.cell m.head m.cost m.node
-      → MayPut meaning room looks place word → AreCells meaning room (put m.cell place word)
-  cells_put cells looks stays promises may = record {
+      → MayPut meaning room v place word → AreCells meaning room (put m.cell place word)
+  cells_put cells v stays promises may = record {
     enter = λ p near. put_cases m.cell place word p (λ x. x ≢ 0 → meaning.entry x) (λ _ _. may.enters)
         (λ _. cells.enter p near);
     are_set = put_keeps_set room m.cell (put m.cell place word) word place cells.are_set may.is_word may.near empty
-        (saw_passes meaning room m promises looks stays word (steps_to room (home_of word room) place) may.passed)
+        (saw_passes meaning room m promises v.looks stays word (steps_to room (home_of word room) place) may.passed)
         (record { here = put_here m.cell place word; others = λ p ne. put_else m.cell place word p ne });
   }
 
@@ -101,7 +101,7 @@ module _ {R : Type 0} (meaning_of : R → Meaning) (rules : R) (room : ℕ) wher
   -- a board is sound once a seat has put a word into an empty cell
   put_keeps : (words : List ℕ) (views : List (Hands R)) (id : ℕ) (v : Hands R) (place word : ℕ)
       → IsSound (meaning_of rules) rules room words views → get_elem? views id ≡ some v
-      → 0 < v.parts → MayPut (meaning_of rules) room v.looks place word → get_or words (cell_word place) 0 ≡ 0
+      → 0 < v.parts → MayPut (meaning_of rules) room v place word → get_or words (cell_word place) 0 ≡ 0
       → IsSound (meaning_of rules) rules room (set words (cell_word place) word) (set views id (placed v place word))
   put_keeps words views id v place word sound mine some_part may empty =
       let meaning : Meaning = meaning_of rules in
@@ -119,7 +119,7 @@ module _ {R : Type 0} (meaning_of : R → Meaning) (rules : R) (room : ℕ) wher
         count = length-set words (cell_word place) word ∙ count;
         by_kinds = subst (λ b. IsSoundBy meaning rules room b (set views id w))
             (sym (put_cell words place word (omega arith))) (record {
-              cells = cells_put meaning room m place word empty k.cells v.looks own.stays k.promises may;
+              cells = cells_put meaning room m place word empty k.cells v own.stays k.promises may;
               blank = blank_put meaning room m place word empty k.blank;
               rights = rights_stay room m.run m.head views id v w mine (λ p. refl) refl k.rights;
               waits = waits_stay meaning room n.cell m.head m.next m.run views id v w mine refl
@@ -176,12 +176,12 @@ module _ {R : Type 0} (meaning_of : R → Meaning) (rules : R) (room : ℕ) wher
       (look_keeps meaning_of rules room s.words s.views id me.0 i sound mine some_part)
 
   put_at : (slots id : ℕ) (me : Sat R) (place word : ℕ) → 0 < me.0.parts
-      → MayPut (meaning_of rules) room me.0.looks place word
+      → MayPut (meaning_of rules) room me.0 place word
       → Allows (Holds meaning_of rules room) slots id me (cell_word place) (λ n. either (eqb n 0) word n)
-      (Puts meaning_of (step slots (cell_word place) 0 word none) me)
+      (TellsPut meaning_of (step slots (cell_word place) 0 word none) me)
   put_at slots id me place word some_part may s sound homes mine fits =
       let i : ℕ = cell_word place in
-      let then : ℕ → Sat R → Type 0 = Puts meaning_of (step slots i 0 word none) me in
+      let then : ℕ → Sat R → Type 0 = TellsPut meaning_of (step slots i 0 word none) me in
       let moment = moment_of meaning_of rules room s.words s.views id me.0 i sound mine some_part in
       exchanged (get_or s.words i 0) 0 word (Leads s i id me then)
       (λ hit. (
@@ -189,25 +189,26 @@ module _ {R : Type 0} (meaning_of : R → Meaning) (rules : R) (room : ℕ) wher
         keeps,
         tt,
         put_keeps s.words s.views id me.0 place word sound mine some_part may hit,
-        λ p same. let e : place ≡ p = omega (arith, same) in record {
-          hit = λ _. ap (λ q. (placed me.0 q word, me.1)) e;
-          miss = λ miss. absurd (miss hit);
-          moment = moment;
-        },
+        λ p same. let e : place ≡ p = omega (arith, same) in
+            subst (λ q. Tells meaning_of (PutsIn meaning_of me.0 q word (get_or s.words i 0)) me (placed me.0 place word, me.1)) e
+            (record { hands = record { hit = λ _. refl; miss = λ miss. absurd (miss hit); moment = moment }; slots = refl }),
       ))
       (λ miss. (
         looked me.0 i (get_or s.words i 0),
         keeps,
         tt,
         miss_leads s id me i some_part sound mine,
-        λ p same. record { hit = λ hit. absurd (miss hit); miss = λ _. refl; moment = moment },
+        λ p same. let e : place ≡ p = omega (arith, same) in
+            subst (λ q. Tells meaning_of (PutsIn meaning_of me.0 q word (get_or s.words i 0)) me
+            (looked me.0 i (get_or s.words i 0), me.1)) e
+            (record { hands = record { hit = λ hit. absurd (miss hit); miss = λ _. refl; moment = moment }; slots = refl }),
       ))
 
-  pub put_allowed : (slots id : ℕ) (me : Sat R) (i place word : ℕ) → i ≡ cell_word place → 0 < me.0.parts
-      → MayPut (meaning_of rules) room me.0.looks place word
+  pub put_allowed : (slots id : ℕ) (me : Sat R) (i place word : ℕ) → i ≡ cell_word place → HasPart me.0
+      → MayPut (meaning_of rules) room me.0 place word
       → Allows (Holds meaning_of rules room) slots id me i (λ n. either (eqb n 0) word n)
-      (Puts meaning_of (step slots i 0 word none) me)
+      (TellsPut meaning_of (step slots i 0 word none) me)
   put_allowed slots id me i place word is some_part may =
       subst (λ j. Allows (Holds meaning_of rules room) slots id me j (λ n. either (eqb n 0) word n)
-      (Puts meaning_of (step slots j 0 word none) me)) (sym is)
+      (TellsPut meaning_of (step slots j 0 word none) me)) (sym is)
       (put_at slots id me place word some_part may)

@@ -22,7 +22,7 @@ abbrev pub rights_at : ℕ → List Claimed → ℕ
 rights_at p rights = times (λ (r : Claimed). r.place) p rights
 
 -- the first right is the one that is spent, or it stays
-without_cases : (Fact : List Claimed → Type 0) (place : ℕ) (r : Claimed) (rs : List Claimed)
+pub without_cases : (Fact : List Claimed → Type 0) (place : ℕ) (r : Claimed) (rs : List Claimed)
     → (r.place ≡ place → Fact rs) → (r.place ≢ place → Fact (r ∷ without place rs)) → Fact (without place (r ∷ rs))
 without_cases Fact place r rs spent stays =
     dite (ℕ_discrete r.place place)

@@ -1,5 +1,5 @@
 -- A board is sound once a seat was split in two or has taken in another.
-use Rattle.std.proofs.Common.{None, ◌≡◌, ℕ, ◌<◌, ◌≤◌, ◌≢◌}
+use Rattle.std.proofs.Common.{◌≡◌, ℕ, ◌<◌, ◌≤◌, ◌≢◌}
 use Rattle.std.proofs.Common.{List, [], ◌∷◌, ◌++◌, set, Some, sym, refl, ap, subst, ◌∙◌, inl, inr, ⊎_elim, arith}
 use mathlib.Core.Option.{some}
 use lib.ListN.{get_elem?}
@@ -18,6 +18,7 @@ use Rattle.board_rule.proofs.Waits.{waits_as, pending_as}
 use Rattle.board_rule.proofs.Looking.{Holds}
 use Rattle.board_rule.proofs.Opening.{walks_none, hands_of_nothing}
 use Rattle.board_rule.proofs.SeenByTwo.{looked_append, lasting_looked, absence_append, looked_right}
+use Rattle.board_rule.specs.May.{HasPart, MaySplit, MayJoin}
 
 module _ {R : Type 0} where
   -- a seat that is not alone keeps nothing of the words
@@ -110,16 +111,16 @@ module _ {R : Type 0} (meaning_of : R → Meaning) (rules : R) (room : ℕ) wher
             (at_snoc rest right u j there));
       }
 
-  pub split_allowed : (id : ℕ) (v : Hands R) → 2 ≤ v.parts
+  pub split_allowed : (id : ℕ) (v : Hands R) → MaySplit v
       → Splits (Holds meaning_of rules room) id v (parted v) (part v)
   split_allowed id v two s sound mine = split_keeps s.words s.views id v sound mine two
 
   -- a board is sound once one of its seats took in another
   join_keeps : (words : List ℕ) (views : List (Hands R)) (id other : ℕ) (v w : Hands R)
       → IsSound (meaning_of rules) rules room words views → get_elem? views id ≡ some v → other ≢ id
-      → get_elem? views other ≡ some w → 0 < v.parts → w.rights ≡ [] → w.pending ≡ None → w.walk.waiters ≡ []
+      → get_elem? views other ≡ some w → 0 < v.parts → MayJoin w
       → IsSound (meaning_of rules) rules room words (set (set views id (joined v w)) other spent)
-  join_keeps words views id other v w sound mine apart its some_part no_right free walked =
+  join_keeps words views id other v w sound mine apart its some_part may =
       let k = sound.by_kinds in
       let own = k.hands id v mine in
       let theirs = k.hands other w its in
@@ -129,7 +130,7 @@ module _ {R : Type 0} (meaning_of : R → Meaning) (rules : R) (room : ℕ) wher
       let after : List (Hands R) = set middle other spent in
       let its_still : get_elem? middle other ≡ some w = set_else views id other both apart ∙ its in
       let none_right : (p : ℕ) → times (λ (r : Claimed). r.place) p w.rights ≡ 0 =
-      λ p. ap (times (λ (r : Claimed). r.place) p) no_right in
+      λ p. ap (times (λ (r : Claimed). r.place) p) may.no_right in
       let h : (p : ℕ) → held after p ≡ held views p = λ p.
       let f : Hands R → ℕ = λ u. times (λ (r : Claimed). r.place) p u.rights in
       omega (arith, total-set f middle other w spent its_still, total_same f views id v both mine refl, none_right p) in
@@ -193,7 +194,7 @@ module _ {R : Type 0} (meaning_of : R → Meaning) (rules : R) (room : ℕ) wher
                 arith,
                 total-set f middle other w spent its_still,
                 total_same f views id v both mine refl,
-                ap (count q) (ap (λ o. in_hand o w.walk) free ∙ walked),
+                ap (count q) (ap (λ o. in_hand o w.walk) may.free ∙ may.walked),
               )) k.waits;
           promises = k.promises;
           full = k.full;
@@ -212,9 +213,8 @@ module _ {R : Type 0} (meaning_of : R → Meaning) (rules : R) (room : ℕ) wher
             (at_set middle other j spent u there));
       }
 
-  pub join_allowed : (id other : ℕ) (v w : Hands R) → 0 < v.parts → w.rights ≡ [] → w.pending ≡ None
-      → w.walk.waiters ≡ []
+  pub join_allowed : (id other : ℕ) (v w : Hands R) → HasPart v → MayJoin w
       → Joins (Holds meaning_of rules room) id v other w (joined v w) spent
-  join_allowed id other v w some_part no_right free walked s sound mine apart its =
+  join_allowed id other v w some_part may s sound mine apart its =
       join_keeps s.words s.views id other v w sound mine apart (sym (set_else s.views id other (joined v w) apart)
-      ∙ its) some_part no_right free walked
+      ∙ its) some_part may

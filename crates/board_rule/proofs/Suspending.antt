@@ -1,6 +1,6 @@
 -- A fetch-and that clears the held bit of a run word keeps soundness.
 use Rattle.std.proofs.Common.{◌≡◌, ℕ, ◌+◌, ◌<◌, List, get_or, set, sym, refl, ap, subst, ◌∙◌, ⊎_elim}
-use Rattle.std.proofs.Common.{arith, bit_and, None}
+use Rattle.std.proofs.Common.{arith, bit_and}
 use mathlib.Core.Option.{some, none}
 use lib.ListN.{get_elem?}
 use Rattle.std.proofs.lemmas.Bool.{cases_eq}
@@ -13,8 +13,8 @@ use Rattle.board_rule.specs.Waiters.{cleared}
 use Rattle.board_rule.specs.Seats.{times, suspended}
 use Rattle.board_rule.specs.Rule.{KeepsRights, IsStored, IsRaised, ArePending, IsSound, held}
 use Rattle.board_rule.specs.Rule.{ended}
-use Rattle.board_rule.specs.May.{HasRight}
-use Rattle.board_rule.specs.Plays.{Sat, Suspends}
+use Rattle.board_rule.specs.May.{HasPart, HasRight, MaySuspend}
+use Rattle.board_rule.specs.Plays.{Sat, TellsSuspend, SuspendsAt, Tells}
 use Rattle.board_rule.specs.declared.hands.Hands.{Hands}
 use Rattle.board_rule.proofs.Lists.{put_here, put_else}
 use Rattle.board_rule.proofs.Frames.{moment_of}
@@ -59,11 +59,12 @@ module _ {R : Type 0} (meaning_of : R → Meaning) (rules : R) (room : ℕ) wher
   -- a board is sound once a seat has suspended its goal
   suspend_keeps : (words : List ℕ) (views : List (Hands R)) (id : ℕ) (v : Hands R) (place : ℕ)
       → IsSound (meaning_of rules) rules room words views → get_elem? views id ≡ some v
-      → 0 < v.parts → HasRight room v.rights place → v.pending ≡ None
+      → 0 < v.parts → MaySuspend room v place
       → let found = get_or words (run_word place) 0 in
       IsSound (meaning_of rules) rules room (set words (run_word place) (cleared found 8))
       (set views id (suspended v place found))
-  suspend_keeps words views id v place sound mine some_part has free =
+  suspend_keeps words views id v place sound mine some_part may =
+      let has = may.has in
       let meaning : Meaning = meaning_of rules in
       let m : Mem = mem words in
       let x : ℕ = cleared (m.run place) 8 in
@@ -96,31 +97,35 @@ module _ {R : Type 0} (meaning_of : R → Meaning) (rules : R) (room : ℕ) wher
             (cases_eq p place);
         raised = each_without (IsRaised run v.pending) place v.rights
             (raised_as m.run run v.pending v.rights same own.raised);
-        pends = subst (λ o. ArePending meaning room m.cell m.next w.looks w.rights o) (sym free) tt;
+        pends = subst (λ o. ArePending meaning room m.cell m.next w.looks w.rights o) (sym may.free) tt;
         walked = own.walked;
       })
 
-  suspend_at : (slots id : ℕ) (me : Sat R) (place : ℕ) → 0 < me.0.parts → HasRight room me.0.rights place
-      → me.0.pending ≡ None
+  suspend_at : (slots id : ℕ) (me : Sat R) (place : ℕ) → 0 < me.0.parts → MaySuspend room me.0 place
       → Allows (Holds meaning_of rules room) slots id me (run_word place) (λ n. bit_and n 18446744073709551359)
-      (Suspends meaning_of (step slots (run_word place) 18446744073709551359 0 none) me)
-  suspend_at slots id me place some_part has free s sound homes mine fits =
+      (TellsSuspend meaning_of (step slots (run_word place) 18446744073709551359 0 none) me)
+  suspend_at slots id me place some_part may s sound homes mine fits =
       let found : ℕ = get_or s.words (run_word place) 0 in (
         suspended me.0 place found,
         keeps,
         tt,
-        suspend_keeps s.words s.views id me.0 place sound mine some_part has free,
-        λ p same. let e : place ≡ p = omega (arith, same) in record {
-          hands_are = ap (λ q. (suspended me.0 q found, me.1)) e;
-          moment = moment_of meaning_of rules room s.words s.views id me.0 (run_word place) sound mine some_part;
-        },
+        suspend_keeps s.words s.views id me.0 place sound mine some_part may,
+        λ p same. let e : place ≡ p = omega (arith, same) in
+            subst (λ q. Tells meaning_of (SuspendsAt meaning_of me.0 q found) me (suspended me.0 place found, me.1)) e
+            (record {
+              hands = record {
+                hands_are = refl;
+                moment = moment_of meaning_of rules room s.words s.views id me.0 (run_word place) sound mine some_part;
+              };
+              slots = refl;
+            }),
       )
 
-  pub suspend_allowed : (slots id : ℕ) (me : Sat R) (i place : ℕ) → i ≡ run_word place → 0 < me.0.parts
-      → HasRight room me.0.rights place → me.0.pending ≡ None
+  pub suspend_allowed : (slots id : ℕ) (me : Sat R) (i place : ℕ) → i ≡ run_word place → HasPart me.0
+      → MaySuspend room me.0 place
       → Allows (Holds meaning_of rules room) slots id me i (λ n. bit_and n 18446744073709551359)
-      (Suspends meaning_of (step slots i 18446744073709551359 0 none) me)
-  suspend_allowed slots id me i place is some_part has free =
+      (TellsSuspend meaning_of (step slots i 18446744073709551359 0 none) me)
+  suspend_allowed slots id me i place is some_part may =
       subst (λ j. Allows (Holds meaning_of rules room) slots id me j (λ n. bit_and n 18446744073709551359)
-      (Suspends meaning_of (step slots j 18446744073709551359 0 none) me)) (sym is)
-      (suspend_at slots id me place some_part has free)
+      (TellsSuspend meaning_of (step slots j 18446744073709551359 0 none) me)) (sym is)
+      (suspend_at slots id me place some_part may)

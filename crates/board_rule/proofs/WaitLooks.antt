@@ -11,8 +11,8 @@ use Rattle.board_rule.specs.Words.{Mem, mem, head_word, next_word}
 use Rattle.board_rule.specs.Waiters.{first_of, rest_of, IsChain, waiting}
 use Rattle.board_rule.specs.Seats.{Each, times, head_seen, next_read}
 use Rattle.board_rule.specs.Rule.{IsRaised, ArePending, IsWalked, Stays, AreHands, IsSound}
-use Rattle.board_rule.specs.May.{MaySee}
-use Rattle.board_rule.specs.Plays.{Sat, SeesHead, ReadsNext}
+use Rattle.board_rule.specs.May.{MaySee, HasPart, MayWalk}
+use Rattle.board_rule.specs.Plays.{Sat, TellsSeeHead, TellsReadNext, SeesHeadAt, ReadsNextOf, Tells}
 use Rattle.board_rule.specs.declared.hands.Hands.{Hands}
 use Rattle.board_rule.proofs.Lists.{each_as, total_same}
 use Rattle.board_rule.proofs.Frames.{awake_has, of_all_set, rights_stay, alone_moved, moment_of}
@@ -82,15 +82,14 @@ module _ {R : Type 0} (meaning_of : R → Meaning) (rules : R) (room : ℕ) wher
       }
 
   -- what is known of a wait once its child's head was seen
-  pub pends_seen : (m : Mem) (looks : List (ℕ × ℕ)) (rights : List Claimed) (pending : Option Pending) (x : Pending)
-      (child found : ℕ) → Stays m.cell m.head m.full looks
-      → MaySee (meaning_of rules) room looks pending x child
-      → ArePending (meaning_of rules) room m.cell m.next looks rights pending
-      → ArePending (meaning_of rules) room m.cell m.next ((head_word child, found) ∷ looks) rights
+  pub pends_seen : (m : Mem) (v : Hands R) (x : Pending) (child found : ℕ) → Stays m.cell m.head m.full v.looks
+      → MaySee (meaning_of rules) room v x child
+      → ArePending (meaning_of rules) room m.cell m.next v.looks v.rights v.pending
+      → ArePending (meaning_of rules) room m.cell m.next ((head_word child, found) ∷ v.looks) v.rights
       (Some (record { waiter = x.waiter; child = child; seen = Some found; linked = false }))
-  pends_seen m looks rights pending x child found stays may old =
+  pends_seen m v x child found stays may old =
       let meaning : Meaning = meaning_of rules in
-      let was = pending_at meaning room m.cell m.next looks rights pending x may.is old in
+      let was = pending_at meaning room m.cell m.next v.looks v.rights v.pending x may.is old in
       let goal : m.cell (x.waiter / 8) ≡ may.goal = stays.cells (x.waiter / 8) may.goal may.goal_stands may.some_goal in
       let other : m.cell child ≡ may.other = stays.cells child may.other may.other_stands may.some_other in
       record {
@@ -108,9 +107,9 @@ module _ {R : Type 0} (meaning_of : R → Meaning) (rules : R) (room : ℕ) wher
       }
 
   see_at : (slots id : ℕ) (me : Sat R) (x : Pending) (child : ℕ) → 0 < me.0.parts
-      → MaySee (meaning_of rules) room me.0.looks me.0.pending x child
+      → MaySee (meaning_of rules) room me.0 x child
       → Allows (Holds meaning_of rules room) slots id me (head_word child) (λ n. n)
-      (SeesHead meaning_of (step slots (head_word child) 0 0 none) me)
+      (TellsSeeHead meaning_of (step slots (head_word child) 0 0 none) me)
   see_at slots id me x child some_part may s sound homes mine fits =
       let i : ℕ = head_word child in
       let found : ℕ = get_or s.words i 0 in
@@ -125,25 +124,30 @@ module _ {R : Type 0} (meaning_of : R → Meaning) (rules : R) (room : ℕ) wher
             (wait_look_keeps s.words s.views id v i (Some
             (record { waiter = x.waiter; child = child; seen = Some found; linked = false })) v.walk sound mine
             some_part
-            (sym (ap waiting may.is)) refl (pends_seen (mem s.words) v.looks v.rights v.pending x child found own.stays
+            (sym (ap waiting may.is)) refl (pends_seen (mem s.words) v x child found own.stays
             may own.pends) own.walked),
         λ y c is same.
             let one : Some x ≡ Some y = sym may.is ∙ is in
             let ex : x ≡ y = cc in
             let ec : child ≡ c = omega (arith, same) in
-            record {
-              hands_are = λ j. (head_seen v (ex j) (ec j) found, me.1);
-              moment = moment_of meaning_of rules room s.words s.views id v i sound mine some_part;
-            },
+            subst (λ (t : Pending × ℕ). Tells meaning_of (SeesHeadAt meaning_of v t.0 t.1 found) me
+            (head_seen v x child found, me.1)) (λ j. (ex j, ec j))
+            (record {
+              hands = record {
+                hands_are = refl;
+                moment = moment_of meaning_of rules room s.words s.views id v i sound mine some_part;
+              };
+              slots = refl;
+            }),
       )
 
   -- a load of a child's head, by a seat that puts a wait in
-  pub see_allowed : (slots id : ℕ) (me : Sat R) (i : ℕ) (x : Pending) (child : ℕ) → i ≡ head_word child → 0 < me.0.parts
-      → MaySee (meaning_of rules) room me.0.looks me.0.pending x child
-      → Allows (Holds meaning_of rules room) slots id me i (λ n. n) (SeesHead meaning_of (step slots i 0 0 none) me)
+  pub see_allowed : (slots id : ℕ) (me : Sat R) (i : ℕ) (x : Pending) (child : ℕ) → i ≡ head_word child → HasPart me.0
+      → MaySee (meaning_of rules) room me.0 x child
+      → Allows (Holds meaning_of rules room) slots id me i (λ n. n) (TellsSeeHead meaning_of (step slots i 0 0 none) me)
   see_allowed slots id me i x child is some_part may =
       subst (λ j. Allows (Holds meaning_of rules room) slots id me j (λ n. n)
-      (SeesHead meaning_of (step slots j 0 0 none) me)) (sym is) (see_at slots id me x child some_part may)
+      (TellsSeeHead meaning_of (step slots j 0 0 none) me)) (sym is) (see_at slots id me x child some_part may)
 
   -- the next word that was read names the waiter after the first
   walked_read : (m : Mem) (walk : Walk) (waiter : ℕ) (others : List ℕ) → walk.waiters ≡ waiter ∷ others
@@ -159,11 +163,10 @@ module _ {R : Type 0} (meaning_of : R → Meaning) (rules : R) (room : ℕ) wher
     waited = old.waited;
   }
 
-  read_at : (slots id : ℕ) (me : Sat R) (waiter : ℕ) (others : List ℕ) → 0 < me.0.parts
-      → me.0.walk.waiters ≡ waiter ∷ others
+  read_at : (slots id : ℕ) (me : Sat R) (waiter : ℕ) → 0 < me.0.parts → MayWalk me.0 waiter
       → Allows (Holds meaning_of rules room) slots id me (next_word waiter) (λ n. n)
-      (ReadsNext meaning_of (step slots (next_word waiter) 0 0 none) me)
-  read_at slots id me waiter others some_part walks s sound homes mine fits =
+      (TellsReadNext meaning_of (step slots (next_word waiter) 0 0 none) me)
+  read_at slots id me waiter some_part may s sound homes mine fits =
       let i : ℕ = next_word waiter in
       let found : ℕ = get_or s.words i 0 in
       let v : Hands R = me.0 in
@@ -178,20 +181,23 @@ module _ {R : Type 0} (meaning_of : R → Meaning) (rules : R) (room : ℕ) wher
             (record { child = v.walk.child; waiters = v.walk.waiters; next = Some found }) sound mine some_part
             refl refl (pending_looked (meaning_of rules) room (mem s.words).cell (mem s.words).next (i, found) v.looks
             v.rights v.pending own.pends)
-            (walked_read (mem s.words) v.walk waiter others walks own.walked)),
+            (walked_read (mem s.words) v.walk waiter may.others may.first own.walked)),
         λ q same.
             let e : waiter ≡ q = omega arith in
-            record {
-              hands_are = ap (λ p. (next_read v p found, me.1)) e;
-              moment = moment_of meaning_of rules room s.words s.views id v i sound mine some_part;
-            },
+            subst (λ p. Tells meaning_of (ReadsNextOf meaning_of v p found) me (next_read v waiter found, me.1)) e
+            (record {
+              hands = record {
+                hands_are = refl;
+                moment = moment_of meaning_of rules room s.words s.views id v i sound mine some_part;
+              };
+              slots = refl;
+            }),
       )
 
   -- a load of the first waiter's next word, by the seat that walks
-  pub read_allowed : (slots id : ℕ) (me : Sat R) (i waiter : ℕ) (others : List ℕ) → i ≡ next_word waiter
-      → 0 < me.0.parts → me.0.walk.waiters ≡ waiter ∷ others
-      → Allows (Holds meaning_of rules room) slots id me i (λ n. n) (ReadsNext meaning_of (step slots i 0 0 none) me)
-  read_allowed slots id me i waiter others is some_part walks =
+  pub read_allowed : (slots id : ℕ) (me : Sat R) (i waiter : ℕ) → i ≡ next_word waiter → HasPart me.0 → MayWalk me.0 waiter
+      → Allows (Holds meaning_of rules room) slots id me i (λ n. n) (TellsReadNext meaning_of (step slots i 0 0 none) me)
+  read_allowed slots id me i waiter is some_part may =
       subst (λ j. Allows (Holds meaning_of rules room) slots id me j (λ n. n)
-      (ReadsNext meaning_of (step slots j 0 0 none) me)) (sym is)
-      (read_at slots id me waiter others some_part walks)
+      (TellsReadNext meaning_of (step slots j 0 0 none) me)) (sym is)
+      (read_at slots id me waiter some_part may)

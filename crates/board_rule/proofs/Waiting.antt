@@ -12,8 +12,8 @@ use Rattle.board_rule.specs.Words.{Mem, mem, put, run_word}
 use Rattle.board_rule.specs.Waiters.{wait_bit}
 use Rattle.board_rule.specs.Seats.{Each, waits_at, in_hand, wait_begun}
 use Rattle.board_rule.specs.Rule.{IsRaised, KeepsRights, KeepsWaits, IsSound, held, ended}
-use Rattle.board_rule.specs.May.{HasRight, MayWait, MayBegin}
-use Rattle.board_rule.specs.Plays.{Sat, BeginsWait}
+use Rattle.board_rule.specs.May.{HasPart, HasRight, MayBegin}
+use Rattle.board_rule.specs.Plays.{Sat, TellsBeginWait, BeginsAt, Tells}
 use Rattle.board_rule.specs.declared.hands.Hands.{Hands}
 use Rattle.board_rule.proofs.Lists.{among_counts, put_here, put_else, put_cases, each_as, total_same, total-set}
 use Rattle.board_rule.proofs.Lists.{terms_le}
@@ -24,9 +24,15 @@ use Rattle.board_rule.proofs.RunWords.{blank_running, run_step_keeps}
 use Rattle.board_rule.proofs.Raised.{count_one, count_none, raised_at, raised_else, waits_known}
 use Rattle.board_rule.proofs.Looking.{Holds}
 
+-- the seat has the right to the goal, with fewer than eight waits, and puts no other wait in
+record MayWait {R : Type 0} (room : ℕ) (v : Hands R) (place : ℕ) : Type 0 where
+  pub has : HasRight room v.rights place
+  pub fewer : waits_at place v.rights < 8
+  pub free : v.pending ≡ None
+
 -- a goal of which a wait bit was set is held as before
 rights_begun : {R : Type 0} (room : ℕ) (m : Mem) (views : List (Hands R)) (id : ℕ) (v : Hands R) (place : ℕ)
-    → get_elem? views id ≡ some v → MayWait room v.rights v.pending place
+    → get_elem? views id ≡ some v → MayWait room v place
     → KeepsRights room m.run m.head views
     → KeepsRights room (put m.run place (bit_or (m.run place) (2 ^ waits_at place v.rights))) m.head
     (set views id (wait_begun v place (m.run place)))
@@ -132,7 +138,7 @@ module _ {R : Type 0} (meaning_of : R → Meaning) (rules : R) (room : ℕ) wher
   -- a board is sound once a seat has set the bit of its right's next wait
   begin_keeps : (words : List ℕ) (views : List (Hands R)) (id : ℕ) (v : Hands R) (place : ℕ)
       → IsSound (meaning_of rules) rules room words views → get_elem? views id ≡ some v
-      → 0 < v.parts → MayWait room v.rights v.pending place
+      → 0 < v.parts → MayWait room v place
       → let found = get_or words (run_word place) 0 in
       IsSound (meaning_of rules) rules room (set words (run_word place) (bit_or found (2 ^ waits_at place v.rights)))
       (set views id (wait_begun v place found))
@@ -176,9 +182,9 @@ module _ {R : Type 0} (meaning_of : R → Meaning) (rules : R) (room : ℕ) wher
       })
 
   begin_at : (slots id : ℕ) (me : Sat R) (r : Claimed) (mask : ℕ) → mask ≡ 2 ^ r.waits → 0 < me.0.parts
-      → MayBegin room me.0.rights me.0.pending r
+      → MayBegin room me.0 r
       → Allows (Holds meaning_of rules room) slots id me (run_word r.place) (λ n. bit_or n mask)
-      (BeginsWait meaning_of (step slots (run_word r.place) mask 0 none) me)
+      (TellsBeginWait meaning_of (step slots (run_word r.place) mask 0 none) me)
   begin_at slots id me r mask is_mask some_part may s sound homes mine fits =
       let found : ℕ = get_or s.words (run_word r.place) 0 in
       let has : HasRight room me.0.rights r.place =
@@ -187,7 +193,7 @@ module _ {R : Type 0} (meaning_of : R → Meaning) (rules : R) (room : ℕ) wher
       sound.by_kinds.rights in
       let waits : waits_at r.place me.0.rights ≡ r.waits =
       waits_known me.0.rights r (omega (arith, is.right_once)) may.held in
-      let full_may : MayWait room me.0.rights me.0.pending r.place =
+      let full_may : MayWait room me.0 r.place =
       record { has = has; fewer = subst (λ n. n < 8) (sym waits) may.fewer; free = may.free } in (
         wait_begun me.0 r.place found,
         keeps,
@@ -195,18 +201,23 @@ module _ {R : Type 0} (meaning_of : R → Meaning) (rules : R) (room : ℕ) wher
         subst (λ k. IsSound (meaning_of rules) rules room (set s.words (run_word r.place) (bit_or found k))
             (set s.views id (wait_begun me.0 r.place found))) (ap (λ n. 2 ^ n) waits ∙ sym is_mask)
             (begin_keeps s.words s.views id me.0 r.place sound mine some_part full_may),
-        λ p same. let e : r.place ≡ p = omega (arith, same) in record {
-          hands_are = ap (λ q. (wait_begun me.0 q found, me.1)) e;
-          moment = moment_of meaning_of rules room s.words s.views id me.0 (run_word r.place) sound mine some_part;
-        },
+        λ p same. let e : r.place ≡ p = omega (arith, same) in
+            subst (λ q. Tells meaning_of (BeginsAt meaning_of me.0 q found) me (wait_begun me.0 r.place found, me.1)) e
+            (record {
+              hands = record {
+                hands_are = refl;
+                moment = moment_of meaning_of rules room s.words s.views id me.0 (run_word r.place) sound mine some_part;
+              };
+              slots = refl;
+            }),
       )
 
   -- the holder of a right sets the bit of its next wait
   pub begin_allowed : (slots id : ℕ) (me : Sat R) (i : ℕ) (r : Claimed) (mask : ℕ) → i ≡ run_word r.place
-      → mask ≡ 2 ^ r.waits → 0 < me.0.parts → MayBegin room me.0.rights me.0.pending r
+      → mask ≡ 2 ^ r.waits → HasPart me.0 → MayBegin room me.0 r
       → Allows (Holds meaning_of rules room) slots id me i (λ n. bit_or n mask)
-      (BeginsWait meaning_of (step slots i mask 0 none) me)
+      (TellsBeginWait meaning_of (step slots i mask 0 none) me)
   begin_allowed slots id me i r mask is is_mask some_part may =
       subst (λ j. Allows (Holds meaning_of rules room) slots id me j (λ n. bit_or n mask)
-      (BeginsWait meaning_of (step slots j mask 0 none) me)) (sym is)
+      (TellsBeginWait meaning_of (step slots j mask 0 none) me)) (sym is)
       (begin_at slots id me r mask is_mask some_part may)

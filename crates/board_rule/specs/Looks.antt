@@ -9,6 +9,12 @@ abbrev pub Looked : List (ℕ × ℕ) → ℕ → ℕ → Type 0
 Looked [] word found = ⊥
 Looked (look ∷ looks) word found = ((look.0 ≡ word) × (look.1 ≡ found)) ⊎ Looked looks word found
 
+-- the last of the looks at the word found that
+abbrev pub LastFound : List (ℕ × ℕ) → ℕ → ℕ → Type 0
+LastFound [] word found = ⊥
+LastFound (look ∷ looks) word found = ((look.0 ≡ word) × (look.1 ≡ found))
+    ⊎ ((look.0 ≢ word) × LastFound looks word found)
+
 -- one of the looks found another word than this one in the cell
 abbrev pub SawOther : List (ℕ × ℕ) → ℕ → ℕ → Type 0
 SawOther looks word place = (found : ℕ) × Looked looks (cell_word place) found × (found ≢ 0) × (found ≢ word)

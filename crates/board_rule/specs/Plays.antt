@@ -1,5 +1,5 @@
 -- What each kind of step tells the seat that makes it: its hands afterwards, and that the board was sound.
-use Rattle.std.specs.Prelude.{◌≡◌, ◌≢◌, ℕ, ◌*◌, ◌<◌, ◌≤◌, List, ◌∷◌, length, Some, slice_index}
+use Rattle.std.specs.Prelude.{◌≡◌, ◌≢◌, ℕ, ◌*◌, ◌/◌, ◌<◌, ◌≤◌, List, ◌∷◌, length, Some, slice_index}
 use mathlib.Core.Option.{some}
 use lib.ListN.{get_elem?}
 use Rattle.atomic_table.specs.Table.{Me, Step}
@@ -29,104 +29,136 @@ module _ {R : Type 0} (meaning_of : R → Meaning) where
     pub mine : get_elem? views id ≡ some v
     pub value : found ≡ slice_index words word
 
-  -- the step found this value, and left the seat with these hands
-  pub record Tells (before after : Sat R) (hands : Hands R) (word found : ℕ) : Type 0 where
-    pub hands_are : after ≡ (hands, before.1)
-    pub moment : Moment before.0 word found
+  -- the step found this value in the word, and left the seat with these hands
+  pub record Leaves (v : Hands R) (word found : ℕ) (left w : Hands R) : Type 0 where
+    pub hands_are : w ≡ left
+    pub moment : Moment v word found
 
   -- a compare-exchange from 0: the hands where it found 0, and where it found something else
-  pub record TellsTry (before after : Sat R) (won : Hands R) (word found : ℕ) : Type 0 where
-    pub hit : found ≡ 0 → after ≡ (won, before.1)
-    pub miss : found ≢ 0 → after ≡ (looked before.0 word found, before.1)
-    pub moment : Moment before.0 word found
+  pub record Tries (v : Hands R) (word found : ℕ) (won w : Hands R) : Type 0 where
+    pub hit : found ≡ 0 → w ≡ won
+    pub miss : found ≢ 0 → w ≡ looked v word found
+    pub moment : Moment v word found
 
-  -- the head named these waiters, of goals of the board
-  pub record ClosesList (before after : Sat R) (place worker cost node word found : ℕ) : Type 0 where
+  -- a load
+  abbrev pub LooksAt : Hands R → (word found : ℕ) → Hands R → Type 0
+  LooksAt v word found w = Leaves v word found (looked v word found) w
+
+  -- a compare-exchange of a cell from 0 to an entry
+  abbrev pub PutsIn : Hands R → (place word found : ℕ) → Hands R → Type 0
+  PutsIn v place word found w = Tries v (cell_word place) found (placed v place word) w
+
+  -- a compare-exchange of a run word from 0 to 256
+  abbrev pub ClaimsAt : Hands R → (place found : ℕ) → Hands R → Type 0
+  ClaimsAt v place found w = Tries v (run_word place) found (claimed v place) w
+
+  -- the held bit is cleared
+  abbrev pub SuspendsAt : Hands R → (place found : ℕ) → Hands R → Type 0
+  SuspendsAt v place found w = Leaves v (run_word place) found (suspended v place found) w
+
+  -- a head is closed: it named these waiters, of goals of the board, and the seat walks their list
+  pub record ClosesHead (v : Hands R) (place worker cost node found : ℕ) (w : Hands R) : Type 0 where
     pub waiters : List ℕ
     pub named : found ≡ head_of waiters
-    pub near : Each (λ q. q < 8 * before.0.room) waiters
-    pub few : length waiters ≤ 8 * before.0.room
-    pub tells : Tells before after (finished before.0 place worker cost node waiters) word found
+    pub near : Each (λ q. q < 8 * v.room) waiters
+    pub few : length waiters ≤ 8 * v.room
+    pub leaves : Leaves v (head_word place) found (finished v place worker cost node waiters) w
 
+  -- the bit of the right's next wait is set
+  abbrev pub BeginsAt : Hands R → (place found : ℕ) → Hands R → Type 0
+  BeginsAt v place found w = Leaves v (run_word place) found (wait_begun v place found) w
+
+  -- a load of a child's head, for the wait that is being put in
+  abbrev pub SeesHeadAt : Hands R → Pending → (child found : ℕ) → Hands R → Type 0
+  SeesHeadAt v x child found w = Leaves v (head_word child) found (head_seen v x child found) w
+
+  -- a compare-exchange of the child's head, from the one last seen to one with one waiter more: the waiter went in
+  -- first, or the head was seen as it is now
+  pub record PushesWait (v : Hands R) (x : Pending) (head found : ℕ) (w : Hands R) : Type 0 where
+    pub hit : found ≡ head → w ≡ wait_put v x head
+    pub miss : found ≢ head → w ≡ head_seen v x x.child found
+    pub moment : Moment v (head_word x.child) found
+
+  -- the bit of the wait that was being put in is cleared, as its child is finished
+  abbrev pub DropsWaitOf : Hands R → Pending → (found : ℕ) → Hands R → Type 0
+  DropsWaitOf v x found w = Leaves v (run_word (x.waiter / 8)) found (wait_dropped v x found) w
+
+  -- a load of the first waiter's next word
+  abbrev pub ReadsNextOf : Hands R → (waiter found : ℕ) → Hands R → Type 0
+  ReadsNextOf v waiter found w = Leaves v (next_word waiter) found (next_read v waiter found) w
+
+  -- the bit of the first waiter is cleared, by the seat that walks
+  abbrev pub ClearsBitOf : Hands R → (waiter found : ℕ) → Hands R → Type 0
+  ClearsBitOf v waiter found w = Leaves v (run_word (waiter / 8)) found (bit_cleared v waiter found) w
+
+  -- a step tells this of the seat's hands afterwards, and leaves its slots
+  pub record Tells (Fact : Hands R → Type 0) (before after : Sat R) : Type 0 where
+    pub hands : Fact after.0
+    pub slots : after.1 ≡ before.1
+
+  -- The plays, each named for its kind of step: what is told, for a step at the word of its kind.
   abbrev pub Told : Type 1
   Told = Step Unit → Sat R → ℕ → Sat R → Type 0
 
-  -- a load
-  abbrev pub Looks : Told
-  Looks s before found after = Tells before after (looked before.0 s.word found) s.word found
+  abbrev pub TellsLook : Told
+  TellsLook s before found after = Tells (LooksAt before.0 s.word found) before after
 
-  -- a compare-exchange of a cell from 0 to an entry
-  abbrev pub Puts : Told
-  Puts s before found after = (place : ℕ) → s.word ≡ cell_word place
-      → TellsTry before after (placed before.0 place s.second) s.word found
+  abbrev pub TellsPut : Told
+  TellsPut s before found after = (place : ℕ) → s.word ≡ cell_word place
+      → Tells (PutsIn before.0 place s.second found) before after
 
-  -- a compare-exchange of a run word from 0 to 256
-  abbrev pub Claims : Told
-  Claims s before found after = (place : ℕ) → s.word ≡ run_word place
-      → TellsTry before after (claimed before.0 place) s.word found
+  abbrev pub TellsClaim : Told
+  TellsClaim s before found after = (place : ℕ) → s.word ≡ run_word place
+      → Tells (ClaimsAt before.0 place found) before after
 
-  -- the held bit is cleared
-  abbrev pub Suspends : Told
-  Suspends s before found after = (place : ℕ) → s.word ≡ run_word place
-      → Tells before after (suspended before.0 place found) s.word found
+  abbrev pub TellsSuspend : Told
+  TellsSuspend s before found after = (place : ℕ) → s.word ≡ run_word place
+      → Tells (SuspendsAt before.0 place found) before after
 
-  -- a head is closed
-  abbrev pub Closes : Told
-  Closes s before found after = (place worker cost node : ℕ) → s.word ≡ head_word place
+  abbrev pub TellsClose : Told
+  TellsClose s before found after = (place worker cost node : ℕ) → s.word ≡ head_word place
       → Among before.0.rights (answered_right place worker cost node)
-      → ClosesList before after place worker cost node s.word found
+      → Tells (ClosesHead before.0 place worker cost node found) before after
 
-  -- stores of the answer
-  abbrev pub StoresCost : Told
-  StoresCost s before found after = (place : ℕ) → s.word ≡ cost_word place
-      → after ≡ (cost_stored before.0 place s.first, before.1)
+  abbrev pub TellsStoreCost : Told
+  TellsStoreCost s before found after = (place : ℕ) → s.word ≡ cost_word place
+      → Tells (λ w. w ≡ cost_stored before.0 place s.first) before after
 
-  abbrev pub StoresNode : Told
-  StoresNode s before found after = (place : ℕ) → s.word ≡ node_word place
-      → after ≡ (node_stored before.0 place s.first, before.1)
+  abbrev pub TellsStoreNode : Told
+  TellsStoreNode s before found after = (place : ℕ) → s.word ≡ node_word place
+      → Tells (λ w. w ≡ node_stored before.0 place s.first) before after
 
-  abbrev pub StoresWho : Told
-  StoresWho s before found after = (place : ℕ) → s.word ≡ who_word place
-      → after ≡ (who_stored before.0 place s.first, before.1)
+  abbrev pub TellsStoreWho : Told
+  TellsStoreWho s before found after = (place : ℕ) → s.word ≡ who_word place
+      → Tells (λ w. w ≡ who_stored before.0 place s.first) before after
 
-  -- the full word is set
-  abbrev pub Fills : Told
-  Fills s before found after = after ≡ (filled before.0, before.1)
+  abbrev pub TellsFill : Told
+  TellsFill s before found after = Tells (λ w. w ≡ filled before.0) before after
 
-  -- the bit of the right's next wait is set
-  abbrev pub BeginsWait : Told
-  BeginsWait s before found after = (place : ℕ) → s.word ≡ run_word place
-      → Tells before after (wait_begun before.0 place found) s.word found
+  abbrev pub TellsBeginWait : Told
+  TellsBeginWait s before found after = (place : ℕ) → s.word ≡ run_word place
+      → Tells (BeginsAt before.0 place found) before after
 
-  -- a load of a child's head, for the wait that is being put in
-  abbrev pub SeesHead : Told
-  SeesHead s before found after = (x : Pending) (child : ℕ) → before.0.pending ≡ Some x → s.word ≡ head_word child
-      → Tells before after (head_seen before.0 x child found) s.word found
+  abbrev pub TellsSeeHead : Told
+  TellsSeeHead s before found after = (x : Pending) (child : ℕ) → before.0.pending ≡ Some x → s.word ≡ head_word child
+      → Tells (SeesHeadAt before.0 x child found) before after
 
-  -- a store of the waiter's next word, for the head last seen
-  abbrev pub StoresNext : Told
-  StoresNext s before found after = (x : Pending) (head : ℕ) → before.0.pending ≡ Some x → x.seen ≡ Some head
-      → after ≡ (next_stored before.0 x head, before.1)
+  abbrev pub TellsStoreNext : Told
+  TellsStoreNext s before found after = (x : Pending) (head : ℕ) → before.0.pending ≡ Some x → x.seen ≡ Some head
+      → Tells (λ w. w ≡ next_stored before.0 x head) before after
 
-  -- a compare-exchange of the child's head, from the one last seen to one with one waiter more
-  pub record PutsWait (s : Step Unit) (before : Sat R) (found : ℕ) (after : Sat R) : Type 0 where
-    pub hit : (x : Pending) → before.0.pending ≡ Some x → x.seen ≡ Some s.first → found ≡ s.first
-        → after ≡ (wait_put before.0 x s.first, before.1)
-    pub miss : (x : Pending) → before.0.pending ≡ Some x → found ≢ s.first
-        → after ≡ (head_seen before.0 x x.child found, before.1)
-    pub moment : Moment before.0 s.word found
+  abbrev pub TellsPutWait : Told
+  TellsPutWait s before found after = (x : Pending) → before.0.pending ≡ Some x → x.seen ≡ Some s.first
+      → Tells (PushesWait before.0 x s.first found) before after
 
-  -- a load of the first waiter's next word
-  abbrev pub ReadsNext : Told
-  ReadsNext s before found after = (waiter : ℕ) → s.word ≡ next_word waiter
-      → Tells before after (next_read before.0 waiter found) s.word found
+  abbrev pub TellsReadNext : Told
+  TellsReadNext s before found after = (waiter : ℕ) → s.word ≡ next_word waiter
+      → Tells (ReadsNextOf before.0 waiter found) before after
 
-  -- the bit of the first waiter is cleared, by the seat that walks
-  abbrev pub ClearsBit : Told
-  ClearsBit s before found after = (waiter : ℕ) (others : List ℕ) → before.0.walk.waiters ≡ waiter ∷ others
-      → Tells before after (bit_cleared before.0 waiter found) s.word found
+  abbrev pub TellsClearBit : Told
+  TellsClearBit s before found after = (waiter : ℕ) (others : List ℕ) → before.0.walk.waiters ≡ waiter ∷ others
+      → Tells (ClearsBitOf before.0 waiter found) before after
 
-  -- the bit of the wait that was being put in is cleared, as its child is finished
-  abbrev pub DropsWait : Told
-  DropsWait s before found after = (x : Pending) → before.0.pending ≡ Some x
-      → Tells before after (wait_dropped before.0 x found) s.word found
+  abbrev pub TellsDropWait : Told
+  TellsDropWait s before found after = (x : Pending) → before.0.pending ≡ Some x
+      → Tells (DropsWaitOf before.0 x found) before after

@@ -91,7 +91,7 @@ pub record IsRaised (run : ℕ → ℕ) (pending : Option Pending) (r : Claimed)
 
 -- the head that was seen is that of a child of the waiter's goal; where it is linked, it was open, and the waiter's
 -- next word names its first waiter
-pub record IsSeen (meaning : Meaning) (room : ℕ) (cell next : ℕ → ℕ) (x : Pending) (head : ℕ) : Type 0 where
+pub record IsSeenHead (meaning : Meaning) (room : ℕ) (cell next : ℕ → ℕ) (x : Pending) (head : ℕ) : Type 0 where
   pub near : x.child < room
   pub child_goal : HoldsGoal meaning room cell x.child
   pub is_child : meaning.child (cell (x.waiter / 8)) (cell x.child)
@@ -103,7 +103,7 @@ pub record IsPending (meaning : Meaning) (room : ℕ) (cell next : ℕ → ℕ) 
     (x : Pending) : Type 0 where
   pub has : HasRight room rights (x.waiter / 8)
   pub its_wait : waits_at (x.waiter / 8) rights ≡ x.waiter % 8
-  pub seen : (head : ℕ) → x.seen ≡ Some head → IsSeen meaning room cell next x head
+  pub seen : (head : ℕ) → x.seen ≡ Some head → IsSeenHead meaning room cell next x head
   pub looked : (head : ℕ) → x.seen ≡ Some head → Looked looks (head_word x.child) head
 
 abbrev pub ArePending : Meaning → ℕ → (cell next : ℕ → ℕ) → List (ℕ × ℕ) → List Claimed → Option Pending → Type 0

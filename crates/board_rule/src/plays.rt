@@ -1,5 +1,5 @@
 // The kinds of step, each with what it tells.
-ghost use Rattle.board_rule.specs.Plays.{Looks, Puts, Claims, Suspends, Closes, StoresCost, StoresNode, StoresWho, Fills, BeginsWait, SeesHead, StoresNext, PutsWait, ReadsNext, ClearsBit, DropsWait};
+ghost use Rattle.board_rule.specs.Plays.{TellsLook, TellsPut, TellsClaim, TellsSuspend, TellsClose, TellsStoreCost, TellsStoreNode, TellsStoreWho, TellsFill, TellsBeginWait, TellsSeeHead, TellsStoreNext, TellsPutWait, TellsReadNext, TellsClearBit, TellsDropWait};
 
 use crate::hands::Hands;
 use crate::rules::GoalRules;
@@ -9,110 +9,110 @@ use atomic_table::Play;
 pub struct Look;
 
 impl<R: GoalRules> Play<(), Hands<R>> for Look {
-    ghost then = { Looks R.meaning };
+    ghost then = { TellsLook R.meaning };
 }
 
 /// A compare-exchange of a cell from 0 to an entry.
 pub struct Put;
 
 impl<R: GoalRules> Play<(), Hands<R>> for Put {
-    ghost then = { Puts R.meaning };
+    ghost then = { TellsPut R.meaning };
 }
 
 /// A compare-exchange of a run word from 0 to 256.
 pub struct Claim;
 
 impl<R: GoalRules> Play<(), Hands<R>> for Claim {
-    ghost then = { Claims R.meaning };
+    ghost then = { TellsClaim R.meaning };
 }
 
 /// A fetch-and that clears the held bit of a run word.
 pub struct Suspend;
 
 impl<R: GoalRules> Play<(), Hands<R>> for Suspend {
-    ghost then = { Suspends R.meaning };
+    ghost then = { TellsSuspend R.meaning };
 }
 
 /// A swap of a head to 2^63.
 pub struct Close;
 
 impl<R: GoalRules> Play<(), Hands<R>> for Close {
-    ghost then = { Closes R.meaning };
+    ghost then = { TellsClose R.meaning };
 }
 
 /// A store of an answer's cost.
 pub struct StoreCost;
 
 impl<R: GoalRules> Play<(), Hands<R>> for StoreCost {
-    ghost then = { StoresCost R.meaning };
+    ghost then = { TellsStoreCost R.meaning };
 }
 
 /// A store of an answer's node.
 pub struct StoreNode;
 
 impl<R: GoalRules> Play<(), Hands<R>> for StoreNode {
-    ghost then = { StoresNode R.meaning };
+    ghost then = { TellsStoreNode R.meaning };
 }
 
 /// A store of the worker that finishes a goal, plus 1.
 pub struct StoreWho;
 
 impl<R: GoalRules> Play<(), Hands<R>> for StoreWho {
-    ghost then = { StoresWho R.meaning };
+    ghost then = { TellsStoreWho R.meaning };
 }
 
 /// A store of 1 in the full word.
 pub struct Fill;
 
 impl<R: GoalRules> Play<(), Hands<R>> for Fill {
-    ghost then = { Fills R.meaning };
+    ghost then = { TellsFill R.meaning };
 }
 
 /// A fetch-or that sets the bit of a right's next wait.
 pub struct BeginWait;
 
 impl<R: GoalRules> Play<(), Hands<R>> for BeginWait {
-    ghost then = { BeginsWait R.meaning };
+    ghost then = { TellsBeginWait R.meaning };
 }
 
 /// A load of a child's head, for the wait that is being put in.
 pub struct SeeHead;
 
 impl<R: GoalRules> Play<(), Hands<R>> for SeeHead {
-    ghost then = { SeesHead R.meaning };
+    ghost then = { TellsSeeHead R.meaning };
 }
 
 /// A store of a waiter's next word, for the child's head as last seen.
 pub struct StoreNext;
 
 impl<R: GoalRules> Play<(), Hands<R>> for StoreNext {
-    ghost then = { StoresNext R.meaning };
+    ghost then = { TellsStoreNext R.meaning };
 }
 
 /// A compare-exchange of a child's head to one with one waiter more.
 pub struct PutWait;
 
 impl<R: GoalRules> Play<(), Hands<R>> for PutWait {
-    ghost then = { PutsWait R.meaning };
+    ghost then = { TellsPutWait R.meaning };
 }
 
 /// A load of the next word of the first waiter of a closed list.
 pub struct ReadNext;
 
 impl<R: GoalRules> Play<(), Hands<R>> for ReadNext {
-    ghost then = { ReadsNext R.meaning };
+    ghost then = { TellsReadNext R.meaning };
 }
 
 /// A fetch-and that clears the bit of the first waiter of a closed list.
 pub struct ClearBit;
 
 impl<R: GoalRules> Play<(), Hands<R>> for ClearBit {
-    ghost then = { ClearsBit R.meaning };
+    ghost then = { TellsClearBit R.meaning };
 }
 
 /// A fetch-and that clears the bit of a wait whose child is finished already.
 pub struct DropWait;
 
 impl<R: GoalRules> Play<(), Hands<R>> for DropWait {
-    ghost then = { DropsWait R.meaning };
+    ghost then = { TellsDropWait R.meaning };
 }

@@ -76,20 +76,20 @@ either_place true x y place at_x at_y = at_x
 either_place false x y place at_x at_y = at_y
 
 -- a right that waits stays the only one
-pub only_waited : {R : Type 0} → (v : Hands R) (place at : ℕ) (answer : Awaited) (w : Hands R)
-    → WaitsFor v place at answer w → HasOnly v.rights place → HasOnly w.rights place
-only_waited v place at Registered w t only =
+pub only_waited : {R : Type 0} → (room : ℕ) (v : Hands R) (place at : ℕ) (answer : Awaited) (w : Hands R)
+    → WaitsFor room v place at answer w → HasOnly v.rights place → HasOnly w.rights place
+only_waited room v place at Registered w t only =
     let f : Claimed → Claimed = λ r. cond (r.place == place) (record r { waits = r.waits + 1 }) r in (
       f only.0,
       either_place (only.0.place == place) (record only.0 { waits = only.0.waits + 1 }) only.0 place only.1 only.1,
       ap (λ (h : Hands _). h.rights) t.hands_are ∙ ap (with_wait place) only.2,
     )
-only_waited v place at Finished w t only = (only.0, only.1, ap (λ (h : Hands _). h.rights) t.hands_are ∙ only.2)
+only_waited room v place at Finished w t only = (only.0, only.1, ap (λ (h : Hands _). h.rights) t.hands_are ∙ only.2)
 
-pub parts_waited : {R : Type 0} → (v : Hands R) (place at : ℕ) (answer : Awaited) (w : Hands R)
-    → WaitsFor v place at answer w → w.parts ≡ v.parts
-parts_waited v place at Registered w t = ap (λ (h : Hands _). h.parts) t.hands_are
-parts_waited v place at Finished w t = ap (λ (h : Hands _). h.parts) t.hands_are
+pub parts_waited : {R : Type 0} → (room : ℕ) (v : Hands R) (place at : ℕ) (answer : Awaited) (w : Hands R)
+    → WaitsFor room v place at answer w → w.parts ≡ v.parts
+parts_waited room v place at Registered w t = ap (λ (h : Hands _). h.parts) t.hands_are
+parts_waited room v place at Finished w t = ap (λ (h : Hands _). h.parts) t.hands_are
 
 pub place_waited : (answer : Awaited) (right : Right) → (waited answer right).place ≡ right.place
 place_waited Registered right = refl

@@ -6,17 +6,17 @@ use mathlib.Core.Option.{some, some-injective, some-ne-none}
 use lib.ListN.{get_elem?}
 use Rattle.board_rule.specs.Meaning.{Meaning}
 use Rattle.board_rule.specs.Words.{mem, full_word, cell_word, head_word, cost_word, node_word}
-use Rattle.board_rule.specs.Looks.{Looked, ShowsFull}
+use Rattle.board_rule.specs.Looks.{Looked, ShowsFull, ShowsClosed}
 use Rattle.board_rule.specs.Rule.{HoldsGoal}
 use Rattle.board_rule.proofs.Chains.{later_closed}
 use Rattle.board_rule.proofs.WakeUps.{no_wake_up_lost, some_ready}
 use Rattle.board_rule.specs.Seats.{total, looked}
-use Rattle.board_rule.specs.Plays.{Moment}
+use Rattle.board_rule.specs.Plays.{Moment, LooksAt}
 use Rattle.board_rule.specs.declared.hands.Hands.{Hands}
 use Rattle.board_rule.proofs.Truths.{shown_finished, shown_stands}
 use Rattle.goal_board.specs.Seats.{AreHandsOver, IsFree}
-use Rattle.goal_board.specs.Steps.{LooksAt}
-use Rattle.goal_board.specs.Calls.{IsReadyIn, LeavesOut, ReadsAnswer, FindsOpen, ReadsFull}
+use Rattle.goal_board.specs.Alone.{IsReadyIn}
+use Rattle.goal_board.specs.Calls.{LeavesOut, ReadsAnswer, FindsOpen, ReadsFull}
 use Rattle.goal_board.proofs.Overs.{SoundWith, sound_at}
 use Rattle.goal_board.proofs.Seen.{saw_at, agrees_at, sound_looked, seen_more, seen_one}
 
@@ -66,7 +66,7 @@ module _ {R : Type 0} {meaning_of : R → Meaning} {rules : R} {room : ℕ} wher
             ∙ sym there) in
             let closed : 2 ^ 63 ≤ (mem s.words).head at = subst (λ q. 2 ^ 63 ≤ (mem s.words).head q) same f.4 in
             omega arith;
-        ready = λ kept is none goal some_goal stands is_goal.
+        lone = λ kept is none goal some_goal stands is_goal.
             let keeps = s.sound.alone s.id v s.mine in
             let same : kept ≡ s.words = keeps.every_word kept is in
             let there : get_or s.words (cell_word at) 0 ≡ goal = own.stays.cells at goal stands some_goal in
@@ -92,6 +92,17 @@ module _ {R : Type 0} {meaning_of : R → Meaning} {rules : R} {room : ℕ} wher
             absurd (omega arith))
             (some_ready (meaning_of rules) room (mem s.words).cell (mem s.words).run room);
       }
+
+  -- a head that was seen closed is not found open
+  pub seen_closed : (at : ℕ) {v w : Hands R} {value : ℕ} → AreHandsOver meaning_of rules room v
+      → LooksAt meaning_of v (head_word at) value w → value < 2 ^ 63 → ShowsClosed v.looks at → ⊥
+  seen_closed at {v} {value = value} over told not_closed shows =
+      let t = sound_at meaning_of rules room v (head_word at) value over told.moment in
+      let s = t.0 in
+      let closed = later_closed shows.0 ((mem s.words).head at)
+      ((s.sound.by_kinds.hands s.id v s.mine).stays.heads at shows.0 shows.1) shows.2 in
+      let is : value ≡ (mem s.words).head at = t.1 in
+      omega arith
 
   -- a full word that was seen set is set
   seen_full : (v : Hands R) (value : ℕ) (full : Bool) → AreHandsOver meaning_of rules room v

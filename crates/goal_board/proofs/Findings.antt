@@ -4,19 +4,28 @@ use Rattle.std.proofs.Common.{◌∷◌, Option, Some, sym, refl, ap, subst, ◌
 use Rattle.std.proofs.Common.{arith}
 use Rattle.std.proofs.lemmas.Bool.{cases_eq}
 use Rattle.board_rule.specs.Meaning.{Meaning}
-use Rattle.board_rule.specs.Words.{cell_word, run_word}
+use Rattle.board_rule.specs.Words.{cell_word, run_word, mem}
 use Rattle.board_rule.specs.Looks.{Looked}
-use Rattle.board_rule.specs.Seats.{looked, claimed, suspended}
-use Rattle.board_rule.specs.Plays.{Moment}
+use Rattle.board_rule.specs.Seats.{looked, claimed, Each}
+use Rattle.board_rule.specs.Plays.{Moment, LooksAt, Tries, SuspendsAt}
 use Rattle.board_rule.specs.declared.hands.Hands.{Hands}
 use Rattle.goal_board.specs.Seats.{AreHandsOver}
-use Rattle.goal_board.specs.Steps.{Leaves, LooksAt, Tries}
 use Rattle.goal_board.specs.Calls.{IsSeen, found_word, ReadsCell}
-use Rattle.goal_board.specs.RightCalls.{IsRightOf, ClaimsGoal, FindsBusy, SuspendsGoal}
+use Rattle.goal_board.specs.RightCalls.{IsRightOf, ClaimsGoal, FindsBusy, ShowsWait, SuspendsGoal}
 use Rattle.goal_board.specs.declared.answers.Suspended.{Suspended}
 use Rattle.goal_board.specs.declared.answers.Suspended.TheVariants.{Ready, Waiting}
-use Rattle.goal_board.proofs.Kept.{wait_left}
+use Rattle.goal_board.proofs.Kept.{wait_left, no_wait, some_wait}
+use Rattle.goal_board.proofs.Overs.{sound_at}
+use Rattle.goal_board.proofs.Finishing.{each_elsewhere}
 use Rattle.goal_board.proofs.Seen.{saw_at, seen_more, seen_one}
+use Rattle.board_rule.specs.May.{MaySuspend}
+use Rattle.board_rule.specs.Waiters.{cleared}
+use Rattle.goal_board.specs.Alone.{HasWait}
+use Rattle.board_rule.specs.Records.{Claimed}
+use Rattle.board_rule.proofs.Rights.{held_by, rights_at}
+use Rattle.board_rule.proofs.Lists.{term_le}
+use Rattle.std.specs.Int.{bit_at}
+use Rattle.std.proofs.lemmas.Nat.Bits.{bit_at-zero}
 
 -- whether a word was found set
 pub found_set : (value : ℕ) → IsTrue (not (eqb value 0)) → value ≢ 0
@@ -61,6 +70,17 @@ module _ {R : Type 0} {meaning_of : R → Meaning} {rules : R} {room : ℕ} wher
       (saw_at meaning_of rules room v (cell_word at) goal over told.moment))
       (saw_at meaning_of rules room w (run_word at) value after moment)
 
+  -- the seat has no right to a goal whose run word was 0
+  no_right : (w : Hands R) (at value : ℕ) → at < room → AreHandsOver meaning_of rules room w
+      → Moment meaning_of w (run_word at) value → value ≡ 0 → Each (λ (r : Claimed). r.place ≢ at) w.rights
+  no_right w at value near over moment free =
+      let t = sound_at meaning_of rules room w (run_word at) value over moment in
+      let s = t.0 in
+      let running = (s.sound.by_kinds.rights at near).running in
+      let none : bit_at ((mem s.words).run at) 8 ≡ 0 = ap (λ n. bit_at n 8) (sym t.1 ∙ free) ∙ bit_at-zero 8 in
+      let mine = term_le (λ (h : Hands R). rights_at at h.rights) s.views s.id w s.mine in
+      each_elsewhere at w.rights (omega arith)
+
   pub claims_goal : {v w u : Hands R} {at goal value : ℕ} → at < room → AreHandsOver meaning_of rules room v
       → AreHandsOver meaning_of rules room w
       → LooksAt meaning_of v (cell_word at) goal w → goal ≢ 0 → (meaning_of rules).goal goal ≡ true
@@ -86,42 +106,64 @@ module _ {R : Type 0} {meaning_of : R → Meaning} {rules : R} {room : ℕ} wher
         looks = subst (λ x. IsSeen v ((run_word at, x) ∷ ((cell_word at, goal) ∷ []))) free
             (both_looks v w at goal value over after told tries.moment);
         hands_are = is;
-        all = over.all;
+        new = subst (λ (h : Hands R). Each (λ (r : Claimed). r.place ≢ at) h.rights) told.hands_are
+            (no_right w at value near after tries.moment free);
+        lone = over.all;
       }
 
   pub finds_busy : {v w u : Hands R} {at goal value : ℕ} → AreHandsOver meaning_of rules room v
       → AreHandsOver meaning_of rules room w
-      → LooksAt meaning_of v (cell_word at) goal w → Tries meaning_of w (run_word at) value (claimed w at) u → value ≢ 0
+      → LooksAt meaning_of v (cell_word at) goal w → goal ≢ 0 → (meaning_of rules).goal goal ≡ true
+      → Tries meaning_of w (run_word at) value (claimed w at) u → value ≢ 0
       → FindsBusy (meaning_of rules) room v at u
-  finds_busy {v} {w} {at} {goal} {value} over after told tries taken = record {
+  finds_busy {v} {w} {at} {goal} {value} over after told some_goal is_goal tries taken = record {
     more = (run_word at, value) ∷ ((cell_word at, goal) ∷ []);
     looks = both_looks v w at goal value over after told tries.moment;
-    busy = inr (value, inl (refl, refl), taken);
+    busy = inr (record {
+      earlier = (cell_word at, goal) ∷ [];
+      later = (run_word at, value) ∷ [];
+      split = refl;
+      goal = goal;
+      some_goal = some_goal;
+      is_goal = is_goal;
+      stands = inl (refl, refl);
+      run = value;
+      taken = taken;
+      found = inl (refl, refl);
+    });
     hands_are = tries.miss taken ∙ ap (λ h. looked h (run_word at) value) told.hands_are;
   }
 
   -- a right was given up
   suspends : (v w : Hands R) (place found : ℕ) (answer : Suspended) → AreHandsOver meaning_of rules room v
-      → Leaves meaning_of v (run_word place) found (suspended v place found) w
-      → (answer ≡ Ready → found ≡ 256) → (answer ≡ Waiting → found ≢ 256) → SuspendsGoal v place answer w
-  suspends v w place found answer over told ready waiting = record {
+      → SuspendsAt meaning_of v place found w → ShowsWait answer found → (answer ≡ Ready → cleared found 8 ≡ 0)
+      → SuspendsGoal v place answer w
+  suspends v w place found answer over told waits ready = record {
     found = found;
     hands_are = told.hands_are;
+    waits = waits;
     ready = ready;
-    waiting = waiting;
+    not_ready = wait_left found;
     looks = seen_one v (run_word place, found) (λ e. omega (arith, e))
         (saw_at meaning_of rules room v (run_word place) found over told.moment);
-    not_ready = wait_left found;
   }
 
   pub suspends_ready : {v w : Hands R} {place found : ℕ} → AreHandsOver meaning_of rules room v
-      → Leaves meaning_of v (run_word place) found (suspended v place found) w → found ≡ 256
-      → SuspendsGoal v place Ready w
+      → SuspendsAt meaning_of v place found w → found ≡ 256 → SuspendsGoal v place Ready w
   suspends_ready {v} {w} {place} {found} over told held =
-      suspends v w place found Ready over told (λ _. held) (λ is. let no : ⊥ = cc in absurd no)
+      suspends v w place found Ready over told (subst (λ n. HasWait n → ⊥) (sym held) no_wait)
+      (λ _. ap (λ n. cleared n 8) held)
 
   pub suspends_waiting : {v w : Hands R} {place found : ℕ} → AreHandsOver meaning_of rules room v
-      → Leaves meaning_of v (run_word place) found (suspended v place found) w → found ≢ 256
-      → SuspendsGoal v place Waiting w
-  suspends_waiting {v} {w} {place} {found} over told more =
-      suspends v w place found Waiting over told (λ is. let no : ⊥ = cc in absurd no) (λ _. more)
+      → MaySuspend room v place → SuspendsAt meaning_of v place found w → found ≢ 256 → SuspendsGoal v place Waiting w
+  suspends_waiting {v} {w} {place} {found} over may told more =
+      let t = sound_at meaning_of rules room v (run_word place) found over told.moment in
+      let s = t.0 in
+      let m = mem s.words in
+      let near = may.has.near in
+      let is = held_by room m.run m.head s.views s.id v place s.mine may.has s.sound.by_kinds.rights in
+      let one : bit_at found 8 ≡ 1 = ap (λ n. bit_at n 8) t.1 ∙ is.runs in
+      let small = (s.sound.by_kinds.rights place near).small in
+      suspends v w place found Waiting over told
+      (some_wait found one (λ i high. ap (λ n. bit_at n i) t.1 ∙ small i high) more)
+      (λ is. let no : ⊥ = cc in absurd no)

@@ -5,13 +5,13 @@ use Rattle.std.proofs.lemmas.Bool.{cases_eq}
 use Rattle.board_rule.specs.Meaning.{Meaning}
 use Rattle.board_rule.specs.Records.{Claimed}
 use Rattle.board_rule.specs.Words.{mem, head_word, cost_word, node_word, who_word}
-use Rattle.board_rule.specs.Seats.{Among, changed, fresh_right, answered_right, without, with_cost, with_node, with_who}
+use Rattle.board_rule.specs.Seats.{Among, Each, changed, fresh_right, answered_right, without, with_cost, with_node, with_who}
 use Rattle.board_rule.specs.Seats.{cost_stored, node_stored, who_stored}
 use Rattle.board_rule.specs.May.{HasRight}
 use Rattle.board_rule.specs.Plays.{Moment}
 use Rattle.board_rule.specs.declared.hands.Hands.{Hands}
 use Rattle.board_rule.proofs.Lists.{among_map, among_counts, term_le}
-use Rattle.board_rule.proofs.Rights.{rights_at, held_by}
+use Rattle.board_rule.proofs.Rights.{rights_at, held_by, counts_one}
 use Rattle.goal_board.specs.Seats.{AreHandsOver}
 use Rattle.goal_board.specs.RightCalls.{waiting_right}
 use Rattle.goal_board.proofs.Overs.{sound_at}
@@ -81,6 +81,15 @@ module _ (place : ℕ) (change : Claimed → Claimed) (same_place : (r : Claimed
       left ∙ ap (λ l. r ∷ l) (without_changed rs (omega arith))
       ∙ sym (ap (λ b. cond b rs (r ∷ without place rs)) (ne_eqb r.place place ne)))
       (cases_eq r.place place)
+
+-- no right is of a place that stands in them not at all
+pub each_elsewhere : (place : ℕ) (rights : List Claimed) → rights_at place rights ≡ 0
+    → Each (λ (r : Claimed). r.place ≢ place) rights
+each_elsewhere place [] none = tt
+each_elsewhere place (r ∷ rs) none = (
+  (λ e. let one = counts_one r.place place e in omega arith),
+  each_elsewhere place rs (omega arith),
+)
 
 -- a right without waits is as it was claimed
 pub held_fresh : (rights : List Claimed) (place waits : ℕ) → waits ≡ 0 → Among rights (waiting_right place waits)

@@ -1,9 +1,9 @@
 -- How the words that a seat keeps while it is alone change, where one of them does.
 use Rattle.std.proofs.Common.{◌≡◌, ℕ, ◌%◌, ◌^◌, ◌<◌, ◌≤◌, ◌≢◌, nat_le, List, length, length-set, set, get_or-set_other}
-use Rattle.std.proofs.Common.{get_or-set_same, bit_or, Option, None, Some, sym, refl, ap, subst, ◌∙◌, ⊎_elim, arith}
+use Rattle.std.proofs.Common.{get_or-set_same, bit_or, Option, None, Some, sym, refl, ap, subst, ◌∙◌, ⊎_elim, arith, ◌⊎◌, inl, inr, zero, suc}
 use Rattle.std.specs.Int.{bit_at}
 use Rattle.std.proofs.lemmas.Bool.{cases_eq, cases_lt, lt-leb}
-use Rattle.std.proofs.lemmas.Nat.Bits.{bit_at-zero, same_from_bits}
+use Rattle.std.proofs.lemmas.Nat.Bits.{bit_at-zero, same_from_bits, bit_at-pow_other, bit_at-pow_same, bit_at-lt}
 use Rattle.board_rule.specs.Words.{mem, run_word, head_word, cell_word, next_word}
 use Rattle.board_rule.specs.Waiters.{cleared}
 use Rattle.board_rule.specs.Seats.{changed}
@@ -112,3 +112,36 @@ wait_left run has gone =
     let none_left : bit_at (cleared run 8) b ≡ 0 = ap (λ n. bit_at n b) gone ∙ bit_at-zero b in
     let is_set = has.2 in
     omega arith
+
+-- a run word with its held bit alone has no wait
+pub no_wait : HasWait 256 → ⊥
+no_wait has = let b = has.0 in let few = has.1 in let is_set = has.2 in
+    let other : bit_at (2 ^ 8) b ≡ 0 = bit_at-pow_other 8 b (λ e. omega arith) in
+    let same : bit_at 256 b ≡ bit_at (2 ^ 8) b = refl in
+    omega arith
+
+-- one of the first bits is set, or none is
+bits_below : (run n : ℕ) → ((b : ℕ) × (b < n) × (bit_at run b ≡ 1)) ⊎ ((b : ℕ) → b < n → bit_at run b ≡ 0)
+bits_below run zero = inr (λ b few. absurd (omega arith))
+bits_below run (suc n) =
+    ⊎_elim (λ t. inl (t.0, omega (arith, t.1), t.2))
+    (λ none. ⊎_elim
+    (λ (unset : bit_at run n ≡ 0). inr (λ b few. ⊎_elim (λ e. ap (bit_at run) e ∙ unset)
+    (λ ne. none b (omega arith)) (cases_eq b n)))
+    (λ (set_bit : bit_at run n ≢ 0). inl (n, omega arith, let bound = bit_at-lt run n in omega arith))
+    (cases_eq (bit_at run n) 0))
+    (bits_below run n)
+
+-- a run word with its held bit and another has a wait
+pub some_wait : (run : ℕ) → bit_at run 8 ≡ 1 → ((i : ℕ) → 9 ≤ i → bit_at run i ≡ 0) → run ≢ 256 → HasWait run
+some_wait run held small more =
+    ⊎_elim (λ has. has)
+    (λ none. absurd (more (same_from_bits run (2 ^ 8) (λ i.
+    ⊎_elim
+    (λ here. ap (bit_at run) here ∙ held ∙ sym (ap (bit_at (2 ^ 8)) here ∙ bit_at-pow_same 8))
+    (λ ne. ⊎_elim
+    (λ low. none i low ∙ sym (bit_at-pow_other 8 i ne))
+    (λ high. small i (omega arith) ∙ sym (bit_at-pow_other 8 i ne))
+    (cases_lt i 8))
+    (cases_eq i 8)))))
+    (bits_below run 8)

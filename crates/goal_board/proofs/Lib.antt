@@ -7,6 +7,7 @@ pub mod Probes
 pub mod Findings
 pub mod AnswerFindings
 pub mod Finishing
+pub mod OthersKept
 pub mod WokenLemmas
 pub mod Walking
 pub mod ClosedLemmas

@@ -12,8 +12,8 @@ use Rattle.board_rule.specs.Seats.{looked, placed, filled}
 use Rattle.board_rule.specs.declared.hands.Hands.{Hands}
 use Rattle.board_rule.proofs.Truths.{shown_stands, forgets_none}
 use Rattle.board_rule.specs.Words.{mem}
+use Rattle.board_rule.specs.Plays.{LooksAt, PutsIn}
 use Rattle.goal_board.specs.Seats.{AreHandsOver}
-use Rattle.goal_board.specs.Steps.{LooksAt, PutsAt}
 use Rattle.goal_board.specs.Calls.{seen, IsSeen, SawAllOthers, PutsFresh, FindsAt, FindsFull, FindsNone}
 use Rattle.goal_board.proofs.Overs.{SoundWith, sound_at}
 use Rattle.goal_board.proofs.Seen.{SawAt, saw_at, looked_later, entry_earlier, saw_later, saw_all_later, sound_looked}
@@ -99,7 +99,7 @@ module _ {R : Type 0} {meaning_of : R → Meaning} {rules : R} {room : ℕ} {v :
   -- an entry may be put where the probe stands
   pub may_put : {steps place : ℕ} {w : Hands R} → Probes meaning_of rules room v word steps place w → steps < room
       → (meaning_of rules).entry word → word ≢ 0
-      → MayPut (meaning_of rules) room w.looks place word
+      → MayPut (meaning_of rules) room w place word
   may_put {place} p before enters is_word = record {
     near = p.near;
     enters = enters;
@@ -119,7 +119,7 @@ module _ {R : Type 0} {meaning_of : R → Meaning} {rules : R} {room : ℕ} {v :
 
   pub may_fill : {steps place : ℕ} {w : Hands R} → steps ≡ room → 0 < room
       → Probes meaning_of rules room v word steps place w → (meaning_of rules).entry word
-      → MayFill (meaning_of rules) room w.looks
+      → MayFill (meaning_of rules) room w
   may_fill round some_room p enters = record {
     word = word;
     enters = enters;
@@ -130,7 +130,7 @@ module _ {R : Type 0} {meaning_of : R → Meaning} {rules : R} {room : ℕ} {v :
   -- the answers of an insert
   pub puts_fresh : {steps place : ℕ} {w after : Hands R} {value : ℕ} → Probes meaning_of rules room v word steps place w
       → AreHandsOver meaning_of rules room w
-      → PutsAt meaning_of w place word value after → value ≡ 0 → PutsFresh room v word place after
+      → PutsIn meaning_of w place word value after → value ≡ 0 → PutsFresh room v word place after
   puts_fresh {place} {w} {value} p over told empty = record {
     near = p.near;
     more = p.more;

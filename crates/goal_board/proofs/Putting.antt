@@ -1,5 +1,5 @@
 -- A wait that is put in: what each turn of its loop leaves.
-use Rattle.std.proofs.Common.{◌≡◌, ℕ, ◌+◌, ◌-◌, ◌*◌, ◌/◌, ◌%◌, ◌^◌, ◌<◌, ◌≤◌, ◌≢◌, false, List, ◌++◌, Some, sym, ap}
+use Rattle.std.proofs.Common.{◌≡◌, ℕ, ◌+◌, ◌-◌, ◌*◌, ◌/◌, ◌%◌, ◌^◌, ◌<◌, ◌≤◌, ◌≢◌, false, List, length, ◌++◌, Some, sym, ap}
 use Rattle.std.proofs.Common.{subst, ◌∙◌, ⊎_elim, arith, bit_or, Option, refl}
 use Rattle.std.specs.Int.{bit_at}
 use Rattle.std.proofs.lemmas.Nat.Bits.{bit_at-zero}
@@ -7,8 +7,8 @@ use Rattle.board_rule.specs.Meaning.{Meaning}
 use Rattle.board_rule.specs.Records.{Claimed, Pending}
 use Rattle.board_rule.specs.Words.{cell_word, mem, full_word, run_word, head_word}
 use Rattle.board_rule.specs.Waiters.{IsLater, cleared}
-use Rattle.board_rule.specs.Looks.{Looked}
-use Rattle.board_rule.specs.Seats.{Among, waits_at, with_wait}
+use Rattle.board_rule.specs.Looks.{Looked, LastFound}
+use Rattle.board_rule.specs.Seats.{Among, waits_at, with_wait, next_stored}
 use Rattle.board_rule.specs.May.{HasRight}
 use Rattle.board_rule.specs.Plays.{Moment}
 use Rattle.board_rule.specs.declared.hands.Hands.{Hands}
@@ -18,7 +18,7 @@ use Rattle.board_rule.proofs.Chains.{cleared_other}
 use Rattle.board_rule.proofs.Raised.{waits_known}
 use Rattle.board_rule.proofs.Lengths.{list_length, first_within}
 use Rattle.goal_board.specs.Alone.{StaysAlone, KeepsBoard}
-use Rattle.goal_board.specs.Seats.{AreHandsOver}
+use Rattle.goal_board.specs.Seats.{AreHandsOver, the_wait}
 use Rattle.goal_board.specs.RightCalls.{waiting_right, IsRightOf}
 use Rattle.goal_board.specs.declared.board.Right.{Right}
 use Rattle.goal_board.proofs.Finishing.{among_changed}
@@ -37,14 +37,24 @@ Begun waiter before after = StaysAlone (KeepsBoard (waiter / 8) (λ run. bit_or 
 pub record IsPutting {R : Type 0} (room : ℕ) (v : Hands R) (waiter child head : ℕ) (w : Hands R) : Type 0 where
   pub more : List (ℕ × ℕ)
   pub quiet : (value : ℕ) → Looked more full_word value → ⊥
-  pub saw : Looked more (head_word child) head
+  pub saw : LastFound more (head_word child) head
   pub bound : head < 2 ^ 63 → head / 2 ^ 24 ≤ 8 * room
+  -- a look at the run word, one at the head, and one for each of the waiters of the head at most
+  pub rising : head < 2 ^ 63 → length more ≤ head / 2 ^ 24 + 2
+  pub few : length more ≤ 8 * room + 3
   pub hands_are : w ≡ record v {
     alone = w.alone;
     looks = more ++ v.looks;
     pending = Some (seen_wait waiter child head);
   }
   pub kept : Begun waiter v.alone w.alone
+
+-- the child of the wait, once its waiter's next word was stored
+pub linked_child : {R : Type 0} {room : ℕ} {v w x : Hands R} {waiter child head : ℕ} → IsPutting room v waiter child head w
+    → x ≡ next_stored w (the_wait w) head → (the_wait x).child ≡ child
+linked_child {head = head} p stored =
+    ap (λ (h : Hands _). (the_wait h).child)
+    (stored ∙ ap (λ (h : Hands _). next_stored h (the_wait h) head) p.hands_are)
 
 module _ {R : Type 0} (meaning_of : R → Meaning) (rules : R) (room : ℕ) where
   -- a right's number of waits, as the seat has it

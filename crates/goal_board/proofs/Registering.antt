@@ -10,14 +10,13 @@ use Rattle.board_rule.specs.Seats.{Among, changed, waits_at, with_wait, woken_by
 use Rattle.board_rule.specs.Seats.{wait_dropped}
 use Rattle.board_rule.specs.Rule.{IsRaised}
 use Rattle.board_rule.specs.May.{HasRight}
-use Rattle.board_rule.specs.Plays.{Moment}
+use Rattle.board_rule.specs.Plays.{Moment, Leaves}
 use Rattle.board_rule.specs.declared.hands.Hands.{Hands}
 use Rattle.board_rule.proofs.Lists.{each_at}
 use Rattle.board_rule.proofs.Chains.{count, set_same}
 use Rattle.goal_board.specs.Alone.{StaysAlone, KeepsBoard}
-use Rattle.goal_board.specs.Seats.{AreHandsOver}
+use Rattle.goal_board.specs.Seats.{AreHandsOver, the_wait}
 use Rattle.goal_board.specs.RightCalls.{waiting_right, Registers, FindsFinished}
-use Rattle.goal_board.specs.Steps.{the_wait, Leaves}
 use Rattle.goal_board.proofs.Overs.{sound_at}
 use Rattle.goal_board.proofs.Kept.{stays_changed, stays_then, stays_as, stays_from, board_then, run_set, next_set}
 use Rattle.goal_board.proofs.Kept.{head_set, set_and_cleared}
@@ -102,7 +101,7 @@ module _ {R : Type 0} (meaning_of : R → Meaning) (rules : R) (room : ℕ) wher
       → waits_at place v.rights ≡ waits → v.pending ≡ None
       → IsPutting room v (8 * place + waits) child head w → u ≡ next_stored w (the_wait w) head
       → AreHandsOver meaning_of rules room u → Moment meaning_of u (head_word child) head
-      → child < room → head < 2 ^ 63 → z ≡ wait_put u (the_wait u) head → Registers v place child z
+      → child < room → head < 2 ^ 63 → z ≡ wait_put u (the_wait u) head → Registers room v place child z
   registers v w u z place waits child head small near few is none_pending p linked over moment child_near was_open put =
       let q : ℕ = 8 * place + waits in
       let parts = waiter_parts place waits few in
@@ -123,7 +122,13 @@ module _ {R : Type 0} (meaning_of : R → Meaning) (rules : R) (room : ℕ) wher
       record {
         words = z.alone;
         more = looks;
-        quiet = λ value at. ⊎_elim (λ t. omega (arith, t.0)) (λ t. p.quiet value t) at;
+        head = head;
+        looks = record {
+          quiet = λ value at. ⊎_elim (λ t. omega (arith, t.0)) (λ t. p.quiet value t) at;
+          last = inl (refl, refl);
+          few = let few = p.few in omega arith;
+        };
+        was_open = was_open;
         hands_are = all
             ∙ ap (λ (o : _). record v {
               alone = o;
@@ -143,14 +148,16 @@ module _ {R : Type 0} (meaning_of : R → Meaning) (rules : R) (room : ℕ) wher
               rights = with_wait place v.rights;
               pending = o;
             }) (sym none_pending);
-        kept = kept;
-        has_wait = λ words alone. let t = stays_from
-            (KeepsBoard place (λ run. bit_or run (2 ^ waits_at place v.rights))) v.alone z.alone words kept alone in (
-              waits_at place v.rights,
-              subst (λ n. n < 8) (sym is) few,
-              ap (λ n. bit_at n (waits_at place v.rights)) t.2.its_run
-                  ∙ set_same ((mem t.0).run place) (waits_at place v.rights),
-            );
+        lone = record {
+          kept = kept;
+          has_wait = λ words alone. let t = stays_from
+              (KeepsBoard place (λ run. bit_or run (2 ^ waits_at place v.rights))) v.alone z.alone words kept alone in (
+                waits_at place v.rights,
+                subst (λ n. n < 8) (sym is) few,
+                ap (λ n. bit_at n (waits_at place v.rights)) t.2.its_run
+                    ∙ set_same ((mem t.0).run place) (waits_at place v.rights),
+              );
+        };
       }
 
   -- the child is finished
@@ -159,7 +166,7 @@ module _ {R : Type 0} (meaning_of : R → Meaning) (rules : R) (room : ℕ) wher
       → AreHandsOver meaning_of rules room v → Moment meaning_of v (run_word place) first
       → IsPutting room v (8 * place + waits) child head w → 2 ^ 63 ≤ head
       → AreHandsOver meaning_of rules room w → Leaves meaning_of w (run_word ((8 * place + waits) / 8)) found
-      (wait_dropped w (the_wait w) found) z → FindsFinished v place child z
+      (wait_dropped w (the_wait w) found) z → FindsFinished room v place child z
   finds_finished v w z place waits child head first found near few none_pending held has over_v first_moment p closed
       over_w told =
       let q : ℕ = 8 * place + waits in
@@ -178,8 +185,13 @@ module _ {R : Type 0} (meaning_of : R → Meaning) (rules : R) (room : ℕ) wher
       record {
         words = z.alone;
         more = looks;
-        quiet = λ value at. ⊎_elim (λ t. omega (arith, t.0)) (λ t. p.quiet value t) at;
-        closed = (head, inr p.saw, closed);
+        head = head;
+        looks = record {
+          quiet = λ value at. ⊎_elim (λ t. omega (arith, t.0)) (λ t. p.quiet value t) at;
+          last = inr ((λ e. omega arith), p.saw);
+          few = let few = p.few in omega arith;
+        };
+        closed = closed;
         hands_are = is
             ∙ ap (λ (words : _). record v {
               alone = words;
@@ -195,7 +207,7 @@ module _ {R : Type 0} (meaning_of : R → Meaning) (rules : R) (room : ℕ) wher
             }) (sym none_pending)
             ∙ ap (λ x. record v { alone = z.alone; looks = looks ++ v.looks; woken = cond x (q / 8 ∷ v.woken) v.woken })
             (ne_eqb (cleared found (q % 8)) 0 left);
-        kept = stays_as (KeepsBoard place (λ run. cleared (bit_or run (2 ^ waits)) waits))
+        lone = stays_as (KeepsBoard place (λ run. cleared (bit_or run (2 ^ waits)) waits))
             (KeepsBoard place (λ run. run)) v.alone z.alone
             (λ a b alone t. record {
               same_length = t.same_length;

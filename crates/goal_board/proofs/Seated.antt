@@ -1,16 +1,15 @@
 -- What a step leaves of a seat: bare and awake, and one of its board.
-use Rattle.std.proofs.Common.{◌≡◌, ◌≢◌, ℕ, ◌<◌, [], ◌∷◌, List, sym, refl, subst}
+use Rattle.std.proofs.Common.{◌≡◌, ◌≢◌, ℕ, ◌<◌, [], ◌∷◌, List, sym, refl, subst, ◌∙◌}
 use Rattle.board_rule.specs.Meaning.{Meaning}
 use Rattle.board_rule.specs.Words.{cell_word}
 use Rattle.board_rule.specs.Records.{Claimed}
 use Rattle.board_rule.specs.May.{HasRight}
 use Rattle.board_rule.specs.declared.law.Key.{Key}
 use Rattle.board_rule.specs.Seats.{changed}
-use Rattle.board_rule.specs.Plays.{Sat}
+use Rattle.board_rule.specs.Plays.{Sat, Tries}
 use Rattle.board_rule.specs.declared.hands.Hands.{Hands}
 use Rattle.goal_board.specs.Alone.{KeepsAll}
 use Rattle.goal_board.specs.Seats.{AreHandsOver, IsFree, IsSeatOf, IsInCall, hands}
-use Rattle.goal_board.specs.Steps.{Tries}
 use Rattle.goal_board.specs.declared.board.Board.{Board}
 use Rattle.goal_board.specs.declared.board.Seat.{Seat}
 use Rattle.goal_board.proofs.Overs.{over_looked, over_beside, over_same, all_changed}
@@ -23,15 +22,20 @@ pub record IsAwake {R : Type 0} (m : Sat R) : Type 0 where
 
 module _ {R : Type 0} (s : Seat R) where
   -- it is so after a step that left it these hands
-  pub still_awake : {after : Sat R} {w : Hands R} → after ≡ (w, s.seat.me.1) → 0 < w.parts → IsAwake after
-  still_awake told awake = subst IsAwake (sym told) (record { bare = s.bare; awake = awake })
+  pub still_awake : {after : Sat R} {w : Hands R} → after.1 ≡ s.seat.me.1 → after.0 ≡ w → 0 < w.parts → IsAwake after
+  still_awake slots hands_are awake = record {
+    bare = slots ∙ s.bare;
+    awake = subst (λ (h : Hands R). 0 < h.parts) (sym hands_are) awake;
+  }
 
   -- and after one that left it one or other hands
   pub awake_either_way : {after : Sat R} {won lost : Hands R} {value head : ℕ}
-      → (value ≡ head → after ≡ (won, s.seat.me.1)) → (value ≢ head → after ≡ (lost, s.seat.me.1))
+      → after.1 ≡ s.seat.me.1 → (value ≡ head → after.0 ≡ won) → (value ≢ head → after.0 ≡ lost)
       → 0 < won.parts → 0 < lost.parts → IsAwake after
-  awake_either_way hit miss if_won if_lost =
-      either_way IsAwake hit miss (record { bare = s.bare; awake = if_won }) (record { bare = s.bare; awake = if_lost })
+  awake_either_way slots hit miss if_won if_lost = record {
+    bare = slots ∙ s.bare;
+    awake = either_way (λ (h : Hands R). 0 < h.parts) hit miss if_won if_lost;
+  }
 
 -- what holds of the board's rules and cells holds of those by its table's law
 pub lawful : {R : Type 0} (b : Board R) (Fact : R → ℕ → Type 0) → Fact b.key.rules b.key.room

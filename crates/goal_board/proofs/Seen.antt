@@ -5,7 +5,7 @@ use Rattle.word_table.proofs.Steps.{all_passed_as}
 use Rattle.atomic_table.proofs.Lists.{set_here}
 use Rattle.board_rule.specs.Meaning.{Meaning}
 use Rattle.board_rule.specs.Words.{full_word, cell_word}
-use Rattle.board_rule.specs.Looks.{Looked, SawOther, SawOthers, ShowsFinished, seen_closed, child_of, ShowsEntry}
+use Rattle.board_rule.specs.Looks.{Looked, LastFound, SawOther, SawOthers, ShowsFinished, seen_closed, child_of, ShowsEntry}
 use Rattle.board_rule.specs.Looks.{seen_there, asked_by, finished}
 use Rattle.board_rule.specs.Seats.{looked}
 use Rattle.board_rule.specs.Plays.{Moment}
@@ -15,6 +15,13 @@ use Rattle.board_rule.proofs.Looking.{look_keeps}
 use Rattle.goal_board.specs.Seats.{AreHandsOver}
 use Rattle.goal_board.specs.Calls.{seen, AgreesAlone, IsSeen}
 use Rattle.goal_board.proofs.Overs.{SoundWith, sound_at}
+
+-- the last look at a word is a look at it
+pub last_looked : (looks : List (ℕ × ℕ)) (word found : ℕ) → LastFound looks word found → Looked looks word found
+last_looked [] word found at = absurd at
+last_looked (l ∷ looks) word found at =
+    ⊎_elim (λ (e : (l.0 ≡ word) × (l.1 ≡ found)). inl e)
+    (λ (t : (l.0 ≢ word) × LastFound looks word found). inr (last_looked looks word found t.1)) at
 
 -- a look of the later ones, and of the earlier ones
 pub looked_later : (more looks : List (ℕ × ℕ)) (word found : ℕ) → Looked more word found

@@ -1,10 +1,12 @@
 -- What the plays of steps tell, read over hands.
-use Rattle.std.proofs.Common.{◌≡◌, ◌≢◌, ℕ, sym, ap, subst, ⊎_elim}
+use Rattle.std.proofs.Common.{◌≡◌, ◌≢◌, ℕ, ◌/◌, sym, ap, subst, ◌∙◌, ⊎_elim}
 use Rattle.std.proofs.lemmas.Bool.{cases_eq}
 use Rattle.board_rule.specs.Meaning.{Meaning}
-use Rattle.board_rule.specs.Plays.{Sat, Tells, TellsTry}
+use Rattle.board_rule.specs.Records.{Pending}
+use Rattle.board_rule.specs.Words.{run_word, head_word}
+use Rattle.board_rule.specs.Seats.{head_seen, wait_dropped}
+use Rattle.board_rule.specs.Plays.{Moment, Leaves, Tries, LooksAt, PushesWait, DropsWaitOf}
 use Rattle.board_rule.specs.declared.hands.Hands.{Hands}
-use Rattle.goal_board.specs.Steps.{Leaves, Tries, LooksAt}
 
 -- a compare-exchange leaves what holds either way
 pub either_way : {A : Type 0} (Fact : A → Type 0) {after won lost : A} {value head : ℕ} → (value ≡ head → after ≡ won)
@@ -13,22 +15,6 @@ either_way Fact {value} {head} hit miss if_won if_lost =
     ⊎_elim (λ e. subst Fact (sym (hit e)) if_won) (λ ne. subst Fact (sym (miss ne)) if_lost) (cases_eq value head)
 
 module _ {R : Type 0} {meaning_of : R → Meaning} where
-  pub leaves : {before after : Sat R} {left : Hands R} {i word value : ℕ} → i ≡ word
-      → Tells meaning_of before after left i value → Leaves meaning_of before.0 word value left after.0
-  leaves {before} {after} {left} {i} {word} {value} same t =
-      subst (λ k. Leaves meaning_of before.0 k value left after.0) same
-      (record { hands_are = ap (λ (m : Sat R). m.0) t.hands_are; moment = t.moment })
-
-  pub tries : {before after : Sat R} {won : Hands R} {i word value : ℕ} → i ≡ word
-      → TellsTry meaning_of before after won i value → Tries meaning_of before.0 word value won after.0
-  tries {before} {after} {won} {i} {word} {value} same t =
-      subst (λ k. Tries meaning_of before.0 k value won after.0) same
-      (record {
-        hit = λ e. ap (λ (m : Sat R). m.0) (t.hit e);
-        miss = λ ne. ap (λ (m : Sat R). m.0) (t.miss ne);
-        moment = t.moment;
-      })
-
   -- the number of the word may be said in other words
   pub looks_at : {v w : Hands R} {i word value : ℕ} → i ≡ word → LooksAt meaning_of v i value w
       → LooksAt meaning_of v word value w
@@ -38,3 +24,19 @@ module _ {R : Type 0} {meaning_of : R → Meaning} where
   pub missed : {v w won : Hands R} {word value : ℕ} → Tries meaning_of v word value won w → value ≢ 0
       → LooksAt meaning_of v word value w
   missed told taken = record { hands_are = told.miss taken; moment = told.moment }
+
+  -- and so may the child of a wait that is put in
+  pub push_at : {v w : Hands R} {x : Pending} {child head found : ℕ} → x.child ≡ child
+      → PushesWait meaning_of v x head found w
+      → (found ≢ head → w ≡ head_seen v x child found) × Moment meaning_of v (head_word child) found
+  push_at {v} {w} {x} {child} {head} {found} same told = (
+    (λ miss. told.miss miss ∙ ap (λ k. head_seen v x k found) same),
+    subst (λ k. Moment meaning_of v (head_word k) found) same told.moment,
+  )
+
+  -- and the waiter of one that is dropped
+  pub dropped_at : {v w : Hands R} (x : Pending) {waiter found : ℕ} → x.waiter ≡ waiter
+      → DropsWaitOf meaning_of v x found w
+      → Leaves meaning_of v (run_word (waiter / 8)) found (wait_dropped v x found) w
+  dropped_at {v} {w} x {waiter} {found} same told =
+      subst (λ q. Leaves meaning_of v (run_word (q / 8)) found (wait_dropped v x found) w) same told

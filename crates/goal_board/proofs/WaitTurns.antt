@@ -1,14 +1,16 @@
 -- A wait is being put in from its bit on, whatever head is found.
 use Rattle.std.proofs.Common.{◌≡◌, ℕ, ◌+◌, ◌*◌, ◌%◌, ◌^◌, ◌<◌, ◌≤◌, [], ◌∷◌, ◌++◌, Some, sym, refl, ap, subst, ◌∙◌}
-use Rattle.std.proofs.Common.{inl, ⊎_elim, arith}
+use Rattle.std.proofs.Common.{inl, ⊎_elim, arith, ◌≢◌}
 use Rattle.board_rule.specs.Meaning.{Meaning}
 use Rattle.board_rule.specs.Words.{run_word, head_word}
+use Rattle.board_rule.specs.Waiters.{IsLater}
+use Rattle.board_rule.specs.Looks.{Looked}
 use Rattle.board_rule.specs.Seats.{waits_at, wait_begun, head_seen, next_stored}
 use Rattle.board_rule.specs.Plays.{Moment}
 use Rattle.board_rule.specs.declared.hands.Hands.{Hands}
-use Rattle.goal_board.specs.Seats.{AreHandsOver}
-use Rattle.goal_board.specs.Steps.{the_wait}
-use Rattle.goal_board.proofs.Putting.{Begun, IsPutting, seen_wait, head_bound}
+use Rattle.goal_board.specs.Seats.{AreHandsOver, the_wait}
+use Rattle.goal_board.proofs.Putting.{Begun, IsPutting, seen_wait, head_bound, head_later}
+use Rattle.goal_board.proofs.Seen.{looked_later, last_looked}
 use Rattle.goal_board.proofs.Registering.{kept_begun, kept_linked}
 
 module _ {R : Type 0} (meaning_of : R → Meaning) (rules : R) (room : ℕ) where
@@ -30,6 +32,8 @@ module _ {R : Type 0} (meaning_of : R → Meaning) (rules : R) (room : ℕ) wher
         quiet = λ value at. ⊎_elim (λ t. omega (arith, t.0)) (⊎_elim (λ t. omega (arith, t.0)) (λ t. t)) at;
         saw = inl (refl, refl);
         bound = head_bound meaning_of rules room w child head small child_near over_w moment_w;
+        rising = λ _. omega arith;
+        few = omega arith;
         hands_are = is
             ∙ ap (λ (n : ℕ). record (head_seen first (the_wait first) child head) {
               pending = Some (seen_wait (8 * place + n) child head);
@@ -43,13 +47,27 @@ module _ {R : Type 0} (meaning_of : R → Meaning) (rules : R) (room : ℕ) wher
             (kept_begun meaning_of rules room v place waits found over moment near few its);
       }
 
+  -- the head that is found once the next word was stored comes later than the one that it was stored for
+  pub found_later : (v w x : Hands R) (waiter child head found : ℕ) → AreHandsOver meaning_of rules room x
+      → Moment meaning_of x (head_word child) found → IsPutting room v waiter child head w
+      → x ≡ next_stored w (the_wait w) head → IsLater head found
+  found_later v w x waiter child head found over moment old stored =
+      let linked = stored ∙ ap (λ (h : Hands R). next_stored h (the_wait h) head) old.hands_are in
+      head_later meaning_of rules room x child head found over moment
+      (subst (λ (h : Hands R). Looked h.looks (head_word child) head) (sym linked)
+      (looked_later old.more v.looks (head_word child) head (last_looked old.more (head_word child) head old.saw)))
+
   -- another head was found than the one that the next word was stored for
   pub putting_goes_on : (v w x u : Hands R) (waiter child head found : ℕ) → room ≤ 2 ^ 20 → child < room
+      → head < 2 ^ 63 → found ≢ head
       → AreHandsOver meaning_of rules room x → Moment meaning_of x (head_word child) found
       → IsPutting room v waiter child head w
       → x ≡ next_stored w (the_wait w) head → u ≡ head_seen x (the_wait x) child found
       → IsPutting room v waiter child found u
-  putting_goes_on v w x u waiter child head found small near over moment old stored missed =
+  putting_goes_on v w x u waiter child head found small near was_open other over moment old stored missed =
+      let later = found_later v w x waiter child head found over moment old stored in
+      let rose = old.rising was_open in
+      let bound = old.bound was_open in
       let linked = stored ∙ ap (λ (h : Hands R). next_stored h (the_wait h) head) old.hands_are in
       let is = missed ∙ ap (λ (h : Hands R). head_seen h (the_wait h) child found) linked in
       let alone = sym (ap (λ (h : Hands R). h.alone) is) in
@@ -58,6 +76,9 @@ module _ {R : Type 0} (meaning_of : R → Meaning) (rules : R) (room : ℕ) wher
         quiet = λ value at. ⊎_elim (λ t. omega (arith, t.0)) (λ t. old.quiet value t) at;
         saw = inl (refl, refl);
         bound = head_bound meaning_of rules room x child found small near over moment;
+        rising = λ is_open. ⊎_elim (λ closed. absurd (omega arith))
+            (⊎_elim (λ same. absurd (other same)) (λ t. let more = t.1 in omega arith)) later;
+        few = omega arith;
         hands_are = is ∙ ap (λ (words : _). record v {
           alone = words;
           looks = (head_word child, found) ∷ (old.more ++ v.looks);

@@ -9,13 +9,12 @@ use Rattle.board_rule.specs.Meaning.{Meaning}
 use Rattle.board_rule.specs.Words.{mem, run_word, next_word}
 use Rattle.board_rule.specs.Waiters.{first_of, rest_of, head_of, IsChain, cleared}
 use Rattle.board_rule.specs.Seats.{Each, next_read, bit_cleared}
-use Rattle.board_rule.specs.Plays.{Moment}
+use Rattle.board_rule.specs.Plays.{Moment, ReadsNextOf, ClearsBitOf}
 use Rattle.board_rule.specs.declared.hands.Hands.{Hands}
 use Rattle.board_rule.proofs.Chains.{count, cleared_same, cleared_other, cleared_none}
 use Rattle.board_rule.proofs.Raised.{count_one}
 use Rattle.board_rule.proofs.Waits.{hand_parts, handed_waits}
 use Rattle.goal_board.specs.Seats.{AreHandsOver}
-use Rattle.goal_board.specs.Steps.{ReadsNextOf, ClearsBitOf}
 use Rattle.goal_board.proofs.Overs.{sound_at}
 use Rattle.goal_board.proofs.WokenLemmas.{HasWoken, woken_more}
 

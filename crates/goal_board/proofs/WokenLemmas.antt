@@ -7,7 +7,7 @@ use Rattle.board_rule.specs.Waiters.{rest_of, cleared}
 use Rattle.board_rule.specs.Looks.{Looked}
 use Rattle.board_rule.specs.Seats.{Among, Each, changed, woken_by, next_read, bit_cleared}
 use Rattle.board_rule.specs.declared.hands.Hands.{Hands}
-use Rattle.goal_board.specs.Alone.{StaysAlone, ChangesRuns}
+use Rattle.goal_board.specs.Alone.{StaysAlone, ChangesRuns, LoneWakes}
 use Rattle.goal_board.specs.RightCalls.{Wakes}
 use Rattle.goal_board.specs.declared.answers.Woken.{Woken}
 use Rattle.goal_board.proofs.Kept.{stays_changed, stays_then}
@@ -41,7 +41,7 @@ pub record HasWoken {R : Type 0} (room : ℕ) (v : Hands R) (number : ℕ) (one 
   pub words : Option (List ℕ)
   pub gained : List ℕ
   pub hands_are : w ≡ record v { alone = words; looks = more ++ v.looks; woken = gained ++ v.woken; walk = w.walk }
-  pub runs : StaysAlone ChangesRuns v.alone words
+  pub lone : LoneWakes v.alone words
   pub quiet : (value : ℕ) → Looked more full_word value → ⊥
   pub near : Each (λ place. place < room) gained
   pub counted : number ≡ length gained
@@ -54,7 +54,7 @@ woken_begins room v = record {
   words = v.alone;
   gained = [];
   hands_are = refl;
-  runs = runs_same v.alone;
+  lone = runs_same v.alone;
   quiet = λ value at. absurd at;
   near = tt;
   counted = refl;
@@ -71,7 +71,7 @@ pub woken_more : {R : Type 0} (room : ℕ) (v w : Hands R) (number : ℕ) (one :
 woken_more room v w number one q name found old near =
     let looks : List (ℕ × ℕ) = (run_word (q / 8), found) ∷ ((next_word q, name) ∷ old.more) in
     let words : Option (List ℕ) = changed (run_word (q / 8)) (cleared found (q % 8)) old.words in
-    let runs = runs_more v.alone old.words (q / 8) (cleared found (q % 8)) old.runs in
+    let runs = runs_more v.alone old.words (q / 8) (cleared found (q % 8)) old.lone in
     let quiet : (value : ℕ) → Looked looks full_word value → ⊥ =
     λ value at. ⊎_elim (λ t. omega (arith, t.0)) (⊎_elim (λ t. omega (arith, t.0)) (λ t. old.quiet value t)) at in
     let before : bit_cleared (next_read w q name) q found ≡ record v {
@@ -92,7 +92,7 @@ woken_more room v w number one q name found old near =
           woken = cond b (q / 8 ∷ (old.gained ++ v.woken)) (old.gained ++ v.woken);
           walk = record { child = w.walk.child; waiters = rest_of w.walk.waiters; next = None };
         }) (eq-eqb (cleared found (q % 8)) 0 gone);
-        runs = runs;
+        lone = runs;
         quiet = quiet;
         near = (near, old.near);
         counted = omega (arith, old.counted);
@@ -109,7 +109,7 @@ woken_more room v w number one q name found old near =
           woken = cond b (q / 8 ∷ (old.gained ++ v.woken)) (old.gained ++ v.woken);
           walk = record { child = w.walk.child; waiters = rest_of w.walk.waiters; next = None };
         }) (ne_eqb (cleared found (q % 8)) 0 left);
-        runs = runs;
+        lone = runs;
         quiet = quiet;
         near = old.near;
         counted = old.counted;
@@ -128,7 +128,7 @@ wakes_all room v w woken old at_end = record {
   left = w.walk;
   hands_are = old.hands_are;
   at_end = at_end;
-  runs = old.runs;
+  lone = old.lone;
   quiet = old.quiet;
   near = old.near;
   counted = old.counted;

@@ -5,10 +5,11 @@ use Rattle.word_table.specs.Probing.{home_of, steps_to}
 use Rattle.word_table.specs.declared.outcome.Inserted.{Inserted}
 use Rattle.word_table.specs.declared.outcome.Inserted.TheVariants.{Fresh, Known, Full}
 use Rattle.board_rule.specs.Meaning.{Meaning}
-use Rattle.board_rule.specs.Words.{full_word, cell_word, run_word, head_word, cost_word, node_word}
+use Rattle.board_rule.specs.Words.{full_word, cell_word, head_word, cost_word, node_word}
 use Rattle.board_rule.specs.Looks.{Looked, SawOther, SawOthers, ShowsFinished, ShowsEntry, ShowsFull}
 use Rattle.board_rule.specs.Seats.{looked, placed, filled}
 use Rattle.board_rule.specs.declared.hands.Hands.{Hands}
+use Rattle.goal_board.specs.Alone.{LoneFindsReady}
 use Rattle.goal_board.specs.declared.answers.Answer.{Answer}
 
 -- the hands with further looks
@@ -92,13 +93,6 @@ pub record ReadsCell {R : Type 0} (v : Hands R) (at : ℕ) (found : Option ℕ) 
   pub some_word : (word : ℕ) → found ≡ Some word → word ≢ 0
   pub looks : IsSeen v ((cell_word at, found_word found) ∷ [])
 
--- the goal that was looked at in the cell is ready in these words
-pub record IsReadyIn (meaning : Meaning) (room : ℕ) (words : List ℕ) (place : ℕ) : Type 0 where
-  pub near : place < room
-  pub some_goal : slice_index words (cell_word place) ≢ 0
-  pub is_goal : IsTrue (meaning.goal (slice_index words (cell_word place)))
-  pub ready : slice_index words (run_word place) ≡ 0
-
 -- where the looks show the full word set, some entry isn't shown by them
 abbrev pub LeavesOut : Meaning → ℕ → List (ℕ × ℕ) → Type 0
 LeavesOut meaning room looks = ShowsFull looks → (word : ℕ) × meaning.entry word
@@ -125,10 +119,7 @@ module _ {R : Type 0} (meaning : Meaning) (room : ℕ) (v : Hands R) (at : ℕ) 
     -- the looks don't show the goal finished
     pub unfinished : (goal : ℕ) → goal ≢ 0 → Looked v.looks (cell_word at) goal
         → ShowsFinished meaning room v.looks goal → ⊥
-    -- a seat that is alone and holds no right keeps some ready goal
-    pub ready : (kept : List ℕ) → v.alone ≡ Some kept → v.rights ≡ [] → (goal : ℕ) → goal ≢ 0
-        → Looked v.looks (cell_word at) goal → IsTrue (meaning.goal goal)
-        → (place : ℕ) × IsReadyIn meaning room kept place
+    pub lone : LoneFindsReady meaning room v at
 
   abbrev pub Reads : Option Answer → Hands R → Type 0
   Reads (Some answer) w = ReadsAnswer answer w

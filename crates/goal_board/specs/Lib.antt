@@ -1,6 +1,5 @@
 pub mod Alone
 pub mod Seats
-pub mod Steps
 pub mod Calls
 pub mod RightCalls
 pub mod Closed

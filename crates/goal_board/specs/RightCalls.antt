@@ -1,15 +1,15 @@
 -- What each call on a seat's right to a goal does to its hands: a goal is claimed, waits, is suspended or finished.
-use Rattle.std.specs.Prelude.{◌≡◌, ◌≢◌, ◌⊎◌, ℕ, ◌+◌, ◌^◌, ◌<◌, ◌≤◌, List, [], ◌∷◌, ◌++◌, length, bit_or}
+use Rattle.std.specs.Prelude.{◌≡◌, ◌≢◌, ◌⊎◌, ℕ, ◌+◌, ◌*◌, ◌^◌, ◌<◌, ◌≤◌, List, [], ◌∷◌, ◌++◌, length}
 use Rattle.std.specs.Prelude.{Option, Some, None, false, IsTrue}
 use Rattle.board_rule.specs.Meaning.{Meaning}
 use Rattle.board_rule.specs.Records.{Claimed, Walk}
-use Rattle.board_rule.specs.Words.{mem, full_word, cell_word, run_word, head_word, cost_word, node_word, who_word}
-use Rattle.board_rule.specs.Looks.{Looked, ShowsClosed}
+use Rattle.board_rule.specs.Words.{full_word, cell_word, run_word, head_word, cost_word, node_word, who_word}
+use Rattle.board_rule.specs.Looks.{Looked, LastFound}
 use Rattle.board_rule.specs.Waiters.{head_of, cleared}
 use Rattle.board_rule.specs.Seats.{Among, Each, without, changed, looked, claimed, suspended, waits_at}
 use Rattle.board_rule.specs.Seats.{with_wait}
 use Rattle.board_rule.specs.declared.hands.Hands.{Hands}
-use Rattle.goal_board.specs.Alone.{KeepsAll, StaysAlone, ChangesRuns, KeepsBoard, HasWait}
+use Rattle.goal_board.specs.Alone.{KeepsAll, HasWait, LoneRegisters, LoneFindsFinished, LoneWakes, LoneFinishes}
 use Rattle.goal_board.specs.declared.board.Right.{Right}
 use Rattle.goal_board.specs.declared.answers.Woken.{Woken}
 use Rattle.goal_board.specs.declared.answers.Awaited.{Awaited}
@@ -32,11 +32,36 @@ pub record IsRightOf {R : Type 0} (meaning : Meaning) (room : ℕ) (v : Hands R)
   pub is_goal : IsTrue (meaning.goal right.goal)
   pub enters : meaning.entry right.goal
 
--- the looks found no goal in the cell, or a run word other than 0
+-- one of the looks found no goal in the cell
+abbrev pub ShowsNoGoal : Meaning → List (ℕ × ℕ) → ℕ → Type 0
+ShowsNoGoal meaning looks at = (word : ℕ) × Looked looks (cell_word at) word
+    × ((word ≡ 0) ⊎ (meaning.goal word ≡ false))
+
+-- the earlier looks found a goal in the cell, and one of the later its run word other than 0
+pub record ShowsTaken (meaning : Meaning) (looks : List (ℕ × ℕ)) (at : ℕ) : Type 0 where
+  pub earlier : List (ℕ × ℕ)
+  pub later : List (ℕ × ℕ)
+  pub split : looks ≡ later ++ earlier
+  pub goal : ℕ
+  pub some_goal : goal ≢ 0
+  pub is_goal : IsTrue (meaning.goal goal)
+  pub stands : Looked earlier (cell_word at) goal
+  pub run : ℕ
+  pub taken : run ≢ 0
+  pub found : Looked later (run_word at) run
+
+-- the looks found no goal in the cell, or a goal and then its run word other than 0
 abbrev pub ShowsBusy : Meaning → List (ℕ × ℕ) → ℕ → Type 0
-ShowsBusy meaning looks at =
-    ((word : ℕ) × Looked looks (cell_word at) word × ((word ≡ 0) ⊎ (meaning.goal word ≡ false)))
-    ⊎ ((value : ℕ) × Looked looks (run_word at) value × (value ≢ 0))
+ShowsBusy meaning looks at = ShowsNoGoal meaning looks at ⊎ ShowsTaken meaning looks at
+
+-- each right of the seat is one still
+abbrev pub KeepsRights : {R : Type 0} → Meaning → ℕ → Hands R → Hands R → Type 0
+KeepsRights meaning room v w = (right : Right) → IsRightOf meaning room v right → IsRightOf meaning room w right
+
+-- each right of the seat is one still, but for that to the goal at the place
+abbrev pub KeepsOthers : {R : Type 0} → Meaning → ℕ → ℕ → Hands R → Hands R → Type 0
+KeepsOthers meaning room place v w = (right : Right) → right.place ≢ place → IsRightOf meaning room v right
+    → IsRightOf meaning room w right
 
 module _ {R : Type 0} (meaning : Meaning) (room : ℕ) (v : Hands R) (at : ℕ) where
   -- the goal was found ready, and claimed
@@ -46,7 +71,9 @@ module _ {R : Type 0} (meaning : Meaning) (room : ℕ) (v : Hands R) (at : ℕ) 
     pub its : IsRightOf meaning room w right
     pub looks : IsSeen v ((run_word at, 0) ∷ ((cell_word at, right.goal) ∷ []))
     pub hands_are : w ≡ claimed (looked v (cell_word at) right.goal) at
-    pub all : KeepsAll room v
+    -- the seat had no right to it before
+    pub new : Each (λ (r : Claimed). r.place ≢ at) v.rights
+    pub lone : KeepsAll room v
 
   -- it was found busy
   pub record FindsBusy (w : Hands R) : Type 0 where
@@ -59,15 +86,20 @@ module _ {R : Type 0} (meaning : Meaning) (room : ℕ) (v : Hands R) (at : ℕ) 
   Claims (Some right) w = ClaimsGoal right w
   Claims None w = FindsBusy w
 
+-- what was found in a run word whose held bit was cleared: no wait bit, or one
+abbrev pub ShowsWait : Suspended → ℕ → Type 0
+ShowsWait Ready found = HasWait found → ⊥
+ShowsWait Waiting found = HasWait found
+
 -- the right was given up: the goal is ready exactly where no wait bit was found
 pub record SuspendsGoal {R : Type 0} (v : Hands R) (place : ℕ) (answer : Suspended) (w : Hands R) : Type 0 where
   pub found : ℕ
   pub hands_are : w ≡ suspended v place found
-  pub ready : answer ≡ Ready → found ≡ 256
-  pub waiting : answer ≡ Waiting → found ≢ 256
-  pub looks : IsSeen v ((run_word place, found) ∷ [])
-  -- a goal with a wait is not ready after it
+  pub waits : ShowsWait answer found
+  -- nothing is left of the run word where the goal is ready, and something where it waits
+  pub ready : answer ≡ Ready → cleared found 8 ≡ 0
   pub not_ready : HasWait found → cleared found 8 ≢ 0
+  pub looks : IsSeen v ((run_word place, found) ∷ [])
 
 -- one of the looks found a child of the goal in the cell
 pub record SeesChild (meaning : Meaning) (looks : List (ℕ × ℕ)) (goal at : ℕ) : Type 0 where
@@ -76,26 +108,33 @@ pub record SeesChild (meaning : Meaning) (looks : List (ℕ × ℕ)) (goal at : 
   pub stands : Looked looks (cell_word at) other
   pub is_child : meaning.child goal other
 
-module _ {R : Type 0} (v : Hands R) (place at : ℕ) where
-  -- the goal waits for the child: its right has one wait more
+-- the looks of a wait: none at the full word, and the last at the child's head found that; each try that failed shows
+-- more waiters than the one before, so the looks are few
+pub record LooksToWait (room at head : ℕ) (looks : List (ℕ × ℕ)) : Type 0 where
+  pub quiet : (value : ℕ) → Looked looks full_word value → ⊥
+  pub last : LastFound looks (head_word at) head
+  pub few : length looks ≤ 8 * room + 4
+
+module _ {R : Type 0} (room : ℕ) (v : Hands R) (place at : ℕ) where
+  -- the goal waits for the child, whose head was found open last: its right has one wait more
   pub record Registers (w : Hands R) : Type 0 where
     pub words : Option (List ℕ)
     pub more : List (ℕ × ℕ)
-    pub quiet : (value : ℕ) → Looked more full_word value → ⊥
+    pub head : ℕ
+    pub looks : LooksToWait room at head more
+    pub was_open : head < 2 ^ 63
     pub hands_are : w ≡ record v { alone = words; looks = more ++ v.looks; rights = with_wait place v.rights }
-    -- the bit of the right's next wait was set, where the seat is alone
-    pub kept : StaysAlone (KeepsBoard place (λ run. bit_or run (2 ^ waits_at place v.rights))) v.alone words
-    pub has_wait : (kept : List ℕ) → words ≡ Some kept → HasWait ((mem kept).run place)
+    pub lone : LoneRegisters place (waits_at place v.rights) v.alone words
 
-  -- the child was found finished, and no wait was added
+  -- the child's head was found closed last, and no wait was added
   pub record FindsFinished (w : Hands R) : Type 0 where
     pub words : Option (List ℕ)
     pub more : List (ℕ × ℕ)
-    pub quiet : (value : ℕ) → Looked more full_word value → ⊥
-    pub closed : ShowsClosed more at
+    pub head : ℕ
+    pub looks : LooksToWait room at head more
+    pub closed : 2 ^ 63 ≤ head
     pub hands_are : w ≡ record v { alone = words; looks = more ++ v.looks }
-    -- no run word has changed, where the seat is alone
-    pub kept : StaysAlone (KeepsBoard place (λ run. run)) v.alone words
+    pub lone : LoneFindsFinished place v.alone words
 
   abbrev pub WaitsFor : Awaited → Hands R → Type 0
   WaitsFor Registered w = Registers w
@@ -131,7 +170,7 @@ pub record Wakes {R : Type 0} (room : ℕ) (v : Hands R) (woken : Woken) (w : Ha
   pub left : Walk
   pub hands_are : w ≡ record v { alone = words; looks = more ++ v.looks; woken = gained ++ v.woken; walk = left }
   pub at_end : left.waiters ≡ []
-  pub runs : StaysAlone ChangesRuns v.alone words
+  pub lone : LoneWakes v.alone words
   pub quiet : (value : ℕ) → Looked more full_word value → ⊥
   pub near : Each (λ place. place < room) gained
   pub counted : woken.count ≡ length gained
@@ -143,5 +182,4 @@ pub record FinishesGoal {R : Type 0} (room : ℕ) (v : Hands R) (place worker co
     (w : Hands R) : Type 0 where
   pub waiters : List ℕ
   pub wakes : Wakes room (finishes v place worker cost node waiters) woken w
-  -- the goal was not finished before, where the seat is alone
-  pub was_open : (kept : List ℕ) → v.alone ≡ Some kept → (mem kept).head place < 2 ^ 63
+  pub lone : LoneFinishes place v.alone

@@ -1,15 +1,20 @@
 -- What a call finds and does, over a board and a seat of it before and after.
 use Rattle.std.specs.Prelude.{ℕ, Option, Bool}
 use Rattle.board_rule.specs.Meaning.{Meaning}
-use Rattle.board_rule.specs.Looks.{ShowsEntry, ShowsPromise}
+use Rattle.board_rule.specs.Looks.{ShowsEntry, ShowsPromise, ShowsClosed}
 use Rattle.goal_board.specs.declared.board.Board.{Board}
 use Rattle.goal_board.specs.declared.board.Seat.{Seat}
 use Rattle.goal_board.specs.declared.board.Right.{Right}
 use Rattle.goal_board.specs.declared.answers.Answer.{Answer}
+use Rattle.goal_board.specs.declared.answers.Awaited.{Awaited}
 use Rattle.goal_board.specs.declared.answers.Woken.{Woken}
 use Rattle.goal_board.specs.Seats.{hands}
 use Rattle.goal_board.specs.Calls.{Reads, ReadsFull}
-use Rattle.goal_board.specs.RightCalls.{IsRightOf, SeesChild, Claims, FinishesGoal}
+use Rattle.goal_board.specs.RightCalls.{IsRightOf, KeepsRights, KeepsOthers, SeesChild, Claims, WaitsFor, FinishesGoal}
+
+-- one of the seat's looks found the head at the place closed
+abbrev pub HasSeenClosed : {R : Type 0} → Seat R → ℕ → Type 0
+HasSeenClosed s at = ShowsClosed (hands s).looks at
 
 module _ {R : Type 0} (meaning_of : R → Meaning) (b : Board R) (s : Seat R) where
   -- the seat has the right
@@ -28,9 +33,21 @@ module _ {R : Type 0} (meaning_of : R → Meaning) (b : Board R) (s : Seat R) wh
   abbrev pub HasSeenChild : (goal at : ℕ) → Type 0
   HasSeenChild goal at = SeesChild (meaning_of b.key.rules) (hands s).looks goal at
 
+  -- each of its rights is one still
+  abbrev pub SeatKeepsRights : Seat R → Type 0
+  SeatKeepsRights t = KeepsRights (meaning_of b.key.rules) b.key.room (hands s) (hands t)
+
+  -- each of its rights is one still, but for that to the goal at the place
+  abbrev pub SeatKeepsOthers : (place : ℕ) → Seat R → Type 0
+  SeatKeepsOthers place t = KeepsOthers (meaning_of b.key.rules) b.key.room place (hands s) (hands t)
+
   -- it claimed the goal at the place, or found it busy
   abbrev pub SeatClaims : (at : ℕ) → Option Right → Seat R → Type 0
   SeatClaims at found t = Claims (meaning_of b.key.rules) b.key.room (hands s) at found (hands t)
+
+  -- the goal at the place waits for the child, or the child was found finished
+  abbrev pub SeatWaitsFor : (place at : ℕ) → Awaited → Seat R → Type 0
+  SeatWaitsFor place at answer t = WaitsFor b.key.room (hands s) place at answer (hands t)
 
   -- it finished the goal at the place with the answer, and woke the goals that wait for it
   abbrev pub SeatFinishes : (place worker : ℕ) → Answer → Woken → Seat R → Type 0

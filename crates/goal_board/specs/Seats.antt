@@ -1,6 +1,7 @@
 -- Seats of a board, and their hands.
-use Rattle.std.specs.Prelude.{◌≡◌, ◌≢◌, ℕ, ◌<◌, [], None, Some}
+use Rattle.std.specs.Prelude.{◌≡◌, ◌≢◌, ℕ, ◌<◌, [], false, Option, None, Some}
 use Rattle.board_rule.specs.Meaning.{Meaning}
+use Rattle.board_rule.specs.Records.{Pending}
 use Rattle.board_rule.specs.Words.{cell_word}
 use Rattle.board_rule.specs.Looks.{Looked}
 use Rattle.board_rule.specs.declared.hands.Hands.{Hands}
@@ -10,6 +11,14 @@ use Rattle.goal_board.specs.declared.board.Board.{Board}
 
 abbrev pub hands : {R : Type 0} → Seat R → Hands R
 hands s = s.seat.me.0
+
+-- the wait that a seat puts in
+abbrev pub pending_or : Option Pending → Pending
+pending_or None = record { waiter = 0; child = 0; seen = None; linked = false }
+pending_or (Some x) = x
+
+abbrev pub the_wait : {R : Type 0} → Hands R → Pending
+the_wait v = pending_or v.pending
 
 -- hands over these rules and that many cells, whose looks found entries alone, and which keep all words where the seat
 -- is alone

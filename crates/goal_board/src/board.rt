@@ -36,7 +36,7 @@ impl<R: GoalRules> Board<R> {
     ghost use Rattle.board_rule.specs.Seats.{opening_hands};
 
     /// An empty board of `cap` cells, and the first seat. It takes the board's memory, and no other call but `close`
-    /// takes any.
+    /// takes any, beside the hints that `finish` is lent.
     pub fn start(alloc: Global, rules: R, cap: u32) -> Result<(Board<R>, Seat<R>), AllocError>
     where
         R: Drop,

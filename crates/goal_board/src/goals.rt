@@ -1,7 +1,7 @@
-ghost use Rattle.std.specs.Prelude.{◌≡◌, ℕ, ◌<◌};
+ghost use Rattle.std.specs.Prelude.{◌≡◌, ℕ, ◌<◌, IsSome};
 ghost use Rattle.goal_board.specs.Seats.{IsSeatOf, hands};
 ghost use Rattle.goal_board.specs.RightCalls.{SuspendsGoal};
-ghost use Rattle.goal_board.specs.SeatCalls.{HasRightTo, HasSeenPromise, SeatClaims, SeatFinishes, SeatReads};
+ghost use Rattle.goal_board.specs.SeatCalls.{HasRightTo, HasSeenPromise, HasSeenClosed, SeatKeepsRights, SeatKeepsOthers, SeatClaims, SeatFinishes, SeatReads};
 
 use crate::answers::{Answer, Suspended, Woken};
 use crate::board::{Board, Right, Seat};
@@ -16,6 +16,7 @@ impl<R: GoalRules> Board<R> {
         requires near { at < self.now.key.room }
         ensures seat { IsSeatOf R.meaning self.now seat.new }
         ensures answer { SeatClaims R.meaning self.now seat.old at result seat.new }
+        ensures others { SeatKeepsRights R.meaning self.now seat.old seat.new }
     {
         let goal = self.look(seat, cell_at(at));
         if goal == 0 || !self.key.rules.is_goal(goal) {
@@ -38,6 +39,7 @@ impl<R: GoalRules> Board<R> {
         requires right { HasRightTo R.meaning self.now seat.old right }
         ensures seat { IsSeatOf R.meaning self.now seat.new }
         ensures answer { SuspendsGoal (hands seat.old) right.place result (hands seat.new) }
+        ensures others { SeatKeepsOthers R.meaning self.now seat.old right.place seat.new }
     {
         let Right {
             place,
@@ -69,6 +71,7 @@ impl<R: GoalRules> Board<R> {
         requires hints { H.capacity hints.old ≡ self.now.key.room }
         ensures seat { IsSeatOf R.meaning self.now seat.new }
         ensures answer { SeatFinishes R.meaning self.now seat.old right.place worker answer result seat.new }
+        ensures others { SeatKeepsOthers R.meaning self.now seat.old right.place seat.new }
         ensures hints { H.capacity hints.new ≡ H.capacity hints.old }
     {
         let Right {
@@ -89,6 +92,7 @@ impl<R: GoalRules> Board<R> {
         requires near { at < self.now.key.room }
         ensures seat { IsSeatOf R.meaning self.now seat.new }
         ensures answer { SeatReads R.meaning self.now seat.old at result seat.new }
+        ensures shown { HasSeenClosed seat.old at → IsSome result }
     {
         if self.look(seat, head_at(at)) < CLOSED {
             return None;

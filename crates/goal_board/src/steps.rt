@@ -1,10 +1,10 @@
 // One private call for each kind of step. All that is above speaks of hands.
 ghost use Rattle.std.specs.Prelude.{◌≡◌, ℕ, ◌+◌, ◌*◌, ◌<◌};
 ghost use Rattle.board_rule.specs.Words.{cell_word, run_word, head_word, cost_word, node_word, who_word};
-ghost use Rattle.board_rule.specs.May.{HasRight, MayFill};
+ghost use Rattle.board_rule.specs.May.{MayPut, MayFill, MayClaim, HasRight, MaySuspend, MayClose};
+ghost use Rattle.board_rule.specs.Plays.{LooksAt, PutsIn, ClaimsAt, SuspendsAt, ClosesHead};
 ghost use Rattle.board_rule.specs.Seats.{cost_stored, node_stored, who_stored, filled};
 ghost use Rattle.goal_board.specs.Seats.{IsSeatOf, IsInCall, hands};
-ghost use Rattle.goal_board.specs.Steps.{CanPut, CanClaim, CanClose, LooksAt, PutsAt, ClaimsAt, SuspendsAt, ClosesHead};
 
 use crate::board::{Board, Seat};
 use board_rule::{
@@ -71,9 +71,9 @@ impl<R: GoalRules> Board<R> {
     // Puts an entry into a cell, where it is empty. Gives what it found there.
     pub(crate) fn put(&self, seat: &mut Seat<R>, place: u32, word: u64) -> u64
         requires seat { IsSeatOf R.meaning self.now seat.old }
-        requires may { CanPut (R.meaning self.now.key.rules) self.now.key.room (hands seat.old) place word }
+        requires may { MayPut (R.meaning self.now.key.rules) self.now.key.room (hands seat.old) place word }
         ensures seat { IsSeatOf R.meaning self.now seat.new }
-        ensures told { PutsAt R.meaning (hands seat.old) place word result (hands seat.new) }
+        ensures told { PutsIn R.meaning (hands seat.old) place word result (hands seat.new) }
     {
         self.table
             .shared
@@ -83,7 +83,7 @@ impl<R: GoalRules> Board<R> {
     // Claims a goal, where its run word is 0. Gives what it found there.
     pub(crate) fn hold(&self, seat: &mut Seat<R>, place: u32) -> u64
         requires seat { IsSeatOf R.meaning self.now seat.old }
-        requires may { CanClaim (R.meaning self.now.key.rules) self.now.key.room (hands seat.old) place }
+        requires may { MayClaim (R.meaning self.now.key.rules) self.now.key.room (hands seat.old) place }
         ensures seat { IsSeatOf R.meaning self.now seat.new }
         ensures told { ClaimsAt R.meaning (hands seat.old) place result (hands seat.new) }
     {
@@ -95,7 +95,7 @@ impl<R: GoalRules> Board<R> {
     // Gives up a right. Gives the run word as it was.
     pub(crate) fn release(&self, seat: &mut Seat<R>, place: u32) -> u64
         requires seat { IsSeatOf R.meaning self.now seat.old }
-        requires may { HasRight self.now.key.room (hands seat.old).rights place }
+        requires may { MaySuspend self.now.key.room (hands seat.old) place }
         ensures seat { IsSeatOf R.meaning self.now seat.new }
         ensures told { SuspendsAt R.meaning (hands seat.old) place result (hands seat.new) }
     {
@@ -114,7 +114,7 @@ impl<R: GoalRules> Board<R> {
         _node: u64,
     ) -> u64
         requires seat { IsSeatOf R.meaning self.now seat.old }
-        requires may { CanClose (R.meaning self.now.key.rules) self.now.key.room (hands seat.old)
+        requires may { MayClose (R.meaning self.now.key.rules) self.now.key.room (hands seat.old)
             place _worker _cost _node }
         ensures seat { IsInCall R.meaning self.now seat.new }
         ensures told { ClosesHead R.meaning (hands seat.old) place _worker _cost _node
@@ -162,7 +162,7 @@ impl<R: GoalRules> Board<R> {
     // Sets the full word, where every cell was found taken by another word than this entry.
     pub(crate) fn fill(&self, seat: &mut Seat<R>)
         requires seat { IsSeatOf R.meaning self.now seat.old }
-        requires may { MayFill (R.meaning self.now.key.rules) self.now.key.room (hands seat.old).looks }
+        requires may { MayFill (R.meaning self.now.key.rules) self.now.key.room (hands seat.old) }
         ensures seat { IsSeatOf R.meaning self.now seat.new }
         ensures hands { hands seat.new ≡ filled (hands seat.old) }
     {

@@ -2,10 +2,11 @@
 ghost use Rattle.std.specs.Prelude.{◌≡◌, ℕ, ◌+◌, ◌-◌, ◌*◌, ◌/◌, ◌%◌, ◌^◌, ◌<◌};
 ghost use Rattle.board_rule.specs.Words.{next_word};
 ghost use Rattle.board_rule.specs.Waiters.{pushed};
-ghost use Rattle.board_rule.specs.May.{MayLink, MayPush, MayDrop};
+ghost use Rattle.board_rule.specs.May.{MayBegin, MaySee, MayLink, MayPush, MayDrop, MayWalk};
+ghost use Rattle.board_rule.specs.Plays.{BeginsAt, SeesHeadAt, PushesWait, DropsWaitOf, ReadsNextOf, ClearsBitOf};
 ghost use Rattle.board_rule.specs.Seats.{next_stored};
-ghost use Rattle.goal_board.specs.Seats.{IsInCall, hands};
-ghost use Rattle.goal_board.specs.Steps.{the_wait, CanBegin, CanSee, WalksFrom, BeginsAt, SeesHeadAt, PutsIn, DropsWaitOf, ReadsNextOf, ClearsBitOf};
+ghost use Rattle.goal_board.specs.Seats.{IsInCall, hands, the_wait};
+ghost use Rattle.goal_board.specs.RightCalls.{waiting_right};
 
 use crate::board::{Board, Seat};
 use crate::steps::{head_at, run_at};
@@ -48,7 +49,7 @@ impl<R: GoalRules> Board<R> {
     // Sets the bit of a right's next wait. Gives the run word as it was.
     pub(crate) fn begin_wait(&self, seat: &mut Seat<R>, place: u32, waits: u32) -> u64
         requires seat { IsInCall R.meaning self.now seat.old }
-        requires may { CanBegin self.now.key.room (hands seat.old) place waits }
+        requires may { MayBegin self.now.key.room (hands seat.old) (waiting_right place waits) }
         ensures seat { IsInCall R.meaning self.now seat.new }
         ensures told { BeginsAt R.meaning (hands seat.old) place result (hands seat.new) }
     {
@@ -60,9 +61,11 @@ impl<R: GoalRules> Board<R> {
     // Looks at a child's head, for the wait that is being put in.
     pub(crate) fn see_head(&self, seat: &mut Seat<R>, child: u32) -> u64
         requires seat { IsInCall R.meaning self.now seat.old }
-        requires may { CanSee (R.meaning self.now.key.rules) self.now.key.room (hands seat.old) child }
+        requires may { MaySee (R.meaning self.now.key.rules) self.now.key.room (hands seat.old)
+            (the_wait (hands seat.old)) child }
         ensures seat { IsInCall R.meaning self.now seat.new }
-        ensures told { SeesHeadAt R.meaning (hands seat.old) child result (hands seat.new) }
+        ensures told { SeesHeadAt R.meaning (hands seat.old) (the_wait (hands seat.old)) child
+            result (hands seat.new) }
     {
         self.table
             .shared
@@ -72,7 +75,7 @@ impl<R: GoalRules> Board<R> {
     // Stores the waiter's next word, for the child's head as last seen.
     pub(crate) fn store_next(&self, seat: &mut Seat<R>, waiter: u32, head: u64)
         requires seat { IsInCall R.meaning self.now seat.old }
-        requires may { MayLink (hands seat.old).pending (the_wait (hands seat.old)) head }
+        requires may { MayLink (hands seat.old) (the_wait (hands seat.old)) head }
         requires waiter { (the_wait (hands seat.old)).waiter ≡ waiter }
         requires near { waiter / 8 < self.now.key.room }
         ensures seat { IsInCall R.meaning self.now seat.new }
@@ -86,13 +89,14 @@ impl<R: GoalRules> Board<R> {
     // Puts the waiter first into the child's list, where the head is as last seen. Gives the head as it was.
     pub(crate) fn put_wait(&self, seat: &mut Seat<R>, waiter: u32, child: u32, head: u64) -> u64
         requires seat { IsInCall R.meaning self.now seat.old }
-        requires may { MayPush (hands seat.old).pending (the_wait (hands seat.old)) head }
+        requires may { MayPush self.now.key.room (hands seat.old) (the_wait (hands seat.old)) head }
         requires waiter { (the_wait (hands seat.old)).waiter ≡ waiter }
         requires child { (the_wait (hands seat.old)).child ≡ child }
         requires near { child < self.now.key.room }
         requires fits { pushed head waiter < 2 ^ 64 }
         ensures seat { IsInCall R.meaning self.now seat.new }
-        ensures told { PutsIn R.meaning (hands seat.old) child head result (hands seat.new) }
+        ensures told { PushesWait R.meaning (hands seat.old) (the_wait (hands seat.old)) head
+            result (hands seat.new) }
     {
         let new = ((head >> NAME_BITS) + 1) * (1 << NAME_BITS) + (waiter as u64 + 1);
         self.table
@@ -103,11 +107,12 @@ impl<R: GoalRules> Board<R> {
     // Clears the bit of the wait that was being put in, whose child is finished. Gives the run word before.
     pub(crate) fn drop_wait(&self, seat: &mut Seat<R>, waiter: u32) -> u64
         requires seat { IsInCall R.meaning self.now seat.old }
-        requires may { MayDrop (hands seat.old).pending (the_wait (hands seat.old)) }
+        requires may { MayDrop (hands seat.old) (the_wait (hands seat.old)) }
         requires waiter { (the_wait (hands seat.old)).waiter ≡ waiter }
         requires near { waiter / 8 < self.now.key.room }
         ensures seat { IsInCall R.meaning self.now seat.new }
-        ensures told { DropsWaitOf R.meaning (hands seat.old) waiter result (hands seat.new) }
+        ensures told { DropsWaitOf R.meaning (hands seat.old) (the_wait (hands seat.old))
+            result (hands seat.new) }
     {
         self.table
             .shared
@@ -117,7 +122,7 @@ impl<R: GoalRules> Board<R> {
     // Looks at the next word of the first waiter of the list that the seat walks.
     pub(crate) fn read_next(&self, seat: &mut Seat<R>, waiter: u32) -> u64
         requires seat { IsInCall R.meaning self.now seat.old }
-        requires first { WalksFrom (hands seat.old) waiter }
+        requires may { MayWalk (hands seat.old) waiter }
         requires near { waiter / 8 < self.now.key.room }
         ensures seat { IsInCall R.meaning self.now seat.new }
         ensures told { ReadsNextOf R.meaning (hands seat.old) waiter result (hands seat.new) }
@@ -130,7 +135,7 @@ impl<R: GoalRules> Board<R> {
     // Clears the bit of the first waiter of the list that the seat walks. Gives the run word as it was.
     pub(crate) fn clear_bit(&self, seat: &mut Seat<R>, waiter: u32) -> u64
         requires seat { IsInCall R.meaning self.now seat.old }
-        requires first { WalksFrom (hands seat.old) waiter }
+        requires may { MayWalk (hands seat.old) waiter }
         requires near { waiter / 8 < self.now.key.room }
         ensures seat { IsInCall R.meaning self.now seat.new }
         ensures told { ClearsBitOf R.meaning (hands seat.old) waiter result (hands seat.new) }

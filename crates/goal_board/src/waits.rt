@@ -1,7 +1,7 @@
 ghost use Rattle.std.specs.Prelude.{◌≡◌, ℕ, ◌<◌};
 ghost use Rattle.goal_board.specs.Seats.{IsSeatOf, hands};
-ghost use Rattle.goal_board.specs.RightCalls.{WaitsFor, waited};
-ghost use Rattle.goal_board.specs.SeatCalls.{HasRightTo, HasSeenChild};
+ghost use Rattle.goal_board.specs.RightCalls.{waited};
+ghost use Rattle.goal_board.specs.SeatCalls.{HasRightTo, HasSeenChild, SeatWaitsFor, SeatKeepsOthers};
 
 use crate::answers::Awaited;
 use crate::board::{Board, Right, Seat};
@@ -17,9 +17,10 @@ impl<R: GoalRules> Board<R> {
         requires child { HasSeenChild R.meaning self.now seat.old right.old.goal child_at }
         requires fewer { right.old.waits < 8 }
         ensures seat { IsSeatOf R.meaning self.now seat.new }
-        ensures answer { WaitsFor (hands seat.old) right.old.place child_at result (hands seat.new) }
+        ensures answer { SeatWaitsFor R.meaning self.now seat.old right.old.place child_at result seat.new }
         ensures right { right.new ≡ waited result right.old }
         ensures its { HasRightTo R.meaning self.now seat.new right.new }
+        ensures others { SeatKeepsOthers R.meaning self.now seat.old right.old.place seat.new }
     {
         let waiter = 8 * right.place + right.waits;
         self.begin_wait(seat, right.place, right.waits);

@@ -154,7 +154,7 @@ module _ {R : Type 0} (meaning : Meaning) (room : ℕ) where
       } in record {
         looks = looks_both u v w one (full_looks v false w f);
         root_open = (t.head, inr (inl (refl, refl)), t.not_closed);
-        ready = λ kept is free. t.ready kept is free goal shown.some_goal shown.stands shown.is_goal;
+        ready = λ kept is free. t.lone kept is free goal shown.some_goal shown.stands shown.is_goal;
       }
 
   -- a goal whose head was seen closed isn't found open

@@ -20,15 +20,35 @@ pub busy_later : (meaning : Meaning) (more looks : List (ℕ × ℕ)) (at : ℕ)
     → ShowsBusy meaning (more ++ looks) at
 busy_later meaning more looks at (inl (word, look, none)) =
     inl (word, looked_later more looks (cell_word at) word look, none)
-busy_later meaning more looks at (inr (value, look, taken)) =
-    inr (value, looked_later more looks (run_word at) value look, taken)
+busy_later meaning more looks at (inr t) = inr (record {
+  earlier = t.earlier ++ looks;
+  later = t.later;
+  split = ap (λ (l : List (ℕ × ℕ)). l ++ looks) t.split ∙ append_assoc t.later t.earlier looks;
+  goal = t.goal;
+  some_goal = t.some_goal;
+  is_goal = t.is_goal;
+  stands = looked_later t.earlier looks (cell_word at) t.goal t.stands;
+  run = t.run;
+  taken = t.taken;
+  found = t.found;
+})
 
 pub busy_earlier : (meaning : Meaning) (more looks : List (ℕ × ℕ)) (at : ℕ) → ShowsBusy meaning looks at
     → ShowsBusy meaning (more ++ looks) at
 busy_earlier meaning more looks at (inl (word, look, none)) =
     inl (word, looked_earlier more looks (cell_word at) word look, none)
-busy_earlier meaning more looks at (inr (value, look, taken)) =
-    inr (value, looked_earlier more looks (run_word at) value look, taken)
+busy_earlier meaning more looks at (inr t) = inr (record {
+  earlier = t.earlier;
+  later = more ++ t.later;
+  split = ap (λ (l : List (ℕ × ℕ)). more ++ l) t.split ∙ sym (append_assoc more t.later t.earlier);
+  goal = t.goal;
+  some_goal = t.some_goal;
+  is_goal = t.is_goal;
+  stands = t.stands;
+  run = t.run;
+  taken = t.taken;
+  found = looked_earlier more t.later (run_word at) t.run t.found;
+})
 
 -- so for a head and the full word
 pub open_earlier : (more looks : List (ℕ × ℕ)) (at : ℕ) → ShowsOpen looks at → ShowsOpen (more ++ looks) at

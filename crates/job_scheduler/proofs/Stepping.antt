@@ -8,8 +8,9 @@ use Rattle.board_rule.specs.Looks.{Looked}
 use Rattle.board_rule.specs.Seats.{fresh_right, changed}
 use Rattle.board_rule.specs.declared.hands.Hands.{Hands}
 use Rattle.goal_board.specs.declared.board.Right.{Right}
-use Rattle.goal_board.specs.Calls.{IsReadyIn}
+use Rattle.goal_board.specs.Alone.{IsReadyIn}
 use Rattle.goal_board.specs.RightCalls.{ShowsBusy}
+use Rattle.goal_board.proofs.Seen.{looked_later}
 use Rattle.board_moves.specs.Counts.{empty_count, open_count, Advances, AdvancesAlone, finishes, fills, waits}
 use Rattle.board_moves.specs.Counts.{has_ready}
 use Rattle.board_moves.proofs.CountLemmas.{number_at_most, CountsClaim, claim_counts}
@@ -52,8 +53,11 @@ busy_unready meaning room kept looks at agrees (inl (word, look, none)) ready =
     let is : slice_index kept (cell_word at) ≡ word = agrees (cell_word at) word look in
     ⊎_elim (λ (e : word ≡ 0). ready.some_goal (is ∙ e))
     (λ (e : meaning.goal word ≡ false). true≢false (sym ready.is_goal ∙ (ap meaning.goal is ∙ e))) none
-busy_unready meaning room kept looks at agrees (inr (value, look, taken)) ready =
-    taken (sym (agrees (run_word at) value look) ∙ ready.ready)
+busy_unready meaning room kept looks at agrees (inr t) ready =
+    let look : Looked looks (run_word at) t.run =
+    subst (λ (l : List (ℕ × ℕ)). Looked l (run_word at) t.run) (sym t.split)
+    (looked_later t.later t.earlier (run_word at) t.run t.found) in
+    t.taken (sym (agrees (run_word at) t.run look) ∙ ready.ready)
 
 module _ {R : Type 0} where
   -- what came of a turn, by the same number
@@ -115,7 +119,7 @@ module _ {R : Type 0} (meaning : Meaning) (room : ℕ) where
         let run_is : slice_index kept (run_word right.place) ≡ 0 =
         c.looks.alone kept middle_is (run_word right.place) 0 (inl (refl, refl)) in (
           ap (λ (h : Hands R). h.alone) c.hands_are ∙ ap (changed (run_word right.place) 256) middle_is,
-          claim_counts meaning room right.place kept c.its.near (c.all kept middle_is)
+          claim_counts meaning room right.place kept c.its.near (c.lone kept middle_is)
               (λ e. c.its.some_goal (sym cell_is ∙ e)) (subst (λ g. meaning.goal g ≡ true) (sym cell_is) c.its.is_goal)
               run_is,
         )

@@ -7,7 +7,8 @@ use Rattle.board_rule.specs.declared.hands.Hands.{Hands}
 use Rattle.goal_board.specs.declared.board.Board.{Board}
 use Rattle.goal_board.specs.declared.board.Right.{Right}
 use Rattle.goal_board.specs.Seats.{hands}
-use Rattle.goal_board.specs.Calls.{IsReadyIn, LeavesOut}
+use Rattle.goal_board.specs.Alone.{IsReadyIn}
+use Rattle.goal_board.specs.Calls.{LeavesOut}
 use Rattle.goal_board.specs.RightCalls.{ShowsBusy, ClaimsGoal}
 use Rattle.job_scheduler.specs.Workers.{OnlyLooked}
 use Rattle.job_scheduler.specs.declared.sought.Sought.{Sought}

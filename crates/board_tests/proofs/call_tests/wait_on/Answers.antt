@@ -29,13 +29,13 @@ pub returns-clause-only : goal.returns-clause-only
 returns-clause-only g c =
     subst (λ (r : Right). HasOnly (hands c.wait_for.new.seat).rights r.place) (sym c.wait_for.ensures.right)
     (subst (HasOnly (hands c.wait_for.new.seat).rights) (sym (place_waited c.wait_for.result c.args.right.now))
-    (only_waited (hands c.word_at.new.seat) c.args.right.now.place c.args.at c.wait_for.result
+    (only_waited c.args.board.now.key.room (hands c.word_at.new.seat) c.args.right.now.place c.args.at c.wait_for.result
     (hands c.wait_for.new.seat) c.wait_for.ensures.answer
     (subst (λ (h : Hands _). HasOnly h.rights c.args.right.now.place) (sym c.in-Some.ensures.answer.hands_are)
     c.requires.only)))
 
 pub returns-clause-parts : goal.returns-clause-parts
 returns-clause-parts g c =
-    parts_waited (hands c.word_at.new.seat) c.args.right.now.place c.args.at c.wait_for.result
+    parts_waited c.args.board.now.key.room (hands c.word_at.new.seat) c.args.right.now.place c.args.at c.wait_for.result
     (hands c.wait_for.new.seat) c.wait_for.ensures.answer
     ∙ ap (λ (h : Hands _). h.parts) c.in-Some.ensures.answer.hands_are

@@ -1,5 +1,5 @@
 -- The answer words of a goal whose head was found closed.
-use Rattle.goal_board.proofs.AnswerFindings.{finds_open, reads_answer}
+use Rattle.goal_board.proofs.AnswerFindings.{finds_open, seen_closed, reads_answer}
 use Rattle.goal_board.proofs.Told.{looks_at}
 use Rattle.goal_board.proofs.board.Board.answer.Goals as goal
 
@@ -11,6 +11,11 @@ returns-then-look-lt-CLOSED-clause-answer g c =
     (g.R.GoalRules.rank_of rules) (laws.ranks_fall rules)
     c.requires.near c.requires.seat.over c.requires.seat.free (looks_at c.head_at.ensures c.look.ensures.told)
     c.if-look-lt-CLOSED.true
+
+pub returns-then-look-lt-CLOSED-clause-shown : goal.returns-then-look-lt-CLOSED-clause-shown
+returns-then-look-lt-CLOSED-clause-shown g c shows =
+    absurd (seen_closed c.args.at c.requires.seat.over (looks_at c.head_at.ensures c.look.ensures.told)
+    c.if-look-lt-CLOSED.true shows)
 
 pub returns-clause-answer : goal.returns-clause-answer
 returns-clause-answer g c =

@@ -1,11 +1,9 @@
 -- A seat clears the bit of the wait that it was putting in.
 use Rattle.std.proofs.Common.{◌-◌, ◌/◌, ◌%◌, ◌^◌, sym, refl, ap, ◌∙◌, arith}
 use Rattle.board_rule.specs.Words.{run_word}
-use Rattle.goal_board.specs.Seats.{hands}
-use Rattle.goal_board.specs.Steps.{the_wait}
+use Rattle.goal_board.specs.Seats.{hands, the_wait}
 use Rattle.board_rule.proofs.Clearing.{drop_allowed}
 use Rattle.goal_board.proofs.Overs.{all_changed}
-use Rattle.goal_board.proofs.Told.{leaves}
 use Rattle.goal_board.proofs.Seated.{still_awake, in_call_beside}
 use Rattle.goal_board.proofs.board.Board.drop_wait.Goals as goal
 
@@ -21,13 +19,12 @@ fetch_and-requires g c =
 
 pub invariant_of-seat : goal.invariant_of-seat
 invariant_of-seat g c =
-    let after = still_awake c.args.seat.now (c.fetch_and.ensures.2 (the_wait (hands c.args.seat.now))
-    c.requires.may.is).hands_are c.args.seat.now.awake in
+    let told = c.fetch_and.ensures.2 (the_wait (hands c.args.seat.now)) c.requires.may.is in
+    let after = still_awake c.args.seat.now told.slots told.hands.hands_are c.args.seat.now.awake in
     record { bare = after.bare; awake = after.awake }
 
 pub returns-clause-told : goal.returns-clause-told
-returns-clause-told g c = leaves c.run_at.ensures
-    (c.fetch_and.ensures.2 (the_wait (hands c.args.seat.now)) c.requires.may.is)
+returns-clause-told g c = (c.fetch_and.ensures.2 (the_wait (hands c.args.seat.now)) c.requires.may.is).hands
 
 pub returns-clause-seat : goal.returns-clause-seat
 returns-clause-seat g c =

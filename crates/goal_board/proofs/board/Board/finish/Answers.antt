@@ -11,6 +11,7 @@ use Rattle.board_rule.specs.Waiters.{head_of}
 use Rattle.goal_board.specs.RightCalls.{finishes, Wakes}
 use Rattle.goal_board.proofs.Finishing.{held_fresh, with_first, with_second, cost_among, node_among, who_among}
 use Rattle.goal_board.proofs.Finishing.{has_right, left_over, once_held, open_before}
+use Rattle.goal_board.proofs.OthersKept.{finish_keeps}
 use Rattle.goal_board.proofs.board.Board.finish.Goals as goal
 
 pub store_cost-requires-clause-may : goal.store_cost-requires-clause-may
@@ -52,8 +53,8 @@ close_head-head-requires-clause-may g c κs within =
     (c.args.worker + 1) =
     c.store_who.ensures.hands ∙ ap (λ (h : Hands _). who_stored h p (c.args.worker + 1)) (c.store_node.ensures.hands
     ∙ ap (λ (h : Hands _). node_stored h p a.node) c.store_cost.ensures.hands) in
-    subst (λ (h : Hands _). MayClose (g.R.GoalRules.meaning c.args.self.now.key.rules) c.args.self.now.key.room h.looks
-    h.rights p c.args.worker a.cost a.node) (sym stored) (record {
+    subst (λ (h : Hands _). MayClose (g.R.GoalRules.meaning c.args.self.now.key.rules) c.args.self.now.key.room h p
+    c.args.worker a.cost a.node) (sym stored) (record {
       near = r.near;
       stored = who_among (with_node p a.node (with_cost p a.cost v.rights)) p c.args.worker a.cost a.node
           (node_among (with_cost p a.cost v.rights) p a.cost a.node
@@ -65,6 +66,8 @@ close_head-head-requires-clause-may g c κs within =
       few = c.requires.worker;
       promise = c.requires.promise;
       answer = c.requires.answer;
+      free = c.requires.seat.free.no_wait;
+      walked = c.requires.seat.free.no_walk;
     })
 
 pub wake-requires-clause-no_wait : goal.wake-requires-clause-no_wait
@@ -114,8 +117,11 @@ returns-clause-answer g c =
       waiters = told.waiters;
       wakes = subst (λ (h : Hands _). Wakes c.args.self.now.key.room h c.wake.result (hands c.wake.new.seat)) is
           c.wake.ensures.answer;
-      was_open = open_before g.R.GoalRules.meaning c.args.self.now.key.rules c.args.self.now.key.room v
+      lone = open_before g.R.GoalRules.meaning c.args.self.now.key.rules c.args.self.now.key.room v
           (hands c.store_who.new.seat) p c.args.worker a.cost a.node c.close_head-head.result
           c.store_who.ensures.seat.over stored told.leaves.moment c.requires.right.near
           (held_fresh v.rights p c.args.right.waits c.requires.waits c.requires.right.held);
     }
+
+pub returns-clause-others : goal.returns-clause-others
+returns-clause-others g c = finish_keeps (returns-clause-answer g c)

@@ -1,18 +1,17 @@
 -- A goal that a look found in the cell is claimed.
 use Rattle.std.proofs.Common.{refl, ◌∙◌, arith}
 use Rattle.board_rule.specs.Words.{run_word}
+use Rattle.board_rule.specs.May.{MayClaim}
 use Rattle.goal_board.specs.Seats.{hands}
-use Rattle.goal_board.specs.Steps.{CanClaim}
 use Rattle.board_rule.proofs.Claiming.{claim_allowed}
 use Rattle.goal_board.proofs.Overs.{over_beside, all_changed}
-use Rattle.goal_board.proofs.Told.{tries}
 use Rattle.goal_board.proofs.Seated.{lawful, awake_either_way, seat_tried}
 use Rattle.goal_board.proofs.board.Board.hold.Goals as goal
 
 pub compare_exchange-requires : goal.compare_exchange-requires
 compare_exchange-requires g c =
     let b = c.args.self.now in
-    let may = lawful b (λ rules room. CanClaim (g.R.GoalRules.meaning rules) room (hands c.args.seat.now) c.args.place)
+    let may = lawful b (λ rules room. MayClaim (g.R.GoalRules.meaning rules) room (hands c.args.seat.now) c.args.place)
     c.requires.may in (
       c.requires.seat.same_table,
       (let at = c.run_at.ensures in let near = c.requires.may.near in let sized = b.sized.0 in omega arith),
@@ -23,11 +22,11 @@ pub invariant_of-seat : goal.invariant_of-seat
 invariant_of-seat g c =
     let s = c.args.seat.now in
     let told = c.compare_exchange.ensures.2 c.args.place c.run_at.ensures in
-    let after = awake_either_way s told.hit told.miss s.awake s.awake in
+    let after = awake_either_way s told.slots told.hands.hit told.hands.miss s.awake s.awake in
     record { bare = after.bare; awake = after.awake }
 
 pub returns-clause-told : goal.returns-clause-told
-returns-clause-told g c = tries c.run_at.ensures (c.compare_exchange.ensures.2 c.args.place c.run_at.ensures)
+returns-clause-told g c = (c.compare_exchange.ensures.2 c.args.place c.run_at.ensures).hands
 
 pub returns-clause-seat : goal.returns-clause-seat
 returns-clause-seat g c =

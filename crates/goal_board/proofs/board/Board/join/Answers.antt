@@ -23,8 +23,11 @@ join_seat-requires g c =
       (let sized = b.sized.0 in omega arith),
       subst (λ (k : Key _). Joins (Holds meaning k.rules k.room) s.id s.me.0 o.id o.me.0 (joined s.me.0 o.me.0) spent)
           (sym b.keyed)
-          (join_allowed meaning b.key.rules b.key.room s.id o.id s.me.0 o.me.0 c.args.seat.now.awake c.requires.rights
-          c.requires.seats.1.free.no_wait c.requires.seats.1.free.no_walk),
+          (join_allowed meaning b.key.rules b.key.room s.id o.id s.me.0 o.me.0 c.args.seat.now.awake (record {
+            no_right = c.requires.rights;
+            free = c.requires.seats.1.free.no_wait;
+            walked = c.requires.seats.1.free.no_walk;
+          })),
     )
 
 pub returns-clause-seat : goal.returns-clause-seat

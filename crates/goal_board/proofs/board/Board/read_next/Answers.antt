@@ -1,7 +1,6 @@
 -- A seat that walks a list looks at the next word of its first waiter.
 use Rattle.std.proofs.Common.{refl, ◌∙◌, arith}
 use Rattle.board_rule.proofs.WaitLooks.{read_allowed}
-use Rattle.goal_board.proofs.Told.{leaves}
 use Rattle.goal_board.proofs.Seated.{still_awake, in_call_beside}
 use Rattle.goal_board.proofs.board.Board.read_next.Goals as goal
 
@@ -10,17 +9,17 @@ load-requires g c =
     let b = c.args.self.now in (
       c.requires.seat.same_table,
       (let at = c.next_at.ensures in let near = c.requires.near in let sized = b.sized.0 in omega arith),
-      read_allowed g.R.GoalRules.meaning _ _ _ _ _ _ _ _ c.next_at.ensures c.args.seat.now.awake c.requires.first.1,
+      read_allowed g.R.GoalRules.meaning _ _ _ _ _ _ _ c.next_at.ensures c.args.seat.now.awake c.requires.may,
     )
 
 pub invariant_of-seat : goal.invariant_of-seat
 invariant_of-seat g c =
-    let after = still_awake c.args.seat.now (c.load.ensures.2 c.args.waiter c.next_at.ensures).hands_are
-    c.args.seat.now.awake in
+    let told = c.load.ensures.2 c.args.waiter c.next_at.ensures in
+    let after = still_awake c.args.seat.now told.slots told.hands.hands_are c.args.seat.now.awake in
     record { bare = after.bare; awake = after.awake }
 
 pub returns-clause-told : goal.returns-clause-told
-returns-clause-told g c = leaves c.next_at.ensures (c.load.ensures.2 c.args.waiter c.next_at.ensures)
+returns-clause-told g c = (c.load.ensures.2 c.args.waiter c.next_at.ensures).hands
 
 pub returns-clause-seat : goal.returns-clause-seat
 returns-clause-seat g c =

@@ -1,6 +1,5 @@
 -- The holder of a goal's right stores its cost.
-use Rattle.std.proofs.Common.{ap, ◌∙◌, arith}
-use Rattle.board_rule.specs.Plays.{Sat}
+use Rattle.std.proofs.Common.{◌∙◌, arith}
 use Rattle.board_rule.proofs.Answering.{store_cost_allowed}
 use Rattle.goal_board.proofs.Seated.{lawful_right, still_awake, seat_stored}
 use Rattle.goal_board.proofs.board.Board.store_cost.Goals as goal
@@ -16,11 +15,12 @@ store-requires g c =
 
 pub invariant_of-seat : goal.invariant_of-seat
 invariant_of-seat g c =
-    let after = still_awake c.args.seat.now (c.store.ensures.2 c.args.place c.cost_at.ensures) c.args.seat.now.awake in
+    let told = c.store.ensures.2 c.args.place c.cost_at.ensures in
+    let after = still_awake c.args.seat.now told.slots told.hands c.args.seat.now.awake in
     record { bare = after.bare; awake = after.awake }
 
 pub returns-clause-hands : goal.returns-clause-hands
-returns-clause-hands g c = ap (λ (m : Sat _). m.0) (c.store.ensures.2 c.args.place c.cost_at.ensures)
+returns-clause-hands g c = (c.store.ensures.2 c.args.place c.cost_at.ensures).hands
 
 pub returns-clause-seat : goal.returns-clause-seat
 returns-clause-seat g c = seat_stored (c.store.ensures.0 ∙ c.requires.seat.same_table) _ _ (returns-clause-hands g c)

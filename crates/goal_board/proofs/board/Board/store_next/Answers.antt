@@ -1,9 +1,7 @@
 -- A seat that puts a wait in stores its waiter's next word.
 use Rattle.std.proofs.Common.{sym, refl, ap, ◌∙◌, arith}
 use Rattle.board_rule.specs.Words.{next_word}
-use Rattle.board_rule.specs.Plays.{Sat}
-use Rattle.goal_board.specs.Seats.{hands}
-use Rattle.goal_board.specs.Steps.{the_wait}
+use Rattle.goal_board.specs.Seats.{hands, the_wait}
 use Rattle.board_rule.proofs.Linking.{link_allowed}
 use Rattle.goal_board.proofs.Overs.{all_changed}
 use Rattle.goal_board.proofs.Seated.{still_awake, in_call_same}
@@ -20,13 +18,13 @@ store-requires g c =
 
 pub invariant_of-seat : goal.invariant_of-seat
 invariant_of-seat g c =
-    let after = still_awake c.args.seat.now (c.store.ensures.2 (the_wait (hands c.args.seat.now)) c.args.head
-    c.requires.may.is c.requires.may.seen) c.args.seat.now.awake in
+    let told = c.store.ensures.2 (the_wait (hands c.args.seat.now)) c.args.head c.requires.may.is c.requires.may.seen in
+    let after = still_awake c.args.seat.now told.slots told.hands c.args.seat.now.awake in
     record { bare = after.bare; awake = after.awake }
 
 pub returns-clause-hands : goal.returns-clause-hands
-returns-clause-hands g c = ap (λ (m : Sat _). m.0)
-    (c.store.ensures.2 (the_wait (hands c.args.seat.now)) c.args.head c.requires.may.is c.requires.may.seen)
+returns-clause-hands g c = (c.store.ensures.2 (the_wait (hands c.args.seat.now)) c.args.head c.requires.may.is
+    c.requires.may.seen).hands
 
 pub returns-clause-seat : goal.returns-clause-seat
 returns-clause-seat g c = in_call_same (c.store.ensures.0 ∙ c.requires.seat.same_table) (returns-clause-hands g c) refl

@@ -9,15 +9,15 @@ use Rattle.board_rule.specs.Seats.{waits_at, wait_begun, next_stored, wait_put, 
 use Rattle.board_rule.specs.Plays.{Moment}
 use Rattle.board_rule.specs.declared.hands.Hands.{Hands}
 use Rattle.goal_board.specs.declared.board.Right.{Right}
-use Rattle.goal_board.specs.Seats.{hands}
+use Rattle.goal_board.specs.Seats.{hands, the_wait}
 use Rattle.goal_board.specs.RightCalls.{waiting_right, IsRightOf}
-use Rattle.goal_board.specs.Steps.{the_wait}
 use Rattle.goal_board.proofs.Finishing.{has_right}
-use Rattle.goal_board.proofs.Seen.{looked_later}
-use Rattle.goal_board.proofs.Putting.{its_waits, head_later, nearer, right_registered}
+use Rattle.goal_board.proofs.OthersKept.{register_keeps, finished_keeps}
+use Rattle.goal_board.proofs.Told.{push_at, dropped_at}
+use Rattle.goal_board.proofs.Putting.{its_waits, linked_child, nearer, right_registered}
 use Rattle.goal_board.proofs.Putting.{right_kept}
 use Rattle.goal_board.proofs.Registering.{registers, finds_finished}
-use Rattle.goal_board.proofs.WaitTurns.{putting_begins, putting_goes_on}
+use Rattle.goal_board.proofs.WaitTurns.{putting_begins, found_later, putting_goes_on}
 use Rattle.goal_board.proofs.board.Board.wait_for.Goals as goal
 
 pub begin_wait-requires-clause-may : goal.begin_wait-requires-clause-may
@@ -42,8 +42,7 @@ see_head-head-requires-clause-may g c κs within =
     c.args.right.now.waits c.requires.seat.over told.moment r.near r.held in
     let few : waits_at place v.rights < 8 = subst (λ n. n < 8) (sym waits) c.requires.fewer in
     let at : (8 * place + waits_at place v.rights) / 8 ≡ place = omega arith in
-    subst (λ (h : Hands _). MaySee (g.R.GoalRules.meaning b.key.rules) b.key.room h.looks h.pending (the_wait h)
-    c.args.child_at) (sym told.hands_are) (record {
+    subst (λ (h : Hands _). MaySee (g.R.GoalRules.meaning b.key.rules) b.key.room h (the_wait h) c.args.child_at) (sym told.hands_are) (record {
       is = refl;
       near = c.requires.near;
       goal = c.args.right.now.goal;
@@ -79,7 +78,7 @@ loop-head-init g c =
 pub store_next-requires-clause-may : goal.store_next-requires-clause-may
 store_next-requires-clause-may g c κs within =
     let p = c.loop-head.invariant.putting in
-    subst (λ (h : Hands _). MayLink h.pending (the_wait h) c.loop-head.head) (sym p.hands_are)
+    subst (λ (h : Hands _). MayLink h (the_wait h) c.loop-head.head) (sym p.hands_are)
     (record { is = refl; seen = refl; was_open = c.loop-head-test.true })
 
 pub store_next-requires-clause-waiter : goal.store_next-requires-clause-waiter
@@ -89,10 +88,10 @@ store_next-requires-clause-waiter g c κs within =
 pub put_wait-found-requires-clause-may : goal.put_wait-found-requires-clause-may
 put_wait-found-requires-clause-may g c κs within =
     let p = c.loop-head.invariant.putting in
-    subst (λ (h : Hands _). MayPush h.pending (the_wait h) c.loop-head.head)
+    subst (λ (h : Hands _). MayPush c.args.self.now.key.room h (the_wait h) c.loop-head.head)
     (sym (c.store_next.ensures.hands ∙ ap (λ (h : Hands _). next_stored h (the_wait h) c.loop-head.head)
     p.hands_are))
-    (record { is = refl; seen = refl; linked = refl })
+    (record { is = refl; seen = refl; linked = refl; small = c.args.self.now.sized.3 })
 
 pub put_wait-found-requires-clause-waiter : goal.put_wait-found-requires-clause-waiter
 put_wait-found-requires-clause-waiter g c κs within =
@@ -115,15 +114,17 @@ put_wait-found-requires-clause-fits g c κs within =
 pub loop-head-preserved : goal.loop-head-preserved
 loop-head-preserved g c =
     let b = c.args.self.now in
-    let told = c.put_wait-found.ensures.told in
+    let child = linked_child c.loop-head.invariant.putting c.store_next.ensures.hands in
+    let told = push_at child c.put_wait-found.ensures.told in
     record {
       right = c.loop-head.invariant.right;
       seat = c.put_wait-found.ensures.seat;
       putting = putting_goes_on g.R.GoalRules.meaning b.key.rules b.key.room (hands c.args.seat.now)
           (hands c.loop-head.seat) (hands c.store_next.new.seat) (hands c.put_wait-found.new.seat)
           (8 * c.args.right.now.place + c.args.right.now.waits) c.args.child_at c.loop-head.head
-          c.put_wait-found.result b.sized.3 c.requires.near c.store_next.ensures.seat.over told.moment
-          c.loop-head.invariant.putting c.store_next.ensures.hands (told.miss c.if-found-head.false);
+          c.put_wait-found.result b.sized.3 c.requires.near c.loop-head-test.true c.if-found-head.false
+          c.store_next.ensures.seat.over told.1 c.loop-head.invariant.putting c.store_next.ensures.hands
+          (told.0 c.if-found-head.false);
     }
 
 pub loop-head-smaller : goal.loop-head-smaller
@@ -131,16 +132,12 @@ loop-head-smaller g c =
     let b = c.args.self.now in
     let v = hands c.args.seat.now in
     let p = c.loop-head.invariant.putting in
-    let linked = c.store_next.ensures.hands ∙ ap (λ (h : Hands _). next_stored h (the_wait h) c.loop-head.head)
-    p.hands_are in
-    let saw : Looked (hands c.store_next.new.seat).looks (head_word c.args.child_at) c.loop-head.head =
-    subst (λ (h : Hands _). Looked h.looks (head_word c.args.child_at) c.loop-head.head) (sym linked)
-    (looked_later p.more v.looks (head_word c.args.child_at) c.loop-head.head p.saw) in
+    let told = push_at (linked_child p c.store_next.ensures.hands) c.put_wait-found.ensures.told in
     nearer b.key.room c.loop-head.head c.put_wait-found.result b.sized.3 c.loop-head-test.true
     (p.bound c.loop-head-test.true)
-    (head_later g.R.GoalRules.meaning b.key.rules b.key.room (hands c.store_next.new.seat) c.args.child_at
-    c.loop-head.head c.put_wait-found.result c.store_next.ensures.seat.over c.put_wait-found.ensures.told.moment
-    saw)
+    (found_later g.R.GoalRules.meaning b.key.rules b.key.room v (hands c.loop-head.seat)
+    (hands c.store_next.new.seat) (8 * c.args.right.now.place + c.args.right.now.waits) c.args.child_at c.loop-head.head
+    c.put_wait-found.result c.store_next.ensures.seat.over told.1 p c.store_next.ensures.hands)
     c.if-found-head.false
 
 pub returns-then-found-head-clause-seat : goal.returns-then-found-head-clause-seat
@@ -167,6 +164,7 @@ returns-then-found-head-clause-answer g c =
     let place : ℕ = c.args.right.now.place in
     let waits : ℕ = c.args.right.now.waits in
     let told = c.put_wait-found.ensures.told in
+    let moment = (push_at (linked_child c.loop-head.invariant.putting c.store_next.ensures.hands) told).1 in
     let its = its_waits g.R.GoalRules.meaning b.key.rules b.key.room v (run_word place) c.begin_wait.result place waits
     c.requires.seat.over c.begin_wait.ensures.told.moment r.near r.held in
     registers g.R.GoalRules.meaning b.key.rules b.key.room v (hands c.loop-head.seat) (hands c.store_next.new.seat)
@@ -174,13 +172,13 @@ returns-then-found-head-clause-answer g c =
     b.sized.3 r.near c.requires.fewer its c.requires.seat.free.no_wait c.loop-head.invariant.putting
     c.store_next.ensures.hands c.store_next.ensures.seat.over
     (subst (Moment g.R.GoalRules.meaning (hands c.store_next.new.seat) (head_word c.args.child_at)) c.if-found-head.true
-    told.moment)
+    moment)
     c.requires.near c.loop-head-test.true (told.hit c.if-found-head.true)
 
 pub drop_wait-requires-clause-may : goal.drop_wait-requires-clause-may
 drop_wait-requires-clause-may g c κs within =
     let p = c.loop-head.invariant.putting in
-    subst (λ (h : Hands _). MayDrop h.pending (the_wait h)) (sym p.hands_are)
+    subst (λ (h : Hands _). MayDrop h (the_wait h)) (sym p.hands_are)
     (record { is = refl; head = c.loop-head.head; seen = refl; closed = c.loop-head-test.false })
 
 pub drop_wait-requires-clause-waiter : goal.drop_wait-requires-clause-waiter
@@ -213,7 +211,9 @@ returns-clause-answer g c =
     r.near c.requires.fewer c.requires.seat.free.no_wait r.held
     (has_right b.key.room v.rights (waiting_right place waits) r.near r.held)
     c.requires.seat.over c.begin_wait.ensures.told.moment c.loop-head.invariant.putting c.loop-head-test.false
-    c.loop-head.invariant.seat.over c.drop_wait.ensures.told
+    c.loop-head.invariant.seat.over
+    (dropped_at (the_wait (hands c.loop-head.seat)) (ap (λ (h : Hands _). (the_wait h).waiter) c.loop-head.invariant.putting.hands_are)
+    c.drop_wait.ensures.told)
 
 pub returns-then-found-head-clause-right : goal.returns-then-found-head-clause-right
 returns-then-found-head-clause-right g c =
@@ -242,3 +242,9 @@ returns-clause-its g c =
     subst (λ (r : Right). IsRightOf meaning b.key.room w r) (sym c.loop-head.invariant.right)
     (right_kept meaning b.key.room (hands c.args.seat.now) w c.args.right.now a.words a.more a.hands_are
     c.requires.right)
+
+pub returns-then-found-head-clause-others : goal.returns-then-found-head-clause-others
+returns-then-found-head-clause-others g c = register_keeps (returns-then-found-head-clause-answer g c)
+
+pub returns-clause-others : goal.returns-clause-others
+returns-clause-others g c = finished_keeps (returns-clause-answer g c)

@@ -20,15 +20,20 @@ loop-name-init g c =
       hints = c.requires.hints;
     }
 
-pub read_next-name-requires-clause-first : goal.read_next-name-requires-clause-first
-read_next-name-requires-clause-first g c κs within =
-    named_first (hands c.loop-name.seat).walk.waiters c.loop-name.name c.loop-name.invariant.named c.loop-name-test.true
-
-pub clear_bit-requires-clause-first : goal.clear_bit-requires-clause-first
-clear_bit-requires-clause-first g c κs within =
+pub read_next-name-requires-clause-may : goal.read_next-name-requires-clause-may
+read_next-name-requires-clause-may g c κs within =
     let first = named_first (hands c.loop-name.seat).walk.waiters c.loop-name.name c.loop-name.invariant.named
     c.loop-name-test.true in
-    (first.0, ap (λ (h : Hands _). h.walk.waiters) c.read_next-name.ensures.told.hands_are ∙ first.1)
+    record { others = first.0; first = first.1 }
+
+pub clear_bit-requires-clause-may : goal.clear_bit-requires-clause-may
+clear_bit-requires-clause-may g c κs within =
+    let first = named_first (hands c.loop-name.seat).walk.waiters c.loop-name.name c.loop-name.invariant.named
+    c.loop-name-test.true in
+    record {
+      others = first.0;
+      first = ap (λ (h : Hands _). h.walk.waiters) c.read_next-name.ensures.told.hands_are ∙ first.1;
+    }
 
 pub loop-name-preserved-then-clear_bit-bit_of : goal.loop-name-preserved-then-clear_bit-bit_of
 loop-name-preserved-then-clear_bit-bit_of g c =
