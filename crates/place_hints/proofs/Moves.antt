@@ -1,12 +1,12 @@
 -- Each move on a deque keeps the rule of hints.
-use Rattle.std.proofs.Common.{◌≡◌, ◌≢◌, ◌⊎◌, ℕ, zero, suc, ◌+◌, ◌<◌, List, [], ◌∷◌, ◌++◌, All, length, sym, refl, ◌∙◌}
-use Rattle.std.proofs.Common.{subst, ⊎_elim, inl, inr, arith}
+use Rattle.std.proofs.Common.{◌≡◌, ℕ, zero, suc, ◌+◌, ◌<◌, List, [], ◌∷◌, ◌++◌, All, length, sym, refl}
+use Rattle.std.proofs.Common.{subst, arith}
 use mathlib.Core.Option.{some, some-injective, some-ne-none}
 use lib.ListN.{get_elem?}
 use lib.Seq.{take-append_seam, drop-append_seam}
 use Rattle.std.proofs.lemmas.List.Elements.{All-append, All-take, All-drop}
-use Rattle.crossbeam_deque.specs.Tasks.{Pushes, Takes, Pops, Forks}
-use Rattle.crossbeam_deque.proofs.Lists.{at_set, at_snoc, set_again}
+use Rattle.crossbeam_deque.specs.Tasks.{Pushes, Takes, Pops, Admits}
+use Rattle.crossbeam_deque.proofs.Lists.{set_again}
 use Rattle.place_hints.specs.Hinted.{capacity_of, AreHinted, MovesBelow}
 
 abbrev AreBelow : ℕ → List ℕ → Type 0
@@ -34,19 +34,10 @@ below_both : (capacity : ℕ) (xs ys : List ℕ) → AreBelow capacity xs → Ar
     → AreBelow capacity (xs ++ ys)
 below_both capacity xs ys = All-append (λ place. place < capacity) xs ys
 
--- who knows a capacity knows the owner's
-known_capacity : (places views : List ℕ) (port view : ℕ) → 0 < view → AreHinted places views
-    → get_elem? views port ≡ some view → view ≡ capacity_of views
-known_capacity places views port view some_view h at =
-    ⊎_elim (λ (e : view ≡ 0). absurd (omega arith)) (λ (e : view ≡ capacity_of views). e) (h.known port view at)
-
--- an empty deque, whose owner knows no capacity yet
-pub starts : AreHinted [] (0 ∷ [])
-starts = record { below = λ k d near. absurd (omega arith); known = known }
-  where
-    known : (port view : ℕ) → get_elem? (0 ∷ []) port ≡ some view → (view ≡ 0) ⊎ (view ≡ 0)
-    known zero view at = inl (sym (some-injective 0 view at))
-    known (suc port) view at = absurd (some-ne-none view (sym at))
+-- the owner's view is the capacity
+owner_knows : (views : List ℕ) (view : ℕ) → get_elem? views 0 ≡ some view → capacity_of views ≡ view
+owner_knows [] view at = absurd (some-ne-none view (sym at))
+owner_knows (first ∷ views) view at = some-injective first view at
 
 -- the owner's first place tells the capacity, as none stood there before
 opens_first : (place : ℕ) → Pushes AreHinted 0 0 (place ∷ []) (λ view. view ≡ place + 1)
@@ -55,16 +46,9 @@ opens_first place items (first ∷ views) h at =
     let unknown : first ≡ 0 = some-injective first 0 at in
     let last : place < place + 1 = omega arith in (
       place + 1,
-      record {
-        below = below_both (place + 1) items (place ∷ [])
-            (none_below items (subst (λ c. AreBelow c items) unknown h.below) (place + 1))
-            (below_one (place + 1) place last);
-        known = λ port view there. ⊎_elim
-            (λ (t : (port ≡ 0) × (place + 1 ≡ view)). inr (sym t.1))
-            (λ (t : (port ≢ 0) × (get_elem? (first ∷ views) port ≡ some view)).
-            inl (⊎_elim (λ (e : view ≡ 0). e) (λ (e : view ≡ first). e ∙ unknown) (h.known port view t.1)))
-            (at_set (first ∷ views) 0 port (place + 1) view there);
-      },
+      below_both (place + 1) items (place ∷ [])
+          (none_below items (subst (λ c. AreBelow c items) unknown h) (place + 1))
+          (below_one (place + 1) place last),
       refl,
     )
 
@@ -74,61 +58,61 @@ opens port view place is_first is_none =
     subst (λ p. Pushes AreHinted p view (place ∷ []) (λ after. after ≡ place + 1)) (sym is_first)
     (subst (λ v. Pushes AreHinted 0 v (place ∷ []) (λ after. after ≡ place + 1)) (sym is_none) (opens_first place))
 
--- a place below the capacity comes
-pub gives : (port view place : ℕ) → place < view
-    → Pushes AreHinted port view (place ∷ []) (MovesBelow view (place ∷ []))
-gives port view place lt items views h at =
-    let same = set_again views port view at in
-    let is : view ≡ capacity_of views = known_capacity items views port view (omega arith) h at in (
+-- a place below the capacity comes, by the owner
+gives_first : (view place : ℕ) → place < view → Pushes AreHinted 0 view (place ∷ []) (MovesBelow view (place ∷ []))
+gives_first view place lt items views h at =
+    let is = owner_knows views view at in (
       view,
-      subst (AreHinted (items ++ place ∷ [])) (sym same) (record {
-        below = below_both (capacity_of views) items (place ∷ []) h.below
-            (below_one (capacity_of views) place (subst (λ c. place < c) is lt));
-        known = h.known;
-      }),
+      subst (AreHinted (items ++ place ∷ [])) (sym (set_again views 0 view at))
+          (below_both (capacity_of views) items (place ∷ []) h
+          (below_one (capacity_of views) place (subst (λ c. place < c) (sym is) lt))),
       record { stays = refl; below = below_one view place lt },
     )
 
--- a place goes, by anyone who knows the capacity: the oldest
-pub takes : (port view : ℕ) → 0 < view → Takes AreHinted port view 1 (MovesBelow view)
-takes port view some_view xs items views _ _ h at =
-    let same = set_again views port view at in
-    let is : view ≡ capacity_of views = known_capacity (xs ++ items) views port view some_view h at in (
-      view,
-      subst (AreHinted items) (sym same) (record {
-        below = below_right (capacity_of views) xs items h.below;
-        known = h.known;
-      }),
-      record {
-        stays = refl;
-        below = subst (λ c. AreBelow c xs) (sym is) (below_left (capacity_of views) xs items h.below);
-      },
-    )
+pub gives : (port view place : ℕ) → port ≡ 0 → place < view
+    → Pushes AreHinted port view (place ∷ []) (MovesBelow view (place ∷ []))
+gives port view place is_first lt =
+    subst (λ p. Pushes AreHinted p view (place ∷ []) (MovesBelow view (place ∷ []))) (sym is_first)
+    (gives_first view place lt)
+
+-- the oldest goes, by the owner
+takes_first : (view : ℕ) → Takes AreHinted 0 view 1 (MovesBelow view)
+takes_first view xs items views _ _ h at = (
+  view,
+  subst (AreHinted items) (sym (set_again views 0 view at)) (below_right (capacity_of views) xs items h),
+  record {
+    stays = refl;
+    below = subst (λ c. AreBelow c xs) (owner_knows views view at) (below_left (capacity_of views) xs items h);
+  },
+)
+
+pub takes : (port view : ℕ) → port ≡ 0 → Takes AreHinted port view 1 (MovesBelow view)
+takes port view is_first = subst (λ p. Takes AreHinted p view 1 (MovesBelow view)) (sym is_first) (takes_first view)
 
 -- and the newest
-pub pops : (port view : ℕ) → 0 < view → Pops AreHinted port view (MovesBelow view)
-pops port view some_view x items views h at =
-    let same = set_again views port view at in
-    let is : view ≡ capacity_of views = known_capacity (items ++ x ∷ []) views port view some_view h at in (
-      view,
-      subst (AreHinted items) (sym same) (record {
-        below = below_left (capacity_of views) items (x ∷ []) h.below;
-        known = h.known;
-      }),
-      record {
-        stays = refl;
-        below = subst (λ c. AreBelow c (x ∷ [])) (sym is) (below_right (capacity_of views) items (x ∷ []) h.below);
-      },
-    )
+pops_first : (view : ℕ) → Pops AreHinted 0 view (MovesBelow view)
+pops_first view x items views h at = (
+  view,
+  subst (AreHinted items) (sym (set_again views 0 view at)) (below_left (capacity_of views) items (x ∷ []) h),
+  record {
+    stays = refl;
+    below = subst (λ c. AreBelow c (x ∷ [])) (owner_knows views view at)
+        (below_right (capacity_of views) items (x ∷ []) h);
+  },
+)
 
--- another pass knows what the first one does
-pub forks : (port view : ℕ) → Forks AreHinted port view view view
-forks port view items [] h at = absurd (some-ne-none view (sym at))
-forks port view items (first ∷ views) h at =
-    subst (λ vs. AreHinted items (vs ++ view ∷ [])) (sym (set_again (first ∷ views) port view at)) (record {
-      below = h.below;
-      known = λ other there_view there. ⊎_elim
-          (λ (t : get_elem? (first ∷ views) other ≡ some there_view). h.known other there_view t)
-          (λ (e : view ≡ there_view). subst (λ v. (v ≡ 0) ⊎ (v ≡ first)) e (h.known port view at))
-          (at_snoc (first ∷ views) view there_view other there);
-    })
+pub pops : (port view : ℕ) → port ≡ 0 → Pops AreHinted port view (MovesBelow view)
+pops port view is_first = subst (λ p. Pops AreHinted p view (MovesBelow view)) (sym is_first) (pops_first view)
+
+-- the oldest goes, by anyone, who learns nothing of the capacity
+pub leaves : (port view : ℕ) → Takes AreHinted port view 1 (λ places after. after ≡ view)
+leaves port view xs items views _ _ h at = (
+  view,
+  subst (AreHinted items) (sym (set_again views port view at)) (below_right (capacity_of views) xs items h),
+  refl,
+)
+
+-- whoever comes to steal knows nothing, and what the owner knows stays
+pub admits : Admits AreHinted 0
+admits items [] h = h
+admits items (first ∷ views) h = h

@@ -1,18 +1,14 @@
-ghost use Rattle.std.specs.Prelude.{◌≡◌, ℕ, ◌<◌, All, IfOk, IfSome};
-ghost use Rattle.crossbeam_deque.specs.Handles.{worker_deque, worker_port, worker_view, SameWorker};
-ghost use Rattle.place_hints.specs.Passes.{Fits};
+ghost use Rattle.std.specs.Prelude.{◌≡◌, ℕ, ◌<◌, IfOk, IfSome};
+ghost use Rattle.crossbeam_deque.specs.Handles.{worker_port, worker_view};
 
-use crate::rule::{Alike, BelowCapacity, Moves, Opens};
+use crate::rule::{BelowCapacity, Moves, Opens};
 use crate::source::Source;
-use crossbeam_deque::{Pass, Worker};
+use crossbeam_deque::Worker;
 use std::alloc::{AllocError, Global};
 use std::marker::Model;
 
 /// How many places a deque has room for before it takes more memory.
 const FIRST_SLOTS: usize = 64;
-
-/// How many more workers can steal from a deque than the one that is told of it.
-const SPARE_PASSES: u32 = 63;
 
 type Owner = Worker<u32, Global, u64, BelowCapacity>;
 
@@ -27,7 +23,7 @@ impl Model for Deque {
 
     ghost view = { λ d. worker_view d.worker };
 
-    ghost invariant = { λ d. (worker_port d.worker ≡ 0) × (0 < worker_view d.worker) };
+    ghost invariant = { λ d. worker_port d.worker ≡ 0 };
 }
 
 impl Deque {
@@ -64,26 +60,10 @@ impl Deque {
     }
 
     /// What another worker steals by.
-    pub fn source(&mut self, alloc: Global) -> Result<Source, AllocError>
-        ensures source { IfOk result (λ source. source ≡ self.old) }
-        ensures same { self.new ≡ self.old }
+    pub fn source(&self, capacity: u32) -> Result<Source, AllocError>
+        requires { capacity ≡ self.now }
+        ensures { IfOk result (λ source. source ≡ capacity) }
     {
-        let stealer = self.worker.stealer()?;
-        let pass = self.worker.another::<Alike>();
-        let spare = passes_of(alloc, &mut self.worker)?;
-        Ok(Source::of(stealer, pass, spare))
+        Ok(Source::of(self.worker.stealer()?, capacity))
     }
-}
-
-// Passes for others that steal from a deque.
-fn passes_of(alloc: Global, owner: &mut Owner) -> Result<Vec<Pass<u32, u64>>, AllocError>
-    ensures passes { IfOk result (λ passes.
-        All (Fits (worker_deque owner.old) (worker_view owner.old)) passes.items) }
-    ensures same { SameWorker owner.old owner.new × (worker_view owner.new ≡ worker_view owner.old) }
-{
-    let mut passes = Vec::new(alloc);
-    for _number in 0..SPARE_PASSES {
-        passes.push(owner.another::<Alike>())?;
-    }
-    Ok(passes)
 }

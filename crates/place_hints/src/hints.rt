@@ -55,18 +55,17 @@ impl PlaceHints {
         self.others.steal(other)
     }
 
-    /// The hints of another worker, who has none of its own yet. It can steal from this one, and from those that this
-    /// one can steal from, while there are passes for more. This one can steal from it. After `Err` this one can steal
-    /// as before.
+    /// The hints of another worker, who has none of its own yet. It can steal from this one, and from all that this one
+    /// can steal from. This one can steal from it. After `Err` this one can steal as before.
     pub fn split(&mut self, alloc: Global) -> Result<PlaceHints, AllocError>
         ensures other { IfOk result (λ hints. hints ≡ self.old) }
         ensures same { self.new ≡ self.old }
     {
-        let mut other = PlaceHints::new(alloc, self.others.capacity())?;
-        let back = other.own.source(alloc)?;
-        other.others.add(self.own.source(alloc)?)?;
-        self.others.share(alloc, &mut other.others)?;
-        self.others.add(back)?;
+        let capacity = self.others.capacity();
+        let mut other = PlaceHints::new(alloc, capacity)?;
+        other.others.add(self.own.source(capacity)?)?;
+        self.others.share(&mut other.others)?;
+        self.others.add(other.own.source(capacity)?)?;
         Ok(other)
     }
 }

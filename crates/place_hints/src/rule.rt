@@ -2,9 +2,10 @@
 ghost use Rattle.std.specs.Prelude.{◌≡◌, ℕ, ◌+◌, slice_index};
 ghost use Rattle.place_hints.specs.Hinted.{AreHinted, MovesBelow};
 
-use crossbeam_deque::protocol::{Outcome, Protocol, Split};
+use crossbeam_deque::protocol::{Outcome, Protocol};
 
-/// Each place in a deque is below the capacity that its owner knows. A view is that capacity.
+/// Each place in a deque is below the capacity that its owner knows. The owner's view is that capacity; whoever steals
+/// knows none, and has the view 0.
 pub struct BelowCapacity;
 
 impl Protocol<u32, u64> for BelowCapacity {
@@ -22,18 +23,16 @@ impl Outcome<u32, u64> for Opens {
     ghost then = { λ _ places after. after ≡ slice_index places 0 + 1 };
 }
 
-/// Places come or go.
+/// Places come or go by the owner.
 pub struct Moves;
 
 impl Outcome<u32, u64> for Moves {
     ghost then = { MovesBelow };
 }
 
-/// Another pass, which knows the same.
-pub struct Alike;
+/// Places go by others, who are told nothing of the capacity.
+pub struct Leaves;
 
-impl Split<u64> for Alike {
-    ghost left = { λ view. view };
-
-    ghost right = { λ view. view };
+impl Outcome<u32, u64> for Leaves {
+    ghost then = { λ view _ after. after ≡ view };
 }

@@ -1,8 +1,7 @@
-ghost use Rattle.std.specs.Prelude.{◌≡◌, ℕ, ◌<◌, All, IfOk, IfSome};
-ghost use Rattle.crossbeam_deque.specs.Handles.{stealer_deque};
-ghost use Rattle.place_hints.specs.Passes.{capacity_known, Fits};
+ghost use Rattle.std.specs.Prelude.{◌≡◌, ℕ, ◌<◌, IfOk, IfSome};
+ghost use Rattle.crossbeam_deque.specs.Handles.{stealer_deque, IsPassOf};
 
-use crate::rule::{BelowCapacity, Moves};
+use crate::rule::{BelowCapacity, Leaves};
 use crossbeam_deque::{Pass, Stealer};
 use std::alloc::{AllocError, Global};
 use std::marker::Model;
@@ -12,35 +11,27 @@ use std::marker::Model;
 pub struct Source {
     stealer: Stealer<u32, Global, u64, BelowCapacity>,
     pass: Pass<u32, u64>,
-    // For those who come to steal from the same deque. Passes have no bytes.
-    spare: Vec<Pass<u32, u64>>,
+    capacity: u32,
 }
 
 impl Model for Source {
     ghost Value = { ℕ };
 
-    ghost view = { λ s. capacity_known s.pass };
+    ghost view = { λ s. s.capacity };
 
-    ghost invariant = { λ s. (0 < capacity_known s.pass)
-        × Fits (stealer_deque s.stealer) (capacity_known s.pass) s.pass
-        × All (Fits (stealer_deque s.stealer) (capacity_known s.pass)) s.spare.items };
+    ghost invariant = { λ s. IsPassOf (stealer_deque s.stealer) s.pass };
 }
 
 impl Source {
-    pub fn of(
-        stealer: Stealer<u32, Global, u64, BelowCapacity>,
-        pass: Pass<u32, u64>,
-        spare: Vec<Pass<u32, u64>>,
-    ) -> Source
-        requires some_capacity { 0 < capacity_known pass }
-        requires pass { Fits (stealer_deque stealer) (capacity_known pass) pass }
-        requires spare { All (Fits (stealer_deque stealer) (capacity_known pass)) spare.items }
-        ensures { result ≡ capacity_known pass }
+    /// The deque of this stealer.
+    pub fn of(stealer: Stealer<u32, Global, u64, BelowCapacity>, capacity: u32) -> Source
+        ensures { result ≡ capacity }
     {
+        let pass = stealer.pass();
         Source {
             stealer,
             pass,
-            spare,
+            capacity,
         }
     }
 
@@ -49,18 +40,17 @@ impl Source {
         ensures below { IfSome result (λ place. place < self.old) }
         ensures same { self.new ≡ self.old }
     {
-        self.stealer.steal_as::<Moves>(&mut self.pass).success()
+        // The owner of the deque knows that its places are below the capacity. Whoever steals looks.
+        match self.stealer.steal_as::<Leaves>(&mut self.pass).success() {
+            Some(place) if place < self.capacity => Some(place),
+            _ => None,
+        }
     }
 
-    /// The same deque for another worker, while there are passes for more.
-    pub fn again(&mut self, alloc: Global) -> Result<Option<Source>, AllocError>
-        ensures again { IfOk result (λ source. IfSome source (λ s. s ≡ self.old)) }
-        ensures same { self.new ≡ self.old }
+    /// The same deque for another worker.
+    pub fn again(&self) -> Result<Source, AllocError>
+        ensures { IfOk result (λ source. source ≡ self.now) }
     {
-        let Some(pass) = self.spare.pop() else {
-            return Ok(None);
-        };
-        let stealer = self.stealer.clone()?;
-        Ok(Some(Source::of(stealer, pass, Vec::new(alloc))))
+        Ok(Source::of(self.stealer.clone()?, self.capacity))
     }
 }

@@ -58,16 +58,13 @@ impl Sources {
         Ok(())
     }
 
-    /// Adds these to those of another worker, as far as there are passes for more.
-    pub fn share(&mut self, alloc: Global, others: &mut Sources) -> Result<(), AllocError>
-        requires { others.old ≡ self.old }
-        ensures these { self.new ≡ self.old }
-        ensures others { others.new ≡ others.old }
+    /// Adds these to those of another worker.
+    pub fn share(&self, others: &mut Sources) -> Result<(), AllocError>
+        requires { others.old ≡ self.now }
+        ensures { others.new ≡ others.old }
     {
-        for source in self.list.iter_mut() {
-            if let Some(again) = source.again(alloc)? {
-                others.add(again)?;
-            }
+        for source in self.list.iter() {
+            others.add(source.again()?)?;
         }
         Ok(())
     }

@@ -1,5 +1,5 @@
-use Rattle.place_hints.proofs.Moves.{takes}
+use Rattle.place_hints.proofs.Moves.{leaves}
 use Rattle.place_hints.proofs.source.Source.steal.Goals as goal
 
 pub steal_as-requires-clause-takes : goal.steal_as-requires-clause-takes
-steal_as-requires-clause-takes c = takes _ _ c.self.invariant.0
+steal_as-requires-clause-takes c = leaves _ _
