@@ -23,10 +23,10 @@ import re
 import subprocess
 import sys
 
-NODE = re.compile(r"(?P<indent> *)(?P<name>\S.*) rows=(?P<rows>\d+) cost=(?P<cost>\d+)")
+from printed_plan import NotAPlan, read_plan, section
+
 GROUP = re.compile(r"group (?P<name>.*) rows=(?P<rows>\d+)")
 MEMBER = re.compile(r"  (?P<operator>\w+)\((?P<inside>.*)\)")
-HEADS = {"cost ": "plan", "memo groups=": "memo", "trace goals=": "trace", "by-worker": "by-worker"}
 
 # how far rows go in a motion
 MOTIONS = {
@@ -43,18 +43,6 @@ COLORS = {
     "Exp": "#dbe9f6", "ExpE": "#eef5fb", "Xf": "#f3f3f3", "Imp": "#dff0d8", "ImpE": "#f1f8ee",
     "Opt": "#fde5c8", "OptE": "#fef4e6",
 }
-
-
-def section(text, wanted):
-    """The lines of a section of the program's text."""
-    lines, current = [], None
-    for line in text.splitlines():
-        current = next((name for head, name in HEADS.items() if line.startswith(head)), current)
-        if current == wanted:
-            lines.append(line)
-    if not lines:
-        sys.exit(f"picture.py: there is no {wanted} in the text")
-    return lines
 
 
 def quoted(text):
@@ -86,24 +74,22 @@ def graph(title, body, *settings):
 
 
 def plan_graph(lines):
-    total = int(lines[0].split()[1])
+    plan = read_plan("\n".join(lines))
     body, above = [], []
-    for number, line in enumerate(lines[2:]):
-        node = NODE.fullmatch(line)
-        depth, name, rows, cost = len(node["indent"]) // 2, node["name"], int(node["rows"]), int(node["cost"])
-        motion = MOTIONS.get(name.split("(")[0])
-        body.append(plan_node(number, name, rows, cost, total, motion))
+    for number, (depth, node) in enumerate(plan.root.walk()):
+        motion = MOTIONS.get(node.operator)
+        body.append(plan_node(number, node, plan.cost, motion))
         del above[depth:]
         if above:
-            body.append(plan_edge(*above[-1], number, rows))
+            body.append(plan_edge(*above[-1], number, node.rows))
         above.append((number, motion))
-    return graph(f"cost {total:,}\n{lines[1]}", body, "graph [ordering=out ranksep=0.35]")
+    return graph(f"cost {plan.cost:,}\noutput {plan.output}", body, "graph [ordering=out ranksep=0.35]")
 
 
-def plan_node(number, name, rows, cost, total, motion):
-    saturation = 0.75 * math.sqrt(cost / total)
+def plan_node(number, node, total, motion):
+    saturation = 0.75 * math.sqrt(node.cost / total)
     shape = 'style="filled,rounded" color="#b02020"' if motion else 'color="#606060"'
-    label = f"<b>{html.escape(name)}</b><br/>{counted(rows)}<br/>cost {cost:,}"
+    label = f"<b>{html.escape(node.name)}</b><br/>{counted(node.rows)}<br/>cost {node.cost:,}"
     return f'n{number} [label=<{label}> fillcolor="0.08 {saturation:.3f} 1.000" {shape}]'
 
 
@@ -199,7 +185,13 @@ def main():
     options.add_argument("what", choices=graphs)
     options.add_argument("--svg", metavar="FILE", help="have dot draw it into this file")
     asked = options.parse_args()
-    made = graphs[asked.what](section(sys.stdin.read(), asked.what))
+    lines = section(sys.stdin.read(), asked.what)
+    if not lines:
+        sys.exit(f"tools/picture.py: there is no {asked.what} in the text")
+    try:
+        made = graphs[asked.what](lines)
+    except NotAPlan as fault:
+        sys.exit(f"tools/picture.py: {fault}")
     if asked.svg:
         try:
             subprocess.run(["dot", "-Tsvg", "-o", asked.svg], input=made, text=True, check=True)
