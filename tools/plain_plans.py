@@ -63,6 +63,7 @@ class Query:
     tables    each with name, rows, columns (name and ndv), hashed (names, or None) and indexes (lists of names);
               where it is another one's under an alias, of is that one's name
     preds     (column, comparison, column or None for a literal); a column is (table, name)
+    literals  for each predicate its literal, a number or a text, or None; where they aren't told, each is 5
     output    (what, output name or None), where what is a column or (function, column or None for a star)
     order     (column or output name, whether it descends)
     group_by  columns
@@ -70,8 +71,9 @@ class Query:
     off       rules that are off
     """
 
-    def __init__(self, segments, tables, preds, output, order=(), group_by=(), root=ONE, off=()):
+    def __init__(self, segments, tables, preds, output, order=(), group_by=(), root=ONE, off=(), literals=None):
         self.segments, self.tables, self.preds = segments, tables, list(preds)
+        self.literals = literals or [5 if right is None else None for _, _, right in preds]
         self.output, self.order, self.group_by = list(output), list(order), list(group_by)
         self.root, self.off = root, set(off)
         self.aggs = [(what, name) for what, name in self.output if isinstance(what[0], str)]
@@ -79,7 +81,7 @@ class Query:
         self.number_items()
         self.find_links()
         self.number_lists_and_orders()
-        self.find_members()
+        self.found = None
 
     # ---- numbers
 
@@ -255,12 +257,14 @@ class Query:
             return Member("Select", 0, (key - 16,))
         return Member("NJoin", 0, ())
 
+    def is_sought(self, number, t, index):
+        """Whether the index finds the rows of a predicate, which compares its first column with a literal."""
+        left, op, right = self.conditions[number]
+        return right is None and op in ("=", "<", "<=", ">", ">=") and 2 * left == self.indexes[t][index][0]
+
     def is_usable(self, t, index):
         """Whether the index may be sought by a predicate of the table with a literal."""
-        return any(
-            right is None and op in ("=", "<", "<=", ">", ">=") and 2 * left == self.indexes[t][index][0]
-            for left, op, right in self.conditions
-        )
+        return any(self.is_sought(number, t, index) for number in range(len(self.conditions)))
 
     def rule_results(self, key, member):
         """Each rule with each of its results for the member."""
@@ -301,8 +305,15 @@ class Query:
         elif op == "Partial":
             yield "PartialToHash", Member("PartialAgg", 0, children)
 
+    @property
+    def members(self):
+        """The members of each group; they are found when they are first asked for."""
+        if self.found is None:
+            self.find_members()
+        return self.found
+
     def find_members(self):
-        self.members = {self.root_key(): {self.origin(self.root_key())}}
+        self.found = {self.root_key(): {self.origin(self.root_key())}}
         grows = True
         while grows:
             grows = False
@@ -416,14 +427,22 @@ class Query:
     def output_text(self):
         return ", ".join(self.what_text(what) + (f" AS {name}" if name else "") for what, name in self.output)
 
+    def pred_text(self, number):
+        """A predicate as it is written in SQL."""
+        left, comparison, right = self.preds[number]
+        literal = self.literals[number]
+        if right is not None:
+            value = self.column_text(right)
+        else:
+            value = "'" + literal.replace("'", "''") + "'" if isinstance(literal, str) else str(literal)
+        return f"{self.column_text(left)} {comparison} {value}"
+
     def sql(self):
         tables = [f"{table['of']} AS {table['name']}" if "of" in table else table["name"] for table in self.tables]
         text = f"SELECT {self.output_text()} FROM " + ", ".join(tables)
         column = self.column_text
         if self.preds:
-            text += " WHERE " + " AND ".join(
-                f"{column(left)} {op} {5 if right is None else column(right)}" for left, op, right in self.preds
-            )
+            text += " WHERE " + " AND ".join(map(self.pred_text, range(len(self.preds))))
         if self.group_by:
             text += " GROUP BY " + ", ".join(map(column, self.group_by))
         if self.order:

@@ -1,6 +1,7 @@
 """Reads a catalogue and a query as the plain program takes them (plain_plans.py), written on its own.
 
-It reads well-formed files and finds no faults: a query that is none is an error of Python's, or another query.
+It goes by the grammar of docs/FORMATS.md, and is for queries that the program takes: of a fault it says that there is
+one, and no more of where it is than the next token.
 """
 
 import json
@@ -8,28 +9,140 @@ import re
 
 from plain_plans import ONE, Query
 
-CLAUSES = re.compile(
-    r"\s*SELECT\s(?P<output>.*?)\sFROM\s(?P<tables>.*?)"
-    r"(?:\sWHERE\s(?P<preds>.*?))?(?:\sGROUP\s+BY\s(?P<group_by>.*?))?(?:\sORDER\s+BY\s(?P<order>.*?))?\s*;?\s*",
-    re.IGNORECASE | re.DOTALL,
+KEYWORDS = ["SELECT", "FROM", "WHERE", "AND", "GROUP", "BY", "ORDER", "ASC", "DESC", "AS"]
+FUNCTIONS = ["COUNT", "SUM", "MIN", "MAX"]
+COMPARISONS = ["=", "<>", "!=", "<", "<=", ">", ">="]
+SPACE = re.compile(r"(?:\s|--[^\n]*)*")
+TOKEN = re.compile(
+    r"(?P<name>[A-Za-z_]\w*)|(?P<integer>-?\d+)|(?P<string>'(?:[^']|'')*')|(?P<sign><>|!=|<=|>=|[<>=(),.*;])", re.ASCII
 )
-AGGREGATE = re.compile(r"(COUNT|SUM|MIN|MAX)\s*\(\s*(.*?)\s*\)", re.IGNORECASE)
-COMPARISON = re.compile(r"\s*(\S+?)\s*(<>|!=|<=|>=|=|<|>)\s*(.*\S)\s*", re.DOTALL)
 
 
-def parts_of(text, separator=","):
-    """The parts between separators, none where the clause is absent."""
-    return [] if text is None else [part.strip() for part in re.split(separator, text, flags=re.IGNORECASE)]
+class NotAQuery(Exception):
+    """A catalogue or a query that can't be read; the message says why."""
 
 
-def table_under_alias(known, text):
-    name, *alias = [word for word in text.split() if word.upper() != "AS"]
-    return {**known[name], "name": alias[0], "of": name} if alias else known[name]
+class Tokens:
+    """The tokens of a text, taken from the front. Keywords are in capitals, and of a kind of their own."""
+
+    def __init__(self, text):
+        self.tokens, self.at = [], 0
+        place = SPACE.match(text).end()
+        while place < len(text):
+            token = TOKEN.match(text, place)
+            if token is None:
+                raise NotAQuery(f"no token begins at byte {place}")
+            kind, word = token.lastgroup, token[0]
+            if kind == "name" and word.upper() in KEYWORDS:
+                kind, word = "keyword", word.upper()
+            self.tokens.append((kind, word))
+            place = SPACE.match(text, token.end()).end()
+        self.tokens.append(("end", "the end"))
+
+    def next(self):
+        """The kind and the word of the next token."""
+        return self.tokens[self.at]
+
+    def take(self, kind):
+        """The next token, which has to be of this kind."""
+        found, word = self.next()
+        if found != kind:
+            raise NotAQuery(f"{word} stands where {kind} is expected")
+        self.at += 1
+        return word
+
+    def take_if(self, word):
+        """Takes the next token where it is this keyword or sign."""
+        kind, found = self.next()
+        if kind not in ("keyword", "sign") or found != word:
+            return False
+        self.at += 1
+        return True
+
+    def need(self, *words):
+        for word in words:
+            if not self.take_if(word):
+                raise NotAQuery(f"{self.next()[1]} stands where {word} is expected")
+
+    def list(self, element, separator=","):
+        """One or more elements."""
+        elements = [element()]
+        while self.take_if(separator):
+            elements.append(element())
+        return elements
 
 
-def read_query(catalog_text, sql_text, root=ONE, off=()):
-    catalog = json.loads(catalog_text)
-    known = {
+class Select:
+    """A query as it is written: names are not looked up. A column is its alias, or None, and its name."""
+
+    def __init__(self, text):
+        self.tokens = tokens = Tokens(text)
+        tokens.need("SELECT")
+        self.output = tokens.list(self.item)
+        tokens.need("FROM")
+        self.tables = tokens.list(self.table)
+        self.preds = tokens.list(self.pred, "AND") if tokens.take_if("WHERE") else []
+        self.group_by = self.clause("GROUP", self.column)
+        self.order = self.clause("ORDER", self.key)
+        tokens.take_if(";")
+        tokens.take("end")
+
+    def clause(self, word, element):
+        """What stands in a clause of this word and BY, nothing where there is none."""
+        if not self.tokens.take_if(word):
+            return []
+        self.tokens.need("BY")
+        return self.tokens.list(element)
+
+    def column(self):
+        name = self.tokens.take("name")
+        return (name, self.tokens.take("name")) if self.tokens.take_if(".") else (None, name)
+
+    def item(self):
+        """What is put out, and its output name or None; an aggregate is its function, and its column or None."""
+        what = self.aggregate() or ("column", self.column())
+        return what, self.tokens.take("name") if self.tokens.take_if("AS") else None
+
+    def aggregate(self):
+        function = self.tokens.next()[1].upper()
+        if function not in FUNCTIONS or self.tokens.tokens[self.tokens.at + 1] != ("sign", "("):
+            return None
+        self.tokens.take("name")
+        self.tokens.need("(")
+        column = None if function == "COUNT" and self.tokens.take_if("*") else self.column()
+        self.tokens.need(")")
+        return function, column
+
+    def table(self):
+        """A table's name, and its alias."""
+        name = self.tokens.take("name")
+        has_alias = self.tokens.take_if("AS") or self.tokens.next()[0] == "name"
+        return name, self.tokens.take("name") if has_alias else name
+
+    def pred(self):
+        """The left column, the comparison, the right column or None for a literal, and the literal."""
+        left, comparison = self.column(), self.tokens.take("sign")
+        if comparison not in COMPARISONS:
+            raise NotAQuery(f"{comparison} stands where a comparison is expected")
+        kind, word = self.tokens.next()
+        if kind == "name":
+            return left, comparison, self.column(), None
+        if kind not in ("integer", "string"):
+            raise NotAQuery(f"{word} stands where a column or a literal is expected")
+        self.tokens.take(kind)
+        return left, comparison, None, int(word) if kind == "integer" else word[1:-1].replace("''", "'")
+
+    def key(self):
+        """A column, and whether it descends."""
+        column, descends = self.column(), self.tokens.take_if("DESC")
+        if not descends:
+            self.tokens.take_if("ASC")
+        return column, descends
+
+
+def tables_of_catalog(catalog):
+    """The tables of a catalogue by their names."""
+    return {
         table["name"]: {
             "name": table["name"],
             "rows": table["rows"],
@@ -39,40 +152,64 @@ def read_query(catalog_text, sql_text, root=ONE, off=()):
         }
         for table in catalog["tables"]
     }
-    clauses = CLAUSES.fullmatch(re.sub("--[^\n]*", "", sql_text))
-    tables = [table_under_alias(known, part) for part in parts_of(clauses["tables"])]
 
-    def column(text):
+
+def read_catalog(text):
+    """The number of segments, and the tables by their names."""
+    try:
+        catalog = json.loads(text)
+        return catalog["segments"], tables_of_catalog(catalog)
+    except ValueError as fault:
+        raise NotAQuery(f"the catalogue isn't JSON: {fault}") from fault
+    except (KeyError, TypeError) as fault:
+        raise NotAQuery(f"the catalogue has no part, or one of another kind, at {fault}") from fault
+
+
+def read_query(catalog_text, sql_text, root=ONE, off=()):
+    segments, known = read_catalog(catalog_text)
+    select = Select(sql_text)
+
+    def table(name, alias):
+        if name not in known:
+            raise NotAQuery(f"the catalogue has no table {name}")
+        return {**known[name], "name": alias, "of": name} if alias != name else known[name]
+
+    tables = [table(*written) for written in select.tables]
+
+    def column(alias, name):
         """The column's table and name."""
-        if "." in text:
-            alias, name = text.split(".")
-            return next(t for t, table in enumerate(tables) if table["name"] == alias), name
-        (t,) = [t for t, table in enumerate(tables) if text in dict(table["columns"])]
-        return t, text
+        found = [
+            t
+            for t, table in enumerate(tables)
+            if alias in (None, table["name"]) and name in dict(table["columns"])
+        ]
+        if len(found) != 1:
+            raise NotAQuery(f"{'no table has' if not found else 'several tables have'} the column {name}")
+        return found[0], name
 
-    def result(text):
-        """What is put out, and its output name."""
-        what, *name = re.split(r"\s+AS\s+", text, flags=re.IGNORECASE)
-        aggregate = AGGREGATE.fullmatch(what)
-        name = name[0] if name else None
-        if aggregate is None:
-            return column(what), name
-        return (aggregate[1].upper(), None if aggregate[2] == "*" else column(aggregate[2])), name
+    def what(function, argument):
+        if function == "column":
+            return column(*argument)
+        return function, None if argument is None else column(*argument)
 
-    def pred(text):
-        left, comparison, right = COMPARISON.fullmatch(text).groups()
-        is_literal = re.fullmatch(r"-?\d+|'.*'", right) is not None
-        return column(left), comparison.replace("!=", "<>"), None if is_literal else column(right)
-
-    output = [result(part) for part in parts_of(clauses["output"])]
+    output = [(what(*written), name) for written, name in select.output]
     names = {name for _, name in output}
 
-    def key(text):
-        """A key of the order, and whether it descends."""
-        words = text.split()
-        return words[0] if words[0] in names else column(words[0]), words[-1].upper() == "DESC"
+    def key(alias, name):
+        return name if alias is None and name in names else column(alias, name)
 
-    preds = [pred(part) for part in parts_of(clauses["preds"], r"\sAND\s")]
-    order = [key(part) for part in parts_of(clauses["order"])]
-    group_by = [column(part) for part in parts_of(clauses["group_by"])]
-    return Query(catalog["segments"], tables, preds, output, order, group_by, root, off)
+    preds = [
+        (column(*left), comparison.replace("!=", "<>"), None if right is None else column(*right))
+        for left, comparison, right, _ in select.preds
+    ]
+    return Query(
+        segments,
+        tables,
+        preds,
+        output,
+        order=[(key(*written), descends) for written, descends in select.order],
+        group_by=[column(*written) for written in select.group_by],
+        root=root,
+        off=off,
+        literals=[literal for *_, literal in select.preds],
+    )
