@@ -4,7 +4,7 @@ ghost use Rattle.board_tests.specs.Numbers.{HasOnly};
 ghost use Rattle.board_tests.specs.Idle.{IsIdleAt, HasLooked};
 ghost use Rattle.goal_board.specs.Seats.{IsSeatOf, hands};
 ghost use Rattle.goal_board.specs.Calls.{Inserts};
-ghost use Rattle.goal_board.specs.RightCalls.{IsRightOf};
+ghost use Rattle.goal_board.specs.RightCalls.{IsRightOf, waited};
 ghost use Rattle.goal_board.specs.SeatCalls.{HasSeenPromise};
 
 use crate::Numbers;
@@ -123,6 +123,7 @@ fn wait_on<R: GoalRules>(
     ensures seat { IsSeatOf R.meaning board.now seat.new }
     ensures right { IsRightOf (R.meaning board.now.key.rules) board.now.key.room (hands seat.new) right.new }
     ensures only { HasOnly (hands seat.new).rights right.new.place }
+    ensures waited { right.new ≡ waited result right.old }
     ensures parts { (hands seat.new).parts ≡ (hands seat.old).parts }
 {
     let Some(word) = board.word_at(seat, at) else {
@@ -169,15 +170,15 @@ fn finish_one<R: GoalRules>(
     board.finish(seat, right, worker, answer, &mut deaf)
 }
 
-// Whether the goal is open.
-fn is_open<R: GoalRules>(board: &Board<R>, seat: &mut Seat<R>, at: u32) -> bool
+// The answer of the goal at a place, if it is finished.
+fn answer_at<R: GoalRules>(board: &Board<R>, seat: &mut Seat<R>, at: u32) -> Option<Answer>
     requires seat { IsSeatOf R.meaning board.now seat.old }
     requires near { at < board.now.key.room }
     ensures seat { IsSeatOf R.meaning board.now seat.new }
     ensures rights { (hands seat.new).rights ≡ (hands seat.old).rights }
     ensures parts { (hands seat.new).parts ≡ (hands seat.old).parts }
 {
-    board.answer(seat, at).is_none()
+    board.answer(seat, at)
 }
 
 // The answer of a finished goal, which the seat has seen from then on.
@@ -308,7 +309,7 @@ fn claim_and_give_up(
     pause(board, seat, right)
 }
 
-// Lets 4 wait for 3, and gives it up.
+// Lets 4, which nobody else can claim then, wait for 3, and gives it up.
 fn wait_and_give_up(
     rt: &impl Abort,
     board: &Board<Numbers>,
@@ -322,8 +323,31 @@ fn wait_and_give_up(
     ensures parts { (hands seat.new).parts ≡ (hands seat.old).parts }
 {
     let mut right = claim_goal(rt, board, seat, four, 4);
+    claim_in_vain(rt, board, seat, four, &right);
     let awaited = wait_on(rt, board, seat, &mut right, three, 3);
     (awaited, pause(board, seat, right))
+}
+
+// Finishes 4, whose wait for 3 finds it finished.
+fn wait_and_finish(
+    rt: &impl Abort,
+    board: &Board<Numbers>,
+    seat: &mut Seat<Numbers>,
+    three: u32,
+    four: u32,
+) -> Woken
+    requires idle { IsIdleAt board.now seat.old }
+    requires near { (three < board.now.key.room) × (four < board.now.key.room) }
+    ensures idle { IsIdleAt board.now seat.new }
+    ensures parts { (hands seat.new).parts ≡ (hands seat.old).parts }
+{
+    let mut right = claim_goal(rt, board, seat, four, 4);
+    if wait_on(rt, board, seat, &mut right, three, 3) == Awaited::Registered {
+        pause(board, seat, right);
+        panic!(rt; "3 is not finished");
+    }
+    see_finished(rt, board, seat, three, 3, &right);
+    finish_one(board, seat, right, 63, Answer { cost: 40, node: 4 })
 }
 
 // What a closed board held: so many cells and answers, a goal that is ready, and whether it was full.
@@ -333,6 +357,15 @@ fn holds(closed: &Closed, cells: usize, answers: usize, ready: Option<u64>, full
         && closed.who.len() == answers
         && closed.ready == ready
         && closed.full == full
+}
+
+// Whether the word was found.
+fn finds(board: &Board<Numbers>, seat: &mut Seat<Numbers>, word: u64) -> bool
+    requires idle { IsIdleAt board.now seat.old }
+    ensures idle { IsIdleAt board.now seat.new }
+    ensures parts { (hands seat.new).parts ≡ (hands seat.old).parts }
+{
+    board.holds(seat, word)
 }
 
 fn put_three_words(rt: &impl Abort, board: &Board<Numbers>, seat: &mut Seat<Numbers>)
@@ -351,6 +384,7 @@ fn a_word_is_in_one_cell(rt: HostRuntime) -> Result<(), Fail> {
     put_three_words(&rt, &board, &mut seat);
     let mut other = board.split(&mut seat);
     place_of(&rt, &board, &mut other, 1);
+    assert!(rt; finds(&board, &mut seat, 1));
     board.join(&mut seat, other);
     let closed = board.close(rt.alloc(), seat)?;
     assert!(rt; closed.cells.len() == 3 && closed.answers.is_empty() && !closed.full);
@@ -366,7 +400,7 @@ fn claim_in_turn(rt: &impl Abort, board: &Board<Numbers>, seat: &mut Seat<Number
     let four = place_of(rt, board, seat, 4);
     assert_eq!(rt; claim_and_give_up(rt, board, seat, three), Suspended::Ready);
     assert_eq!(rt; finish_three(rt, board, seat, three).count, 0);
-    assert!(rt; is_open(board, seat, four));
+    assert_eq!(rt; answer_at(board, seat, four), None);
     finish_four(rt, board, seat, three, four);
 }
 
@@ -379,13 +413,15 @@ fn a_goal_is_claimed_by_one_at_a_time(rt: HostRuntime) -> Result<(), Fail> {
     Ok(())
 }
 
-fn wait_for_three(rt: &impl Abort, board: &Board<Numbers>, seat: &mut Seat<Numbers>)
+// Lets 4 wait for 3, finishes 3 and then 4. Tells whether 4 stands before 3.
+fn wait_for_three(rt: &impl Abort, board: &Board<Numbers>, seat: &mut Seat<Numbers>) -> bool
     requires idle { IsIdleAt board.now seat.old }
     ensures idle { IsIdleAt board.now seat.new }
     ensures parts { (hands seat.new).parts ≡ (hands seat.old).parts }
 {
     let four = place_of(rt, board, seat, 4);
     let three = place_of(rt, board, seat, 3);
+    assert!(rt; matches!(put_in(board, seat, 3), Inserted::Known { .. }));
     let waited = wait_and_give_up(rt, board, seat, three, four);
     assert_eq!(rt; waited, (Awaited::Registered, Suspended::Waiting));
     find_busy(rt, board, seat, four);
@@ -397,18 +433,83 @@ fn wait_for_three(rt: &impl Abort, board: &Board<Numbers>, seat: &mut Seat<Numbe
             one: Some(four)
         }
     );
-    let waited = wait_and_give_up(rt, board, seat, three, four);
-    assert_eq!(rt; waited, (Awaited::Finished, Suspended::Ready));
+    assert_eq!(rt;
+        wait_and_finish(rt, board, seat, three, four),
+        Woken {
+            count: 0,
+            one: None
+        }
+    );
+    assert_eq!(rt;
+        answer_at(board, seat, three),
+        Some(Answer { cost: 30, node: 3 })
+    );
+    four < three
+}
+
+// What came out of 3 or 4, and which worker finished it.
+fn outcome_of(goal: u64) -> (Answer, u32) {
+    if goal == 3 {
+        (Answer { cost: 30, node: 3 }, 5)
+    } else {
+        (Answer { cost: 40, node: 4 }, 63)
+    }
 }
 
 #[test]
 fn a_goal_waits_for_its_child(rt: HostRuntime) -> Result<(), Fail> {
     let (board, mut seat) = Board::start(rt.alloc(), Numbers { limit: 4 }, 4)?;
-    wait_for_three(&rt, &board, &mut seat);
+    let four_first = wait_for_three(&rt, &board, &mut seat);
     let other = board.split(&mut seat);
     board.join(&mut seat, other);
     let closed = board.close(rt.alloc(), seat)?;
-    assert!(rt; holds(&closed, 2, 1, Some(4), false));
+    let (one, two) = if four_first { (4, 3) } else { (3, 4) };
+    let (first, first_worker) = outcome_of(one);
+    let (second, second_worker) = outcome_of(two);
+    assert!(rt; closed.cells.as_slice() == [one, two].as_slice());
+    assert!(rt; closed.answers.as_slice() == [(one, first), (two, second)].as_slice());
+    assert!(rt; closed.who.as_slice() == [first_worker, second_worker].as_slice());
+    assert!(rt; !closed.full && closed.ready.is_none());
+    Ok(())
+}
+
+#[test]
+fn a_goal_that_is_ready_is_told_at_the_end(rt: HostRuntime) -> Result<(), Fail> {
+    let (board, mut seat) = Board::start(rt.alloc(), Numbers { limit: 4 }, 4)?;
+    place_of(&rt, &board, &mut seat, 4);
+    let closed = board.close(rt.alloc(), seat)?;
+    assert!(rt; holds(&closed, 1, 0, Some(4), false));
+    Ok(())
+}
+
+// Gives up a goal that was claimed beside another, and then that one.
+fn give_up_both<R: GoalRules>(
+    rt: &impl Abort,
+    board: &Board<R>,
+    seat: &mut Seat<R>,
+    first: Right,
+    at: u32,
+) -> (Suspended, Suspended)
+    requires seat { IsSeatOf R.meaning board.now seat.old }
+    requires near { at < board.now.key.room }
+    requires right { IsRightOf (R.meaning board.now.key.rules) board.now.key.room (hands seat.old) first }
+{
+    let Some(second) = board.claim(seat, at) else {
+        board.suspend(seat, first);
+        panic!(rt; "the other goal is not ready");
+    };
+    let given = board.suspend(seat, second);
+    (given, board.suspend(seat, first))
+}
+
+#[test]
+fn a_seat_may_hold_two_goals(rt: HostRuntime) -> Result<(), Fail> {
+    let (board, mut seat) = Board::start(rt.alloc(), Numbers { limit: 4 }, 4)?;
+    let three = place_of(&rt, &board, &mut seat, 3);
+    let four = place_of(&rt, &board, &mut seat, 4);
+    let first = claim_goal(&rt, &board, &mut seat, three, 3);
+    let given = give_up_both(&rt, &board, &mut seat, first, four);
+    assert_eq!(rt; given, (Suspended::Ready, Suspended::Ready));
     Ok(())
 }
 

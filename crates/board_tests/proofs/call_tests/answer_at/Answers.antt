@@ -1,7 +1,7 @@
 -- A look for an answer changes neither rights nor parts.
 use Rattle.goal_board.specs.Seats.{hands}
 use Rattle.board_tests.proofs.Still.{rights_read, parts_read}
-use Rattle.board_tests.proofs.call_tests.is_open.Goals as goal
+use Rattle.board_tests.proofs.call_tests.answer_at.Goals as goal
 
 pub returns-clause-rights : goal.returns-clause-rights
 returns-clause-rights g c =
