@@ -1,4 +1,5 @@
--- The best answer for a request: the least of what nodes make of least plans.
+-- The best answer for a request: the least of what nodes make of least plans. The definition speaks of plans; the laws
+-- give the recursion by pairs, a best answer from the best answers for what a node asks.
 use Rattle.std.specs.Prelude.{ℕ, ◌≡◌, List, [], ◌∷◌, Option, None, Some, option_map, ⊤}
 use Rattle.query_core.specs.Expressions.{expr_of}
 use Rattle.query_core.specs.Keys.{Names}

@@ -9,3 +9,4 @@ pub mod Decoded
 pub mod Bits
 pub mod Enforced
 pub mod Phases
+pub mod Told

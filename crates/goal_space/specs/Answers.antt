@@ -4,6 +4,12 @@ use Rattle.std.specs.Option.{option_map_or}
 use Rattle.std.specs.List.{All, Contains}
 use Rattle.std.specs.List.Sorted.{IsStrictlyIncreasing}
 use Rattle.query_core.specs.declared.query.Query.{Query}
+use Rattle.xform_rules.specs.Closure.{IsMember}
+use Rattle.plan_space.specs.Nodes.{number_of, Tree}
+use Rattle.plan_space.specs.Cost.{cost_of}
+use Rattle.plan_space.specs.Least.{IsAnswer}
+use Rattle.plan_space.specs.Choices.{IsAnswerAtRoot}
+use Rattle.plan_tree.specs.Seen.{root_node}
 use Rattle.plan_tree.specs.declared.answers.Answered.{Answered}
 use Rattle.best_answers.specs.Nodes.{modes_of, all_nodes}
 use Rattle.best_answers.specs.Best.{IsBest}
@@ -50,3 +56,28 @@ pub record AreAnswers (q : Query) (answers : List Answered) : Type 0 where
   pub ascending : IsStrictlyIncreasing (words_told answers)
   pub sound : All (TellsAnswer q) answers
   pub complete : (goal : GoalKind) → IsGoal q goal → Contains (words_told answers) (goal_word goal)
+
+-- ---- what is told, in words of plans
+
+-- a goal that chooses no plan tells cost 0 and no node
+pub record TellsNoChoice (told : Answered) : Type 0 where
+  pub cost : told.cost ≡ Some 0
+  pub node : told.node.0 ≡ 0
+
+-- the plan's cost is told, and the number of the node at its root; of no plan no cost, and the number 0
+pub record TellsPlan (q : Query) (told : Answered) (plan : Option Tree) : Type 0 where
+  pub cost : told.cost ≡ option_map (cost_of q) plan
+  pub node : told.node.0 ≡ option_map_or (λ tree. number_of (root_node tree)) plan 0
+
+-- what is told of a goal: of a group and a request the least plan of all, and of an expression and a request the least
+-- of those with the expression at the root; none is told exactly where there is no such plan
+abbrev pub TellsLeast : Query → GoalKind → Answered → Type 0
+TellsLeast q (Exp group) told = TellsNoChoice told
+TellsLeast q (ExpE e) told = TellsNoChoice told
+TellsLeast q (Xf e rule) told = TellsNoChoice told
+TellsLeast q (Imp group) told = TellsNoChoice told
+TellsLeast q (ImpE e) told = TellsNoChoice told
+TellsLeast q (Opt group wanted) told =
+    (plan : Option Tree) × IsAnswer (IsMember q) q group wanted plan × TellsPlan q told plan
+TellsLeast q (OptE e wanted) told =
+    (plan : Option Tree) × IsAnswerAtRoot (IsMember q) q e wanted plan × TellsPlan q told plan

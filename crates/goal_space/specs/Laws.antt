@@ -7,11 +7,13 @@ use Rattle.query_core.specs.declared.expressions.ExprParts.{ExprParts}
 use Rattle.xform_rules.specs.Closure.{IsMember}
 use Rattle.request_props.specs.Fitting.{Fits}
 use Rattle.request_props.specs.Numbered.{lists_of, orders_of}
+use Rattle.plan_tree.specs.declared.answers.Answered.{Answered}
 use Rattle.goal_space.specs.Words.{IsInRange}
 use Rattle.goal_space.specs.Children.{IsChildGoal, IsListedIn}
 use Rattle.goal_space.specs.Goals.{IsGoal}
 use Rattle.goal_space.specs.Ranks.{rank_of}
 use Rattle.goal_space.specs.Asked.{AsksFor}
+use Rattle.goal_space.specs.Answers.{Tells, TellsLeast}
 use Rattle.goal_space.specs.OfMembers.{IsOfMember}
 use Rattle.goal_space.specs.declared.goals.GoalKind.{GoalKind}
 use Rattle.goal_space.specs.declared.goals.GoalKind.TheVariants.{Exp, ExpE, Xf, Imp, ImpE, Opt, OptE}
@@ -70,3 +72,7 @@ AskedAreMembers q = (goal : GoalKind) (e : ExprParts) → IsGoal q goal → Asks
 -- each member is asked for by some goal of the query
 abbrev pub MembersAreAsked : Query → Type 0
 MembersAreAsked q = (e : ExprParts) → IsMember q e → (goal : GoalKind) × IsGoal q goal × AsksFor q goal e
+
+-- what is told of a goal is the least plan among which it chooses, and none exactly where there is none
+abbrev pub AnswersAreLeast : Query → Type 0
+AnswersAreLeast q = (goal : GoalKind) (told : Answered) → Tells q told goal → TellsLeast q goal told

@@ -4,8 +4,10 @@
 ghost use Rattle.query_core.specs.declared.query.Query.{Query};
 ghost use Rattle.goal_space.specs.Laws.{RanksFall, ListedRanksFall, GoalsAreOfMembers, GoalsAreOfCandidates};
 ghost use Rattle.goal_space.specs.Laws.{GoalRequestsFit, GoalsHaveWords, AskedAreMembers, MembersAreAsked};
+ghost use Rattle.goal_space.specs.Laws.{AnswersAreLeast};
 
-use plan_space::{root_request_fits, what_is_asked_fits};
+use best_answers::best_is_least;
+use plan_space::{choices_serve, root_request_fits, settled_roots_are_least, what_is_asked_fits};
 use query_core::{candidates_are_known, groups_are_known};
 use xform_rules::{members_are_candidates, results_are_known};
 
@@ -36,3 +38,15 @@ pub fn goals_ask_for_members()
     ensures only { (q : Query) → AskedAreMembers q }
     ensures all { (q : Query) → MembersAreAsked q }
 {}
+
+/// What is told of each goal of a query: the cost and the root of the least plan among which it chooses, all plans of its
+/// group for its request or those with its expression at the root, and none exactly where there is no such plan.
+pub fn answers_are_least()
+    ensures { (q : Query) → AnswersAreLeast q }
+{
+    // For the proof: goals are about members and their requests fit, and what is settled is least.
+    goals_are_known();
+    best_is_least();
+    choices_serve();
+    settled_roots_are_least();
+}

@@ -9,7 +9,7 @@ mod ranks;
 mod words;
 
 pub use goals::GoalKind;
-pub use laws::{goals_are_known, goals_ask_for_members, ranks_fall};
+pub use laws::{answers_are_least, goals_are_known, goals_ask_for_members, ranks_fall};
 pub use phase::Phase;
 pub use ranks::{rank, table_count};
 pub use words::goal_kinds_are_one;

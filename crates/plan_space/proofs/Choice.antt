@@ -24,11 +24,11 @@ use Rattle.plan_space.specs.Enforcers.{EnforcedBy}
 use Rattle.plan_space.specs.Least.{Serves, IsLeast, IsAnswer}
 use Rattle.plan_space.specs.Order.{IsAtMost}
 use Rattle.plan_space.specs.Choices.{groups_of, AreLeast, IsNodeOver, Beats, IsEnforcerSettled, LacksOne, IsLineSettled}
-use Rattle.plan_space.specs.Choices.{IsSettled}
-use Rattle.plan_space.specs.Laws.{GivenFits, KidsFit, AreOf, SatisfactionSplits}
+use Rattle.plan_space.specs.Choices.{IsModeSettled, IsSettled, BestServesAtRoot, IsAnswerAtRoot}
+use Rattle.plan_space.specs.Laws.{GivenFits, AreOf, SatisfactionSplits}
 use Rattle.plan_space.proofs.Plans.{IsAtMost-trans, IsAtMost-not_less, kid_at_most, over_at_most, two_at_most}
 use Rattle.plan_space.proofs.Exchange.{IsOrdered, Replaces, same_class, same_shape, exchange}
-use Rattle.plan_space.proofs.Kids.{sights, AreValid, AreAlike, same_native_shape, kids_of_children}
+use Rattle.plan_space.proofs.Kids.{sights, AreValid, kids_fit, AreAlike, same_native_shape, kids_of_children}
 
 -- each plan is at most the other at its place
 abbrev AreAtMost : Query → List Tree → List Tree → Type 0
@@ -90,7 +90,7 @@ module _ (Member : ExprParts → Type 0) (q : Query) (settled : AreSettled Membe
         ),
       )
 
-  module _ (group : KeyParts) (wanted : Request) (best : Option Tree) (is : IsSettled Member q group wanted best) where
+  module _ (group : KeyParts) (wanted : Request) (best : Option Tree) where
     module _ (e : PhysicalExpr) (mode : ℕ) where
       at_leaf : (plans : List Tree) (plan : Tree) → AreAtMost q plans [] → IsNodeOver (nodes.Native e mode) plans plan
           → Beats q best plan
@@ -142,87 +142,115 @@ module _ (Member : ExprParts → Type 0) (q : Query) (settled : AreSettled Membe
         (settled group e.below plan kid below serves))
     at_replaced node kid e replaces serves (inr none) = absurd (none kid serves)
 
-    module _ (ordered : IsOrdered q) (fits : Fits q group wanted) where
-      at_enforcer : (node : Enforcer) (kid : Tree) → (Serves Member q group wanted kid → Beats q best kid)
-          → Serves Member q group wanted (over (nodes.Enforcer node) kid)
-          → Beats q best (over (nodes.Enforcer node) kid)
-      at_enforcer node kid wins serves =
-          elim (exchange q ordered (kid_of q kid) node wanted serves.valid.1 fits.numbered serves.satisfies) [
-            | inl satisfies ↦ Beats-over q best (nodes.Enforcer node) kid
-                (wins (record { valid = serves.valid.0; of_group = serves.of_group; satisfies = satisfies }))
-            | inr (e, replaces) ↦
-                at_replaced node kid e replaces (record {
-                  valid = serves.valid.0;
-                  of_group = serves.of_group;
-                  satisfies = replaces.satisfies;
-                })
-                (is.enforcers e replaces.among)
-          ]
+    module _ (fits : Fits q group wanted) (candidates : (e : ExprParts) → Member e → IsCandidate q e)
+        (given_fits : (plan : Tree) → IsValid Member q plan → GivenFits q (kid_of q plan).group (gives q plan))
+        (splits : SatisfactionSplits q) where
+      -- least plans for what the line asks by which an expression at the root serves
+      record IsFoundBelow (e : PhysicalExpr) (mode : ℕ) (kids : List Tree) : Type 0 where
+        plans : List Tree
+        plan : Tree
+        at_most : AreAtMost q plans kids
+        alike : AreAlike (sights q plans) (sights q kids)
+        over_plans : IsNodeOver (nodes.Native e mode) plans plan
+        beats : Beats q best plan
 
-      module _ (candidates : (e : ExprParts) → Member e → IsCandidate q e)
-          (given_fits : (plan : Tree) → IsValid Member q plan → GivenFits q (kid_of q plan).group (gives q plan))
-          (splits : SatisfactionSplits q) where
-        kids_fit : (kids : List Tree) → AreValid Member q kids → KidsFit q (sights q kids)
-        kids_fit [] valid = tt
-        kids_fit (kid ∷ kids) valid = (given_fits kid valid.0, kids_fit kids valid.1)
+      settled_below : (e : PhysicalExpr) (mode : ℕ) (kids : List Tree) (line : Line)
+          → AreOf (groups_of (physical_children e.operator)) (sights q kids)
+          → KidsServe q (sights q kids) (asked_of line wanted) → AreValid Member q kids
+          → IsLineSettled Member q e mode line wanted best
+          → IsFoundBelow e mode kids
+      settled_below e mode kids line of_children serve valid (inl (plans, plan, least, over_plans, beats)) =
+          let facts = least_kids (groups_of (physical_children e.operator)) (asked_of line wanted) plans kids least
+          of_children serve valid in
+          record {
+            plans = plans;
+            plan = plan;
+            at_most = facts.0;
+            alike = facts.1;
+            over_plans = over_plans;
+            beats = beats;
+          }
+      settled_below e mode kids line of_children serve valid (inr lacks) =
+          absurd (lacks_kids (groups_of (physical_children e.operator)) (asked_of line wanted) kids of_children serve
+          valid lacks)
 
-        -- least plans for what the line asks by which an expression at the root serves
-        record IsFoundBelow (e : PhysicalExpr) (mode : ℕ) (kids : List Tree) : Type 0 where
-          plans : List Tree
-          plan : Tree
-          at_most : AreAtMost q plans kids
-          alike : AreAlike (sights q plans) (sights q kids)
-          over_plans : IsNodeOver (nodes.Native e mode) plans plan
-          beats : Beats q best plan
+      found_below : (e : PhysicalExpr) (mode : ℕ) (kids : List Tree) → Member (expr_of e) → e.group ≡ group
+          → AreValid Member q kids
+          → NativeFits q e mode (sights q kids) → Satisfies q (native_gives q e mode (sights q kids)) wanted
+          → IsModeSettled Member q wanted e mode best → IsFoundBelow e mode kids
+      found_below e mode kids member of_group valid native_fits satisfies is_settled =
+          let e_fits = subst (λ (g : KeyParts). Fits q g wanted) (sym of_group) fits in
+          let split = splits e mode (sights q kids) wanted (candidates (expr_of e) member) (kids_fit Member q given_fits kids valid)
+          e_fits native_fits satisfies in
+          let of_children = kids_of_children q (physical_children e.operator) (line_of q e mode) (sights q kids)
+          native_fits in
+          settled_below e mode kids split.0 of_children split.2 valid (is_settled split.0 split.1)
 
-        settled_below : (e : PhysicalExpr) (mode : ℕ) (kids : List Tree) (line : Line)
-            → AreOf (groups_of (physical_children e.operator)) (sights q kids)
-            → KidsServe q (sights q kids) (asked_of line wanted) → AreValid Member q kids
-            → IsLineSettled Member q e mode line wanted best
-            → IsFoundBelow e mode kids
-        settled_below e mode kids line of_children serve valid (inl (plans, plan, least, over_plans, beats)) =
-            let facts = least_kids (groups_of (physical_children e.operator)) (asked_of line wanted) plans kids least
-            of_children serve valid in
-            record {
-              plans = plans;
-              plan = plan;
-              at_most = facts.0;
-              alike = facts.1;
-              over_plans = over_plans;
-              beats = beats;
-            }
-        settled_below e mode kids line of_children serve valid (inr lacks) =
-            absurd (lacks_kids (groups_of (physical_children e.operator)) (asked_of line wanted) kids of_children serve
-            valid lacks)
+      root_leaf : (e : PhysicalExpr) (mode : ℕ) → Serves Member q group wanted (leaf (nodes.Native e mode))
+          → IsModeSettled Member q wanted e mode best → Beats q best (leaf (nodes.Native e mode))
+      root_leaf e mode serves is_settled =
+          let found = found_below e mode [] serves.valid.0 serves.of_group tt serves.valid.1 serves.satisfies is_settled
+          in
+          at_leaf e mode found.plans found.plan found.at_most found.over_plans found.beats
 
-        found_below : (e : PhysicalExpr) (mode : ℕ) (kids : List Tree) → Member (expr_of e) → e.group ≡ group
-            → AreValid Member q kids
-            → NativeFits q e mode (sights q kids) → Satisfies q (native_gives q e mode (sights q kids)) wanted
-            → IsFoundBelow e mode kids
-        found_below e mode kids member of_group valid native_fits satisfies =
-            let e_fits = subst (λ (g : KeyParts). Fits q g wanted) (sym of_group) fits in
-            let split = splits e mode (sights q kids) wanted (candidates (expr_of e) member) (kids_fit kids valid)
-            e_fits native_fits satisfies in
-            let of_children = kids_of_children q (physical_children e.operator) (line_of q e mode) (sights q kids)
-            native_fits in
-            settled_below e mode kids split.0 of_children split.2 valid
-            (is.members e mode member of_group split.0 split.1)
+      root_over : (e : PhysicalExpr) (mode : ℕ) (kid : Tree)
+          → Serves Member q group wanted (over (nodes.Native e mode) kid)
+          → IsModeSettled Member q wanted e mode best → Beats q best (over (nodes.Native e mode) kid)
+      root_over e mode kid serves is_settled =
+          let found = found_below e mode (kid ∷ []) serves.valid.1.0 serves.of_group (serves.valid.0, tt)
+          serves.valid.1.1 serves.satisfies is_settled in
+          at_one e mode kid found.plans found.plan found.at_most found.alike found.over_plans found.beats
+
+      root_two : (e : PhysicalExpr) (mode : ℕ) (left right : Tree)
+          → Serves Member q group wanted (two (nodes.Native e mode) left right)
+          → IsModeSettled Member q wanted e mode best → Beats q best (two (nodes.Native e mode) left right)
+      root_two e mode left right serves is_settled =
+          let found = found_below e mode (left ∷ right ∷ []) serves.valid.2.0 serves.of_group
+          (serves.valid.0, (serves.valid.1, tt)) serves.valid.2.1 serves.satisfies is_settled in
+          at_two e mode left right found.plans found.plan found.at_most found.alike found.over_plans found.beats
+
+      -- the best is at most every plan that serves with this root, where its mode is settled
+      at_root : (e : PhysicalExpr) (mode : ℕ) (kids : List Tree) (plan : Tree)
+          → IsNodeOver (nodes.Native e mode) kids plan → Serves Member q group wanted plan
+          → IsModeSettled Member q wanted e mode best → Beats q best plan
+      at_root e mode [] plan is serves is_settled =
+          subst (Beats q best) (sym is)
+          (root_leaf e mode (subst (Serves Member q group wanted) is serves) is_settled)
+      at_root e mode (kid ∷ []) plan is serves is_settled =
+          subst (Beats q best) (sym is)
+          (root_over e mode kid (subst (Serves Member q group wanted) is serves) is_settled)
+      at_root e mode (left ∷ right ∷ []) plan is serves is_settled =
+          subst (Beats q best) (sym is)
+          (root_two e mode left right (subst (Serves Member q group wanted) is serves) is_settled)
+      at_root e mode (left ∷ right ∷ other ∷ others) plan is serves is_settled = absurd is
+
+      module _ (ordered : IsOrdered q) (is : IsSettled Member q group wanted best) where
+        at_enforcer : (node : Enforcer) (kid : Tree) → (Serves Member q group wanted kid → Beats q best kid)
+            → Serves Member q group wanted (over (nodes.Enforcer node) kid)
+            → Beats q best (over (nodes.Enforcer node) kid)
+        at_enforcer node kid wins serves =
+            elim (exchange q ordered (kid_of q kid) node wanted serves.valid.1 fits.numbered serves.satisfies) [
+              | inl satisfies ↦ Beats-over q best (nodes.Enforcer node) kid
+                  (wins (record { valid = serves.valid.0; of_group = serves.of_group; satisfies = satisfies }))
+              | inr (e, replaces) ↦
+                  at_replaced node kid e replaces (record {
+                    valid = serves.valid.0;
+                    of_group = serves.of_group;
+                    satisfies = replaces.satisfies;
+                  })
+                  (is.enforcers e replaces.among)
+            ]
 
         -- the best is at most every plan that serves
         at_most_all : (plan : Tree) → Serves Member q group wanted plan → Beats q best plan
         at_most_all (leaf (nodes.Native e mode)) serves =
-            let found = found_below e mode [] serves.valid.0 serves.of_group tt serves.valid.1 serves.satisfies in
-            at_leaf e mode found.plans found.plan found.at_most found.over_plans found.beats
+            root_leaf e mode serves (is.members e mode serves.valid.0 serves.of_group)
         at_most_all (leaf (nodes.Enforcer node)) serves = absurd serves.valid
         at_most_all (over (nodes.Native e mode) kid) serves =
-            let found = found_below e mode (kid ∷ []) serves.valid.1.0 serves.of_group (serves.valid.0, tt)
-            serves.valid.1.1 serves.satisfies in
-            at_one e mode kid found.plans found.plan found.at_most found.alike found.over_plans found.beats
+            root_over e mode kid serves (is.members e mode serves.valid.1.0 serves.of_group)
         at_most_all (over (nodes.Enforcer node) kid) serves = at_enforcer node kid (at_most_all kid) serves
         at_most_all (two (nodes.Native e mode) left right) serves =
-            let found = found_below e mode (left ∷ right ∷ []) serves.valid.2.0 serves.of_group
-            (serves.valid.0, (serves.valid.1, tt)) serves.valid.2.1 serves.satisfies in
-            at_two e mode left right found.plans found.plan found.at_most found.alike found.over_plans found.beats
+            root_two e mode left right serves (is.members e mode serves.valid.2.0 serves.of_group)
         at_most_all (two (nodes.Enforcer node) left right) serves = absurd serves.valid.2
 
 module _ (Member : ExprParts → Type 0) (q : Query) (settled : AreSettled Member q) (ordered : IsOrdered q)
@@ -234,10 +262,24 @@ module _ (Member : ExprParts → Type 0) (q : Query) (settled : AreSettled Membe
       → IsSettled Member q group wanted best
       → IsAnswer Member q group wanted best
   settled_is_least group wanted None fits is = λ plan serves.
-      at_most_all Member q settled group wanted None is ordered fits candidates given_fits splits plan serves
+      at_most_all Member q settled group wanted None fits candidates given_fits splits ordered is plan serves
   settled_is_least group wanted (Some best) fits is = record {
     serves = is.best_serves;
     none_less = λ other serves.
-        IsAtMost-not_less q best other (at_most_all Member q settled group wanted (Some best) is ordered fits candidates
-        given_fits splits other serves);
+        IsAtMost-not_less q best other (at_most_all Member q settled group wanted (Some best) fits candidates
+        given_fits splits ordered is other serves);
   }
+
+  -- the same of the plans with one expression at the root, where its modes are settled
+  pub settled_root_is_least : (e : PhysicalExpr) (wanted : Request) (best : Option Tree) → Fits q e.group wanted
+      → BestServesAtRoot Member q e wanted best → ((mode : ℕ) → IsModeSettled Member q wanted e mode best)
+      → IsAnswerAtRoot Member q e wanted best
+  settled_root_is_least e wanted None fits serves is = λ plan other.
+      at_root Member q settled e.group wanted None fits candidates given_fits splits e other.mode other.kids plan
+      other.is_over other.serves (is other.mode)
+  settled_root_is_least e wanted (Some best) fits serves is = (
+    serves,
+    λ plan other.
+        IsAtMost-not_less q best plan (at_root Member q settled e.group wanted (Some best) fits candidates given_fits
+        splits e other.mode other.kids plan other.is_over other.serves (is other.mode)),
+  )

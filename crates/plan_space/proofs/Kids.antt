@@ -16,12 +16,12 @@ use Rattle.plan_space.specs.declared.lines.LeftOrder.{LeftOrder}
 use Rattle.plan_space.specs.declared.lines.Line.{Line}
 use Rattle.plan_space.specs.declared.lines.Line.TheVariants as lines
 use Rattle.plan_space.specs.declared.seen.Kid.{Kid}
-use Rattle.plan_space.specs.Gives.{kid_of, first_given, left_dist, gives_by, native_gives}
+use Rattle.plan_space.specs.Gives.{kid_of, gives, first_given, left_dist, gives_by, native_gives}
 use Rattle.plan_space.specs.Valid.{OneFits, TwoFit, OverOne, OverTwo, FitsBy, IsValid}
 use Rattle.request_props.specs.Classes.{class_of}
 use Rattle.plan_space.specs.Cost.{share_of, first_share, second_share, operator_shape, native_shape}
 use Rattle.plan_space.specs.Choices.{groups_of}
-use Rattle.plan_space.specs.Laws.{AreOf}
+use Rattle.plan_space.specs.Laws.{GivenFits, KidsFit, AreOf}
 
 -- what is seen of each plan
 abbrev pub sights : Query → List Tree → List Kid
@@ -31,6 +31,14 @@ sights q (plan ∷ plans) = kid_of q plan ∷ sights q plans
 abbrev pub AreValid : (ExprParts → Type 0) → Query → List Tree → Type 0
 AreValid Member q [] = ⊤
 AreValid Member q (plan ∷ plans) = IsValid Member q plan × AreValid Member q plans
+
+-- what valid kids give lies in their groups, where this holds of each valid plan
+pub kids_fit : (Member : ExprParts → Type 0) (q : Query)
+    → ((plan : Tree) → IsValid Member q plan → GivenFits q (kid_of q plan).group (gives q plan)) → (kids : List Tree)
+    → AreValid Member q kids → KidsFit q (sights q kids)
+kids_fit Member q given_fits [] valid = tt
+kids_fit Member q given_fits (kid ∷ kids) valid =
+    (given_fits kid valid.0, kids_fit Member q given_fits kids valid.1)
 
 -- the kids are of the same groups, and as many segments have a share
 abbrev pub AreAlike : List Kid → List Kid → Type 0

@@ -24,6 +24,7 @@ pub mod NodeCounts
 pub mod Children
 pub mod Below
 pub mod Serving
+pub mod Roots
 pub mod Choice
 pub mod Cheapest
 pub mod LeastCosts

@@ -15,7 +15,7 @@ use Rattle.plan_space.specs.declared.nodes.NodeKind.TheVariants as nodes
 use Rattle.plan_space.specs.declared.lines.Line.{Line}
 use Rattle.plan_space.specs.Alternatives.{IsAlternative, asked_of}
 use Rattle.plan_space.specs.Enforcers.{EnforcedBy, enforcers_of, Among}
-use Rattle.plan_space.specs.Least.{Serves, IsLeast, HasNoPlan}
+use Rattle.plan_space.specs.Least.{IsLess, Serves, IsLeast, HasNoPlan}
 use Rattle.plan_space.specs.Order.{IsAtMost}
 
 -- the tree is the node over these plans
@@ -96,3 +96,24 @@ pub record IsSettled (Member : ExprParts → Type 0) (q : Query) (group : KeyPar
   pub enforcers : (e : EnforcedBy) → Among e (enforcers_of wanted) → IsEnforcerSettled Member q group e best
   pub members : (e : PhysicalExpr) → (mode : ℕ) → Member (expr_of e) → e.group ≡ group
       → IsModeSettled Member q wanted e mode best
+
+-- ---- plans with one expression at the root
+
+-- a plan for the request with the expression at its root, in some mode
+pub record ServesAtRoot (Member : ExprParts → Type 0) (q : Query) (e : PhysicalExpr) (wanted : Request) (plan : Tree) :
+    Type 0 where
+  pub mode : ℕ
+  pub kids : List Tree
+  pub is_over : IsNodeOver (nodes.Native e mode) kids plan
+  pub serves : Serves Member q e.group wanted plan
+
+-- the best is such a plan, if it is there
+abbrev pub BestServesAtRoot : (ExprParts → Type 0) → Query → PhysicalExpr → Request → Option Tree → Type 0
+BestServesAtRoot Member q e wanted None = ⊤
+BestServesAtRoot Member q e wanted (Some best) = ServesAtRoot Member q e wanted best
+
+-- the least of these plans, or that there is none
+abbrev pub IsAnswerAtRoot : (ExprParts → Type 0) → Query → PhysicalExpr → Request → Option Tree → Type 0
+IsAnswerAtRoot Member q e wanted None = (plan : Tree) → ServesAtRoot Member q e wanted plan → ⊥
+IsAnswerAtRoot Member q e wanted (Some plan) = ServesAtRoot Member q e wanted plan
+    × ((other : Tree) → ServesAtRoot Member q e wanted other → IsLess q other plan → ⊥)

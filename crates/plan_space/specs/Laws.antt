@@ -1,5 +1,5 @@
 -- What holds of all plans of a query.
-use Rattle.std.specs.Prelude.{ℕ, ◌≡◌, ◌<◌, ◌≤◌, List, [], ◌∷◌, length, Option, Some, ⊤}
+use Rattle.std.specs.Prelude.{ℕ, ◌≡◌, ◌<◌, ◌≤◌, ◌↔◌, List, [], ◌∷◌, length, map, Option, Some, ⊤}
 use Rattle.query_core.specs.Crossing.{crossing_of}
 use Rattle.query_core.specs.Keys.{root_of, key_number}
 use Rattle.query_core.specs.Expressions.{expr_of, physical_children, IsCandidate, IsChild}
@@ -19,6 +19,7 @@ use Rattle.request_props.specs.declared.request.Request.{Request}
 use Rattle.request_props.specs.Lying.{OrderLiesIn}
 use Rattle.request_props.specs.Fitting.{HashFits, OrderFits, Fits}
 use Rattle.plan_space.specs.Nodes.{Tree}
+use Rattle.plan_space.specs.declared.nodes.NodeKind.TheVariants as nodes
 use Rattle.plan_space.specs.Modes.{modes_end}
 use Rattle.plan_space.specs.Lines.{line_of}
 use Rattle.plan_space.specs.declared.lines.Line.{Line}
@@ -28,7 +29,8 @@ use Rattle.plan_space.specs.Valid.{NativeFits, IsValid}
 use Rattle.plan_space.specs.Alternatives.{IsAlternative, asked_of, KidsServe}
 use Rattle.plan_space.specs.Cost.{cost_of, most_of_all}
 use Rattle.plan_space.specs.Enforcers.{EnforcedBy, enforcers_of, Among}
-use Rattle.plan_space.specs.Choices.{groups_of, IsChoice, IsSettled}
+use Rattle.plan_space.specs.Choices.{groups_of, IsNodeOver, IsChoice, IsModeSettled, IsSettled}
+use Rattle.plan_space.specs.Choices.{BestServesAtRoot, IsAnswerAtRoot}
 use Rattle.plan_space.specs.Least.{Serves, IsLeast, IsAnswer}
 
 -- a hashed distribution fits the group by its list, and each other one does
@@ -92,6 +94,15 @@ SatisfactionJoins q =
     → AreOf (groups_of (physical_children e.operator)) kids → KidsServe q kids (asked_of line wanted)
     → NativeFits q e mode kids × Satisfies q (native_gives q e mode kids) wanted
 
+-- so a valid plan with a physical expression at its root meets a request that fits its group exactly where the
+-- expression's mode is there for the request, and the plans below the root give what is asked of them
+abbrev pub SatisfactionSplitsAtRoots : Query → Type 0
+SatisfactionSplitsAtRoots q =
+    (e : PhysicalExpr) (mode : ℕ) (kids : List Tree) (plan : Tree) (wanted : Request)
+    → IsValid (IsMember q) q plan → IsNodeOver (nodes.Native e mode) kids plan → Fits q e.group wanted
+    → Satisfies q (gives q plan) wanted
+    ↔ ((line : Line) × IsAlternative q e wanted mode line × KidsServe q (map (kid_of q) kids) (asked_of line wanted))
+
 -- for a request that fits the group, what is asked of the children fits their groups
 abbrev pub AsksWhatFits : Query → Type 0
 AsksWhatFits q =
@@ -143,6 +154,15 @@ SettledIsLeast q =
     (group : KeyParts) (wanted : Request) (best : Option Tree) → Fits q group wanted
     → IsSettled (IsMember q) q group wanted best
     → IsAnswer (IsMember q) q group wanted best
+
+-- what is at most all that an expression makes of least plans in its modes is the least plan with the expression at its
+-- root
+abbrev pub SettledRootsAreLeast : Query → Type 0
+SettledRootsAreLeast q =
+    (e : PhysicalExpr) (wanted : Request) (best : Option Tree) → Fits q e.group wanted
+    → BestServesAtRoot (IsMember q) q e wanted best
+    → ((mode : ℕ) → IsModeSettled (IsMember q) q wanted e mode best)
+    → IsAnswerAtRoot (IsMember q) q e wanted best
 
 -- a choice is a plan that meets the request
 abbrev pub ChoicesServe : Query → Type 0

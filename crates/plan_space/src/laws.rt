@@ -4,7 +4,8 @@
 ghost use Rattle.query_core.specs.declared.query.Query.{Query};
 ghost use Rattle.plan_space.specs.Nodes.{Tree};
 ghost use Rattle.plan_space.specs.Order.{IsAtMost};
-ghost use Rattle.plan_space.specs.Laws.{GivesWhatFits, SatisfactionSplits, SatisfactionJoins, AsksWhatFits, ChoicesServe, SettledIsLeast, LeastIsOne};
+ghost use Rattle.plan_space.specs.Laws.{GivesWhatFits, SatisfactionSplits, SatisfactionJoins, SatisfactionSplitsAtRoots};
+ghost use Rattle.plan_space.specs.Laws.{AsksWhatFits, ChoicesServe, SettledIsLeast, SettledRootsAreLeast, LeastIsOne};
 ghost use Rattle.plan_space.specs.Laws.{CrossingsFit, RootRequestFits, RootRequestIsCollected, ModesAreFew};
 ghost use Rattle.plan_space.specs.Laws.{ChoiceCostsFit, EnforcersAskWhatFits, KeysFall, LeastCostsFit};
 
@@ -20,13 +21,18 @@ pub fn what_is_given_fits()
     members_are_candidates();
 }
 
-/// A request that fits the group is met by a physical expression over kids exactly where the
-/// expression's mode is there for the request, and each kid meets what is asked of it then.
+/// A request that fits the group is met by a valid plan with a physical expression at its root exactly where the
+/// expression's mode is there for the request, and each plan below the root meets what is asked of it then.
 pub fn satisfaction_splits()
+    ensures at_roots { (q : Query) → SatisfactionSplitsAtRoots q }
+
+    // The two directions, for an expression over kids of which only the group and what they give is known.
     ensures splits { (q : Query) → SatisfactionSplits q }
     ensures joins { (q : Query) → SatisfactionJoins q }
 {
     listing_is_one();
+    what_is_given_fits();
+    members_are_candidates();
 }
 
 /// What is asked of a child fits its group, and so do the hash and the order of a left column by which a join may ask,
@@ -60,6 +66,19 @@ pub fn choices_serve()
 /// A plan that is at most what each node makes of least plans is the least of all plans.
 pub fn settled_is_least()
     ensures { (q : Query) → SettledIsLeast q }
+{
+    what_is_given_fits();
+    satisfaction_splits();
+    members_are_candidates();
+    candidates_are_known();
+    expressions_are_one();
+    listing_is_one();
+}
+
+/// A plan with an expression at its root that is at most what the expression makes of least plans in its modes is the
+/// least of all plans with that root.
+pub fn settled_roots_are_least()
+    ensures { (q : Query) → SettledRootsAreLeast q }
 {
     what_is_given_fits();
     satisfaction_splits();
