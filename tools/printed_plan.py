@@ -2,7 +2,7 @@
 
 import re
 
-NODE = re.compile(r"(?P<indent>(?:  )*)(?P<name>\S.*) rows=(?P<rows>\d+) cost=(?P<cost>\d+)")
+NODE = re.compile(r"(?P<indent>(?:  )*)(?P<name>\S.*) rows=(?P<rows>\d+) cost=(?P<cost>[1-9]\d*)")
 NAME = re.compile(r"(?P<operator>\w+)(?:\((?P<inside>.*)\))?")
 HEADS = {"cost ": "plan", "memo groups=": "memo", "trace goals=": "trace", "by-worker": "by-worker"}
 
