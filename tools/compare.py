@@ -28,6 +28,7 @@ from plain_plans import ONE, RULES, SPREAD, Query, least_by_listing, least_by_re
 from read_query import read_query
 
 COMPARISONS = ["=", "=", "=", "<", ">=", "<>"]
+LITERALS = [5, 5, 5, 6, -3, "b", "it's"]
 FEW_ROWS, MANY_ROWS = [0, 1, 5, 10, 100, 1000], [1000, 1000, 20000, 500000, 10**12]
 PARTS = ["aliases", "indexes", "groupings", "options"]
 
@@ -88,7 +89,9 @@ def random_query(pick, most_tables, parts):
     if "options" in parts:
         root = SPREAD if pick.random() < 0.2 else ONE
         off = pick.sample(RULES[1:], pick.choice([1, 1, 2, 4])) if pick.random() < 0.35 else []
-    return Query(pick.choice([1, 4, 4, 7]), tables, preds, output, order, group_by, root, off)
+    segments = pick.choice([1, 4, 4, 7])
+    literals = [pick.choice(LITERALS) if right is None else None for _, _, right in preds]
+    return Query(segments, tables, preds, output, order, group_by, root, off, literals)
 
 
 # ---- cases: each with a name, the query, and the files of its catalogue and its text
