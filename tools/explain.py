@@ -220,7 +220,7 @@ def planned(asked):
 
 def read(asked):
     """The plan of a file, or of standard input."""
-    return read_plan(text_of_file(asked.names[0]) if asked.names else sys.stdin.read())
+    return read_plan(text_of_file(asked.names[0]) if asked.names else sys.stdin.buffer.read().decode("latin-1"))
 
 
 def options_of(words):

@@ -19,7 +19,7 @@ class NoAnswer(Exception):
 def run(program, words):
     """The status of a run, and what it printed."""
     try:
-        done = subprocess.run([program, *words], stdout=subprocess.PIPE, text=True)
+        done = subprocess.run([program, *words], stdout=subprocess.PIPE, text=True, errors="replace")
     except OSError as fault:
         raise NoAnswer(f"the program {program} can't be run: {fault.strerror}") from fault
     return done.returncode, done.stdout

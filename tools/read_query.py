@@ -167,7 +167,10 @@ def read_catalog(text):
 
 def read_query(catalog_text, sql_text, root=ONE, off=()):
     segments, known = read_catalog(catalog_text)
-    select = Select(sql_text)
+    try:
+        select = Select(sql_text)
+    except NotAQuery as fault:
+        raise NotAQuery(f"the query can't be read: {fault}") from fault
 
     def table(name, alias):
         if name not in known:
