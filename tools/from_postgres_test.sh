@@ -163,13 +163,13 @@ while IFS='|' read -r table condition most column; do
   check "the estimate of $table WHERE $condition" estimates "$table" "$condition" "$most" "$column"
 done <<'CONDITIONS'
 sales|day_id = 150|1.5|sale_id
-sales|customer_id = 77|1.5|sale_id
+sales|customer_id = 77|2|sale_id
 sales|sale_id = 4711|1.5|sale_id
 sales|paid = 'cash'|2.1|sale_id
 sales|store_id = 1|12|sale_id
 sales|quantity <= 3|1.2|sale_id
 sales|day_id > 200|1.5|sale_id
-sales|customer_id = 77 AND quantity = 3|1.5|sale_id
+sales|customer_id = 77 AND quantity = 3|2|sale_id
 customers|country = 'AA'|1.2|customer_id
 stores|area < 103|1.5|store_id
 days|month = 3|1.5|day_id
