@@ -193,17 +193,20 @@ def rows_up_to(column, rows):
 
 
 def histogram(column, rows):
-    """A histogram of at most 64 buckets with about as many rows in each, or None where nothing is known."""
+    """A histogram of at most 64 buckets with about as many rows in each, or None where nothing is known. A bucket ends
+    where it has its share, and before a value that has as many by itself."""
     ends = list(rows_up_to(column, rows))
     if not ends or not ends[-1][1]:
         return None
-    buckets, below, left = [], 0, MOST_BUCKETS
+    buckets, below = [], 0
     for at, (end, up_to) in enumerate(ends):
-        is_last = at == len(ends) - 1
+        left = MOST_BUCKETS - len(buckets)
         share = (ends[-1][1] - below) / left
-        if is_last or len(ends) - at <= left or up_to - below >= share and left > 1:
+        behind = ends[at + 1:]
+        is_full = up_to - below >= share or behind and behind[0][1] - up_to >= share
+        if not behind or len(behind) < left or is_full and left > 1:
             buckets.append({"upto": end, "rows": min(up_to - below, MOST)})
-            below, left = up_to, left - 1
+            below = up_to
     bounds, common = column["bounds"] or [], column["common"] or []
     return {"low": min(map(int, bounds[:1] + common)), "buckets": buckets}
 

@@ -53,7 +53,7 @@ ask() { psql -X -q -A -t -v ON_ERROR_STOP=1 "${connection[@]}" "$@"; }
 ask >"$folder/log" 2>&1 <<'SQL' || { cat "$folder/log"; check "the tables are made" false; end; }
 CREATE TABLE sales (sale_id bigint PRIMARY KEY, customer_id integer, product_id integer, store_id integer, day_id integer,
   quantity integer, amount numeric(12, 2), paid text, place point);
-INSERT INTO sales SELECT n, 1 + n * 7919 % 1000, 1 + n * 20011 % 500, CASE n % 2 WHEN 0 THEN 1 ELSE 1 + n % 20 END,
+INSERT INTO sales SELECT n, 1 + n * 7919 % 1000, 1 + n * 20011 % 500, CASE n % 2 WHEN 0 THEN 7 ELSE 1 + n % 20 END,
   1 + n % 365, 1 + n % 10, (n % 997) / 4.0, CASE n % 4 WHEN 0 THEN 'cash' ELSE 'card' END, NULL FROM generate_series(1, 100000) n;
 CREATE INDEX sales_by_day ON sales (day_id);
 CREATE INDEX sales_by_customer ON sales (customer_id DESC, day_id DESC);
@@ -69,6 +69,8 @@ CREATE TABLE stores (store_id integer PRIMARY KEY, region text, area integer);
 INSERT INTO stores SELECT n, 'region ' || n % 4, 100 + n % 7 FROM generate_series(1, 20) n;
 CREATE TABLE days (day_id integer PRIMARY KEY, month integer, year integer);
 INSERT INTO days SELECT n, 1 + (n - 1) / 31, 2024 FROM generate_series(1, 365) n;
+CREATE TABLE skewed (a integer);
+INSERT INTO skewed SELECT CASE n % 2 WHEN 0 THEN 333 ELSE n % 1001 END FROM generate_series(1, 100000) n;
 CREATE TABLE empty (a integer);
 CREATE VIEW all_sales AS SELECT * FROM sales;
 VACUUM ANALYZE;
@@ -106,8 +108,8 @@ PY
 }
 holds() { [ "$(value "$1" "$2")" = True ]; }
 check "version, segments and tables" holds catalog.json \
-  'c["version"] == 1 and c["segments"] == 16 and list(t) == ["customers", "days", "empty", "products", "sales", "stores"]'
-check "rows" holds catalog.json '[t[n]["rows"] for n in t] == [1000, 365, 0, 500, 100000, 20]'
+  'c["version"] == 1 and c["segments"] == 16 and list(t) == ["customers", "days", "empty", "products", "sales", "skewed", "stores"]'
+check "rows" holds catalog.json '[t[n]["rows"] for n in t] == [1000, 365, 0, 500, 100000, 100000, 20]'
 check "distinct values, also where they are a share of the rows" holds catalog.json \
   '(ndv["sales.sale_id"], ndv["sales.day_id"], ndv["customers.country"], ndv["stores.area"]) == (100000, 365, 26, 7)'
 check "placings" holds catalog.json 't["sales"]["distribution"] == ["customer_id"] and t["stores"]["distribution"] == "random"'
@@ -120,11 +122,44 @@ check "a histogram has 1 to 64 buckets that rise, with all rows" holds second.js
     and all(a["upto"] < b["upto"] for a, b in zip(h["buckets"], h["buckets"][1:]))
     and sum(b["rows"] for b in h["buckets"]) == 100000 and (h["low"], h["buckets"][-1]["upto"]) == (1, 365))(histogram("sales", 4))'
 check "a common value has a bucket of its own" holds second.json \
-  '(lambda h: h["low"] == 1 and h["buckets"][0]["upto"] == 1 and 47500 <= h["buckets"][0]["rows"] <= 57500)(histogram("sales", 3))'
+  '(lambda h: [6, 7] == [b["upto"] for b in h["buckets"]][4:6] and 47500 <= h["buckets"][5]["rows"] <= 52500)(histogram("sales", 3))'
+check "and so has one among many" holds second.json \
+  '(lambda h: [(b["upto"], 47500 <= b["rows"] <= 52500) for b in h["buckets"] if b["upto"] in (332, 333)] == [(332, False), (333, True)]
+    and len(h["buckets"]) <= 64)(histogram("skewed", 0))'
 check "columns that aren't integers have no histogram" holds second.json 'histogram("sales", 6) is None and histogram("products", 1) is None'
 
 import --segments 4 --hash sales=nothing >/dev/null 2>"$folder/told"
 check "an unknown column to place by ends it" grep -q "nothing is no list of 1 to 8 columns of sales" "$folder/told"
+
+# How many rows EXPLAIN expects of a condition.
+explained() {
+  ask -c "EXPLAIN (FORMAT JSON) SELECT * FROM $1 WHERE $2" |
+    python3 -c 'import json, sys; print(json.load(sys.stdin)[0]["Plan"]["Plan Rows"])'
+}
+
+# Holds two estimates against each other: the greater is at most so many times the lesser.
+agree() {
+  python3 - "$@" <<'PY'
+import sys
+name, ours, theirs, most = sys.argv[1], *map(float, sys.argv[2:])
+ratio = max(ours, theirs, 1) / max(min(ours, theirs), 1)
+print(f"{name}: {ours:.0f} rows here, {theirs:.0f} by EXPLAIN, ratio {ratio:.2f}, at most {most:g}")
+sys.exit(ratio > most)
+PY
+}
+
+# By a histogram a range has the rows of the buckets that hold a value of it.
+while IFS='|' read -r table column at above most; do
+  ours=$(value second.json "sum(b['rows'] for b in histogram('$table', $at)['buckets'] if b['upto'] > $above)")
+  check "the histogram's estimate of $table WHERE $column > $above" \
+    agree "with histograms, $table WHERE $column > $above" "$ours" "$(explained "$table" "$column > $above")" "$most"
+done <<'RANGES'
+sales|day_id|4|200|1.1
+sales|quantity|5|3|1.05
+sales|store_id|3|6|1.05
+skewed|a|0|333|1.1
+stores|area|2|102|1.05
+RANGES
 
 if [ ! -x "$program" ]; then
   echo "left out: plans and estimates, since the program isn't built"
@@ -142,20 +177,11 @@ SELECT p.brand, SUM(s.amount) AS taken FROM sales s, products p WHERE s.product_
 SELECT p.category, st.region, COUNT(*) AS sold FROM sales s, customers c, products p, stores st, days d WHERE s.customer_id = c.customer_id AND s.product_id = p.product_id AND s.store_id = st.store_id AND s.day_id = d.day_id AND c.country = 'AA' AND d.month = 3 GROUP BY p.category, st.region ORDER BY sold DESC
 QUERIES
 
-# Holds the estimates of a condition against each other: the greater is at most so many times the lesser.
 estimates() {
-  local table=$1 condition=$2 most=$3 ours theirs
-  plan "SELECT $4 FROM $table WHERE $condition" || return 1
+  local table=$1 condition=$2 most=$3 column=$4 ours
+  plan "SELECT $column FROM $table WHERE $condition" || return 1
   ours=$(sed -n 's/^ *\(Filter\|IndexSeek\)(.*) rows=\([0-9]*\) .*/\2/p' "$folder/plan" | head -n 1)
-  theirs=$(ask -c "EXPLAIN (FORMAT JSON) SELECT * FROM $table WHERE $condition" |
-    python3 -c 'import json, sys; print(json.load(sys.stdin)[0]["Plan"]["Plan Rows"])')
-  python3 - "$table WHERE $condition" "$ours" "$theirs" "$most" <<'PY'
-import sys
-name, ours, theirs, most = sys.argv[1], *map(float, sys.argv[2:])
-ratio = max(ours, theirs, 1) / max(min(ours, theirs), 1)
-print(f"{name}: {ours:.0f} rows here, {theirs:.0f} by EXPLAIN, ratio {ratio:.2f}, at most {most:g}")
-sys.exit(ratio > most)
-PY
+  agree "$table WHERE $condition" "$ours" "$(explained "$table" "$condition")" "$most"
 }
 # An equality with an even column is estimated alike. One with a value that half of the rows have isn't: version 1 knows
 # the distinct values alone. A range is a third of the rows, whatever it is.
@@ -166,7 +192,7 @@ sales|day_id = 150|1.5|sale_id
 sales|customer_id = 77|2|sale_id
 sales|sale_id = 4711|1.5|sale_id
 sales|paid = 'cash'|2.1|sale_id
-sales|store_id = 1|12|sale_id
+sales|store_id = 7|12|sale_id
 sales|quantity <= 3|1.2|sale_id
 sales|day_id > 200|1.5|sale_id
 sales|customer_id = 77 AND quantity = 3|2|sale_id
