@@ -19,7 +19,6 @@ use Rattle.xform_rules.specs.declared.rules.Rule.{Rule}
 use Rattle.xform_rules.specs.declared.rules.Rule.TheVariants as rules
 use Rattle.goal_space.specs.Goals.{IsGoal, root_goal, child_goal, root_goal_of}
 use Rattle.goal_space.specs.Asked.{AsksFor}
-use Rattle.goal_space.specs.declared.goals.GoalKind.{GoalKind}
 use Rattle.goal_space.specs.declared.goals.GoalKind.TheVariants.{Imp, ImpE}
 
 -- ---- children of results
@@ -131,5 +130,5 @@ implemented q e (bound_result before bound other rule n member member_bound has)
       below = logical_below q e (bound_result before bound e rule n member member_bound has) logical of_same;
     }
 
-pub member_asked : (q : Query) (e : ExprParts) → IsMember q e → (goal : GoalKind) × IsGoal q goal × AsksFor q goal e
-member_asked q e member = (Imp e.group, (implemented q e member).of_group, (member, refl))
+pub member_asked : (q : Query) (e : ExprParts) → IsMember q e → IsGoal q (Imp e.group) × AsksFor q (Imp e.group) e
+member_asked q e member = ((implemented q e member).of_group, (member, refl))

@@ -69,9 +69,9 @@ GoalsHaveWords q = length (lists_of q) ≤ 60 → length (orders_of q) ≤ 60 �
 abbrev pub AskedAreMembers : Query → Type 0
 AskedAreMembers q = (goal : GoalKind) (e : ExprParts) → IsGoal q goal → AsksFor q goal e → IsMember q e
 
--- each member is asked for by some goal of the query
+-- the implementation of each member's group is a goal of the query, and asks for the member
 abbrev pub MembersAreAsked : Query → Type 0
-MembersAreAsked q = (e : ExprParts) → IsMember q e → (goal : GoalKind) × IsGoal q goal × AsksFor q goal e
+MembersAreAsked q = (e : ExprParts) → IsMember q e → IsGoal q (Imp e.group) × AsksFor q (Imp e.group) e
 
 -- what is told of a goal is the least plan among which it chooses, and none exactly where there is none
 abbrev pub AnswersAreLeast : Query → Type 0

@@ -7,6 +7,7 @@ use Rattle.goal_space.specs.Goals.{IsGoal, root_goal, child_goal, root_goal_of}
 use Rattle.goal_space.specs.Entries.{IsEntry}
 use Rattle.goal_space.specs.Laws.{MembersAreAsked}
 use Rattle.goal_space.specs.declared.goals.GoalKind.{GoalKind}
+use Rattle.goal_space.specs.declared.goals.GoalKind.TheVariants.{Imp}
 use Rattle.goal_rules.specs.Meaning.{meaning_of}
 use Rattle.goal_rules.specs.declared.rules.Rules.{Rules}
 use Rattle.board_rule.specs.Looks.{ShowsFull, ShowsClosed, ShowsFinished, seen_closed, child_of, ShowsEntry, asked_by}
@@ -40,11 +41,11 @@ module _ (q : Query) (room : ℕ) (looks : List (ℕ × ℕ)) where
   entries_shown : Shows (root_goal_of q) → MembersAreAsked q → (word : ℕ) → IsEntry q word
       → ShowsEntry (meaning_of q) room looks word
   entries_shown root asked word (inl (e, member, is)) =
-      let (goal, is_goal, asks) = asked e member in
+      let (is_goal, asks) = asked e member in
       subst (ShowsEntry (meaning_of q) room looks) is
-      (asked_by (goal_word goal) (word_of e) (goals_shown root goal is_goal)
+      (asked_by (goal_word (Imp e.group)) (word_of e) (goals_shown root (Imp e.group) is_goal)
       (record {
-        goal = goal;
+        goal = Imp e.group;
         member = e;
         names = record { is_goal = is_goal; number = refl };
         asks = asks;

@@ -10,6 +10,7 @@ use Rattle.goal_space.specs.Goals.{IsGoal, root_goal, child_goal, root_goal_of}
 use Rattle.goal_space.specs.Entries.{IsEntry, IsGoalWord}
 use Rattle.goal_space.specs.Laws.{MembersAreAsked}
 use Rattle.goal_space.specs.declared.goals.GoalKind.{GoalKind}
+use Rattle.goal_space.specs.declared.goals.GoalKind.TheVariants.{Imp}
 use Rattle.goal_rules.specs.Meaning.{meaning_of}
 use Rattle.goal_rules.specs.EntryLaws.{goal_high}
 use Rattle.board_rule.specs.Words.{Mem}
@@ -47,11 +48,11 @@ module _ (q : Query) (room : ℕ) (m : Mem) (its : Searched q room m) where
   pub all_stand : Finishes q room m (root_goal_of q) → MembersAreAsked q → (e : ExprParts) → IsMember q e
       → Stands (meaning_of q) room m.cell (word_of e)
   all_stand root asked e member =
-      let (goal, is_goal, asks) = asked e member in
-      let (p, near, some, at, closed) = all_finished root goal is_goal in
+      let (is_goal, asks) = asked e member in
+      let (p, near, some, at, closed) = all_finished root (Imp e.group) is_goal in
       (its.promises.promise p near closed).asked (word_of e)
       (record {
-        goal = goal;
+        goal = Imp e.group;
         member = e;
         names = record { is_goal = is_goal; number = sym at };
         asks = asks;

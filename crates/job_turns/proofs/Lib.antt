@@ -2,6 +2,7 @@ pub mod Naming
 pub mod Awaited
 pub mod Promises
 pub mod GroupLemmas
+pub mod Shown
 pub mod NextLogical
 pub mod MembersPut
 pub mod ImplementLemmas

@@ -2,8 +2,8 @@
 #![tactic(auto)]
 
 ghost use Rattle.std.specs.Prelude.{◌≡◌};
+ghost use Rattle.query_core.specs.Keys.{IsGroup};
 ghost use Rattle.request_props.specs.Numbered.{IsProps};
-ghost use Rattle.goal_space.specs.Goals.{IsGoal};
 ghost use Rattle.goal_space.specs.Entries.{NamesGoal};
 ghost use Rattle.goal_space.specs.declared.goals.GoalKind.TheVariants.{Exp, Imp};
 ghost use Rattle.job_turns.specs.Searches.{IsBoardOf, IsSeat, IsAtWork};
@@ -16,8 +16,8 @@ use crate::over_query::await_goal;
 use board_moves::{Job, Progress, Settled, await_found, explore, settle};
 use goal_board::{Board, Hints, Seat};
 use goal_rules::{Rules, entries_are_known, explorations_are_known};
-use goal_space::{GoalKind, goals_are_known};
-use query_core::{KeyParts, Query};
+use goal_space::{GoalKind, goals_are_known, goals_ask_for_members};
+use query_core::{KeyParts, Query, candidates_are_known};
 use request_props::Props;
 use xform_rules::{members_are_candidates, results_are_known};
 
@@ -106,14 +106,17 @@ pub fn settled<'q>(
     requires board { IsBoardOf query.now board.now }
     requires props { IsProps query.now props.now }
     requires seat { IsSeat board.now seat.old }
-    requires goal { IsGoal query.now (Exp group) }
+    requires group { IsGroup query.now group }
     requires origin { ShowsOrigin query.now board.now seat.old group }
     ensures seat { IsSeat board.now seat.new }
     ensures settles { SeatSettles query.now board.now seat.old group result seat.new }
 {
-    // For the proof: the goal asks for what is found from the group's origin.
+    // For the proof: the origin is a member, so the exploration of its group is a goal, and asks for what is found from
+    // the origin.
+    candidates_are_known();
+    entries_are_known();
+    goals_ask_for_members();
     explorations_are_known();
-    goals_are_known();
     settle(
         board,
         seat,

@@ -18,6 +18,10 @@ make-requires c =
     subst IsPacked (sym c.origin_of_group.ensures)
     (known.packed q (origin_of q c.args.group) (known.origins q c.args.group is_group))
 
+pub settled-requires-clause-group : goal.settled-requires-clause-group
+settled-requires-clause-group c = c.goals_are_known.ensures.candidates c.args.query.now (Exp c.args.group)
+    c.requires.goal
+
 pub settled-requires-clause-origin : goal.settled-requires-clause-origin
 settled-requires-clause-origin c =
     let q = c.args.query.now in

@@ -9,23 +9,26 @@ use Rattle.goal_space.specs.declared.goals.GoalKind.TheVariants.{Exp}
 use Rattle.goal_rules.specs.Explored.{explored, origin_word, IsLogicalWord}
 use Rattle.goal_rules.specs.Meaning.{meaning_of}
 use Rattle.job_turns.proofs.GroupLemmas.{exploration_of}
+use Rattle.job_turns.proofs.Shown.{FindEntries, explored_group}
 use Rattle.job_turns.proofs.groups.settled.Goals as goal
 
 pub settle-requires-clause-can_next : goal.settle-requires-clause-can_next
-settle-requires-clause-can_next c κs = (
-  c.goals_are_known.ensures.candidates c.args.query.now (Exp c.args.group)
-      c.requires.goal,
-  c.requires.props,
-)
+settle-requires-clause-can_next c κs = (c.requires.group, c.requires.props)
 
 pub settle-requires-clause-group : goal.settle-requires-clause-group
 settle-requires-clause-group c κs =
     let q = c.args.query.now in
     let group = c.args.group in
+    let room = c.args.board.now.key.room in
+    let looks = (hands c.args.seat.now).looks in
+    let found : FindEntries q room looks =
+    subst (λ (p : Query). FindEntries p room looks) c.requires.board.same_query c.requires.seat.over.entries in
+    let is_goal = explored_group q room looks found (c.entries_are_known.ensures.members q)
+    (c.goals_ask_for_members.ensures.all q) group (c.candidates_are_known.ensures.origins q group c.requires.group)
+    c.requires.origin in
     subst (λ (p : Query). IsExploration (meaning_of p) (origin_word q group) (IsLogicalWord q group) explored
     (goal_word (Exp group))) (sym c.requires.board.same_query)
-    (exploration_of q group (c.explorations_are_known.ensures q c.args.props.now c.requires.props group
-    c.requires.goal))
+    (exploration_of q group (c.explorations_are_known.ensures q c.args.props.now c.requires.props group is_goal))
 
 pub settle-requires-clause-origin : goal.settle-requires-clause-origin
 settle-requires-clause-origin c κs =
