@@ -22,7 +22,7 @@ module _ (e : Engine) (v : Hands Rules) (closed : Closed) where
   -- the board of the engine's scheduler is that of the query's search
   pub closes_search : Looked v.looks (cell_word e.scheduler.root) e.scheduler.goal
       → ClosesWith rules_mean e.scheduler.board.key.rules e.scheduler.board.key.room v closed
-      → ClosesSearch (query_of e) e.cap e.scheduler.root v closed
+      → ClosesSearch (query_of e) e.room e.scheduler.root v closed
   closes_search root closes = record {
     rules = e.scheduler.board.key.rules;
     its_query = ap (λ (r : Rules). r.query.now) e.of_rules;

@@ -1,5 +1,5 @@
 -- What a run gives, over the board that its last worker closed.
-use Rattle.std.proofs.Common.{◌≡◌, ℕ, ◌<◌, ◌≤◌, All, List, length, Option, Some, ap, ⊎_elim}
+use Rattle.std.proofs.Common.{◌≡◌, ℕ, ◌<◌, ◌≤◌, All, List, length, Option, Some, ap, ⊎_elim, arith}
 use Rattle.query_core.specs.declared.query.Query.{Query}
 use Rattle.board_rule.specs.Records.{Ended}
 use Rattle.board_rule.specs.Seats.{Each}
@@ -28,9 +28,9 @@ pub record AreKnown : Type 0 where
       → All (λ (worker : ℕ). worker < n) who
 
 -- what n workers finished, in the words of a run
-pub run_ends : (known : AreKnown) (q : Query) (cap n : ℕ) (outcome : Outcome) (last : Option (ℕ × ℕ × ℕ))
-    → IsRun q cap n outcome last → RunEnds q cap n outcome
-run_ends known q cap n (Done members goals answers who) last run =
+pub run_ends : (known : AreKnown) (q : Query) (room cap n : ℕ) (outcome : Outcome) (last : Option (ℕ × ℕ × ℕ))
+    → IsRun q room cap n outcome last → RunEnds q room n outcome
+run_ends known q room cap n (Done members goals answers who) last run =
     let cell = (mem run.gives.its.closes.words).cell in
     let whole = run.gives.is.1 in
     record {
@@ -40,33 +40,50 @@ run_ends known q cap n (Done members goals answers who) last run =
       one_each = known.each cell run.view.done goals who whole.finishers;
       below = known.below cell run.view.done goals who n whole.finishers run.done;
     }
-run_ends known q cap n (Full room) last run = record { capacity = run.gives.is.capacity; more = run.gives.is.more }
-run_ends known q cap n (Unfinished goal) last run = absurd run.ended
+run_ends known q room cap n (Full cells) last run = record { capacity = run.gives.is.capacity; more = run.gives.is.more }
+run_ends known q room cap n (Unfinished goal) last run = absurd run.ended
 
 -- the note counts all goals where all are finished
-pub is_noted : (q : Query) (cap n : ℕ) (outcome : Outcome) (last : Option (ℕ × ℕ × ℕ)) → IsRun q cap n outcome last
+pub is_noted : (q : Query) (room cap n : ℕ) (outcome : Outcome) (last : Option (ℕ × ℕ × ℕ))
+    → IsRun q room cap n outcome last
     → IsNoted cap n outcome last
-is_noted q cap n (Done members goals answers who) last run = run.noted
-is_noted q cap n (Full room) last run = (length run.gives.closed.answers, run.noted)
-is_noted q cap n (Unfinished goal) last run = absurd run.ended
+is_noted q room cap n (Done members goals answers who) last run = run.noted
+is_noted q room cap n (Full cells) last run = (length run.gives.closed.answers, run.noted)
+is_noted q room cap n (Unfinished goal) last run = absurd run.ended
+
+-- a run that finished all goals on fewer cells is one of the whole capacity
+pub ends_within : (q : Query) (room cap n : ℕ) → room ≤ cap → (outcome : Outcome) → IsDoneCase outcome
+    → RunEnds q room n outcome
+    → RunEnds q cap n outcome
+ends_within q room cap n within (Done members goals answers who) done ends =
+    let few = ends.fits.few in
+    record {
+      fits = record { closure = ends.fits.closure; all_goals = ends.fits.all_goals; few = omega (arith, few, within) };
+      are_answers = ends.are_answers;
+      in_order = ends.in_order;
+      one_each = ends.one_each;
+      below = ends.below;
+    }
+ends_within q room cap n within (Full cells) done ends = absurd done
+ends_within q room cap n within (Unfinished goal) done ends = absurd done
 
 module _ (e : Engine) (n : ℕ) (w : Worker Rules) (is_last : IsLast e n w) (closed : Closed) where
   -- the last worker of a crew closed the board of the query's search
   pub last_closes : ClosesWith rules_mean e.scheduler.board.key.rules e.scheduler.board.key.room (hands w.seat) closed
-      → ClosesSearch (query_of e) e.cap e.scheduler.root (hands w.seat) closed
+      → ClosesSearch (query_of e) e.room e.scheduler.root (hands w.seat) closed
   last_closes closes = closes_search e (hands w.seat) closed is_last.its.its.its.root_shown.stands closes
 
-  module _ (outcome : Outcome) (its : ClosesSearch (query_of e) e.cap e.scheduler.root (hands w.seat) closed)
-      (is : IsOutcome (query_of e) e.cap (mem its.closes.words).cell (hands w.seat).done closed outcome) where
+  module _ (outcome : Outcome) (its : ClosesSearch (query_of e) e.room e.scheduler.root (hands w.seat) closed)
+      (is : IsOutcome (query_of e) e.room (mem its.closes.words).cell (hands w.seat).done closed outcome) where
     -- no more goals were finished than there are cells
-    pub few_finished : finished_count closed outcome ≤ e.cap
-    few_finished = finished_few (query_of e) e.cap e.scheduler.root (hands w.seat) closed its outcome is
+    pub few_finished : finished_count closed outcome ≤ e.room
+    few_finished = finished_few (query_of e) e.room e.scheduler.root (hands w.seat) closed its outcome is
 
     -- it has seen the end, so this is what the run gave
     pub last_run : (ShowsClosed (hands w.seat).looks e.scheduler.root → IsDoneCase outcome)
         → (ShowsFull (hands w.seat).looks → IsFullCase outcome)
         → (finished : ℕ) → finished ≡ finished_count closed outcome
-        → IsRun (query_of e) e.cap n outcome (Some (e.cap, n, finished))
+        → IsRun (query_of e) e.room e.cap n outcome (Some (e.cap, n, finished))
     last_run if_done if_full finished counted = record {
       place = e.scheduler.root;
       view = hands w.seat;

@@ -1,5 +1,5 @@
 -- What a run of a search to its end gives, and what its note says.
-use Rattle.std.specs.Prelude.{◌≡◌, ℕ, ◌<◌, List, All, length, Option, Some}
+use Rattle.std.specs.Prelude.{◌≡◌, ℕ, ◌<◌, ◌≤◌, List, All, length, Option, Some}
 use Rattle.query_core.specs.declared.query.Query.{Query}
 use Rattle.plan_tree.specs.declared.answers.Answered.{Answered}
 use Rattle.goal_space.specs.Answers.{AreAnswers, words_told}
@@ -51,12 +51,18 @@ finished_count closed (Done members goals answers who) = length goals
 finished_count closed (Full room) = length closed.answers
 finished_count closed (Unfinished goal) = length closed.answers
 
--- the outcome is of a board whose last seat has in its list what n workers finished; the note counts the goals that
--- were finished on it
-pub record IsRun (q : Query) (cap n : ℕ) (outcome : Outcome) (note : Option (ℕ × ℕ × ℕ)) : Type 0 where
+-- the outcome is of a board of that many cells whose last seat has in its list what n workers finished; the note has
+-- the capacity and counts the goals that were finished on the board
+pub record IsRun (q : Query) (room cap n : ℕ) (outcome : Outcome) (note : Option (ℕ × ℕ × ℕ)) : Type 0 where
   pub place : ℕ
   pub view : Hands Rules
-  pub gives : Gives q cap place view outcome
+  pub gives : Gives q room place view outcome
   pub ended : IsEnd outcome
   pub done : AreDoneBelow n view.done
   pub noted : note ≡ Some (cap, n, finished_count gives.closed outcome)
+
+-- a run was made, on a board of at most so many cells as the capacity
+pub record IsRunWithin (q : Query) (cap n : ℕ) (outcome : Outcome) (note : Option (ℕ × ℕ × ℕ)) : Type 0 where
+  pub room : ℕ
+  pub within : room ≤ cap
+  pub run : IsRun q room cap n outcome note

@@ -21,18 +21,20 @@ use query_core::{Goal, Query};
 use request_props::Props;
 use std::alloc::{AllocError, Global};
 
-/// The search of a query until its root's goal is finished, or the board is full.
+/// The search of a query until its root's goal is finished, or the board is full. Its capacity is how many entries the
+/// query may have. The board may have fewer cells.
 #[derive(Drop)]
 pub struct Engine<'q> {
     pub(crate) scheduler: Scheduler<Rules<'q>, QueryJobs<'q>>,
     pub(crate) rules: Rules<'q>,
     pub(crate) root: Goal,
+    pub(crate) room: u32,
     pub(crate) cap: u32,
     ghost of_rules: { scheduler.board.key.rules ≡ rules } by { Coded-set rules-code scheduler.board.key.rules rules },
-    ghost same_room: { scheduler.board.key.room ≡ cap },
+    ghost same_room: { scheduler.board.key.room ≡ room },
     ghost same_goal: { scheduler.goal ≡ root.0 },
     ghost its_root: { root.0 ≡ goal_word (root_goal_of rules.query.now) },
-    ghost few: { cap ≤ 2 ^ 20 },
+    ghost few: { room ≤ 2 ^ 20 },
 }
 
 impl<'q> Engine<'q> {
@@ -52,17 +54,36 @@ impl<'q> Engine<'q> {
     ) -> Result<(Engine<'q>, Worker<Rules<'q>>), AllocError>
         requires props { IsProps query.now props.now }
         requires capacity { (1 ≤ cap) × (cap ≤ 2 ^ 20) }
-        ensures engine { IfOk result (λ made. (query_of made.0 ≡ query.now) × (made.0.cap ≡ cap)) }
+        ensures query { IfOk result (λ made. query_of made.0 ≡ query.now) }
+        ensures capacity { IfOk result (λ made. (made.0.cap ≡ cap) × (made.0.room ≡ cap)) }
+        ensures worker { IfOk result (λ made. IsFresh made.0 made.1) }
+    {
+        Engine::start_on(alloc, query, props, cap, cap)
+    }
+
+    // The same with a board of `room` cells, for a query that may have `cap` entries.
+    pub(crate) fn start_on(
+        alloc: Global,
+        query: &'q Query,
+        props: &'q Props,
+        room: u32,
+        cap: u32,
+    ) -> Result<(Engine<'q>, Worker<Rules<'q>>), AllocError>
+        requires props { IsProps query.now props.now }
+        requires room { (1 ≤ room) × (room ≤ 2 ^ 20) }
+        ensures query { IfOk result (λ made. query_of made.0 ≡ query.now) }
+        ensures capacity { IfOk result (λ made. (made.0.cap ≡ cap) × (made.0.room ≡ room)) }
         ensures worker { IfOk result (λ made. IsFresh made.0 made.1) }
     {
         let rules = Rules::new(query, props);
         let root = root_word(query, props);
         let jobs = QueryJobs { rules, props };
-        let (scheduler, worker) = Scheduler::start(alloc, rules, jobs, root.0, cap)?;
+        let (scheduler, worker) = Scheduler::start(alloc, rules, jobs, root.0, room)?;
         let engine = Engine {
             scheduler,
             rules,
             root,
+            room,
             cap,
         };
         Ok((engine, worker))
@@ -133,10 +154,11 @@ impl<'q> Engine<'q> {
             scheduler,
             rules,
             root,
-            cap,
+            room,
+            cap: _,
         } = self;
         let closed = scheduler.close(alloc, worker)?;
-        outcome_of(alloc, rules.query, root, cap, closed)
+        outcome_of(alloc, rules.query, root, room, closed)
     }
 }
 

@@ -8,6 +8,7 @@ mod runs;
 mod searches;
 
 pub use engine::Engine;
+pub use goal_rules::Rules;
 pub use job_outcome::Outcome;
 pub use job_scheduler::{Stepped, Worker};
 pub use jobs::QueryJobs;

@@ -24,10 +24,10 @@ pub fn run_alone<'q>(
     note: &mut RunNote,
 ) -> Result<Outcome, AllocError>
     requires { IsFresh engine worker }
-    ensures ends { IfOk result (RunEnds (query_of engine.entry) engine.entry.cap 1) }
+    ensures ends { IfOk result (RunEnds (query_of engine.entry) engine.entry.room 1) }
     ensures noted { IfOk result (λ outcome. IsNoted engine.entry.cap 1 outcome note.new) }
     ensures run { IfOk result (λ outcome.
-        IsRun (query_of engine.entry) engine.entry.cap 1 outcome note.new) }
+        IsRun (query_of engine.entry) engine.entry.room engine.entry.cap 1 outcome note.new) }
     ensures err { OnErr result (note.new ≡ note.old) }
 {
     let mut worker = worker;
@@ -48,10 +48,10 @@ pub fn run_crew<'q, W: Threads + Wait + Sync, G: Gate>(
 ) -> Result<Outcome, AllocError>
     requires fresh { IsFresh engine worker }
     requires workers { (1 ≤ n) × (n ≤ 64) }
-    ensures ends { IfOk result (RunEnds (query_of engine.entry) engine.entry.cap n) }
+    ensures ends { IfOk result (RunEnds (query_of engine.entry) engine.entry.room n) }
     ensures noted { IfOk result (λ outcome. IsNoted engine.entry.cap n outcome note.new) }
     ensures run { IfOk result (λ outcome.
-        IsRun (query_of engine.entry) engine.entry.cap n outcome note.new) }
+        IsRun (query_of engine.entry) engine.entry.room engine.entry.cap n outcome note.new) }
     ensures err { OnErr result (note.new ≡ note.old) }
 {
     let worker = engine.scheduler.work_crew(rt, alloc, worker, n, gate)?;
@@ -67,10 +67,10 @@ fn end<'q>(
     note: &mut RunNote,
 ) -> Result<Outcome, AllocError>
     requires { IsLast engine n worker }
-    ensures ends { IfOk result (RunEnds (query_of engine.entry) engine.entry.cap n) }
+    ensures ends { IfOk result (RunEnds (query_of engine.entry) engine.entry.room n) }
     ensures noted { IfOk result (λ outcome. IsNoted engine.entry.cap n outcome note.new) }
     ensures run { IfOk result (λ outcome.
-        IsRun (query_of engine.entry) engine.entry.cap n outcome note.new) }
+        IsRun (query_of engine.entry) engine.entry.room engine.entry.cap n outcome note.new) }
     ensures err { OnErr result (note.new ≡ note.old) }
 {
     // For the proof: each finished goal has one worker, which the last one's seat has in its list.
@@ -90,18 +90,19 @@ fn close_board<'q>(
     _n: u32,
 ) -> Result<(Outcome, u32), AllocError>
     requires { IsLast engine _n worker }
-    ensures { IfOk result (λ held.
-        IsRun (query_of engine.entry) engine.entry.cap _n held.0 (Some (engine.entry.cap, _n, held.1))) }
+    ensures { IfOk result (λ held. IsRun (query_of engine.entry) engine.entry.room
+        engine.entry.cap _n held.0 (Some (engine.entry.cap, _n, held.1))) }
 {
     let Engine {
         scheduler,
         rules,
         root,
-        cap,
+        room,
+        cap: _,
     } = engine;
     let closed = scheduler.close(alloc, worker)?;
     let answers = closed.answers.len();
-    let outcome = outcome_of(alloc, rules.query, root, cap, closed)?;
+    let outcome = outcome_of(alloc, rules.query, root, room, closed)?;
     let finished = goals_finished(&outcome, answers);
     Ok((outcome, finished as u32))
 }

@@ -3,9 +3,10 @@
 //! where that was too small.
 #![tactic(auto)]
 
-ghost use Rattle.std.specs.Prelude.{◌≡◌, ◌≤◌, ◌^◌, IfOk, IfSome, OnErr, None};
+ghost use Rattle.std.specs.Prelude.{◌≡◌, ◌≤◌, ◌^◌, IfOk, OnErr, true};
 ghost use Rattle.request_props.specs.Numbered.{IsProps};
-ghost use Rattle.job_engine.specs.Runs.{RunEnds, IsNoted};
+ghost use Rattle.job_outcome.specs.Outcomes.{IsDoneCase};
+ghost use Rattle.job_engine.specs.Runs.{RunEnds, IsNoted, IsRun, IsRunWithin};
 
 use crate::engine::Engine;
 use crate::note::RunNote;
@@ -23,7 +24,8 @@ use std::thread::Threads;
 // places.
 const LEAST_FREE: usize = 128;
 
-/// Searches by one worker on a board of at most `cap` cells. It returns.
+/// Searches by one worker on a board of at most `cap` cells. It returns. The note is that of the run which gave the
+/// outcome.
 pub fn search_alone(
     alloc: Global,
     query: &Query,
@@ -35,12 +37,15 @@ pub fn search_alone(
     requires capacity { (1 ≤ cap) × (cap ≤ 2 ^ 20) }
     ensures ends { IfOk result (RunEnds query.now cap 1) }
     ensures noted { IfOk result (λ outcome. IsNoted cap 1 outcome note.new) }
+    ensures run { IfOk result (λ outcome. IsRunWithin query.now cap 1 outcome note.new) }
     ensures err { OnErr result (note.new ≡ note.old) }
 {
     let room = usual_room(query, props, cap);
     if room < cap {
-        if let Some(done) = try_alone(alloc, query, props, room, cap, note)? {
-            return Ok(done);
+        let (outcome, filled) = run_alone_on(alloc, query, props, room, cap)?;
+        if is_done(&outcome) {
+            *note = filled;
+            return Ok(outcome);
         }
     }
     let (engine, worker) = Engine::start(alloc, query, props, cap)?;
@@ -48,7 +53,8 @@ pub fn search_alone(
 }
 
 /// Searches by n workers on a board of at most `cap` cells, each worker in a thread of its own, which passes the gate
-/// before each of its steps. It may wait.
+/// before each of its steps. A search that is made again on a larger board is a second run, in which each worker's turns
+/// at the gate begin at 0 again. It may wait. The note is that of the run which gave the outcome.
 pub fn search_by_crew<W: Threads + Wait + Sync, G: Gate>(
     rt: &W,
     alloc: Global,
@@ -64,12 +70,15 @@ pub fn search_by_crew<W: Threads + Wait + Sync, G: Gate>(
     requires workers { (1 ≤ n) × (n ≤ 64) }
     ensures ends { IfOk result (RunEnds query.now cap n) }
     ensures noted { IfOk result (λ outcome. IsNoted cap n outcome note.new) }
+    ensures run { IfOk result (λ outcome. IsRunWithin query.now cap n outcome note.new) }
     ensures err { OnErr result (note.new ≡ note.old) }
 {
     let room = usual_room(query, props, cap);
     if room < cap {
-        if let Some(done) = try_crew(rt, alloc, query, props, room, cap, n, gate, note)? {
-            return Ok(done);
+        let (outcome, filled) = run_crew_on(rt, alloc, query, props, room, cap, n, gate)?;
+        if is_done(&outcome) {
+            *note = filled;
+            return Ok(outcome);
         }
     }
     let (engine, worker) = Engine::start(alloc, query, props, cap)?;
@@ -128,29 +137,28 @@ fn expected_in(query: &Query, props: &Props, key: Key) -> usize
     (expressions.saturating_mul(halves) / 2).saturating_add(requests)
 }
 
-// Searches by one worker on a board with fewer cells than the capacity. None where these were too few.
-fn try_alone(
+// A run by one worker on a board of `room` cells, with its note.
+fn run_alone_on(
     alloc: Global,
     query: &Query,
     props: &Props,
     room: u32,
     cap: u32,
-    note: &mut RunNote,
-) -> Result<Option<Outcome>, AllocError>
+) -> Result<(Outcome, RunNote), AllocError>
     requires props { IsProps query.now props.now }
-    requires capacity { (1 ≤ room) × (room ≤ cap) × (cap ≤ 2 ^ 20) }
-    ensures ends { IfOk result (λ tried. IfSome tried (RunEnds query.now cap 1)) }
-    ensures noted { IfOk result (λ tried. IfSome tried (λ outcome. IsNoted cap 1 outcome note.new)) }
-    ensures none { IfOk result (λ tried. tried ≡ None → note.new ≡ note.old) }
-    ensures err { OnErr result (note.new ≡ note.old) }
+    requires room { (1 ≤ room) × (room ≤ 2 ^ 20) }
+    ensures ends { IfOk result (λ made. RunEnds query.now room 1 made.0) }
+    ensures noted { IfOk result (λ made. IsNoted cap 1 made.0 made.1) }
+    ensures run { IfOk result (λ made. IsRun query.now room cap 1 made.0 made.1) }
 {
-    let (engine, worker) = Engine::start(alloc, query, props, room)?;
-    let outcome = run_alone(alloc, engine, worker, &mut RunNote::new())?;
-    Ok(done_within(query, outcome, room, cap, 1, note))
+    let mut note = RunNote::new();
+    let (engine, worker) = Engine::start_on(alloc, query, props, room, cap)?;
+    let outcome = run_alone(alloc, engine, worker, &mut note)?;
+    Ok((outcome, note))
 }
 
 // The same by n workers.
-fn try_crew<W: Threads + Wait + Sync, G: Gate>(
+fn run_crew_on<W: Threads + Wait + Sync, G: Gate>(
     rt: &W,
     alloc: Global,
     query: &Query,
@@ -159,52 +167,27 @@ fn try_crew<W: Threads + Wait + Sync, G: Gate>(
     cap: u32,
     n: u32,
     gate: &G,
-    note: &mut RunNote,
-) -> Result<Option<Outcome>, AllocError>
+) -> Result<(Outcome, RunNote), AllocError>
     requires props { IsProps query.now props.now }
-    requires capacity { (1 ≤ room) × (room ≤ cap) × (cap ≤ 2 ^ 20) }
+    requires room { (1 ≤ room) × (room ≤ 2 ^ 20) }
     requires workers { (1 ≤ n) × (n ≤ 64) }
-    ensures ends { IfOk result (λ tried. IfSome tried (RunEnds query.now cap n)) }
-    ensures noted { IfOk result (λ tried. IfSome tried (λ outcome. IsNoted cap n outcome note.new)) }
-    ensures none { IfOk result (λ tried. tried ≡ None → note.new ≡ note.old) }
-    ensures err { OnErr result (note.new ≡ note.old) }
+    ensures ends { IfOk result (λ made. RunEnds query.now room n made.0) }
+    ensures noted { IfOk result (λ made. IsNoted cap n made.0 made.1) }
+    ensures run { IfOk result (λ made. IsRun query.now room cap n made.0 made.1) }
 {
-    let (engine, worker) = Engine::start(alloc, query, props, room)?;
-    let outcome = run_crew(rt, alloc, engine, worker, n, gate, &mut RunNote::new())?;
-    Ok(done_within(query, outcome, room, cap, n, note))
+    let mut note = RunNote::new();
+    let (engine, worker) = Engine::start_on(alloc, query, props, room, cap)?;
+    let outcome = run_crew(rt, alloc, engine, worker, n, gate, &mut note)?;
+    Ok((outcome, note))
 }
 
-// What a run on a board of so many cells gave, if all goals are finished: that is what one of the capacity gives.
-fn done_within(
-    _query: &Query,
-    outcome: Outcome,
-    _room: u32,
-    cap: u32,
-    n: u32,
-    note: &mut RunNote,
-) -> Option<Outcome>
-    requires ended { RunEnds _query.now _room n outcome }
-    requires capacity { (_room ≤ cap) × (cap ≤ 2 ^ 20) }
-    ensures ends { IfSome result (RunEnds _query.now cap n) }
-    ensures noted { IfSome result (λ outcome. IsNoted cap n outcome note.new) }
-    ensures none { result ≡ None → note.new ≡ note.old }
+// Whether all goals are finished, which a run of the whole capacity finishes alike.
+fn is_done(outcome: &Outcome) -> bool
+    ensures { result ≡ true → IsDoneCase outcome.now }
 {
     match outcome {
-        Outcome::Done {
-            members,
-            goals,
-            answers,
-            who,
-        } => {
-            note.filled = Some((cap, n, goals.len() as u32));
-            Some(Outcome::Done {
-                members,
-                goals,
-                answers,
-                who,
-            })
-        }
-        Outcome::Full { cap: _ } => None,
-        Outcome::Unfinished { ready: _ } => None,
+        Outcome::Done { .. } => true,
+        Outcome::Full { .. } => false,
+        Outcome::Unfinished { .. } => false,
     }
 }

@@ -16,7 +16,7 @@ steps_in c =
     let v = hands c.args.worker.now.seat in
     let w = hands c.step.new.worker.seat in
     let n = c.args.worker.now.number in
-    subst (λ (r : Rules). Steps (rules_mean r) e.cap e.scheduler.root n v c.step.result w) e.of_rules
+    subst (λ (r : Rules). Steps (rules_mean r) e.room e.scheduler.root n v c.step.result w) e.of_rules
     (subst (λ (room : ℕ). Steps (rules_mean e.scheduler.board.key.rules) room e.scheduler.root n v c.step.result w)
     e.same_room c.step.ensures.steps)
 
@@ -28,7 +28,7 @@ returns-clause-alone c =
     let e = c.args.self.now in
     let v = hands c.args.worker.now.seat in
     let w = hands c.step.new.worker.seat in
-    subst (λ (r : Rules). StepsAlone (rules_mean r) e.cap v c.step.result w) e.of_rules
+    subst (λ (r : Rules). StepsAlone (rules_mean r) e.room v c.step.result w) e.of_rules
     (subst (λ (room : ℕ). StepsAlone (rules_mean e.scheduler.board.key.rules) room v c.step.result w) e.same_room
     c.step.ensures.alone)
 
@@ -42,7 +42,7 @@ returns-clause-full c full =
     let near = subst (λ (room : ℕ). root < room) e.same_room e.scheduler.near in
     let shown = subst (λ (r : Rules). ShowsGoal (rules_mean r) w.looks root e.scheduler.goal) e.of_rules
     c.step.ensures.worker.its.root_shown in
-    full_again q e.cap root c.args.worker.now.number near (c.goals_ask_for_members.ensures.all q)
+    full_again q e.room root c.args.worker.now.number near (c.goals_ask_for_members.ensures.all q)
     (hands c.args.worker.now.seat) w c.step.result full
     c.step.ensures.keeps.looks (subst (ShowsGoal (rules_mean e.rules) w.looks root) (e.same_goal ∙ e.its_root) shown)
     (steps_in c) (c.step.ensures.full full)

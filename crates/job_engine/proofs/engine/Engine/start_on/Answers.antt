@@ -4,7 +4,7 @@ use Rattle.std.proofs.lemmas.Bool.{le-leb}
 use Rattle.query_core.specs.Goals.{goal_bit}
 use Rattle.goal_space.specs.Entries.{IsEntry}
 use Rattle.goal_space.specs.Goals.{root_goal_of, root_goal}
-use Rattle.job_engine.proofs.engine.Engine.start.Goals as goal
+use Rattle.job_engine.proofs.engine.Engine.start_on.Goals as goal
 
 pub start-requires-clause-goal : goal.start-requires-clause-goal
 start-requires-clause-goal c κs within = (
