@@ -9,7 +9,7 @@ import functools
 import heapq
 import operator
 
-from plan_of_query import columns_of_sides, merged_by, table_of, tested
+from plan_of_query import columns_of_sides, index_of, merged_by, table_of, tested
 from random_rows import name_of, segment_of
 
 ONE_PLACE, SPREAD, COPIES = "at one place", "spread over the segments", "copied to each segment"
@@ -176,35 +176,38 @@ class Execution:
 
     # ---- tables
 
-    def table_parts(self, node):
-        """The rows of a table on each segment, under the alias that the node names."""
+    def table_rows(self, node, arranged):
+        """The rows of a table under the alias that the node names, those of each segment arranged so."""
         t = table_of(self.query, node)
         table = self.placed[name_of(self.query.tables[t])]
         texts = [self.query.column_text((t, column)) for column in table.columns]
-        return [self.shuffled(dict(zip(texts, row)) for row in part) for part in table.parts]
+        return Given(SPREAD, [arranged([dict(zip(texts, row)) for row in part]) for part in table.parts])
+
+    def table_and_index(self, node):
+        """The table and the number of the index that a node names."""
+        t, number = table_of(self.query, node), index_of(node)
+        if number is None or number >= len(self.query.tables[t]["indexes"]):
+            raise Fault(f"{node.name} names an index that the table doesn't have")
+        return t, number
 
     def index_key(self, node):
         """The order of the index that a node names."""
-        t = table_of(self.query, node)
-        _, _, number = node.inside.partition(", i")
-        indexes = self.query.tables[t]["indexes"]
-        if not number.isdigit() or int(number) >= len(indexes):
-            raise Fault(f"{node.name} names an index that the table doesn't have")
-        return order_key([(self.query.column_text((t, column)), False) for column in indexes[int(number)]])
+        t, number = self.table_and_index(node)
+        columns = self.query.tables[t]["indexes"][number]
+        return order_key([(self.query.column_text((t, column)), False) for column in columns])
 
     def scan(self, node):
-        return Given(SPREAD, self.table_parts(node))
+        return self.table_rows(node, self.shuffled)
 
     def index_scan(self, node):
         key = self.index_key(node)
-        return Given(SPREAD, [self.in_order(part, key) for part in self.table_parts(node)])
+        return self.table_rows(node, lambda rows: self.in_order(rows, key))
 
     def index_seek(self, node):
-        t, number = table_of(self.query, node), int(node.inside.partition(", i")[2] or 0)
         key, meets = self.index_key(node), self.test(tested(self.query, node))
-        if not self.query.is_usable(t, number):
+        if not self.query.is_usable(*self.table_and_index(node)):
             raise Fault(f"{node.name} seeks by an index whose first column is compared with no literal")
-        return Given(SPREAD, [self.in_order(filter(meets, part), key) for part in self.table_parts(node)])
+        return self.table_rows(node, lambda rows: self.in_order(filter(meets, rows), key))
 
     def filter(self, node, below):
         self.need_kind(node, below, ROWS)

@@ -27,7 +27,7 @@ import sys
 
 from orca_program import NoAnswer, plan_options, plan_words, planned_text, run, text_of_file
 from plain_plans import RULES
-from plan_of_query import AGGREGATIONS, JOINS, READS, check_nodes, merged_by, table_of, tested
+from plan_of_query import AGGREGATIONS, JOINS, READS, alias_of, check_nodes, index_of, merged_by, table_of, tested
 from printed_plan import NotAPlan, aligned, read_plan, section
 from read_query import NotAQuery, read_query
 
@@ -100,13 +100,13 @@ def details(query, node):
 
 def read_details(query, node):
     """The table and its index, and the predicates by which the index is sought."""
-    alias, _, index = node.inside.partition(", ")
-    table = query.tables[table_of(query, node)] if query else {"name": alias}
-    known = {"Scan Direction": "Forward", "Index Name": index} if index else {}
+    alias, index = alias_of(node), index_of(node)
+    table = query.tables[table_of(query, node)] if query else {}
+    known = {} if index is None else {"Scan Direction": "Forward", "Index Name": f"i{index}"}
     known.update({"Relation Name": table.get("of", alias), "Alias": alias})
     if query and node.operator == "IndexSeek":
         numbers = tested(query, node)
-        sought = [number for number in numbers if query.is_sought(number, table_of(query, node), int(index[1:]))]
+        sought = [number for number in numbers if query.is_sought(number, table_of(query, node), index)]
         others = [number for number in numbers if number not in sought]
         known.update({**conditions("Index Cond", query, sought), **conditions("Filter", query, others)})
     return known

@@ -32,13 +32,23 @@ def check_nodes(query, plan):
         raise NotAPlan("the plan doesn't read each table of the query")
 
 
+def alias_of(node):
+    """The alias of the table that a read or a filter names."""
+    return re.split("[ ,]", node.inside)[0]
+
+
+def index_of(node):
+    """The number of the index that a read names, or None."""
+    named = re.search(r", i(\d+)", node.inside)
+    return None if named is None else int(named[1])
+
+
 def table_of(query, node):
     """The number of the table that a read or a filter names."""
-    alias = re.split("[ ,]", node.inside)[0]
     for t, table in enumerate(query.tables):
-        if table["name"] == alias:
+        if table["name"] == alias_of(node):
             return t
-    raise NotAPlan(f"{node.name}: the query has no table {alias}")
+    raise NotAPlan(f"{node.name}: the query has no table {alias_of(node)}")
 
 
 def tables_below(query, node):

@@ -26,18 +26,18 @@ class Placed:
 
     def __init__(self, table, segments):
         self.columns = [name for name, _ in table["columns"]]
-        self.parts = [[] for _ in range(segments)]
+        self.hashed, self.parts = table["hashed"], [[] for _ in range(segments)]
 
     def rows(self):
         return [row for part in self.parts for row in part]
 
-    def put(self, row, hashed, pick):
-        """Puts a row where the hash of these columns says, or anywhere where there are none."""
-        if hashed is None:
-            segment = pick.randrange(len(self.parts))
+    def put(self, row, pick):
+        """Puts a row where the hash of the columns says, or anywhere where there are none."""
+        if self.hashed is None:
+            pick.choice(self.parts).append(row)
         else:
-            segment = segment_of([row[self.columns.index(name)] for name in hashed], len(self.parts))
-        self.parts[segment].append(row)
+            values = [row[self.columns.index(name)] for name in self.hashed]
+            self.parts[segment_of(values, len(self.parts))].append(row)
 
 
 def place_tables(query, pick, sizes):
@@ -76,7 +76,7 @@ def place_rows(query, table, pick, lists, count, values):
         list(itertools.islice(lists[name_of(table), column].values(), values[column])) for column in placed.columns
     ]
     for _ in range(count):
-        placed.put(tuple(map(pick.choice, chosen)), table["hashed"], pick)
+        placed.put(tuple(map(pick.choice, chosen)), pick)
     return placed
 
 
