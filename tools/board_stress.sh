@@ -29,7 +29,13 @@ echo 'board_stress: goal_board board_rule word_table atomic_table orca_base' >>"
 cp "$from/HANDLES" "$copy"
 mkdir -p "$copy/crates/board_stress/src"
 cp "$from/tools/board_stress.txt" "$copy/crates/board_stress/src/main.rt"
-sed -i '/fn hold(/,/^    }/!s/^        self\.table$/        self.key.rules.rank(0);\n&/' \
-  "$copy/crates/goal_board/src/steps.rt" "$copy/crates/goal_board/src/wait_steps.rt"
+for file in steps wait_steps; do
+  steps=$copy/crates/goal_board/src/$file.rt
+  sed -i '/fn hold(/,/^    }/!s/^        self\.table$/        self.key.rules.rank(0);\n&/' "$steps"
+  if ! grep -q '^        self\.key\.rules\.rank(0);$' "$steps"; then
+    echo "board_stress: no step of goal_board/src/$file.rt is of the form that is looked for, so there would be no pauses" >&2
+    exit 1
+  fi
+done
 cd "$copy/crates/board_stress"
 rt try --seconds $((300 + seeds * 60)) -- "$threads" "$words" "$seeds" "$first"

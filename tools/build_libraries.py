@@ -123,9 +123,9 @@ def lines_of(crates):
 
 
 def build(crate, below, jobs, yields):
-    """The status of the library's build, and what it said; whether it yields to builds that don't. It is built in a copy of the
-    crates that it stands on: `rt lib` holds the folders of all of them while it works, so two builds in one folder would
-    wait for each other. Sources are copied, so that an edit during the build doesn't reach it."""
+    """The status of the library's build, and what it said; whether it yields to builds that don't. It is built in a copy
+    of the crates that it stands on: `rt lib` holds the folders of all of them while it works, so two builds in one folder
+    would wait for each other. Sources are copied, so that an edit during the build doesn't reach it."""
     print(f"building {crate}\n", end="", flush=True)
     with tempfile.TemporaryDirectory(prefix="orca-build-") as copy:
         listed = os.path.join(copy, "crates.txt")

@@ -8,7 +8,8 @@ against plans that were worked out by hand (known_plans.py), and with --trees ag
 
 With --folder it takes the queries of a folder, each *.sql over catalog.json, with either root, in place of random ones.
 
-The program is run with each number of workers that --workers names, and has to print the same with all of them.
+The program is run with each number of workers that --workers names, and has to print the same with all of them, within
+two minutes.
 
 Usage: tools/compare.py [--cases N] [--seed N] [--tables N] [--parts PART,PART] [--workers N,N] [--memo] [--trees NODES]
        [--alone]
@@ -31,6 +32,7 @@ COMPARISONS = ["=", "=", "=", "<", ">=", "<>"]
 LITERALS = [5, 5, 5, 6, -3, "b", "it's"]
 FEW_ROWS, MANY_ROWS = [0, 1, 5, 10, 100, 1000], [1000, 1000, 20000, 500000, 10**12]
 PARTS = ["aliases", "indexes", "groupings", "options"]
+SECONDS = 120
 
 
 # ---- random queries
@@ -124,8 +126,12 @@ def cases_of_folder(folder):
 
 
 def printed(program, catalog, text, query, workers, memo):
+    """What the program prints, or that it doesn't end in time."""
     words = ["plan", catalog, text, *query.words(), "--workers", workers] + (["--memo"] if memo else [])
-    return subprocess.run([program, *words], capture_output=True, text=True).stdout
+    try:
+        return subprocess.run([program, *words], capture_output=True, text=True, timeout=SECONDS).stdout
+    except subprocess.TimeoutExpired:
+        return f"no end in {SECONDS} seconds\n"
 
 
 def check_known():

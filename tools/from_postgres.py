@@ -40,8 +40,8 @@ SELECT c.oid, c.relname AS name, c.relkind AS kind, c.relispartition AS partitio
 FROM pg_class c JOIN pg_namespace n ON n.oid = c.relnamespace
 WHERE n.nspname = :'schema' AND c.relkind IN ('r', 'p', 'm', 'v', 'f') ORDER BY c.relname"""
 
-# Their columns with their statistics. A type is ordered where PostgreSQL has a usual btree order for it, or for one that
-# it is a kind of.
+# Their columns with their statistics. A type is ordered where PostgreSQL has a usual btree order for it, or for one
+# that it is a kind of.
 COLUMNS = """
 SELECT c.oid AS table, a.attnum AS number, a.attname AS name, format_type(a.atttypid, a.atttypmod) AS type,
   t.typname AS base, s.n_distinct AS distinct, s.null_frac AS nulls,
@@ -121,8 +121,8 @@ def column_fault(column):
 
 
 def index_fault(index, names):
-    """Why an index can't be expressed, if so. It can where its columns, ascending, are all in the catalogue; one that is
-    descending throughout is read from its end."""
+    """Why an index can't be expressed, if so. It can where its columns, ascending, are all in the catalogue; one that
+    is descending throughout is read from its end."""
     if not index["valid"]:
         return "it isn't valid"
     if index["method"] != "btree":

