@@ -11,8 +11,8 @@ With --folder it takes the queries of a folder, each *.sql over catalog.json, wi
 The program is run with each number of workers that --workers names, and has to print the same with all of them, within
 two minutes.
 
-Usage: tools/compare.py [--cases N] [--seed N] [--tables N] [--parts PART,PART] [--workers N,N] [--memo] [--trees NODES]
-       [--alone]
+Usage: tools/compare.py [--cases N] [--seed N] [--tables N] [--parts PART,PART] [--versions N,N] [--workers N,N]
+       [--memo] [--trees NODES] [--alone]
        tools/compare.py --folder FOLDER [--workers N,N] [--memo] [--alone]
 """
 
@@ -24,12 +24,12 @@ import subprocess
 import sys
 import tempfile
 
-from known_plans import KNOWN, KNOWN_COUNTS
+from known_plans import KNOWN, KNOWN_COUNTS, KNOWN_ROWS
 from plain_plans import ONE, RULES, SPREAD, Query, least_by_listing, least_by_requests, memo_text, text_of
 from read_query import read_query
 
-COMPARISONS = ["=", "=", "=", "<", ">=", "<>"]
-LITERALS = [5, 5, 5, 6, -3, "b", "it's"]
+COMPARISONS = ["=", "=", "=", "<", "<=", ">", ">=", "<>"]
+LITERALS = [-5, -4, -3, 0, 2, 3, 4, 5, 5, 6, 7, 9, 12, "x", "it's"]
 FEW_ROWS, MANY_ROWS = [0, 1, 5, 10, 100, 1000], [1000, 1000, 20000, 500000, 10**12]
 PARTS = ["aliases", "indexes", "groupings", "options"]
 SECONDS = 120
@@ -38,14 +38,28 @@ SECONDS = 120
 # ---- random queries
 
 
-def random_table(pick, t, rows):
+def random_histogram(pick):
+    """A histogram whose buckets begin and end near the literals of conditions."""
+    low = upto = pick.choice([-4, 0, 3, 5])
+    buckets = []
+    for _ in range(pick.randint(1, 4)):
+        upto += pick.choice([1, 1, 2, 5]) if buckets else pick.choice([0, 1, 4])
+        buckets.append((upto, pick.choice([0, 1, 2, 7, 10**12])))
+    return low, buckets
+
+
+def random_table(pick, t, rows, version):
     columns = [(f"c{k}", pick.choice([0, 1, 3, 10, 100, 1000])) for k in range(pick.randint(1, 3))]
     some_names = lambda: pick.sample([name for name, _ in columns], pick.randint(1, min(2, len(columns))))
+    replicated = version == 2 and pick.random() < 0.4
+    counted = [name for name, _ in columns if version == 2 and pick.random() < 0.6]
     return {
         "name": f"t{t}",
         "rows": pick.choice(rows),
         "columns": columns,
-        "hashed": some_names() if pick.random() < 0.5 else None,
+        "hashed": some_names() if not replicated and pick.random() < 0.5 else None,
+        "replicated": replicated,
+        "histograms": {name: random_histogram(pick) for name in counted},
         "indexes": [some_names() for _ in range(pick.choice([0, 0, 1, 2]))],
     }
 
@@ -61,10 +75,12 @@ def random_grouping(pick, column):
     return output, group_by
 
 
-def random_query(pick, most_tables, parts):
-    """A query over at most so many tables; parts says what it may have beside joins and an order."""
+def random_query(pick, most_tables, parts, versions):
+    """A query over at most so many tables, over a catalogue of one of the versions; parts says what it may have beside
+    joins and an order."""
     rows = pick.choice([FEW_ROWS, MANY_ROWS, FEW_ROWS + MANY_ROWS])
-    tables = [random_table(pick, t, rows) for t in range(pick.randint(1, most_tables))]
+    version = pick.choice(versions)
+    tables = [random_table(pick, t, rows, version) for t in range(pick.randint(1, most_tables))]
     if "indexes" not in parts:
         for table in tables:
             table["indexes"] = []
@@ -78,7 +94,7 @@ def random_query(pick, most_tables, parts):
     preds = [(column(t, t + 1), "=", column(0, t)) for t in range(1, len(tables)) if pick.random() < 0.7]
     for _ in range(pick.randint(0, 3)):
         literal = pick.random() < (0.5 if len(tables) == 1 else 0.3)
-        preds.append((column(), pick.choice(COMPARISONS), None if literal else column()))
+        preds.append((column(), pick.choice(COMPARISONS), pick.choice(LITERALS) if literal else column()))
     output, group_by = [(column(), None)], []
     if "groupings" in parts and pick.random() < 0.5:
         output, group_by = random_grouping(pick, column)
@@ -91,9 +107,7 @@ def random_query(pick, most_tables, parts):
     if "options" in parts:
         root = SPREAD if pick.random() < 0.2 else ONE
         off = pick.sample(RULES[1:], pick.choice([1, 1, 2, 4])) if pick.random() < 0.35 else []
-    segments = pick.choice([1, 4, 4, 7])
-    literals = [pick.choice(LITERALS) if right is None else None for _, _, right in preds]
-    return Query(segments, tables, preds, output, order, group_by, root, off, literals)
+    return Query(pick.choice([1, 4, 4, 7]), tables, preds, output, order, group_by, root, off, version)
 
 
 # ---- cases: each with a name, the query, and the files of its catalogue and its text
@@ -101,8 +115,9 @@ def random_query(pick, most_tables, parts):
 
 def random_cases(asked, folder):
     catalog, text = os.path.join(folder, "catalog.json"), os.path.join(folder, "query.sql")
+    versions = [int(version) for version in asked.versions.split(",")]
     for case in range(asked.seed, asked.seed + asked.cases):
-        query = random_query(random.Random(case), asked.tables, asked.parts.split(","))
+        query = random_query(random.Random(case), asked.tables, asked.parts.split(","), versions)
         with open(catalog, "w") as file:
             file.write(query.catalog())
         with open(text, "w") as file:
@@ -139,6 +154,9 @@ def check_known():
         found = text_of(query, least_by_requests(query))
         if found != text:
             sys.exit(f"the plain program is wrong\n{query.sql()}\nknown\n{text}found\n{found}")
+    for query, key, rows in KNOWN_ROWS:
+        if query.rows(key) != rows:
+            sys.exit(f"the plain program is wrong\n{query.sql()}\nknown {rows} rows, found {query.rows(key)}")
     for query, groups, members in KNOWN_COUNTS:
         found = len(query.members), sum(map(len, query.members.values()))
         if found != (groups, members):
@@ -166,6 +184,7 @@ def main():
     options.add_argument("--seed", type=int, default=1)
     options.add_argument("--tables", type=int, default=4, help="the most tables of a query")
     options.add_argument("--parts", default=",".join(PARTS), help="what queries may have, of " + ", ".join(PARTS))
+    options.add_argument("--versions", default="1", help="the versions of catalogues, of 1 and 2")
     options.add_argument("--workers", default="1,4", help="with how many workers the program is run")
     options.add_argument("--memo", action="store_true", help="compare the memos, too")
     options.add_argument("--trees", type=int, default=0, metavar="NODES", help="list all plans of at most so many nodes")

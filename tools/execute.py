@@ -17,7 +17,7 @@ twelve rows then, whatever the catalogue says.
 
 Usage: tools/execute.py CATALOG QUERY [--root one|spread] [--off RULE+RULE] [--workers N] [--capacity N]
        [--plan FILE] [--rows N] [--values N] [--seed N] [--analyze] [--program PROGRAM]
-       tools/execute.py --cases N [--seed N] [--tables N] [--parts PART,PART] [--program PROGRAM]
+       tools/execute.py --cases N [--seed N] [--tables N] [--parts PART,PART] [--versions N,N] [--program PROGRAM]
        tools/execute.py --folder FOLDER [--seed N] [--program PROGRAM]
 """
 
@@ -124,7 +124,7 @@ def shown(rows, most=20):
 
 
 def smaller_catalog(text, query, sizes):
-    """The catalogue's text with the sizes of the tables that were made."""
+    """The catalogue's text with the sizes of the tables that were made, without histograms, which rows don't follow."""
     catalog = json.loads(text)
     made = {name_of(table): sizes(table) for table in query.tables}
     for table in catalog["tables"]:
@@ -132,6 +132,7 @@ def smaller_catalog(text, query, sizes):
             table["rows"], values = made[table["name"]]
             for column in table["columns"]:
                 column["ndv"] = values[column["name"]]
+                column.pop("histogram", None)
     return json.dumps(catalog)
 
 
@@ -257,6 +258,7 @@ def options_of(words):
     options.add_argument("--cases", type=int, default=0, help="so many random queries")
     options.add_argument("--tables", type=int, default=4, help="the most tables of a random query")
     options.add_argument("--parts", default=",".join(PARTS), help="what random queries may have")
+    options.add_argument("--versions", default="1", help="the versions of random catalogues, of 1 and 2")
     options.add_argument("--folder", help="the queries of this folder, over its catalog.json")
     plan_options(options)
     asked = options.parse_args(words)

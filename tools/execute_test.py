@@ -44,6 +44,21 @@ RIGHT = [
     (COUNT, "HashAgg(one)|  Gather|    PartialAgg|      Filter(t)|        Scan(t)"),
 ]
 
+# the same where each segment has a copy of t
+REPLICATED = CATALOG.replace('"version": 1', '"version": 2').replace('"random"', '"replicated"')
+OF_COPIES = [
+    (JOIN, "GatherMerge(s.x)|  Sort(s.x)|    HashJoin(copied)|      IndexSeek(s, i0)|      Filter(t)"
+           "|        Scan(t copies)"),
+    (JOIN, "Sort(s.x)|  HashJoin(one)|    Gather|      IndexSeek(s, i0)|    Filter(t)|      Scan(t one)"),
+    (GROUPS, "GatherMerge(t.n)|  StreamAgg(hashed t.n)|    Sort(t.n)|      Redistribute(t.n)|        PartialAgg"
+             "|          Scan(t own)"),
+    (GROUPS, "Sort(t.n)|  HashAgg(one)|    Scan(t one)"),
+]
+WRONG_OF_COPIES = [
+    (GROUPS, "Sort(t.n)|  HashAgg(one)|    Gather|      Scan(t copies)", "needs what is spread"),
+    (GROUPS, "Sort(t.n)|  HashAgg(one)|    Gather|      Scan(t)", "doesn't say how it reads"),
+]
+
 # plans that don't, and a part of what is told
 WRONG = [
     (JOIN, "GatherMerge(s.x)|  HashJoin(colocated p0)|    IndexSeek(s, i0)|    Redistribute(t.k)|      Filter(t)"
@@ -114,6 +129,17 @@ def right_plans_answer_as_sqlite():
             assert found is None, (nodes, found)
 
 
+def copies_are_read_as_the_plan_says():
+    for sql, nodes in OF_COPIES:
+        query = read_query(REPLICATED, sql)
+        for seed in range(5):
+            found = told(query, sql, plan_of(query, nodes), seed)
+            assert found is None, (nodes, found)
+    for sql, nodes, reason in WRONG_OF_COPIES:
+        query = read_query(REPLICATED, sql)
+        assert reason in told(query, sql, plan_of(query, nodes)), nodes
+
+
 def plans_known_by_hand_answer_as_sqlite():
     for query, text in KNOWN:
         if text != "no plan\n":
@@ -165,9 +191,9 @@ def names_are_quoted_for_sqlite():
 
 def queries_are_read_as_they_were_made():
     for case in range(100):
-        made = random_query(random.Random(case), 4, PARTS)
+        made = random_query(random.Random(case), 4, PARTS, [1, 2])
         read = read_query(made.catalog(), made.sql())
-        for part in ["segments", "tables", "preds", "literals", "output", "order", "group_by"]:
+        for part in ["version", "segments", "tables", "preds", "output", "order", "group_by"]:
             assert getattr(read, part) == getattr(made, part), (case, part)
 
 
@@ -213,6 +239,7 @@ def the_page_shows_what_is_printed():
 
 WITHOUT_PROGRAM = [
     right_plans_answer_as_sqlite,
+    copies_are_read_as_the_plan_says,
     plans_known_by_hand_answer_as_sqlite,
     wrong_plans_are_told,
     tables_may_be_empty,

@@ -9,6 +9,7 @@ import functools
 import heapq
 import operator
 
+from plain_plans import is_column
 from plan_of_query import columns_of_sides, index_of, merged_by, table_of, tested
 from random_rows import name_of, segment_of
 
@@ -177,11 +178,25 @@ class Execution:
     # ---- tables
 
     def table_rows(self, node, arranged):
-        """The rows of a table under the alias that the node names, those of each segment arranged so."""
+        """The rows of a table under the alias that the node names, those of each part arranged so."""
         t = table_of(self.query, node)
         table = self.placed[name_of(self.query.tables[t])]
         texts = [self.query.column_text((t, column)) for column in table.columns]
-        return Given(SPREAD, [arranged([dict(zip(texts, row)) for row in part]) for part in table.parts])
+        lie, parts = self.read_parts(node, table)
+        return Given(lie, [arranged([dict(zip(texts, row)) for row in part]) for part in parts])
+
+    def read_parts(self, node, table):
+        """How the rows of a table lie as the node reads them; of copies all segments read a share, or one reads all."""
+        if not table.replicated:
+            return SPREAD, table.parts
+        mode, rows = node.inside.split(" ")[-1], self.shuffled(table.rows())
+        if mode == "own":
+            return SPREAD, [rows[segment :: len(table.parts)] for segment in range(len(table.parts))]
+        if mode == "one":
+            return ONE_PLACE, [rows]
+        if mode == "copies":
+            return COPIES, table.parts
+        raise Fault(f"{node.name} doesn't say how it reads a table of which each segment has a copy")
 
     def table_and_index(self, node):
         """The table and the number of the index that a node names."""
@@ -222,9 +237,8 @@ class Execution:
     def one_test(self, number):
         left, comparison, right = self.query.preds[number]
         left_text, compared = self.query.column_text(left), COMPARED[comparison]
-        if right is None:
-            literal = rank(self.query.literals[number])
-            return lambda row: compared(rank(row[left_text]), literal)
+        if not is_column(right):
+            return lambda row: compared(rank(row[left_text]), rank(right))
         right_text = self.query.column_text(right)
         return lambda row: compared(rank(row[left_text]), rank(row[right_text]))
 

@@ -141,7 +141,7 @@ def a_case(pick, catalogs, queries):
         words = [b"gen", number, str(pick.choice([1, 2, 3, 3, 4])).encode(), pick.choice(SHAPES)]
         return b"", b"", with_capacity(pick, words_changed(pick, words) if pick.random() < 0.7 else words)
     if pick.random() < 0.5:
-        query = random_query(pick, 3, PARTS)
+        query = random_query(pick, 3, PARTS, [1])
         catalog, text, options = query.catalog().encode(), query.sql().encode(), [w.encode() for w in query.words()]
     else:
         catalog, text, options = pick.choice(catalogs), pick.choice(queries), []

@@ -57,23 +57,43 @@ def begins(order, wanted):
     return order[: len(wanted)] == wanted
 
 
+def is_column(side):
+    """Whether the side of a comparison is a column; else it is a literal."""
+    return isinstance(side, tuple)
+
+
+def literal_text(literal):
+    return str(literal) if isinstance(literal, int) else "'" + literal.replace("'", "''") + "'"
+
+
+def column_of(table, name, ndv):
+    """The column as a catalogue has it."""
+    histogram = table.get("histograms", {}).get(name)
+    if histogram is None:
+        return {"name": name, "ndv": ndv}
+    low, buckets = histogram
+    buckets = [{"upto": upto, "rows": rows} for upto, rows in buckets]
+    return {"name": name, "ndv": ndv, "histogram": {"low": low, "buckets": buckets}}
+
+
 class Query:
     """A query and what is derived from it.
 
     tables    each with name, rows, columns (name and ndv), hashed (names, or None) and indexes (lists of names);
-              where it is another one's under an alias, of is that one's name
-    preds     (column, comparison, column or None for a literal); a column is (table, name)
-    literals  for each predicate its literal, a number or a text, or None; where they aren't told, each is 5
+              where it is another one's under an alias, of is that one's name. In version 2 replicated says whether
+              all rows lie on each segment, and histograms has for some of its columns (low, [(upto, rows), ..])
+    preds     (column, comparison, column or literal); a column is (table, name), a literal a number or a text
     output    (what, output name or None), where what is a column or (function, column or None for a star)
     order     (column or output name, whether it descends)
     group_by  columns
     root      where the result is to be, ONE or SPREAD
     off       rules that are off
+    version   the version of the catalogue
     """
 
-    def __init__(self, segments, tables, preds, output, order=(), group_by=(), root=ONE, off=(), literals=None):
+    def __init__(self, segments, tables, preds, output, order=(), group_by=(), root=ONE, off=(), version=1):
         self.segments, self.tables, self.preds = segments, tables, list(preds)
-        self.literals = literals or [5 if right is None else None for _, _, right in preds]
+        self.version = version
         self.output, self.order, self.group_by = list(output), list(order), list(group_by)
         self.root, self.off = root, set(off)
         self.aggs = [(what, name) for what, name in self.output if isinstance(what[0], str)]
@@ -88,10 +108,15 @@ class Query:
     def number_items(self):
         place = {(t, name): k for t, table in enumerate(self.tables) for k, (name, _) in enumerate(table["columns"])}
         self.values = {(t, name): ndv for t, table in enumerate(self.tables) for name, ndv in table["columns"]}
+        self.histograms = {
+            (t, name): histogram
+            for t, table in enumerate(self.tables)
+            for name, histogram in table.get("histograms", {}).items()
+        }
         used = {what for what, _ in self.output if not isinstance(what[0], str)} | set(self.group_by)
         used |= {column for (_, column), _ in self.aggs if column is not None}
         used |= {key for key, _ in self.order if not isinstance(key, str)}
-        used |= {side for left, _, right in self.preds for side in (left, right) if side is not None}
+        used |= {side for left, _, right in self.preds for side in (left, right) if is_column(side)}
         for t, table in enumerate(self.tables):
             for names in [table["hashed"] or [], *table["indexes"]]:
                 used |= {(t, name) for name in names}
@@ -99,7 +124,7 @@ class Query:
         self.number = {item: k for k, item in enumerate(self.items)}
         self.table_of = [t for t, _ in self.items]
         self.conditions = [
-            (self.number[left], op, None if right is None else self.number[right]) for left, op, right in self.preds
+            (self.number[left], op, self.number[right] if is_column(right) else None) for left, op, right in self.preds
         ]
         self.groups_by = list(dict.fromkeys(self.number[column] for column in self.group_by))
         # the items of the output: aggregates stand behind the columns, in the order of the text
@@ -199,14 +224,26 @@ class Query:
     def linked(self, one, other):
         return any(one >> a & 1 and other >> b & 1 or one >> b & 1 and other >> a & 1 for a, b in self.links)
 
-    def divisor(self, condition):
-        left, op, right = condition
+    def factor(self, place):
+        """The factor of the condition at this place: so many of so many rows are left."""
+        left, op, right = self.conditions[place]
         if op == "<>":
-            return 1
-        if op != "=":
-            return 3
-        sides = [left] if right is None else [left, right]
-        return max([1] + [self.values[self.items[side]] for side in sides])
+            return 1, 1
+        if op == "=":
+            sides = [left] if right is None else [left, right]
+            return 1, max([1] + [self.values[self.items[side]] for side in sides])
+        histogram = self.histograms.get(self.items[left])
+        literal = self.preds[place][2]
+        if histogram is None or not isinstance(literal, int):
+            return 1, 3
+        met = rows = 0
+        low, buckets = histogram
+        for upto, count in buckets:
+            least, most = (low, literal) if op in ("<", "<=") else (literal, upto)
+            met += count if least < most or least == most and op in ("<=", ">=") else 0
+            rows += count
+            low = upto + 1
+        return (met, rows) if rows else (1, 3)
 
     @functools.lru_cache(None)
     def rows(self, key):
@@ -219,10 +256,11 @@ class Query:
             if tables_of(key) >> t & 1:
                 count = min(MOST_ROWS, count * self.tables[t]["rows"])
                 so_far |= 1 << t
-                for condition in self.conditions:
-                    over = {self.table_of[side] for side in (condition[0], condition[2]) if side is not None}
+                for place, (left, _, right) in enumerate(self.conditions):
+                    over = {self.table_of[side] for side in (left, right) if side is not None}
                     if t in over and all(so_far >> u & 1 for u in over):
-                        count = divide(count, self.divisor(condition))
+                        part, whole = self.factor(place)
+                        count = divide(count * part, whole)
         return count
 
     def grouped_rows(self, key):
@@ -337,10 +375,15 @@ class Query:
             t = key % 16
             placing = self.placing[t]
             placed = RANDOM if placing is None else ("Hashed", self.lists[placing])
-            alias = self.tables[t]["name"]
-            if op == "Scan":
-                return [Line(0, f"Scan({alias})", (placed, None), ((), None), None)]
-            return [Line(0, f"{op}({alias}, i{index})", (placed, None), (self.indexes[t][index], None), None)]
+            read = self.tables[t]["name"] + ("" if op == "Scan" else f", i{index}")
+            order = () if op == "Scan" else self.indexes[t][index]
+            ways = [("", placed)]
+            if self.tables[t].get("replicated"):
+                ways = [(" own", RANDOM), (" one", ONE), (" copies", COPIES)]
+            return [
+                Line(mode, f"{op}({read}{way})", (dist, None), (order, None), None)
+                for mode, (way, dist) in enumerate(ways)
+            ]
         if op == "Filter":
             return [Line(0, f"Filter({self.tables[key - 16]['name']})", AS_LEFT, AS_LEFT, None)]
         if op == "PartialAgg":
@@ -430,11 +473,7 @@ class Query:
     def pred_text(self, number):
         """A predicate as it is written in SQL."""
         left, comparison, right = self.preds[number]
-        literal = self.literals[number]
-        if right is not None:
-            value = self.column_text(right)
-        else:
-            value = "'" + literal.replace("'", "''") + "'" if isinstance(literal, str) else str(literal)
+        value = self.column_text(right) if is_column(right) else literal_text(right)
         return f"{self.column_text(left)} {comparison} {value}"
 
     def sql(self):
@@ -456,14 +495,14 @@ class Query:
             {
                 "name": table["name"],
                 "rows": table["rows"],
-                "distribution": table["hashed"] or "random",
-                "columns": [{"name": name, "ndv": ndv} for name, ndv in table["columns"]],
+                "distribution": "replicated" if table.get("replicated") else table["hashed"] or "random",
+                "columns": [column_of(table, name, ndv) for name, ndv in table["columns"]],
                 "indexes": table["indexes"],
             }
             for table in self.tables
             if "of" not in table
         ]
-        return json.dumps({"version": 1, "segments": self.segments, "tables": tables})
+        return json.dumps({"version": self.version, "segments": self.segments, "tables": tables})
 
     def words(self):
         """The words of the command line behind the two names."""

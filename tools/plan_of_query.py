@@ -2,6 +2,7 @@
 
 import re
 
+from plain_plans import is_column
 from printed_plan import NotAPlan
 
 READS = ["Scan", "IndexScan", "IndexSeek"]
@@ -60,7 +61,7 @@ def tables_below(query, node):
 
 def tables_of_pred(query, number):
     left, _, right = query.preds[number]
-    return {column[0] for column in (left, right) if column is not None}
+    return {side[0] for side in (left, right) if is_column(side)}
 
 
 def tested(query, node):

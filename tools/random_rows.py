@@ -8,6 +8,8 @@ texts where it is compared with texts alone.
 import itertools
 import zlib
 
+from plain_plans import is_column
+
 MOST_INTEGER = 2**63 - 1
 
 
@@ -26,14 +28,19 @@ class Placed:
 
     def __init__(self, table, segments):
         self.columns = [name for name, _ in table["columns"]]
-        self.hashed, self.parts = table["hashed"], [[] for _ in range(segments)]
+        self.hashed, self.replicated = table["hashed"], table.get("replicated", False)
+        self.parts = [[] for _ in range(segments)]
 
     def rows(self):
-        return [row for part in self.parts for row in part]
+        """The rows, those of copies once."""
+        return list(self.parts[0]) if self.replicated else [row for part in self.parts for row in part]
 
     def put(self, row, pick):
-        """Puts a row where the hash of the columns says, or anywhere where there are none."""
-        if self.hashed is None:
+        """Puts a row on each segment, or where the hash of the columns says, or anywhere."""
+        if self.replicated:
+            for part in self.parts:
+                part.append(row)
+        elif self.hashed is None:
             pick.choice(self.parts).append(row)
         else:
             values = [row[self.columns.index(name)] for name in self.hashed]
@@ -124,11 +131,11 @@ def value_lists(query, pick):
     def list_of(column):
         return lists[name_of(query.tables[column[0]]), column[1]]
 
-    for (left, _, right), literal in zip(query.preds, query.literals):
-        if right is None:
-            list_of(left).literals.append(literal)
-        else:
+    for left, _, right in query.preds:
+        if is_column(right):
             join_lists(lists, list_of(left), list_of(right))
+        else:
+            list_of(left).literals.append(right)
     for (function, column), _ in query.aggs:
         if function == "SUM":
             list_of(column).summed = True

@@ -7,7 +7,7 @@ one, and no more of where it is than the next token.
 import json
 import re
 
-from plain_plans import ONE, Query
+from plain_plans import ONE, Query, is_column
 
 KEYWORDS = ["SELECT", "FROM", "WHERE", "AND", "GROUP", "BY", "ORDER", "ASC", "DESC", "AS"]
 FUNCTIONS = ["COUNT", "SUM", "MIN", "MAX"]
@@ -120,17 +120,17 @@ class Select:
         return name, self.tokens.take("name") if has_alias else name
 
     def pred(self):
-        """The left column, the comparison, the right column or None for a literal, and the literal."""
+        """The left column, the comparison, and the right column or the literal."""
         left, comparison = self.column(), self.tokens.take("sign")
         if comparison not in COMPARISONS:
             raise NotAQuery(f"{comparison} stands where a comparison is expected")
         kind, word = self.tokens.next()
         if kind == "name":
-            return left, comparison, self.column(), None
+            return left, comparison, self.column()
         if kind not in ("integer", "string"):
             raise NotAQuery(f"{word} stands where a column or a literal is expected")
         self.tokens.take(kind)
-        return left, comparison, None, int(word) if kind == "integer" else word[1:-1].replace("''", "'")
+        return left, comparison, int(word) if kind == "integer" else word[1:-1].replace("''", "'")
 
     def key(self):
         """A column, and whether it descends."""
@@ -140,6 +140,10 @@ class Select:
         return column, descends
 
 
+def histogram_of(histogram):
+    return histogram["low"], [(bucket["upto"], bucket["rows"]) for bucket in histogram["buckets"]]
+
+
 def tables_of_catalog(catalog):
     """The tables of a catalogue by their names."""
     return {
@@ -147,7 +151,13 @@ def tables_of_catalog(catalog):
             "name": table["name"],
             "rows": table["rows"],
             "columns": [(column["name"], column["ndv"]) for column in table["columns"]],
-            "hashed": None if table["distribution"] == "random" else table["distribution"],
+            "hashed": table["distribution"] if isinstance(table["distribution"], list) else None,
+            "replicated": table["distribution"] == "replicated",
+            "histograms": {
+                column["name"]: histogram_of(column["histogram"])
+                for column in table["columns"]
+                if catalog["version"] == 2 and "histogram" in column
+            },
             "indexes": table.get("indexes", []),
         }
         for table in catalog["tables"]
@@ -155,10 +165,10 @@ def tables_of_catalog(catalog):
 
 
 def read_catalog(text):
-    """The number of segments, and the tables by their names."""
+    """The version, the number of segments, and the tables by their names."""
     try:
         catalog = json.loads(text)
-        return catalog["segments"], tables_of_catalog(catalog)
+        return catalog["version"], catalog["segments"], tables_of_catalog(catalog)
     except ValueError as fault:
         raise NotAQuery(f"the catalogue isn't JSON: {fault}") from fault
     except (KeyError, TypeError) as fault:
@@ -166,7 +176,7 @@ def read_catalog(text):
 
 
 def read_query(catalog_text, sql_text, root=ONE, off=()):
-    segments, known = read_catalog(catalog_text)
+    version, segments, known = read_catalog(catalog_text)
     try:
         select = Select(sql_text)
     except NotAQuery as fault:
@@ -202,8 +212,8 @@ def read_query(catalog_text, sql_text, root=ONE, off=()):
         return name if alias is None and name in names else column(alias, name)
 
     preds = [
-        (column(*left), comparison.replace("!=", "<>"), None if right is None else column(*right))
-        for left, comparison, right, _ in select.preds
+        (column(*left), comparison.replace("!=", "<>"), column(*right) if is_column(right) else right)
+        for left, comparison, right in select.preds
     ]
     return Query(
         segments,
@@ -214,5 +224,5 @@ def read_query(catalog_text, sql_text, root=ONE, off=()):
         group_by=[column(*written) for written in select.group_by],
         root=root,
         off=off,
-        literals=[literal for *_, literal in select.preds],
+        version=version,
     )
