@@ -21,7 +21,7 @@ use query_core::{Key, KeyParts, Query, expressions_are_one, groups_are_known};
 use request_props::{Props, Request};
 use std::alloc::AllocError;
 
-/// KeptPlans the request for the group: its least plan, or that there is none.
+/// Answers the request for the group: keeps its least plan, or that there is none.
 pub fn answer(
     query: &Query,
     props: &Props,

@@ -18,3 +18,4 @@ pub mod TriedOfOperators
 pub mod JoinsServe
 pub mod FirstModes
 pub mod FoundEnforcers
+pub mod There

@@ -2,6 +2,7 @@ pub mod Nodes
 pub mod Alternatives
 pub mod Enforcers
 pub mod Costs
+pub mod NodeCosts
 pub mod Spells
 pub mod Found
 pub mod Seen

@@ -1,19 +1,21 @@
 //! The modes in which an expression may serve a request. No call here takes memory.
 #![tactic(auto)]
 
-ghost use Rattle.std.specs.Prelude.{ℕ, ◌≡◌, ◌<◌, List, Some, IfSome};
+ghost use Rattle.std.specs.Prelude.{ℕ, ◌≡◌, ◌<◌, IsTrue, List, None, Some, IfSome};
 ghost use Rattle.query_core.specs.declared.query.Query.{Query as AnyQuery};
+ghost use Rattle.query_core.specs.declared.expressions.ExprParts.{ExprParts};
 ghost use Rattle.query_core.specs.declared.expressions.PhysicalExpr.{PhysicalExpr as Parts};
 ghost use Rattle.request_props.specs.declared.request.Request.{Request as AnyRequest};
 ghost use Rattle.query_core.specs.Keys.{IsGroup};
 ghost use Rattle.query_core.specs.declared.words.KeyParts.{KeyParts as Group};
-ghost use Rattle.query_core.specs.Expressions.{IsCandidate, IsChild, expr_of};
+ghost use Rattle.query_core.specs.Expressions.{HasWord, IsCandidate, IsCandidateWord, IsChild, expr_of, is_logical};
 ghost use Rattle.request_props.specs.Numbered.{IsProps, IsNumbered};
 ghost use Rattle.plan_space.specs.Alternatives.{IsAlternative, LineServes, asked_of};
 ghost use Rattle.plan_space.specs.Nodes.{node_modes};
 ghost use Rattle.plan_space.specs.Lines.{line_of as line_by_table};
 ghost use Rattle.plan_space.specs.Choices.{groups_of};
 ghost use Rattle.plan_tree.specs.Alternatives.{AreAsked, AreModes, IsAltAt, IsAltBy, IsAltIn, IsAsk};
+ghost use Rattle.plan_tree.specs.NodeCosts.{IsThere};
 
 use crate::lines::line_of;
 use crate::node::Node;
@@ -21,7 +23,7 @@ use crate::serving::{asked_left, asked_right, left_child, right_child, serves};
 use crate::walks::next_line;
 use plan_space::{Line, NodeKind, modes_are_few};
 use query_core::{
-    Children, Key, KeyParts, PhysicalExpr, Query, candidates_are_known, groups_are_known,
+    Children, Expr, Key, KeyParts, PhysicalExpr, Query, candidates_are_known, groups_are_known,
 };
 use request_props::{Props, Request};
 
@@ -92,8 +94,34 @@ pub fn alternative_at(
     alt_over(query, node, line, expr.children(), request)
 }
 
-/// The alternative at this place, of those for the request, ascending by their modes.
+/// The alternative at this place, of those that the expression of this word has for the request, ascending by their
+/// nodes. A logical expression has none.
 pub fn alternative(
+    query: &Query,
+    props: &Props,
+    expr: Expr,
+    request: Request,
+    n: u32,
+) -> Option<Alt>
+    requires props { IsProps query.now props.now }
+    requires candidate { IsCandidateWord query.now expr.0 }
+    requires numbered { IsNumbered query.now request.order }
+    ensures physical { (e : Parts) → HasWord expr.0 (expr_of e) →
+        IsAltAt query.now e request n result }
+    ensures logical { (e : ExprParts) → HasWord expr.0 e → IsTrue (is_logical e.operator) →
+        result ≡ None }
+    ensures there { IfSome result (λ alt. IsThere query.now request alt.node) }
+{
+    // For the proof: a candidate has a word.
+    candidates_are_known();
+    match expr.known_parts().as_physical() {
+        Some(expr) => alternative_of(query, props, expr, request, n),
+        None => None,
+    }
+}
+
+/// The same of a physical expression, ascending by the modes.
+pub fn alternative_of(
     query: &Query,
     props: &Props,
     expr: PhysicalExpr,

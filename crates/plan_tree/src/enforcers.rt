@@ -1,7 +1,7 @@
 //! The enforcers that may meet a request. No call here takes memory.
 #![tactic(auto)]
 
-ghost use Rattle.std.specs.Prelude.{◌≡◌, None, slice_get};
+ghost use Rattle.std.specs.Prelude.{◌≡◌, None, IfSome, slice_get};
 ghost use Rattle.query_core.specs.Keys.{IsGroup, IsKey, Names};
 ghost use Rattle.query_core.specs.declared.words.KeyParts.{KeyParts as Group};
 ghost use Rattle.request_props.specs.Numbered.{IsProps};
@@ -10,6 +10,7 @@ ghost use Rattle.plan_space.specs.Enforcers.{Among, EnforcedBy, below_of, enforc
 ghost use Rattle.plan_space.specs.declared.nodes.NodeKind.TheVariants.{Enforcer as enforcing};
 ghost use Rattle.plan_tree.specs.Nodes.{EnforcerInRange, IsNode};
 ghost use Rattle.plan_tree.specs.Enforcers.{AreBoth, IsEnforced, IsEnforcerAt};
+ghost use Rattle.plan_tree.specs.NodeCosts.{IsThere};
 
 use crate::node::Node;
 use plan_space::{Enforcer, NodeKind};
@@ -37,6 +38,7 @@ pub fn enforcer(
         IsEnforcerAt query.now g request n result }
     ensures fitting { (g : Group) → Names query.now key g → Fits query.now g request →
         IsEnforced result (slice_get (enforcers_of request) n) }
+    ensures there { IfSome result (λ found. IsThere query.now request found.node) }
 {
     let (first, second) = both(query, props, query.group(key), request);
     match n {

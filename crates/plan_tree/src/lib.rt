@@ -7,6 +7,7 @@ mod cost;
 mod enforcers;
 mod lines;
 mod node;
+mod node_costs;
 mod plan;
 mod seen;
 mod seen_cost;
@@ -15,13 +16,14 @@ mod serving_modes;
 mod walks;
 
 pub use alternatives::{
-    Alt, alternative, alternative_at, alternative_by, alternative_in, modes_are_one,
+    Alt, alternative, alternative_at, alternative_by, alternative_in, alternative_of, modes_are_one,
 };
 pub use answers::{Answered, Answers};
 pub use cost::{ExprRows, enforcer_cost, enforcer_cost_by, expr_rows, native_cost, native_cost_by};
 pub use enforcers::{Enforced, asked_by, enforcer, enforcer_for};
 pub use lines::{line_of, table_in};
 pub use node::{Node, nodes_are_one};
+pub use node_costs::node_cost;
 pub use plan::{Found, Plan};
 pub use seen::{Below, given_satisfies, plan_seen, seen_above, seen_below};
 pub use seen_cost::{cost_above, cost_above_any, rows_above};

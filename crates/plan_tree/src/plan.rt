@@ -24,7 +24,7 @@ pub enum Found {
 }
 
 impl Plan {
-    /// The same plan once more.
+    /// A plan that spells the tree that this one spells, if it spells one.
     pub fn copy(&self, alloc: Global) -> Result<Plan, AllocError>
         ensures { IfOk result (λ plan. (tree : Tree) → Spells self.now tree → Spells plan tree) }
     {

@@ -31,7 +31,7 @@ pub fn cost_above(query: &Query, props: &Props, kind: NodeKind, below: Below) ->
     cost_above_any(query, props, kind, below)
 }
 
-/// The same, over any plans: a group that isn't the query's counts as one without rows.
+/// The same, over any plans; of groups that the query hasn't no more is said than the least and the most.
 pub fn cost_above_any(query: &Query, props: &Props, kind: NodeKind, below: Below) -> u64
     requires { IsProps query.now props.now }
     ensures value { HasGroup query.now kind → HaveGroups query.now below →
@@ -42,7 +42,7 @@ pub fn cost_above_any(query: &Query, props: &Props, kind: NodeKind, below: Below
     local(node_shape(query, props, kind, below))
 }
 
-/// The rows of a node's group over plans that are seen so; 0 where it isn't the query's.
+/// The rows of a node's group over plans that are seen so, where the groups are the query's.
 pub fn rows_above(query: &Query, props: &Props, kind: NodeKind, below: Below) -> u64
     requires { IsProps query.now props.now }
     ensures { HasGroup query.now kind → HaveGroups query.now below →
@@ -155,7 +155,7 @@ fn seen_share(query: &Query, props: &Props, kid: Kid) -> u64
     )
 }
 
-// The rows of a group; none where it isn't the query's.
+// The rows of a group, where it is the query's.
 fn group_rows(query: &Query, props: &Props, group: KeyParts) -> u64
     requires { IsProps query.now props.now }
     ensures value { IsGroup query.now group → result ≡ rows_of query.now group }

@@ -2,7 +2,7 @@
 
 ghost use Rattle.std.specs.Prelude.{IfOk, IfSome};
 ghost use Rattle.query_core.specs.Keys.{IsGroup};
-ghost use Rattle.query_core.specs.Expressions.{IsCandidate, expr_of};
+ghost use Rattle.query_core.specs.Expressions.{IsCandidate, IsCandidateWord, expr_of};
 ghost use Rattle.request_props.specs.Numbered.{IsProps};
 
 use plan_space::{Enforcer, NodeKind};
@@ -82,7 +82,7 @@ fn mode_at(query: &Query, props: &Props, rule: Rule, request: Request, n: u32) -
     if !props.has_order(query, request.order) {
         return None;
     }
-    let alt = alternative(query, props, join, request, n)?;
+    let alt = alternative_of(query, props, join, request, n)?;
     match alt.node.kind() {
         Some(NodeKind::Native(_, mode)) => Some(mode),
         _ => None,
@@ -271,6 +271,68 @@ fn costs_are_those_of_worked_examples(rt: HostRuntime) -> Result<(), Fail> {
     Ok(())
 }
 
+// The word of a physical expression that a group can hold.
+fn word_of(_query: &Query, e: PhysicalExpr) -> Expr
+    requires { IsCandidate _query.now (expr_of e) }
+    ensures { IsCandidateWord _query.now result.0 }
+{
+    // For the proof: a candidate has a word.
+    candidates_are_known();
+    Expr::make(e.parts())
+}
+
+// What the join by this rule costs as the alternative at the place.
+fn alternative_cost(
+    query: &Query,
+    props: &Props,
+    rule: Rule,
+    request: Request,
+    n: u32,
+) -> Option<u64>
+    requires { IsProps query.now props.now }
+{
+    let join = join_by(query, rule)?;
+    if !props.has_order(query, request.order) {
+        return None;
+    }
+    let alt = alternative(query, props, word_of(query, join), request, n)?;
+    Some(node_cost(query, props, query.root(), request, alt.node))
+}
+
+// What the enforcer at the place costs over the join.
+fn cost_of_enforcer(query: &Query, props: &Props, request: Request, n: u32) -> Option<u64>
+    requires { IsProps query.now props.now }
+{
+    let found = enforcer(query, props, query.root(), request, n)?;
+    Some(node_cost(query, props, query.root(), request, found.node))
+}
+
+// What is asked for, the place, and what the hash join and the enforcer there cost.
+const COSTS_BY_PLACE: [(Dist, u32, u32, Option<u64>, Option<u64>); 5] = [
+    (Dist::Spread, 0, 0, Some(2501), None),
+    (Dist::Spread, 0, 1, Some(1001), None),
+    (Dist::One, 0, 0, Some(4001), Some(2001)),
+    (Dist::One, 1, 1, None, Some(3001)),
+    (Dist::Copies, 0, 0, None, Some(4001)),
+];
+
+#[test]
+fn a_node_costs_the_same_by_its_number(rt: HostRuntime) -> Result<(), Fail> {
+    let (query, props) = compared(rt.alloc(), CmpOp::Eq)?;
+    for (dist, order, n, join_cost, motion_cost) in &COSTS_BY_PLACE {
+        let request = ask(*dist, *order);
+        assert!(rt;
+            alternative_cost(&query, &props, Rule::JoinToHash, request, *n) == *join_cost,
+            "{request:?} {n}"
+        );
+        assert!(rt;
+            cost_of_enforcer(&query, &props, request, *n) == *motion_cost,
+            "{request:?} {n}"
+        );
+    }
+    Ok(())
+}
+
 // What is asked for, the place of the enforcer, its number, and what it asks for.
 const ENFORCERS: [(Dist, u32, u32, Option<(u64, Dist, u32)>); 12] = [
     (Dist::One, 1, 0, Some((65, Dist::One, 0))),
@@ -324,7 +386,7 @@ fn filter_is_there(query: &Query, props: &Props, request: Request) -> Option<boo
     if !props.has_order(query, request.order) {
         return None;
     }
-    Some(alternative(query, props, filter, request, 0).is_some())
+    Some(alternative_of(query, props, filter, request, 0).is_some())
 }
 
 // The orders are those of U.x and of V.y, and the filter is of U: a line over one child asks for no fit.

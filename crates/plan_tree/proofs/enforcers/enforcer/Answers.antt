@@ -5,6 +5,7 @@ use Rattle.request_props.specs.Fitting.{Fits}
 use Rattle.plan_space.specs.Enforcers.{EnforcedBy}
 use Rattle.plan_tree.specs.Enforcers.{IsEnforced}
 use Rattle.plan_tree.proofs.Kept.{fitting_kept}
+use Rattle.plan_tree.proofs.There.{first_is_there, second_is_there}
 use Rattle.plan_tree.proofs.enforcers.enforcer.Goals as goal
 
 -- the group has one key, so it is the one that was found
@@ -62,3 +63,12 @@ returns-in-1-clause-fitting c = λ g names fits.
     let place : c.args.n ≡ 1 = omega arith in
     rw place (subst (λ (list : List EnforcedBy). IsEnforced c.both-first.result.1 (slice_get list 1)) all
     c.both-first.ensures.is_second)
+
+-- and one of those for the request
+pub returns-in-0-clause-there : goal.returns-in-0-clause-there
+returns-in-0-clause-there c = first_is_there c.args.query.now c.group.result c.args.request c.both-first.result.0
+    c.both-first.result.1 c.both-first.ensures
+
+pub returns-in-1-clause-there : goal.returns-in-1-clause-there
+returns-in-1-clause-there c = second_is_there c.args.query.now c.group.result c.args.request c.both-first.result.0
+    c.both-first.result.1 c.both-first.ensures

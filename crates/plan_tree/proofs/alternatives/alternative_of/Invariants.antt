@@ -1,7 +1,7 @@
 use Rattle.std.proofs.Common.{◌≡◌, ◌≤◌, ◌-◌, slice_get}
 use Rattle.plan_tree.proofs.Decided.{has}
 use Rattle.plan_tree.proofs.Modes.{passing}
-use Rattle.plan_tree.proofs.alternatives.alternative.Given as goal
+use Rattle.plan_tree.proofs.alternatives.alternative_of.Given as goal
 
 -- so many modes are behind, and the others stand after them
 abbrev pub invariant-modes : goal.invariant-modes
