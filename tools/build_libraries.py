@@ -125,7 +125,8 @@ def lines_of(crates):
 def build(crate, below, jobs, yields):
     """The status of the library's build, and what it said; whether it yields to builds that don't. It is built in a copy
     of the crates that it stands on: `rt lib` holds the folders of all of them while it works, so two builds in one folder
-    would wait for each other. Sources are copied, so that an edit during the build doesn't reach it."""
+    would wait for each other. Sources are copied, so that an edit during the build doesn't reach it. A library that is
+    there is taken along: where no source differs, `rt lib` leaves it as it is."""
     print(f"building {crate}\n", end="", flush=True)
     with tempfile.TemporaryDirectory(prefix="orca-build-") as copy:
         listed = os.path.join(copy, "crates.txt")
@@ -136,7 +137,8 @@ def build(crate, below, jobs, yields):
         os.makedirs(folder)
         for it in [*below, crate]:
             take(it, SOURCES, copy, shutil.copy2)
-            take(it, ["out/incremental" if it == crate else "out/rlib"], copy, link)
+            take(it, ["out/rlib"], copy, link)
+        take(crate, ["out/incremental"], copy, link)
         done = subprocess.run([*["nice"] * yields, "rt", "lib", "--jobs", str(jobs)], cwd=folder, text=True,
                               stdin=subprocess.DEVNULL, stdout=subprocess.PIPE, stderr=subprocess.STDOUT,
                               errors="replace")
