@@ -61,7 +61,7 @@ impl Props {
         self.groups.physical.as_slice()[Key::make(group).0 as usize].as_slice()
     }
 
-    /// The estimated rows of the group that the key names; 0 where the query has no such group.
+    /// The estimated rows of the group that the key names, where the query has it.
     pub fn rows(&self, query: &Query, key: Key) -> u64
         requires { IsProps query.now self.now }
         ensures value { (g : Group) → Names query.now key g → result ≡ rows_of query.now g }
