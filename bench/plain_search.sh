@@ -8,7 +8,7 @@ from=$(cd "$(dirname "$0")/.." && pwd)
 copy=$(mktemp -d)
 trap 'rm -rf "$copy"' EXIT
 mkdir "$copy/crates"
-below='plan_report plan_search best_answers goal_space query_text plan_tree plan_space cost_units request_props xform_rules'
+below='plan_report plan_lines plan_search best_answers goal_space query_text plan_tree plan_space cost_units request_props xform_rules'
 below="$below cardinality catalog_json sql_bind sql_reader query_core orca_io orca_base"
 for crate in $below; do
   (cd "$from/crates" && tar cf - --exclude=out "$crate") | (cd "$copy/crates" && tar xf -)

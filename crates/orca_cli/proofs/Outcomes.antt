@@ -7,7 +7,7 @@ use Rattle.catalog_json.specs.Outcome.{reading_of}
 use Rattle.request_props.specs.Numbered.{IsWithinLimits}
 use Rattle.plan_space.specs.Nodes.{Tree}
 use Rattle.plan_space.specs.Least.{IsLeastPlan}
-use Rattle.plan_report.specs.Text.{plan_section}
+use Rattle.plan_lines.specs.Text.{plan_section}
 use Rattle.orca_cli.specs.Asked.{SaysCatalog, IsNoCatalog}
 use Rattle.orca_cli.specs.Run.{IsPlanText, IsSearchEnd, IsSearched, planned, unplanned, too_many, IsAnswer, searched}
 use Rattle.orca_cli.specs.Run.{refused, IsEnding, answered, catalog_refused, catalog_unread, query_unread}

@@ -8,7 +8,7 @@ use Rattle.orca_io.specs.Shelf.{Exceeds}
 use Rattle.plan_tree.specs.Found.{IsFound}
 use Rattle.plan_tree.specs.declared.plan.Found.{Found}
 use Rattle.plan_tree.specs.declared.plan.Found.TheVariants as founds
-use Rattle.plan_report.specs.Found.{IsFoundText}
+use Rattle.plan_lines.specs.Found.{IsFoundText}
 use Rattle.orca_cli.specs.Views.{EndsAs, text_of}
 use Rattle.orca_cli.specs.declared.ending.Ending.{Ending}
 use Rattle.orca_cli.specs.Run.{AreTold, HasRoom, IsSearchEnd, planned, unplanned}

@@ -10,7 +10,7 @@ use Rattle.query_core.specs.declared.options.Options.{Options}
 use Rattle.job_outcome.specs.Outcomes.{HasMoreEntries, FitsIn}
 use Rattle.plan_space.specs.Nodes.{Tree}
 use Rattle.plan_space.specs.Least.{IsLeastPlan, QueryHasNoPlan}
-use Rattle.plan_report.specs.Text.{plan_section}
+use Rattle.plan_lines.specs.Text.{plan_section}
 use Rattle.orca_cli.specs.Asked.{SaysCatalog, IsNoCatalog, Asks, IsRefused}
 use Rattle.command_line.specs.Command.{PlanCommand}
 use Rattle.command_line.specs.declared.choices.Choices.{Choices}

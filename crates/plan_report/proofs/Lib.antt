@@ -1,5 +1,3 @@
-pub mod Groups
-pub mod Following
 pub mod Searched
 pub mod Rooted
 pub mod Linking

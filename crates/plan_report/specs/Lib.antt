@@ -1,5 +1,1 @@
-pub mod Text
-pub mod Groups
-pub mod Lines
 pub mod Links
-pub mod Found

@@ -1,11 +1,8 @@
-//! The least plan made of the answers of a search, and the text of a plan.
+//! The least plan, made of the answers of a search.
 #![tactic(auto)]
 
 mod extraction;
-mod lines;
 mod links;
-mod node_text;
-mod section;
 
 pub use extraction::{answer_to, best_in, extract};
-pub use section::plan_text;
+pub use plan_lines::plan_text;

@@ -1,8 +1,8 @@
 use Rattle.std.proofs.Common.{◌++◌, List, ℕ, refl, ap, ◌∙◌, append_assoc}
 use Rattle.std.specs.List.{concat}
-use Rattle.plan_report.specs.Text.{cost_line, output_line, plan_lines}
-use Rattle.plan_report.proofs.Groups.{valid_groups}
-use Rattle.plan_report.proofs.section.least_text.Goals as goal
+use Rattle.plan_lines.specs.Text.{cost_line, output_line, plan_lines}
+use Rattle.plan_lines.proofs.Groups.{valid_groups}
+use Rattle.plan_lines.proofs.section.least_text.Goals as goal
 
 -- the lines of the nodes come behind the first two
 pub returns : goal.returns

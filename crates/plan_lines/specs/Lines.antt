@@ -10,8 +10,8 @@ use Rattle.plan_tree.specs.Seen.{kids_seen, HasGroup, HaveGroups}
 use Rattle.plan_tree.specs.declared.node.Node.{Node}
 use Rattle.plan_tree.specs.declared.plan.Plan.{Plan}
 use Rattle.plan_tree.specs.declared.seen.Below.{Below}
-use Rattle.plan_report.specs.Text.{indent, node_line, plan_lines}
-use Rattle.plan_report.specs.Groups.{HasGroups}
+use Rattle.plan_lines.specs.Text.{indent, node_line, plan_lines}
+use Rattle.plan_lines.specs.Groups.{HasGroups}
 
 -- the bytes are the node's line behind the spaces, over plans that are seen so, where the groups are the query's
 abbrev pub IsKindLine : Query → List ℕ → NodeKind → Below → List ℕ → Type 0

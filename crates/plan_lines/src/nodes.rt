@@ -3,7 +3,7 @@
 
 ghost use Rattle.std.specs.Prelude.{◌≡◌, ◌++◌, IfOk, codes, string_bytes};
 ghost use Rattle.request_props.specs.Numbered.{IsProps};
-ghost use Rattle.plan_report.specs.Text as texts;
+ghost use Rattle.plan_lines.specs.Text as texts;
 
 use plan_space::{Enforcer, Mode, NodeKind};
 use plan_tree::table_in;

@@ -17,10 +17,10 @@ use Rattle.plan_tree.specs.declared.plan.Plan.{Plan}
 use Rattle.plan_tree.specs.declared.plan.Plan.TheVariants.{Over', Two'}
 use Rattle.plan_tree.specs.declared.seen.Below.{Below}
 use Rattle.plan_tree.specs.declared.seen.Below.TheVariants as below
-use Rattle.plan_report.specs.Text.{indent, node_line, plan_lines}
-use Rattle.plan_report.specs.Groups.{HasGroups}
-use Rattle.plan_report.specs.Lines.{AddsNode, AddsPlan}
-use Rattle.plan_report.proofs.Groups.{plan_group}
+use Rattle.plan_lines.specs.Text.{indent, node_line, plan_lines}
+use Rattle.plan_lines.specs.Groups.{HasGroups}
+use Rattle.plan_lines.specs.Lines.{AddsNode, AddsPlan}
+use Rattle.plan_lines.proofs.Groups.{plan_group}
 
 -- where a plan below a node is kept, which says nothing of the plan
 abbrev pub Pointer : Type 0

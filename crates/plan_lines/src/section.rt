@@ -4,8 +4,8 @@
 ghost use Rattle.std.specs.Prelude.{◌≡◌, ◌++◌, IfOk, OnOk, string_bytes};
 ghost use Rattle.std.specs.List.{concat};
 ghost use Rattle.request_props.specs.Numbered.{IsProps};
-ghost use Rattle.plan_report.specs.Text as texts;
-ghost use Rattle.plan_report.specs.Found.{IsFoundText, IsLeastText};
+ghost use Rattle.plan_lines.specs.Text as texts;
+ghost use Rattle.plan_lines.specs.Found.{IsFoundText, IsLeastText};
 
 use crate::lines::push_plan;
 use plan_tree::{Found, Plan};

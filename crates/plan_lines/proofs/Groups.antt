@@ -13,7 +13,7 @@ use Rattle.plan_space.specs.declared.seen.Kid.{Kid}
 use Rattle.plan_space.specs.Gives.{first_group, node_group, kid_of}
 use Rattle.plan_space.specs.Valid.{NodeFits, IsValid}
 use Rattle.plan_tree.specs.Seen.{HasGroup}
-use Rattle.plan_report.specs.Groups.{HasGroups}
+use Rattle.plan_lines.specs.Groups.{HasGroups}
 
 -- ---- plans of groups that the query has
 

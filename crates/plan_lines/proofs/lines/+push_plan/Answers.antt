@@ -1,9 +1,9 @@
 -- The line of the plan's root comes before those of the plans below it, the left ones before the right ones.
 use Rattle.std.proofs.Common.{◌≡◌, ◌++◌, rules}
 use Rattle.std.specs.Prelude.{codes}
-use Rattle.plan_report.specs.Lines.{AddsPlan}
-use Rattle.plan_report.proofs.Following.{IsSeenOf, over_follows, two_follows}
-use Rattle.plan_report.proofs.lines.+push_plan.Goals as goal
+use Rattle.plan_lines.specs.Lines.{AddsPlan}
+use Rattle.plan_lines.proofs.Following.{IsSeenOf, over_follows, two_follows}
+use Rattle.plan_lines.proofs.lines.+push_plan.Goals as goal
 
 -- the root stands over one plan
 pub returns-in_ok-push_plan-in-Over : goal.returns-in_ok-push_plan-in-Over

@@ -1,7 +1,7 @@
 use Rattle.std.proofs.Common.{◌≡◌, ◌++◌, take}
 use Rattle.std.specs.Prelude.{string_bytes}
-use Rattle.plan_report.specs.Text.{other_outputs_text}
-use Rattle.plan_report.proofs.section.push_outputs.Given as goal
+use Rattle.plan_lines.specs.Text.{other_outputs_text}
+use Rattle.plan_lines.proofs.section.push_outputs.Given as goal
 
 -- the texts of the items before this one were added
 abbrev pub invariant-loop-out : goal.invariant-loop-out

@@ -3,10 +3,10 @@
 
 ghost use Rattle.std.specs.Prelude.{◌≡◌, IfOk, OnOk, string_bytes};
 ghost use Rattle.request_props.specs.Numbered.{IsProps};
-ghost use Rattle.plan_report.specs.Text as texts;
-ghost use Rattle.plan_report.specs.Lines.{AddsPlan, AddsNode, IsNodeLine, IsKindLine};
+ghost use Rattle.plan_lines.specs.Text as texts;
+ghost use Rattle.plan_lines.specs.Lines.{AddsPlan, AddsNode, IsNodeLine, IsKindLine};
 
-use crate::node_text::node_text;
+use crate::nodes::node_text;
 use plan_space::NodeKind;
 use plan_tree::{Below, Node, Plan, cost_above_any, plan_seen, rows_above};
 use query_core::Query;

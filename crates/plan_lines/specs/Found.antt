@@ -10,7 +10,7 @@ use Rattle.plan_tree.specs.Spells.{Spells}
 use Rattle.plan_tree.specs.declared.plan.Plan.{Plan}
 use Rattle.plan_tree.specs.declared.plan.Found.{Found}
 use Rattle.plan_tree.specs.declared.plan.Found.TheVariants.{Least, NoPlan}
-use Rattle.plan_report.specs.Text.{plan_section, no_plan_section}
+use Rattle.plan_lines.specs.Text.{plan_section, no_plan_section}
 
 -- the bytes are the lines of the valid plan tree that the plan is, where the cost is that tree's
 abbrev pub IsLeastText : Query → Plan → ℕ → List ℕ → Type 0

@@ -1,0 +1,4 @@
+pub mod Text
+pub mod Groups
+pub mod Lines
+pub mod Found

@@ -1,0 +1,9 @@
+//! The lines in which a plan is printed.
+#![tactic(auto)]
+
+mod lines;
+mod nodes;
+mod section;
+
+pub use nodes::node_text;
+pub use section::plan_text;
