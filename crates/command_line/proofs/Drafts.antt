@@ -1,24 +1,24 @@
 -- A command that is read piece by piece.
 use Rattle.std.proofs.Common.{◌≡◌, ℕ, Bool, true, false, ◌&&◌, map, List, [], ◌∷◌, ◌++◌, length, Option, None, Some}
 use Rattle.std.proofs.Common.{cond, refl, sym, ap, ◌∙◌, subst, arith}
-use Rattle.std.specs.List.{filter_map}
+use Rattle.std.specs.List.{filter_map, fold, list_all}
 use Rattle.std.proofs.lemmas.List.{append-nil}
 use Rattle.std.proofs.lemmas.List.Sums.{fold-append}
 use Rattle.std.proofs.lemmas.List.Elements.{filter_map-append}
 use Rattle.query_core.specs.Sets.{Has, Adds}
-use Rattle.std.specs.List.{list_all}
 use Rattle.std.proofs.Math.Bool.{and-false}
 use Rattle.std.proofs.lemmas.List.Folds.{list_all-append}
 use Rattle.query_core.specs.Differ.{numbers_differ}
-use Rattle.command_line.specs.Options.{chosen, usual, choices_of, name_of, takes_option}
-use Rattle.command_line.specs.Command.{AnyCommand, Piece, name, setting, name_in, setting_in, number_of, may_be_given}
-use Rattle.command_line.specs.Reading.{command_with, command_made, command_from}
+use Rattle.command_line.specs.Options.{setting_of, usual, takes_option}
+use Rattle.command_line.specs.Command.{AnyTask, AnyCommand, Given, Piece, name, given, name_in, given_in, number_of}
+use Rattle.command_line.specs.Command.{may_be_given}
+use Rattle.command_line.specs.Reading.{chosen_by, chosen, choices_of, task_of, command_with, command_made, command_from}
 use Rattle.command_line.specs.declared.choices.Choices.{Choices}
-use Rattle.command_line.specs.declared.choices.CommandName.{CommandName}
-use Rattle.command_line.specs.declared.choices.CommandName.TheVariants as commands
+use Rattle.command_line.specs.declared.options.TaskName.{TaskName}
+use Rattle.command_line.specs.declared.options.TaskName.TheVariants as tasks
 use Rattle.command_line.specs.Drafts.{IsDraft, names_read}
-use Rattle.command_line.specs.declared.choices.Setting.{Setting}
 use Rattle.command_line.specs.declared.draft.Draft.{Draft}
+use Rattle.command_line.proofs.Chosen.{none_chosen}
 use Rattle.command_line.proofs.GivenNumbers.{more_bits, comes_twice}
 
 -- what a piece adds to those of one kind
@@ -44,117 +44,133 @@ module _ {T : Type 0} (kind : Piece → Option T) (before : List Piece) (piece :
   inside value after here = filter_map-append kind before (piece ∷ after)
       ∙ ap (λ more. filter_map kind before ++ more) (rw here refl)
 
--- what is chosen with one setting more
-chosen_more : (some : List Setting) (one : Setting) → choices_of (some ++ one ∷ []) ≡ chosen (choices_of some) one
-chosen_more some one = fold-append chosen usual some (one ∷ [])
+-- what is chosen with one option more, and with others behind it
+chosen_more : (some more : List Given) (one : Given)
+    → choices_of (some ++ one ∷ more) ≡ fold chosen (chosen (choices_of some) one) more
+chosen_more some more one = fold-append chosen (Some usual) some (one ∷ more)
 
 -- ---- one piece more
 
--- the command takes each option of the settings
-abbrev pub takes_all : CommandName → List Setting → Bool
-takes_all command some = list_all (λ given. takes_option command (name_of given)) some
+-- the task takes each option
+abbrev pub takes_all : TaskName → List Given → Bool
+takes_all task some = list_all (λ one. takes_option task one.option) some
 
-taken_with : (command : CommandName) (some more : List Setting)
-    → takes_all command (some ++ more) ≡ (takes_all command some && takes_all command more)
-taken_with command some more = list_all-append (λ given. takes_option command (name_of given)) some more
+taken_with : (task : TaskName) (some more : List Given)
+    → takes_all task (some ++ more) ≡ (takes_all task some && takes_all task more)
+taken_with task some more = list_all-append (λ one. takes_option task one.option) some more
 
-module _ (command : CommandName) (before : List Piece) (draft : Draft) (is : IsDraft command before draft) where
-  pub with_name : (word : List ℕ) (new : Draft) → new.command ≡ draft.command → new.choices ≡ draft.choices
+module _ (task : TaskName) (before : List Piece) (draft : Draft) (is : IsDraft task before draft) where
+  pub with_name : (word : List ℕ) (new : Draft) → new.task ≡ draft.task → new.choices ≡ draft.choices
       → new.given ≡ draft.given → names_read new.names ≡ names_read draft.names ++ word ∷ []
-      → IsDraft command (before ++ name word ∷ []) new
-  with_name word new same choices given more = record {
-    command_is = same ∙ is.command_is;
-    taken = ap (takes_all command) (kept setting_in before (name word) refl) ∙ is.taken;
+      → IsDraft task (before ++ name word ∷ []) new
+  with_name word new same choices numbers more = record {
+    task_is = same ∙ is.task_is;
+    taken = ap (takes_all task) (kept given_in before (name word) refl) ∙ is.taken;
     names = gained name_in before (name word) word refl ∙ ap (λ ns. ns ++ word ∷ []) is.names ∙ sym more;
-    choices = choices ∙ is.choices ∙ ap choices_of (sym (kept setting_in before (name word) refl));
-    given = rw (given, kept setting_in before (name word) refl) is.given;
+    choices = ap choices_of (kept given_in before (name word) refl) ∙ is.choices ∙ ap Some (sym choices);
+    given = rw (numbers, kept given_in before (name word) refl) is.given;
   }
 
-  pub with_setting : (one : Setting) (new : Draft) → new.command ≡ draft.command
-      → takes_option draft.command (name_of one) ≡ true → names_read new.names ≡ names_read draft.names
-      → new.choices ≡ chosen draft.choices one
+  pub with_option : (one : Given) (new : Draft) → new.task ≡ draft.task
+      → takes_option draft.task one.option ≡ true → names_read new.names ≡ names_read draft.names
+      → chosen_by (setting_of one.option) one.value draft.choices ≡ Some new.choices
       → (Has draft.given (number_of one) → ⊥) → Adds draft.given (number_of one) new.given
-      → IsDraft command (before ++ setting one ∷ []) new
-  with_setting one new same takes names choices fresh adds =
-      let some = filter_map setting_in before in
-      let grown : filter_map setting_in (before ++ setting one ∷ []) ≡ some ++ one ∷ [] =
-      gained setting_in before (setting one) one refl in
-      let taken : takes_option command (name_of one) ≡ true =
-      subst (λ c. takes_option c (name_of one) ≡ true) is.command_is takes in
+      → IsDraft task (before ++ given one ∷ []) new
+  with_option one new same takes names choices fresh adds =
+      let some = filter_map given_in before in
+      let grown : filter_map given_in (before ++ given one ∷ []) ≡ some ++ one ∷ [] =
+      gained given_in before (given one) one refl in
+      let taken : takes_option task one.option ≡ true =
+      subst (λ t. takes_option t one.option ≡ true) is.task_is takes in
       record {
-        command_is = same ∙ is.command_is;
-        taken = ap (takes_all command) grown ∙ taken_with command some (one ∷ []) ∙ rw (is.taken, taken) refl;
-        names = kept name_in before (setting one) refl ∙ is.names ∙ sym names;
-        choices = choices ∙ ap (λ c. chosen c one) is.choices ∙ sym (chosen_more some one) ∙ ap choices_of (sym grown);
+        task_is = same ∙ is.task_is;
+        taken = ap (takes_all task) grown ∙ taken_with task some (one ∷ []) ∙ rw (is.taken, taken) refl;
+        names = kept name_in before (given one) refl ∙ is.names ∙ sym names;
+        choices = ap choices_of grown ∙ chosen_more some [] one ∙ ap (λ c. chosen c one) is.choices ∙ choices;
         given = rw grown (more_bits number_of some one draft.given is.given new.given fresh adds);
       }
 
 -- ---- one piece too many
 
--- four names are no command's
-four_names : (command : CommandName) (names more : List (List ℕ)) (word : List ℕ) (choices : Choices) → length names ≡ 3
-    → command_with command (names ++ word ∷ more) choices ≡ None
-four_names command [] more word choices three = absurd (omega (arith, three))
-four_names command (a ∷ []) more word choices three = absurd (omega (arith, three))
-four_names command (a ∷ b ∷ []) more word choices three = absurd (omega (arith, three))
-four_names commands.Plan (a ∷ b ∷ c ∷ []) more word choices three = refl
-four_names commands.Gen (a ∷ b ∷ c ∷ []) more word choices three = refl
-four_names command (a ∷ b ∷ c ∷ d ∷ names) more word choices three = absurd (omega (arith, three))
+-- four names are no task's
+four_names : (task : TaskName) (names more : List (List ℕ)) (word : List ℕ) → length names ≡ 3
+    → task_of task (names ++ word ∷ more) ≡ None
+four_names task [] more word three = absurd (omega (arith, three))
+four_names task (a ∷ []) more word three = absurd (omega (arith, three))
+four_names task (a ∷ b ∷ []) more word three = absurd (omega (arith, three))
+four_names tasks.Plan (a ∷ b ∷ c ∷ []) more word three = refl
+four_names tasks.Gen (a ∷ b ∷ c ∷ []) more word three = refl
+four_names task (a ∷ b ∷ c ∷ d ∷ names) more word three = absurd (omega (arith, three))
 
--- where the names are no command's there is no command
-no_names : (command : CommandName) (names : List (List ℕ)) (some : List Setting)
-    → command_with command names (choices_of some) ≡ None → command_made command names some ≡ None
-no_names command names some none = of_given (may_be_given command some) (command_with command names (choices_of some))
-    none
-  where
-    of_given : (b : Bool) (made : Option AnyCommand) → made ≡ None → cond b made None ≡ None
-    of_given true made is = is
-    of_given false made is = refl
+-- where there is no task, or nothing is chosen, there is no command
+no_command : (b : Bool) (task : Option AnyTask) (choices : Option Choices) → command_with task choices ≡ None
+    → cond b (command_with task choices) None ≡ None
+no_command true task choices is = is
+no_command false task choices is = refl
+
+no_task : (choices : Option Choices) → command_with None choices ≡ None
+no_task None = refl
+no_task (Some choices) = refl
 
 -- where the options may not be given there is no command
-no_options : (command : CommandName) (names : List (List ℕ)) (some : List Setting) → may_be_given command some ≡ false
-    → command_made command names some ≡ None
-no_options command names some never = rw never refl
+no_options : (task : TaskName) (names : List (List ℕ)) (some : List Given) → may_be_given task some ≡ false
+    → command_made task names some ≡ None
+no_options task names some never = rw never refl
 
-module _ (command : CommandName) (before after : List Piece) (draft : Draft) (is : IsDraft command before draft) where
+module _ (task : TaskName) (before after : List Piece) (draft : Draft) (is : IsDraft task before draft) where
   pub fourth_name : (word : List ℕ) → length (names_read draft.names) ≡ 3
-      → command_from command (before ++ name word ∷ after) ≡ None
+      → command_from task (before ++ name word ∷ after) ≡ None
   fourth_name word three =
-      no_names command (filter_map name_in (before ++ name word ∷ after))
-      (filter_map setting_in (before ++ name word ∷ after))
-      (ap (λ ns. command_with command ns (choices_of (filter_map setting_in (before ++ name word ∷ after))))
-      (inside name_in before (name word) word after refl)
-      ∙ four_names command (filter_map name_in before) (filter_map name_in after) word _ (ap length is.names ∙ three))
+      let some = filter_map given_in (before ++ name word ∷ after) in
+      let none : task_of task (filter_map name_in (before ++ name word ∷ after)) ≡ None =
+      ap (task_of task) (inside name_in before (name word) word after refl)
+      ∙ four_names task (filter_map name_in before) (filter_map name_in after) word (ap length is.names ∙ three) in
+      no_command (may_be_given task some) _ (choices_of some) (ap (λ t. command_with t (choices_of some)) none
+      ∙ no_task (choices_of some))
 
-  -- the settings with one more among them
-  whole : (one : Setting) → filter_map setting_in (before ++ setting one ∷ after) ≡ filter_map setting_in
-      before ++ one ∷ filter_map setting_in after
-  whole one = inside setting_in before (setting one) one after refl
+  -- the options with one more among them
+  whole : (one : Given) → filter_map given_in (before ++ given one ∷ after) ≡ filter_map given_in
+      before ++ one ∷ filter_map given_in after
+  whole one = inside given_in before (given one) one after refl
 
-  pub given_again : (one : Setting) → Has draft.given (number_of one)
-      → command_from command (before ++ setting one ∷ after) ≡ None
+  pub given_again : (one : Given) → Has draft.given (number_of one)
+      → command_from task (before ++ given one ∷ after) ≡ None
   given_again one has =
-      let some = filter_map setting_in before in
-      let again : numbers_differ (map number_of (filter_map setting_in (before ++ setting one ∷ after))) ≡ false =
-      rw (whole one) (comes_twice number_of some one draft.given is.given (filter_map setting_in after) has) in
-      no_options command (filter_map name_in (before ++ setting one ∷ after))
-      (filter_map setting_in (before ++ setting one ∷ after)) (rw again (and-false _))
+      let some = filter_map given_in before in
+      let again : numbers_differ (map number_of (filter_map given_in (before ++ given one ∷ after))) ≡ false =
+      rw (whole one) (comes_twice number_of some one draft.given is.given (filter_map given_in after) has) in
+      no_options task (filter_map name_in (before ++ given one ∷ after))
+      (filter_map given_in (before ++ given one ∷ after)) (rw again (and-false _))
 
-  pub not_taken : (one : Setting) → takes_option draft.command (name_of one) ≡ false
-      → command_from command (before ++ setting one ∷ after) ≡ None
+  pub not_taken : (one : Given) → takes_option draft.task one.option ≡ false
+      → command_from task (before ++ given one ∷ after) ≡ None
   not_taken one other =
-      let some = filter_map setting_in before in
-      let never : takes_option command (name_of one) ≡ false =
-      subst (λ c. takes_option c (name_of one) ≡ false) is.command_is other in
-      let none : takes_all command (filter_map setting_in (before ++ setting one ∷ after)) ≡ false =
-      ap (takes_all command) (whole one) ∙ taken_with command some (one ∷ filter_map setting_in after)
+      let some = filter_map given_in before in
+      let never : takes_option task one.option ≡ false =
+      subst (λ t. takes_option t one.option ≡ false) is.task_is other in
+      let none : takes_all task (filter_map given_in (before ++ given one ∷ after)) ≡ false =
+      ap (takes_all task) (whole one) ∙ taken_with task some (one ∷ filter_map given_in after)
       ∙ rw never (and-false _) in
-      no_options command (filter_map name_in (before ++ setting one ∷ after))
-      (filter_map setting_in (before ++ setting one ∷ after)) (rw none refl)
+      no_options task (filter_map name_in (before ++ given one ∷ after))
+      (filter_map given_in (before ++ given one ∷ after)) (rw none refl)
+
+  -- the word behind the option is no value of it
+  pub no_value : (one : Given) → chosen_by (setting_of one.option) one.value draft.choices ≡ None
+      → command_from task (before ++ given one ∷ after) ≡ None
+  no_value one never =
+      let some = filter_map given_in before in
+      let all = filter_map given_in (before ++ given one ∷ after) in
+      let names = filter_map name_in (before ++ given one ∷ after) in
+      let none : choices_of all ≡ None =
+      ap choices_of (whole one) ∙ chosen_more some (filter_map given_in after) one
+      ∙ ap (λ c. fold chosen c (filter_map given_in after)) (ap (λ c. chosen c one) is.choices ∙ never)
+      ∙ none_chosen (filter_map given_in after) in
+      no_command (may_be_given task all) (task_of task names) (choices_of all)
+      (ap (command_with (task_of task names)) none)
 
 -- the command of a draft
-pub all_read : (command : CommandName) (pieces : List Piece) (draft : Draft) → IsDraft command pieces draft
-    → command_from command pieces ≡ command_with command (names_read draft.names) draft.choices
-all_read command pieces draft is =
-    let given : may_be_given command (filter_map setting_in pieces) ≡ true = rw (is.taken, is.given.once) refl in
-    rw (given, is.names) (ap (λ c. command_with command (names_read draft.names) c) (sym is.choices))
+pub all_read : (task : TaskName) (pieces : List Piece) (draft : Draft) → IsDraft task pieces draft
+    → command_from task pieces ≡ command_with (task_of task (names_read draft.names)) (Some draft.choices)
+all_read task pieces draft is =
+    let once : may_be_given task (filter_map given_in pieces) ≡ true = rw (is.taken, is.given.once) refl in
+    rw (once, is.names) (ap (command_with (task_of task (names_read draft.names))) is.choices)

@@ -4,20 +4,20 @@ use Rattle.std.specs.Option.{option_and_then}
 use Rattle.std.proofs.lemmas.List.{append_assoc}
 use Rattle.command_line.specs.Command.{Piece}
 use Rattle.command_line.specs.Reading.{is_valued, piece_of, valued_piece, in_front, pieces_of, command_from}
-use Rattle.command_line.specs.Reading.{command_named, command_of, behind_name}
-use Rattle.command_line.specs.declared.choices.CommandName.{CommandName}
+use Rattle.command_line.specs.Reading.{task_named, command_of, behind_name}
+use Rattle.command_line.specs.declared.options.TaskName.{TaskName}
 
 -- a first piece goes to those before
-pub piece_first : (command : CommandName) (before : List Piece) (piece : Piece) (words more : List (List ℕ))
+pub piece_first : (task : TaskName) (before : List Piece) (piece : Piece) (words more : List (List ℕ))
     → pieces_of words ≡ in_front (Some piece) (pieces_of more)
-    → option_and_then (λ after. command_from command ((before ++ piece ∷ []) ++ after))
-    (pieces_of more) ≡ option_and_then (λ after. command_from command (before ++ after)) (pieces_of words)
-piece_first command before piece words more is = of_more (pieces_of more)
-    ∙ sym (ap (option_and_then (λ after. command_from command (before ++ after))) is)
+    → option_and_then (λ after. command_from task ((before ++ piece ∷ []) ++ after))
+    (pieces_of more) ≡ option_and_then (λ after. command_from task (before ++ after)) (pieces_of words)
+piece_first task before piece words more is = of_more (pieces_of more)
+    ∙ sym (ap (option_and_then (λ after. command_from task (before ++ after))) is)
   where
     of_more : (others : Option (List Piece))
-        → option_and_then (λ after. command_from command ((before ++ piece ∷ []) ++ after)) others ≡ option_and_then
-        (λ after. command_from command (before ++ after)) (in_front (Some piece) others)
+        → option_and_then (λ after. command_from task ((before ++ piece ∷ []) ++ after)) others ≡ option_and_then
+        (λ after. command_from task (before ++ after)) (in_front (Some piece) others)
     of_more None = refl
     of_more (Some pieces) = rw append_assoc refl
 
@@ -49,36 +49,36 @@ alone_first words word others first takes = ap pieces_of first ∙ of_others oth
     of_others (v ∷ more) = rw takes refl
 
 -- where there is no first piece, or no command with it, there is no command
-pub no_piece : (command : CommandName) (before : List Piece) (words more : List (List ℕ)) (first : Option Piece)
+pub no_piece : (task : TaskName) (before : List Piece) (words more : List (List ℕ)) (first : Option Piece)
     → pieces_of words ≡ in_front first (pieces_of more) → first ≡ None
-    → option_and_then (λ after. command_from command (before ++ after)) (pieces_of words) ≡ None
-no_piece command before words more first is none =
-    ap (option_and_then (λ after. command_from command (before ++ after))) (is
+    → option_and_then (λ after. command_from task (before ++ after)) (pieces_of words) ≡ None
+no_piece task before words more first is none =
+    ap (option_and_then (λ after. command_from task (before ++ after))) (is
     ∙ ap (λ f. in_front f (pieces_of more)) none)
 
-pub no_room : (command : CommandName) (before : List Piece) (piece : Piece) (words more : List (List ℕ))
+pub no_room : (task : TaskName) (before : List Piece) (piece : Piece) (words more : List (List ℕ))
     → pieces_of words ≡ in_front (Some piece) (pieces_of more)
-    → ((after : List Piece) → command_from command (before ++ piece ∷ after) ≡ None)
-    → option_and_then (λ after. command_from command (before ++ after)) (pieces_of words) ≡ None
-no_room command before piece words more is none =
-    ap (option_and_then (λ after. command_from command (before ++ after))) is ∙ of_more (pieces_of more)
+    → ((after : List Piece) → command_from task (before ++ piece ∷ after) ≡ None)
+    → option_and_then (λ after. command_from task (before ++ after)) (pieces_of words) ≡ None
+no_room task before piece words more is none =
+    ap (option_and_then (λ after. command_from task (before ++ after))) is ∙ of_more (pieces_of more)
   where
     of_more : (others : Option (List Piece))
-        → option_and_then (λ after. command_from command (before ++ after)) (in_front (Some piece) others) ≡ None
+        → option_and_then (λ after. command_from task (before ++ after)) (in_front (Some piece) others) ≡ None
     of_more None = refl
     of_more (Some pieces) = none pieces
 
 -- the first word names the command
-pub of_name : (command : CommandName) (words : List (List ℕ)) (first : List ℕ) (others : List (List ℕ))
-    → words ≡ first ∷ others → command_named first ≡ Some command → command_of words ≡ behind_name command others
-of_name command words first others same named = ap command_of same ∙ taken
+pub of_name : (task : TaskName) (words : List (List ℕ)) (first : List ℕ) (others : List (List ℕ))
+    → words ≡ first ∷ others → task_named first ≡ Some task → command_of words ≡ behind_name task others
+of_name task words first others same named = ap command_of same ∙ taken
   where
-    taken : command_of (first ∷ others) ≡ behind_name command others
+    taken : command_of (first ∷ others) ≡ behind_name task others
     taken = rw named refl
 
 -- it names none
 pub of_no_name : (words : List (List ℕ)) (first : List ℕ) (others : List (List ℕ)) → words ≡ first ∷ others
-    → command_named first ≡ None → command_of words ≡ None
+    → task_named first ≡ None → command_of words ≡ None
 of_no_name words first others same none = ap command_of same ∙ taken
   where
     taken : command_of (first ∷ others) ≡ None

@@ -7,6 +7,7 @@ pub mod RulesOff
 pub mod Drafts
 pub mod FirstPieces
 pub mod Values
+pub mod Chosen
 pub mod Made
 pub mod SpelledPieces
 pub mod Spelling

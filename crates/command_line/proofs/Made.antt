@@ -1,38 +1,38 @@
--- The command that names and choices make.
+-- The task that names make, and the command.
 use Rattle.std.proofs.Common.{◌≡◌, ℕ, ◌-◌, ◌^◌, Bool, true, false, cond, List, [], ◌∷◌, Option, None, Some, option_map}
 use Rattle.std.proofs.Common.{codes, bytes_eq, decimal, refl, sym, ap, ◌∙◌, subst, arith}
-use Rattle.command_line.specs.Command.{FileNames, AnyCommand, plan, gen, command_name, command_word, shape_word}
-use Rattle.command_line.specs.Command.{IsInput, AreNames, AreChosen}
+use Rattle.command_line.specs.Command.{FileNames, AnyTask, AnyCommand, plan, gen, task_name, task_word, shape_word}
+use Rattle.command_line.specs.Command.{IsInput, AreNames}
 use Rattle.command_line.specs.Numbers.{number_within}
-use Rattle.command_line.specs.Reading.{files_of, shape_of, input_with, input_of, command_with, command_named}
+use Rattle.command_line.specs.Reading.{files_of, shape_of, input_with, input_of, task_of, command_with, task_named}
 use Rattle.command_line.specs.declared.choices.Choices.{Choices}
-use Rattle.command_line.specs.declared.choices.CommandName.{CommandName}
-use Rattle.command_line.specs.declared.choices.CommandName.TheVariants as commands
+use Rattle.command_line.specs.declared.options.TaskName.{TaskName}
+use Rattle.command_line.specs.declared.options.TaskName.TheVariants as tasks
 use Rattle.command_line.specs.declared.command.GenInput.{GenInput}
 use Rattle.query_generator.specs.declared.shape.GenShape.{GenShape}
 use Rattle.query_generator.specs.declared.shape.GenShape.TheVariants.{Chain, Star, Clique}
 use Rattle.command_line.proofs.Values.{is_text}
 use Rattle.command_line.proofs.WrittenNumbers.{number_read, number_spelled}
 
--- ---- names of commands
+-- ---- names of tasks
 
--- a command's word names it
-pub name_read : (name : CommandName) → command_named (command_word name) ≡ Some name
-name_read commands.Plan = refl
-name_read commands.Gen = refl
+-- a task's word names it
+pub name_read : (name : TaskName) → task_named (task_word name) ≡ Some name
+name_read tasks.Plan = refl
+name_read tasks.Gen = refl
 
--- a word that names a command is its word
-pub name_spelled : (word : List ℕ) (name : CommandName) → command_named word ≡ Some name → word ≡ command_word name
+-- a word that names a task is its word
+pub name_spelled : (word : List ℕ) (name : TaskName) → task_named word ≡ Some name → word ≡ task_word name
 name_spelled word name is = of_word (bytes_eq word (codes "plan")) (bytes_eq word (codes "gen")) refl refl is
   where
     of_word : (a b : Bool) → bytes_eq word (codes "plan") ≡ a → bytes_eq word (codes "gen") ≡ b
-        → cond a (Some commands.Plan) (cond b (Some commands.Gen) None) ≡ Some name → word ≡ command_word name
+        → cond a (Some tasks.Plan) (cond b (Some tasks.Gen) None) ≡ Some name → word ≡ task_word name
     of_word true b same other found =
-        let here : commands.Plan ≡ name = cc in
-        is_text word (codes "plan") same ∙ ap command_word here
+        let here : tasks.Plan ≡ name = cc in
+        is_text word (codes "plan") same ∙ ap task_word here
     of_word false true same other found =
-        let here : commands.Gen ≡ name = cc in
-        is_text word (codes "gen") other ∙ ap command_word here
+        let here : tasks.Gen ≡ name = cc in
+        is_text word (codes "gen") other ∙ ap task_word here
     of_word false false same other found = cc
 
 -- ---- shapes
@@ -105,24 +105,13 @@ input_spelled (number ∷ tables ∷ shape ∷ []) input is =
     record { number = first.within; tables = second.within; are = rw (one, two, third) refl }
 input_spelled (number ∷ tables ∷ shape ∷ fourth ∷ more) input is = cc
 
--- ---- commands
+-- ---- tasks
 
--- a command is made of its names and of what it chooses
-pub command_made_of : (command : AnyCommand) (names : List (List ℕ)) (choices : Choices) → AreNames command names
-    → AreChosen command choices → command_with (command_name command) names choices ≡ Some command
-command_made_of (plan command) names choices are chosen =
-    rw are (ap (λ c. Some (plan (record { files = command.files; choices = c }))) (sym chosen))
-command_made_of (gen command) names choices are chosen =
-    ap (option_map (λ input. gen (record { input = input; workers = choices.workers; capacity = choices.capacity })))
-    (input_read command.input names are)
-    ∙ ap (λ w. Some (gen (record { input = command.input; workers = w; capacity = choices.capacity }))) (sym chosen.0)
-    ∙ ap (λ c. Some (gen (record { input = command.input; workers = command.workers; capacity = c }))) (sym chosen.1)
-
--- what a command that was made has
-pub record IsMade (name : CommandName) (names : List (List ℕ)) (choices : Choices) (command : AnyCommand) : Type 0 where
-  pub named : name ≡ command_name command
-  pub are_names : AreNames command names
-  pub chosen : AreChosen command choices
+-- names are read as those of their task
+pub names_read : (task : AnyTask) (names : List (List ℕ)) → AreNames task names
+    → task_of (task_name task) names ≡ Some task
+names_read (plan files) names are = rw are refl
+names_read (gen input) names are = ap (option_map gen) (input_read input names are)
 
 -- the names of files that are read
 files_spelled : (names : List (List ℕ)) (files : FileNames) → files_of names ≡ Some files
@@ -133,26 +122,50 @@ files_spelled (a ∷ b ∷ []) files is = let made : record { catalog = a; query
     ap (λ (f : FileNames). f.catalog ∷ f.query ∷ []) made
 files_spelled (a ∷ b ∷ c ∷ more) files is = cc
 
-pub made_command : (name : CommandName) (names : List (List ℕ)) (choices : Choices) (command : AnyCommand)
-    → command_with name names choices ≡ Some command → IsMade name names choices command
-made_command commands.Plan names choices command is = of_files (files_of names) refl is
+-- names that are read as a task's are those of the task
+pub record HasNames (name : TaskName) (names : List (List ℕ)) (task : AnyTask) : Type 0 where
+  pub named : name ≡ task_name task
+  pub are_names : AreNames task names
+
+names_spelled : (name : TaskName) (names : List (List ℕ)) (task : AnyTask) → task_of name names ≡ Some task
+    → HasNames name names task
+names_spelled tasks.Plan names task is = of_files (files_of names) refl is
   where
-    of_files : (files : Option FileNames) → files_of names ≡ files
-        → option_map (λ files. plan (record { files = files; choices = choices })) files ≡ Some command
-        → IsMade commands.Plan names choices command
+    of_files : (files : Option FileNames) → files_of names ≡ files → option_map plan files ≡ Some task
+        → HasNames tasks.Plan names task
     of_files None read made = cc
     of_files (Some files) read made =
-        let same : plan (record { files = files; choices = choices }) ≡ command = cc in
-        subst (IsMade commands.Plan names choices) same
-        (record { named = refl; are_names = files_spelled names files read; chosen = refl })
-made_command commands.Gen names choices command is = of_input (input_of names) refl is
+        let same : plan files ≡ task = cc in
+        subst (HasNames tasks.Plan names) same (record { named = refl; are_names = files_spelled names files read })
+names_spelled tasks.Gen names task is = of_input (input_of names) refl is
   where
-    of_input : (input : Option GenInput) → input_of names ≡ input
-        → option_map (λ input. gen (record { input = input; workers = choices.workers; capacity = choices.capacity }))
-        input ≡ Some command → IsMade commands.Gen names choices command
+    of_input : (input : Option GenInput) → input_of names ≡ input → option_map gen input ≡ Some task
+        → HasNames tasks.Gen names task
     of_input None read made = cc
     of_input (Some input) read made =
-        let same : gen (record { input = input; workers = choices.workers; capacity = choices.capacity }) ≡ command =
-        cc in
-        subst (IsMade commands.Gen names choices) same
-        (record { named = refl; are_names = input_spelled names input read; chosen = (refl, refl) })
+        let same : gen input ≡ task = cc in
+        subst (HasNames tasks.Gen names) same (record { named = refl; are_names = input_spelled names input read })
+
+-- ---- commands
+
+-- what a command that was made has
+pub record IsMade (name : TaskName) (names : List (List ℕ)) (choices : Option Choices) (command : AnyCommand) : Type 0
+  where
+    pub named : name ≡ task_name command.task
+    pub are_names : AreNames command.task names
+    pub chosen : choices ≡ Some command.choices
+
+pub made_command : (name : TaskName) (names : List (List ℕ)) (choices : Option Choices) (command : AnyCommand)
+    → command_with (task_of name names) choices ≡ Some command → IsMade name names choices command
+made_command name names None command is = cc
+made_command name names (Some choices) command is = of_task (task_of name names) refl is
+  where
+    of_task : (task : Option AnyTask) → task_of name names ≡ task
+        → option_map (λ t. record { task = t; choices = choices }) task ≡ Some command
+        → IsMade name names (Some choices) command
+    of_task None read made = cc
+    of_task (Some task) read made =
+        let same : record { task = task; choices = choices } ≡ command = cc in
+        let has = names_spelled name names task read in
+        subst (IsMade name names (Some choices)) same
+        (record { named = has.named; are_names = has.are_names; chosen = refl })

@@ -1,10 +1,10 @@
 -- An option is found by its word.
 use Rattle.std.proofs.Common.{◌≡◌, ℕ, List, Option, None, Some, IfSome, bytes_eq, refl, sym, ap, ◌∙◌}
 use Rattle.std.proofs.lemmas.Slice.Eq.{bytes_eq-Decides}
-use Rattle.command_line.specs.Options.{option_word}
-use Rattle.command_line.specs.Reading.{all_options, option_named}
-use Rattle.command_line.specs.declared.choices.OptionName.{OptionName}
-use Rattle.command_line.specs.declared.choices.OptionName.TheVariants as names
+use Rattle.command_line.specs.Options.{option_word, all_options}
+use Rattle.command_line.specs.Reading.{option_named}
+use Rattle.command_line.specs.declared.options.OptionName.{OptionName}
+use Rattle.command_line.specs.declared.options.OptionName.TheVariants as names
 use Rattle.command_line.proofs.RuleNames.{found_passes}
 
 -- an option's word is the word of that option

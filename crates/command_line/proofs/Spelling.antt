@@ -3,62 +3,65 @@ use Rattle.std.proofs.Common.{◌≡◌, ℕ, Bool, true, false, cond, List, [],
 use Rattle.std.proofs.Common.{refl, ap, ◌∙◌, subst}
 use Rattle.std.specs.List.{filter_map}
 use Rattle.std.specs.Option.{option_and_then}
-use Rattle.command_line.specs.Options.{choices_of}
-use Rattle.command_line.specs.Command.{AnyCommand, command_name, command_word, Piece}
-use Rattle.command_line.specs.Command.{name_in, setting_in}
-use Rattle.command_line.specs.Command.{may_be_given, IsSpelledOut}
-use Rattle.command_line.specs.Reading.{pieces_of, command_from, command_with}
-use Rattle.command_line.specs.Reading.{behind_name, command_named, command_of}
-use Rattle.command_line.specs.declared.choices.CommandName.{CommandName}
+use Rattle.command_line.specs.Options.{usual}
+use Rattle.command_line.specs.Command.{AnyCommand, task_name, task_word, Piece}
+use Rattle.command_line.specs.Command.{name_in, given_in, may_be_given, IsSpelledOut}
+use Rattle.command_line.specs.Reading.{choices_of, pieces_of, command_from, command_with, task_of}
+use Rattle.command_line.specs.Reading.{behind_name, task_named, command_of}
+use Rattle.command_line.specs.declared.options.TaskName.{TaskName}
+use Rattle.command_line.proofs.Chosen.{all_chosen, chosen_spelled}
 use Rattle.command_line.proofs.FirstPieces.{of_name}
-use Rattle.command_line.proofs.Made.{name_read, name_spelled, command_made_of, made_command}
+use Rattle.command_line.proofs.Made.{name_read, name_spelled, names_read, made_command}
 use Rattle.command_line.proofs.SpelledPieces.{pieces_read, pieces_spelled}
 
 -- a command that is spelled out is read
 pub spelled_read : (words : List (List ℕ)) (command : AnyCommand) → IsSpelledOut words command
     → command_of words ≡ Some command
 spelled_read words command is =
-    let kind = command_name command in
-    of_name kind words (command_word kind) is.behind is.word_first (name_read kind)
-    ∙ ap (option_and_then (command_from kind)) (pieces_read is.pieces is.behind is.spelled)
-    ∙ rw is.given (command_made_of command (filter_map name_in is.pieces) (choices_of (filter_map setting_in is.pieces))
-    is.names is.chosen)
+    let task = task_name command.task in
+    of_name task words (task_word task) is.behind is.word_first (name_read task)
+    ∙ ap (option_and_then (command_from task)) (pieces_read is.pieces is.behind is.spelled)
+    ∙ rw (
+      is.once,
+      names_read command.task (filter_map name_in is.pieces) is.names,
+      all_chosen usual (filter_map given_in is.pieces) command.choices is.chosen,
+    ) refl
 
 -- a command that is read is spelled out
 pub read_spelled : (words : List (List ℕ)) (command : AnyCommand) → command_of words ≡ Some command
     → IsSpelledOut words command
 read_spelled [] command is = cc
-read_spelled (first ∷ others) command is = of_name_read (command_named first) refl is
+read_spelled (first ∷ others) command is = of_name_read (task_named first) refl is
   where
-    of_given : (kind : CommandName) (pieces : List Piece) (g : Bool) → command_named first ≡ Some kind
-        → pieces_of others ≡ Some pieces → may_be_given kind (filter_map setting_in pieces) ≡ g
-        → cond g (command_with kind (filter_map name_in pieces) (choices_of (filter_map setting_in pieces))) None ≡ Some
-        command → IsSpelledOut (first ∷ others) command
-    of_given kind pieces false spelt read given made = cc
-    of_given kind pieces true spelt read given made =
-        let parts = made_command kind (filter_map name_in pieces) (choices_of (filter_map setting_in pieces)) command
+    of_given : (task : TaskName) (pieces : List Piece) (g : Bool) → task_named first ≡ Some task
+        → pieces_of others ≡ Some pieces → may_be_given task (filter_map given_in pieces) ≡ g
+        → cond g (command_with (task_of task (filter_map name_in pieces)) (choices_of (filter_map given_in pieces)))
+        None ≡ Some command → IsSpelledOut (first ∷ others) command
+    of_given task pieces false spelt read once made = cc
+    of_given task pieces true spelt read once made =
+        let parts = made_command task (filter_map name_in pieces) (choices_of (filter_map given_in pieces)) command
         made in
         record {
           pieces = pieces;
           behind = others;
-          word_first = ap (λ w. w ∷ others) (name_spelled first (command_name command) (spelt ∙ ap Some parts.named));
+          word_first = ap (λ w. w ∷ others) (name_spelled first (task_name command.task) (spelt ∙ ap Some parts.named));
           spelled = pieces_spelled others pieces read;
-          given = subst (λ n. may_be_given n (filter_map setting_in pieces) ≡ true) parts.named given;
+          once = subst (λ n. may_be_given n (filter_map given_in pieces) ≡ true) parts.named once;
           names = parts.are_names;
-          chosen = parts.chosen;
+          chosen = chosen_spelled usual (filter_map given_in pieces) command.choices parts.chosen;
         }
 
-    of_pieces : (kind : CommandName) (ps : Option (List Piece)) → command_named first ≡ Some kind
-        → pieces_of others ≡ ps → option_and_then (command_from kind) ps ≡ Some command
+    of_pieces : (task : TaskName) (ps : Option (List Piece)) → task_named first ≡ Some task
+        → pieces_of others ≡ ps → option_and_then (command_from task) ps ≡ Some command
         → IsSpelledOut (first ∷ others) command
-    of_pieces kind None spelt read made = cc
-    of_pieces kind (Some pieces) spelt read made =
-        of_given kind pieces (may_be_given kind (filter_map setting_in pieces)) spelt read refl made
+    of_pieces task None spelt read made = cc
+    of_pieces task (Some pieces) spelt read made =
+        of_given task pieces (may_be_given task (filter_map given_in pieces)) spelt read refl made
 
-    of_name_read : (n : Option CommandName) → command_named first ≡ n
-        → option_and_then (λ kind. behind_name kind others) n ≡ Some command → IsSpelledOut (first ∷ others) command
+    of_name_read : (n : Option TaskName) → task_named first ≡ n
+        → option_and_then (λ task. behind_name task others) n ≡ Some command → IsSpelledOut (first ∷ others) command
     of_name_read None spelt made = cc
-    of_name_read (Some kind) spelt made = of_pieces kind (pieces_of others) spelt refl made
+    of_name_read (Some task) spelt made = of_pieces task (pieces_of others) spelt refl made
 
 -- words spell one command at most
 pub one_command : (words : List (List ℕ)) (command other : AnyCommand) → IsSpelledOut words command

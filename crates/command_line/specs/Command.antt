@@ -1,14 +1,14 @@
 -- The commands that the words of a command line may be.
-use Rattle.std.specs.Prelude.{ℕ, ◌-◌, ◌^◌, Bool, false, not, ◌&&◌, IsTrue, List, [], ◌∷◌, ◌++◌, ◌==◌, ◌≡◌, Option, None}
+use Rattle.std.specs.Prelude.{ℕ, ◌-◌, ◌^◌, Bool, true, false, not, ◌&&◌, IsTrue, List, [], ◌∷◌, ◌++◌, ◌==◌, ◌≡◌, Option, None}
 use Rattle.std.specs.Prelude.{Some, codes, decimal, map}
 use Rattle.std.specs.List.{filter_map, list_all}
 use Rattle.query_core.specs.Differ.{numbers_differ}
-use Rattle.command_line.specs.Options.{option_word, option_number, name_of, takes_option, IsValue, choices_of}
+use Rattle.command_line.specs.Options.{option_word, option_number, setting_of, takes_option, takes_value, usual, Chooses}
 use Rattle.command_line.specs.Numbers.{IsWithin}
 use Rattle.command_line.specs.declared.choices.Choices.{Choices}
-use Rattle.command_line.specs.declared.choices.CommandName.{CommandName}
-use Rattle.command_line.specs.declared.choices.CommandName.TheVariants as commands
-use Rattle.command_line.specs.declared.choices.Setting.{Setting}
+use Rattle.command_line.specs.declared.options.TaskName.{TaskName}
+use Rattle.command_line.specs.declared.options.TaskName.TheVariants as tasks
+use Rattle.command_line.specs.declared.options.OptionName.{OptionName}
 use Rattle.command_line.specs.declared.command.GenInput.{GenInput}
 use Rattle.query_generator.specs.declared.shape.GenShape.{GenShape}
 use Rattle.query_generator.specs.declared.shape.GenShape.TheVariants.{Chain, Star, Clique}
@@ -18,31 +18,25 @@ pub record FileNames : Type 0 where
   pub catalog : List ℕ
   pub query : List ℕ
 
--- `plan` over two files, with what is chosen by options
-pub record PlanCommand : Type 0 where
-  pub files : FileNames
+-- what a command does: `plan` over two files, or `gen` of what a catalogue and a query are made of
+pub data AnyTask : Type 0 where
+  plan : FileNames → AnyTask
+  gen : GenInput → AnyTask
+
+-- a command: a task, and what is chosen for it by options
+pub record AnyCommand : Type 0 where
+  pub task : AnyTask
   pub choices : Choices
 
--- `gen` of what a catalogue and a query are made of, with so many workers and so much room
-pub record GenCommand : Type 0 where
-  pub input : GenInput
-  pub workers : ℕ
-  pub capacity : ℕ
-
--- a command
-pub data AnyCommand : Type 0 where
-  plan : PlanCommand → AnyCommand
-  gen : GenCommand → AnyCommand
-
--- its name
-abbrev pub command_name : AnyCommand → CommandName
-command_name (plan command) = commands.Plan
-command_name (gen command) = commands.Gen
+-- the name of a task
+abbrev pub task_name : AnyTask → TaskName
+task_name (plan files) = tasks.Plan
+task_name (gen input) = tasks.Gen
 
 -- the word of a name
-abbrev pub command_word : CommandName → List ℕ
-command_word commands.Plan = codes "plan"
-command_word commands.Gen = codes "gen"
+abbrev pub task_word : TaskName → List ℕ
+task_word tasks.Plan = codes "plan"
+task_word tasks.Gen = codes "gen"
 
 -- the word of a shape
 abbrev pub shape_word : GenShape → List ℕ
@@ -50,10 +44,17 @@ shape_word Chain = codes "chain"
 shape_word Star = codes "star"
 shape_word Clique = codes "clique"
 
--- a piece of a command line: a name, or an option with what it asks for
+-- ---- pieces
+
+-- an option, and the word behind it if a value stands there
+pub record Given : Type 0 where
+  pub option : OptionName
+  pub value : Option (List ℕ)
+
+-- a piece of a command line: a name, or an option that is given
 pub data Piece : Type 0 where
   name : List ℕ → Piece
-  setting : Setting → Piece
+  given : Given → Piece
 
 -- the word isn't empty and doesn't begin with `-`
 abbrev pub is_positional : List ℕ → Bool
@@ -63,8 +64,10 @@ is_positional (first ∷ others) = not (first == 45)
 -- the words are those of the piece
 pub data IsSpelled : Piece → List (List ℕ) → Type 0 where
   a_name : (word : List ℕ) → IsTrue (is_positional word) → IsSpelled (name word) (word ∷ [])
-  an_option : (given : Setting) (value : List (List ℕ)) → IsValue given value
-      → IsSpelled (setting given) (option_word (name_of given) ∷ value)
+  with_value : (option : OptionName) (value : List ℕ) → takes_value option ≡ true
+      → IsSpelled (given (record { option = option; value = Some value })) (option_word option ∷ value ∷ [])
+  by_itself : (option : OptionName) → takes_value option ≡ false
+      → IsSpelled (given (record { option = option; value = None })) (option_word option ∷ [])
 
 -- the words are those of the pieces, one behind the other
 pub data AreSpelled : List Piece → List (List ℕ) → Type 0 where
@@ -77,12 +80,12 @@ pub data AreSpelled : List Piece → List (List ℕ) → Type 0 where
 -- the name, where the piece is one
 abbrev pub name_in : Piece → Option (List ℕ)
 name_in (name word) = Some word
-name_in (setting given) = None
+name_in (given one) = None
 
--- what the option asks for, where the piece is one
-abbrev pub setting_in : Piece → Option Setting
-setting_in (name word) = None
-setting_in (setting given) = Some given
+-- the option, where the piece is one
+abbrev pub given_in : Piece → Option Given
+given_in (name word) = None
+given_in (given one) = Some one
 
 -- the words are a number of 64 bits, how many tables there are, of which there are 1 to 8, and a shape
 pub record IsInput (input : GenInput) (words : List (List ℕ)) : Type 0 where
@@ -90,32 +93,33 @@ pub record IsInput (input : GenInput) (words : List (List ℕ)) : Type 0 where
   pub tables : IsWithin 1 8 input.tables
   pub are : words ≡ decimal input.number ∷ decimal input.tables ∷ shape_word input.shape ∷ []
 
--- the names are those of the command: of the catalogue's file and of the query's, or what a catalogue and a query are
+-- the names are those of the task: of the catalogue's file and of the query's, or what a catalogue and a query are
 -- made of
-abbrev pub AreNames : AnyCommand → List (List ℕ) → Type 0
-AreNames (plan command) names = names ≡ command.files.catalog ∷ command.files.query ∷ []
-AreNames (gen command) names = IsInput command.input names
+abbrev pub AreNames : AnyTask → List (List ℕ) → Type 0
+AreNames (plan files) names = names ≡ files.catalog ∷ files.query ∷ []
+AreNames (gen input) names = IsInput input names
 
--- the command has what is chosen
-abbrev pub AreChosen : AnyCommand → Choices → Type 0
-AreChosen (plan command) choices = command.choices ≡ choices
-AreChosen (gen command) choices = (command.workers ≡ choices.workers) × (command.capacity ≡ choices.capacity)
+-- the options that are given take the choices before to those after, one behind the other
+abbrev pub AreChosen : Choices → List Given → Choices → Type 0
+AreChosen before [] after = after ≡ before
+AreChosen before (one ∷ more) after =
+    (middle : Choices) × Chooses (setting_of one.option) one.value before middle × AreChosen middle more after
 
--- the number of the option that a setting is of
-abbrev pub number_of : Setting → ℕ
-number_of given = option_number (name_of given)
+-- the number of the option that is given
+abbrev pub number_of : Given → ℕ
+number_of one = option_number one.option
 
--- the command takes each option, and none is given twice
-abbrev pub may_be_given : CommandName → List Setting → Bool
-may_be_given command some = list_all (λ given. takes_option command (name_of given)) some && numbers_differ
-    (map number_of some)
+-- the task takes each option, and none is given twice
+abbrev pub may_be_given : TaskName → List Given → Bool
+may_be_given task some = list_all (λ one. takes_option task one.option) some && numbers_differ (map number_of some)
 
--- the words are this command: its word, and behind it its names and its options, each at most once, in whatever order
+-- the words are this command: its task's word, and behind it its names and its options, each at most once, in whatever
+-- order
 pub record IsSpelledOut (words : List (List ℕ)) (command : AnyCommand) : Type 0 where
   pub pieces : List Piece
   pub behind : List (List ℕ)
-  pub word_first : words ≡ command_word (command_name command) ∷ behind
+  pub word_first : words ≡ task_word (task_name command.task) ∷ behind
   pub spelled : AreSpelled pieces behind
-  pub given : IsTrue (may_be_given (command_name command) (filter_map setting_in pieces))
-  pub names : AreNames command (filter_map name_in pieces)
-  pub chosen : AreChosen command (choices_of (filter_map setting_in pieces))
+  pub once : IsTrue (may_be_given (task_name command.task) (filter_map given_in pieces))
+  pub names : AreNames command.task (filter_map name_in pieces)
+  pub chosen : AreChosen usual (filter_map given_in pieces) command.choices

@@ -1,14 +1,15 @@
 -- What was read of a command so far.
-use Rattle.std.specs.Prelude.{ℕ, true, List, [], ◌∷◌, ◌≡◌, ◌↔◌, map, nat_eq}
+use Rattle.std.specs.Prelude.{ℕ, Some, true, List, [], ◌∷◌, ◌≡◌, ◌↔◌, map, nat_eq}
 use Rattle.std.specs.List.{filter_map, list_all, list_any}
 use Rattle.query_core.specs.Sets.{Has}
 use Rattle.query_core.specs.Differ.{numbers_differ}
 use Rattle.xform_rules.specs.Rules.{can_be_off, rule_number}
 use Rattle.xform_rules.specs.declared.rules.Rule.{Rule}
 use Rattle.command_line.specs.Rules.{off_set}
-use Rattle.command_line.specs.Options.{choices_of, name_of, takes_option}
-use Rattle.command_line.specs.Command.{Piece, name_in, setting_in, number_of}
-use Rattle.command_line.specs.declared.choices.CommandName.{CommandName}
+use Rattle.command_line.specs.Options.{takes_option}
+use Rattle.command_line.specs.Command.{Piece, name_in, given_in, number_of}
+use Rattle.command_line.specs.Reading.{choices_of}
+use Rattle.command_line.specs.declared.options.TaskName.{TaskName}
 use Rattle.command_line.specs.declared.draft.Draft.{Draft}
 use Rattle.command_line.specs.declared.draft.Names.{Names}
 use Rattle.command_line.specs.declared.draft.Names.TheVariants.{Nothing, One, Two, Three}
@@ -32,9 +33,9 @@ names_read (Two first second) = first.now ∷ second.now ∷ []
 names_read (Three first second third) = first.now ∷ second.now ∷ third.now ∷ []
 
 -- the draft of a command has what the pieces ask for
-pub record IsDraft (command : CommandName) (pieces : List Piece) (draft : Draft) : Type 0 where
-  pub command_is : draft.command ≡ command
-  pub taken : list_all (λ given. takes_option command (name_of given)) (filter_map setting_in pieces) ≡ true
+pub record IsDraft (task : TaskName) (pieces : List Piece) (draft : Draft) : Type 0 where
+  pub task_is : draft.task ≡ task
+  pub taken : list_all (λ one. takes_option task one.option) (filter_map given_in pieces) ≡ true
   pub names : filter_map name_in pieces ≡ names_read draft.names
-  pub choices : draft.choices ≡ choices_of (filter_map setting_in pieces)
-  pub given : AreBits (map number_of (filter_map setting_in pieces)) draft.given
+  pub choices : choices_of (filter_map given_in pieces) ≡ Some draft.choices
+  pub given : AreBits (map number_of (filter_map given_in pieces)) draft.given

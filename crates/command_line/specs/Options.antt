@@ -1,6 +1,7 @@
--- The options of the commands: which take them, how each is spelled, and what it chooses.
-use Rattle.std.specs.Prelude.{ℕ, List, [], ◌∷◌, ◌≡◌, ⊤, Bool, true, false, codes, IsTrue}
-use Rattle.std.specs.List.{fold}
+-- The options: which task takes them, how each is spelled, and what it chooses.
+use Rattle.std.specs.Prelude.{ℕ, List, [], ◌∷◌, ◌≡◌, Bool, true, false, codes, IsTrue, nat_eq, bytes_eq, Option, None}
+use Rattle.std.specs.Prelude.{Some}
+use Rattle.std.specs.List.{list_any, position_or_len}
 use Rattle.query_core.specs.declared.options.RootDist.{RootDist}
 use Rattle.query_core.specs.declared.options.RootDist.TheVariants.{One, Spread}
 use Rattle.query_core.specs.Results.{AreOptions}
@@ -8,14 +9,12 @@ use Rattle.xform_rules.specs.declared.rules.Rule.{Rule}
 use Rattle.command_line.specs.Numbers.{IsWithin, IsNumber}
 use Rattle.command_line.specs.Rules.{may_be_off, off_set, rules_word}
 use Rattle.command_line.specs.declared.choices.Choices.{Choices}
-use Rattle.command_line.specs.declared.choices.CommandName.{CommandName}
-use Rattle.command_line.specs.declared.choices.CommandName.TheVariants as commands
-use Rattle.command_line.specs.declared.choices.OptionName.{OptionName}
-use Rattle.command_line.specs.declared.choices.OptionName.TheVariants as names
-use Rattle.command_line.specs.declared.choices.Setting.{Setting}
-use Rattle.command_line.specs.declared.choices.Setting.TheVariants as settings
+use Rattle.command_line.specs.declared.options.TaskName.{TaskName}
+use Rattle.command_line.specs.declared.options.TaskName.TheVariants as tasks
+use Rattle.command_line.specs.declared.options.OptionName.{OptionName}
+use Rattle.command_line.specs.declared.options.OptionName.TheVariants as names
 
--- ---- the table of options, a line for each in every part
+-- ---- the tables: of an option its word, and what it chooses; of a task its options
 
 -- the word of an option
 abbrev pub option_word : OptionName → List ℕ
@@ -27,50 +26,55 @@ option_word names.Memo = codes "--memo"
 option_word names.Trace = codes "--trace"
 option_word names.ByWorker = codes "--by-worker"
 
--- `gen` takes the option
-abbrev pub gen_takes : OptionName → Bool
-gen_takes names.Workers = true
-gen_takes names.Capacity = true
-gen_takes names.Root = false
-gen_takes names.Off = false
-gen_takes names.Memo = false
-gen_takes names.Trace = false
-gen_takes names.ByWorker = false
+-- what stands behind an option's word, and what is chosen by it: a number within bounds, a distribution of the root,
+-- rules that are off, or nothing
+pub data Setting : Type 0 where
+  a_number : (low high : ℕ) → (ℕ → Choices → Choices) → Setting
+  a_root : (RootDist → Choices → Choices) → Setting
+  some_rules : (ℕ → Choices → Choices) → Setting
+  alone : (Choices → Choices) → Setting
 
--- the command takes the option; `plan` takes all of them
-abbrev pub takes_option : CommandName → OptionName → Bool
-takes_option commands.Plan option = true
-takes_option commands.Gen option = gen_takes option
+-- that of each option
+abbrev pub setting_of : OptionName → Setting
+setting_of names.Workers = a_number 1 64 (λ workers c. record c { workers = workers })
+setting_of names.Capacity = a_number 64 1048576 (λ capacity c. record c { capacity = capacity })
+setting_of names.Root = a_root (λ dist c. record c { options = record c.options { root = dist } })
+setting_of names.Off = some_rules (λ set c. record c { options = record c.options { off = set } })
+setting_of names.Memo = alone (λ c. record c { memo = true })
+setting_of names.Trace = alone (λ c. record c { trace = true })
+setting_of names.ByWorker = alone (λ c. record c { by_worker = true })
 
--- the number of an option among them
+-- all options
+abbrev pub all_options : List OptionName
+all_options = names.Workers ∷ names.Capacity ∷ names.Root ∷ names.Off ∷ names.Memo ∷ names.Trace ∷ names.ByWorker ∷ []
+
+-- those that the task takes
+abbrev pub options_of : TaskName → List OptionName
+options_of tasks.Plan =
+    names.Workers ∷ names.Capacity ∷ names.Root ∷ names.Off ∷ names.Memo ∷ names.Trace ∷ names.ByWorker ∷ []
+options_of tasks.Gen = names.Workers ∷ names.Capacity ∷ []
+
+-- ---- what follows from the tables
+
+-- the number of an option: its place among all
 abbrev pub option_number : OptionName → ℕ
-option_number names.Workers = 0
-option_number names.Capacity = 1
-option_number names.Root = 2
-option_number names.Off = 3
-option_number names.Memo = 4
-option_number names.Trace = 5
-option_number names.ByWorker = 6
+option_number option = position_or_len (λ other. bytes_eq (option_word other) (option_word option)) all_options
 
--- the option that a setting is of
-abbrev pub name_of : Setting → OptionName
-name_of (settings.Workers number) = names.Workers
-name_of (settings.Capacity number) = names.Capacity
-name_of (settings.Root dist) = names.Root
-name_of (settings.Off set) = names.Off
-name_of settings.Memo = names.Memo
-name_of settings.Trace = names.Trace
-name_of settings.ByWorker = names.ByWorker
+-- the task takes the option
+abbrev pub takes_option : TaskName → OptionName → Bool
+takes_option task option = list_any (λ taken. nat_eq (option_number taken) (option_number option)) (options_of task)
 
--- what is chosen, with this setting
-abbrev pub chosen : Choices → Setting → Choices
-chosen c (settings.Workers number) = record c { workers = number }
-chosen c (settings.Capacity number) = record c { capacity = number }
-chosen c (settings.Root dist) = record c { options = record c.options { root = dist } }
-chosen c (settings.Off set) = record c { options = record c.options { off = set } }
-chosen c settings.Memo = record c { memo = true }
-chosen c settings.Trace = record c { trace = true }
-chosen c settings.ByWorker = record c { by_worker = true }
+-- something stands behind the option's word
+abbrev pub has_value : Setting → Bool
+has_value (a_number low high set) = true
+has_value (a_root set) = true
+has_value (some_rules set) = true
+has_value (alone set) = false
+
+abbrev pub takes_value : OptionName → Bool
+takes_value option = has_value (setting_of option)
+
+-- ---- values
 
 -- the word for a distribution of the root
 abbrev pub root_word : RootDist → List ℕ
@@ -84,15 +88,19 @@ pub record AreRules (set : ℕ) (words : List (List ℕ)) : Type 0 where
   pub is_set : set ≡ off_set some
   pub word : words ≡ rules_word some ∷ []
 
--- the words behind the option's own
-abbrev pub IsValue : Setting → List (List ℕ) → Type 0
-IsValue (settings.Workers number) words = IsNumber 1 64 number words
-IsValue (settings.Capacity number) words = IsNumber 64 1048576 number words
-IsValue (settings.Root dist) words = words ≡ root_word dist ∷ []
-IsValue (settings.Off set) words = AreRules set words
-IsValue settings.Memo words = words ≡ []
-IsValue settings.Trace words = words ≡ []
-IsValue settings.ByWorker words = words ≡ []
+-- the words of a value, if there is one
+abbrev pub value_words : Option (List ℕ) → List (List ℕ)
+value_words None = []
+value_words (Some word) = word ∷ []
+
+-- with this value behind it the option takes the choices before to those after
+abbrev pub Chooses : Setting → Option (List ℕ) → Choices → Choices → Type 0
+Chooses (a_number low high set) value before after =
+    (n : ℕ) × IsNumber low high n (value_words value) × (after ≡ set n before)
+Chooses (a_root set) value before after =
+    (dist : RootDist) × (value_words value ≡ root_word dist ∷ []) × (after ≡ set dist before)
+Chooses (some_rules set) value before after = (off : ℕ) × AreRules off (value_words value) × (after ≡ set off before)
+Chooses (alone set) value before after = after ≡ set before
 
 -- ---- what a command chooses
 
@@ -107,10 +115,6 @@ usual = record {
   by_worker = false;
 }
 
--- what some settings choose, and what is usual for the rest
-abbrev pub choices_of : List Setting → Choices
-choices_of some = fold chosen usual some
-
 -- the numbers lie within their bounds, and the rules may be off
 pub record AreChoices (c : Choices) : Type 0 where
   pub workers : IsWithin 1 64 c.workers
@@ -120,13 +124,3 @@ pub record AreChoices (c : Choices) : Type 0 where
 -- the rules of the set may be off in a query
 abbrev pub MayBeOff : ℕ → Type 0
 MayBeOff set = AreOptions (record { root = One; off = set })
-
--- the setting's number lies within its bounds, and its rules may be off
-abbrev pub IsAllowed : Setting → Type 0
-IsAllowed (settings.Workers number) = IsWithin 1 64 number
-IsAllowed (settings.Capacity number) = IsWithin 64 1048576 number
-IsAllowed (settings.Root dist) = ⊤
-IsAllowed (settings.Off set) = MayBeOff set
-IsAllowed settings.Memo = ⊤
-IsAllowed settings.Trace = ⊤
-IsAllowed settings.ByWorker = ⊤

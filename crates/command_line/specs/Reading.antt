@@ -1,7 +1,7 @@
 -- How the words of a command line are read.
 use Rattle.std.specs.Prelude.{ℕ, ◌-◌, ◌^◌, Bool, true, false, List, [], ◌∷◌, ◌==◌, Option, None, Some, codes, bytes_eq}
 use Rattle.std.specs.Prelude.{if◌then◌else◌, option_map}
-use Rattle.std.specs.List.{filter_map, find, slice_split}
+use Rattle.std.specs.List.{filter_map, find, fold, slice_split}
 use Rattle.std.specs.Option.{option_and_then, option_map_or}
 use Rattle.query_core.specs.declared.options.RootDist.{RootDist}
 use Rattle.query_core.specs.declared.options.RootDist.TheVariants.{One, Spread}
@@ -9,19 +9,17 @@ use Rattle.xform_rules.specs.Rules.{all_rules, rule_name}
 use Rattle.xform_rules.specs.declared.rules.Rule.{Rule}
 use Rattle.command_line.specs.Numbers.{number_within}
 use Rattle.command_line.specs.Rules.{may_be_off, off_set}
-use Rattle.command_line.specs.Options.{option_word, choices_of}
-use Rattle.command_line.specs.Command.{FileNames, AnyCommand, plan, gen, Piece, name, setting, is_positional, name_in}
-use Rattle.command_line.specs.Command.{setting_in, may_be_given}
+use Rattle.command_line.specs.Options.{Setting, a_number, a_root, some_rules, alone, option_word, setting_of, all_options}
+use Rattle.command_line.specs.Options.{takes_value, usual}
+use Rattle.command_line.specs.Command.{FileNames, AnyTask, AnyCommand, plan, gen, Given, Piece, name, given}
+use Rattle.command_line.specs.Command.{is_positional, name_in, given_in, may_be_given}
 use Rattle.command_line.specs.declared.choices.Choices.{Choices}
-use Rattle.command_line.specs.declared.choices.CommandName.{CommandName}
-use Rattle.command_line.specs.declared.choices.CommandName.TheVariants as commands
+use Rattle.command_line.specs.declared.options.TaskName.{TaskName}
+use Rattle.command_line.specs.declared.options.TaskName.TheVariants as tasks
+use Rattle.command_line.specs.declared.options.OptionName.{OptionName}
 use Rattle.command_line.specs.declared.command.GenInput.{GenInput}
 use Rattle.query_generator.specs.declared.shape.GenShape.{GenShape}
 use Rattle.query_generator.specs.declared.shape.GenShape.TheVariants.{Chain, Star, Clique}
-use Rattle.command_line.specs.declared.choices.OptionName.{OptionName}
-use Rattle.command_line.specs.declared.choices.OptionName.TheVariants as names
-use Rattle.command_line.specs.declared.choices.Setting.{Setting}
-use Rattle.command_line.specs.declared.choices.Setting.TheVariants as settings
 
 -- ---- values
 
@@ -52,43 +50,24 @@ off_of word = option_and_then set_where_off (rules_of (slice_split (λ byte. byt
 
 -- ---- options
 
--- all options
-abbrev pub all_options : List OptionName
-all_options = names.Workers ∷ names.Capacity ∷ names.Root ∷ names.Off ∷ names.Memo ∷ names.Trace ∷ names.ByWorker ∷ []
-
 -- the option that the word names
 abbrev pub option_named : List ℕ → Option OptionName
 option_named word = find (λ option. bytes_eq word (option_word option)) all_options
 
--- a value stands behind the option
-abbrev pub takes_value : OptionName → Bool
-takes_value names.Workers = true
-takes_value names.Capacity = true
-takes_value names.Root = true
-takes_value names.Off = true
-takes_value names.Memo = false
-takes_value names.Trace = false
-takes_value names.ByWorker = false
+-- the choices with the value behind the option, where it is one of its values
+abbrev pub chosen_by : Setting → Option (List ℕ) → Choices → Option Choices
+chosen_by (a_number low high set) value c = option_map (λ n. set n c) (option_and_then (number_within low high) value)
+chosen_by (a_root set) value c = option_map (λ dist. set dist c) (option_and_then root_of value)
+chosen_by (some_rules set) value c = option_map (λ off. set off c) (option_and_then off_of value)
+chosen_by (alone set) value c = Some (set c)
 
--- the setting of an option alone
-abbrev pub own_setting : OptionName → Option Setting
-own_setting names.Workers = None
-own_setting names.Capacity = None
-own_setting names.Root = None
-own_setting names.Off = None
-own_setting names.Memo = Some settings.Memo
-own_setting names.Trace = Some settings.Trace
-own_setting names.ByWorker = Some settings.ByWorker
+-- the choices with one option more
+abbrev pub chosen : Option Choices → Given → Option Choices
+chosen before one = option_and_then (chosen_by (setting_of one.option) one.value) before
 
--- the setting of an option and the word behind it
-abbrev pub with_value : OptionName → List ℕ → Option Setting
-with_value names.Workers word = option_map settings.Workers (number_within 1 64 word)
-with_value names.Capacity word = option_map settings.Capacity (number_within 64 1048576 word)
-with_value names.Root word = option_map settings.Root (root_of word)
-with_value names.Off word = option_map settings.Off (off_of word)
-with_value names.Memo word = None
-with_value names.Trace word = None
-with_value names.ByWorker word = None
+-- what the options that are given choose, and what is usual for the rest
+abbrev pub choices_of : List Given → Option Choices
+choices_of some = fold chosen (Some usual) some
 
 -- ---- pieces
 
@@ -106,11 +85,13 @@ is_valued word = option_map_or takes_value (option_named word) false
 
 -- the piece of one word
 abbrev pub piece_of : List ℕ → Option Piece
-piece_of word = option_map_or (λ option. option_map setting (own_setting option)) (option_named word) (named word)
+piece_of word = option_map_or (λ option. Some (given (record { option = option; value = None }))) (option_named word)
+    (named word)
 
 -- the piece of an option and its value
 abbrev pub valued_piece : List ℕ → List ℕ → Option Piece
-valued_piece word value = option_and_then (λ option. option_map setting (with_value option value)) (option_named word)
+valued_piece word value = option_map (λ option. given (record { option = option; value = Some value }))
+    (option_named word)
 
 -- the pieces of words
 abbrev pub pieces_of : List (List ℕ) → Option (List Piece)
@@ -151,35 +132,37 @@ input_of (number ∷ tables ∷ shape ∷ []) =
     input_with (number_within 0 (2 ^ 64 - 1) number) (number_within 1 8 tables) (shape_of shape)
 input_of (number ∷ tables ∷ shape ∷ fourth ∷ more) = None
 
--- the command of these names, with what is chosen
-abbrev pub command_with : CommandName → List (List ℕ) → Choices → Option AnyCommand
-command_with commands.Plan names choices =
-    option_map (λ files. plan (record { files = files; choices = choices })) (files_of names)
-command_with commands.Gen names choices =
-    option_map (λ input. gen (record { input = input; workers = choices.workers; capacity = choices.capacity }))
-    (input_of names)
+-- what the task of this name does with the names
+abbrev pub task_of : TaskName → List (List ℕ) → Option AnyTask
+task_of tasks.Plan names = option_map plan (files_of names)
+task_of tasks.Gen names = option_map gen (input_of names)
 
--- the command of these names and of these settings
-abbrev pub command_made : CommandName → List (List ℕ) → List Setting → Option AnyCommand
-command_made command names some = if may_be_given command some then command_with command names (choices_of some) else
+-- the command of a task and of what is chosen; what a task asks of its choices has its place here
+abbrev pub command_with : Option AnyTask → Option Choices → Option AnyCommand
+command_with task choices =
+    option_and_then (λ c. option_map (λ t. record { task = t; choices = c }) task) choices
+
+-- the command of these names and of these options
+abbrev pub command_made : TaskName → List (List ℕ) → List Given → Option AnyCommand
+command_made task names some = if may_be_given task some then command_with (task_of task names) (choices_of some) else
     None
 
--- the command that the pieces make behind its name
-abbrev pub command_from : CommandName → List Piece → Option AnyCommand
-command_from command pieces = command_made command (filter_map name_in pieces) (filter_map setting_in pieces)
+-- the command that the pieces make behind the task's word
+abbrev pub command_from : TaskName → List Piece → Option AnyCommand
+command_from task pieces = command_made task (filter_map name_in pieces) (filter_map given_in pieces)
 
--- the command that the words behind its name make
-abbrev pub behind_name : CommandName → List (List ℕ) → Option AnyCommand
-behind_name command words = option_and_then (command_from command) (pieces_of words)
+-- the command that the words behind the task's make
+abbrev pub behind_name : TaskName → List (List ℕ) → Option AnyCommand
+behind_name task words = option_and_then (command_from task) (pieces_of words)
 
--- the command of a word
-abbrev pub command_named : List ℕ → Option CommandName
-command_named word =
-    if bytes_eq word (codes "plan") then Some commands.Plan
-    else if bytes_eq word (codes "gen") then Some commands.Gen
+-- the task of a word
+abbrev pub task_named : List ℕ → Option TaskName
+task_named word =
+    if bytes_eq word (codes "plan") then Some tasks.Plan
+    else if bytes_eq word (codes "gen") then Some tasks.Gen
     else None
 
 -- the command that the words are; there is none where they are spelled otherwise
 abbrev pub command_of : List (List ℕ) → Option AnyCommand
 command_of [] = None
-command_of (first ∷ others) = option_and_then (λ command. behind_name command others) (command_named first)
+command_of (first ∷ others) = option_and_then (λ task. behind_name task others) (task_named first)

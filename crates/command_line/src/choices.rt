@@ -1,40 +1,13 @@
 //! What a command chooses by its options.
-ghost use Rattle.std.specs.Prelude.{◌≡◌, ◌<◌};
-ghost use Rattle.command_line.specs.Options.{AreChoices, IsAllowed, chosen, gen_takes, name_of as option_of, option_number, takes_option, usual as is_usual};
+ghost use Rattle.std.specs.Prelude.{◌≡◌, IfSome, option_map};
+ghost use Rattle.command_line.specs.Options.{AreChoices, setting_of, usual as is_usual};
+ghost use Rattle.command_line.specs.Reading.{chosen_by};
 
+use crate::numbers::number_within;
+use crate::off_rules::read_off;
+use crate::options::OptionName;
+use crate::roots::read_root;
 use query_core::{Options, RootDist};
-
-/// The commands.
-#[derive(Clone, Copy)]
-pub enum CommandName {
-    Plan,
-    Gen,
-}
-
-/// The options of the commands.
-#[derive(Clone, Copy)]
-pub enum OptionName {
-    Workers,
-    Capacity,
-    Root,
-    Off,
-    Memo,
-    Trace,
-    ByWorker,
-}
-
-/// What an option asks for.
-#[derive(Clone, Copy)]
-pub enum Setting {
-    Workers(u32),
-    Capacity(u32),
-    Root(RootDist),
-    /// Rules that are off, as the bits of their numbers.
-    Off(u32),
-    Memo,
-    Trace,
-    ByWorker,
-}
 
 /// What a command chooses by its options.
 #[derive(Clone, Copy)]
@@ -50,65 +23,6 @@ pub struct Choices {
     pub trace: bool,
     /// Whether the worker that finished each goal is printed.
     pub by_worker: bool,
-}
-
-impl OptionName {
-    /// The number of the option among all: 0 to 6.
-    pub fn number(self) -> u32
-        ensures number { result ≡ option_number self }
-        ensures small { result < 7 }
-    {
-        match self {
-            OptionName::Workers => 0,
-            OptionName::Capacity => 1,
-            OptionName::Root => 2,
-            OptionName::Off => 3,
-            OptionName::Memo => 4,
-            OptionName::Trace => 5,
-            OptionName::ByWorker => 6,
-        }
-    }
-
-    /// Whether the command takes it.
-    pub fn is_of(self, command: CommandName) -> bool
-        ensures { result ≡ takes_option command self }
-    {
-        match command {
-            CommandName::Plan => true,
-            CommandName::Gen => self.is_of_gen(),
-        }
-    }
-
-    fn is_of_gen(self) -> bool
-        ensures { result ≡ gen_takes self }
-    {
-        match self {
-            OptionName::Workers => true,
-            OptionName::Capacity => true,
-            OptionName::Root => false,
-            OptionName::Off => false,
-            OptionName::Memo => false,
-            OptionName::Trace => false,
-            OptionName::ByWorker => false,
-        }
-    }
-}
-
-impl Setting {
-    /// The option that it is of.
-    pub fn name(self) -> OptionName
-        ensures { result ≡ option_of self }
-    {
-        match self {
-            Setting::Workers(_) => OptionName::Workers,
-            Setting::Capacity(_) => OptionName::Capacity,
-            Setting::Root(_) => OptionName::Root,
-            Setting::Off(_) => OptionName::Off,
-            Setting::Memo => OptionName::Memo,
-            Setting::Trace => OptionName::Trace,
-            Setting::ByWorker => OptionName::ByWorker,
-        }
-    }
 }
 
 impl Choices {
@@ -130,39 +44,45 @@ impl Choices {
         }
     }
 
-    /// The same with this setting.
-    pub fn with(self, setting: Setting) -> Choices
+    /// The same with what the option asks for, where the word behind it is a value of it.
+    pub fn with(self, option: OptionName, value: Option<&str>) -> Option<Choices>
         requires before { AreChoices self }
-        requires setting { IsAllowed setting }
-        ensures chosen { result ≡ chosen self setting }
-        ensures allowed { AreChoices result }
+        ensures chosen { result
+            ≡ chosen_by (setting_of option) (option_map (λ word. word.now) value.entry) self }
+        ensures allowed { IfSome result AreChoices }
     {
-        match setting {
-            Setting::Workers(workers) => Choices { workers, ..self },
-            Setting::Capacity(capacity) => Choices { capacity, ..self },
-            Setting::Root(root) => Choices {
+        match option {
+            OptionName::Workers => Some(Choices {
+                workers: number_within(value?, 1, 64)? as u32,
+                ..self
+            }),
+            OptionName::Capacity => Some(Choices {
+                capacity: number_within(value?, 64, 1_048_576)? as u32,
+                ..self
+            }),
+            OptionName::Root => Some(Choices {
                 options: Options {
-                    root,
+                    root: read_root(value?)?,
                     ..self.options
                 },
                 ..self
-            },
-            Setting::Off(off) => Choices {
+            }),
+            OptionName::Off => Some(Choices {
                 options: Options {
-                    off,
+                    off: read_off(value?)?.bits,
                     ..self.options
                 },
                 ..self
-            },
-            Setting::Memo => Choices { memo: true, ..self },
-            Setting::Trace => Choices {
+            }),
+            OptionName::Memo => Some(Choices { memo: true, ..self }),
+            OptionName::Trace => Some(Choices {
                 trace: true,
                 ..self
-            },
-            Setting::ByWorker => Choices {
+            }),
+            OptionName::ByWorker => Some(Choices {
                 by_worker: true,
                 ..self
-            },
+            }),
         }
     }
 }

@@ -22,30 +22,26 @@ pub struct GenInput {
     pub shape: GenShape,
 }
 
-/// What `plan` is asked for.
-#[derive(Clone, Copy)]
-pub struct PlanCommand<'w> {
-    pub files: Files<'w>,
-    pub choices: Choices,
-    pub ghost choices_valid: { AreChoices choices } by { Prim.hlevel props },
-}
-
 /// What `gen` is asked for.
 #[derive(Clone, Copy)]
-pub struct GenCommand {
+pub struct GenTask {
     pub input: GenInput,
-    /// How many workers search.
-    pub workers: u32,
-    /// How many members and goals there is room for.
-    pub capacity: u32,
     pub ghost few_tables: { IsWithin 1 8 input.tables } by { Prim.hlevel props },
-    pub ghost few_workers: { IsWithin 1 64 workers } by { Prim.hlevel props },
-    pub ghost some_room: { IsWithin 64 1048576 capacity } by { Prim.hlevel props },
 }
 
-/// What the words of a command line ask for.
+/// What a command does.
 #[derive(Clone, Copy)]
-pub enum Command<'w> {
-    Plan(PlanCommand<'w>),
-    Gen(GenCommand),
+pub enum Task<'w> {
+    /// Plans the query of one file over the catalogue of another.
+    Plan(Files<'w>),
+    /// Makes a catalogue and a query, and plans it.
+    Gen(GenTask),
+}
+
+/// A task, and what is chosen for it by options.
+#[derive(Clone, Copy)]
+pub struct Command<'w> {
+    pub task: Task<'w>,
+    pub choices: Choices,
+    pub ghost choices_valid: { AreChoices choices } by { Prim.hlevel props },
 }

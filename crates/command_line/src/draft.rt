@@ -2,7 +2,8 @@
 ghost use Rattle.std.proofs.Props.{props};
 ghost use Rattle.command_line.specs.Options.{AreChoices};
 
-use crate::choices::{Choices, CommandName};
+use crate::choices::Choices;
+use crate::options::TaskName;
 
 /// The names that were read.
 #[derive(Clone, Copy)]
@@ -16,7 +17,7 @@ pub enum Names<'w> {
 /// What was read of a command so far.
 #[derive(Clone, Copy)]
 pub struct Draft<'w> {
-    pub command: CommandName,
+    pub task: TaskName,
     pub names: Names<'w>,
     pub choices: Choices,
     /// The bits of the numbers of the options that were given.

@@ -1,65 +1,63 @@
 //! Puts what was read into a draft, piece by piece.
 ghost use Rattle.std.specs.Prelude.{◌≡◌, ◌++◌, ◌∷◌, [], None, List, option_map, IfSome, length};
-ghost use Rattle.command_line.specs.Command.{Piece, setting as setting_piece};
+ghost use Rattle.command_line.specs.Command.{Piece};
 ghost use Rattle.command_line.specs.Drafts.{IsDraft, names_read};
-ghost use Rattle.command_line.specs.Options.{IsAllowed};
-ghost use Rattle.command_line.specs.Reading.{command_from, command_with};
-ghost use Rattle.command_line.specs.Views.{command_read, piece as piece_read, MayStand};
-ghost use Rattle.command_line.specs.declared.choices.CommandName.{CommandName as AnyName};
+ghost use Rattle.command_line.specs.Reading.{command_from, task_of};
+ghost use Rattle.command_line.specs.Views.{command_read, option_given, piece as piece_read, task_read};
+ghost use Rattle.command_line.specs.declared.options.TaskName.{TaskName as AnyName};
 
-use crate::choices::{Choices, CommandName, Setting};
-use crate::command::{Command, Files, GenCommand, PlanCommand};
+use crate::choices::Choices;
+use crate::command::{Command, Files, GenTask, Task};
 use crate::draft::{Draft, Names};
 use crate::inputs::read_input;
+use crate::options::{OptionName, TaskName};
 use crate::pieces::Word;
 use query_core::sets;
 
 impl<'w> Draft<'w> {
-    /// Nothing was read behind the command's name.
-    pub fn new(command: CommandName) -> Draft<'w>
-        ensures { IsDraft command [] result }
+    /// Nothing was read behind the task's word.
+    pub fn new(task: TaskName) -> Draft<'w>
+        ensures { IsDraft task [] result }
     {
         Draft {
-            command,
+            task,
             names: Names::Nothing,
             choices: Choices::usual(),
             given: 0,
         }
     }
 
-    /// The draft and one piece more, where the command has room for it.
+    /// The draft and one piece more, where the task has room for it.
     pub fn with(self, piece: Word<'w>) -> Option<Draft<'w>>
-        requires { MayStand piece }
-        ensures added { IfSome result (λ draft. (command : AnyName) (before : List Piece)
-            → IsDraft command before self.entry
-            → IsDraft command (before ++ piece_read piece.entry ∷ []) draft) }
-        ensures refused { result ≡ None → (command : AnyName) (before after : List Piece)
-            → IsDraft command before self.entry
-            → command_from command (before ++ piece_read piece.entry ∷ after) ≡ None }
+        ensures added { IfSome result (λ draft. (task : AnyName) (before : List Piece)
+            → IsDraft task before self.entry
+            → IsDraft task (before ++ piece_read piece.entry ∷ []) draft) }
+        ensures refused { result ≡ None → (task : AnyName) (before after : List Piece)
+            → IsDraft task before self.entry
+            → command_from task (before ++ piece_read piece.entry ∷ after) ≡ None }
     {
         match piece {
             Word::Name(name) => Some(Draft {
-                command: self.command,
+                task: self.task,
                 names: self.names.with(name)?,
                 choices: self.choices,
                 given: self.given,
             }),
-            Word::Option(setting) => self.with_setting(setting),
+            Word::Option(option, value) => self.with_option(option, value),
         }
     }
 
-    // The draft and one setting more, where the command takes its option, which wasn't given.
-    fn with_setting(self, setting: Setting) -> Option<Draft<'w>>
-        requires { IsAllowed setting }
-        ensures added { IfSome result (λ draft. (command : AnyName) (before : List Piece)
-            → IsDraft command before self.entry
-            → IsDraft command (before ++ setting_piece setting ∷ []) draft) }
-        ensures refused { result ≡ None → (command : AnyName) (before after : List Piece)
-            → IsDraft command before self.entry
-            → command_from command (before ++ setting_piece setting ∷ after) ≡ None }
+    // The draft and one option more, where the task takes it, it wasn't given, and the word behind it
+    // is a value of it.
+    fn with_option(self, option: OptionName, value: Option<&'w str>) -> Option<Draft<'w>>
+        ensures added { IfSome result (λ draft. (task : AnyName) (before : List Piece)
+            → IsDraft task before self.entry
+            → IsDraft task (before ++ option_given option value.entry ∷ []) draft) }
+        ensures refused { result ≡ None → (task : AnyName) (before after : List Piece)
+            → IsDraft task before self.entry
+            → command_from task (before ++ option_given option value.entry ∷ after) ≡ None }
     {
-        let option = setting.name();
-        if !option.is_of(self.command) {
+        if !self.task.takes(option) {
             return None;
         }
         let number = option.number();
@@ -67,48 +65,31 @@ impl<'w> Draft<'w> {
             return None;
         }
         Some(Draft {
-            command: self.command,
+            task: self.task,
             names: self.names,
-            choices: self.choices.with(setting),
+            choices: self.choices.with(option, value)?,
             given: sets::with(self.given, number),
         })
     }
 
-    /// The command, where its names were read.
+    /// The command, where its names were read. What a task asks of its choices has its place here.
     pub fn command(self) -> Option<Command<'w>>
-        ensures { (command : AnyName) (pieces : List Piece) → IsDraft command pieces self.entry
-            → option_map command_read result ≡ command_from command pieces }
+        ensures { (task : AnyName) (pieces : List Piece) → IsDraft task pieces self.entry
+            → option_map command_read result ≡ command_from task pieces }
     {
-        match self.command {
-            CommandName::Plan => self.plan(),
-            CommandName::Gen => self.generated(),
-        }
+        Some(Command {
+            task: self.task()?,
+            choices: self.choices,
+        })
     }
 
-    fn plan(self) -> Option<Command<'w>>
-        ensures { option_map command_read result
-            ≡ command_with AnyName.Plan (names_read self.entry.names) self.entry.choices }
+    fn task(self) -> Option<Task<'w>>
+        ensures { option_map task_read result
+            ≡ task_of self.entry.task (names_read self.entry.names) }
     {
-        match self.names {
-            Names::Two(catalog, query) => Some(Command::Plan(PlanCommand {
-                files: Files { catalog, query },
-                choices: self.choices,
-            })),
-            _ => None,
-        }
-    }
-
-    fn generated(self) -> Option<Command<'w>>
-        ensures { option_map command_read result
-            ≡ command_with AnyName.Gen (names_read self.entry.names) self.entry.choices }
-    {
-        match self.names {
-            Names::Three(number, tables, shape) => Some(Command::Gen(GenCommand {
-                input: read_input(number, tables, shape)?,
-                workers: self.choices.workers,
-                capacity: self.choices.capacity,
-            })),
-            _ => None,
+        match self.task {
+            TaskName::Plan => self.names.planned(),
+            TaskName::Gen => self.names.generated(),
         }
     }
 }
@@ -125,6 +106,28 @@ impl<'w> Names<'w> {
             Names::One(first) => Some(Names::Two(first, name)),
             Names::Two(first, second) => Some(Names::Three(first, second, name)),
             Names::Three(_, _, _) => None,
+        }
+    }
+
+    // What `plan` does with them.
+    fn planned(self) -> Option<Task<'w>>
+        ensures { option_map task_read result ≡ task_of AnyName.Plan (names_read self.entry) }
+    {
+        match self {
+            Names::Two(catalog, query) => Some(Task::Plan(Files { catalog, query })),
+            _ => None,
+        }
+    }
+
+    // What `gen` does with them.
+    fn generated(self) -> Option<Task<'w>>
+        ensures { option_map task_read result ≡ task_of AnyName.Gen (names_read self.entry) }
+    {
+        match self {
+            Names::Three(number, tables, shape) => Some(Task::Gen(GenTask {
+                input: read_input(number, tables, shape)?,
+            })),
+            _ => None,
         }
     }
 }

@@ -12,9 +12,14 @@ mod off_rules;
 mod off_set;
 mod options;
 mod pieces;
+mod roots;
 mod words;
 
 pub use choices::Choices;
-pub use command::{Command, Files, GenCommand, GenInput, PlanCommand};
+pub use command::{Command, Files, GenInput, GenTask, Task};
 pub use laws::commands_are_spelled;
+pub use numbers::number_within;
+pub use off_rules::read_off;
+pub use off_set::OffSet;
+pub use roots::read_root;
 pub use words::read_command;

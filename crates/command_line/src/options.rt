@@ -1,133 +1,74 @@
-//! The options of `plan`, as words name them.
-ghost use Rattle.std.specs.Prelude.{◌≡◌, IfSome, Some};
-ghost use Rattle.command_line.specs.Options.{IsAllowed, option_word};
-ghost use Rattle.command_line.specs.declared.choices.OptionName.{OptionName};
-ghost use Rattle.command_line.specs.Reading.{own_setting, option_named, root_of, takes_value as takes, with_value};
+//! The tasks, the options, and which task takes which.
+ghost use Rattle.std.specs.Prelude.{◌≡◌, ◌<◌};
+ghost use Rattle.command_line.specs.Options.{option_number, options_of, takes_option, takes_value as takes};
 
-use crate::choices::{OptionName, Setting};
-use crate::numbers::number_within;
-use crate::off_rules::read_off;
-use query_core::RootDist;
-
-/// The option of this name.
-pub fn option_of(word: &str) -> Option<OptionName>
-    ensures { result ≡ option_named word.now }
-{
-    spelled(word)
+/// The tasks, each named by the first word of a command.
+#[derive(Clone, Copy)]
+pub enum TaskName {
+    Plan,
+    Gen,
 }
 
-fn spelled(word: &str) -> Option<OptionName>
-    ensures found { IfSome result (λ option. option_word option ≡ word.now) }
-    ensures only { (option : OptionName) → option_word option ≡ word.now → result ≡ Some option }
-{
-    match word {
-        "--workers" => Some(OptionName::Workers),
-        "--capacity" => Some(OptionName::Capacity),
-        "--root" => Some(OptionName::Root),
-        "--off" => Some(OptionName::Off),
-        "--memo" => Some(OptionName::Memo),
-        "--trace" => Some(OptionName::Trace),
-        "--by-worker" => Some(OptionName::ByWorker),
-        _ => None,
+/// The options.
+#[derive(Clone, Copy)]
+pub enum OptionName {
+    Workers,
+    Capacity,
+    Root,
+    Off,
+    Memo,
+    Trace,
+    ByWorker,
+}
+
+impl TaskName {
+    /// The options that it takes.
+    fn options(self) -> &'static [OptionName]
+        ensures { result.now ≡ options_of self }
+    {
+        match self {
+            TaskName::Plan => &[
+                OptionName::Workers,
+                OptionName::Capacity,
+                OptionName::Root,
+                OptionName::Off,
+                OptionName::Memo,
+                OptionName::Trace,
+                OptionName::ByWorker,
+            ],
+            TaskName::Gen => &[OptionName::Workers, OptionName::Capacity],
+        }
+    }
+
+    /// Whether it takes the option.
+    pub fn takes(self, option: OptionName) -> bool
+        ensures { result ≡ takes_option self option }
+    {
+        for taken in self.options() {
+            if taken.number() == option.number() {
+                return true;
+            }
+        }
+        false
     }
 }
 
 impl OptionName {
+    /// The number of the option: its place among all.
+    pub fn number(self) -> u32
+        ensures number { result ≡ option_number self }
+        ensures small { result < 32 }
+    {
+        self as u32
+    }
+
     /// Whether a value stands behind it.
     pub fn takes_value(self) -> bool
         ensures { result ≡ takes self }
     {
-        match self {
-            OptionName::Workers => true,
-            OptionName::Capacity => true,
-            OptionName::Root => true,
-            OptionName::Off => true,
-            OptionName::Memo => false,
-            OptionName::Trace => false,
-            OptionName::ByWorker => false,
-        }
-    }
-
-    /// What it asks for, where no value stands behind it.
-    pub fn own_setting(self) -> Option<Setting>
-        ensures setting { result ≡ own_setting self }
-        ensures allowed { IfSome result IsAllowed }
-    {
-        match self {
-            OptionName::Workers => None,
-            OptionName::Capacity => None,
-            OptionName::Root => None,
-            OptionName::Off => None,
-            OptionName::Memo => Some(Setting::Memo),
-            OptionName::Trace => Some(Setting::Trace),
-            OptionName::ByWorker => Some(Setting::ByWorker),
-        }
-    }
-
-    /// What it asks for with this value.
-    pub fn with_value(self, value: &str) -> Option<Setting>
-        ensures setting { result ≡ with_value self value.now }
-        ensures allowed { IfSome result IsAllowed }
-    {
-        match self {
-            OptionName::Workers => workers(value),
-            OptionName::Capacity => capacity(value),
-            OptionName::Root => root(value),
-            OptionName::Off => off(value),
-            OptionName::Memo => None,
-            OptionName::Trace => None,
-            OptionName::ByWorker => None,
-        }
-    }
-}
-
-fn workers(value: &str) -> Option<Setting>
-    ensures setting { result ≡ with_value OptionName.Workers value.now }
-    ensures allowed { IfSome result IsAllowed }
-{
-    match number_within(value, 1, 64) {
-        Some(number) => Some(Setting::Workers(number as u32)),
-        None => None,
-    }
-}
-
-fn capacity(value: &str) -> Option<Setting>
-    ensures setting { result ≡ with_value OptionName.Capacity value.now }
-    ensures allowed { IfSome result IsAllowed }
-{
-    match number_within(value, 64, 1_048_576) {
-        Some(number) => Some(Setting::Capacity(number as u32)),
-        None => None,
-    }
-}
-
-fn root(value: &str) -> Option<Setting>
-    ensures setting { result ≡ with_value OptionName.Root value.now }
-    ensures allowed { IfSome result IsAllowed }
-{
-    match read_root(value) {
-        Some(dist) => Some(Setting::Root(dist)),
-        None => None,
-    }
-}
-
-fn off(value: &str) -> Option<Setting>
-    ensures setting { result ≡ with_value OptionName.Off value.now }
-    ensures allowed { IfSome result IsAllowed }
-{
-    match read_off(value) {
-        Some(set) => Some(Setting::Off(set.bits)),
-        None => None,
-    }
-}
-
-// The distribution that the word names.
-fn read_root(word: &str) -> Option<RootDist>
-    ensures { result ≡ root_of word.now }
-{
-    match word {
-        "one" => Some(RootDist::One),
-        "spread" => Some(RootDist::Spread),
-        _ => None,
+        !matches!(
+            self,
+            OptionName::Memo | OptionName::Trace | OptionName::ByWorker
+        )
     }
 }

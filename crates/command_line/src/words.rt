@@ -2,14 +2,14 @@
 ghost use Rattle.std.specs.Prelude.{◌≡◌, ◌++◌, List, option_map, map, string_bytes};
 ghost use Rattle.std.specs.Option.{option_and_then};
 ghost use Rattle.command_line.specs.Command.{Piece};
-ghost use Rattle.command_line.specs.Reading.{command_from, command_named, command_of, pieces_of};
+ghost use Rattle.command_line.specs.Reading.{command_from, task_named, command_of, pieces_of};
 ghost use Rattle.command_line.specs.Drafts.{IsDraft};
 ghost use Rattle.command_line.specs.Views.{command_read};
-ghost use Rattle.command_line.specs.declared.choices.CommandName.{CommandName as AnyName};
+ghost use Rattle.command_line.specs.declared.options.TaskName.{TaskName as AnyName};
 
-use crate::choices::CommandName;
 use crate::command::Command;
 use crate::draft::Draft;
+use crate::options::TaskName;
 use crate::pieces::{read_valued, read_word, takes_value};
 
 /// The command that the words are, where they are one.
@@ -17,26 +17,26 @@ pub fn read_command(words: &[String]) -> Option<Command<'_>>
     ensures { option_map command_read result ≡ command_of (map string_bytes words.now) }
 {
     let (first, others) = words.split_first()?;
-    let command = read_name(first.as_str())?;
-    read_behind(others, Draft::new(command))
+    let task = read_task(first.as_str())?;
+    read_behind(others, Draft::new(task))
 }
 
-// The command of this name.
-fn read_name(word: &str) -> Option<CommandName>
-    ensures { result ≡ command_named word.now }
+// The task that the word names.
+fn read_task(word: &str) -> Option<TaskName>
+    ensures { result ≡ task_named word.now }
 {
     match word {
-        "plan" => Some(CommandName::Plan),
-        "gen" => Some(CommandName::Gen),
+        "plan" => Some(TaskName::Plan),
+        "gen" => Some(TaskName::Gen),
         _ => None,
     }
 }
 
 // The command of what was read and of the words behind it.
 fn read_behind<'w>(words: &'w [String], draft: Draft<'w>) -> Option<Command<'w>>
-    ensures { (command : AnyName) (before : List Piece) → IsDraft command before draft.entry
+    ensures { (task : AnyName) (before : List Piece) → IsDraft task before draft.entry
         → option_map command_read result
-        ≡ option_and_then (λ after. command_from command (before ++ after))
+        ≡ option_and_then (λ after. command_from task (before ++ after))
         (pieces_of (map string_bytes words.now)) }
 {
     let Some((word, more)) = words.split_first() else {

@@ -1,7 +1,7 @@
 //! The program `orca`: hands the words, the host's files and standard output to the top call.
 #![tactic(auto)]
 
-use orca_cli::{RunNote, Status, orca_run, put_usage};
+use orca_cli::{RunNote, Status, finished, orca_run, put_usage};
 use orca_io::{FileShelf, NoGate, StdSink};
 use std::io::ErrorKind;
 use std::process::ExitCode;
@@ -37,9 +37,6 @@ fn main(rt: HostRuntime) -> ExitCode {
         Err(_) => put_usage(&mut out),
     };
     // Lines that were held back count as written only now.
-    let status = match out.finish() {
-        Ok(()) => status,
-        Err(_) => Status::WriteFault,
-    };
+    let status = finished(status, out.finish());
     ExitCode::from(status.number())
 }

@@ -1,70 +1,194 @@
--- The causes that follow from how a run ended.
-use Rattle.std.proofs.Common.{◌≡◌, ℕ, List, Option, None, Some, refl, sym, ◌∙◌, subst, inl, inr}
+-- What follows from how a run ends.
+use Rattle.std.proofs.Common.{◌≡◌, List, [], ◌∷◌, ℕ, Option, None, Some, refl, sym, ◌∙◌, subst, inl, inr}
 use Rattle.orca_base.specs.Causes.{Rose}
-use Rattle.query_core.specs.declared.catalog.Catalog.{Catalog}
+use Rattle.query_core.specs.declared.options.Options.{Options}
 use Rattle.query_core.specs.declared.query.Query.{Query}
-use Rattle.orca_cli.specs.Causes.{ReadRose}
-use Rattle.command_line.specs.Command.{PlanCommand}
+use Rattle.command_line.specs.Command.{FileNames, AnyTask, AnyCommand, plan, gen}
 use Rattle.command_line.specs.declared.choices.Choices.{Choices}
-use Rattle.orca_cli.specs.Run.{IsSearched, planned, unplanned, too_many, IsAnswer, searched, refused, IsEnding}
-use Rattle.orca_cli.specs.Run.{answered, catalog_refused, catalog_unread, query_unread, IsRun, Ends}
+use Rattle.command_line.specs.declared.command.GenInput.{GenInput}
+use Rattle.orca_cli.specs.Causes.{HoldsRefused, ReadRose, Completes, HasCauses, EndsHaveCauses}
+use Rattle.orca_cli.specs.Prepared.{Reads, generated_in, TaskStops, unread, unusable, by_catalog, by_query}
+use Rattle.orca_cli.specs.Run.{Note, IsSearchEnd, planned, unplanned, too_many, IsEnding, answered, stopped, IsRun}
+use Rattle.orca_cli.specs.Run.{Puts, Ends, whole, cut_short, nothing}
+use Rattle.orca_cli.specs.Sections.{Tells}
+use Rattle.orca_cli.specs.Status.{IsOneOf, searched, settled, overflowed, turned_down, finished}
 use Rattle.orca_cli.specs.declared.status.Status.{Status}
-use Rattle.orca_cli.specs.declared.status.Status.TheVariants.{Usage, CatalogRefused, ReadFault, WriteFault}
-use Rattle.orca_cli.proofs.Others.{never}
+use Rattle.orca_cli.specs.declared.status.Status.TheVariants.{Usage, QueryRefused, CatalogRefused}
+use Rattle.orca_cli.specs.declared.status.Status.TheVariants.{ReadFault, WriteFault, Memory}
+use Rattle.orca_cli.proofs.OneAnswer.{OneAnswer, answer_of, settled_search, overflow_search, refusal_of, sure_search}
 
--- the usage line is put for words that are no command
-pub usage_cause : (named : Option PlanCommand) (held : List ℕ → Option (List ℕ)) (reads_before reads_after : List ℕ → ℕ)
-    (old new : Option (List ℕ)) (before after : ℕ) (status : Status)
-    → Ends (IsRun named held reads_before reads_after) old new before after status → status ≡ Usage → named ≡ None
-usage_cause named held reads_before reads_after old new before after status ends is =
-    of_usage named (subst (Ends (IsRun named held reads_before reads_after) old new before after) is ends)
-  where
-    of_usage : (n : Option PlanCommand) → Ends (IsRun n held reads_before reads_after) old new before after Usage
-        → n ≡ None
-    of_usage None ends = refl
-    of_usage (Some command) ends = absurd (never command held reads_before reads_after Usage ends.0 ends.1 tt)
+-- ---- the statuses of endings
 
--- neither a search nor an answer is a read fault
-search_read : (choices : Choices) (query : Query) (status : Status) (text : List ℕ)
-    → IsSearched choices query status text → status ≡ ReadFault → ⊥
-search_read choices query status text (planned is room plan is_plan goes) fault = cc
-search_read choices query status text (unplanned is room impossible goes) fault = cc
-search_read choices query status text (too_many is more line) fault = cc
+-- a search ends with one of three statuses
+search_status : (Tells : List ℕ → List ℕ → Type 0) (choices : Choices) (query : Query) (note : Note) (status : Status)
+    (text : List ℕ) → IsSearchEnd Tells choices query note status text → IsOneOf searched status
+search_status Tells choices query note status text (planned is room lines is_plan goes notes) = inl is
+search_status Tells choices query note status text (unplanned is room impossible goes notes) = inr (inl is)
+search_status Tells choices query note status text (too_many is more line count notes) = inr (inr (inl is))
 
-answer_read : (catalog : Catalog) (choices : Choices) (asked : List ℕ) (status : Status) (text : List ℕ)
-    → IsAnswer catalog choices asked status text → status ≡ ReadFault → ⊥
-answer_read catalog choices asked status text (searched query asks is) fault =
-    search_read choices query status text is fault
-answer_read catalog choices asked status text (refused is cause why line) fault = cc
+-- a search, a refusal, or a fault of a file whose count rose
+data EndedBy (task : AnyTask) (shelf : Reads) (status : Status) : Type 0 where
+  by_search : IsOneOf searched status → EndedBy task shelf status
+  by_refusal : IsOneOf (QueryRefused ∷ CatalogRefused ∷ []) status → EndedBy task shelf status
+  by_fault : status ≡ ReadFault → ReadRose task shelf → EndedBy task shelf status
 
--- a run that ends with a read fault has the count of a file risen
-rose_of : (command : PlanCommand) (held : List ℕ → Option (List ℕ)) (before after : List ℕ → ℕ) (status : Status)
-    (text : List ℕ) → IsEnding command held before after status text → status ≡ ReadFault
-    → ReadRose (Some command) before after
-rose_of command held before after status text (answered catalog offers is) fault =
-    absurd (answer_read catalog command.choices is.asked status text is.answer fault)
-rose_of command held before after status text (catalog_refused is none) fault = let other : CatalogRefused ≡ ReadFault =
-    sym is ∙ fault in cc
-rose_of command held before after status text (catalog_unread is unread) fault = inl unread.rose
-rose_of command held before after status text (query_unread is catalog offers unread) fault = inr unread.rose
+stop_status : (task : AnyTask) (options : Options) (shelf : Reads) (status : Status) (text : List ℕ)
+    → TaskStops task options shelf status text → EndedBy task shelf status
+stop_status (plan files) options shelf status text (by_catalog (unread is)) = by_fault is.fault (inl is.rose)
+stop_status (plan files) options shelf status text (by_catalog (unusable bytes told none)) =
+    by_refusal (inr (inl none.refused))
+stop_status (plan files) options shelf status text (by_query catalog offers (unread is)) =
+    by_fault is.fault (inr is.rose)
+stop_status (plan files) options shelf status text (by_query catalog offers (unusable bytes told why)) =
+    by_refusal (inl why.refused)
+stop_status (gen input) options shelf status text stop = absurd stop
 
--- a read fault comes where the count of one of the files rose
-pub read_cause : (named : Option PlanCommand) (held : List ℕ → Option (List ℕ)) (reads_before reads_after : List ℕ → ℕ)
-    (old new : Option (List ℕ)) (before after : ℕ) (status : Status)
-    → Ends (IsRun named held reads_before reads_after) old new before after status → status ≡ ReadFault
-    → ReadRose named reads_before reads_after
-read_cause named held reads_before reads_after old new before after status ends is =
-    of_fault named (subst (Ends (IsRun named held reads_before reads_after) old new before after) is ends)
-  where
-    of_fault : (n : Option PlanCommand) → Ends (IsRun n held reads_before reads_after) old new before after ReadFault
-        → ReadRose n reads_before reads_after
-    of_fault None ends = let other : ReadFault ≡ Usage = ends.1.0 in cc
-    of_fault (Some command) ends = rose_of command held reads_before reads_after ReadFault ends.0 ends.1 refl
+ended_by : (command : AnyCommand) (shelf : Reads) (empty note : Note) (status : Status) (text : List ℕ)
+    → IsEnding command shelf empty note status text → EndedBy command.task shelf status
+ended_by command shelf empty note status text (answered query asks found) =
+    by_search (search_status (Tells (generated_in command.task) command.choices query) command.choices query note status
+    text found)
+ended_by command shelf empty note status text (stopped stop kept) =
+    stop_status command.task command.choices.options shelf status text stop
 
--- a write fault comes where the sink's count rose
-pub write_cause : (named : Option PlanCommand) (held : List ℕ → Option (List ℕ)) (reads_before reads_after : List ℕ → ℕ)
-    (old new : Option (List ℕ)) (before after : ℕ) (status : Status)
-    → Ends (IsRun named held reads_before reads_after) old new before after status → status ≡ WriteFault
-    → Rose before after
-write_cause named held reads_before reads_after old new before after status ends is =
-    let short = subst (Ends (IsRun named held reads_before reads_after) old new before after) is ends in short.rose
+module _ (task : AnyTask) (shelf : Reads) (status : Status) where
+  -- no ending is that of other words
+  never_usage : EndedBy task shelf status → status ≡ Usage → ⊥
+  never_usage (by_search (inl is)) other = cc
+  never_usage (by_search (inr (inl is))) other = cc
+  never_usage (by_search (inr (inr (inl is)))) other = cc
+  never_usage (by_refusal (inl is)) other = cc
+  never_usage (by_refusal (inr (inl is))) other = cc
+  never_usage (by_search (inr (inr (inr none)))) other = absurd none
+  never_usage (by_refusal (inr (inr none))) other = absurd none
+  never_usage (by_fault is rose) other = cc
+
+  -- nor of a sink that failed
+  never_write : EndedBy task shelf status → status ≡ WriteFault → ⊥
+  never_write (by_search (inl is)) other = cc
+  never_write (by_search (inr (inl is))) other = cc
+  never_write (by_search (inr (inr (inl is)))) other = cc
+  never_write (by_refusal (inl is)) other = cc
+  never_write (by_refusal (inr (inl is))) other = cc
+  never_write (by_search (inr (inr (inr none)))) other = absurd none
+  never_write (by_refusal (inr (inr none))) other = absurd none
+  never_write (by_fault is rose) other = cc
+
+  -- that of a read fault has a count that rose
+  read_rose : EndedBy task shelf status → status ≡ ReadFault → ReadRose task shelf
+  read_rose (by_search (inl is)) fault = cc
+  read_rose (by_search (inr (inl is))) fault = cc
+  read_rose (by_search (inr (inr (inl is)))) fault = cc
+  read_rose (by_refusal (inl is)) fault = cc
+  read_rose (by_refusal (inr (inl is))) fault = cc
+  read_rose (by_search (inr (inr (inr none)))) fault = absurd none
+  read_rose (by_refusal (inr (inr none))) fault = absurd none
+  read_rose (by_fault is rose) fault = rose
+
+-- ---- the status of the run
+
+-- what holds of each text's status, and of want of memory, holds of the run's where the sink didn't fail
+given : (IsText : Status → List ℕ → Type 0) (P : Status → Type 0) (sink : Puts) (status : Status) → P Memory
+    → ((s : Status) (text : List ℕ) → IsText s text → P s) → (Rose sink.before sink.after → ⊥)
+    → Ends IsText sink status → P status
+given IsText P sink status memory each no_write (whole text is taken) = each status text is
+given IsText P sink status memory each no_write (cut_short fault rose ended text is taken) = absurd (no_write rose)
+given IsText P sink status memory each no_write (nothing is kept) = subst P (sym is) memory
+
+module _ (one : OneAnswer) (named : Option AnyCommand) (shelf : Reads) (empty note : Note) (sink : Puts)
+    (status : Status) (ends : Ends (IsRun named shelf empty note) sink status) where
+  -- the run was one of the command that its words are
+  of_command : (command : AnyCommand) → named ≡ Some command → Ends (IsEnding command shelf empty note) sink status
+  of_command command is = subst (λ n. Ends (IsRun n shelf empty note) sink status) is ends
+
+  completed : Completes named shelf sink status
+  completed command query is sure room none =
+      given (IsEnding command shelf empty note) (IsOneOf settled) sink status (inr (inr (inl refl)))
+      (λ s t ending. settled_search one (Tells (generated_in command.task) command.choices query) command.choices query
+      note s t room
+      (sure_search one command.task command.choices shelf empty note s t query sure none.reads ending)) none.writes
+      (of_command command is)
+
+  usage_cause : status ≡ Usage → named ≡ None
+  usage_cause is = of_named named ends
+    where
+      of_named : (n : Option AnyCommand) → Ends (IsRun n shelf empty note) sink status → n ≡ None
+      of_named None ends = refl
+      of_named (Some command) (whole text ending taken) =
+          absurd (never_usage command.task shelf status (ended_by command shelf empty note status text ending) is)
+      of_named (Some command) (cut_short fault rose ended text ending taken) = cc
+      of_named (Some command) (nothing memory kept) = cc
+
+  read_cause : status ≡ ReadFault
+      → (command : AnyCommand) × (named ≡ Some command) × ReadRose command.task shelf
+  read_cause is = of_named named refl ends
+    where
+      of_named : (n : Option AnyCommand) → named ≡ n → Ends (IsRun n shelf empty note) sink status
+          → (command : AnyCommand) × (named ≡ Some command) × ReadRose command.task shelf
+      of_named None same (whole text run taken) = let other : Usage ≡ ReadFault = sym run.0.0 ∙ is in cc
+      of_named (Some command) same (whole text ending taken) = (
+        command,
+        same,
+        read_rose command.task shelf status (ended_by command shelf empty note status text ending) is,
+      )
+      of_named n same (cut_short fault rose ended text ending taken) = cc
+      of_named n same (nothing memory kept) = cc
+
+  write_cause : status ≡ WriteFault → Rose sink.before sink.after
+  write_cause is = of_named named ends
+    where
+      of_named : (n : Option AnyCommand) → Ends (IsRun n shelf empty note) sink status → Rose sink.before sink.after
+      of_named None (whole text run taken) = let other : Usage ≡ WriteFault = sym run.0.0 ∙ is in cc
+      of_named (Some command) (whole text ending taken) =
+          absurd (never_write command.task shelf status (ended_by command shelf empty note status text ending) is)
+      of_named n (cut_short fault rose ended text ending taken) = rose
+      of_named n (nothing memory kept) = cc
+
+  causes : HasCauses named shelf sink status
+  causes = record {
+    completes = completed;
+    usage = usage_cause;
+    read_fault = read_cause;
+    write_fault = write_cause;
+    overflows = λ command query is sure more none.
+        given (IsEnding command shelf empty note) (IsOneOf overflowed) sink status (inr (inl refl))
+        (λ s t ending. overflow_search one (Tells (generated_in command.task) command.choices query) command.choices
+        query note s t more
+        (sure_search one command.task command.choices shelf empty note s t query sure none.reads ending)) none.writes
+        (of_command command is);
+    refuses = λ command files is task held none.
+        given (IsEnding command shelf empty note) (IsOneOf turned_down) sink status (inr (inl refl))
+        (λ s t ending. inl (refused_ending command files task held none.reads s t ending)) none.writes
+        (of_command command is);
+    finishes = λ command input is task none.
+        given (IsEnding command shelf empty note) (IsOneOf finished) sink status (inr (inr (inr (inl refl))))
+        (λ s t ending. finished_ending command input task s t ending) none.writes (of_command command is);
+  }
+    where
+      refused_ending : (command : AnyCommand) (files : FileNames) → command.task ≡ plan files
+          → HoldsRefused files command.choices.options shelf.held → (ReadRose command.task shelf → ⊥)
+          → (s : Status) (t : List ℕ) → IsEnding command shelf empty note s t → s ≡ QueryRefused
+      refused_ending command files task held no_read s t ending =
+          let here : IsEnding (record { task = plan files; choices = command.choices }) shelf empty note s t =
+          subst (λ k. IsEnding (record { task = k; choices = command.choices }) shelf empty note s t) task ending in
+          (refusal_of one held.catalog command.choices held.text note s t held.cause held.refused
+          (answer_of files command.choices shelf held.catalog held.text held.holds note s t empty
+          (subst (λ k. ReadRose k shelf → ⊥) task no_read) here)).refused
+
+      finished_ending : (command : AnyCommand) (input : GenInput) → command.task ≡ gen input
+          → (s : Status) (t : List ℕ) → IsEnding command shelf empty note s t → IsOneOf finished s
+      finished_ending command input task s t (answered query asks found) =
+          of_search (search_status (Tells (generated_in command.task) command.choices query) command.choices query note
+          s t found)
+        where
+          of_search : IsOneOf searched s → IsOneOf finished s
+          of_search (inl is) = inl is
+          of_search (inr (inl is)) = inr (inl is)
+          of_search (inr (inr (inl is))) = inr (inr (inl is))
+          of_search (inr (inr (inr none))) = absurd none
+      finished_ending command input task s t (stopped stop kept) =
+          absurd (subst (λ k. TaskStops k command.choices.options shelf s t) task stop)
+
+-- what follows from how a run ends
+pub causes_of : OneAnswer → EndsHaveCauses
+causes_of one named shelf empty note sink status ends = causes one named shelf empty note sink status ends

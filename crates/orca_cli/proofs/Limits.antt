@@ -7,7 +7,7 @@ use Rattle.request_props.specs.Listing.{listing_of}
 use Rattle.request_props.specs.Numbered.{lists_of, orders_of, IsWithinLimits, IsRefusedFor}
 use Rattle.request_props.specs.declared.fault.PropsFault.{PropsFault}
 use Rattle.request_props.specs.declared.fault.PropsFault.TheVariants.{TooManyLists, TooManyOrders, Memory}
-use Rattle.orca_cli.proofs.Queries.{AreAlike}
+use Rattle.orca_cli.proofs.OneQuery.{AreAlike}
 
 module _ (q r : Query) (same : AreAlike q r) where
   -- queries of the same parts have the same hashed lists

@@ -1,21 +1,29 @@
 -- The answer to a text over a catalogue is one: the search of its query, or its refusal.
-use Rattle.std.proofs.Common.{◌≡◌, ℕ, List, Option, Some, Ok, Err, IfSome, sym, subst, inl, inr}
+use Rattle.std.proofs.Common.{◌≡◌, ℕ, List, Option, None, Some, Ok, Err, IfSome, subst, inl, inr}
 use Rattle.query_core.specs.declared.catalog.Catalog.{Catalog}
+use Rattle.query_core.specs.declared.options.Options.{Options}
 use Rattle.query_core.specs.declared.query.Query.{Query}
 use Rattle.catalog_json.specs.Outcome.{reading_of}
 use Rattle.sql_reader.specs.Faults.{IsFirst, IsReading}
 use Rattle.sql_reader.specs.declared.faults.SqlFault.{SqlFault}
 use Rattle.sql_reader.specs.declared.syntax.Select.{Select}
-use Rattle.orca_cli.specs.Asked.{SaysCatalog, IsNoCatalog, Asks, IsRefused}
+use Rattle.sql_print.specs.Canonical.{canonical_text}
+use Rattle.query_generator.specs.Catalog.{catalog_of}
+use Rattle.query_generator.specs.Select.{select_of}
 use Rattle.job_outcome.specs.Outcomes.{HasMoreEntries, FitsIn}
-use Rattle.orca_cli.specs.Causes.{ReadRose, Holds, IsSettled, IsOverflow, IsRefusal}
-use Rattle.command_line.specs.Command.{PlanCommand}
+use Rattle.command_line.specs.Command.{FileNames, AnyTask, plan, gen}
 use Rattle.command_line.specs.declared.choices.Choices.{Choices}
-use Rattle.orca_cli.specs.Run.{AreTold, HasRoom, IsSearchEnd, IsSearched, planned, unplanned, too_many, IsAnswer}
-use Rattle.orca_cli.specs.Run.{searched, refused, IsEnding, answered, catalog_refused, catalog_unread, query_unread}
+use Rattle.command_line.specs.declared.command.GenInput.{GenInput}
+use Rattle.orca_cli.specs.Asked.{SaysCatalog, IsNoCatalog, Asks, IsRefused}
+use Rattle.orca_cli.specs.Causes.{Holds, SurelyAsks, ReadRose}
+use Rattle.orca_cli.specs.Generated.{IsGenerated}
+use Rattle.orca_cli.specs.Prepared.{Reads, AreTold, generated_in, FilesAsk, IsQueryRefused}
+use Rattle.orca_cli.specs.Prepared.{unread, unusable, FilesStop, by_catalog, by_query}
+use Rattle.orca_cli.specs.Run.{HasRoom, Note, IsSearchEnd, planned, unplanned, too_many, IsEnding, answered, stopped}
 use Rattle.orca_cli.specs.Sections.{Tells}
+use Rattle.orca_cli.specs.Status.{IsOneOf, settled, overflowed}
 use Rattle.orca_cli.specs.declared.status.Status.{Status}
-use Rattle.orca_cli.proofs.Queries.{OneLinks}
+use Rattle.orca_cli.proofs.OneQuery.{OneLinks}
 use Rattle.orca_cli.proofs.Refusals.{OneReading, one_query, never_refused}
 
 -- bytes that are told are one
@@ -38,28 +46,55 @@ some_catalog bytes cause catalog says none =
     let refused : reading_of bytes ≡ Err none.fault = none.first in
     cc
 
+-- ---- the answer to a text
+
+-- the search of the query for which it asks, or its refusal
+pub data IsAnswer (catalog : Catalog) (choices : Choices) (asked : List ℕ) (note : Note) (status : Status)
+    (text : List ℕ) : Type 0 where
+  searched : (query : Query) → Asks catalog choices.options asked query
+      → IsSearchEnd (Tells None choices query) choices query note status text
+      → IsAnswer catalog choices asked note status text
+  turned_down : IsQueryRefused catalog choices.options asked status text
+      → IsAnswer catalog choices asked note status text
+
 -- a run over files that hold a catalogue and a text ends with the answer to that text, where no count rose
-module _ (command : PlanCommand) (held : List ℕ → Option (List ℕ)) (catalog : Catalog) (asked : List ℕ)
-    (holds : Holds command.files held catalog asked) where
-  pub answer_of : (before after : List ℕ → ℕ) (status : Status) (text : List ℕ)
-      → (ReadRose (Some command) before after → ⊥) → IsEnding command held before after status text
-      → IsAnswer catalog command.choices asked status text
-  answer_of before after status text no_read (answered other offers is) =
-      let bytes : offers.bytes ≡ holds.bytes =
-      told_one (held command.files.catalog) offers.bytes holds.bytes offers.told holds.bytes_told in
-      let says : SaysCatalog holds.bytes other = subst (λ b. SaysCatalog b other) bytes offers.says in
-      let here : IsAnswer other command.choices asked status text =
-      subst (λ t. IsAnswer other command.choices t status text)
-      (told_one (held command.files.query) is.asked asked is.told holds.text_told) is.answer in
-      subst (λ k. IsAnswer k command.choices asked status text) (one_catalog holds.bytes other catalog says holds.says)
-      here
-  answer_of before after status text no_read (catalog_refused is none) =
-      let bytes : none.bytes ≡ holds.bytes = told_one (held command.files.catalog) none.bytes holds.bytes none.told
-      holds.bytes_told in
-      absurd (some_catalog holds.bytes none.cause catalog holds.says
-      (subst (λ b. IsNoCatalog b none.cause) bytes none.no_catalog))
-  answer_of before after status text no_read (catalog_unread is unread) = absurd (no_read (inl unread.rose))
-  answer_of before after status text no_read (query_unread is k offers unread) = absurd (no_read (inr unread.rose))
+module _ (files : FileNames) (choices : Choices) (shelf : Reads) (catalog : Catalog) (asked : List ℕ)
+    (holds : Holds files shelf.held catalog asked) (note : Note) (status : Status) (text : List ℕ) where
+  -- the query for which the files ask is that of the text
+  asked_there : (query : Query) → FilesAsk files choices.options shelf.held query
+      → Asks catalog choices.options asked query
+  asked_there query asks =
+      let says : SaysCatalog holds.bytes asks.catalog =
+      subst (λ b. SaysCatalog b asks.catalog)
+      (told_one (shelf.held files.catalog) asks.offers.bytes holds.bytes asks.offers.told holds.bytes_told)
+      asks.offers.says in
+      subst (λ k. Asks k choices.options asked query) (one_catalog holds.bytes asks.catalog catalog says holds.says)
+      (subst (λ t. Asks asks.catalog choices.options t query)
+      (told_one (shelf.held files.query) asks.asked.asked asked asks.asked.told holds.text_told) asks.asked.asks)
+
+  -- the refusal is that of the text
+  refused_there : FilesStop files choices.options shelf status text → (ReadRose (plan files) shelf → ⊥)
+      → IsQueryRefused catalog choices.options asked status text
+  refused_there (by_catalog (unread is)) no_read = absurd (no_read (inl is.rose))
+  refused_there (by_catalog (unusable bytes told none)) no_read =
+      absurd (some_catalog holds.bytes none.cause catalog holds.says (subst (λ b. IsNoCatalog b none.cause)
+      (told_one (shelf.held files.catalog) bytes holds.bytes told holds.bytes_told) none.no_catalog))
+  refused_there (by_query other offers (unread is)) no_read = absurd (no_read (inr is.rose))
+  refused_there (by_query other offers (unusable bytes told why)) no_read =
+      let says : SaysCatalog holds.bytes other =
+      subst (λ b. SaysCatalog b other)
+      (told_one (shelf.held files.catalog) offers.bytes holds.bytes offers.told holds.bytes_told) offers.says in
+      subst (λ k. IsQueryRefused k choices.options asked status text)
+      (one_catalog holds.bytes other catalog says holds.says)
+      (subst (λ t. IsQueryRefused other choices.options t status text)
+      (told_one (shelf.held files.query) bytes asked told holds.text_told) why)
+
+  -- so is the ending of the run
+  pub answer_of : (empty : Note) → (ReadRose (plan files) shelf → ⊥)
+      → IsEnding (record { task = plan files; choices = choices }) shelf empty note status text
+      → IsAnswer catalog choices asked note status text
+  answer_of empty no_read (answered query asks search) = searched query (asked_there query asks) search
+  answer_of empty no_read (stopped stop kept) = turned_down (refused_there stop no_read)
 
 -- what the layers below promise: a text has one reading or one fault, a query one list of links, and it has room or too
 -- many entries
@@ -81,39 +116,62 @@ pub room_or_more : OneAnswer → (query : Query) (capacity : ℕ) → HasRoom qu
     → ⊥
 room_or_more one query capacity room more = one.room query capacity room.members room.goals room.fits more
 
--- the search of a query with room settles it
-pub settled_search : OneAnswer → (Tells : List ℕ → List ℕ → Type 0) (capacity : ℕ) (query : Query) (status : Status)
-    (text : List ℕ) → HasRoom query capacity → IsSearchEnd Tells capacity query status text → IsSettled status
-settled_search one Tells capacity query status text room (planned is has plan is_plan goes) =
-    subst IsSettled (sym is) tt
-settled_search one Tells capacity query status text room (unplanned is has impossible goes) =
-    subst IsSettled (sym is) tt
-settled_search one Tells capacity query status text room (too_many is more line) =
-    absurd (room_or_more one query capacity room more)
+-- ---- searches
 
--- the search of a query with too many entries ends for want of room
-pub overflow_search : OneAnswer → (Tells : List ℕ → List ℕ → Type 0) (capacity : ℕ) (query : Query) (status : Status)
-    (text : List ℕ) → HasMoreEntries query capacity → IsSearchEnd Tells capacity query status text → IsOverflow status
-overflow_search one Tells capacity query status text more (planned is room plan is_plan goes) =
-    absurd (room_or_more one query capacity room more)
-overflow_search one Tells capacity query status text more (unplanned is room impossible goes) =
-    absurd (room_or_more one query capacity room more)
-overflow_search one Tells capacity query status text more (too_many is has line) = subst IsOverflow (sym is) tt
+module _ (one : OneAnswer) (Tells : List ℕ → List ℕ → Type 0) (choices : Choices) (query : Query) (note : Note)
+    (status : Status) (text : List ℕ) where
+  -- the search of a query with room settles it
+  pub settled_search : HasRoom query choices.capacity → IsSearchEnd Tells choices query note status text
+      → IsOneOf settled status
+  settled_search room (planned is has lines is_plan goes notes) = inl is
+  settled_search room (unplanned is has impossible goes notes) = inr (inl is)
+  settled_search room (too_many is more line count notes) =
+      absurd (room_or_more one query choices.capacity room more)
 
-module _ (one : OneAnswer) (catalog : Catalog) (choices : Choices) (asked : List ℕ) (status : Status) (text : List ℕ)
-  where
-    -- the answer to a text that asks for a query is the search of this query
-    pub search_of : (q : Query) → Asks catalog choices.options asked q → IsAnswer catalog choices asked status text
-        → IsSearched choices q status text
-    search_of q asks (searched query asks_too is) =
-        subst (λ r. IsSearched choices r status text)
-        (one_query one.reading catalog choices.options asked one.links query q asks_too.bound asks.bound) is
-    search_of q asks (refused is cause why line) =
-        absurd (never_refused one.reading catalog choices.options asked q cause asks why)
+  -- the search of a query with too many entries ends for want of room
+  pub overflow_search : HasMoreEntries query choices.capacity → IsSearchEnd Tells choices query note status text
+      → IsOneOf overflowed status
+  overflow_search more (planned is room lines is_plan goes notes) =
+      absurd (room_or_more one query choices.capacity room more)
+  overflow_search more (unplanned is room impossible goes notes) =
+      absurd (room_or_more one query choices.capacity room more)
+  overflow_search more (too_many is has line count notes) = inl is
 
-    -- the answer to a text that is refused is a refusal
-    pub refusal_answer : (cause : List ℕ) → IsRefused catalog choices.options asked cause
-        → IsAnswer catalog choices asked status text → IsRefusal status
-    refusal_answer cause why (searched query asks is) =
-        absurd (never_refused one.reading catalog choices.options asked query cause asks why)
-    refusal_answer cause why (refused is other why_too line) = subst IsRefusal (sym is) tt
+module _ (one : OneAnswer) (catalog : Catalog) (choices : Choices) (asked : List ℕ) (note : Note) (status : Status)
+    (text : List ℕ) where
+  -- the answer to a text that asks for a query is the search of this query
+  pub search_of : (q : Query) → Asks catalog choices.options asked q → IsAnswer catalog choices asked note status text
+      → IsSearchEnd (Tells None choices q) choices q note status text
+  search_of q asks (searched query asks_too is) =
+      subst (λ r. IsSearchEnd (Tells None choices r) choices r note status text)
+      (one_query one.reading catalog choices.options asked one.links query q asks_too.bound asks.bound) is
+  search_of q asks (turned_down why) =
+      absurd (never_refused one.reading catalog choices.options asked q why.cause asks why.no_query)
+
+  -- the answer to a text that is refused is a refusal
+  pub refusal_of : (cause : List ℕ) → IsRefused catalog choices.options asked cause
+      → IsAnswer catalog choices asked note status text
+      → IsQueryRefused catalog choices.options asked status text
+  refusal_of cause why (searched query asks is) =
+      absurd (never_refused one.reading catalog choices.options asked query cause asks why)
+  refusal_of cause why (turned_down is) = is
+
+-- what is generated asks for one query
+pub one_generated : OneAnswer → (input : GenInput) (options : Options) (q r : Query) → IsGenerated input options q
+    → IsGenerated input options r → q ≡ r
+one_generated one input options q r made again =
+    one_query one.reading (catalog_of input.number input.tables) options
+    (canonical_text (select_of input.shape input.tables)) one.links q r made.bound again.bound
+
+-- a run of a command that surely asks for a query, in which no count of its files rose, ends with the query's search
+pub sure_search : OneAnswer → (task : AnyTask) (choices : Choices) (shelf : Reads) (empty note : Note) (status : Status)
+    (text : List ℕ) (query : Query) → SurelyAsks task choices.options shelf.held query → (ReadRose task shelf → ⊥)
+    → IsEnding (record { task = task; choices = choices }) shelf empty note status text
+    → IsSearchEnd (Tells (generated_in task) choices query) choices query note status text
+sure_search one (plan files) choices shelf empty note status text query sure no_read ending =
+    search_of one sure.catalog choices sure.text note status text query sure.asks
+    (answer_of files choices shelf sure.catalog sure.text sure.holds note status text empty no_read ending)
+sure_search one (gen input) choices shelf empty note status text query made no_read (answered other again search) =
+    subst (λ r. IsSearchEnd (Tells (Some input) choices r) choices r note status text)
+    (one_generated one input choices.options other query again made) search
+sure_search one (gen input) choices shelf empty note status text query made no_read (stopped stop kept) = absurd stop

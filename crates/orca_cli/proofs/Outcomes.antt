@@ -1,5 +1,5 @@
 -- The outcome of a run is one, by the bytes of its files.
-use Rattle.std.proofs.Common.{◌≡◌, ℕ, List, Option, Some, Err, sym, ap, ◌∙◌, subst, refl}
+use Rattle.std.proofs.Common.{◌≡◌, ℕ, List, Option, None, Some, Err, sym, ap, ◌∙◌, subst, refl, inl, inr}
 use Rattle.std.specs.List.{concat}
 use Rattle.query_core.specs.declared.catalog.Catalog.{Catalog}
 use Rattle.query_core.specs.declared.query.Query.{Query}
@@ -8,22 +8,19 @@ use Rattle.request_props.specs.Numbered.{IsWithinLimits}
 use Rattle.plan_space.specs.Nodes.{Tree}
 use Rattle.plan_space.specs.Least.{IsLeastPlan}
 use Rattle.plan_lines.specs.Text.{plan_section}
-use Rattle.orca_cli.specs.Asked.{SaysCatalog, IsNoCatalog}
-use Rattle.orca_cli.specs.Run.{IsPlanText, IsSearchEnd, IsSearched, planned, unplanned, too_many, IsAnswer, searched}
-use Rattle.orca_cli.specs.Run.{refused, IsEnding, answered, catalog_refused, catalog_unread, query_unread}
-use Rattle.orca_cli.specs.Laws.{IsOutcome, Outcome, by, Same, OneOutcome, OneGenerated}
-use Rattle.command_line.specs.Command.{FileNames}
-use Rattle.sql_print.specs.Canonical.{canonical_text}
-use Rattle.query_generator.specs.Catalog.{catalog_of}
-use Rattle.query_generator.specs.Select.{select_of}
-use Rattle.command_line.specs.Options.{usual}
+use Rattle.command_line.specs.Command.{FileNames, plan, gen}
 use Rattle.command_line.specs.declared.choices.Choices.{Choices}
-use Rattle.command_line.specs.declared.command.GenInput.{GenInput}
+use Rattle.orca_cli.specs.Asked.{SaysCatalog, IsNoCatalog, Asks}
+use Rattle.orca_cli.specs.Prepared.{reads, FilesStop, unread, unusable, by_catalog, by_query, IsCatalogRefused, IsQueryRefused}
+use Rattle.orca_cli.specs.Run.{Note, IsPlanText, IsSearchEnd, planned, unplanned, too_many, IsEnding, answered, stopped}
+use Rattle.orca_cli.specs.Laws.{Outcome, by, SameTexts, Same, OneOutcome, OneGenerated}
 use Rattle.orca_cli.specs.Sections.{Tells}
+use Rattle.orca_cli.specs.Status.{IsOneOf, by_files}
 use Rattle.orca_cli.specs.Texts as texts
 use Rattle.orca_cli.specs.declared.status.Status.{Status}
-use Rattle.orca_cli.specs.declared.status.Status.TheVariants.{CatalogRefused}
-use Rattle.orca_cli.proofs.OneAnswer.{OneAnswer, room_or_more, told_one, one_catalog, some_catalog}
+use Rattle.orca_cli.specs.declared.status.Status.TheVariants.{ReadFault}
+use Rattle.orca_cli.proofs.OneAnswer.{OneAnswer, room_or_more, told_one, one_catalog, some_catalog, one_generated}
+use Rattle.orca_cli.proofs.OneAnswer.{IsAnswer, searched, turned_down}
 use Rattle.orca_cli.proofs.SectionTexts.{OneSections, sections_same, first_lines_one, same_texts}
 use Rattle.orca_cli.proofs.Refusals.{one_query, never_refused, one_cause}
 
@@ -38,7 +35,7 @@ unfolding OneLeast
 one_text one query other text again within same is other_is =
     let here : IsPlanText query again = subst (λ q. IsPlanText q again) (sym same) other_is in
     let tree = one query is.plan here.plan within is.least here.least in
-    is.lines ∙ ap (λ plan. concat (plan_section query plan)) tree ∙ sym here.lines
+    is.lines ∙ ap (λ t. concat (plan_section query t)) tree ∙ sym here.lines
 
 -- what makes an outcome one
 record OneOf : Type 0 where
@@ -46,80 +43,103 @@ record OneOf : Type 0 where
   least : OneLeast
   sections : OneSections
 
-module _ (one : OneOf) (choices : Choices) (workers more : ℕ) (q : Query) (within : IsWithinLimits q)
-    (first second : Status) (text other : List ℕ) where
+module _ (one : OneOf) (q : Query) (within : IsWithinLimits q) (choices : Choices) (workers more : ℕ)
+    (Told Again : List ℕ → List ℕ → Type 0) (AreSame : List ℕ → List ℕ → Type 0)
+    (told : (lines text other : List ℕ) → Told lines text → Again lines other → AreSame text other)
+    (equal : (text other : List ℕ) → text ≡ other → AreSame text other)
+    (note later : Note) (first second : Status) (text other : List ℕ) where
   -- two searches of one query end in one way
-  same_searches : IsSearched (by workers choices) q first text → IsSearched (by more choices) q second other
-      → Same choices workers more first second text other
-  same_searches (planned a room plan is goes) (planned b room_too plan_too is_too goes_too) =
-      record {
-        status = a ∙ sym b;
-        texts = sections_same choices workers more q one.sections plan plan_too text other
-            within (one_text one.least q q plan plan_too within refl is is_too) goes goes_too;
-      }
-  same_searches (planned a room plan is goes) (unplanned b room_too none goes_too) =
+  one_search : IsSearchEnd Told (by workers choices) q note first text
+      → IsSearchEnd Again (by more choices) q later second other → (first ≡ second) × AreSame text other
+  one_search (planned a room lines is goes notes) (planned b room_too lines_too is_too goes_too notes_too) =
+      let same = one_text one.least q q lines lines_too within refl is is_too in
+      (a ∙ sym b, told lines text other goes (subst (λ l. Again l other) (sym same) goes_too))
+  one_search (planned a room lines is goes notes) (unplanned b room_too none goes_too notes_too) =
       absurd (none is.plan is.least.serves)
-  same_searches (planned a room plan is goes) (too_many b many line) =
+  one_search (planned a room lines is goes notes) (too_many b many line count notes_too) =
       absurd (room_or_more one.answer q choices.capacity room many)
-  same_searches (unplanned a room none goes) (planned b room_too plan is goes_too) =
+  one_search (unplanned a room none goes notes) (planned b room_too lines is goes_too notes_too) =
       absurd (none is.plan is.least.serves)
-  same_searches (unplanned a room none goes) (unplanned b room_too none_too goes_too) =
-      record {
-        status = a ∙ sym b;
-        texts = sections_same choices workers more q one.sections texts.no_plan texts.no_plan
-            text other within refl goes goes_too;
-      }
-  same_searches (unplanned a room none goes) (too_many b many line) =
+  one_search (unplanned a room none goes notes) (unplanned b room_too none_too goes_too notes_too) =
+      (a ∙ sym b, told texts.no_plan text other goes goes_too)
+  one_search (unplanned a room none goes notes) (too_many b many line count notes_too) =
       absurd (room_or_more one.answer q choices.capacity room many)
-  same_searches (too_many a many line) (planned b room plan is goes) =
+  one_search (too_many a many line count notes) (planned b room lines is goes notes_too) =
       absurd (room_or_more one.answer q choices.capacity room many)
-  same_searches (too_many a many line) (unplanned b room none goes) =
+  one_search (too_many a many line count notes) (unplanned b room none goes notes_too) =
       absurd (room_or_more one.answer q choices.capacity room many)
-  same_searches (too_many a many line) (too_many b many_too line_too) =
-      record { status = a ∙ sym b; texts = same_texts choices workers more text other (line ∙ sym line_too) }
+  one_search (too_many a many line count notes) (too_many b many_too line_too finished_too notes_too) =
+      (a ∙ sym b, equal text other (line ∙ sym line_too))
 
-module _ (one : OneOf) (catalog : Catalog) (choices : Choices) (workers more : ℕ) (asked : List ℕ)
+module _ (one : OneOf) (catalog : Catalog) (choices : Choices) (workers more : ℕ) (asked : List ℕ) (note later : Note)
     (first second : Status) (text other : List ℕ) where
   -- two answers to one text over one catalogue are the same
-  same_answers : IsAnswer catalog (by workers choices) asked first text
-      → IsAnswer catalog (by more choices) asked second other → Same choices workers more first second text other
+  same_answers : IsAnswer catalog (by workers choices) asked note first text
+      → IsAnswer catalog (by more choices) asked later second other → Same choices workers more first second text other
   same_answers (searched q asks is) (searched r asks_too is_too) =
       let same : q ≡ r = one_query one.answer.reading catalog choices.options asked one.answer.links q r asks.bound
       asks_too.bound in
-      same_searches one choices workers more q asks.within first second text other is
-      (subst (λ q. IsSearched (by more choices) q second other) (sym same) is_too)
-  same_answers (searched q asks is) (refused b cause why line) =
-      absurd (never_refused one.answer.reading catalog choices.options asked q cause asks why)
-  same_answers (refused a cause why line) (searched r asks is) =
-      absurd (never_refused one.answer.reading catalog choices.options asked r cause asks why)
-  same_answers (refused a cause why line) (refused b cause_too why_too line_too) =
-      let same : text ≡ other = line ∙ ap texts.query_refused
-      (one_cause one.answer.reading catalog choices.options asked cause cause_too why why_too) ∙ sym line_too in
-      record { status = a ∙ sym b; texts = same_texts choices workers more text other same }
+      let (status, texts) = one_search one q asks.within choices workers more (Tells None (by workers choices) q)
+      (Tells None (by more choices) q) (SameTexts choices workers more)
+      (λ lines t o goes goes_too. sections_same choices workers more q one.sections lines lines t o asks.within refl goes
+      goes_too)
+      (same_texts choices workers more) note later first second text other is
+      (subst (λ q. IsSearchEnd (Tells None (by more choices) q) (by more choices) q later second other) (sym same)
+      is_too) in
+      record { status = status; texts = texts }
+  same_answers (searched q asks is) (turned_down why) =
+      absurd (never_refused one.answer.reading catalog choices.options asked q why.cause asks why.no_query)
+  same_answers (turned_down why) (searched r asks is) =
+      absurd (never_refused one.answer.reading catalog choices.options asked r why.cause asks why.no_query)
+  same_answers (turned_down why) (turned_down again) =
+      let same : text ≡ other = why.line ∙ ap texts.query_refused
+      (one_cause one.answer.reading catalog choices.options asked why.cause again.cause why.no_query again.no_query)
+      ∙ sym again.line in
+      record {
+        status = why.refused ∙ sym again.refused;
+        texts = same_texts choices workers more text other same;
+      }
 
 -- how a run over known bytes ends
-data Known (bytes : List ℕ) (choices : Choices) (asked : List ℕ) (status : Status) (text : List ℕ) : Type 0 where
-  over : (catalog : Catalog) → SaysCatalog bytes catalog → IsAnswer catalog choices asked status text
-      → Known bytes choices asked status text
-  without : status ≡ CatalogRefused → (cause : List ℕ) → IsNoCatalog bytes cause → text ≡ texts.catalog_refused cause
-      → Known bytes choices asked status text
+data Known (bytes : List ℕ) (choices : Choices) (asked : List ℕ) (note : Note) (status : Status) (text : List ℕ) : Type 0
+  where
+    over : (catalog : Catalog) → SaysCatalog bytes catalog → IsAnswer catalog choices asked note status text
+        → Known bytes choices asked note status text
+    without : IsCatalogRefused bytes status text → Known bytes choices asked note status text
+
+-- no outcome is a read fault
+never_fault : (status : Status) → IsOneOf by_files status → status ≡ ReadFault → ⊥
+never_fault status (inl is) fault = cc
+never_fault status (inr (inl is)) fault = cc
+never_fault status (inr (inr (inl is))) fault = cc
+never_fault status (inr (inr (inr (inl is)))) fault = cc
+never_fault status (inr (inr (inr (inr (inl is))))) fault = cc
+never_fault status (inr (inr (inr (inr (inr none))))) fault = absurd none
 
 -- what the shelf tells of both files
 known_of : (files : FileNames) (choices : Choices) (held : List ℕ → Option (List ℕ)) (bytes asked : List ℕ)
     (status : Status) (text : List ℕ) → (o : Outcome files choices held bytes asked status text)
-    → IsEnding (record { files = files; choices = choices }) held o.before o.after status text
-    → Known bytes choices asked status text
-known_of files choices held bytes asked status text o (answered catalog offers is) =
-    over catalog (subst (λ b. SaysCatalog b catalog)
-    (told_one (held files.catalog) offers.bytes bytes offers.told o.catalog_told) offers.says)
-    (subst (λ b. IsAnswer catalog choices b status text)
-    (told_one (held files.query) is.asked asked is.told o.query_told) is.answer)
-known_of files choices held bytes asked status text o (catalog_refused is none) =
-    without is none.cause (subst (λ b. IsNoCatalog b none.cause)
-    (told_one (held files.catalog) none.bytes bytes none.told o.catalog_told) none.no_catalog) none.line
-known_of files choices held bytes asked status text o (catalog_unread is fault) = absurd (subst IsOutcome is o.by_files)
-known_of files choices held bytes asked status text o (query_unread is catalog offers fault) =
-    absurd (subst IsOutcome is o.by_files)
+    → IsEnding (record { task = plan files; choices = choices }) (reads held o.before o.after) o.empty o.note status text
+    → Known bytes choices asked o.note status text
+known_of files choices held bytes asked status text o (answered query asks search) =
+    over asks.catalog (subst (λ b. SaysCatalog b asks.catalog)
+    (told_one (held files.catalog) asks.offers.bytes bytes asks.offers.told o.catalog_told) asks.offers.says)
+    (searched query (subst (λ t. Asks asks.catalog choices.options t query)
+    (told_one (held files.query) asks.asked.asked asked asks.asked.told o.query_told) asks.asked.asks) search)
+known_of files choices held bytes asked status text o (stopped stop kept) = of_stop stop
+  where
+    of_stop : FilesStop files choices.options (reads held o.before o.after) status text
+        → Known bytes choices asked o.note status text
+    of_stop (by_catalog (unread is)) = absurd (never_fault status o.decided is.fault)
+    of_stop (by_catalog (unusable other told none)) =
+        without (subst (λ b. IsCatalogRefused b status text)
+        (told_one (held files.catalog) other bytes told o.catalog_told) none)
+    of_stop (by_query catalog offers (unread is)) = absurd (never_fault status o.decided is.fault)
+    of_stop (by_query catalog offers (unusable other told why)) =
+        over catalog (subst (λ b. SaysCatalog b catalog)
+        (told_one (held files.catalog) offers.bytes bytes offers.told o.catalog_told) offers.says)
+        (turned_down (subst (λ t. IsQueryRefused catalog choices.options t status text)
+        (told_one (held files.query) other asked told o.query_told) why))
 
 -- bytes that are no catalogue have one cause
 one_fault : (bytes cause other : List ℕ) → IsNoCatalog bytes cause → IsNoCatalog bytes other → cause ≡ other
@@ -129,49 +149,27 @@ one_fault bytes cause other is again =
     let fault : is.fault ≡ again.fault = cc in
     is.caused ∙ ap texts.catalog_cause fault ∙ sym again.caused
 
-same_known : OneOf → (bytes : List ℕ) (choices : Choices) (workers more : ℕ) (asked : List ℕ) (first second : Status)
-    (text other : List ℕ) → Known bytes (by workers choices) asked first text
-    → Known bytes (by more choices) asked second other
+same_known : OneOf → (bytes : List ℕ) (choices : Choices) (workers more : ℕ) (asked : List ℕ) (note later : Note)
+    (first second : Status) (text other : List ℕ) → Known bytes (by workers choices) asked note first text
+    → Known bytes (by more choices) asked later second other
     → Same choices workers more first second text other
-same_known one bytes choices workers more asked first second text other (over k says is) (over l says_too is_too) =
+same_known one bytes choices workers more asked note later first second text other (over k says is)
+    (over l says_too is_too) =
     let same = one_catalog bytes l k says_too says in
-    same_answers one k choices workers more asked first second text other is
-    (subst (λ c. IsAnswer c (by more choices) asked second other) same is_too)
-same_known one bytes choices workers more asked first second text other (over k says is) (without b cause none line) =
-    absurd (some_catalog bytes cause k says none)
-same_known one bytes choices workers more asked first second text other (without a cause none line) (over l says is) =
-    absurd (some_catalog bytes cause l says none)
-same_known one bytes choices workers more asked first second text other (without a cause none line)
-    (without b cause_too none_too line_too) =
-    let same : text ≡ other = line ∙ ap texts.catalog_refused (one_fault bytes cause cause_too none none_too)
-    ∙ sym line_too in
-    record { status = a ∙ sym b; texts = same_texts choices workers more text other same }
-
--- two searches of one generated query end in one way
-module _ (one : OneOf) (input : GenInput) (capacity : ℕ) (choices others : Choices) (q : Query)
-    (within : IsWithinLimits q) (first second : Status) (text other : List ℕ) where
-  same_lines : IsSearchEnd (Tells (Some input) choices q) capacity q first text
-      → IsSearchEnd (Tells (Some input) others q) capacity q second other → (first ≡ second) × (text ≡ other)
-  same_lines (planned a room plan is lines) (planned b room_too plan_too is_too lines_too) = (
-    a ∙ sym b,
-    first_lines_one one.sections input q plan plan_too text other
-        (one_text one.least q q plan plan_too within refl is is_too) lines lines_too,
-  )
-  same_lines (planned a room plan is lines) (unplanned b room_too none lines_too) =
-      absurd (none is.plan is.least.serves)
-  same_lines (planned a room plan is lines) (too_many b many line) =
-      absurd (room_or_more one.answer q capacity room many)
-  same_lines (unplanned a room none lines) (planned b room_too plan is lines_too) =
-      absurd (none is.plan is.least.serves)
-  same_lines (unplanned a room none lines) (unplanned b room_too none_too lines_too) =
-      (a ∙ sym b, first_lines_one one.sections input q texts.no_plan texts.no_plan text other refl lines lines_too)
-  same_lines (unplanned a room none lines) (too_many b many line) =
-      absurd (room_or_more one.answer q capacity room many)
-  same_lines (too_many a many line) (planned b room plan is lines) =
-      absurd (room_or_more one.answer q capacity room many)
-  same_lines (too_many a many line) (unplanned b room none lines) =
-      absurd (room_or_more one.answer q capacity room many)
-  same_lines (too_many a many line) (too_many b many_too line_too) = (a ∙ sym b, line ∙ sym line_too)
+    same_answers one k choices workers more asked note later first second text other is
+    (subst (λ c. IsAnswer c (by more choices) asked later second other) same is_too)
+same_known one bytes choices workers more asked note later first second text other (over k says is) (without none) =
+    absurd (some_catalog bytes none.cause k says none.no_catalog)
+same_known one bytes choices workers more asked note later first second text other (without none) (over k says is) =
+    absurd (some_catalog bytes none.cause k says none.no_catalog)
+same_known one bytes choices workers more asked note later first second text other (without none) (without again) =
+    let same : text ≡ other = none.line
+    ∙ ap texts.catalog_refused (one_fault bytes none.cause again.cause none.no_catalog again.no_catalog)
+    ∙ sym again.line in
+    record {
+      status = none.refused ∙ sym again.refused;
+      texts = same_texts choices workers more text other same;
+    }
 
 -- what makes outcomes one, of their parts
 one_of : OneAnswer → OneSections → ((q : Query) (s t : Tree) → IsWithinLimits q → IsLeastPlan q s → IsLeastPlan q t
@@ -182,24 +180,29 @@ one_of answer sections least = record { answer = answer; least = least; sections
 -- two runs of `gen` over one input have one outcome
 pub one_generated_of : OneAnswer → OneSections
     → ((q : Query) (s t : Tree) → IsWithinLimits q → IsLeastPlan q s → IsLeastPlan q t → s ≡ t) → OneGenerated
-one_generated_of answer sections least input capacity workers more first second text other is again =
-    let mine : Choices = record usual { workers = workers; capacity = capacity } in
-    let theirs : Choices = record usual { workers = more; capacity = capacity } in
-    let same : is.query ≡ again.query =
-    one_query answer.reading (catalog_of input.number input.tables) usual.options
-    (canonical_text (select_of input.shape input.tables)) answer.links is.query again.query is.generated.bound
-    again.generated.bound in
-    same_lines (one_of answer sections least) input capacity mine theirs is.query is.generated.within first second text
-    other is.search
-    (subst (λ r. IsSearchEnd (Tells (Some input) theirs r) capacity r second other) (sym same) again.search)
+one_generated_of answer sections least input choices workers more first second text other is again =
+    of_endings is.ends again.ends
+  where
+    of_endings : IsEnding (record { task = gen input; choices = by workers choices }) is.shelf is.empty is.note first
+        text → IsEnding (record { task = gen input; choices = by more choices }) again.shelf again.empty again.note second
+        other → (first ≡ second) × (text ≡ other)
+    of_endings (answered q made search) (answered r made_too search_too) =
+        let same : q ≡ r = one_generated answer input choices.options q r made made_too in
+        one_search (one_of answer sections least) q made.within choices workers more
+        (Tells (Some input) (by workers choices) q) (Tells (Some input) (by more choices) q) (λ t o. t ≡ o)
+        (λ lines t o goes goes_too. first_lines_one sections input q lines lines t o refl goes goes_too) (λ t o e. e)
+        is.note again.note first second text other search
+        (subst (λ q. IsSearchEnd (Tells (Some input) (by more choices) q) (by more choices) q again.note second other)
+        (sym same) search_too)
+    of_endings (stopped stop kept) ending = absurd stop
+    of_endings (answered q made search) (stopped stop kept) = absurd stop
 
 -- two runs over the same bytes have one outcome
 pub one_outcome_of : OneAnswer → OneSections
     → ((q : Query) (s t : Tree) → IsWithinLimits q → IsLeastPlan q s → IsLeastPlan q t → s ≡ t) → OneOutcome
-unfolding OneLeast
 one_outcome_of answer sections least files others choices workers more held told bytes asked first second text other o
     again =
-    same_known (record { answer = answer; least = least; sections = sections }) bytes choices workers more asked first
+    same_known (one_of answer sections least) bytes choices workers more asked o.note again.note first
     second text other
     (known_of files (by workers choices) held bytes asked first text o o.ends)
     (known_of others (by more choices) told bytes asked second other again again.ends)

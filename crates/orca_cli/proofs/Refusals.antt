@@ -10,7 +10,7 @@ use Rattle.sql_bind.specs.Binding.{binding, IsQueryOf}
 use Rattle.orca_cli.specs.Asked.{IsBoundAs, Asks, IsUnbound, IsUnnumbered, IsRefused}
 use Rattle.orca_cli.specs.Texts.{sql_cause, bind_cause, props_cause}
 use Rattle.orca_cli.proofs.Limits.{refused_again, within_limits, one_limit}
-use Rattle.orca_cli.proofs.Queries.{OneLinks, AreAlike, alike_of, alike_same}
+use Rattle.orca_cli.proofs.OneQuery.{OneLinks, AreAlike, alike_of, alike_same}
 
 -- what the reader of queries promises: a text has one reading, or one first fault, and never both
 pub record OneReading : Type 0 where

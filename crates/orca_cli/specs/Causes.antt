@@ -1,22 +1,21 @@
--- The causes of a run's answers, and when a run is sure to be answered, or sure to refuse the query.
-use Rattle.std.specs.Prelude.{◌≡◌, ◌⊎◌, ℕ, List, Option, None, Some, ⊤}
+-- When a run is sure to be answered, and which causes its status has.
+use Rattle.std.specs.Prelude.{◌≡◌, ◌⊎◌, ℕ, List, Option, None, Some}
 use Rattle.orca_base.specs.Causes.{Rose}
 use Rattle.query_core.specs.declared.catalog.Catalog.{Catalog}
+use Rattle.query_core.specs.declared.options.Options.{Options}
 use Rattle.query_core.specs.declared.query.Query.{Query}
 use Rattle.job_outcome.specs.Outcomes.{HasMoreEntries}
+use Rattle.command_line.specs.Command.{FileNames, AnyTask, AnyCommand, plan, gen}
+use Rattle.command_line.specs.declared.command.GenInput.{GenInput}
 use Rattle.orca_cli.specs.Asked.{SaysCatalog, Asks, IsRefused}
-use Rattle.orca_cli.specs.Run.{HasRoom}
-use Rattle.command_line.specs.Command.{FileNames, PlanCommand}
+use Rattle.orca_cli.specs.Generated.{IsGenerated}
+use Rattle.orca_cli.specs.Prepared.{Reads}
+use Rattle.orca_cli.specs.Run.{Note, HasRoom, IsRun, Puts, Ends}
+use Rattle.orca_cli.specs.Status.{IsOneOf, settled, overflowed, turned_down, finished}
 use Rattle.orca_cli.specs.declared.status.Status.{Status}
-use Rattle.orca_cli.specs.declared.status.Status.TheVariants.{Planned, NoPlan, Usage, QueryRefused, CatalogRefused}
-use Rattle.orca_cli.specs.declared.status.Status.TheVariants.{TooManyEntries, ReadFault, WriteFault, Memory}
+use Rattle.orca_cli.specs.declared.status.Status.TheVariants.{Usage, ReadFault, WriteFault}
 
--- the count of one of the two files rose
-abbrev pub ReadRose : Option PlanCommand → (List ℕ → ℕ) → (List ℕ → ℕ) → Type 0
-ReadRose None before after = ⊥
-ReadRose (Some command) before after =
-    Rose (before command.files.catalog) (after command.files.catalog)
-    ⊎ Rose (before command.files.query) (after command.files.query)
+-- ---- what a shelf surely holds
 
 -- the shelf tells bytes that say this catalogue, and this text
 pub record Holds (files : FileNames) (held : List ℕ → Option (List ℕ)) (catalog : Catalog) (text : List ℕ) : Type 0
@@ -26,78 +25,69 @@ pub record Holds (files : FileNames) (held : List ℕ → Option (List ℕ)) (ca
     pub says : SaysCatalog bytes catalog
     pub text_told : held files.query ≡ Some text
 
--- the shelf tells a catalogue, and a text that asks for a query over it
-pub record HoldsQuery (command : PlanCommand) (held : List ℕ → Option (List ℕ)) : Type 0 where
+-- the shelf tells a catalogue, and a text that asks for this query over it
+pub record HoldsQuery (files : FileNames) (options : Options) (held : List ℕ → Option (List ℕ)) (query : Query) :
+    Type 0 where
   pub catalog : Catalog
   pub text : List ℕ
-  pub holds : Holds command.files held catalog text
-  pub query : Query
-  pub asks : Asks catalog command.choices.options text query
+  pub holds : Holds files held catalog text
+  pub asks : Asks catalog options text query
 
 -- the shelf tells a catalogue, and a text that is refused over it
-pub record HoldsRefused (command : PlanCommand) (held : List ℕ → Option (List ℕ)) : Type 0 where
+pub record HoldsRefused (files : FileNames) (options : Options) (held : List ℕ → Option (List ℕ)) : Type 0 where
   pub catalog : Catalog
   pub text : List ℕ
-  pub holds : Holds command.files held catalog text
+  pub holds : Holds files held catalog text
   pub cause : List ℕ
-  pub refused : IsRefused catalog command.choices.options text cause
+  pub refused : IsRefused catalog options text cause
 
--- the run ended with its plan, or without one, or for want of memory
-abbrev pub IsSettled : Status → Type 0
-IsSettled Planned = ⊤
-IsSettled NoPlan = ⊤
-IsSettled Usage = ⊥
-IsSettled QueryRefused = ⊥
-IsSettled CatalogRefused = ⊥
-IsSettled TooManyEntries = ⊥
-IsSettled ReadFault = ⊥
-IsSettled WriteFault = ⊥
-IsSettled Memory = ⊤
+-- the task surely asks for this query
+abbrev pub SurelyAsks : AnyTask → Options → (List ℕ → Option (List ℕ)) → Query → Type 0
+SurelyAsks (plan files) options held query = HoldsQuery files options held query
+SurelyAsks (gen input) options held query = IsGenerated input options query
 
--- a run over files that ask for a query with room, in which neither file's count rose nor the sink's, is answered
-abbrev pub Completes : Option PlanCommand → (List ℕ → Option (List ℕ)) → (List ℕ → ℕ) → (List ℕ → ℕ) → ℕ → ℕ → Status
-    → Type 0
-Completes named held reads_before reads_after before after status =
-    (command : PlanCommand) → named ≡ Some command → (q : HoldsQuery command held)
-    → HasRoom q.query command.choices.capacity
-    → (ReadRose (Some command) reads_before reads_after → ⊥) → (Rose before after → ⊥) → IsSettled status
+-- the count of a file of the task rose
+abbrev pub ReadRose : AnyTask → Reads → Type 0
+ReadRose (plan files) shelf = Rose (shelf.before files.catalog) (shelf.after files.catalog)
+    ⊎ Rose (shelf.before files.query) (shelf.after files.query)
+ReadRose (gen input) shelf = ⊥
 
--- the run ended for want of room, or of memory
-abbrev pub IsOverflow : Status → Type 0
-IsOverflow Planned = ⊥
-IsOverflow NoPlan = ⊥
-IsOverflow Usage = ⊥
-IsOverflow QueryRefused = ⊥
-IsOverflow CatalogRefused = ⊥
-IsOverflow TooManyEntries = ⊤
-IsOverflow ReadFault = ⊥
-IsOverflow WriteFault = ⊥
-IsOverflow Memory = ⊤
+-- no count of faults rose, of no file of the task and not the sink's
+pub record HasNoFault (task : AnyTask) (shelf : Reads) (sink : Puts) : Type 0 where
+  pub reads : ReadRose task shelf → ⊥
+  pub writes : Rose sink.before sink.after → ⊥
 
--- a run over files that ask for a query with more entries than the capacity, in which no count rose, ends for want
--- of room
-abbrev pub Overflows : Option PlanCommand → (List ℕ → Option (List ℕ)) → (List ℕ → ℕ) → (List ℕ → ℕ) → ℕ → ℕ → Status
-    → Type 0
-Overflows named held reads_before reads_after before after status =
-    (command : PlanCommand) → named ≡ Some command → (q : HoldsQuery command held)
-    → HasMoreEntries q.query command.choices.capacity
-    → (ReadRose (Some command) reads_before reads_after → ⊥) → (Rose before after → ⊥) → IsOverflow status
+-- ---- completeness
 
--- the run ended with the query refused, or for want of memory
-abbrev pub IsRefusal : Status → Type 0
-IsRefusal Planned = ⊥
-IsRefusal NoPlan = ⊥
-IsRefusal Usage = ⊥
-IsRefusal QueryRefused = ⊤
-IsRefusal CatalogRefused = ⊥
-IsRefusal TooManyEntries = ⊥
-IsRefusal ReadFault = ⊥
-IsRefusal WriteFault = ⊥
-IsRefusal Memory = ⊤
+-- a run without faults of a command that asks for a query with room is answered
+abbrev pub Completes : Option AnyCommand → Reads → Puts → Status → Type 0
+Completes named shelf sink status =
+    (command : AnyCommand) (query : Query) → named ≡ Some command
+    → SurelyAsks command.task command.choices.options shelf.held query → HasRoom query command.choices.capacity
+    → HasNoFault command.task shelf sink → IsOneOf settled status
 
--- a run over files whose query is refused, in which neither file's count rose nor the sink's, refuses it
-abbrev pub Refuses : Option PlanCommand → (List ℕ → Option (List ℕ)) → (List ℕ → ℕ) → (List ℕ → ℕ) → ℕ → ℕ → Status
-    → Type 0
-Refuses named held reads_before reads_after before after status =
-    (command : PlanCommand) → named ≡ Some command → HoldsRefused command held
-    → (ReadRose (Some command) reads_before reads_after → ⊥) → (Rose before after → ⊥) → IsRefusal status
+-- ---- what follows from how a run ends
+
+pub record HasCauses (named : Option AnyCommand) (shelf : Reads) (sink : Puts) (status : Status) : Type 0 where
+  pub completes : Completes named shelf sink status
+  -- what an answer other than that of a search comes from
+  pub usage : status ≡ Usage → named ≡ None
+  pub read_fault : status ≡ ReadFault → (command : AnyCommand) × (named ≡ Some command) × ReadRose command.task shelf
+  pub write_fault : status ≡ WriteFault → Rose sink.before sink.after
+  -- a query with more entries than the capacity is told so, where there is no fault
+  pub overflows : (command : AnyCommand) (query : Query) → named ≡ Some command
+      → SurelyAsks command.task command.choices.options shelf.held query
+      → HasMoreEntries query command.choices.capacity → HasNoFault command.task shelf sink
+      → IsOneOf overflowed status
+  -- a text with a cause of refusal is refused
+  pub refuses : (command : AnyCommand) (files : FileNames) → named ≡ Some command → command.task ≡ plan files
+      → HoldsRefused files command.choices.options shelf.held → HasNoFault command.task shelf sink
+      → IsOneOf turned_down status
+  -- what is generated is never refused
+  pub finishes : (command : AnyCommand) (input : GenInput) → named ≡ Some command → command.task ≡ gen input
+      → HasNoFault command.task shelf sink → IsOneOf finished status
+
+-- all of it follows from the one record of how the run ends
+abbrev pub EndsHaveCauses : Type 0
+EndsHaveCauses = (named : Option AnyCommand) (shelf : Reads) (empty note : Note) (sink : Puts) (status : Status)
+    → Ends (IsRun named shelf empty note) sink status → HasCauses named shelf sink status

@@ -1,37 +1,34 @@
 -- What follows from how commands are read, and how runs end.
-use Rattle.std.specs.Prelude.{◌≡◌, ◌⊎◌, ◌++◌, ℕ, Bool, true, false, List, [], Option, Some, ⊤}
+use Rattle.std.specs.Prelude.{◌≡◌, ◌⊎◌, ◌++◌, ℕ, Bool, true, false, List, [], Option, Some}
 use Rattle.query_core.specs.declared.query.Query.{Query}
-use Rattle.command_line.specs.Command.{FileNames}
+use Rattle.command_line.specs.Command.{FileNames, plan, gen}
 use Rattle.command_line.specs.declared.choices.Choices.{Choices}
 use Rattle.command_line.specs.declared.command.GenInput.{GenInput}
-use Rattle.orca_cli.specs.Generated.{IsGenEnding}
-use Rattle.orca_cli.specs.Run.{IsEnding}
+use Rattle.orca_cli.specs.Prepared.{Reads, reads}
+use Rattle.orca_cli.specs.Run.{Note, IsRun}
 use Rattle.orca_cli.specs.Sections.{IsByWorker}
+use Rattle.orca_cli.specs.Status.{IsOneOf, by_files}
 use Rattle.orca_cli.specs.declared.status.Status.{Status}
-use Rattle.orca_cli.specs.declared.status.Status.TheVariants.{Planned, NoPlan, Usage, QueryRefused, CatalogRefused}
-use Rattle.orca_cli.specs.declared.status.Status.TheVariants.{TooManyEntries, ReadFault, WriteFault, Memory}
-
--- the run ended by what the files hold
-abbrev pub IsOutcome : Status → Type 0
-IsOutcome Planned = ⊤
-IsOutcome NoPlan = ⊤
-IsOutcome Usage = ⊥
-IsOutcome QueryRefused = ⊤
-IsOutcome CatalogRefused = ⊤
-IsOutcome TooManyEntries = ⊤
-IsOutcome ReadFault = ⊥
-IsOutcome WriteFault = ⊥
-IsOutcome Memory = ⊥
 
 -- a run over files that hold these bytes ends so, whatever its counts of faults are
 pub record Outcome (files : FileNames) (choices : Choices) (held : List ℕ → Option (List ℕ)) (catalog query : List ℕ)
     (status : Status) (text : List ℕ) : Type 0 where
   pub before : List ℕ → ℕ
   pub after : List ℕ → ℕ
+  pub empty : Note
+  pub note : Note
   pub catalog_told : held files.catalog ≡ Some catalog
   pub query_told : held files.query ≡ Some query
-  pub ends : IsEnding (record { files = files; choices = choices }) held before after status text
-  pub by_files : IsOutcome status
+  pub ends : IsRun (Some (record { task = plan files; choices = choices })) (reads held before after) empty note status
+      text
+  pub decided : IsOneOf by_files status
+
+-- a run over what is generated ends so
+pub record GenOutcome (input : GenInput) (choices : Choices) (status : Status) (text : List ℕ) : Type 0 where
+  pub shelf : Reads
+  pub empty : Note
+  pub note : Note
+  pub ends : IsRun (Some (record { task = gen input; choices = choices })) shelf empty note status text
 
 -- the same choices, with so many workers
 abbrev pub by : ℕ → Choices → Choices
@@ -67,9 +64,8 @@ OneOutcome = (files others : FileNames) (choices : Choices) (workers more : ℕ)
     → Outcome others (by more choices) told catalog query second other
     → Same choices workers more first second text other
 
--- those of `gen` are a function of the input and of the capacity
+-- those of `gen` are a function of the input, and of what the command chooses but for the workers
 abbrev pub OneGenerated : Type 0
-OneGenerated = (input : GenInput) (capacity workers more : ℕ) (first second : Status) (text other : List ℕ)
-    → IsGenEnding (record { input = input; workers = workers; capacity = capacity }) first text
-    → IsGenEnding (record { input = input; workers = more; capacity = capacity }) second other → (first ≡ second)
-    × (text ≡ other)
+OneGenerated = (input : GenInput) (choices : Choices) (workers more : ℕ) (first second : Status) (text other : List ℕ)
+    → GenOutcome input (by workers choices) first text → GenOutcome input (by more choices) second other
+    → (first ≡ second) × (text ≡ other)

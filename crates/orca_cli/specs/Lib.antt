@@ -2,14 +2,11 @@ pub mod Status
 pub mod Reading
 pub mod Texts
 pub mod Asked
+pub mod Generated
+pub mod Prepared
 pub mod Sections
 pub mod Run
 pub mod Views
-pub mod Stages
-pub mod Puts
 pub mod Searches
-pub mod Notes
 pub mod Causes
-pub mod Generated
-pub mod Serves
 pub mod Laws

@@ -1,24 +1,40 @@
--- How a run ends: its status and its text, and what the sink took of the text.
-use Rattle.std.specs.Prelude.{◌≡◌, ℕ, List, Option, None, Some, IfSome}
+-- How a run ends: its status and its text with their cause, its note, and what the sink took of the text.
+use Rattle.std.specs.Prelude.{◌≡◌, ℕ, List, Option, None, Some, length}
 use Rattle.std.specs.List.{concat}
 use Rattle.std.specs.Io.KnownBytes.{Appends, Keeps}
 use Rattle.orca_base.specs.Causes.{Rose}
 use Rattle.orca_io.specs.Sink.{TakesPrefix}
-use Rattle.query_core.specs.declared.catalog.Catalog.{Catalog}
 use Rattle.query_core.specs.declared.query.Query.{Query}
-use Rattle.query_core.specs.declared.options.Options.{Options}
 use Rattle.job_outcome.specs.Outcomes.{HasMoreEntries, FitsIn}
+use Rattle.goal_children.specs.Listed.{AreGoalsOf}
 use Rattle.plan_space.specs.Nodes.{Tree}
 use Rattle.plan_space.specs.Least.{IsLeastPlan, QueryHasNoPlan}
 use Rattle.plan_lines.specs.Text.{plan_section}
-use Rattle.orca_cli.specs.Asked.{SaysCatalog, IsNoCatalog, Asks, IsRefused}
-use Rattle.command_line.specs.Command.{PlanCommand}
+use Rattle.command_line.specs.Command.{AnyCommand}
 use Rattle.command_line.specs.declared.choices.Choices.{Choices}
+use Rattle.orca_cli.specs.Prepared.{Reads, generated_in, IsAskedBy, IsUsage, TaskStops}
 use Rattle.orca_cli.specs.Sections.{Tells}
 use Rattle.orca_cli.specs.Texts as texts
 use Rattle.orca_cli.specs.declared.status.Status.{Status}
-use Rattle.orca_cli.specs.declared.status.Status.TheVariants.{Planned, NoPlan, Usage, QueryRefused, CatalogRefused}
-use Rattle.orca_cli.specs.declared.status.Status.TheVariants.{TooManyEntries, ReadFault, WriteFault, Memory}
+use Rattle.orca_cli.specs.declared.status.Status.TheVariants.{Planned, NoPlan, TooManyEntries, WriteFault, Memory}
+
+-- ---- notes
+
+-- the capacity, the number of workers, and how many goals were finished, where a search has run
+abbrev pub Note : Type 0
+Note = Option (ℕ × ℕ × ℕ)
+
+-- the capacity and the workers that the command chooses, and so many goals
+abbrev pub noted : Choices → ℕ → Note
+noted choices finished = Some (choices.capacity, choices.workers, finished)
+
+-- the note says how many goals the query has
+pub record NotesGoals (choices : Choices) (query : Query) (note : Note) : Type 0 where
+  pub goals : List ℕ
+  pub all_goals : AreGoalsOf query goals
+  pub is : note ≡ noted choices (length goals)
+
+-- ---- searches
 
 -- the text is that of the query's least plan
 pub record IsPlanText (query : Query) (text : List ℕ) : Type 0 where
@@ -36,115 +52,49 @@ pub record HasRoom (query : Query) (capacity : ℕ) : Type 0 where
   pub goals : List ℕ
   pub fits : FitsIn query capacity members goals
 
--- what the search of a query ends with, where Tells says which text is printed for a plan's
-pub data IsSearchEnd (Tells : List ℕ → List ℕ → Type 0) (capacity : ℕ) (query : Query) (status : Status)
-    (text : List ℕ) : Type 0 where
-  planned : status ≡ Planned → HasRoom query capacity → (plan : List ℕ) → IsPlanText query plan → Tells plan text
-      → IsSearchEnd Tells capacity query status text
-  unplanned : status ≡ NoPlan → HasRoom query capacity → IsImpossible query → Tells texts.no_plan text
-      → IsSearchEnd Tells capacity query status text
-  too_many : status ≡ TooManyEntries → HasMoreEntries query capacity → text ≡ texts.too_many_entries capacity
-      → IsSearchEnd Tells capacity query status text
-
--- what the search of a query ends with, by what a command over files chooses
-abbrev pub IsSearched : Choices → Query → Status → List ℕ → Type 0
-IsSearched choices query status text = IsSearchEnd (Tells None choices query) choices.capacity query status text
-
--- the answer to a query's bytes over a catalogue, by what the command chooses
-pub data IsAnswer (catalog : Catalog) (choices : Choices) (asked : List ℕ) (status : Status) (text : List ℕ) : Type 0
-  where
-    searched : (query : Query) → Asks catalog choices.options asked query → IsSearched choices query status text
-        → IsAnswer catalog choices asked status text
-    refused : status ≡ QueryRefused → (cause : List ℕ) → IsRefused catalog choices.options asked cause
-        → text ≡ texts.query_refused cause → IsAnswer catalog choices asked status text
-
--- the bytes are those that the shelf tells of, where it tells
-abbrev pub AreTold : Option (List ℕ) → List ℕ → Type 0
-AreTold held bytes = IfSome held (λ content. bytes ≡ content)
-
--- the bytes under a name say this catalogue
-pub record Offers (held : Option (List ℕ)) (catalog : Catalog) : Type 0 where
-  pub bytes : List ℕ
-  pub told : AreTold held bytes
-  pub says : SaysCatalog bytes catalog
-
--- the bytes under a name ask for this query
-pub record IsAskedAt (catalog : Catalog) (options : Options) (held : Option (List ℕ)) (query : Query) : Type 0 where
-  pub asked : List ℕ
-  pub told : AreTold held asked
-  pub asks : Asks catalog options asked query
-
--- the files of a command ask for this query
-pub record IsAskedBy (command : PlanCommand) (held : List ℕ → Option (List ℕ)) (query : Query) : Type 0 where
-  pub catalog : Catalog
-  pub offers : Offers (held command.files.catalog) catalog
-  pub asked : IsAskedAt catalog command.choices.options (held command.files.query) query
-
--- the answer to the bytes under a name
-pub record IsAnswered (catalog : Catalog) (choices : Choices) (held : Option (List ℕ)) (status : Status)
-    (text : List ℕ) : Type 0 where
-  pub asked : List ℕ
-  pub told : AreTold held asked
-  pub answer : IsAnswer catalog choices asked status text
-
--- the bytes under a name are no catalogue, and the text says why
-pub record IsCatalogRefused (held : Option (List ℕ)) (text : List ℕ) : Type 0 where
-  pub bytes : List ℕ
-  pub told : AreTold held bytes
-  pub cause : List ℕ
-  pub no_catalog : IsNoCatalog bytes cause
-  pub line : text ≡ texts.catalog_refused cause
-
--- the count of the name's faults rose, and the text names it
-pub record IsReadFault (name : List ℕ) (before after : List ℕ → ℕ) (text : List ℕ) : Type 0 where
-  pub rose : Rose (before name) (after name)
-  pub named : text ≡ texts.read_fault name
-
--- the status and the text of a command over two files: held is what the shelf tells of each name, before and after are
--- its counts of faults
-pub data IsEnding (command : PlanCommand) (held : List ℕ → Option (List ℕ)) (before after : List ℕ → ℕ)
+-- what the search of a query ends with, and its note; Tells says which text is printed for a plan's
+pub data IsSearchEnd (Tells : List ℕ → List ℕ → Type 0) (choices : Choices) (query : Query) (note : Note)
     (status : Status) (text : List ℕ) : Type 0 where
-  answered : (catalog : Catalog) → Offers (held command.files.catalog) catalog
-      → IsAnswered catalog command.choices (held command.files.query) status text
-      → IsEnding command held before after status text
-  catalog_refused : status ≡ CatalogRefused → IsCatalogRefused (held command.files.catalog) text
-      → IsEnding command held before after status text
-  catalog_unread : status ≡ ReadFault → IsReadFault command.files.catalog before after text
-      → IsEnding command held before after status text
-  query_unread : status ≡ ReadFault → (catalog : Catalog) → Offers (held command.files.catalog) catalog
-      → IsReadFault command.files.query before after text → IsEnding command held before after status text
+  planned : status ≡ Planned → HasRoom query choices.capacity → (plan : List ℕ) → IsPlanText query plan
+      → Tells plan text → NotesGoals choices query note → IsSearchEnd Tells choices query note status text
+  unplanned : status ≡ NoPlan → HasRoom query choices.capacity → IsImpossible query → Tells texts.no_plan text
+      → NotesGoals choices query note → IsSearchEnd Tells choices query note status text
+  too_many : status ≡ TooManyEntries → HasMoreEntries query choices.capacity
+      → text ≡ texts.too_many_entries choices.capacity → (finished : ℕ) → note ≡ noted choices finished
+      → IsSearchEnd Tells choices query note status text
 
--- the status and the text for words that are no command
-abbrev pub IsUsage : Status → List ℕ → Type 0
-IsUsage status text = (status ≡ Usage) × (text ≡ texts.usage_line)
+-- ---- runs
 
--- the status and the text of a run, by the command that its words are
-abbrev pub IsRun : Option PlanCommand → (List ℕ → Option (List ℕ)) → (List ℕ → ℕ) → (List ℕ → ℕ) → Status → List ℕ
-    → Type 0
-IsRun None held before after status text = IsUsage status text
-IsRun (Some command) held before after status text = IsEnding command held before after status text
+-- the status and the text of a run of the command, with their cause, and the note, which was empty before it: the query
+-- for which the command asks was searched; or there is none, and the note stays as it was
+pub data IsEnding (command : AnyCommand) (shelf : Reads) (empty note : Note) (status : Status) (text : List ℕ) : Type 0
+  where
+    answered : (query : Query) → IsAskedBy command.task command.choices.options shelf.held query
+        → IsSearchEnd (Tells (generated_in command.task) command.choices query) command.choices query note status text
+        → IsEnding command shelf empty note status text
+    stopped : TaskStops command.task command.choices.options shelf status text → note ≡ empty
+        → IsEnding command shelf empty note status text
 
--- the text of the status was taken whole
-abbrev pub TakesText : (Status → List ℕ → Type 0) → Option (List ℕ) → Option (List ℕ) → Status → Type 0
-TakesText IsText old new status = (text : List ℕ) × IsText status text × Appends old new text
+-- and so by the command that the words are, where they are one
+abbrev pub IsRun : Option AnyCommand → Reads → Note → Note → Status → List ℕ → Type 0
+IsRun None shelf empty note status text = IsUsage status text × (note ≡ empty)
+IsRun (Some command) shelf empty note status text = IsEnding command shelf empty note status text
 
--- the sink failed, and took a prefix of a text that the run might have ended with
-pub record StopsShort (IsText : Status → List ℕ → Type 0) (old new : Option (List ℕ)) (before after : ℕ) : Type 0 where
-  pub rose : Rose before after
-  pub status : Status
-  pub text : List ℕ
-  pub is_text : IsText status text
-  pub taken : TakesPrefix old new text
+-- what a call does to its sink: what was taken, where it is told, and the count of faults, each before the call and
+-- after it
+pub record Puts : Type 0 where
+  pub old : Option (List ℕ)
+  pub new : Option (List ℕ)
+  pub before : ℕ
+  pub after : ℕ
 
--- what the sink took, by the status: the whole text of it, or a prefix of a text where it failed, or nothing where
--- memory ran out
-abbrev pub Ends : (Status → List ℕ → Type 0) → Option (List ℕ) → Option (List ℕ) → ℕ → ℕ → Status → Type 0
-Ends IsText old new before after Planned = TakesText IsText old new Planned
-Ends IsText old new before after NoPlan = TakesText IsText old new NoPlan
-Ends IsText old new before after Usage = TakesText IsText old new Usage
-Ends IsText old new before after QueryRefused = TakesText IsText old new QueryRefused
-Ends IsText old new before after CatalogRefused = TakesText IsText old new CatalogRefused
-Ends IsText old new before after TooManyEntries = TakesText IsText old new TooManyEntries
-Ends IsText old new before after ReadFault = TakesText IsText old new ReadFault
-Ends IsText old new before after WriteFault = StopsShort IsText old new before after
-Ends IsText old new before after Memory = Keeps old new
+abbrev pub puts : Option (List ℕ) → Option (List ℕ) → ℕ → ℕ → Puts
+puts old new before after = record { old = old; new = new; before = before; after = after }
+
+-- what the sink took, by the status: the whole text of it; or a prefix of a text that the run might have ended with,
+-- where the sink failed; or nothing, where memory ran out
+pub data Ends (IsText : Status → List ℕ → Type 0) (sink : Puts) (status : Status) : Type 0 where
+  whole : (text : List ℕ) → IsText status text → Appends sink.old sink.new text → Ends IsText sink status
+  cut_short : status ≡ WriteFault → Rose sink.before sink.after → (ended : Status) → (text : List ℕ)
+      → IsText ended text → TakesPrefix sink.old sink.new text → Ends IsText sink status
+  nothing : status ≡ Memory → Keeps sink.old sink.new → Ends IsText sink status

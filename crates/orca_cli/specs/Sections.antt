@@ -114,8 +114,7 @@ pub record HasFirstLines (input : GenInput) (query : Query) (plan text : List �
 -- ---- what is printed of a search
 
 -- the text that is printed where the plan has this text: first lines where the query was generated, and else the plan
--- and the sections that are
--- asked for
+-- and the sections that are asked for
 abbrev pub Tells : Option GenInput → Choices → Query → List ℕ → List ℕ → Type 0
 Tells None choices query plan text = GoesOn choices query plan text
 Tells (Some input) choices query plan text = HasFirstLines input query plan text

@@ -1,5 +1,5 @@
--- The numbers of the statuses.
-use Rattle.std.specs.Prelude.{ℕ}
+-- The statuses: their numbers, and lists of them.
+use Rattle.std.specs.Prelude.{ℕ, List, [], ◌∷◌, ◌≡◌, ◌⊎◌}
 use Rattle.orca_cli.specs.declared.status.Status.{Status}
 use Rattle.orca_cli.specs.declared.status.Status.TheVariants.{Planned, NoPlan, Usage, QueryRefused, CatalogRefused}
 use Rattle.orca_cli.specs.declared.status.Status.TheVariants.{TooManyEntries, ReadFault, WriteFault, Memory}
@@ -15,3 +15,34 @@ number_of TooManyEntries = 5
 number_of ReadFault = 6
 number_of WriteFault = 7
 number_of Memory = 8
+
+-- the status is one of these
+abbrev pub IsOneOf : List Status → Status → Type 0
+IsOneOf [] status = ⊥
+IsOneOf (first ∷ others) status = (status ≡ first) ⊎ IsOneOf others status
+
+-- ---- ways in which a run ends
+
+-- a search ends with a plan, without one, or for want of room
+abbrev pub searched : List Status
+searched = Planned ∷ NoPlan ∷ TooManyEntries ∷ []
+
+-- what the files hold decides
+abbrev pub by_files : List Status
+by_files = Planned ∷ NoPlan ∷ QueryRefused ∷ CatalogRefused ∷ TooManyEntries ∷ []
+
+-- the query has its answer, or memory ran out
+abbrev pub settled : List Status
+settled = Planned ∷ NoPlan ∷ Memory ∷ []
+
+-- there was no room, or memory ran out
+abbrev pub overflowed : List Status
+overflowed = TooManyEntries ∷ Memory ∷ []
+
+-- the query was refused, or memory ran out
+abbrev pub turned_down : List Status
+turned_down = QueryRefused ∷ Memory ∷ []
+
+-- a search was made, or memory ran out
+abbrev pub finished : List Status
+finished = Planned ∷ NoPlan ∷ TooManyEntries ∷ Memory ∷ []

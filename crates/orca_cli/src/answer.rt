@@ -3,72 +3,44 @@ ghost use Rattle.std.specs.Prelude.{◌≡◌, IfOk};
 ghost use Rattle.request_props.specs.Numbered.{IsProps};
 ghost use Rattle.goal_space.specs.Answers.{AreAnswers};
 ghost use Rattle.job_engine.specs.Runs.{RunEnds, IsNoted};
-ghost use Rattle.command_line.specs.Options.{AreChoices};
-ghost use Rattle.orca_cli.specs.Notes.{Note, NotesSearch};
-ghost use Rattle.orca_cli.specs.Run.{HasRoom, IsSearchEnd};
+ghost use Rattle.orca_cli.specs.Run.{HasRoom, IsSearchEnd, Note, NotesGoals};
 ghost use Rattle.orca_cli.specs.Searches.{IsSearch};
 ghost use Rattle.orca_cli.specs.Sections.{Tells};
-ghost use Rattle.orca_cli.specs.Stages.{IsDone};
-ghost use Rattle.orca_cli.specs.Views.{text_of};
+ghost use Rattle.orca_cli.specs.Views.{EndsWith, text_of};
 
-use crate::ending::{Ending, too_many_entries};
+use crate::asked::Asked;
+use crate::ending::{End, Ending, too_many_entries};
 use crate::lines::with_first_lines;
 use crate::planning::{PlanLines, planned};
-use crate::search::{Search, search_alone, search_by_crew};
+use crate::search::Search;
 use crate::sections::with_sections;
 use command_line::{Choices, GenInput};
-use job_engine::{Outcome, RunNote};
-use orca_io::Gate;
+use job_engine::Outcome;
 use plan_tree::Answers;
-use query_core::Query;
-use request_props::Props;
 use std::alloc::{AllocError, Global};
-use std::sync::Wait;
-use std::thread::Threads;
 
-/// The ending of a run whose query is searched by one worker. It returns.
-pub fn answer_alone(
+/// The end of a run by what its search gave, with the note of that search.
+pub fn ended(
     alloc: Global,
     choices: Choices,
     generated: Option<GenInput>,
-    query: &Query,
-    props: &Props,
-    note: &mut RunNote,
-) -> Result<Ending, AllocError>
-    requires props { IsProps query.now props.now }
-    requires choices { AreChoices choices }
-    requires alone { choices.workers ≡ 1 }
-    ensures ending { IfOk result
-        (λ ending. IsSearchEnd (Tells generated choices query.now) choices.capacity query.now
-        ending.status (text_of ending)) }
-    ensures notes { IfOk result
-        (λ ending. NotesSearch choices query.now note.new ending.status) }
+    asked: &Asked,
+    found: Result<Outcome, AllocError>,
+) -> End
+    requires props { IsProps asked.now.query asked.now.props }
+    requires ends { IfOk found (RunEnds asked.now.query choices.capacity choices.workers) }
+    ensures { (note : Note)
+        → IfOk found (λ outcome. IsNoted choices.capacity choices.workers outcome note)
+        → EndsWith (IsSearchEnd (Tells generated choices asked.now.query) choices asked.now.query note)
+        result }
 {
-    let outcome = search_alone(alloc, choices, query, props, note)?;
-    ending_of(alloc, choices, generated, query, props, &outcome)
-}
-
-/// The ending of a run whose query is searched by the workers that the command chooses.
-pub fn answer_by_crew<R: Threads + Wait + Sync, G: Gate>(
-    rt: &R,
-    alloc: Global,
-    choices: Choices,
-    generated: Option<GenInput>,
-    query: &Query,
-    props: &Props,
-    gate: &G,
-    note: &mut RunNote,
-) -> Result<Ending, AllocError>
-    requires props { IsProps query.now props.now }
-    requires choices { AreChoices choices }
-    ensures ending { IfOk result
-        (λ ending. IsSearchEnd (Tells generated choices query.now) choices.capacity query.now
-        ending.status (text_of ending)) }
-    ensures notes { IfOk result
-        (λ ending. NotesSearch choices query.now note.new ending.status) }
-{
-    let outcome = search_by_crew(rt, alloc, choices, query, props, gate, note)?;
-    ending_of(alloc, choices, generated, query, props, &outcome)
+    match found {
+        Ok(outcome) => match ending_of(alloc, choices, generated, asked, &outcome) {
+            Ok(ending) => End::Told(ending),
+            Err(AllocError) => End::Memory,
+        },
+        Err(AllocError) => End::Memory,
+    }
 }
 
 // The ending of a run, by the outcome of its search.
@@ -76,17 +48,14 @@ fn ending_of(
     alloc: Global,
     choices: Choices,
     generated: Option<GenInput>,
-    query: &Query,
-    props: &Props,
+    asked: &Asked,
     outcome: &Outcome,
 ) -> Result<Ending, AllocError>
-    requires props { IsProps query.now props.now }
-    requires ends { RunEnds query.now choices.capacity choices.workers outcome.now }
-    ensures ending { IfOk result
-        (λ ending. IsSearchEnd (Tells generated choices query.now) choices.capacity query.now
-        ending.status (text_of ending)) }
-    ensures notes { (note : Note) → IsNoted choices.capacity choices.workers outcome.now note
-        → IfOk result (λ ending. NotesSearch choices query.now note ending.status) }
+    requires props { IsProps asked.now.query asked.now.props }
+    requires ends { RunEnds asked.now.query choices.capacity choices.workers outcome.now }
+    ensures { (note : Note) → IsNoted choices.capacity choices.workers outcome.now note
+        → IfOk result (λ ending. IsSearchEnd (Tells generated choices asked.now.query) choices
+        asked.now.query note ending.status (text_of ending)) }
 {
     match outcome {
         Outcome::Done {
@@ -96,8 +65,8 @@ fn ending_of(
             who,
         } => {
             let search = Search {
-                query,
-                props,
+                query: &asked.query,
+                props: &asked.props,
                 members: members.as_slice(),
                 goals: goals.as_slice(),
                 who: who.as_slice(),
@@ -120,10 +89,9 @@ fn done(
     requires search { IsSearch search choices.workers }
     requires room { HasRoom search.query.now choices.capacity }
     requires answers { AreAnswers search.query.now answers.now.list }
-    ensures ending { IfOk result
-        (λ ending. IsSearchEnd (Tells generated choices search.entry.query.now) choices.capacity
-        search.entry.query.now ending.status (text_of ending)) }
-    ensures done { IfOk result (λ ending. IsDone ending.status) }
+    ensures { (note : Note) → NotesGoals choices search.entry.query.now note
+        → IfOk result (λ ending. IsSearchEnd (Tells generated choices search.entry.query.now)
+        choices search.entry.query.now note ending.status (text_of ending)) }
 {
     let plan = planned(alloc, search.query, search.props, answers)?;
     told(alloc, choices, generated, search, plan)

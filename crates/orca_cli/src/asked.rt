@@ -1,43 +1,18 @@
-//! What the files ask for, before a search.
-ghost use Rattle.std.specs.Prelude.{IfOk};
-ghost use Rattle.orca_cli.specs.Stages.{Stops};
-ghost use Rattle.orca_cli.specs.Texts as texts;
-
-use crate::ending::{Ending, line};
-use crate::status::Status;
+//! What a run is to search.
+use command_line::Command;
 use query_core::Query;
 use request_props::Props;
-use std::alloc::{AllocError, Global};
 
-/// What the files ask for.
+/// A query, and what was found of it.
 #[derive(Drop)]
-pub enum Asked {
-    /// A query, and what was found of it.
-    Query(Query, Props),
-    /// Nothing to be searched: the run ends so.
-    Ended(Ending),
+pub struct Asked {
+    pub query: Query,
+    pub props: Props,
 }
 
-/// The catalogue is refused for this cause.
-pub fn refused_catalog(alloc: Global, cause: &str) -> Result<Asked, AllocError>
-    ensures { IfOk result (Stops Status.CatalogRefused (texts.catalog_refused cause.now)) }
-{
-    let text = format!(in alloc; "catalog refused: {cause}\n")?;
-    Ok(Asked::Ended(line(alloc, Status::CatalogRefused, &text)?))
-}
-
-/// The query is refused for this cause.
-pub fn refused_query(alloc: Global, cause: &str) -> Result<Asked, AllocError>
-    ensures { IfOk result (Stops Status.QueryRefused (texts.query_refused cause.now)) }
-{
-    let text = format!(in alloc; "query refused: {cause}\n")?;
-    Ok(Asked::Ended(line(alloc, Status::QueryRefused, &text)?))
-}
-
-/// The file of this name couldn't be read.
-pub fn failed_read(alloc: Global, name: &str) -> Result<Asked, AllocError>
-    ensures { IfOk result (Stops Status.ReadFault (texts.read_fault name.now)) }
-{
-    let text = format!(in alloc; "read fault: {name}\n")?;
-    Ok(Asked::Ended(line(alloc, Status::ReadFault, &text)?))
+/// A query that a command asks for, and the command.
+#[derive(Drop)]
+pub struct Wanted<'w> {
+    pub command: Command<'w>,
+    pub asked: Asked,
 }

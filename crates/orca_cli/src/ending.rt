@@ -1,9 +1,10 @@
 //! How a run ends, before its text is put.
-ghost use Rattle.std.specs.Prelude.{◌≡◌, IfOk};
+ghost use Rattle.std.specs.Prelude.{◌≡◌, IfOk, OnOk, OnErr};
 ghost use Rattle.orca_cli.specs.Texts as texts;
 ghost use Rattle.orca_cli.specs.Views.{EndsAs};
 
 use crate::status::Status;
+use orca_io::SinkError;
 use std::alloc::{AllocError, Global};
 
 /// A status, and the texts that go with it, one behind the other: lines, each with its newline.
@@ -11,6 +12,26 @@ use std::alloc::{AllocError, Global};
 pub struct Ending {
     pub status: Status,
     pub texts: Vec<Vec<u8>>,
+}
+
+/// The end of a run, before its text is put.
+#[derive(Drop)]
+pub enum End {
+    /// There is a text to be put.
+    Told(Ending),
+    /// Memory was refused, and nothing is put.
+    Memory,
+}
+
+impl From<AllocError> for End {
+    ghost use Rattle.std.specs.Prelude.{◌≡◌};
+    ghost use Rattle.orca_cli.specs.declared.ending.End.TheVariants.{Memory};
+
+    ghost from_gives = { λ _ end. end ≡ Memory };
+
+    fn from(_refused: AllocError) -> End {
+        End::Memory
+    }
 }
 
 impl Ending {
@@ -24,12 +45,50 @@ impl Ending {
     }
 }
 
+/// The status of a run whose sink was finished. Text that was held back may be lost only then: that is
+/// a write fault, whatever the status was.
+pub fn finished(status: Status, written: Result<(), SinkError>) -> Status
+    ensures ok { OnOk written (result ≡ status) }
+    ensures failed { OnErr written (result ≡ Status.WriteFault) }
+{
+    match written {
+        Ok(()) => status,
+        Err(_) => Status::WriteFault,
+    }
+}
+
 /// A status with a text of one line.
 pub fn line(alloc: Global, status: Status, line: &str) -> Result<Ending, AllocError>
     ensures { IfOk result (λ ending. EndsAs ending status line.now) }
 {
     let text = line.as_bytes().to_vec(alloc)?;
     Ending::of(alloc, status, text)
+}
+
+/// The catalogue is refused for this cause.
+pub fn refused_catalog(alloc: Global, cause: &str) -> Result<Ending, AllocError>
+    ensures { IfOk result
+        (λ ending. EndsAs ending Status.CatalogRefused (texts.catalog_refused cause.now)) }
+{
+    let text = format!(in alloc; "catalog refused: {cause}\n")?;
+    line(alloc, Status::CatalogRefused, &text)
+}
+
+/// The query is refused for this cause.
+pub fn refused_query(alloc: Global, cause: &str) -> Result<Ending, AllocError>
+    ensures { IfOk result
+        (λ ending. EndsAs ending Status.QueryRefused (texts.query_refused cause.now)) }
+{
+    let text = format!(in alloc; "query refused: {cause}\n")?;
+    line(alloc, Status::QueryRefused, &text)
+}
+
+/// The file of this name couldn't be read.
+pub fn failed_read(alloc: Global, name: &str) -> Result<Ending, AllocError>
+    ensures { IfOk result (λ ending. EndsAs ending Status.ReadFault (texts.read_fault name.now)) }
+{
+    let text = format!(in alloc; "read fault: {name}\n")?;
+    line(alloc, Status::ReadFault, &text)
 }
 
 /// The query has more members and goals than this capacity.

@@ -1,4 +1,5 @@
 //! What follows from how commands are read, and how runs end.
+ghost use Rattle.orca_cli.specs.Causes.{EndsHaveCauses};
 ghost use Rattle.orca_cli.specs.Laws.{OneGenerated, OneOutcome};
 
 use goal_children::goal_lists_are_known;
@@ -24,4 +25,14 @@ pub fn one_outcome()
     memos_are_known();
     goal_lists_are_known();
     traces_are_known();
+}
+
+/// What follows from how a run ends: it is complete, and each status has its causes.
+pub fn endings_have_causes()
+    ensures { EndsHaveCauses }
+{
+    // A text asks for one query, or has one fault, and a query has room or not.
+    sql_reader::one_outcome();
+    links_are_one();
+    entries_fit_or_not();
 }

@@ -3,14 +3,15 @@
 
 mod answer;
 mod asked;
-mod binding;
+mod catalogs;
 mod ending;
 mod faults;
-mod files;
 mod generated;
 mod laws;
 mod lines;
 mod planning;
+mod prepared;
+mod queries;
 mod reading;
 mod search;
 mod sections;
@@ -18,7 +19,8 @@ mod status;
 mod text;
 mod top;
 
+pub use ending::finished;
 pub use job_engine::RunNote;
-pub use laws::one_outcome;
+pub use laws::{endings_have_causes, one_outcome};
 pub use status::Status;
 pub use top::{orca_alone, orca_run, put_usage};

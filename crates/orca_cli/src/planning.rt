@@ -2,7 +2,7 @@
 ghost use Rattle.std.specs.Prelude.{◌≡◌, IfOk};
 ghost use Rattle.request_props.specs.Numbered.{IsProps};
 ghost use Rattle.goal_space.specs.Answers.{AreAnswers};
-ghost use Rattle.orca_cli.specs.Stages.{IsPlanOf, status_for};
+ghost use Rattle.orca_cli.specs.Searches.{IsPlanOf, status_for};
 
 use crate::status::Status;
 use plan_report::{extract, plan_text};

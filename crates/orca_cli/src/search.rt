@@ -68,3 +68,27 @@ pub fn search_by_crew<R: Threads + Wait + Sync, G: Gate>(
         note,
     )
 }
+
+/// Searches by one worker where one is chosen, and else by so many. This is the one place where a run
+/// by one worker and a run by a crew part.
+pub fn search_as_chosen<R: Threads + Wait + Sync, G: Gate>(
+    rt: &R,
+    alloc: Global,
+    choices: Choices,
+    query: &Query,
+    props: &Props,
+    gate: &G,
+    note: &mut RunNote,
+) -> Result<Outcome, AllocError>
+    requires props { IsProps query.now props.now }
+    requires choices { AreChoices choices }
+    ensures ends { IfOk result (RunEnds query.now choices.capacity choices.workers) }
+    ensures noted { IfOk result
+        (λ outcome. IsNoted choices.capacity choices.workers outcome note.new) }
+{
+    if choices.workers == 1 {
+        search_alone(alloc, choices, query, props, note)
+    } else {
+        search_by_crew(rt, alloc, choices, query, props, gate, note)
+    }
+}

@@ -15,14 +15,18 @@ fn words_of(alloc: Global, line: &str) -> Result<Vec<String>, AllocError> {
     Ok(words)
 }
 
-fn has_each_option(command: &PlanCommand) -> bool {
+// Whether the command plans the query of `q.sql` over the catalogue of `c.json`.
+fn plans_the_files(command: &Command<'_>) -> bool {
+    matches!(command.task, Task::Plan(files) if files.catalog == "c.json" && files.query == "q.sql")
+}
+
+fn has_each_option(command: &Command<'_>) -> bool {
     let choices = command.choices;
     let options = Options {
         root: RootDist::Spread,
         off: 4100,
     };
-    command.files.catalog == "c.json"
-        && command.files.query == "q.sql"
+    plans_the_files(command)
         && choices.options == options
         && choices.workers == 64
         && choices.capacity == 1_048_576
@@ -37,19 +41,18 @@ fn each_option_is_read(rt: HostRuntime) -> Result<(), Fail> {
         rt.alloc(),
         "plan c.json --root spread --workers 64 q.sql --off JoinCommute+AggToHash --memo --capacity 1048576 --trace --by-worker",
     )?;
-    assert!(rt;
-        matches!(read_command(&words), Some(Command::Plan(command)) if has_each_option(&command))
-    );
+    assert!(rt; matches!(read_command(&words), Some(command) if has_each_option(&command)));
     Ok(())
 }
 
-fn has_usual_options(command: &PlanCommand) -> bool {
+fn has_usual_options(command: &Command<'_>) -> bool {
     let choices = command.choices;
     let options = Options {
         root: RootDist::One,
         off: 0,
     };
-    choices.options == options
+    plans_the_files(command)
+        && choices.options == options
         && choices.workers == 1
         && choices.capacity == 131_072
         && !choices.memo
@@ -60,28 +63,27 @@ fn has_usual_options(command: &PlanCommand) -> bool {
 #[test]
 fn what_is_not_given_is_usual(rt: HostRuntime) -> Result<(), Fail> {
     let words = words_of(rt.alloc(), "plan c.json q.sql")?;
-    assert!(rt;
-        matches!(read_command(&words), Some(Command::Plan(command)) if has_usual_options(&command))
-    );
+    assert!(rt; matches!(read_command(&words), Some(command) if has_usual_options(&command)));
     Ok(())
 }
 
 // Whether the greatest number and eight tables in a clique are made, by two workers with room for 64.
-fn has_its_numbers(command: &GenCommand) -> bool {
-    command.input.number == u64::MAX
-        && command.input.tables == 8
-        && matches!(command.input.shape, GenShape::Clique)
-        && command.workers == 2
-        && command.capacity == 64
+fn has_its_numbers(command: &Command<'_>) -> bool {
+    let choices = command.choices;
+    matches!(command.task, Task::Gen(made) if is_the_greatest(made.input))
+        && choices.workers == 2
+        && choices.capacity == 64
+}
+
+fn is_the_greatest(input: GenInput) -> bool {
+    input.number == u64::MAX && input.tables == 8 && matches!(input.shape, GenShape::Clique)
 }
 
 #[test]
 fn a_number_tables_and_a_shape_are_generated(rt: HostRuntime) -> Result<(), Fail> {
     let line = "gen 18446744073709551615 --capacity 64 8 clique --workers 2";
     let words = words_of(rt.alloc(), line)?;
-    assert!(rt;
-        matches!(read_command(&words), Some(Command::Gen(command)) if has_its_numbers(&command))
-    );
+    assert!(rt; matches!(read_command(&words), Some(command) if has_its_numbers(&command)));
     Ok(())
 }
 

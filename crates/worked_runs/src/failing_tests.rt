@@ -1,9 +1,11 @@
 //! The running example over files that can't be read, and over output that can't be written.
 use crate::join_tests::JOINED;
-use crate::runs::{JOIN, PLAN, TWO_TABLES, assert_told, run_over, shelf_of, text_at};
-use orca_cli::Status;
-use orca_io::{MemSink, NoGate};
+use crate::runs::{JOIN, PLAN, TWO_TABLES, assert_told, run_over, shelf_of, text_at, words_of};
+use orca_cli::{RunNote, Status, finished, orca_run};
+use orca_io::{MemSink, NoGate, StdSink};
 use std::alloc::{AllocError, AllocGlobal};
+use std::fmt::Display;
+use std::io::{self, ErrorKind, Print};
 use std::process::Abort;
 use std::sync::Wait;
 use std::test::Fail;
@@ -90,5 +92,37 @@ fn a_sink_that_fails_has_the_lines_before_and_a_part_of_one(rt: HostRuntime) -> 
         }
         assert!(rt; before == JOINED.len());
     }
+    Ok(())
+}
+
+// Standard output that is closed.
+struct ClosedOutput;
+
+impl Print for ClosedOutput {
+    fn print<D: Display + Drop>(&self, _value: D) -> io::Result<()> {
+        Err(ErrorKind::BrokenPipe.into())
+    }
+
+    fn println<D: Display + Drop>(&self, _value: D) -> io::Result<()> {
+        Err(ErrorKind::BrokenPipe.into())
+    }
+
+    fn write_all(&self, _bytes: &[u8]) -> io::Result<()> {
+        Err(ErrorKind::BrokenPipe.into())
+    }
+}
+
+#[test]
+fn a_plan_that_a_closed_output_holds_back_is_a_write_fault(rt: HostRuntime) -> Result<(), Fail> {
+    let words = words_of(rt.alloc(), PLAN)?;
+    let mut shelf = shelf_of(rt.alloc(), TWO_TABLES.as_bytes(), JOIN.as_bytes())?;
+    let closed = ClosedOutput;
+    let mut out = StdSink::new(&closed);
+    let mut note = RunNote::new();
+    let alloc = rt.alloc();
+    let status = orca_run(&rt, alloc, &words, &mut shelf, &mut out, &NoGate, &mut note);
+    // The few lines of the plan are held back, so the run itself sees no fault.
+    assert!(rt; status == Status::Planned);
+    assert!(rt; finished(status, out.finish()) == Status::WriteFault);
     Ok(())
 }

@@ -3,7 +3,7 @@ use crate::runs::{
     EMPTY, EMPTY_MEMO, EMPTY_PLAN, PLAN, TWO_TABLES, assert_catalog_fault, assert_planned,
     assert_plans, assert_printed, assert_query_fault, assert_sections, printed, shelf_of, words_of,
 };
-use command_line::{Command, read_command};
+use command_line::read_command;
 use orca_cli::{RunNote, Status, orca_alone};
 use orca_io::{MemShelf, MemSink};
 use std::alloc::{AllocGlobal, Global};
@@ -294,7 +294,7 @@ fn alone(
     sink: &mut MemSink,
 ) -> Option<Status> {
     match read_command(words) {
-        Some(Command::Plan(command)) if command.choices.workers == 1 => {
+        Some(command) if command.choices.workers == 1 => {
             let mut note = RunNote::new();
             Some(orca_alone(alloc, words, shelf, sink, &mut note))
         }

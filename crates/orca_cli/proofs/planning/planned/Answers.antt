@@ -1,4 +1,4 @@
-use Rattle.orca_cli.proofs.Stages.{plan_of_found}
+use Rattle.orca_cli.proofs.Searching.{plan_of_found}
 use Rattle.orca_cli.proofs.planning.planned.Goals as goal
 
 -- the text is that of what was found

@@ -1,45 +1,45 @@
-use Rattle.std.proofs.Common.{◌≡◌, Some, option_map, map, string_bytes, sym, ap, ◌∙◌, subst}
-use Rattle.command_line.specs.Command.{plan, gen}
+use Rattle.std.proofs.Common.{map, string_bytes, refl, subst}
 use Rattle.command_line.specs.Reading.{command_of}
-use Rattle.command_line.specs.Views.{command_read, gen_command, plan_command}
-use Rattle.orca_cli.specs.Serves.{AsksForOne}
-use Rattle.orca_cli.proofs.Served.{named_served}
+use Rattle.command_line.specs.Views.{command_read}
+use Rattle.orca_cli.specs.Prepared.{reads}
+use Rattle.orca_cli.specs.Run.{IsRun, IsSearchEnd}
+use Rattle.orca_cli.specs.Sections.{Tells}
+use Rattle.orca_cli.specs.Views.{EndsWith}
+use Rattle.orca_cli.proofs.Ended.{put_of, searched_run, stopped_run}
 use Rattle.orca_cli.proofs.top.orca_alone.Goals as goal
 
--- the words name this command, for one worker
-pub plan_alone-requires : goal.plan_alone-requires
-plan_alone-requires g c =
-    let named : command_of (map string_bytes c.args.words.now) ≡ Some (plan (plan_command c.in-Plan.command)) =
-    sym c.read_command.ensures ∙ ap (option_map command_read) c.unwrap.ensures
-    ∙ ap (λ r. Some (command_read r)) c.in-Plan.is in
-    subst AsksForOne named c.requires.words
+-- the query for which the command asks was searched, and the text of the end was put
+pub returns-in-Ok-clause-ends : goal.returns-in-Ok-clause-ends
+returns-in-Ok-clause-ends g c =
+    let named = command_of (map string_bytes c.args.words.now) in
+    let shelf = reads (g.S.Shelf.held c.args.shelf.now) (g.S.Shelf.faults c.args.shelf.now)
+    (g.S.Shelf.faults c.prepared.new.shelf) in
+    let note = c.search_alone-found.new.note in
+    let wanted = c.in-Ok.wanted in
+    let command = command_read wanted.command in
+    let found = subst (λ input. EndsWith (IsSearchEnd (Tells input command.choices wanted.asked.query) command.choices
+    wanted.asked.query note) c.ended.result) c.generated_in-generated.ensures
+    (c.ended.ensures note c.search_alone-found.ensures.noted) in
+    put_of (IsRun named shelf c.args.note.now note) c.ended.result _ c.put.result
+    (searched_run named command shelf c.args.note.now note wanted.asked.query c.ended.result
+    c.in-Ok.ensures.wanted.named_is c.in-Ok.ensures.wanted.asks found) c.put.ensures
 
-pub generate_alone-requires : goal.generate_alone-requires
-generate_alone-requires g c =
-    let named : command_of (map string_bytes c.args.words.now) ≡ Some (gen (gen_command c.in-Gen.command)) =
-    sym c.read_command.ensures ∙ ap (option_map command_read) c.unwrap.ensures
-    ∙ ap (λ r. Some (command_read r)) c.in-Gen.is in
-    subst AsksForOne named c.requires.words
+-- so it is complete
+pub returns-in-Ok-clause-completes : goal.returns-in-Ok-clause-completes
+returns-in-Ok-clause-completes g c =
+    (c.endings_have_causes.ensures _ _ _ _ _ _ (returns-in-Ok-clause-ends g c)).completes
 
--- the command that the words name was served
-pub returns-in-Plan : goal.returns-in-Plan
-returns-in-Plan g c =
-    let named : command_of (map string_bytes c.args.words.now) ≡ Some (plan (plan_command c.in-Plan.command)) =
-    sym c.read_command.ensures ∙ ap (option_map command_read) c.unwrap.ensures
-    ∙ ap (λ r. Some (command_read r)) c.in-Plan.is in
-    named_served _ (plan (plan_command c.in-Plan.command)) (g.S.Shelf.held c.args.shelf.now)
-    (g.S.Shelf.faults c.args.shelf.now) (g.S.Shelf.faults c.plan_alone.new.shelf)
-    (g.K.Sink.taken c.args.out.now) (g.K.Sink.taken c.plan_alone.new.out) (g.K.Sink.faults c.args.out.now)
-    (g.K.Sink.faults c.plan_alone.new.out) c.args.note.now c.plan_alone.new.note c.plan_alone.result named
-    c.plan_alone.ensures
+-- nothing was searched
+pub returns-in-Err-clause-ends : goal.returns-in-Err-clause-ends
+returns-in-Err-clause-ends g c =
+    let named = command_of (map string_bytes c.args.words.now) in
+    let shelf = reads (g.S.Shelf.held c.args.shelf.now) (g.S.Shelf.faults c.args.shelf.now)
+    (g.S.Shelf.faults c.prepared.new.shelf) in
+    put_of (IsRun named shelf c.args.note.now c.args.note.now) c.in-Err.end _ c.put-in-Err.result
+    (stopped_run named shelf c.args.note.now c.args.note.now c.in-Err.end refl c.in-Err.ensures.stops)
+    c.put-in-Err.ensures
 
-pub returns-in-Gen : goal.returns-in-Gen
-returns-in-Gen g c =
-    let named : command_of (map string_bytes c.args.words.now) ≡ Some (gen (gen_command c.in-Gen.command)) =
-    sym c.read_command.ensures ∙ ap (option_map command_read) c.unwrap.ensures
-    ∙ ap (λ r. Some (command_read r)) c.in-Gen.is in
-    named_served _ (gen (gen_command c.in-Gen.command)) (g.S.Shelf.held c.args.shelf.now)
-    (g.S.Shelf.faults c.args.shelf.now) (g.S.Shelf.faults c.args.shelf.now)
-    (g.K.Sink.taken c.args.out.now) (g.K.Sink.taken c.generate_alone.new.out) (g.K.Sink.faults c.args.out.now)
-    (g.K.Sink.faults c.generate_alone.new.out) c.args.note.now c.generate_alone.new.note c.generate_alone.result named
-    c.generate_alone.ensures
+-- so it is complete
+pub returns-in-Err-clause-completes : goal.returns-in-Err-clause-completes
+returns-in-Err-clause-completes g c =
+    (c.endings_have_causes.ensures _ _ _ _ _ _ (returns-in-Err-clause-ends g c)).completes

@@ -1,0 +1,179 @@
+-- What a file's bytes say, and how a run ends that can't go on with them.
+use Rattle.std.proofs.Common.{◌≡◌, ◌≢◌, ℕ, ◌+◌, ◌<◌, ◌≤◌, ◌^◌, List, length, Option, None, Some, Err}
+use Rattle.std.proofs.Common.{refl, sym, subst, ap, arith, inl, inr}
+use Rattle.std.specs.Prelude.{replicate}
+use Rattle.std.proofs.lemmas.Bool.{lt-ltb}
+use Rattle.std.proofs.lemmas.List.{length-replicate}
+use Rattle.query_core.specs.declared.catalog.Catalog.{Catalog}
+use Rattle.query_core.specs.declared.options.Options.{Options}
+use Rattle.query_core.specs.declared.query.Query.{Query}
+use Rattle.orca_base.specs.Causes.{Rose}
+use Rattle.orca_io.specs.Shelf.{Exceeds}
+use Rattle.catalog_json.specs.Outcome.{reading_of, CatalogReads}
+use Rattle.catalog_json.specs.declared.fault.CatalogFault.{CatalogFault}
+use Rattle.catalog_json.specs.declared.fault.CatalogFault.TheVariants as catalogs
+use Rattle.sql_reader.specs.Faults.{IsFirst, IsReading}
+use Rattle.sql_reader.specs.declared.faults.SqlFault.{SqlFault}
+use Rattle.sql_reader.specs.declared.faults.SqlFault.TheVariants as selects
+use Rattle.sql_reader.specs.declared.syntax.Select.{Select}
+use Rattle.sql_bind.specs.Binding.{binding}
+use Rattle.sql_bind.specs.declared.fault.BindFault.{BindFault}
+use Rattle.sql_bind.specs.declared.fault.BindFault.TheVariants as names
+use Rattle.request_props.specs.Numbered.{IsRefusedFor}
+use Rattle.request_props.specs.declared.fault.PropsFault.{PropsFault}
+use Rattle.request_props.specs.declared.fault.PropsFault.TheVariants as limits
+use Rattle.command_line.specs.Command.{FileNames}
+use Rattle.orca_cli.specs.Asked.{IsNoCatalog, IsBoundAs, IsUnread, IsUnbound, IsUnnumbered, IsRefused}
+use Rattle.orca_cli.specs.Prepared.{Reads, reads, AreTold, Offers, IsAskedAt, FilesAsk, IsCatalogRefused, IsQueryRefused}
+use Rattle.orca_cli.specs.Prepared.{FileStops, unread, unusable}
+use Rattle.orca_cli.specs.Texts as texts
+use Rattle.orca_cli.specs.Views.{EndsAs, text_of}
+use Rattle.orca_cli.specs.declared.ending.Ending.{Ending}
+use Rattle.orca_cli.specs.declared.status.Status.{Status}
+use Rattle.orca_cli.specs.declared.status.Status.TheVariants.{QueryRefused, CatalogRefused}
+
+-- what holds of a status and a text holds of an ending that has them
+pub as_ended : (P : Status → List ℕ → Type 0) (ending : Ending) (status : Status) (text : List ℕ)
+    → EndsAs ending status text → P status text → P ending.status (text_of ending)
+as_ended P ending status text is fact = subst (λ s. P s (text_of ending)) (sym is.status)
+    (subst (λ t. P status t) (sym is.text) fact)
+
+-- ---- files that are too long
+
+-- some bytes that are longer than the limit, as what is told
+record AreLong (held : Option (List ℕ)) (limit : ℕ) : Type 0 where
+  bytes : List ℕ
+  told : AreTold held bytes
+  long : limit < length bytes
+
+-- a file over the limit holds such bytes
+exceeding : (held : Option (List ℕ)) (limit : ℕ) → Exceeds held limit → AreLong held limit
+exceeding None limit exceeds =
+    let long : List ℕ = replicate (limit + 1) 0 in
+    let count : length long ≡ limit + 1 = length-replicate (limit + 1) 0 in
+    record { bytes = long; told = tt; long = omega (arith, count) }
+exceeding (Some content) limit exceeds = record { bytes = content; told = refl; long = exceeds }
+
+-- bytes over the limit are no catalogue
+too_long : (bytes : List ℕ) → 1048576 < length bytes → reading_of bytes ≡ Err catalogs.TooLong
+unfolding reading_of
+too_long bytes long = rw (lt-ltb 1048576 (length bytes) long) refl
+
+-- a catalogue's file over the limit is refused as too long
+pub long_catalog : (name : List ℕ) (shelf : Reads) → Exceeds (shelf.held name) 1048576
+    → FileStops IsCatalogRefused name shelf CatalogRefused (texts.catalog_refused (texts.catalog_cause catalogs.TooLong))
+long_catalog name shelf exceeds =
+    let long = exceeding (shelf.held name) 1048576 exceeds in
+    let none : IsNoCatalog long.bytes (texts.catalog_cause catalogs.TooLong) =
+    record {
+      fault = catalogs.TooLong;
+      first = too_long long.bytes long.long;
+      not_memory = λ same. cc;
+      caused = refl;
+    } in
+    unusable long.bytes long.told
+    (record { refused = refl; cause = texts.catalog_cause catalogs.TooLong; no_catalog = none; line = refl })
+
+-- ---- bytes that are refused
+
+-- bytes that are no catalogue, for the cause that the line gives
+pub no_catalog : (bytes given : List ℕ) (fault : CatalogFault) → CatalogReads bytes (Err fault)
+    → fault ≢ catalogs.Memory → given ≡ texts.catalog_cause fault
+    → IsCatalogRefused bytes CatalogRefused (texts.catalog_refused given)
+no_catalog bytes given fault reads not_memory same =
+    let none : IsNoCatalog bytes (texts.catalog_cause fault) =
+    record { fault = fault; first = sym (reads (λ e. not_memory cc)); not_memory = not_memory; caused = refl } in
+    record {
+      refused = refl;
+      cause = texts.catalog_cause fault;
+      no_catalog = none;
+      line = ap texts.catalog_refused same;
+    }
+
+module _ (catalog : Catalog) (options : Options) (bytes : List ℕ) where
+  -- a query that is refused for the cause that the line gives
+  no_query : (cause given : List ℕ) → IsRefused catalog options bytes cause → given ≡ cause
+      → IsQueryRefused catalog options bytes QueryRefused (texts.query_refused given)
+  no_query cause given why same =
+      record { refused = refl; cause = cause; no_query = why; line = ap texts.query_refused same }
+
+  -- a text that is no select
+  pub unread_query : (given : List ℕ) (fault : SqlFault) → IsFirst bytes fault → given ≡ texts.sql_cause fault
+      → IsQueryRefused catalog options bytes QueryRefused (texts.query_refused given)
+  unread_query given fault first same =
+      let why : IsUnread bytes (texts.sql_cause fault) = record { fault = fault; first = first; caused = refl } in
+      no_query (texts.sql_cause fault) given (inl why) same
+
+  -- a select whose names can't be bound
+  pub unbound_query : (given : List ℕ) (select : Select) (fault : BindFault) → IsReading bytes select
+      → binding select catalog ≡ Err fault → fault ≢ names.Memory → given ≡ texts.bind_cause fault
+      → IsQueryRefused catalog options bytes QueryRefused (texts.query_refused given)
+  unbound_query given select fault reading first not_memory same =
+      let why : IsUnbound catalog bytes (texts.bind_cause fault) =
+      record {
+        select = select;
+        reading = reading;
+        fault = fault;
+        first = first;
+        not_memory = not_memory;
+        caused = refl;
+      } in
+      no_query (texts.bind_cause fault) given (inr (inl why)) same
+
+  -- a query with too many hashed lists or orders
+  pub unnumbered_query : (given : List ℕ) (query : Query) (fault : PropsFault) → IsBoundAs catalog options bytes query
+      → IsRefusedFor query fault → fault ≢ limits.Memory → given ≡ texts.props_cause fault
+      → IsQueryRefused catalog options bytes QueryRefused (texts.query_refused given)
+  unnumbered_query given query fault bound too_many not_memory same =
+      let why : IsUnnumbered catalog options bytes (texts.props_cause fault) =
+      record {
+        query = query;
+        bound = bound;
+        fault = fault;
+        too_many = too_many;
+        not_memory = not_memory;
+        caused = refl;
+      } in
+      no_query (texts.props_cause fault) given (inr (inr why)) same
+
+-- a text over the limit is refused as too long
+pub long_query : (catalog : Catalog) (options : Options) (name : List ℕ) (shelf : Reads)
+    → ((bytes : List ℕ) → 2 ^ 16 < length bytes → IsFirst bytes selects.TooLong) → Exceeds (shelf.held name) 65536
+    → FileStops (IsQueryRefused catalog options) name shelf QueryRefused
+    (texts.query_refused (texts.sql_cause selects.TooLong))
+long_query catalog options name shelf first exceeds =
+    let long = exceeding (shelf.held name) 65536 exceeds in
+    unusable long.bytes long.told
+    (unread_query catalog options long.bytes (texts.sql_cause selects.TooLong) selects.TooLong
+    (first long.bytes long.long) refl)
+
+-- ---- two files
+
+-- a count that rose since later on rose since before
+rose_since : (before middle after : ℕ) → before ≤ middle → Rose middle after → Rose before after
+rose_since before middle after later rose = omega arith
+
+-- a file that stops a run after an earlier read of the shelf
+pub stops_later : (Refuses : List ℕ → Status → List ℕ → Type 0) (name : List ℕ)
+    (held told : List ℕ → Option (List ℕ)) (before middle after : List ℕ → ℕ) (status : Status) (text : List ℕ)
+    → told name ≡ held name → ((n : List ℕ) → before n ≤ middle n)
+    → FileStops Refuses name (reads told middle after) status text
+    → FileStops Refuses name (reads held before after) status text
+stops_later Refuses name held told before middle after status text same later (unread is) =
+    unread (record {
+      fault = is.fault;
+      rose = rose_since (before name) (middle name) (after name) (later name) is.rose;
+      line = is.line;
+    })
+stops_later Refuses name held told before middle after status text same later (unusable bytes are why) =
+    unusable bytes (subst (λ h. AreTold h bytes) same are) why
+
+-- the query for which two files ask, where the shelf tells of the second one what it told before
+pub files_ask : (files : FileNames) (options : Options) (held : List ℕ → Option (List ℕ)) (told : Option (List ℕ))
+    (catalog : Catalog) (query : Query) → Offers (held files.catalog) catalog → told ≡ held files.query
+    → IsAskedAt catalog options told query → FilesAsk files options held query
+files_ask files options held told catalog query offers same asked = record {
+  catalog = catalog;
+  offers = offers;
+  asked = subst (λ h. IsAskedAt catalog options h query) same asked;
+}

@@ -1,0 +1,116 @@
+-- What a command asks for, and how a run ends that searches nothing.
+use Rattle.std.specs.Prelude.{◌≡◌, ℕ, List, Option, None, Some, IfSome}
+use Rattle.orca_base.specs.Causes.{Rose}
+use Rattle.query_core.specs.declared.catalog.Catalog.{Catalog}
+use Rattle.query_core.specs.declared.options.Options.{Options}
+use Rattle.query_core.specs.declared.query.Query.{Query}
+use Rattle.command_line.specs.Command.{FileNames, AnyTask, AnyCommand, plan, gen}
+use Rattle.command_line.specs.declared.command.GenInput.{GenInput}
+use Rattle.orca_cli.specs.Asked.{SaysCatalog, IsNoCatalog, Asks, IsRefused}
+use Rattle.orca_cli.specs.Generated.{IsGenerated}
+use Rattle.orca_cli.specs.Texts as texts
+use Rattle.orca_cli.specs.declared.status.Status.{Status}
+use Rattle.orca_cli.specs.declared.status.Status.TheVariants.{Usage, QueryRefused, CatalogRefused, ReadFault}
+
+-- what a call finds on its shelf: what is held under each name, where it is told, and each name's count of faults
+-- before the call and after it
+pub record Reads : Type 0 where
+  pub held : List ℕ → Option (List ℕ)
+  pub before : List ℕ → ℕ
+  pub after : List ℕ → ℕ
+
+abbrev pub reads : (List ℕ → Option (List ℕ)) → (List ℕ → ℕ) → (List ℕ → ℕ) → Reads
+reads held before after = record { held = held; before = before; after = after }
+
+-- ---- what is asked for
+
+-- the bytes are those that the shelf tells of, where it tells
+abbrev pub AreTold : Option (List ℕ) → List ℕ → Type 0
+AreTold held bytes = IfSome held (λ content. bytes ≡ content)
+
+-- the bytes under a name say this catalogue
+pub record Offers (held : Option (List ℕ)) (catalog : Catalog) : Type 0 where
+  pub bytes : List ℕ
+  pub told : AreTold held bytes
+  pub says : SaysCatalog bytes catalog
+
+-- the bytes under a name ask for this query
+pub record IsAskedAt (catalog : Catalog) (options : Options) (held : Option (List ℕ)) (query : Query) : Type 0 where
+  pub asked : List ℕ
+  pub told : AreTold held asked
+  pub asks : Asks catalog options asked query
+
+-- two files ask for this query
+pub record FilesAsk (files : FileNames) (options : Options) (held : List ℕ → Option (List ℕ)) (query : Query) : Type 0
+  where
+    pub catalog : Catalog
+    pub offers : Offers (held files.catalog) catalog
+    pub asked : IsAskedAt catalog options (held files.query) query
+
+-- the task asks for this query
+abbrev pub IsAskedBy : AnyTask → Options → (List ℕ → Option (List ℕ)) → Query → Type 0
+IsAskedBy (plan files) options held query = FilesAsk files options held query
+IsAskedBy (gen input) options held query = IsGenerated input options query
+
+-- what the query is made of, where it is generated
+abbrev pub generated_in : AnyTask → Option GenInput
+generated_in (plan files) = None
+generated_in (gen input) = Some input
+
+-- the words are a command, and it asks for one worker
+abbrev pub AsksForOne : Option AnyCommand → Type 0
+AsksForOne None = ⊥
+AsksForOne (Some command) = command.choices.workers ≡ 1
+
+-- ---- how a run ends that searches nothing
+
+-- the words are no command
+abbrev pub IsUsage : Status → List ℕ → Type 0
+IsUsage status text = (status ≡ Usage) × (text ≡ texts.usage_line)
+
+-- the bytes are no catalogue, and the text says why
+pub record IsCatalogRefused (bytes : List ℕ) (status : Status) (text : List ℕ) : Type 0 where
+  pub refused : status ≡ CatalogRefused
+  pub cause : List ℕ
+  pub no_catalog : IsNoCatalog bytes cause
+  pub line : text ≡ texts.catalog_refused cause
+
+-- the bytes ask for no query over the catalogue, and the text says why
+pub record IsQueryRefused (catalog : Catalog) (options : Options) (bytes : List ℕ) (status : Status) (text : List ℕ) :
+    Type 0 where
+  pub refused : status ≡ QueryRefused
+  pub cause : List ℕ
+  pub no_query : IsRefused catalog options bytes cause
+  pub line : text ≡ texts.query_refused cause
+
+-- the count of the name's faults rose, and the text names it
+pub record IsReadFault (name : List ℕ) (shelf : Reads) (status : Status) (text : List ℕ) : Type 0 where
+  pub fault : status ≡ ReadFault
+  pub rose : Rose (shelf.before name) (shelf.after name)
+  pub line : text ≡ texts.read_fault name
+
+-- a file couldn't be read, or its bytes are refused so
+pub data FileStops (Refuses : List ℕ → Status → List ℕ → Type 0) (name : List ℕ) (shelf : Reads) (status : Status)
+    (text : List ℕ) : Type 0 where
+  unread : IsReadFault name shelf status text → FileStops Refuses name shelf status text
+  unusable : (bytes : List ℕ) → AreTold (shelf.held name) bytes → Refuses bytes status text
+      → FileStops Refuses name shelf status text
+
+-- two files: that of the catalogue, or where it says a catalogue that of the query
+pub data FilesStop (files : FileNames) (options : Options) (shelf : Reads) (status : Status) (text : List ℕ) : Type 0
+  where
+    by_catalog : FileStops IsCatalogRefused files.catalog shelf status text
+        → FilesStop files options shelf status text
+    by_query : (catalog : Catalog) → Offers (shelf.held files.catalog) catalog
+        → FileStops (IsQueryRefused catalog options) files.query shelf status text
+        → FilesStop files options shelf status text
+
+-- a task that asks for no query; what is generated always asks for one
+abbrev pub TaskStops : AnyTask → Options → Reads → Status → List ℕ → Type 0
+TaskStops (plan files) options shelf status text = FilesStop files options shelf status text
+TaskStops (gen input) options shelf status text = ⊥
+
+-- a run by the command that its words are, where they are one
+abbrev pub Stops : Option AnyCommand → Reads → Status → List ℕ → Type 0
+Stops None shelf status text = IsUsage status text
+Stops (Some command) shelf status text = TaskStops command.task command.choices.options shelf status text
