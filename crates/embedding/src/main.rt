@@ -11,10 +11,11 @@ mod walk;
 
 use plan_tree::Found;
 use query_core::{Catalog, Options, Query, RootDist};
-use request_props::Props;
-use sql_bind::bind;
-use std::alloc::Global;
+use request_props::{Props, PropsFault};
+use sql_bind::{BindFault, bind};
+use std::alloc::{AllocError, Global};
 use std::io;
+use std::io::ErrorKind;
 use std::process::ExitCode;
 use std::sync::Wait;
 use std::thread::Threads;
@@ -23,7 +24,8 @@ fn main(rt: HostRuntime) -> ExitCode {
     match planned(&rt, rt.alloc()) {
         Ok(true) => ExitCode::from(0),
         Ok(false) => ExitCode::from(1),
-        Err(_) => ExitCode::from(2),
+        Err(error) if error.kind() == ErrorKind::OutOfMemory => ExitCode::from(2),
+        Err(_) => ExitCode::from(3),
     }
 }
 
@@ -51,7 +53,7 @@ fn planned_over<R: Print + Threads + Wait + Sync>(
     };
     match bind(alloc, &statement, catalog, options) {
         Ok(query) => planned_for(rt, alloc, &query),
-        Err(_) => refused(rt, "a name of the statement isn't in the catalogue"),
+        Err(fault) => unbound(rt, fault),
     }
 }
 
@@ -63,7 +65,7 @@ fn planned_for<R: Print + Threads + Wait + Sync>(
 ) -> io::Result<bool> {
     match Props::collect(alloc, query) {
         Ok(props) => searched(rt, alloc, query, &props),
-        Err(_) => refused(rt, "the query has too many hashed lists or orders"),
+        Err(fault) => uncollected(rt, fault),
     }
 }
 
@@ -83,6 +85,28 @@ fn searched<R: Print + Threads + Wait + Sync>(
         }
         Some(Found::NoPlan) => refused(rt, "no plan"),
         None => refused(rt, "too many entries"),
+    }
+}
+
+// Why a name of the statement can't be bound. The host gave all names the place 0, so none is told.
+fn unbound(rt: &impl Print, fault: BindFault) -> io::Result<bool> {
+    match fault {
+        BindFault::UnknownTable { at: _ } => refused(rt, "a table isn't in the catalogue"),
+        BindFault::TwiceAlias { at: _ } => refused(rt, "a name is given twice"),
+        BindFault::UnknownColumn { at: _ } => refused(rt, "a column is in no table"),
+        BindFault::Ambiguous { at: _ } => refused(rt, "a column is in several tables"),
+        BindFault::NotGrouped { at: _ } => refused(rt, "a column isn't in GROUP BY"),
+        BindFault::TooManyItems { found: _ } => refused(rt, "too many columns and aggregates"),
+        BindFault::Memory => Err(io::Error::from(AllocError)),
+    }
+}
+
+// Why the query's hashed lists and orders have no numbers.
+fn uncollected(rt: &impl Print, fault: PropsFault) -> io::Result<bool> {
+    match fault {
+        PropsFault::TooManyLists { found: _ } => refused(rt, "too many hashed lists"),
+        PropsFault::TooManyOrders { found: _ } => refused(rt, "too many orders"),
+        PropsFault::Memory => Err(io::Error::from(AllocError)),
     }
 }
 
