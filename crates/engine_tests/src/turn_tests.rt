@@ -6,8 +6,7 @@ ghost use Rattle.goal_board.specs.Seats.{hands};
 ghost use Rattle.job_engine.specs.Searching.{IsWorker};
 
 use crate::run_tests::{find_alone, found_alike};
-use goal_rules::Rules;
-use job_engine::{Engine, Outcome, RunNote, Stepped, Worker};
+use job_engine::{Engine, Outcome, Rules, RunNote, Stepped, Worker};
 use query_core::Query;
 use request_props::Props;
 use std::alloc::{AllocError, Global};
