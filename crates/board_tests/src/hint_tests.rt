@@ -100,6 +100,38 @@ fn who_can_steal_from_whom(rt: HostRuntime) -> Result<(), Fail> {
     Ok(())
 }
 
+// Whoever is split last, after so many splits, each from the worker before, which was told of a place of its own.
+fn last_of(alloc: Global, splits: u32) -> Result<PlaceHints, AllocError>
+    requires { splits ≤ 100 }
+{
+    let mut last = PlaceHints::new(alloc, 100)?;
+    for place in 0..splits {
+        last.hint(place);
+        let next = last.split(alloc)?;
+        last = next;
+    }
+    Ok(last)
+}
+
+// From how many others it can steal a place, and the sum of these.
+fn steal_from_each(hints: &mut PlaceHints) -> (u64, u64) {
+    let (mut count, mut sum) = (0u64, 0u64);
+    for other in 0..hints.others() {
+        if let Some(place) = hints.steal(other) {
+            count = count.wrapping_add(1);
+            sum = sum.wrapping_add(place as u64);
+        }
+    }
+    (count, sum)
+}
+
+#[test]
+fn the_last_of_six_can_steal_from_all_before(rt: HostRuntime) -> Result<(), Fail> {
+    let mut last = last_of(rt.alloc(), 5)?;
+    assert_eq!(rt; steal_from_each(&mut last), (5, 10));
+    Ok(())
+}
+
 #[test]
 fn each_hint_comes_out_once(rt: HostRuntime) -> Result<(), Fail> {
     let mut owner = PlaceHints::new(rt.alloc(), 1000)?;
