@@ -96,6 +96,7 @@ fn a_sink_that_fails_has_the_lines_before_and_a_part_of_one(rt: HostRuntime) -> 
 }
 
 // Standard output that is closed.
+#[derive(Drop)]
 struct ClosedOutput;
 
 impl Print for ClosedOutput {
