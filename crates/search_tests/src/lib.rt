@@ -20,6 +20,8 @@ mod limits_tests;
 #[cfg(test)]
 mod made_tests;
 #[cfg(test)]
+mod membership_tests;
+#[cfg(test)]
 mod memo_tests;
 #[cfg(test)]
 mod node_tests;

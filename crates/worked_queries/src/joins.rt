@@ -16,6 +16,9 @@ const UNLINKED: &str =
 const FOUR: &str =
     r#"[{"name":"A","rows":100,"distribution":"random","columns":[{"name":"a","ndv":10}]},{"name":"B","rows":100,"distribution":"random","columns":[{"name":"a","ndv":10}]},{"name":"C","rows":100,"distribution":"random","columns":[{"name":"a","ndv":10}]},{"name":"D","rows":100,"distribution":"random","columns":[{"name":"a","ndv":10}]}]"#;
 
+const ONE_FILTERED: &str =
+    r#"[{"name":"T","rows":10,"distribution":"random","columns":[{"name":"a","ndv":10}]},{"name":"U","rows":10,"distribution":"random","columns":[{"name":"x","ndv":10}]},{"name":"V","rows":10,"distribution":"random","columns":[{"name":"y","ndv":10}]}]"#;
+
 /// The running example: two tables, each hashed on a, of which one is joined on b.
 pub fn two_tables(alloc: Global) -> Result<Query, Fail> {
     worked(
@@ -93,11 +96,15 @@ pub fn without_a_plan(alloc: Global) -> Result<Query, Fail> {
 
 /// Three tables of which a predicate links the last two, and another filters one of these.
 pub fn one_linked_pair(alloc: Global) -> Result<Query, Fail> {
-    worked(
-        alloc,
-        r#"[{"name":"T","rows":10,"distribution":"random","columns":[{"name":"a","ndv":10}]},{"name":"U","rows":10,"distribution":"random","columns":[{"name":"x","ndv":10}]},{"name":"V","rows":10,"distribution":"random","columns":[{"name":"y","ndv":10}]}]"#,
-        "SELECT T.a FROM T, U, V WHERE U.x < 5 AND U.x = V.y",
-    )
+    one_linked_pair_without(alloc, 0)
+}
+
+/// The same without the rules that are off.
+pub fn one_linked_pair_without(alloc: Global, off: u32) -> Result<Query, Fail>
+    requires { AreOptions (record { root = RootDist.One; off = off }) }
+{
+    let text = "SELECT T.a FROM T, U, V WHERE U.x < 5 AND U.x = V.y";
+    worked_without(alloc, ONE_FILTERED, text, off)
 }
 
 /// Two tables with an equality across them and one within the first, which is hashed and has an index on its columns.
@@ -138,12 +145,26 @@ pub fn cycle_of_four_predicates(alloc: Global) -> Result<Query, Fail> {
 
 /// Four tables, each joined with the next.
 pub fn chain_of_four(alloc: Global) -> Result<Query, Fail> {
+    chain_of_four_without(alloc, 0)
+}
+
+/// The same without the rules that are off.
+pub fn chain_of_four_without(alloc: Global, off: u32) -> Result<Query, Fail>
+    requires { AreOptions (record { root = RootDist.One; off = off }) }
+{
     let text = "SELECT A.a FROM A, B, C, D WHERE A.a = B.a AND B.a = C.a AND C.a = D.a";
-    worked(alloc, FOUR, text)
+    worked_without(alloc, FOUR, text, off)
 }
 
 /// Four tables, of which the first is joined with each other.
 pub fn star_of_four(alloc: Global) -> Result<Query, Fail> {
+    star_of_four_without(alloc, 0)
+}
+
+/// The same without the rules that are off.
+pub fn star_of_four_without(alloc: Global, off: u32) -> Result<Query, Fail>
+    requires { AreOptions (record { root = RootDist.One; off = off }) }
+{
     let text = "SELECT A.a FROM A, B, C, D WHERE A.a = B.a AND A.a = C.a AND A.a = D.a";
-    worked(alloc, FOUR, text)
+    worked_without(alloc, FOUR, text, off)
 }

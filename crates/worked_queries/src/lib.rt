@@ -10,9 +10,10 @@ mod worked;
 
 pub use groupings::{filtered_count, grouped, hashed_count, per_group, totals};
 pub use joins::{
-    chain, chain_of_four, compared_tables, cross_product, cycle, cycle_of_four_predicates,
-    hashed_alike, huge_tables, large_and_small, one_linked_pair, star_of_four, two_equalities,
-    two_tables, two_tables_descending, without_a_plan,
+    chain, chain_of_four, chain_of_four_without, compared_tables, cross_product, cycle,
+    cycle_of_four_predicates, hashed_alike, huge_tables, large_and_small, one_linked_pair,
+    one_linked_pair_without, star_of_four, star_of_four_without, two_equalities, two_tables,
+    two_tables_descending, without_a_plan,
 };
 pub use props::{implied, props_of};
 pub use single::{filtered_table, one_table, sorted_table, three_indexes};
