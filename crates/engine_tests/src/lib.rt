@@ -16,4 +16,6 @@ mod run_tests;
 #[cfg(test)]
 mod settled_tests;
 #[cfg(test)]
+mod thread_tests;
+#[cfg(test)]
 mod turn_tests;

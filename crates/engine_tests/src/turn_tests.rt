@@ -151,8 +151,8 @@ fn search_past_one_step(
     Ok((told, engine.close(alloc, first)?))
 }
 
-// The end that one worker is told within so many steps, if it is told one.
-fn step_until_end<'q>(
+/// The end that one worker is told within so many steps, if it is told one.
+pub fn step_until_end<'q>(
     engine: &Engine<'q>,
     worker: &mut Worker<Rules<'q>>,
     most: u32,
