@@ -2,8 +2,9 @@
 
 ghost use Rattle.std.specs.Prelude.{◌≤◌};
 
-use crate::runs::printed;
+use crate::runs::{PLAN, printed, run_over, shelf_of, text_at};
 use orca_cli::Status;
+use orca_io::{MemSink, NoGate};
 use query_generator::{GenShape, generate};
 use std::alloc::{AllocError, AllocGlobal, Global};
 use std::sync::Wait;
@@ -67,13 +68,34 @@ fn star_catalog(alloc: Global) -> Result<String, AllocError> {
     [sales, &columns, "]}", &tables, "]}"].concat(alloc)
 }
 
+// What so many workers print of the plan, the memo and the trace of a query over the star: five million bytes.
+fn star_printed_by<R: Threads + Wait + Sync + AllocGlobal>(
+    rt: &R,
+    workers: &str,
+    query: &[u8],
+) -> Result<String, Fail> {
+    let catalog = star_catalog(rt.alloc())?;
+    let words = [PLAN, " --memo --trace --workers ", workers].concat(rt.alloc())?;
+    let mut shelf = shelf_of(rt.alloc(), catalog.as_bytes(), query)?;
+    let mut sink = MemSink::with_room(rt.alloc(), 1 << 23)?;
+    let (status, _) = run_over(rt, &words, &mut shelf, &mut sink, &NoGate)?;
+    text_at(rt.alloc(), status, Status::Planned, &sink)
+}
+
+// The counts are worked out by hand: those of the star without groups, as `gen_tests` has them, and what is added here.
+// Groups: one for each of the two conditions, one of the partial groups, one of the groups: 135 + 4 = 139.
+// Logical members: two Selects, one Partial, an Agg over the join and one over the Partial: 1031 + 5 = 1036.
+// Physical members: two Filters, one PartialAgg, two for each Agg: 2696 + 7. With the logical ones they are 3739.
+// Rules: one that splits the Agg over the join, one for each of these seven members: 4160 + 8 = 4168.
 #[test]
 fn a_star_of_eight_tables_with_grouping(rt: HostRuntime) -> Result<(), Fail> {
-    let catalog = star_catalog(rt.alloc())?;
     let query =
         b"SELECT d1.a, COUNT(*) AS n FROM sales, d1, d2, d3, d4, d5, d6, d7 WHERE sales.f1 = d1.id AND sales.f2 = d2.id AND sales.f3 = d3.id AND sales.f4 = d4.id AND sales.f5 = d5.id AND sales.f6 = d6.id AND sales.f7 = d7.id AND d2.a = 5 AND d3.a < 10 GROUP BY d1.a ORDER BY n DESC, d1.a";
-    let memo = memo_of(&rt, catalog.as_bytes(), query)?;
-    assert!(rt; memo.starts_with("groups=139 members=3739\n"));
+    let alone = star_printed_by(&rt, "1", query)?;
+    assert!(rt; alone.contains("\nmemo groups=139 members=3739\n"));
+    assert!(rt; alone.contains(" exp=139 expe=1036 xf=4168 imp=139 impe=1036 opt="));
+    let crew = star_printed_by(&rt, "8", query)?;
+    assert!(rt; alone.as_str() == crew.as_str());
     Ok(())
 }
 
