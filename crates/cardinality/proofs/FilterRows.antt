@@ -4,7 +4,6 @@ use Rattle.std.proofs.Common.{length, refl, ap, ◌∙◌, arith, inl, inr, IsTr
 use Rattle.std.specs.Prelude.{nat_le, ◌==◌, slice_get, if◌then◌else◌}
 use Rattle.std.specs.List.{fold, list_all}
 use Rattle.std.specs.Option.{option_map_or}
-use Rattle.std.specs.Int.{div_ceil}
 use Rattle.std.proofs.lemmas.Bool.{cases_eq, eq-eqb, ne_eqb, le-leb, leb-true, and_parts}
 use Rattle.std.proofs.lemmas.Nat.Bits.{bit_at-pow_same, bit_at-pow_other}
 use Rattle.query_core.specs.Sets.{bit}
@@ -16,9 +15,9 @@ use Rattle.query_core.specs.declared.predicate.Pred.{Pred}
 use Rattle.query_core.specs.declared.predicate.Operand as operands
 use Rattle.query_core.specs.declared.predicate.Operand.{Operand}
 use Rattle.query_core.specs.declared.query.Query.{Query}
-use Rattle.cardinality.specs.Divisor.{divisor_of}
+use Rattle.cardinality.specs.Factor.{factor_of}
 use Rattle.cardinality.specs.Rows.{capped, table_rows, is_column_so_far, is_right_so_far, is_right_of, applies}
-use Rattle.cardinality.specs.Rows.{rows_after, rows_with, rows_upto, joined_rows, own_rows}
+use Rattle.cardinality.specs.Rows.{rows_after, rows_by, rows_with, rows_upto, joined_rows, own_rows}
 
 -- the set of one table has it
 one_has : (t : ℕ) → bit (2 ^ t) t ≡ 1
@@ -63,11 +62,11 @@ applies_own items t pred =
 
 folds_same : (items : List Item) (t rows : ℕ) (preds : List Pred)
     → fold (rows_after items (2 ^ t) t) rows preds ≡ fold
-    (λ rows pred. if is_own items t pred then div_ceil rows (divisor_of items pred) else rows) rows preds
+    (λ rows pred. if is_own items t pred then rows_by rows (factor_of items pred) else rows) rows preds
 folds_same items t rows [] = refl
 folds_same items t rows (pred ∷ preds) =
     rw (applies_own items t pred) (folds_same items t
-    (if is_own items t pred then div_ceil rows (divisor_of items pred) else rows) preds)
+    (if is_own items t pred then rows_by rows (factor_of items pred) else rows) preds)
 
 -- before its turn the table hasn't joined
 rows_before : (q : Query) (t k : ℕ) → k ≤ t → rows_upto q (2 ^ t) k ≡ 1
@@ -97,5 +96,5 @@ one_table q t there =
     omega (arith, rows_fit q.tables t q.tables_valid.rows_fit) in
     rows_since q t (length q.tables) there
     ∙ folds_same q.items t (capped (1 * table_rows q t)) q.preds
-    ∙ ap (λ rows. fold (λ rows pred. if is_own q.items t pred then div_ceil rows (divisor_of q.items pred) else rows)
+    ∙ ap (λ rows. fold (λ rows pred. if is_own q.items t pred then rows_by rows (factor_of q.items pred) else rows)
     rows q.preds) whole

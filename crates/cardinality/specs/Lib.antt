@@ -1,2 +1,2 @@
-pub mod Divisor
+pub mod Factor
 pub mod Rows

@@ -14,7 +14,8 @@ use Rattle.query_core.specs.declared.predicate.Operand.{Operand}
 use Rattle.query_core.specs.declared.query.Query.{Query}
 use Rattle.query_core.specs.declared.words.KeyParts.{KeyParts}
 use Rattle.query_core.specs.declared.words.KeyParts.TheVariants.{Get, Filter, Join, Partial, Agg}
-use Rattle.cardinality.specs.Divisor.{values_of, divisor_of}
+use Rattle.cardinality.specs.Factor.{values_of, factor_of}
+use Rattle.cardinality.specs.declared.factor.Factor.{Factor}
 
 -- no estimate is above 10^12
 abbrev pub capped : ℕ → ℕ
@@ -51,9 +52,13 @@ abbrev pub applies : List Item → ℕ → ℕ → Pred → Bool
 applies items set t pred = is_over items t pred && is_column_so_far items set t pred.left && is_right_so_far items set t
     pred.right
 
--- the rows that are left after a predicate, rounded up
+-- the rows that a factor leaves, rounded up
+abbrev pub rows_by : ℕ → Factor → ℕ
+rows_by rows factor = div_ceil (rows * factor.num) factor.den
+
+-- the rows that are left after a predicate
 abbrev pub rows_after : List Item → ℕ → ℕ → ℕ → Pred → ℕ
-rows_after items set t rows pred = if applies items set t pred then div_ceil rows (divisor_of items pred) else rows
+rows_after items set t rows pred = if applies items set t pred then rows_by rows (factor_of items pred) else rows
 
 -- the rows once the table has joined those before it: all pairs, and of these what each predicate in turn leaves
 abbrev pub rows_with : Query → ℕ → ℕ → ℕ → ℕ
@@ -107,5 +112,5 @@ rows_of q Agg = grouped_rows q
 
 -- what the own predicates of a table, one after the other, leave of its rows
 abbrev pub own_rows : Query → ℕ → ℕ
-own_rows q t = fold (λ rows pred. if is_own q.items t pred then div_ceil rows (divisor_of q.items pred) else rows)
+own_rows q t = fold (λ rows pred. if is_own q.items t pred then rows_by rows (factor_of q.items pred) else rows)
     (table_rows q t) q.preds

@@ -8,14 +8,14 @@ ghost use Rattle.query_core.specs.Keys.{IsKey, Names, IsGroup};
 ghost use Rattle.cardinality.specs.Rows.{own_rows, rows_of as rows_by, capped as cap_of};
 ghost use Rattle.cardinality.specs.Rows.{table_rows as rows_of_table, joined_rows as rows_joined};
 ghost use Rattle.cardinality.specs.Rows.{rows_next as rows_joined_next, rows_with as rows_joined_with};
-ghost use Rattle.cardinality.specs.Rows.{rows_after as rows_left, applies as applies_to};
+ghost use Rattle.cardinality.specs.Rows.{rows_after as rows_left, rows_by as rows_left_by, applies as applies_to};
 ghost use Rattle.cardinality.specs.Rows.{is_over as is_about, is_right_of as right_of};
 ghost use Rattle.cardinality.specs.Rows.{is_column_so_far as column_so_far};
 ghost use Rattle.cardinality.specs.Rows.{is_right_so_far as right_so_far};
 ghost use Rattle.cardinality.specs.Rows.{input_rows as rows_of_input, grouped_rows as rows_grouped};
 ghost use Rattle.cardinality.specs.Rows.{partial_rows as rows_partial, combinations as combinations_of};
 
-use crate::divisor::{divisor_of, values_of};
+use crate::factor::{Factor, factor_of, values_of};
 use query_core::{Item, Key, KeyParts, Operand, Pred, Query, sets};
 
 /// The most rows of any estimate.
@@ -133,10 +133,20 @@ fn rows_after(query: &Query, set: u32, table: u32, rows: u64, pred: &Pred) -> u6
     ensures fewer { result ≤ rows }
 {
     if applies(query, set, table, pred) {
-        rows.div_ceil(divisor_of(query.items.as_slice(), pred))
+        rows_by(rows, factor_of(query.items.as_slice(), pred))
     } else {
         rows
     }
+}
+
+/// The rows that a factor leaves, rounded up.
+fn rows_by(rows: u64, factor: Factor) -> u64
+    requires some { 1 ≤ factor.den }
+    requires share { factor.num ≤ factor.den }
+    ensures value { result ≡ rows_left_by rows factor }
+    ensures fewer { result ≤ rows }
+{
+    (rows as u128 * factor.num as u128).div_ceil(factor.den as u128) as u64
 }
 
 fn applies(query: &Query, set: u32, table: u32, pred: &Pred) -> bool

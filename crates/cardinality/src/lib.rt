@@ -1,7 +1,8 @@
 //! Estimates of how many rows a group of a query has.
 #![tactic(auto)]
 
-mod divisor;
 mod estimate;
+mod factor;
+mod histogram;
 
 pub use estimate::rows;

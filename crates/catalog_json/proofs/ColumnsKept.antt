@@ -1,5 +1,6 @@
 -- The columns of a table that is read keep the limits, and their names differ.
-use Rattle.std.proofs.Common.{◌≡◌, All, ℕ, ◌≤◌, true, List, [], ◌∷◌, ◌++◌, length, map, codes, Option, Ok, refl, subst}
+use Rattle.std.proofs.Common.{◌≡◌, All, ℕ, ◌≤◌, true, List, [], ◌∷◌, ◌++◌, length, map, codes, Option, None, Ok}
+use Rattle.std.proofs.Common.{refl, subst}
 use Rattle.std.specs.Str.{bytes_eq}
 use Rattle.std.specs.Cmp.Lexicographic.{nat_list_eq_equiv}
 use Rattle.std.proofs.lemmas.Bool.{leb-true, and_parts}
@@ -9,7 +10,7 @@ use Rattle.query_core.specs.declared.catalog.ColumnInfo.{ColumnInfo}
 use Rattle.serde_json.specs.Data.{Data}
 use Rattle.serde_json.specs.Find.{get}
 use Rattle.catalog_json.specs.declared.place.Place.TheVariants as places
-use Rattle.query_core.specs.Catalog.{trillion, within}
+use Rattle.query_core.specs.Histogram.{trillion, within}
 use Rattle.query_core.specs.Differ.{all_differ}
 use Rattle.query_core.specs.Catalog.{IsColumn}
 use Rattle.catalog_json.specs.Walk.{column_at, columns_at, list_at, new_name_at, number_at, object_at}
@@ -37,13 +38,14 @@ column_kept t before d column so_far e =
     let ndv = bind_ok (number_at 0 trillion (places.Ndv t at) (get (codes "ndv") object.0)) _ column name.2 in
     let new = new_name_kept (places.ColumnName t at) (map (λ c. c.name) before)
     (get (codes "name") object.0) name.0 name.1 in
-    let made : ColumnInfo = record { name = name.0; ndv = ndv.0 } in
+    let made : ColumnInfo = record { name = name.0; ndv = ndv.0; histogram = None } in
     subst (λ (c : ColumnInfo). AreColumns (before ++ c ∷ [])) {x = made} (ok_is made column ndv.2) (record {
       all_are = All-push IsColumn before made so_far.all_are
           (record {
             named = new.0;
             values = below trillion ndv.0
                 (number_kept 0 trillion (places.Ndv t at) (get (codes "ndv") object.0) ndv.0 ndv.1);
+            histogram = refl;
           });
       differ = rw (map_push (λ (c : ColumnInfo). c.name) before made)
           (differ_push bytes_eq nat_list_eq_equiv.symm (map (λ c. c.name) before) name.0 so_far.differ new.1);

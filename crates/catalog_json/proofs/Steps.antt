@@ -13,7 +13,8 @@ use Rattle.serde_json.specs.View.{view}
 use Rattle.serde_json.specs.declared.value.Value.{Value}
 use Rattle.catalog_json.specs.declared.place.Place.{Place}
 use Rattle.catalog_json.specs.declared.fault.Fault.TheVariants.{Shape, Range, Twice}
-use Rattle.query_core.specs.Catalog.{within, is_catalog_name}
+use Rattle.query_core.specs.Catalog.{is_catalog_name}
+use Rattle.query_core.specs.Histogram.{within}
 use Rattle.catalog_json.specs.Walk.{Gives, Reading, each, elements, in_limits, list_at, name_at, named, new_name_at}
 use Rattle.catalog_json.specs.Walk.{new_place, number_at, of_length, whole}
 

@@ -11,7 +11,7 @@ use Rattle.query_core.specs.declared.catalog.Catalog.{Catalog}
 use Rattle.serde_json.specs.Data.{Data}
 use Rattle.serde_json.specs.Find.{get}
 use Rattle.catalog_json.specs.declared.place.Place.TheVariants as places
-use Rattle.query_core.specs.Catalog.{trillion}
+use Rattle.query_core.specs.Histogram.{trillion}
 use Rattle.query_core.specs.Differ.{all_differ}
 use Rattle.query_core.specs.Catalog.{is_catalog_name, IsPlacing, IsTable, IsCatalog}
 use Rattle.catalog_json.specs.Walk.{catalog_at, columns_at, indexes_at, list_at, lists_at, named_table_at}

@@ -18,7 +18,8 @@ use Rattle.catalog_json.specs.declared.place.NameList.{NameList}
 use Rattle.catalog_json.specs.declared.place.NameList.TheVariants.{Distribution, Index}
 use Rattle.catalog_json.specs.declared.place.Place.{Place}
 use Rattle.catalog_json.specs.declared.place.Place.TheVariants as places
-use Rattle.query_core.specs.Catalog.{trillion, within, is_catalog_name}
+use Rattle.query_core.specs.Catalog.{is_catalog_name}
+use Rattle.query_core.specs.Histogram.{trillion, within}
 use Rattle.catalog_json.specs.Walk.{Reading, elements, in_limits, whole, number_at, named, name_at, new_name_at}
 use Rattle.catalog_json.specs.Walk.{of_length, list_at, object_at, column_at, columns_at, new_place, listed_at}
 use Rattle.catalog_json.specs.Walk.{places_at, placing_by, index_at, indexes_at, lists_at, named_table_at, table_at}

@@ -13,7 +13,8 @@ use Rattle.query_core.specs.declared.catalog.TableInfo.{TableInfo}
 use Rattle.query_core.specs.declared.catalog.Catalog.{Catalog}
 use Rattle.serde_json.specs.Data.{Data, Items, no_items, item}
 use Rattle.serde_json.specs.Find.{get, as_number, as_u64, as_str, as_array, as_object}
-use Rattle.query_core.specs.Catalog.{trillion, within, is_catalog_name}
+use Rattle.query_core.specs.Catalog.{is_catalog_name}
+use Rattle.query_core.specs.Histogram.{trillion, within}
 use Rattle.catalog_json.specs.declared.place.NameList.{NameList}
 use Rattle.catalog_json.specs.declared.place.NameList.TheVariants.{Distribution, Index}
 use Rattle.catalog_json.specs.declared.place.Place.{Place}
@@ -85,7 +86,7 @@ column_at t before d = do
   object ← object_at (places.Column t (length before)) d
   name ← new_name_at (places.ColumnName t (length before)) (map (λ c. c.name) before) (get (codes "name") object)
   ndv ← number_at 0 trillion (places.Ndv t (length before)) (get (codes "ndv") object)
-  Ok (record { name = name; ndv = ndv })
+  Ok (record { name = name; ndv = ndv; histogram = None })
 
 -- the columns of table t
 unfoldable pub columns_at : ℕ → Option Data → Reading (List ColumnInfo)

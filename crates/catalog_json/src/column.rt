@@ -92,7 +92,11 @@ impl Columns {
         let mut list = List::of(Vec::with_capacity(alloc, self.ndvs.len())?);
         for (name, ndv) in self.ndvs {
             let name = Text::of(name);
-            list.push(ColumnInfo { name, ndv })?;
+            list.push(ColumnInfo {
+                name,
+                ndv,
+                histogram: None,
+            })?;
         }
         Ok(list)
     }

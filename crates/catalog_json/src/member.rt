@@ -2,7 +2,8 @@
 ghost use Rattle.std.specs.Prelude.{◌≡◌, ◌≤◌, length, IfOk, option_map, option_and_then, map, string_bytes};
 ghost use Rattle.serde_json.specs.Find.{as_array, as_str};
 ghost use Rattle.serde_json.specs.View.{view};
-ghost use Rattle.query_core.specs.Catalog.{is_catalog_name, within};
+ghost use Rattle.query_core.specs.Catalog.{is_catalog_name};
+ghost use Rattle.query_core.specs.Histogram.{within};
 ghost use Rattle.catalog_json.specs.Walk.{elements, seen};
 ghost use Rattle.catalog_json.specs.Walk as spec;
 

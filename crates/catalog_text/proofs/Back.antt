@@ -1,5 +1,5 @@
 -- The text of a catalogue says the catalogue.
-use Rattle.std.proofs.Common.{◌≡◌, ℕ, ◌^◌, ◌<◌, ◌≤◌, List, [], ◌∷◌, map, length, Ok}
+use Rattle.std.proofs.Common.{◌≡◌, ℕ, ◌^◌, ◌<◌, ◌≤◌, true, List, [], ◌∷◌, map, length, Ok}
 use Rattle.std.proofs.Common.{option_and_then, nat_le, IsUtf8, refl, sym, ap, ◌∙◌, arith}
 use Rattle.std.proofs.Common.{append-nil}
 use Rattle.std.proofs.lemmas.Bool.{leb-true, le-ltb, and_parts}
@@ -13,13 +13,13 @@ use Rattle.json.proofs.Printed.Trees.{value-json_tokens}
 use Rattle.serde_json.specs.Read.{of_json, read, max_depth}
 use Rattle.query_core.specs.declared.catalog.ColumnInfo.{ColumnInfo}
 use Rattle.query_core.specs.declared.catalog.Placing.{Placing}
-use Rattle.query_core.specs.declared.catalog.Placing.TheVariants.{Hashed, Random}
+use Rattle.query_core.specs.declared.catalog.Placing.TheVariants.{Hashed, Random, Replicated}
 use Rattle.query_core.specs.declared.catalog.TableInfo.{TableInfo}
 use Rattle.query_core.specs.declared.catalog.Catalog.{Catalog}
 use Rattle.query_core.specs.Catalog.{IsCatalog}
 use Rattle.catalog_json.specs.Outcome.{most_bytes, reading_of}
 use Rattle.catalog_text.specs.Text.{items_of, name_at, column_json, places_json, placing_json}
-use Rattle.catalog_text.specs.Text.{indexes_member, table_json, catalog_json}
+use Rattle.catalog_text.specs.Text.{indexes_member, table_json, catalog_json, is_plain}
 use Rattle.catalog_text.proofs.Values.{catalog_value}
 use Rattle.catalog_text.proofs.Walk.{catalog_read}
 
@@ -39,6 +39,7 @@ places_within columns places = omega (
 placing_within : (columns : List ColumnInfo) (placing : Placing) → depth (placing_json columns placing) ≤ 1
 placing_within columns (Hashed places) = places_within columns places
 placing_within columns Random = omega arith
+placing_within columns Replicated = omega arith
 
 indexes_within : (columns : List ColumnInfo) (indexes : List (List ℕ))
     → members_depth (indexes_member columns indexes) ≤ 2
@@ -67,12 +68,12 @@ value_read text j e within =
     ∙ ap (λ p. option_and_then of_json (option_and_then (λ q. if_last q.0 q.1) p))
     (value-json_tokens j max_depth [] within)
 
-pub read_back : (text : List ℕ) (c : Catalog) → IsCatalog c → tokens text ≡ json_tokens (catalog_json c) → IsUtf8 text
-    → length text ≤ most_bytes → reading_of text ≡ Ok c
+pub read_back : (text : List ℕ) (c : Catalog) → IsCatalog c → is_plain c ≡ true → tokens text ≡ json_tokens (catalog_json c)
+    → IsUtf8 text → length text ≤ most_bytes → reading_of text ≡ Ok c
 unfolding reading_of
-read_back text c h e utf8 short =
+read_back text c h plain e utf8 short =
     let few : c.segments < 2 ^ 64 = let most : c.segments ≤ 1000 =
     leb-true c.segments 1000 (and_parts (nat_le 1 c.segments) (nat_le c.segments 1000) h.segment_count).1 in
     omega arith in
     let value = value_read text (catalog_json c) e (catalog_within c) ∙ catalog_value c h few in
-    rw (le-ltb most_bytes (length text) short, is_utf8-from_IsUtf8 text utf8, value, catalog_read c h) refl
+    rw (le-ltb most_bytes (length text) short, is_utf8-from_IsUtf8 text utf8, value, catalog_read c h plain) refl

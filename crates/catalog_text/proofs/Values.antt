@@ -1,6 +1,6 @@
 -- The value that the JSON of a catalogue is read as.
-use Rattle.std.proofs.Common.{◌≡◌, ℕ, suc, ◌^◌, ◌<◌, List, [], ◌∷◌, map, codes, Some, option_map, refl}
-use Rattle.std.proofs.Common.{ap, arith}
+use Rattle.std.proofs.Common.{◌≡◌, ℕ, suc, ◌^◌, ◌<◌, List, [], ◌∷◌, map, codes, get_or, Some, option_map}
+use Rattle.std.proofs.Common.{refl, ap, arith}
 use Rattle.std.specs.List.{All}
 use Rattle.json.specs.Json as json
 use Rattle.serde_json.specs.Data.{Data, string, number, unsigned, array, object, Members, no_members, put}
@@ -9,7 +9,7 @@ use Rattle.serde_json.specs.View.{items_of as data_items}
 use Rattle.serde_json.proofs.Numbers.{number_of-decimal}
 use Rattle.query_core.specs.declared.catalog.ColumnInfo.{ColumnInfo}
 use Rattle.query_core.specs.declared.catalog.Placing.{Placing}
-use Rattle.query_core.specs.declared.catalog.Placing.TheVariants.{Hashed, Random}
+use Rattle.query_core.specs.declared.catalog.Placing.TheVariants.{Hashed, Random, Replicated}
 use Rattle.query_core.specs.declared.catalog.TableInfo.{TableInfo}
 use Rattle.query_core.specs.declared.catalog.Catalog.{Catalog}
 use Rattle.query_core.specs.Catalog.{IsTable, IsCatalog}
@@ -52,11 +52,13 @@ places_value columns places = list_value (λ place. json.string (name_at columns
 abbrev pub placing_data : List ColumnInfo → Placing → Data
 placing_data columns (Hashed places) = places_data columns places
 placing_data columns Random = string (codes "random")
+placing_data columns Replicated = string (codes "replicated")
 
 placing_value : (columns : List ColumnInfo) (placing : Placing)
     → of_json (placing_json columns placing) ≡ Some (placing_data columns placing)
 placing_value columns (Hashed places) = places_value columns places
 placing_value columns Random = refl
+placing_value columns Replicated = refl
 
 -- the members before, and the indexes where there are some
 abbrev pub with_indexes : List ColumnInfo → List (List ℕ) → Members → Members
@@ -85,7 +87,7 @@ table_data t = object (with_indexes t.columns t.indexes (table_members t))
 table_value : (t : TableInfo) → IsTable t → of_json (table_json t) ≡ Some (table_data t)
 table_value t h =
     let columns = list_value column_json column_data t.columns
-    (λ k d l. column_value _ (let most = (h.each_column k d l).values in omega arith)) in
+    (λ k d l. column_value (get_or t.columns k d) (let most = (h.each_column k d l).values in omega arith)) in
     let fits : t.rows < 2 ^ 64 = let most = h.counted in omega arith in
     rw (
       number_of-decimal t.rows fits,

@@ -3,4 +3,4 @@
 
 mod text;
 
-pub use text::write_catalog;
+pub use text::{is_plain, write_catalog};

@@ -1,12 +1,12 @@
 //! The text of a catalogue, a token at a time.
-ghost use Rattle.std.specs.Prelude.{◌≡◌, ◌<◌, ◌≤◌, [], ◌∷◌, ◌++◌, Ok, OnOk, IfOk, length, nat_lt, IsTrue};
+ghost use Rattle.std.specs.Prelude.{◌≡◌, ◌<◌, ◌≤◌, [], ◌∷◌, ◌++◌, Ok, OnOk, IfOk, length, nat_lt, not, is_some, IsTrue};
 ghost use Rattle.std.specs.List.{All, flat_map, list_all};
 ghost use Rattle.json.specs.Json.{string};
 ghost use Rattle.json.specs.Tree.{json_tokens, members_tokens};
 ghost use Rattle.query_core.specs.Catalog.{IsCatalog, IsColumnList, IsPlacing, IsTable};
 ghost use Rattle.catalog_json.specs.Outcome.{most_bytes, reading_of};
 ghost use Rattle.catalog_text.specs.Adds.{Adds};
-ghost use Rattle.catalog_text.specs.Text.{catalog_json, catalog_text, column_json, indexes_member, list_json, name_at, places_json, placing_json, table_json};
+ghost use Rattle.catalog_text.specs.Text.{catalog_json, catalog_text, column_json, is_plain as has_plain_tables, is_plain_placing as plain_placing, is_plain_table as plain_table, indexes_member, list_json, name_at, places_json, placing_json, table_json};
 
 use json::Writer;
 use orca_base::List;
@@ -87,6 +87,7 @@ fn write_placing(
     match placing {
         Placing::Hashed(places) => write_places(out, columns, places.as_slice()),
         Placing::Random => out.string("random"),
+        Placing::Replicated => out.string("replicated"),
     }
 }
 
@@ -188,10 +189,44 @@ fn write_value(out: &mut Writer, catalog: &Catalog) -> Result<(), AllocError>
     out.end_object()
 }
 
+fn is_plain_placing(placing: &Placing) -> bool
+    ensures { result ≡ plain_placing placing.now }
+{
+    match placing {
+        Placing::Hashed(_) => true,
+        Placing::Random => true,
+        Placing::Replicated => false,
+    }
+}
+
+fn have_no_histogram(columns: &[ColumnInfo]) -> bool
+    ensures { result ≡ list_all (λ column. not (is_some column.histogram)) columns.now }
+{
+    columns.iter().all(|column| !column.histogram.is_some())
+}
+
+fn is_plain_table(table: &TableInfo) -> bool
+    ensures { result ≡ plain_table table.now }
+{
+    is_plain_placing(&table.placing) && have_no_histogram(table.columns.as_slice())
+}
+
+/// Whether the text has a member for all that the catalogue says, as for each one that was read.
+pub fn is_plain(catalog: &Catalog) -> bool
+    ensures { result ≡ has_plain_tables catalog.now }
+{
+    catalog
+        .tables
+        .as_slice()
+        .iter()
+        .all(|table| is_plain_table(table))
+}
+
 /// Writes a catalogue as JSON without spaces. A text over 1,048,576 bytes is written too, though it is
 /// too long to be read.
 pub fn write_catalog(alloc: Global, catalog: &Catalog) -> Result<Vec<u8>, AllocError>
-    requires { IsCatalog catalog.now }
+    requires kept { IsCatalog catalog.now }
+    requires plain { IsTrue (has_plain_tables catalog.now) }
     ensures text { IfOk result (λ text. text.items ≡ catalog_text catalog.now) }
     ensures reads_back { IfOk result
         (λ text. length text.items ≤ most_bytes → reading_of text.items ≡ Ok catalog.now) }

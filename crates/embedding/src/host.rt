@@ -56,6 +56,7 @@ fn push_column(
     infos.push(ColumnInfo {
         name: text(alloc, name)?,
         ndv,
+        histogram: None,
     })
 }
 

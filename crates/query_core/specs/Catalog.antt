@@ -3,28 +3,22 @@ use Rattle.std.specs.Prelude.{ℕ, Bool, ◌≤◌, ◌==◌, ◌&&◌, List, Al
 use Rattle.std.specs.List.{list_all}
 use Rattle.orca_base.specs.Name.{has_name_form}
 use Rattle.query_core.specs.Differ.{all_differ, texts_differ}
+use Rattle.query_core.specs.Histogram.{trillion, within, may_be_histogram}
 use Rattle.query_core.specs.declared.catalog.ColumnInfo.{ColumnInfo}
 use Rattle.query_core.specs.declared.catalog.Placing.{Placing}
-use Rattle.query_core.specs.declared.catalog.Placing.TheVariants.{Hashed, Random}
+use Rattle.query_core.specs.declared.catalog.Placing.TheVariants.{Hashed, Random, Replicated}
 use Rattle.query_core.specs.declared.catalog.TableInfo.{TableInfo}
 use Rattle.query_core.specs.declared.catalog.Catalog.{Catalog}
-
--- 10^12, the limit of rows and of distinct values
-abbrev pub trillion : ℕ
-trillion = 1000000000000
-
--- n is from least to most
-abbrev pub within : ℕ → ℕ → ℕ → Bool
-within least most n = nat_le least n && nat_le n most
 
 -- the form of a name, in at most 64 bytes
 abbrev pub is_catalog_name : List ℕ → Bool
 is_catalog_name text = has_name_form text && nat_le (length text) 64
 
--- a column has a name, and at most a trillion distinct values
+-- a column has a name, at most a trillion distinct values, and a histogram only within its limits
 pub record IsColumn (column : ColumnInfo) : Type 0 where
   pub named : IsTrue (is_catalog_name column.name)
   pub values : column.ndv ≤ trillion
+  pub histogram : IsTrue (may_be_histogram column.histogram)
 
 -- 1 to 8 places of columns, among this many columns, and none twice
 pub record IsColumnList (columns : ℕ) (places : List ℕ) : Type 0 where
@@ -32,10 +26,11 @@ pub record IsColumnList (columns : ℕ) (places : List ℕ) : Type 0 where
   pub known : IsTrue (list_all (λ p. nat_lt p columns) places)
   pub differ : IsTrue (all_differ (λ p q. q == p) places)
 
--- rows are hashed on a list of columns, or lie anywhere
+-- rows are hashed on a list of columns, or lie anywhere, or all of them lie on each segment
 abbrev pub IsPlacing : ℕ → Placing → Type 0
 IsPlacing columns (Hashed places) = IsColumnList columns places
 IsPlacing columns Random = ⊤
+IsPlacing columns Replicated = ⊤
 
 -- a table has a name, 1 to 1000 columns of different names, and lists of these columns
 pub record IsTable (table : TableInfo) : Type 0 where

@@ -5,6 +5,7 @@ use Rattle.std.specs.List.{list_all, enumerate_from}
 use Rattle.std.specs.Option.{option_map_or}
 use Rattle.orca_base.specs.Name.{has_name_form}
 use Rattle.query_core.specs.Differ.{all_differ, numbers_differ}
+use Rattle.query_core.specs.Histogram.{may_be_histogram}
 use Rattle.query_core.specs.declared.table.Item.{Item}
 use Rattle.query_core.specs.declared.table.QueryTable.{QueryTable}
 
@@ -28,10 +29,12 @@ has_own_lists items place table =
     nat_le (length table.indexes) 16 && list_all (is_column_list items place) (option_to_list table.hashed) && list_all
     (is_column_list items place) table.indexes
 
--- each item is a column of one of the tables, named as columns are, with at most 10^12 distinct values
+-- each item is a column of one of the tables, named as columns are, with at most 10^12 distinct values and a histogram
+-- only within its limits
 pub record AreItems (tables : List QueryTable) (items : List Item) : Type 0 where
   pub placed : IsTrue (list_all (λ item. nat_lt item.table (length tables)) items)
   pub named : IsTrue (list_all (λ item. has_name_form item.name) items)
   pub apart : IsTrue (all_differ same_column items)
   pub values_fit : IsTrue (list_all (λ item. nat_le item.ndv 1000000000000) items)
+  pub histograms : IsTrue (list_all (λ item. may_be_histogram item.histogram) items)
   pub lists : IsTrue (list_all (λ t. has_own_lists items t.0 t.1) (enumerate_from 0 tables))

@@ -1,4 +1,5 @@
 pub mod Differ
+pub mod Histogram
 pub mod Catalog
 pub mod Tables
 pub mod Items

@@ -2,8 +2,10 @@ ghost use Rattle.std.specs.Prelude.{◌≡◌, ◌≤◌, ◌==◌, ◌↔◌, I
 ghost use Rattle.std.specs.List.{list_all, list_any};
 ghost use Rattle.std.specs.Str.{bytes_eq};
 ghost use Rattle.query_core.specs.Differ.{all_differ, texts_differ};
-ghost use Rattle.query_core.specs.Catalog.{within, is_catalog_name as is_short_name, IsColumn, IsColumnList, IsPlacing, IsTable, IsCatalog};
+ghost use Rattle.query_core.specs.Histogram.{may_be_histogram};
+ghost use Rattle.query_core.specs.Catalog.{is_catalog_name as is_short_name, IsColumn, IsColumnList, IsPlacing, IsTable, IsCatalog};
 
+use crate::histogram::{Histogram, is_within};
 use orca_base::{List, Text, is_name};
 
 /// A column of a catalogue's table.
@@ -12,6 +14,8 @@ pub struct ColumnInfo {
     pub name: Text,
     /// How many distinct values it has: 0 to 10^12.
     pub ndv: u64,
+    /// Which of its rows have which numbers, where that is known.
+    pub histogram: Option<Histogram>,
 }
 
 /// Where the rows of a catalogue's table lie.
@@ -21,6 +25,8 @@ pub enum Placing {
     Hashed(List<u32>),
     /// On any segment.
     Random,
+    /// All of them on each segment.
+    Replicated,
 }
 
 /// A table of a catalogue.
@@ -56,12 +62,6 @@ impl Catalog {
     }
 }
 
-fn is_within(least: u64, most: u64, n: u64) -> bool
-    ensures { result ≡ within least most n }
-{
-    least <= n && n <= most
-}
-
 fn is_catalog_name(text: &Text) -> bool
     ensures { result ≡ is_short_name text.now }
 {
@@ -71,7 +71,18 @@ fn is_catalog_name(text: &Text) -> bool
 fn is_column(column: &ColumnInfo) -> bool
     ensures { IsTrue result ↔ IsColumn column.now }
 {
-    is_catalog_name(&column.name) && column.ndv <= 1_000_000_000_000
+    is_catalog_name(&column.name)
+        && column.ndv <= 1_000_000_000_000
+        && keeps_histogram_limits(&column.histogram)
+}
+
+fn keeps_histogram_limits(histogram: &Option<Histogram>) -> bool
+    ensures { result ≡ may_be_histogram histogram.now }
+{
+    match histogram {
+        Some(histogram) => histogram.keeps_limits(),
+        None => true,
+    }
 }
 
 fn are_columns(columns: &[ColumnInfo]) -> bool
@@ -138,6 +149,7 @@ fn is_placing(columns: usize, placing: &Placing) -> bool
     match placing {
         Placing::Hashed(places) => is_column_list(columns, places.as_slice()),
         Placing::Random => true,
+        Placing::Replicated => true,
     }
 }
 

@@ -1,3 +1,4 @@
+use crate::histogram::Histogram;
 use orca_base::{List, Text};
 
 /// A column that a query uses.
@@ -8,6 +9,8 @@ pub struct Item {
     pub name: Text,
     /// How many distinct values it has: 0 to 10^12.
     pub ndv: u64,
+    /// Which rows of its table have which of its numbers, where that is known.
+    pub histogram: Option<Histogram>,
 }
 
 /// A table of a query, under its alias.
@@ -18,6 +21,8 @@ pub struct QueryTable {
     pub rows: u64,
     /// The items by whose hash its rows are placed, where they are.
     pub hashed: Option<List<u32>>,
+    /// Whether all its rows lie on each segment.
+    pub replicated: bool,
     /// The items of each index.
     pub indexes: List<List<u32>>,
 }

@@ -2,11 +2,13 @@
 use Rattle.std.proofs.Common.{◌≡◌, ℕ, zero, suc, ◌+◌, ◌*◌, ◌%◌, ◌==◌, ◌<◌, ◌≤◌, Bool, true, false, cond, [], ◌∷◌, map}
 use Rattle.std.proofs.Common.{length, refl, arith}
 use Rattle.std.specs.Fmt.{digits}
-use Rattle.std.specs.List.{All, range_with_len}
+use Rattle.std.specs.List.{All, list_all, range_with_len}
 use Rattle.std.proofs.lemmas.List.FromFn.{length-map-range_with_len}
 use Rattle.query_core.specs.declared.catalog.Placing.TheVariants.{Hashed, Random}
-use Rattle.query_core.specs.Catalog.{trillion, is_catalog_name, IsColumn, IsPlacing, IsTable, IsCatalog}
+use Rattle.query_core.specs.Catalog.{is_catalog_name, IsColumn, IsPlacing, IsTable, IsCatalog}
+use Rattle.query_core.specs.Histogram.{trillion}
 use Rattle.query_core.specs.Differ.{texts_differ}
+use Rattle.catalog_text.specs.Text.{is_plain, is_plain_placing, is_plain_table}
 use Rattle.query_generator.specs.Draws.{draw}
 use Rattle.query_generator.specs.Catalog.{table_name, columns_with, table_with, table_of, catalog_of}
 use Rattle.query_generator.proofs.Throughout.{in_range}
@@ -21,8 +23,8 @@ unfolding digits
 name_kept i h = in_range (λ i. is_catalog_name (table_name i)) 0 8 i refl (omega arith) (omega arith)
 
 column_kept : (rows values : ℕ) → rows ≤ trillion → values ≤ trillion → All IsColumn (columns_with rows values)
-column_kept rows values few fewer zero d h = record { named = refl; values = few }
-column_kept rows values few fewer (suc zero) d h = record { named = refl; values = fewer }
+column_kept rows values few fewer zero d h = record { named = refl; values = few; histogram = refl }
+column_kept rows values few fewer (suc zero) d h = record { named = refl; values = fewer; histogram = refl }
 column_kept rows values few fewer (suc (suc k)) d h = absurd (omega arith)
 
 placing_kept : (even : Bool) → IsPlacing 2 (cond even (Hashed (0 ∷ [])) Random)
@@ -56,6 +58,21 @@ names_differ number n h = in_range (λ n. texts_differ (map (λ t. t.name) (map 
 
 table_count : (number n : ℕ) → n ≤ 8 → length (map (table_of number) (range_with_len 0 n)) ≤ 1000
 table_count number n h = rw (length-map-range_with_len (table_of number) 0 n) (omega arith)
+
+-- a table's placing is by a hash or random
+plain_placing : (even : Bool) → is_plain_placing (cond even (Hashed (0 ∷ [])) Random) ≡ true
+plain_placing true = refl
+plain_placing false = refl
+
+plain_table : (number i : ℕ) → is_plain_table (table_of number i) ≡ true
+plain_table number i = rw (plain_placing (i % 2 == 0)) refl
+
+plain_tables : (number a n : ℕ) → list_all is_plain_table (map (table_of number) (range_with_len a n)) ≡ true
+plain_tables number a zero = refl
+plain_tables number a (suc n) = rw (plain_table number a) (plain_tables number (a + 1) n)
+
+pub catalog_plain : (number tables : ℕ) → is_plain (catalog_of number tables) ≡ true
+catalog_plain number tables = plain_tables number 0 tables
 
 pub catalog_kept : (number tables : ℕ) → tables ≤ 8 → IsCatalog (catalog_of number tables)
 catalog_kept number tables h = record {

@@ -1,5 +1,6 @@
 -- The catalogue of a number.
-use Rattle.std.specs.Prelude.{ℕ, ◌+◌, ◌*◌, ◌%◌, ◌==◌, List, [], ◌∷◌, ◌++◌, map, codes, decimal, if◌then◌else◌}
+use Rattle.std.specs.Prelude.{ℕ, ◌+◌, ◌*◌, ◌%◌, ◌==◌, List, [], ◌∷◌, ◌++◌, None, map, codes, decimal}
+use Rattle.std.specs.Prelude.{if◌then◌else◌}
 use Rattle.std.specs.List.{range_with_len}
 use Rattle.query_core.specs.declared.catalog.ColumnInfo.{ColumnInfo}
 use Rattle.query_core.specs.declared.catalog.Placing.{Placing}
@@ -18,7 +19,8 @@ placing_of i = if i % 2 == 0 then Hashed (0 ∷ []) else Random
 
 -- the columns: an `id` for each row, and `f` with so many values
 abbrev pub columns_with : ℕ → ℕ → List ColumnInfo
-columns_with rows values = record { name = codes "id"; ndv = rows } ∷ record { name = codes "f"; ndv = values } ∷ []
+columns_with rows values = record { name = codes "id"; ndv = rows; histogram = None } ∷ record
+    { name = codes "f"; ndv = values; histogram = None } ∷ []
 
 -- table i, of so many rows, with so many values of `f`
 abbrev pub table_with : ℕ → ℕ → ℕ → TableInfo

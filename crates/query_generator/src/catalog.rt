@@ -39,10 +39,12 @@ fn columns_with(alloc: Global, rows: u64, values: u64) -> Result<List<ColumnInfo
     columns.push(ColumnInfo {
         name: text_of(alloc, "id")?,
         ndv: rows,
+        histogram: None,
     })?;
     columns.push(ColumnInfo {
         name: text_of(alloc, "f")?,
         ndv: values,
+        histogram: None,
     })?;
     Ok(columns)
 }

@@ -19,7 +19,11 @@ fn push_columns(
 ) -> Result<(), AllocError> {
     for name in names.split(' ') {
         let name = Text::of(String::from_str(alloc, name)?);
-        columns.push(ColumnInfo { name, ndv: 10 })?;
+        columns.push(ColumnInfo {
+            name,
+            ndv: 10,
+            histogram: None,
+        })?;
     }
     Ok(())
 }

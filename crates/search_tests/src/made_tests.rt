@@ -20,6 +20,7 @@ fn one_table(alloc: Global) -> Result<Query, AllocError> {
         alias,
         rows: 1000,
         hashed: None,
+        replicated: false,
         indexes: List::new(alloc),
     };
     let tables = List::of(vec![in alloc; table]?);
@@ -27,6 +28,7 @@ fn one_table(alloc: Global) -> Result<Query, AllocError> {
         table: 0,
         name,
         ndv: 10,
+        histogram: None,
     };
     let items = List::of(vec![in alloc; item]?);
     let shown = OutItem {

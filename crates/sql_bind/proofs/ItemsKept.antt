@@ -11,6 +11,7 @@ use Rattle.std.proofs.lemmas.List.Elements.{recursion_from_All}
 use Rattle.std.proofs.lemmas.Bool.{and_from, and_parts, not-true, or_parts}
 use Rattle.sql_bind.proofs.Truths.{all_both}
 use Rattle.query_core.specs.Differ.{all_differ}
+use Rattle.query_core.specs.Histogram.{may_be_histogram}
 use Rattle.query_core.specs.Items.{same_column}
 use Rattle.query_core.specs.declared.catalog.ColumnInfo.{ColumnInfo}
 use Rattle.query_core.specs.declared.table.Item.{Item}
@@ -74,6 +75,12 @@ values_of_columns (info ∷ infos) all = and_from (nat_le info.ndv 1000000000000
     (list_all (λ i. nat_le i.ndv 1000000000000) infos) (at_most info.ndv 1000000000000 all.0.values)
     (values_of_columns infos all.1)
 
+histograms_of_columns : (infos : List ColumnInfo) → AllByRecursion IsColumn infos
+    → list_all (λ info. may_be_histogram info.histogram) infos ≡ true
+histograms_of_columns [] all = refl
+histograms_of_columns (info ∷ infos) all = and_from (may_be_histogram info.histogram)
+    (list_all (λ i. may_be_histogram i.histogram) infos) all.0.histogram (histograms_of_columns infos all.1)
+
 -- a test that doesn't look at the column
 pub constantly : (b : Bool) (infos : List ColumnInfo) → b ≡ true → list_all (λ info. b) infos ≡ true
 constantly b [] e = refl
@@ -91,6 +98,11 @@ module _ (wanted : List Column) (scope : List FromTable) (from : AllByRecursion 
   pub all_fit : list_all (λ u. nat_le u.info.ndv 1000000000000) (used_from wanted 0 scope) ≡ true
   all_fit = each_used wanted (λ u. nat_le u.info.ndv 1000000000000) 0 scope IsFromCatalogue
       (λ table p t low high is. values_of_columns t.info.columns
+      (recursion_from_All IsColumn t.info.columns is.each_column)) from
+
+  pub all_counted : list_all (λ u. may_be_histogram u.info.histogram) (used_from wanted 0 scope) ≡ true
+  all_counted = each_used wanted (λ u. may_be_histogram u.info.histogram) 0 scope IsFromCatalogue
+      (λ table p t low high is. histograms_of_columns t.info.columns
       (recursion_from_All IsColumn t.info.columns is.each_column)) from
 
   pub all_placed : list_all (λ u. nat_lt u.which.table (length scope)) (used_from wanted 0 scope) ≡ true

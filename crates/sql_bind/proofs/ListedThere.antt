@@ -6,7 +6,7 @@ use Rattle.std.proofs.lemmas.Bool.{eqb-true, eq-eqb, and_from, and_parts, or_cas
 use Rattle.std.proofs.lemmas.List.Elements.{recursion_from_All}
 use Rattle.sql_bind.proofs.Truths.{all_both}
 use Rattle.query_core.specs.declared.catalog.Placing.{Placing}
-use Rattle.query_core.specs.declared.catalog.Placing.TheVariants.{Hashed, Random}
+use Rattle.query_core.specs.declared.catalog.Placing.TheVariants.{Hashed, Random, Replicated}
 use Rattle.query_core.specs.Catalog.{IsColumnList, IsPlacing, IsTable}
 use Rattle.sql_bind.specs.declared.columns.Column.{Column}
 use Rattle.sql_bind.specs.Scope.{FromTable}
@@ -36,6 +36,7 @@ known_placed : (table n p : ℕ) (placing : Placing) → is_among (placed_by tab
     → IsPlacing n placing → nat_lt p n ≡ true
 known_placed table n p (Hashed places) among kept = known_place table n p places among kept.known
 known_placed table n p Random among kept = absurd cc
+known_placed table n p Replicated among kept = absurd cc
 
 known_indexed : (table n p : ℕ) (indexes : List (List ℕ)) → is_among (indexed_by table indexes) (column table p) ≡ true
     → AllByRecursion (IsColumnList n) indexes → nat_lt p n ≡ true
@@ -65,6 +66,7 @@ own_place table (p ∷ ps) = and_from (table == table) (list_all (λ c. c.table 
 own_placed : (table : ℕ) (placing : Placing) → list_all (λ c. c.table == table) (placed_by table placing) ≡ true
 own_placed table (Hashed places) = own_place table places
 own_placed table Random = refl
+own_placed table Replicated = refl
 
 own_indexed : (table : ℕ) (indexes : List (List ℕ)) → list_all (λ c. c.table == table) (indexed_by table indexes) ≡ true
 own_indexed table [] = refl

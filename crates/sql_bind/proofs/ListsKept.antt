@@ -6,9 +6,10 @@ use Rattle.std.proofs.lemmas.List.{length-map}
 use Rattle.std.proofs.lemmas.Bool.{eqb-true, eq-eqb, and_from, and_parts, not-true, or_parts}
 use Rattle.std.proofs.lemmas.List.Elements.{recursion_from_All}
 use Rattle.query_core.specs.Differ.{all_differ, numbers_differ}
+use Rattle.query_core.specs.Histogram.{may_be_histogram}
 use Rattle.query_core.specs.Items.{AreItems, has_own_lists, is_column_list, is_column_of}
 use Rattle.query_core.specs.declared.catalog.Placing.{Placing}
-use Rattle.query_core.specs.declared.catalog.Placing.TheVariants.{Hashed, Random}
+use Rattle.query_core.specs.declared.catalog.Placing.TheVariants.{Hashed, Random, Replicated}
 use Rattle.query_core.specs.Catalog.{IsColumnList, IsPlacing, IsTable}
 use Rattle.sql_bind.specs.declared.columns.Column.{Column}
 use Rattle.sql_bind.specs.Scope.{FromTable}
@@ -20,7 +21,7 @@ use Rattle.sql_bind.proofs.Resolving.{has_column, here, later}
 use Rattle.sql_bind.proofs.Found.{IsAt, found_from, of_table, one_number}
 use Rattle.orca_base.specs.Name.{has_name_form}
 use Rattle.sql_bind.proofs.ScopeKept.{as_many, at_most}
-use Rattle.sql_bind.proofs.ItemsKept.{IsFromCatalogue, all_apart, all_fit, all_map, all_named, all_placed}
+use Rattle.sql_bind.proofs.ItemsKept.{IsFromCatalogue, all_apart, all_counted, all_fit, all_map, all_named, all_placed}
 use Rattle.sql_bind.proofs.Among.{among_first, among_later, among_left, among_right}
 use Rattle.sql_bind.proofs.ListedThere.{known_own}
 
@@ -97,6 +98,7 @@ module _ (used : List UsedColumn) (table : ℕ) where
       and_from (is_column_list (items_of used) table (numbers_of used table places)) true
       (list_kept columns places kept at) refl
   placing_kept columns Random kept at = refl
+  placing_kept columns Replicated kept at = refl
 
   indexes_kept : (columns : ℕ) (indexes : List (List ℕ)) → AllByRecursion (IsColumnList columns) indexes
       → AreFound (indexed_by table indexes) → list_all (is_column_list (items_of used) table)
@@ -161,6 +163,7 @@ are_items wanted scope from listed =
       named = all_map item_of (λ item. has_name_form item.name) used ∙ all_named wanted scope from;
       apart = all_apart wanted 0 scope from;
       values_fit = all_map item_of (λ item. nat_le item.ndv 1000000000000) used ∙ all_fit wanted scope from;
+      histograms = all_map item_of (λ item. may_be_histogram item.histogram) used ∙ all_counted wanted scope from;
       lists = lists_from used 0 scope (λ c among there.
           found_from wanted c.table c.place 0 scope there (listed c among)) from;
     }

@@ -1,6 +1,6 @@
 -- What the tables of FROM keep: aliases that differ, and what the catalogue says.
 use Rattle.std.proofs.Common.{◌≡◌, ℕ, suc, ◌≤◌, ◌+◌, Bool, true, false, cond, List, [], ◌∷◌, ◌++◌, length, map, find}
-use Rattle.std.proofs.Common.{nat_le, unwrap_or, option_to_list, Option, Some, None, Ok, refl, ap, subst, arith}
+use Rattle.std.proofs.Common.{◌&&◌, not, is_some, nat_le, unwrap_or, option_to_list, Option, Some, None, Ok, refl, ap, subst, arith}
 use Rattle.std.specs.List.{list_all, AllByRecursion}
 use Rattle.std.specs.Str.{bytes_eq}
 use Rattle.std.specs.Cmp.Lexicographic.{nat_list_eq_equiv}
@@ -12,7 +12,9 @@ use Rattle.std.proofs.lemmas.Bool.{and_from, and_parts}
 use Rattle.sql_bind.proofs.Truths.{all_push}
 use Rattle.query_core.specs.Differ.{all_differ}
 use Rattle.query_core.proofs.Apart.{differ_push}
-use Rattle.query_core.specs.Tables.{AreTables}
+use Rattle.query_core.specs.Tables.{AreTables, is_placed_once}
+use Rattle.query_core.specs.declared.catalog.Placing.{Placing}
+use Rattle.query_core.specs.declared.catalog.Placing.TheVariants.{Hashed, Random, Replicated}
 use Rattle.query_core.specs.declared.catalog.Catalog.{Catalog}
 use Rattle.query_core.specs.declared.catalog.TableInfo.{TableInfo}
 use Rattle.query_core.specs.Catalog.{IsTable, IsCatalog}
@@ -21,7 +23,7 @@ use Rattle.sql_bind.specs.declared.fault.BindFault.TheVariants.{TwiceAlias}
 use Rattle.sql_bind.specs.Scope.{FromTable, alias_at, alias_of, aliased, aliases, from_table, has_alias, info_of}
 use Rattle.sql_bind.specs.Scope.{scope_of}
 use Rattle.sql_bind.specs.Used.{UsedColumn}
-use Rattle.sql_bind.specs.Query.{tables_from}
+use Rattle.sql_bind.specs.Query.{hashed_of, is_replicated, table_of, tables_from}
 use Rattle.sql_reader.specs.Readable.{is_named, is_table}
 use Rattle.orca_base.proofs.Checked.{each_counts, each_keeps, not_met}
 
@@ -124,6 +126,19 @@ module _ (used : List UsedColumn) where
       (list_all (λ table. nat_le table.rows 1000000000000) (tables_from used (base + 1) ts))
       (at_most t.info.rows 1000000000000 all.0.counted) (few_rows (base + 1) ts all.1)
 
+  -- what lies on each segment has no hash
+  placed_once : (table : ℕ) (placing : Placing)
+      → not (is_replicated placing && is_some (hashed_of used table placing)) ≡ true
+  placed_once table (Hashed places) = refl
+  placed_once table Random = refl
+  placed_once table Replicated = refl
+
+  all_placed_once : (base : ℕ) (scope : List FromTable) → list_all is_placed_once (tables_from used base scope) ≡ true
+  all_placed_once base [] = refl
+  all_placed_once base (t ∷ ts) = and_from (is_placed_once (table_of used base t))
+      (list_all is_placed_once (tables_from used (base + 1) ts)) (placed_once base t.info.placing)
+      (all_placed_once (base + 1) ts)
+
   -- they are tables of a query
   pub are_tables : (scope : List FromTable) → AreFrom scope → 1 ≤ length scope → length scope ≤ 10
       → AreTables (tables_from used 0 scope)
@@ -133,4 +148,5 @@ module _ (used : List UsedColumn) where
     named = all_named 0 scope kept.named;
     apart = rw (same_aliases 0 scope) kept.differ;
     rows_fit = few_rows 0 scope kept.infos;
+    placed = all_placed_once 0 scope;
   }

@@ -1,9 +1,9 @@
 -- The query over numbered items.
-use Rattle.std.specs.Prelude.{ℕ, Bool, not, List, [], ◌∷◌, ◌++◌, ◌+◌, ◌==◌, Option, None, Some, map, filter, filter_map}
-use Rattle.std.specs.Prelude.{option_map, if◌then◌else◌}
+use Rattle.std.specs.Prelude.{ℕ, Bool, true, false, not, List, [], ◌∷◌, ◌++◌, ◌+◌, ◌==◌, Option, None, Some, map, filter}
+use Rattle.std.specs.Prelude.{filter_map, option_map, if◌then◌else◌}
 use Rattle.std.specs.List.{list_any}
 use Rattle.query_core.specs.declared.catalog.Placing.{Placing}
-use Rattle.query_core.specs.declared.catalog.Placing.TheVariants.{Hashed, Random}
+use Rattle.query_core.specs.declared.catalog.Placing.TheVariants.{Hashed, Random, Replicated}
 use Rattle.query_core.specs.declared.table.Item.{Item}
 use Rattle.query_core.specs.declared.table.QueryTable.{QueryTable}
 use Rattle.query_core.specs.declared.predicate.Pred.{Pred}
@@ -29,7 +29,12 @@ use Rattle.sql_bind.specs.Numbers.{number_of, numbers_of, target_number}
 
 -- the used columns, as items
 abbrev pub item_of : UsedColumn → Item
-item_of used = record { table = used.which.table; name = used.info.name; ndv = used.info.ndv }
+item_of used = record {
+  table = used.which.table;
+  name = used.info.name;
+  ndv = used.info.ndv;
+  histogram = used.info.histogram;
+}
 
 abbrev pub items_of : List UsedColumn → List Item
 items_of used = map item_of used
@@ -38,6 +43,13 @@ items_of used = map item_of used
 abbrev pub hashed_of : List UsedColumn → ℕ → Placing → Option (List ℕ)
 hashed_of used table (Hashed places) = Some (numbers_of used table places)
 hashed_of used table Random = None
+hashed_of used table Replicated = None
+
+-- all rows lie on each segment
+abbrev pub is_replicated : Placing → Bool
+is_replicated (Hashed places) = false
+is_replicated Random = false
+is_replicated Replicated = true
 
 -- the items of a table's indexes
 abbrev pub indexes_of : List UsedColumn → ℕ → List (List ℕ) → List (List ℕ)
@@ -50,6 +62,7 @@ table_of used table t =
       alias = t.alias;
       rows = t.info.rows;
       hashed = hashed_of used table t.info.placing;
+      replicated = is_replicated t.info.placing;
       indexes = indexes_of used table t.info.indexes;
     }
 

@@ -2,7 +2,7 @@
 use Rattle.std.specs.Prelude.{ℕ, List, [], ◌∷◌, ◌++◌, ◌+◌, option_to_list, map, flat_map, if◌then◌else◌}
 use Rattle.query_core.specs.declared.catalog.ColumnInfo.{ColumnInfo}
 use Rattle.query_core.specs.declared.catalog.Placing.{Placing}
-use Rattle.query_core.specs.declared.catalog.Placing.TheVariants.{Hashed, Random}
+use Rattle.query_core.specs.declared.catalog.Placing.TheVariants.{Hashed, Random, Replicated}
 use Rattle.sql_bind.specs.declared.columns.Column.{Column}
 use Rattle.sql_bind.specs.declared.select_list.What.{What}
 use Rattle.sql_bind.specs.declared.select_list.What.TheVariants as whats
@@ -60,6 +60,7 @@ places_of table places = map (column table) places
 abbrev pub placed_by : ℕ → Placing → List Column
 placed_by table (Hashed places) = places_of table places
 placed_by table Random = []
+placed_by table Replicated = []
 
 -- the columns of its indexes
 abbrev pub indexed_by : ℕ → List (List ℕ) → List Column

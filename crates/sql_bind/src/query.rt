@@ -2,7 +2,7 @@
 ghost use Rattle.std.specs.Prelude.{◌≡◌, ◌≤◌, ◌++◌, ◌∷◌, [], IfOk, OnOk, length, option_map, option_to_list, nat_le, IsTrue};
 ghost use Rattle.std.specs.List.{list_all};
 ghost use Rattle.sql_bind.specs.Numbers.{number_of as the_number};
-ghost use Rattle.sql_bind.specs.Query.{item_of as the_item, items_of as the_items, hashed_of as the_hashed, indexes_of as the_indexes, table_of as the_table, tables_from as the_tables, operand_of as the_operand, pred_of as the_pred, preds_of as the_preds, agg_of as the_agg, aggs_of as the_aggs, output_of as the_output, outputs_of as the_outputs};
+ghost use Rattle.sql_bind.specs.Query.{item_of as the_item, items_of as the_items, hashed_of as the_hashed, is_replicated as lies_on_each, indexes_of as the_indexes, table_of as the_table, tables_from as the_tables, operand_of as the_operand, pred_of as the_pred, preds_of as the_preds, agg_of as the_agg, aggs_of as the_aggs, output_of as the_output, outputs_of as the_outputs};
 
 use crate::columns::Column;
 use crate::conditions::{Compared, Side};
@@ -13,7 +13,7 @@ use crate::sort_keys::target_of;
 use crate::used::Used;
 use crate::written::Written;
 use orca_base::{List, Text};
-use query_core::{Agg, Item, Operand, OutItem, Placing, Pred, QueryTable};
+use query_core::{Agg, Histogram, Item, Operand, OutItem, Placing, Pred, QueryTable};
 use std::alloc::{AllocError, Global};
 
 fn add_item(alloc: Global, used: &Used<'_>, items: &mut List<Item>) -> Result<(), AllocError>
@@ -24,7 +24,17 @@ fn add_item(alloc: Global, used: &Used<'_>, items: &mut List<Item>) -> Result<()
         table: used.column().table as u32,
         name: used.info().name.copy(alloc)?,
         ndv: used.info().ndv,
+        histogram: copied(alloc, &used.info().histogram)?,
     })
+}
+
+fn copied(alloc: Global, histogram: &Option<Histogram>) -> Result<Option<Histogram>, AllocError>
+    ensures { IfOk result (λ copied. copied ≡ histogram.now) }
+{
+    match histogram {
+        Some(histogram) => Ok(Some(histogram.copy(alloc)?)),
+        None => Ok(None),
+    }
 }
 
 /// The used columns, as items.
@@ -51,6 +61,17 @@ fn hashed_of(
     match placing {
         Placing::Hashed(places) => Ok(Some(numbers_of(alloc, used, table, places.as_slice())?)),
         Placing::Random => Ok(None),
+        Placing::Replicated => Ok(None),
+    }
+}
+
+fn is_replicated(placing: &Placing) -> bool
+    ensures { result ≡ lies_on_each placing.now }
+{
+    match placing {
+        Placing::Hashed(_) => false,
+        Placing::Random => false,
+        Placing::Replicated => true,
     }
 }
 
@@ -85,6 +106,7 @@ fn table_of(
         alias: source.alias().copy(alloc)?,
         rows: info.rows,
         hashed: hashed_of(alloc, used, table, &info.placing)?,
+        replicated: is_replicated(&info.placing),
         indexes: indexes_of(alloc, used, table, info.indexes.as_slice())?,
     })
 }

@@ -141,6 +141,7 @@ fn add_placing(table: usize, placing: &Placing, wanted: &mut Vec<Column>) -> Res
     match placing {
         Placing::Hashed(places) => add_places(table, places.as_slice(), wanted),
         Placing::Random => Ok(()),
+        Placing::Replicated => Ok(()),
     }
 }
 

@@ -1,6 +1,6 @@
 use Rattle.std.proofs.Common.{◌≡◌, ◌≤◌, ◌*◌, drop}
 use Rattle.std.specs.List.{fold}
-use Rattle.cardinality.specs.Divisor.{values_of}
+use Rattle.cardinality.specs.Factor.{values_of}
 use Rattle.cardinality.specs.Rows.{capped, combinations}
 use Rattle.cardinality.proofs.estimate.combinations.Given as goal
 
