@@ -1,6 +1,7 @@
 -- The lines of a candidate ask what fits its children, and give what lies in its group.
 use Rattle.std.proofs.Common.{◌≡◌, ℕ, refl, sym, subst, inl, inr}
-use Rattle.std.specs.Prelude.{Some}
+use Rattle.std.specs.Prelude.{Option, None, Some, slice_get}
+use Rattle.std.specs.Option.{option_map}
 use Rattle.query_core.specs.Expressions.{expr_of, physical_children, HasPhysical, IsFiltered, IsJoin, IsAggregated}
 use Rattle.query_core.specs.Expressions.{IsPartial, IsCandidate}
 use Rattle.query_core.specs.Keys.{input_of, top_of}
@@ -11,11 +12,12 @@ use Rattle.query_core.specs.declared.expressions.Physical.{Physical}
 use Rattle.query_core.specs.declared.expressions.Physical.TheVariants as physical
 use Rattle.query_core.specs.declared.expressions.PhysicalExpr.{PhysicalExpr}
 use Rattle.query_core.specs.declared.expressions.Children.TheVariants.{Zero, One, Two}
+use Rattle.request_props.specs.declared.given.GivenDist.{GivenDist}
 use Rattle.request_props.specs.declared.given.GivenOrder.{GivenOrder}
 use Rattle.request_props.specs.declared.given.GivenOrder.TheVariants.{Listed, Index}
 use Rattle.plan_space.specs.Gives.{gives_so}
-use Rattle.request_props.specs.Numbered.{table_dist, group_order}
-use Rattle.plan_space.specs.Lines.{in_order, single_line, table_in, table_line, operator_line, line_of}
+use Rattle.request_props.specs.Numbered.{group_order}
+use Rattle.plan_space.specs.Lines.{in_order, single_line, table_in, dists_of_table, table_line, operator_line, line_of}
 use Rattle.plan_space.specs.declared.lines.LeftDist.TheVariants as left_dists
 use Rattle.plan_space.specs.declared.lines.LeftOrder.TheVariants as left_orders
 use Rattle.plan_space.specs.declared.lines.Line.{Line}
@@ -30,25 +32,35 @@ use Rattle.plan_space.proofs.Fitting.{DistsFit, top_dists_fit, IsFitting, column
 use Rattle.plan_space.proofs.Fitting.{no_order_fits, dist_passes, dist_asked_kept}
 use Rattle.plan_space.proofs.Grouped.{HasGrouped, input_has_grouped, group_order_fits, agg_line_fits, partial_fits}
 use Rattle.plan_space.proofs.Joins.{hash_line_fits, merge_line_fits, loop_line_fits}
-use Rattle.plan_space.proofs.Leaves.{scan_fits, index_scan_fits}
+use Rattle.plan_space.proofs.Leaves.{ReadsFit, scan_fits, index_scan_fits}
 use Rattle.plan_space.proofs.FewModes.{only_found}
 
 -- an operator with one line has no other
 only_one : (line found : Line) (mode : Mode) → single_line line mode ≡ Some found → line ≡ found
-only_one line found (modes.One number) = only_found line found number
+only_one line found (modes.Plain number) = only_found line found number
 only_one line found (modes.Copied number) = λ never. cc
 only_one line found (modes.Hashed number) = λ never. cc
 
 module _ (one : ListingIsOne) (q : Query) where
-  -- the one line of an operator over a table
+  -- a line without children, of rows that lie so, if they do
+  leaf_fits : (group : KeyParts) (order : GivenOrder) (found : Option GivenDist) (line : Line)
+      → ((dist : GivenDist) → found ≡ Some dist → GivenFits q group (gives_so dist order))
+      → option_map (λ dist. lines.Leaf dist order) found ≡ Some line → IsFitting q group Zero line
+  leaf_fits group order None line fits is = let never : None ≡ Some line = is in cc
+  leaf_fits group order (Some dist) line fits is =
+      let same : lines.Leaf dist order ≡ line = cc in
+      subst (IsFitting q group Zero) same (record { asks = tt; gives = fits dist refl })
+
+  -- the lines of an operator over a table
   table_line_fits : (group own : KeyParts) (order : KeyParts → GivenOrder) (mode : Mode) (line : Line) → group ≡ own
-      → single_line (table_line q group (order group)) mode ≡ Some line
-      → GivenFits q own (gives_so (table_dist q (table_in own)) (order own))
+      → table_line q group (order group) mode ≡ Some line
+      → ReadsFit q (table_in own) own (order own)
       → IsFitting q group Zero line
-  table_line_fits group own order mode line of_table is fits =
-      let same : table_line q group (order group) ≡ line = only_one (table_line q group (order group)) line mode is in
-      let gives = subst (λ g. GivenFits q g (gives_so (table_dist q (table_in g)) (order g))) (sym of_table) fits in
-      subst (IsFitting q group Zero) same (record { asks = tt; gives = gives })
+  table_line_fits group own order (modes.Plain number) line of_table is fit =
+      let fits = subst (λ g. ReadsFit q (table_in g) g (order g)) (sym of_table) fit in
+      leaf_fits group (order group) (slice_get (dists_of_table q (table_in group)) number) line (fits number) is
+  table_line_fits group own order (modes.Copied number) line of_table is fit = cc
+  table_line_fits group own order (modes.Hashed number) line of_table is fit = cc
 
   -- what holds of a line over one group holds of the same line over the same group
   along : (group of child over : KeyParts) (known line : Line) → group ≡ of → child ≡ over → known ≡ line

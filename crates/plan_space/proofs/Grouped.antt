@@ -146,7 +146,7 @@ module _ (q : Query) (from : KeyParts) (has : HasGrouped q from) (order : ℕ)
     -- so each line of an aggregation fits
     pub agg_line_fits : (mode : Mode) (line : Line) → agg_line q order mode ≡ Some line
         → IsFitting q groups.Agg (One from) line
-    agg_line_fits (modes.One number) line =
+    agg_line_fits (modes.Plain number) line =
         cond_both (number == 0) (Some (lines.Above on_one (in_order order))) None (λ found. found ≡ Some line
         → IsFitting q groups.Agg (One from) line)
         (λ first is.

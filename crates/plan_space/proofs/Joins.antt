@@ -105,7 +105,7 @@ module _ (one : ListingIsOne) (q : Query) (group left right : KeyParts) (lists_f
         (λ first. fits) (λ other. no_line)
 
     pub hash_line_fits : (mode : Mode) → hash_line q left right mode ≡ Some line → JoinFits line
-    hash_line_fits (modes.One number) = only_fits _ number
+    hash_line_fits (modes.Plain number) = only_fits _ number
         (plain_line on_one (in_order 0) dists.One (tt, tt) (in_order_fits q left 0 (no_order_fits q left)) tt)
     hash_line_fits (modes.Copied number) =
         only_fits _ number (plain_line left_dists.SameSpread (in_order 0) dists.Copies lists_fit
@@ -113,7 +113,7 @@ module _ (one : ListingIsOne) (q : Query) (group left right : KeyParts) (lists_f
     hash_line_fits (modes.Hashed number) = crossing_line (hash_colocated q) hash_colocated_fits number
 
     pub merge_line_fits : (mode : Mode) → merge_line q left right mode ≡ Some line → JoinFits line
-    merge_line_fits (modes.One number) = crossing_line (merge_with q on_one dists.One)
+    merge_line_fits (modes.Plain number) = crossing_line (merge_with q on_one dists.One)
         (merge_fits on_one dists.One (tt, tt) tt) number
     merge_line_fits (modes.Copied number) =
         crossing_line (merge_with q left_dists.SameSpread dists.Copies)
@@ -121,7 +121,7 @@ module _ (one : ListingIsOne) (q : Query) (group left right : KeyParts) (lists_f
     merge_line_fits (modes.Hashed number) = crossing_line (merge_colocated q) merge_colocated_fits number
 
     pub loop_line_fits : (mode : Mode) → loop_line mode ≡ Some line → JoinFits line
-    loop_line_fits (modes.One number) = only_fits _ number (plain_line on_one left_orders.Same dists.One (tt, tt) tt tt)
+    loop_line_fits (modes.Plain number) = only_fits _ number (plain_line on_one left_orders.Same dists.One (tt, tt) tt tt)
     loop_line_fits (modes.Copied number) = only_fits _ number
         (plain_line left_dists.SameSpread left_orders.Same dists.Copies lists_fit tt tt)
     loop_line_fits (modes.Hashed number) = no_line

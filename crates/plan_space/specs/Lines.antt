@@ -1,6 +1,7 @@
 -- How physical expressions work: for each mode of an expression, what it needs of its children and what it gives.
-use Rattle.std.specs.Prelude.{ℕ, ◌==◌, length, Option, None, Some, nat_lt, if◌then◌else◌}
-use Rattle.std.specs.Option.{option_map}
+use Rattle.std.specs.Prelude.{ℕ, Bool, false, ◌==◌, List, [], ◌∷◌, length, Option, None, Some, nat_lt, if◌then◌else◌}
+use Rattle.std.specs.Prelude.{slice_get}
+use Rattle.std.specs.Option.{option_map, option_map_or}
 use Rattle.query_core.specs.Crossing.{crossing_of}
 use Rattle.query_core.specs.declared.query.Query.{Query}
 use Rattle.query_core.specs.declared.words.KeyParts.{KeyParts}
@@ -9,6 +10,7 @@ use Rattle.query_core.specs.declared.expressions.Physical.{Physical}
 use Rattle.query_core.specs.declared.expressions.Physical.TheVariants as physical
 use Rattle.query_core.specs.declared.expressions.PhysicalExpr.{PhysicalExpr}
 use Rattle.request_props.specs.Numbered.{lists_of, table_dist, column_list, column_order, group_order}
+use Rattle.request_props.specs.declared.given.GivenDist.{GivenDist}
 use Rattle.request_props.specs.declared.given.GivenDist.TheVariants as given
 use Rattle.request_props.specs.declared.given.GivenOrder.{GivenOrder}
 use Rattle.request_props.specs.declared.given.GivenOrder.TheVariants.{Listed, Index}
@@ -23,7 +25,7 @@ use Rattle.plan_space.specs.declared.lines.Line.{Line}
 use Rattle.plan_space.specs.declared.lines.Line.TheVariants.{Leaf, Above, Beside}
 use Rattle.plan_space.specs.Modes.{mode_at}
 use Rattle.plan_space.specs.declared.modes.Mode.{Mode}
-use Rattle.plan_space.specs.declared.modes.Mode.TheVariants.{One, Copied, Hashed}
+use Rattle.plan_space.specs.declared.modes.Mode.TheVariants.{Plain, Copied, Hashed}
 
 abbrev pub request : Dist → ℕ → Request
 request dist order = record { dist = dist; order = order }
@@ -48,7 +50,7 @@ only_line line number = if number == 0 then Some line else None
 
 -- one line, in one mode
 abbrev pub single_line : Line → Mode → Option Line
-single_line line (One number) = only_line line number
+single_line line (Plain number) = only_line line number
 single_line line (Copied number) = None
 single_line line (Hashed number) = None
 
@@ -60,9 +62,25 @@ table_in (groups.Join set) = 0
 table_in groups.Partial = 0
 table_in groups.Agg = 0
 
--- the rows of a group's table where they lie, in this order
-abbrev pub table_line : Query → KeyParts → GivenOrder → Line
-table_line q group order = Leaf (table_dist q (table_in group)) order
+-- all rows of the table lie on each segment
+abbrev pub is_replicated : Query → ℕ → Bool
+is_replicated q t = option_map_or (λ table. table.replicated) (slice_get q.tables t) false
+
+-- where each segment has all rows of a table, a read gives a share of its own on each segment, all rows at one place, or
+-- all rows on each segment
+abbrev pub replica_dists : List GivenDist
+replica_dists = given.Random ∷ given.One ∷ given.Copies ∷ []
+
+-- the distributions in which the rows of the table are read, by the number of the mode
+abbrev pub dists_of_table : Query → ℕ → List GivenDist
+dists_of_table q t = if is_replicated q t then replica_dists else table_dist q t ∷ []
+
+-- the rows of a group's table in this order: a line for each distribution in which they are read
+abbrev pub table_line : Query → KeyParts → GivenOrder → Mode → Option Line
+table_line q group order (Plain number) =
+    option_map (λ dist. Leaf dist order) (slice_get (dists_of_table q (table_in group)) number)
+table_line q group order (Copied number) = None
+table_line q group order (Hashed number) = None
 
 -- a hash join of rows that are hashed alike on the two sides of an equality
 abbrev pub hash_colocated : Query → (ℕ × ℕ) → Line
@@ -71,7 +89,7 @@ hash_colocated q sides = Beside (on_hashed (column_list q sides.0)) (in_order 0)
 
 -- a hash join: on one segment, with copies of the right side, or for each crossing equality of rows hashed alike
 abbrev pub hash_line : Query → KeyParts → KeyParts → Mode → Option Line
-hash_line q left right (One number) = only_line (Beside on_one (in_order 0) (request dists.One 0)) number
+hash_line q left right (Plain number) = only_line (Beside on_one (in_order 0) (request dists.One 0)) number
 hash_line q left right (Copied number) =
     only_line (Beside left_dists.SameSpread (in_order 0) (request dists.Copies 0)) number
 hash_line q left right (Hashed number) = option_map (hash_colocated q) (crossing_of q left right number)
@@ -86,21 +104,21 @@ merge_colocated q sides = merge_with q (on_hashed (column_list q sides.0)) (dist
 
 -- a merge join for each crossing equality: on one segment, with copies of the right side, or of rows hashed alike
 abbrev pub merge_line : Query → KeyParts → KeyParts → Mode → Option Line
-merge_line q left right (One number) = option_map (merge_with q on_one dists.One) (crossing_of q left right number)
+merge_line q left right (Plain number) = option_map (merge_with q on_one dists.One) (crossing_of q left right number)
 merge_line q left right (Copied number) =
     option_map (merge_with q left_dists.SameSpread dists.Copies) (crossing_of q left right number)
 merge_line q left right (Hashed number) = option_map (merge_colocated q) (crossing_of q left right number)
 
 -- a loop join: on one segment, or with copies of the right side; it keeps the left child's order
 abbrev pub loop_line : Mode → Option Line
-loop_line (One number) = only_line (Beside on_one left_orders.Same (request dists.One 0)) number
+loop_line (Plain number) = only_line (Beside on_one left_orders.Same (request dists.One 0)) number
 loop_line (Copied number) = only_line (Beside left_dists.SameSpread left_orders.Same (request dists.Copies 0)) number
 loop_line (Hashed number) = None
 
 -- an aggregation that gives this order, over a child in the same order: on one segment, or for each list over rows that
 -- are hashed by it
 abbrev pub agg_line : Query → ℕ → Mode → Option Line
-agg_line q order (One number) = only_line (Above on_one (in_order order)) number
+agg_line q order (Plain number) = only_line (Above on_one (in_order order)) number
 agg_line q order (Copied number) = None
 agg_line q order (Hashed number) =
     if nat_lt number (length (lists_of q)) then Some (Above (left_dists.Grouped number) (in_order order)) else None
@@ -109,12 +127,10 @@ agg_line q order (Hashed number) =
 
 -- the line of a group's operator in a mode, if it has the mode
 abbrev pub operator_line : Query → KeyParts → Physical → Mode → Option Line
-operator_line q group physical.Scan mode = single_line (table_line q group (Listed 0)) mode
-operator_line q group (physical.IndexScan index) mode =
-    single_line (table_line q group (Index (table_in group) index)) mode
+operator_line q group physical.Scan mode = table_line q group (Listed 0) mode
+operator_line q group (physical.IndexScan index) mode = table_line q group (Index (table_in group) index) mode
 operator_line q group (physical.Filter child) mode = single_line (Above left_dists.Same left_orders.Same) mode
-operator_line q group (physical.IndexSeek index) mode =
-    single_line (table_line q group (Index (table_in group) index)) mode
+operator_line q group (physical.IndexSeek index) mode = table_line q group (Index (table_in group) index) mode
 operator_line q group (physical.HashJoin left right) mode = hash_line q left right mode
 operator_line q group (physical.MergeJoin left right) mode = merge_line q left right mode
 operator_line q group (physical.LoopJoin left right) mode = loop_line mode

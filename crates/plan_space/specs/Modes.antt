@@ -1,14 +1,14 @@
 -- What the numbers of modes mean.
 use Rattle.std.specs.Prelude.{ℕ, ◌-◌, nat_lt, if◌then◌else◌, ⊤}
 use Rattle.plan_space.specs.declared.modes.Mode.{Mode}
-use Rattle.plan_space.specs.declared.modes.Mode.TheVariants.{One, Copied, Hashed}
+use Rattle.plan_space.specs.declared.modes.Mode.TheVariants.{Plain, Copied, Hashed}
 use Rattle.plan_space.specs.declared.modes.ModeSets.{ModeSets}
 use Rattle.request_props.specs.NumberSets.{IsInSet}
 
 -- the mode of a number
 abbrev pub mode_at : ℕ → Mode
 mode_at number =
-    if nat_lt number 64 then One number
+    if nat_lt number 64 then Plain number
     else if nat_lt number 128 then Copied (number - 64)
     else Hashed (number - 128)
 
@@ -16,20 +16,20 @@ mode_at number =
 abbrev pub modes_end : ℕ
 modes_end = 192
 
--- all rows are on one segment
-abbrev pub IsOnOne : Mode → Type 0
-IsOnOne (One number) = ⊤
-IsOnOne (Copied number) = ⊥
-IsOnOne (Hashed number) = ⊥
+-- the mode is neither with copies nor by a hash
+abbrev pub IsPlain : Mode → Type 0
+IsPlain (Plain number) = ⊤
+IsPlain (Copied number) = ⊥
+IsPlain (Hashed number) = ⊥
 
--- rows are shared out among the segments
+-- the mode is with copies or by a hash, of rows that are shared out among the segments
 abbrev pub IsSpread : Mode → Type 0
-IsSpread (One number) = ⊥
+IsSpread (Plain number) = ⊥
 IsSpread (Copied number) = ⊤
 IsSpread (Hashed number) = ⊤
 
 -- the mode is by a number of the set of its kind
 abbrev pub HasModeIn : ModeSets → Mode → Type 0
-HasModeIn sets (One number) = IsInSet sets.one number
+HasModeIn sets (Plain number) = IsInSet sets.plain number
 HasModeIn sets (Copied number) = IsInSet sets.copied number
 HasModeIn sets (Hashed number) = IsInSet sets.hashed number

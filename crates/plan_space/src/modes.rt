@@ -3,7 +3,7 @@
 
 ghost use Rattle.std.specs.Prelude.{ℕ, ◌≡◌, ◌<◌, ◌≤◌, ◌↔◌};
 ghost use Rattle.request_props.specs.NumberSets.{NoneBetween};
-ghost use Rattle.plan_space.specs.Modes.{mode_at, HasModeIn, IsOnOne, IsSpread};
+ghost use Rattle.plan_space.specs.Modes.{mode_at, HasModeIn, IsPlain, IsSpread};
 ghost use Rattle.plan_space.specs.declared.modes.Mode.{Mode as AnyMode};
 
 use request_props::NumberSet;
@@ -11,8 +11,10 @@ use request_props::NumberSet;
 /// How an expression works, with the number of an equality or of a hashed list where it works by one.
 #[derive(Clone, Copy, PartialEq, Eq)]
 pub enum Mode {
-    /// All rows on one segment.
-    One(u32),
+    /// Neither with copies nor by a hash. A join or an aggregation has all rows on one segment. A read of a table that has
+    /// all its rows on each segment gives by the number a share on each segment (0), all rows at one place (1), or all
+    /// rows on each segment (2).
+    Plain(u32),
     /// The left rows where they lie, and copies of the right rows on each segment.
     Copied(u32),
     /// Rows that are hashed alike by the equality, or by the list, of this number.
@@ -22,7 +24,7 @@ pub enum Mode {
 /// The modes to try of an expression: of each kind those by the numbers of a set.
 #[derive(Clone, Copy)]
 pub struct ModeSets {
-    pub one: NumberSet,
+    pub plain: NumberSet,
     pub copied: NumberSet,
     pub hashed: NumberSet,
 }
@@ -40,7 +42,7 @@ impl Mode {
         ensures { result ≡ mode_at number }
     {
         if number < COPIED {
-            Mode::One(number)
+            Mode::Plain(number)
         } else if number < HASHED {
             Mode::Copied(number - COPIED)
         } else {
@@ -55,18 +57,18 @@ impl ModeSets {
         ensures { (mode : AnyMode) → HasModeIn result mode → ⊥ }
     {
         ModeSets {
-            one: NumberSet::none(),
+            plain: NumberSet::none(),
             copied: NumberSet::none(),
             hashed: NumberSet::none(),
         }
     }
 
-    /// Those in which all rows are on one segment.
-    pub fn on_one(self) -> ModeSets
-        ensures { (mode : AnyMode) → HasModeIn result mode ↔ (HasModeIn self mode × IsOnOne mode) }
+    /// Those that are plain.
+    pub fn plain(self) -> ModeSets
+        ensures { (mode : AnyMode) → HasModeIn result mode ↔ (HasModeIn self mode × IsPlain mode) }
     {
         ModeSets {
-            one: self.one,
+            plain: self.plain,
             copied: NumberSet::none(),
             hashed: NumberSet::none(),
         }
@@ -77,7 +79,7 @@ impl ModeSets {
         ensures { (mode : AnyMode) → HasModeIn result mode ↔ (HasModeIn self mode × IsSpread mode) }
     {
         ModeSets {
-            one: NumberSet::none(),
+            plain: NumberSet::none(),
             copied: self.copied,
             hashed: self.hashed,
         }
@@ -89,9 +91,9 @@ impl ModeSets {
         ensures found { result < END → HasModeIn self (mode_at result) }
         ensures none { NoneBetween (λ number. HasModeIn self (mode_at number)) from result }
     {
-        let one = self.one.next(from);
-        if one < COPIED {
-            return one;
+        let plain = self.plain.next(from);
+        if plain < COPIED {
+            return plain;
         }
         let copied = COPIED + self.copied.next(from.max(COPIED) - COPIED);
         if copied < HASHED {

@@ -61,7 +61,7 @@ module _ (q : Query) (e : PhysicalExpr) (left right : KeyParts) (wanted : Reques
   -- a loop join serves only in an order that fits the left child
   loop_fits : (mode : Mode) (line : Line) → loop_line mode ≡ Some line
       → LineServes q line (arities.Two left right) wanted → OrderFits q left wanted.order
-  loop_fits (kinds.One number) line is serves =
+  loop_fits (kinds.Plain number) line is serves =
       let own = subst (λ (l : Line). LineServes q l (arities.Two left right) wanted) (sym (only_own _ line number is).1)
       serves in
       record { numbered = own.fits.numbered; lies_in = own.fits.order }

@@ -47,12 +47,12 @@ module _ (q : Query) (left right : KeyParts) (wanted : Request) where
       spread_suits q left wanted.dist own.serves.dist_served own.fits.dist
 
   module _ (modes : ModeSets) where
-    module _ (one : (n : ℕ) → n < 1 → IsInSet modes.one n) (copied : (n : ℕ) → n < 1 → DistSuits q left wanted.dist
+    module _ (one : (n : ℕ) → n < 1 → IsInSet modes.plain n) (copied : (n : ℕ) → n < 1 → DistSuits q left wanted.dist
         → IsInSet modes.copied n) where
       -- a mode in which a hash join serves is among these
       pub hash_among : AreHashingTo q left right wanted.dist modes.hashed → (mode : Mode) (line : Line)
           → hash_line q left right mode ≡ Some line → Serves line → HasModeIn modes mode
-      hash_among hashes (kinds.One number) line is serves = one number (only_own _ line number is).0
+      hash_among hashes (kinds.Plain number) line is serves = one number (only_own _ line number is).0
       hash_among hashes (kinds.Copied number) line is serves =
           let (first, own) = only_own _ line number is in
           copied number first (passing_suits (in_order 0) (request Copies 0) line own serves)
@@ -63,7 +63,7 @@ module _ (q : Query) (left right : KeyParts) (wanted : Request) where
 
       -- likewise of a loop join
       pub loop_among : (mode : Mode) (line : Line) → loop_line mode ≡ Some line → Serves line → HasModeIn modes mode
-      loop_among (kinds.One number) line is serves = one number (only_own _ line number is).0
+      loop_among (kinds.Plain number) line is serves = one number (only_own _ line number is).0
       loop_among (kinds.Copied number) line is serves =
           let (first, own) = only_own _ line number is in
           copied number first (passing_suits left_orders.Same (request Copies 0) line own serves)
@@ -72,10 +72,10 @@ module _ (q : Query) (left right : KeyParts) (wanted : Request) where
     -- and of a merge join
     pub merge_among : (merging hashing : NumberSet) → AreMergingIn q left right wanted.order merging
         → AreHashingTo q left right wanted.dist hashing
-        → modes.one ≡ merging → ((n : ℕ) → IsInSet merging n → DistSuits q left wanted.dist → IsInSet modes.copied n)
+        → modes.plain ≡ merging → ((n : ℕ) → IsInSet merging n → DistSuits q left wanted.dist → IsInSet modes.copied n)
         → ((n : ℕ) → IsInSet modes.hashed n ↔ (IsInSet merging n × IsInSet hashing n)) → (mode : Mode) (line : Line)
         → merge_line q left right mode ≡ Some line → Serves line → HasModeIn modes mode
-    merge_among merging hashing merges hashes one copied both (kinds.One number) line is serves =
+    merge_among merging hashing merges hashes one copied both (kinds.Plain number) line is serves =
         subst (λ preds. IsInSet preds number) (sym one)
         (found_serves q line (arities.Two left right) wanted left right (MergesIn q wanted.order) merging merges
         (merge_with q on_one One)
@@ -103,12 +103,12 @@ module _ (q : Query) (left right : KeyParts) (wanted : Request) where
   -- the hash and the order of the left one of the columns that a predicate equates fit the left child
   module _ (known : (pred a b : ℕ) → crossing_of q left right pred ≡ Some (a, b) → HashFits q left (column_list q a)
       × OrderFits q left (column_order q a)) (modes : ModeSets) where
-    module _ (one : (n : ℕ) → IsInSet modes.one n → n < 1) (copied : (n : ℕ) → IsInSet modes.copied n → (n < 1)
+    module _ (one : (n : ℕ) → IsInSet modes.plain n → n < 1) (copied : (n : ℕ) → IsInSet modes.copied n → (n < 1)
         × DistSuits q left wanted.dist) where
       -- a hash join serves in each of these modes that is for the distribution, where no order is asked for
       pub hash_only : AreHashingTo q left right wanted.dist modes.hashed → BeginsWith [] (order_of q wanted.order)
           → (mode : Mode) → HasModeIn modes mode → IsModeFor wanted.dist mode → HasServing (hash_line q left right mode)
-      hash_only hashes none (kinds.One number) has is = (
+      hash_only hashes none (kinds.Plain number) has is = (
         Beside on_one (in_order 0) (request One 0),
         own_only _ number (one number has),
         record {
@@ -142,7 +142,7 @@ module _ (q : Query) (left right : KeyParts) (wanted : Request) where
       -- likewise a loop join, where the order fits the left child
       pub loop_only : ((n : ℕ) → IsInSet modes.hashed n → ⊥) → OrderFits q left wanted.order
           → (mode : Mode) → HasModeIn modes mode → IsModeFor wanted.dist mode → HasServing (loop_line mode)
-      loop_only nowhere order (kinds.One number) has is = (
+      loop_only nowhere order (kinds.Plain number) has is = (
         Beside on_one left_orders.Same (request One 0),
         own_only _ number (one number has),
         record {
@@ -168,10 +168,10 @@ module _ (q : Query) (left right : KeyParts) (wanted : Request) where
     -- and a merge join
     pub merge_only : (merging hashing : NumberSet) → AreMergingIn q left right wanted.order merging
         → AreHashingTo q left right wanted.dist hashing
-        → modes.one ≡ merging → ((n : ℕ) → IsInSet modes.copied n → IsInSet merging n × DistSuits q left wanted.dist)
+        → modes.plain ≡ merging → ((n : ℕ) → IsInSet modes.copied n → IsInSet merging n × DistSuits q left wanted.dist)
         → ((n : ℕ) → IsInSet modes.hashed n ↔ (IsInSet merging n × IsInSet hashing n))
         → (mode : Mode) → HasModeIn modes mode → IsModeFor wanted.dist mode → HasServing (merge_line q left right mode)
-    merge_only merging hashing merges hashes one copied both (kinds.One number) has is =
+    merge_only merging hashing merges hashes one copied both (kinds.Plain number) has is =
         let (a, b, crosses, in_order) = (merges number).0 (subst (λ preds. IsInSet preds number) one has) in
         let order = (known number a b crosses).1 in (
           merge_with q on_one One (a, b),

@@ -83,10 +83,10 @@ module _ (q : Query) (line : Line) (children : Children) (wanted : Request) (lef
       (all pred).1 (a, b, at, each (a, b) (subst (λ (l : Line). LineServes q l children wanted) same serves))
 
   module _ (hashing : NumberSet) (hashes : AreHashingTo q left right wanted.dist hashing) where
-    hash_mode : (modes : ModeSets) → HasBelow modes.one 1 → HasBelow modes.copied 1 → modes.hashed ≡ hashing
+    hash_mode : (modes : ModeSets) → HasBelow modes.plain 1 → HasBelow modes.copied 1 → modes.hashed ≡ hashing
         → (mode : Mode) → hash_line q left right mode ≡ Some line → LineServes q line children wanted
         → HasModeIn modes mode
-    hash_mode modes one copied hashed (kinds.One number) is serves = one number (only_first _ line number is)
+    hash_mode modes one copied hashed (kinds.Plain number) is serves = one number (only_first _ line number is)
     hash_mode modes one copied hashed (kinds.Copied number) is serves = copied number (only_first _ line number is)
     hash_mode modes one copied hashed (kinds.Hashed number) is serves =
         subst (λ preds. IsInSet preds number) (sym hashed)
@@ -95,10 +95,10 @@ module _ (q : Query) (line : Line) (children : Children) (wanted : Request) (lef
 
     module _ (merging both : NumberSet) (merges : AreMergingIn q left right wanted.order merging)
         (in_both : (pred : ℕ) → IsInSet both pred ↔ (IsInSet merging pred × IsInSet hashing pred)) where
-      merge_mode : (modes : ModeSets) → modes.one ≡ merging → modes.copied ≡ merging → modes.hashed ≡ both
+      merge_mode : (modes : ModeSets) → modes.plain ≡ merging → modes.copied ≡ merging → modes.hashed ≡ both
           → (mode : Mode) → merge_line q left right mode ≡ Some line → LineServes q line children wanted
           → HasModeIn modes mode
-      merge_mode modes one copied hashed (kinds.One number) is serves =
+      merge_mode modes one copied hashed (kinds.Plain number) is serves =
           subst (λ preds. IsInSet preds number) (sym one)
           (found_serves (MergesIn q wanted.order) merging merges (merge_with q on_one One)
           (λ sides. with_merges q on_one One sides children wanted)
@@ -120,7 +120,7 @@ module _ (q : Query) (line : Line) (children : Children) (wanted : Request) (lef
 module _ (q : Query) (e : PhysicalExpr) (left right : KeyParts) (wanted : Request) (modes : ModeSets)
     (hashing : NumberSet) (hashes : AreHashingTo q left right wanted.dist hashing) where
   -- a hash join serves a request in its first modes, and hashed by such a predicate
-  pub hash_join_tried : e.operator ≡ physical.HashJoin left right → HasBelow modes.one 1 → HasBelow modes.copied 1
+  pub hash_join_tried : e.operator ≡ physical.HashJoin left right → HasBelow modes.plain 1 → HasBelow modes.copied 1
       → modes.hashed ≡ hashing → AreServing q e wanted modes
   hash_join_tried joins one copied hashed mode (line, is) =
       let found = subst (λ (o : Physical). operator_line q e.group o (mode_at mode) ≡ Some line) joins is.is_line in
@@ -130,7 +130,7 @@ module _ (q : Query) (e : PhysicalExpr) (left right : KeyParts) (wanted : Reques
   -- a merge join only by one whose left column gives the order, and hashed only by one that is both
   pub merge_join_tried : (merging both : NumberSet) → AreMergingIn q left right wanted.order merging
       → ((pred : ℕ) → IsInSet both pred ↔ (IsInSet merging pred × IsInSet hashing pred))
-      → e.operator ≡ physical.MergeJoin left right → modes.one ≡ merging → modes.copied ≡ merging → modes.hashed ≡ both
+      → e.operator ≡ physical.MergeJoin left right → modes.plain ≡ merging → modes.copied ≡ merging → modes.hashed ≡ both
       → AreServing q e wanted modes
   merge_join_tried merging both merges in_both joins one copied hashed mode (line, is) =
       let found = subst (λ (o : Physical). operator_line q e.group o (mode_at mode) ≡ Some line) joins is.is_line in
@@ -142,7 +142,7 @@ module _ (q : Query) (e : PhysicalExpr) (left right : KeyParts) (wanted : Reques
   -- a merge join that serves a request in a mode merges by such a predicate
   merges_by : (line : Line) (children : Children) (mode : Mode) → merge_line q left right mode ≡ Some line
       → LineServes q line children wanted → (pred : ℕ) × IsInSet merging pred
-  merges_by line children (kinds.One number) is serves = (
+  merges_by line children (kinds.Plain number) is serves = (
     number,
     found_serves q line children wanted left right (MergesIn q wanted.order) merging merges (merge_with q on_one One)
         (λ sides. with_merges q on_one One sides children wanted)
@@ -170,6 +170,6 @@ module _ (q : Query) (e : PhysicalExpr) (left right : KeyParts) (wanted : Reques
 
 -- of any operator, a mode that is there for a request is tried
 pub alternatives_tried : (q : Query) (e : PhysicalExpr) (wanted : Request) (modes : ModeSets)
-    → AreTriedOf q e.operator modes → AreServing q e wanted modes
+    → AreTriedOf q e.group e.operator modes → AreServing q e wanted modes
 alternatives_tried q e wanted modes are mode (line, is) =
     operator_tried q modes line e.group e.operator (mode_at mode) are is.is_line

@@ -30,7 +30,7 @@ use Rattle.plan_space.specs.declared.lines.Line.TheVariants.{Leaf, Above, Beside
 use Rattle.plan_space.specs.Modes.{mode_at}
 use Rattle.plan_space.specs.declared.modes.Mode.{Mode}
 use Rattle.plan_tree.specs.Alternatives.{HasAlternative}
-use Rattle.plan_tree.specs.ServingModes.{DistSuits, IsModeFor, MayServe, has_spread_modes}
+use Rattle.plan_tree.specs.ServingModes.{DistSuits, IsModeFor, MayServe, is_plain_on_one}
 use Rattle.plan_tree.proofs.LineModes.{IsDistIn, IsOrderOfLeft, IsLineIn, line_in}
 
 -- ---- modes
@@ -120,7 +120,7 @@ line_fits q (Beside dist order asked) left right mode wanted numbered is serves 
 
 -- an operator over two children is a join
 join_has_spread : (operator : Physical) (left right : KeyParts) → physical_children operator ≡ arities.Two left right
-    → has_spread_modes operator ≡ true
+    → is_plain_on_one operator ≡ true
 join_has_spread physical.Scan left right is = cc
 join_has_spread (physical.IndexScan index) left right is = cc
 join_has_spread (physical.Filter child) left right is = cc
@@ -143,7 +143,7 @@ left_fits q e left right wanted over numbered (mode, (line, is)) =
 
 -- an expression whose operator has both kinds of modes serves in those for the distribution
 pub alternative_mode : (q : Query) (e : PhysicalExpr) (wanted : Request) (dist : Dist) (mode : ℕ)
-    → has_spread_modes e.operator ≡ true → wanted.dist ≡ dist → HasAlternative q e wanted mode
+    → is_plain_on_one e.operator ≡ true → wanted.dist ≡ dist → HasAlternative q e wanted mode
     → IsModeFor dist (mode_at mode)
 alternative_mode q e wanted dist mode both asked (line, is) =
     subst (λ (d : Dist). IsModeFor d (mode_at mode)) asked

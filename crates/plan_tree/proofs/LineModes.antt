@@ -20,14 +20,14 @@ use Rattle.plan_space.specs.declared.lines.LeftOrder.{LeftOrder}
 use Rattle.plan_space.specs.declared.lines.LeftOrder.TheVariants as left_orders
 use Rattle.plan_space.specs.declared.lines.Line.{Line}
 use Rattle.plan_space.specs.declared.lines.Line.TheVariants.{Leaf, Above, Beside}
-use Rattle.plan_space.specs.Modes.{IsOnOne, IsSpread}
+use Rattle.plan_space.specs.Modes.{IsPlain, IsSpread}
 use Rattle.plan_space.specs.declared.modes.Mode.{Mode}
 use Rattle.plan_space.specs.declared.modes.Mode.TheVariants as modes
-use Rattle.plan_tree.specs.ServingModes.{has_spread_modes}
+use Rattle.plan_tree.specs.ServingModes.{is_plain_on_one}
 
 -- the distribution is asked of the left child too; all rows are on one segment in the modes for that, and in no others
 abbrev pub IsDistIn : LeftDist → Mode → Type 0
-IsDistIn (left_dists.Fixed given.One asked) mode = (asked ≡ One) × IsOnOne mode
+IsDistIn (left_dists.Fixed given.One asked) mode = (asked ≡ One) × IsPlain mode
 IsDistIn (left_dists.Fixed (given.Hashed list) asked) mode = (asked ≡ Hashed list) × IsSpread mode
 IsDistIn (left_dists.Fixed given.Random asked) mode = ⊥
 IsDistIn (left_dists.Fixed given.Copies asked) mode = ⊥
@@ -71,22 +71,22 @@ module _ (q : Query) (line : Line) where
   crossing_line line_with mode (Some found) kept is = own_line (line_with found) mode (kept found) is
 
   agg_kept : (order : ℕ) (mode : Mode) → IsKept (agg_line q order mode) mode
-  agg_kept order (modes.One number) = only_kept _ number (modes.One number) ((refl, tt), refl)
+  agg_kept order (modes.Plain number) = only_kept _ number (modes.Plain number) ((refl, tt), refl)
   agg_kept order (modes.Copied number) = no_line (modes.Copied number)
   agg_kept order (modes.Hashed list) =
       cond_both (nat_lt list (length (lists_of q))) _ None (λ found. IsKept found (modes.Hashed list))
       (λ numbered. own_line _ (modes.Hashed list) (tt, refl)) (λ other. no_line (modes.Hashed list))
 
   hash_kept : (left right : KeyParts) (mode : Mode) → IsKept (hash_line q left right mode) mode
-  hash_kept left right (modes.One number) = only_kept _ number (modes.One number) ((refl, tt), refl)
+  hash_kept left right (modes.Plain number) = only_kept _ number (modes.Plain number) ((refl, tt), refl)
   hash_kept left right (modes.Copied number) = only_kept _ number (modes.Copied number) (tt, refl)
   hash_kept left right (modes.Hashed number) =
       crossing_line (hash_colocated q) (modes.Hashed number) (crossing_of q left right number)
       (λ found. ((refl, tt), refl))
 
   merge_kept : (left right : KeyParts) (mode : Mode) → IsKept (merge_line q left right mode) mode
-  merge_kept left right (modes.One number) =
-      crossing_line (merge_with q on_one One) (modes.One number) (crossing_of q left right number)
+  merge_kept left right (modes.Plain number) =
+      crossing_line (merge_with q on_one One) (modes.Plain number) (crossing_of q left right number)
       (λ found. ((refl, tt), refl))
   merge_kept left right (modes.Copied number) =
       crossing_line (merge_with q left_dists.SameSpread Copies) (modes.Copied number) (crossing_of q left right number)
@@ -96,11 +96,11 @@ module _ (q : Query) (line : Line) where
       (λ found. ((refl, tt), refl))
 
   loop_kept : (mode : Mode) → IsKept (loop_line mode) mode
-  loop_kept (modes.One number) = only_kept _ number (modes.One number) ((refl, tt), tt)
+  loop_kept (modes.Plain number) = only_kept _ number (modes.Plain number) ((refl, tt), tt)
   loop_kept (modes.Copied number) = only_kept _ number (modes.Copied number) (tt, tt)
   loop_kept (modes.Hashed number) = no_line (modes.Hashed number)
 
-  pub line_in : (group : KeyParts) (operator : Physical) (mode : Mode) → has_spread_modes operator ≡ true
+  pub line_in : (group : KeyParts) (operator : Physical) (mode : Mode) → is_plain_on_one operator ≡ true
       → IsKept (operator_line q group operator mode) mode
   line_in group physical.Scan mode both = cc
   line_in group (physical.IndexScan index) mode both = cc

@@ -9,7 +9,7 @@ use Rattle.request_props.specs.declared.request.Dist.TheVariants as dists
 use Rattle.request_props.specs.declared.sides.Side.{Side}
 use Rattle.plan_space.specs.Lines.{on_one, hash_colocated, hash_line, merge_with, merge_colocated, merge_line}
 use Rattle.plan_space.specs.declared.lines.Line.{Line}
-use Rattle.plan_space.specs.declared.modes.Mode.TheVariants.{One, Copied, Hashed}
+use Rattle.plan_space.specs.declared.modes.Mode.TheVariants.{Plain, Copied, Hashed}
 use Rattle.plan_space.specs.declared.lines.LeftDist.TheVariants as left_dists
 
 -- the two sides are those of these columns
@@ -42,7 +42,7 @@ module _ (q : Query) (left right : KeyParts) (number first second : ℕ) (line :
 
   -- a merge join on one segment
   pub merge_one : line ≡ merge_with q on_one dists.One (first, second)
-      → Some line ≡ merge_line q left right (One number)
+      → Some line ≡ merge_line q left right (Plain number)
   merge_one is = rw crossing (ap Some is)
 
   -- a merge join with copies

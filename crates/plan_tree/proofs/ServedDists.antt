@@ -14,7 +14,7 @@ use Rattle.plan_space.specs.declared.lines.LeftDist.TheVariants as left_dists
 use Rattle.plan_space.specs.declared.modes.Mode.TheVariants as kinds
 use Rattle.plan_tree.specs.ServingModes.{DistSuits, IsModeFor}
 
-pub one_served : (q : Query) (dist : Dist) (number : ℕ) → IsModeFor dist (kinds.One number) → DistServes q on_one dist
+pub one_served : (q : Query) (dist : Dist) (number : ℕ) → IsModeFor dist (kinds.Plain number) → DistServes q on_one dist
 one_served q One number is = tt
 one_served q Spread number is = absurd is
 one_served q Copies number is = absurd is

@@ -1,8 +1,9 @@
 -- A mode with a line is one that is tried.
-use Rattle.std.proofs.Common.{◌≡◌, ℕ, ◌+◌, ◌<◌, ◌≤◌, Option, None, Some, length, refl, subst, inl, inr, arith, nat_lt}
-use Rattle.std.specs.Prelude.{◌==◌}
+use Rattle.std.proofs.Common.{◌≡◌, ℕ, ◌+◌, ◌<◌, ◌≤◌, List, Option, None, Some, length, refl, subst, inl, inr, arith, nat_lt}
+use Rattle.std.specs.Prelude.{◌==◌, slice_get}
 use Rattle.std.specs.Option.{option_map}
 use Rattle.std.proofs.lemmas.Bool.{cases_lt, cond_both, eqb-true, ltb-true}
+use Rattle.std.proofs.lemmas.Option.{slice_get_within}
 use Rattle.query_core.specs.Crossing.{crossing_of}
 use Rattle.query_core.specs.declared.query.Query.{Query}
 use Rattle.query_core.specs.declared.words.KeyParts.{KeyParts}
@@ -11,13 +12,17 @@ use Rattle.query_core.specs.declared.expressions.Physical.TheVariants as physica
 use Rattle.query_core.specs.declared.expressions.PhysicalExpr.{PhysicalExpr}
 use Rattle.request_props.specs.Numbered.{lists_of, group_order}
 use Rattle.request_props.specs.NumberSets.{HasBelow, NoneBetween}
+use Rattle.request_props.specs.declared.given.GivenDist.{GivenDist}
+use Rattle.request_props.specs.declared.given.GivenOrder.{GivenOrder}
 use Rattle.plan_space.specs.Lines.{only_line, single_line, loop_line, agg_line, operator_line, line_of}
+use Rattle.plan_space.specs.Lines.{table_in, dists_of_table, table_line}
 use Rattle.plan_space.specs.Modes.{mode_at, HasModeIn}
 use Rattle.plan_space.specs.declared.lines.Line.{Line}
+use Rattle.plan_space.specs.declared.lines.Line.TheVariants.{Leaf}
 use Rattle.plan_space.specs.declared.modes.Mode.{Mode}
-use Rattle.plan_space.specs.declared.modes.Mode.TheVariants.{One, Copied, Hashed}
+use Rattle.plan_space.specs.declared.modes.Mode.TheVariants.{Plain, Copied, Hashed}
 use Rattle.plan_space.specs.declared.modes.ModeSets.{ModeSets}
-use Rattle.plan_tree.specs.Walks.{AreNone, AreNoneTried, AreTriedOf, IsNextLine, IsNextTried}
+use Rattle.plan_tree.specs.Walks.{AreNone, AreNoneTried, AreReadsOf, AreTriedOf, IsNextLine, IsNextTried}
 
 -- what a crossing made crosses
 pub some_crosses : (line_by : (ℕ × ℕ) → Line) (found : Option (ℕ × ℕ)) (line : Line)
@@ -31,16 +36,30 @@ only_first own line number =
     cond_both (number == 0) (Some own) None (λ found. found ≡ Some line → number < 1)
     (λ first is. omega (arith, eqb-true number 0 first)) (λ other never. cc)
 
+-- a distribution that is found has a place below the length of the list
+dist_within : (dists : List GivenDist) (order : GivenOrder) (number : ℕ) (found : Option GivenDist) (line : Line)
+    → slice_get dists number ≡ found → option_map (λ dist. Leaf dist order) found ≡ Some line → number < length dists
+dist_within dists order number None line there is = let never : None ≡ Some line = is in cc
+dist_within dists order number (Some dist) line there is = slice_get_within dists number dist there
+
 module _ (q : Query) (modes : ModeSets) (line : Line) where
-  single_tried : HasBelow modes.one 1 → (own : Line) (mode : Mode) → single_line own mode ≡ Some line
+  table_tried : (group : KeyParts) → AreReadsOf q group modes → (order : GivenOrder) (mode : Mode)
+      → table_line q group order mode ≡ Some line → HasModeIn modes mode
+  table_tried group are order (Plain number) is =
+      let dists = dists_of_table q (table_in group) in
+      are number (dist_within dists order number (slice_get dists number) line refl is)
+  table_tried group are order (Copied number) is = let wrong : ⊥ = cc in absurd wrong
+  table_tried group are order (Hashed number) is = let wrong : ⊥ = cc in absurd wrong
+
+  single_tried : HasBelow modes.plain 1 → (own : Line) (mode : Mode) → single_line own mode ≡ Some line
       → HasModeIn modes mode
-  single_tried first own (One number) is = first number (only_first own line number is)
+  single_tried first own (Plain number) is = first number (only_first own line number is)
   single_tried first own (Copied number) is = let wrong : ⊥ = cc in absurd wrong
   single_tried first own (Hashed number) is = let wrong : ⊥ = cc in absurd wrong
 
-  loop_tried : HasBelow modes.one 1 → HasBelow modes.copied 1 → (mode : Mode) → loop_line mode ≡ Some line
+  loop_tried : HasBelow modes.plain 1 → HasBelow modes.copied 1 → (mode : Mode) → loop_line mode ≡ Some line
       → HasModeIn modes mode
-  loop_tried first copied (One number) is = first number (only_first _ line number is)
+  loop_tried first copied (Plain number) is = first number (only_first _ line number is)
   loop_tried first copied (Copied number) is = copied number (only_first _ line number is)
   loop_tried first copied (Hashed number) is = let wrong : ⊥ = cc in absurd wrong
 
@@ -49,24 +68,24 @@ module _ (q : Query) (modes : ModeSets) (line : Line) where
       cond_both (nat_lt list (length (lists_of q))) _ None (λ found. found ≡ Some line → list < length (lists_of q))
       (λ numbered is. ltb-true list (length (lists_of q)) numbered) (λ other never. cc)
 
-  agg_tried : HasBelow modes.one 1 → HasBelow modes.hashed (length (lists_of q)) → (order : ℕ) (mode : Mode)
+  agg_tried : HasBelow modes.plain 1 → HasBelow modes.hashed (length (lists_of q)) → (order : ℕ) (mode : Mode)
       → agg_line q order mode ≡ Some line → HasModeIn modes mode
-  agg_tried first lists order (One number) is = first number (only_first _ line number is)
+  agg_tried first lists order (Plain number) is = first number (only_first _ line number is)
   agg_tried first lists order (Copied number) is = let wrong : ⊥ = cc in absurd wrong
   agg_tried first lists order (Hashed list) is = lists list (list_numbered order list is)
 
-  pub operator_tried : (group : KeyParts) (operator : Physical) (mode : Mode) → AreTriedOf q operator modes
+  pub operator_tried : (group : KeyParts) (operator : Physical) (mode : Mode) → AreTriedOf q group operator modes
       → operator_line q group operator mode ≡ Some line → HasModeIn modes mode
-  operator_tried group physical.Scan mode are is = single_tried are _ mode is
-  operator_tried group (physical.IndexScan index) mode are is = single_tried are _ mode is
+  operator_tried group physical.Scan mode are is = table_tried group are _ mode is
+  operator_tried group (physical.IndexScan index) mode are is = table_tried group are _ mode is
   operator_tried group (physical.Filter child) mode are is = single_tried are _ mode is
-  operator_tried group (physical.IndexSeek index) mode are is = single_tried are _ mode is
-  operator_tried group (physical.HashJoin left right) (One number) are is = are.0 number (only_first _ line number is)
+  operator_tried group (physical.IndexSeek index) mode are is = table_tried group are _ mode is
+  operator_tried group (physical.HashJoin left right) (Plain number) are is = are.0 number (only_first _ line number is)
   operator_tried group (physical.HashJoin left right) (Copied number) are is =
       are.1 number (only_first _ line number is)
   operator_tried group (physical.HashJoin left right) (Hashed number) are is =
       are.2 number (some_crosses _ (crossing_of q left right number) line is)
-  operator_tried group (physical.MergeJoin left right) (One number) are is =
+  operator_tried group (physical.MergeJoin left right) (Plain number) are is =
       are.0 number (some_crosses _ (crossing_of q left right number) line is)
   operator_tried group (physical.MergeJoin left right) (Copied number) are is =
       are.1 number (some_crosses _ (crossing_of q left right number) line is)
@@ -108,7 +127,7 @@ module _ (q : Query) (e : PhysicalExpr) (modes : ModeSets) where
             absurd never
       ] refl
 
-  module _ (are : AreTriedOf q e.operator modes) where
+  module _ (are : AreTriedOf q e.group e.operator modes) where
     -- a mode that would have a line, and isn't tried, has none
     untried : (mode : ℕ) (found : Option Line) → line_of q e mode ≡ found
         → (HasModeIn modes (mode_at mode) → line_of q e mode ≡ None) → found ≡ None

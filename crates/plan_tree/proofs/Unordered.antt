@@ -54,7 +54,7 @@ module _ (q : Query) (line : Line) where
   colocated_none (Some sides) is = own_line (hash_colocated q sides) refl is
 
   hash_none : (left right : KeyParts) (mode : Mode) → GivesNone (hash_line q left right mode)
-  hash_none left right (modes.One number) = only_none _ number refl
+  hash_none left right (modes.Plain number) = only_none _ number refl
   hash_none left right (modes.Copied number) = only_none _ number refl
   hash_none left right (modes.Hashed number) = colocated_none (crossing_of q left right number)
 

@@ -14,24 +14,24 @@ use Rattle.request_props.specs.declared.request.Dist.{Dist}
 use Rattle.request_props.specs.declared.request.Dist.TheVariants.{One, Spread, Copies, Hashed}
 use Rattle.request_props.specs.declared.request.Request.{Request}
 use Rattle.plan_space.specs.Alternatives.{IsAlternative}
-use Rattle.plan_space.specs.Modes.{mode_at, modes_end, HasModeIn, IsOnOne, IsSpread}
+use Rattle.plan_space.specs.Modes.{mode_at, modes_end, HasModeIn, IsPlain, IsSpread}
 use Rattle.plan_space.specs.declared.modes.Mode.{Mode}
 use Rattle.plan_space.specs.declared.lines.Line.{Line}
 use Rattle.plan_space.specs.declared.modes.ModeSets.{ModeSets}
 use Rattle.plan_tree.specs.Alternatives.{HasAlternative}
 
--- the operator has modes for spread rows, and others for rows on one segment
-abbrev pub has_spread_modes : Physical → Bool
-has_spread_modes physical.Scan = false
-has_spread_modes (physical.IndexScan index) = false
-has_spread_modes (physical.Filter child) = false
-has_spread_modes (physical.IndexSeek index) = false
-has_spread_modes (physical.HashJoin left right) = true
-has_spread_modes (physical.MergeJoin left right) = true
-has_spread_modes (physical.LoopJoin left right) = true
-has_spread_modes (physical.HashAgg child) = true
-has_spread_modes (physical.StreamAgg child) = true
-has_spread_modes (physical.PartialAgg child) = false
+-- in the operator's plain modes all rows are on one segment, and in its others they are shared out
+abbrev pub is_plain_on_one : Physical → Bool
+is_plain_on_one physical.Scan = false
+is_plain_on_one (physical.IndexScan index) = false
+is_plain_on_one (physical.Filter child) = false
+is_plain_on_one (physical.IndexSeek index) = false
+is_plain_on_one (physical.HashJoin left right) = true
+is_plain_on_one (physical.MergeJoin left right) = true
+is_plain_on_one (physical.LoopJoin left right) = true
+is_plain_on_one (physical.HashAgg child) = true
+is_plain_on_one (physical.StreamAgg child) = true
+is_plain_on_one (physical.PartialAgg child) = false
 
 -- a join over this left child can give the distribution: no copies, and a hash only by what lies in the child
 abbrev pub DistSuits : Query → KeyParts → Dist → Type 0
@@ -40,9 +40,9 @@ DistSuits q left Spread = ⊤
 DistSuits q left Copies = ⊥
 DistSuits q left (Hashed list) = HashFits q left list
 
--- the mode is of the kind that serves the distribution
+-- the mode is of the kind that serves the distribution, where plain modes have all rows on one segment
 abbrev pub IsModeFor : Dist → Mode → Type 0
-IsModeFor One mode = IsOnOne mode
+IsModeFor One mode = IsPlain mode
 IsModeFor Spread mode = IsSpread mode
 IsModeFor Copies mode = ⊥
 IsModeFor (Hashed list) mode = IsSpread mode

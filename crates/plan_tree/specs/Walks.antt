@@ -9,7 +9,7 @@ use Rattle.query_core.specs.declared.words.KeyParts.{KeyParts}
 use Rattle.request_props.specs.Numbered.{lists_of}
 use Rattle.request_props.specs.NumberSets.{HasBelow, IsInSet}
 use Rattle.request_props.specs.declared.number_set.NumberSet.{NumberSet}
-use Rattle.plan_space.specs.Lines.{line_of}
+use Rattle.plan_space.specs.Lines.{line_of, table_in, dists_of_table}
 use Rattle.plan_space.specs.Modes.{mode_at, modes_end, HasModeIn}
 use Rattle.plan_space.specs.declared.lines.Line.{Line}
 use Rattle.plan_space.specs.declared.modes.ModeSets.{ModeSets}
@@ -41,18 +41,23 @@ IsNextTried q e modes from (Some found) =
 abbrev pub AreCrossingsBetween : Query → KeyParts → KeyParts → NumberSet → Type 0
 AreCrossingsBetween q left right preds = (pred : ℕ) → (crossing_of q left right pred ≡ None → ⊥) → IsInSet preds pred
 
--- each mode in which the operator can work is among these: the first of a kind, or those by equalities or lists
-abbrev pub AreTriedOf : Query → Physical → ModeSets → Type 0
-AreTriedOf q physical.Scan modes = HasBelow modes.one 1
-AreTriedOf q (physical.IndexScan index) modes = HasBelow modes.one 1
-AreTriedOf q (physical.Filter child) modes = HasBelow modes.one 1
-AreTriedOf q (physical.IndexSeek index) modes = HasBelow modes.one 1
-AreTriedOf q (physical.HashJoin left right) modes = HasBelow modes.one 1 × HasBelow modes.copied 1
+-- a mode for each distribution in which the rows of the group's table are read is among these
+abbrev pub AreReadsOf : Query → KeyParts → ModeSets → Type 0
+AreReadsOf q group modes = HasBelow modes.plain (length (dists_of_table q (table_in group)))
+
+-- each mode in which the operator can work is among these: the first of a kind, those in which a table is read, or those
+-- by equalities or lists
+abbrev pub AreTriedOf : Query → KeyParts → Physical → ModeSets → Type 0
+AreTriedOf q group physical.Scan modes = AreReadsOf q group modes
+AreTriedOf q group (physical.IndexScan index) modes = AreReadsOf q group modes
+AreTriedOf q group (physical.Filter child) modes = HasBelow modes.plain 1
+AreTriedOf q group (physical.IndexSeek index) modes = AreReadsOf q group modes
+AreTriedOf q group (physical.HashJoin left right) modes = HasBelow modes.plain 1 × HasBelow modes.copied 1
     × AreCrossingsBetween q left right modes.hashed
-AreTriedOf q (physical.MergeJoin left right) modes =
-    AreCrossingsBetween q left right modes.one × AreCrossingsBetween q left right modes.copied
+AreTriedOf q group (physical.MergeJoin left right) modes =
+    AreCrossingsBetween q left right modes.plain × AreCrossingsBetween q left right modes.copied
     × AreCrossingsBetween q left right modes.hashed
-AreTriedOf q (physical.LoopJoin left right) modes = HasBelow modes.one 1 × HasBelow modes.copied 1
-AreTriedOf q (physical.HashAgg child) modes = HasBelow modes.one 1 × HasBelow modes.hashed (length (lists_of q))
-AreTriedOf q (physical.StreamAgg child) modes = HasBelow modes.one 1 × HasBelow modes.hashed (length (lists_of q))
-AreTriedOf q (physical.PartialAgg child) modes = HasBelow modes.one 1
+AreTriedOf q group (physical.LoopJoin left right) modes = HasBelow modes.plain 1 × HasBelow modes.copied 1
+AreTriedOf q group (physical.HashAgg child) modes = HasBelow modes.plain 1 × HasBelow modes.hashed (length (lists_of q))
+AreTriedOf q group (physical.StreamAgg child) modes = HasBelow modes.plain 1 × HasBelow modes.hashed (length (lists_of q))
+AreTriedOf q group (physical.PartialAgg child) modes = HasBelow modes.plain 1

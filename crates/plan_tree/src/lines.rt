@@ -1,7 +1,7 @@
 //! The line of an expression in a mode. No call here takes memory.
 #![tactic(auto)]
 
-ghost use Rattle.std.specs.Prelude.{ℕ, ◌≡◌};
+ghost use Rattle.std.specs.Prelude.{ℕ, ◌≡◌, slice_get, length};
 ghost use Rattle.request_props.specs.Numbered.{IsProps, side_of};
 ghost use Rattle.plan_space.specs.Lines.{line_of as line_by_table, table_line as line_of_table};
 ghost use Rattle.plan_space.specs.Lines.{hash_line as hash_line_by_table, merge_line as merge_line_by_table};
@@ -10,6 +10,7 @@ ghost use Rattle.plan_space.specs.Lines.{hash_colocated as hash_line_with, merge
 ghost use Rattle.plan_space.specs.Lines.{only_line as only_by_table, single_line as single_by_table};
 ghost use Rattle.plan_space.specs.Lines.{merge_colocated as merge_line_hashed};
 ghost use Rattle.plan_space.specs.Lines.{table_in as table_of_group, on_one, on_hashed, in_order};
+ghost use Rattle.plan_space.specs.Lines.{is_replicated as has_copies, replica_dists, dists_of_table};
 
 use plan_space::{LeftDist, LeftOrder, Line, Mode};
 use query_core::{KeyParts, Physical, PhysicalExpr, Query};
@@ -24,15 +25,13 @@ pub fn line_of(query: &Query, props: &Props, expr: PhysicalExpr, mode: u32) -> O
     let group = expr.group;
     let table = table_in(group);
     match expr.operator {
-        Physical::Scan => single_line(table_line(query, props, group, GivenOrder::Listed(0)), mode),
+        Physical::Scan => table_line(query, props, group, GivenOrder::Listed(0), mode),
         Physical::IndexScan(index) => {
-            let order = GivenOrder::Index(table, index);
-            single_line(table_line(query, props, group, order), mode)
+            table_line(query, props, group, GivenOrder::Index(table, index), mode)
         }
         Physical::Filter(_) => single_line(Line::Above(LeftDist::Same, LeftOrder::Same), mode),
         Physical::IndexSeek(index) => {
-            let order = GivenOrder::Index(table, index);
-            single_line(table_line(query, props, group, order), mode)
+            table_line(query, props, group, GivenOrder::Index(table, index), mode)
         }
         Physical::HashJoin(left, right) => hash_line(query, props, left, right, mode),
         Physical::MergeJoin(left, right) => merge_line(query, props, left, right, mode),
@@ -70,18 +69,75 @@ fn single_line(line: Line, mode: Mode) -> Option<Line>
     ensures { result ≡ single_by_table line mode }
 {
     match mode {
-        Mode::One(number) => only_line(line, number),
+        Mode::Plain(number) => only_line(line, number),
         Mode::Copied(_) => None,
         Mode::Hashed(_) => None,
     }
 }
 
-// The rows of a group's table where they lie, in this order.
-fn table_line(query: &Query, props: &Props, group: KeyParts, order: GivenOrder) -> Line
-    requires { IsProps query.now props.now }
-    ensures { result ≡ line_of_table query.now group order }
+/// Whether all rows of the table lie on each segment.
+pub fn is_replicated(query: &Query, table: u32) -> bool
+    ensures { result ≡ has_copies query.now table }
 {
-    Line::Leaf(props.table_dist(query, table_in(group)), order)
+    match query.tables.as_slice().get(table as usize) {
+        Some(found) => found.replicated,
+        None => false,
+    }
+}
+
+/// In how many distributions the rows of the table are read.
+pub fn read_count(query: &Query, table: u32) -> u32
+    ensures { result ≡ length (dists_of_table query.now table) }
+{
+    if is_replicated(query, table) { 3 } else { 1 }
+}
+
+// The distribution in which the rows of the table are read in the mode of this number, if they are.
+fn read_dist(query: &Query, props: &Props, table: u32, number: u32) -> Option<GivenDist>
+    requires { IsProps query.now props.now }
+    ensures { result ≡ slice_get (dists_of_table query.now table) number }
+{
+    if is_replicated(query, table) {
+        replica_dist(number)
+    } else if number == 0 {
+        Some(props.table_dist(query, table))
+    } else {
+        None
+    }
+}
+
+// On each segment a share of its own, all rows at one place, or all rows on each segment.
+fn replica_dist(number: u32) -> Option<GivenDist>
+    ensures { result ≡ slice_get replica_dists number }
+{
+    match number {
+        0 => Some(GivenDist::Random),
+        1 => Some(GivenDist::One),
+        2 => Some(GivenDist::Copies),
+        _ => None,
+    }
+}
+
+// The rows of a group's table in this order: a line for each distribution in which they are
+// read.
+fn table_line(
+    query: &Query,
+    props: &Props,
+    group: KeyParts,
+    order: GivenOrder,
+    mode: Mode,
+) -> Option<Line>
+    requires { IsProps query.now props.now }
+    ensures { result ≡ line_of_table query.now group order mode }
+{
+    match mode {
+        Mode::Plain(number) => {
+            let dist = read_dist(query, props, table_in(group), number)?;
+            Some(Line::Leaf(dist, order))
+        }
+        Mode::Copied(_) => None,
+        Mode::Hashed(_) => None,
+    }
 }
 
 // An aggregation that gives this order, over a child in the same order: on one segment, or for
@@ -91,7 +147,7 @@ fn agg_line(query: &Query, props: &Props, order: u32, mode: Mode) -> Option<Line
     ensures { result ≡ agg_line_by_table query.now order mode }
 {
     match mode {
-        Mode::One(number) => only_line(Line::Above(left_on_one(), left_in_order(order)), number),
+        Mode::Plain(number) => only_line(Line::Above(left_on_one(), left_in_order(order)), number),
         Mode::Copied(_) => None,
         Mode::Hashed(list) => {
             if props.has_list(query, list) {
@@ -116,7 +172,7 @@ fn hash_line(
     ensures { result ≡ hash_line_by_table query.now left right mode }
 {
     match mode {
-        Mode::One(number) => {
+        Mode::Plain(number) => {
             let line = Line::Beside(left_on_one(), left_in_order(0), unordered(Dist::One));
             only_line(line, number)
         }
@@ -159,7 +215,7 @@ fn merge_line(
     ensures { result ≡ merge_line_by_table query.now left right mode }
 {
     match mode {
-        Mode::One(number) => {
+        Mode::Plain(number) => {
             let sides = props.crossing(query, left, right, number)?;
             Some(merge_with(query, left_on_one(), Dist::One, sides.0, sides.1))
         }
@@ -205,7 +261,7 @@ fn loop_line(mode: Mode) -> Option<Line>
     ensures { result ≡ loop_line_by_table mode }
 {
     match mode {
-        Mode::One(number) => {
+        Mode::Plain(number) => {
             let line = Line::Beside(left_on_one(), LeftOrder::Same, unordered(Dist::One));
             only_line(line, number)
         }

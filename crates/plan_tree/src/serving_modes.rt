@@ -1,6 +1,7 @@
 //! The modes in which an expression may serve a request, one after the other, and whether there are any. Of most
 //! operators the first mode or the request itself tells that, of a merge join the predicates whose left column gives
-//! the order, and only aggregations are looked at mode by mode.
+//! the order, and only aggregations and reads of tables are looked at mode by mode. A read has one mode, but where all
+//! rows of the table lie on each segment.
 #![tactic(auto)]
 
 ghost use Rattle.std.specs.Prelude.{ℕ, [], ◌≡◌, ◌↔◌, IsTrue};
@@ -9,7 +10,7 @@ ghost use Rattle.query_core.specs.Expressions.{expr_of, IsCandidate};
 ghost use Rattle.request_props.specs.Numbered.{IsProps, IsNumbered, order_of};
 ghost use Rattle.request_props.specs.Satisfied.{BeginsWith};
 ghost use Rattle.plan_tree.specs.Alternatives.{HasAlternative};
-ghost use Rattle.plan_tree.specs.ServingModes.{has_spread_modes as spread_modes};
+ghost use Rattle.plan_tree.specs.ServingModes.{is_plain_on_one as plain_is_on_one};
 ghost use Rattle.plan_tree.specs.ServingModes.{is_join as joins_two_groups};
 ghost use Rattle.plan_tree.specs.ServingModes.{AreServingByKind, AreToTry, DistSuits, IsNextServing, MayServe};
 
@@ -30,10 +31,10 @@ pub fn may_serve(query: &Query, props: &Props, expr: PhysicalExpr, wanted: Reque
     // For the proof: the columns of a join have orders that fit its left child.
     what_is_asked_fits();
     match expr.operator {
-        Physical::Scan => serves_in_first(query, props, expr, wanted),
-        Physical::IndexScan(_) => serves_in_first(query, props, expr, wanted),
+        Physical::Scan => serves_in_some(query, props, expr, wanted),
+        Physical::IndexScan(_) => serves_in_some(query, props, expr, wanted),
         Physical::Filter(_) => serves_in_first(query, props, expr, wanted),
-        Physical::IndexSeek(_) => serves_in_first(query, props, expr, wanted),
+        Physical::IndexSeek(_) => serves_in_some(query, props, expr, wanted),
         Physical::HashJoin(left, _) => {
             wants_no_order(query, props, wanted.order)
                 && dist_suits(query, props, left, wanted.dist)
@@ -105,11 +106,11 @@ pub fn modes_to_try(query: &Query, props: &Props, expr: PhysicalExpr, wanted: Re
     ensures { AreToTry query.now expr wanted result }
 {
     let modes = modes_by_operator(query, props, expr, wanted);
-    if !has_spread_modes(expr.operator) {
+    if !is_plain_on_one(expr.operator) {
         return modes;
     }
     match wanted.dist {
-        Dist::One => modes.on_one(),
+        Dist::One => modes.plain(),
         Dist::Spread => modes.spread(),
         Dist::Copies => ModeSets::none(),
         Dist::Hashed(_) => modes.spread(),
@@ -175,7 +176,7 @@ fn modes_by_operator(query: &Query, props: &Props, expr: PhysicalExpr, wanted: R
             tried(first, copied, NumberSet::none())
         }
         Physical::LoopJoin(_, _) => ModeSets::none(),
-        _ => tried_modes(query, props, expr.operator),
+        _ => tried_modes(query, props, expr),
     }
 }
 
@@ -209,8 +210,8 @@ fn is_join(expr: PhysicalExpr) -> bool
     }
 }
 
-fn has_spread_modes(operator: Physical) -> bool
-    ensures { result ≡ spread_modes operator }
+fn is_plain_on_one(operator: Physical) -> bool
+    ensures { result ≡ plain_is_on_one operator }
 {
     match operator {
         Physical::Scan => false,

@@ -4,11 +4,11 @@
 ghost use Rattle.std.specs.Prelude.{◌≡◌, length};
 ghost use Rattle.request_props.specs.NumberSets.{HasBelow};
 ghost use Rattle.request_props.specs.Numbered.{IsProps, lists_of};
-ghost use Rattle.plan_tree.specs.Walks.{AreTriedOf, IsNextLine, IsNextTried};
+ghost use Rattle.plan_tree.specs.Walks.{AreReadsOf, AreTriedOf, IsNextLine, IsNextTried};
 
-use crate::lines::line_of;
+use crate::lines::{line_of, read_count, table_in};
 use plan_space::{Line, MODES_END, ModeSets, modes_are_few};
-use query_core::{Physical, PhysicalExpr, Query};
+use query_core::{KeyParts, Physical, PhysicalExpr, Query};
 use request_props::{NumberSet, Props};
 
 /// The first mode from this number on in which the expression works, with its line.
@@ -16,13 +16,7 @@ pub fn next_line(query: &Query, props: &Props, expr: PhysicalExpr, from: u32) ->
     requires { IsProps query.now props.now }
     ensures { IsNextLine query.now expr from result }
 {
-    next_tried(
-        query,
-        props,
-        expr,
-        tried_modes(query, props, expr.operator),
-        from,
-    )
+    next_tried(query, props, expr, tried_modes(query, props, expr), from)
 }
 
 /// The first of these modes from this number on in which the expression works, with its line.
@@ -49,18 +43,18 @@ pub fn next_tried(
     None
 }
 
-/// The modes that are tried of an operator: all are among them in which it works.
-pub fn tried_modes(query: &Query, props: &Props, operator: Physical) -> ModeSets
+/// The modes that are tried of an expression: all are among them in which it works.
+pub fn tried_modes(query: &Query, props: &Props, expr: PhysicalExpr) -> ModeSets
     requires { IsProps query.now props.now }
-    ensures { AreTriedOf query.now operator result }
+    ensures { AreTriedOf query.now expr.group expr.operator result }
 {
     let first = NumberSet::below(1);
     let none = NumberSet::none();
-    match operator {
-        Physical::Scan => tried(first, none, none),
-        Physical::IndexScan(_) => tried(first, none, none),
+    match expr.operator {
+        Physical::Scan => by_reads(query, expr.group),
+        Physical::IndexScan(_) => by_reads(query, expr.group),
         Physical::Filter(_) => tried(first, none, none),
-        Physical::IndexSeek(_) => tried(first, none, none),
+        Physical::IndexSeek(_) => by_reads(query, expr.group),
         Physical::HashJoin(left, right) => {
             tried(first, first, props.crossings(query, left, right))
         }
@@ -75,6 +69,14 @@ pub fn tried_modes(query: &Query, props: &Props, operator: Physical) -> ModeSets
     }
 }
 
+// A mode for each distribution in which the rows of the group's table are read.
+fn by_reads(query: &Query, group: KeyParts) -> ModeSets
+    ensures { AreReadsOf query.now group result }
+{
+    let reads = NumberSet::below(read_count(query, table_in(group)));
+    tried(reads, NumberSet::none(), NumberSet::none())
+}
+
 // The numbers of all hashed lists.
 fn by_lists(query: &Query, props: &Props) -> NumberSet
     requires { IsProps query.now props.now }
@@ -83,11 +85,11 @@ fn by_lists(query: &Query, props: &Props) -> NumberSet
     NumberSet::below(props.hashed.len() as u32)
 }
 
-pub fn tried(one: NumberSet, copied: NumberSet, hashed: NumberSet) -> ModeSets
-    ensures { result ≡ record { one = one; copied = copied; hashed = hashed } }
+pub fn tried(plain: NumberSet, copied: NumberSet, hashed: NumberSet) -> ModeSets
+    ensures { result ≡ record { plain = plain; copied = copied; hashed = hashed } }
 {
     ModeSets {
-        one,
+        plain,
         copied,
         hashed,
     }

@@ -8,18 +8,18 @@ use Rattle.plan_tree.proofs.Lined.{sides_found, merge_one, merge_copied, merge_h
 use Rattle.plan_tree.proofs.lines.merge_line.Goals as goal
 
 -- the sides that were looked up are those of the equality
-pub returns-in_ok-sides-in-One : goal.returns-in_ok-sides-in-One
-returns-in_ok-sides-in-One c =
+pub returns-in_ok-sides-in-Plain : goal.returns-in_ok-sides-in-Plain
+returns-in_ok-sides-in-Plain c =
     let q = c.args.query.now in
-    let number = c.in-One.number in
-    let is = sides_found q (crossing_of q c.args.left c.args.right number) c.in_ok-sides-in-One.sides
-    c.in_ok-sides-in-One.ensures in
+    let number = c.in-Plain.number in
+    let is = sides_found q (crossing_of q c.args.left c.args.right number) c.in_ok-sides-in-Plain.sides
+    c.in_ok-sides-in-Plain.ensures in
     let made : c.merge_with.result ≡ merge_with q on_one dists.One (is.first, is.second) =
     subst (λ (dist : LeftDist). c.merge_with.result ≡ merge_with q dist dists.One (is.first, is.second))
     c.left_on_one.ensures
     (c.merge_with.ensures is.first is.second is.is_left is.is_right)
     in
-    subst (λ (mode : Mode). Some c.merge_with.result ≡ merge_line q c.args.left c.args.right mode) (sym c.in-One.is)
+    subst (λ (mode : Mode). Some c.merge_with.result ≡ merge_line q c.args.left c.args.right mode) (sym c.in-Plain.is)
     (merge_one q c.args.left c.args.right number is.first is.second c.merge_with.result is.is_found made)
 
 pub returns-in_ok-sides-in-Copied : goal.returns-in_ok-sides-in-Copied

@@ -1,6 +1,5 @@
--- An operator with one line serves in its first mode or in none. A hash join serves exactly the requests without an
--- order whose distribution it can give, a loop join those whose order fits its left child, and a merge join those whose
--- order a column gives by which it merges.
+-- A hash join serves exactly the requests without an order whose distribution it can give, a loop join those whose order
+-- fits its left child, and a merge join those whose order a column gives by which it merges.
 use Rattle.std.proofs.Common.{ap, sym, ◌∙◌}
 use Rattle.std.proofs.lemmas.Bool.{false≢true, false_from_ne_true, not-true, not_from_false}
 use Rattle.query_core.specs.Expressions.{physical_children}
@@ -77,29 +76,22 @@ returns-else-dist_suits-2 c =
           c.requires.numbered serves),
     )
 
+-- so are those of a read of a table
 pub returns-in-Scan : goal.returns-in-Scan
-returns-in-Scan c = (
-  λ is. (0, c.serves_in_first.ensures.0 is),
-  λ serves. c.serves_in_first.ensures.1 (serves_first c.args.query.now c.args.expr c.args.wanted _ c.in-Scan.is tt serves),
-)
+returns-in-Scan c = (λ is. c.serves_in_some.ensures.0 is, λ serves. c.serves_in_some.ensures.1 serves)
 
 pub returns-in-IndexScan : goal.returns-in-IndexScan
-returns-in-IndexScan c = (
-  λ is. (0, c.serves_in_first-in-IndexScan.ensures.0 is),
-  λ serves. c.serves_in_first-in-IndexScan.ensures.1 (serves_first c.args.query.now c.args.expr c.args.wanted _ c.in-IndexScan.is tt serves),
-)
+returns-in-IndexScan c = (λ is. c.serves_in_some-in-IndexScan.ensures.0 is, λ serves. c.serves_in_some-in-IndexScan.ensures.1 serves)
 
+-- an operator with one line serves in its first mode or in none
 pub returns-in-Filter : goal.returns-in-Filter
 returns-in-Filter c = (
-  λ is. (0, c.serves_in_first-in-Filter.ensures.0 is),
-  λ serves. c.serves_in_first-in-Filter.ensures.1 (serves_first c.args.query.now c.args.expr c.args.wanted _ c.in-Filter.is tt serves),
+  λ is. (0, c.serves_in_first.ensures.0 is),
+  λ serves. c.serves_in_first.ensures.1 (serves_first c.args.query.now c.args.expr c.args.wanted _ c.in-Filter.is tt serves),
 )
 
 pub returns-in-IndexSeek : goal.returns-in-IndexSeek
-returns-in-IndexSeek c = (
-  λ is. (0, c.serves_in_first-in-IndexSeek.ensures.0 is),
-  λ serves. c.serves_in_first-in-IndexSeek.ensures.1 (serves_first c.args.query.now c.args.expr c.args.wanted _ c.in-IndexSeek.is tt serves),
-)
+returns-in-IndexSeek c = (λ is. c.serves_in_some-in-IndexSeek.ensures.0 is, λ serves. c.serves_in_some-in-IndexSeek.ensures.1 serves)
 
 pub returns-in-PartialAgg : goal.returns-in-PartialAgg
 returns-in-PartialAgg c = (
@@ -107,9 +99,9 @@ returns-in-PartialAgg c = (
   λ serves. c.serves_in_first-in-PartialAgg.ensures.1 (serves_first c.args.query.now c.args.expr c.args.wanted _ c.in-PartialAgg.is tt serves),
 )
 
--- an aggregation's modes are looked at one by one
+-- the modes of an aggregation are looked at one by one
 pub returns-then-wants_no_order-2 : goal.returns-then-wants_no_order-2
-returns-then-wants_no_order-2 c = (λ is. c.serves_in_some.ensures.0 is, λ serves. c.serves_in_some.ensures.1 serves)
+returns-then-wants_no_order-2 c = (λ is. c.serves_in_some-then-wants_no_order-2.ensures.0 is, λ serves. c.serves_in_some-then-wants_no_order-2.ensures.1 serves)
 
 pub returns-in-StreamAgg : goal.returns-in-StreamAgg
 returns-in-StreamAgg c =

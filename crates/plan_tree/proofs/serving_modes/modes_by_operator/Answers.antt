@@ -18,7 +18,7 @@ returns-in-HashJoin c =
     let wanted = c.args.wanted in
     let first = c.below-first in
     let suited = c.where_suits-copied in
-    let modes : ModeSets = record { one = first.result; copied = suited.result; hashed = c.hashing.result } in
+    let modes : ModeSets = record { plain = first.result; copied = suited.result; hashed = c.hashing.result } in
     let below = first.ensures.all (omega arith) in
     subst (AreServingByKind q c.args.expr wanted) (sym c.tried.ensures)
     (to_try_by q c.args.expr join.left join.right wanted modes (c.what_is_asked_fits.ensures.crossings q)
@@ -46,7 +46,7 @@ returns-in-MergeJoin c =
     let merging = c.merging-merging in
     let hashing = c.hashing-hashing in
     let suited = c.where_suits-copied-in-MergeJoin in
-    let modes : ModeSets = record { one = merging.result; copied = suited.result; hashed = c.and.result } in
+    let modes : ModeSets = record { plain = merging.result; copied = suited.result; hashed = c.and.result } in
     subst (AreServingByKind q c.args.expr wanted) (sym c.tried-in-MergeJoin.ensures)
     (to_try_by q c.args.expr join.left join.right wanted modes (c.what_is_asked_fits.ensures.crossings q)
     (physical.MergeJoin join.left join.right) join.is refl
@@ -62,7 +62,7 @@ returns-in-LoopJoin c =
     let wanted = c.args.wanted in
     let first = c.below-first-in-LoopJoin in
     let suited = c.where_suits-copied-in-LoopJoin in
-    let modes : ModeSets = record { one = first.result; copied = suited.result; hashed = c.none-in-LoopJoin.result } in
+    let modes : ModeSets = record { plain = first.result; copied = suited.result; hashed = c.none-in-LoopJoin.result } in
     let below = first.ensures.all (omega arith) in
     subst (AreServingByKind q c.args.expr wanted) (sym c.tried-in-LoopJoin.ensures)
     (to_try_by q c.args.expr join.left join.field-1 wanted modes (c.what_is_asked_fits.ensures.crossings q)
