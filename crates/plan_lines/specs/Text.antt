@@ -1,5 +1,6 @@
 -- The lines in which a plan is printed.
-use Rattle.std.specs.Prelude.{ℕ, zero, suc, List, [], ◌∷◌, ◌++◌, flat_map, Option, None, Some, codes, decimal}
+use Rattle.std.specs.Prelude.{ℕ, zero, suc, ◌==◌, List, [], ◌∷◌, ◌++◌, flat_map, Option, None, Some, codes, decimal}
+use Rattle.std.specs.Prelude.{if◌then◌else◌}
 use Rattle.query_core.specs.declared.query.Query.{Query}
 use Rattle.query_core.specs.declared.output.OutItem.{OutItem}
 use Rattle.query_core.specs.declared.expressions.Physical.{Physical}
@@ -18,7 +19,7 @@ use Rattle.plan_space.specs.Nodes.{Tree, leaf, over, two}
 use Rattle.plan_space.specs.Modes.{mode_at}
 use Rattle.plan_space.specs.declared.modes.Mode.{Mode}
 use Rattle.plan_space.specs.declared.modes.Mode.TheVariants as modes
-use Rattle.plan_space.specs.Lines.{table_in}
+use Rattle.plan_space.specs.Lines.{table_in, is_replicated}
 use Rattle.plan_space.specs.declared.seen.Kid.{Kid}
 use Rattle.plan_space.specs.Gives.{node_group, kid_of}
 use Rattle.plan_space.specs.Cost.{shape_of, cost_of}
@@ -28,27 +29,37 @@ use Rattle.plan_space.specs.Cost.{shape_of, cost_of}
 -- how a hash join works: on one segment, with copies of the right side, or on rows hashed alike by the equality of this
 -- number
 abbrev pub hash_mode_text : Mode → List ℕ
-hash_mode_text (modes.One number) = codes "one"
+hash_mode_text (modes.Plain number) = codes "one"
 hash_mode_text (modes.Copied number) = codes "copied"
 hash_mode_text (modes.Hashed number) = codes "colocated p" ++ decimal number
 
 -- how a merge join works, each time by the equality of this number
 abbrev pub merge_mode_text : Mode → List ℕ
-merge_mode_text (modes.One number) = codes "one p" ++ decimal number
+merge_mode_text (modes.Plain number) = codes "one p" ++ decimal number
 merge_mode_text (modes.Copied number) = codes "copied p" ++ decimal number
 merge_mode_text (modes.Hashed number) = codes "colocated p" ++ decimal number
 
 -- how a loop join works; it has no line in a hashed mode
 abbrev pub loop_mode_text : Mode → List ℕ
-loop_mode_text (modes.One number) = codes "one"
+loop_mode_text (modes.Plain number) = codes "one"
 loop_mode_text (modes.Copied number) = codes "copied"
 loop_mode_text (modes.Hashed number) = codes "copied"
 
 -- how an aggregation works: on one segment, or on rows hashed by the list of this number; it has no line with copies
 abbrev pub agg_mode_text : Query → Mode → List ℕ
-agg_mode_text q (modes.One number) = codes "one"
+agg_mode_text q (modes.Plain number) = codes "one"
 agg_mode_text q (modes.Copied number) = codes "one"
 agg_mode_text q (modes.Hashed list) = codes "hashed " ++ list_text q (list_of q list)
+
+-- how rows are read of which each segment has all: a share on each segment, all at one place, or all on each segment
+abbrev pub replica_text : ℕ → List ℕ
+replica_text number = if number == 0 then codes " own" else if number == 1 then codes " one" else codes " copies"
+
+-- how the rows of a table are read, where there are several ways; the modes that aren't plain have no line
+abbrev pub read_text : Query → ℕ → Mode → List ℕ
+read_text q table (modes.Plain number) = if is_replicated q table then replica_text number else []
+read_text q table (modes.Copied number) = []
+read_text q table (modes.Hashed number) = []
 
 -- a table, and the number of its index
 abbrev pub index_text : Query → ℕ → ℕ → List ℕ
@@ -56,10 +67,13 @@ index_text q table index = table_text q table ++ codes ", i" ++ decimal index
 
 -- an operator in a mode, with the table whose rows it makes, if it makes a table's
 abbrev pub operator_text : Query → Physical → ℕ → Mode → List ℕ
-operator_text q physical.Scan table mode = codes "Scan(" ++ table_text q table ++ codes ")"
-operator_text q (physical.IndexScan index) table mode = codes "IndexScan(" ++ index_text q table index ++ codes ")"
+operator_text q physical.Scan table mode =
+    codes "Scan(" ++ table_text q table ++ read_text q table mode ++ codes ")"
+operator_text q (physical.IndexScan index) table mode =
+    codes "IndexScan(" ++ index_text q table index ++ read_text q table mode ++ codes ")"
 operator_text q (physical.Filter child) table mode = codes "Filter(" ++ table_text q table ++ codes ")"
-operator_text q (physical.IndexSeek index) table mode = codes "IndexSeek(" ++ index_text q table index ++ codes ")"
+operator_text q (physical.IndexSeek index) table mode =
+    codes "IndexSeek(" ++ index_text q table index ++ read_text q table mode ++ codes ")"
 operator_text q (physical.HashJoin left right) table mode = codes "HashJoin(" ++ hash_mode_text mode ++ codes ")"
 operator_text q (physical.MergeJoin left right) table mode = codes "MergeJoin(" ++ merge_mode_text mode ++ codes ")"
 operator_text q (physical.LoopJoin left right) table mode = codes "LoopJoin(" ++ loop_mode_text mode ++ codes ")"

@@ -6,7 +6,7 @@ ghost use Rattle.request_props.specs.Numbered.{IsProps};
 ghost use Rattle.plan_lines.specs.Text as texts;
 
 use plan_space::{Enforcer, Mode, NodeKind};
-use plan_tree::table_in;
+use plan_tree::{is_replicated, table_in};
 use query_core::{Physical, PhysicalExpr, Query};
 use query_text::{list_text, order_text, table_text};
 use request_props::Props;
@@ -71,11 +71,13 @@ fn native_text(
     match expr.operator {
         Physical::Scan => {
             let alias = table_text(query, table);
-            Ok(format!(in alloc; "Scan({alias})")?)
+            let read = read_text(query, table, mode);
+            Ok(format!(in alloc; "Scan({alias}{read})")?)
         }
         Physical::IndexScan(index) => {
             let place = index_text(alloc, query, table, index)?;
-            Ok(format!(in alloc; "IndexScan({place})")?)
+            let read = read_text(query, table, mode);
+            Ok(format!(in alloc; "IndexScan({place}{read})")?)
         }
         Physical::Filter(_) => {
             let alias = table_text(query, table);
@@ -83,7 +85,8 @@ fn native_text(
         }
         Physical::IndexSeek(index) => {
             let place = index_text(alloc, query, table, index)?;
-            Ok(format!(in alloc; "IndexSeek({place})")?)
+            let read = read_text(query, table, mode);
+            Ok(format!(in alloc; "IndexSeek({place}{read})")?)
         }
         Physical::HashJoin(_, _) => hash_text(alloc, mode),
         Physical::MergeJoin(_, _) => merge_text(alloc, mode),
@@ -100,6 +103,29 @@ fn native_text(
     }
 }
 
+// How the rows of a table are read, where there are several ways.
+fn read_text(query: &Query, table: u32, mode: Mode) -> &'static str
+    ensures { result.now ≡ texts.read_text query.now table mode }
+{
+    match mode {
+        Mode::Plain(number) if is_replicated(query, table) => replica_text(number),
+        Mode::Plain(_) => "",
+        Mode::Copied(_) => "",
+        Mode::Hashed(_) => "",
+    }
+}
+
+// A share on each segment, all rows at one place, or all on each segment.
+fn replica_text(number: u32) -> &'static str
+    ensures { result.now ≡ texts.replica_text number }
+{
+    match number {
+        0 => " own",
+        1 => " one",
+        _ => " copies",
+    }
+}
+
 // A table, and the number of its index.
 fn index_text(alloc: Global, query: &Query, table: u32, index: u32) -> Result<String, AllocError>
     ensures { IfOk result (λ s. string_bytes s ≡ texts.index_text query.now table index) }
@@ -113,7 +139,7 @@ fn hash_text(alloc: Global, mode: Mode) -> Result<String, AllocError>
         string_bytes s ≡ codes "HashJoin(" ++ texts.hash_mode_text mode ++ codes ")") }
 {
     match mode {
-        Mode::One(_) => Ok(String::from_str(alloc, "HashJoin(one)")?),
+        Mode::Plain(_) => Ok(String::from_str(alloc, "HashJoin(one)")?),
         Mode::Copied(_) => Ok(String::from_str(alloc, "HashJoin(copied)")?),
         Mode::Hashed(equality) => Ok(format!(in alloc; "HashJoin(colocated p{equality})")?),
     }
@@ -124,7 +150,7 @@ fn merge_text(alloc: Global, mode: Mode) -> Result<String, AllocError>
         string_bytes s ≡ codes "MergeJoin(" ++ texts.merge_mode_text mode ++ codes ")") }
 {
     match mode {
-        Mode::One(equality) => Ok(format!(in alloc; "MergeJoin(one p{equality})")?),
+        Mode::Plain(equality) => Ok(format!(in alloc; "MergeJoin(one p{equality})")?),
         Mode::Copied(equality) => Ok(format!(in alloc; "MergeJoin(copied p{equality})")?),
         Mode::Hashed(equality) => Ok(format!(in alloc; "MergeJoin(colocated p{equality})")?),
     }
@@ -135,7 +161,7 @@ fn loop_text(alloc: Global, mode: Mode) -> Result<String, AllocError>
         string_bytes s ≡ codes "LoopJoin(" ++ texts.loop_mode_text mode ++ codes ")") }
 {
     match mode {
-        Mode::One(_) => Ok(String::from_str(alloc, "LoopJoin(one)")?),
+        Mode::Plain(_) => Ok(String::from_str(alloc, "LoopJoin(one)")?),
         Mode::Copied(_) => Ok(String::from_str(alloc, "LoopJoin(copied)")?),
         Mode::Hashed(_) => Ok(String::from_str(alloc, "LoopJoin(copied)")?),
     }
@@ -152,7 +178,7 @@ fn agg_mode_text(
     ensures { IfOk result (λ s. string_bytes s ≡ texts.agg_mode_text query.now mode) }
 {
     match mode {
-        Mode::One(_) => Ok(String::from_str(alloc, "one")?),
+        Mode::Plain(_) => Ok(String::from_str(alloc, "one")?),
         Mode::Copied(_) => Ok(String::from_str(alloc, "one")?),
         Mode::Hashed(list) => {
             let columns = list_text(alloc, query, props, list)?;
