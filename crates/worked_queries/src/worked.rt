@@ -3,7 +3,7 @@
 ghost use Rattle.query_core.specs.Results.{AreOptions};
 
 use catalog_json::read_catalog;
-use query_core::{Options, Query, RootDist};
+use query_core::{Catalog, Options, Query, RootDist};
 use sql_bind::bind;
 use sql_reader::read_sql;
 use std::alloc::Global;
@@ -39,4 +39,20 @@ pub fn query_over(
     let catalog = read_catalog(alloc, json.as_bytes())?;
     let select = read_sql(alloc, text.as_bytes())?;
     Ok(bind(alloc, &select, &catalog, options)?)
+}
+
+/// The query of the text over a catalogue that a test made, with these options.
+pub fn query_of(
+    alloc: Global,
+    catalog: &Catalog,
+    text: &str,
+    options: Options,
+) -> Result<Query, Fail>
+    requires { AreOptions options }
+{
+    if !catalog.keeps_limits() {
+        return Err(Fail::from("a catalogue outside its limits"));
+    }
+    let select = read_sql(alloc, text.as_bytes())?;
+    Ok(bind(alloc, &select, catalog, options)?)
 }
