@@ -6,6 +6,7 @@ use Rattle.std.specs.Map.{keys_of, lookup}
 use Rattle.std.specs.Str.{bytes_eq}
 use Rattle.std.proofs.lemmas.Bool.{or_parts}
 use Rattle.query_core.specs.declared.catalog.ColumnInfo.{ColumnInfo}
+use Rattle.catalog_json.specs.declared.column.ColumnValues.{ColumnValues}
 use Rattle.indexmap.specs.IndexMap.{insert_entry}
 use Rattle.catalog_json.specs.Columns.{column_of, names_of}
 
@@ -17,25 +18,25 @@ any_shown name (k ∷ keys) = ap (λ b. bytes_eq name (string_bytes k) || b) (an
 -- ---- the names of columns
 
 abbrev Entries : Type 0
-Entries = List (String Global × ℕ)
+Entries = List (String Global × ColumnValues)
 
 abbrev names : Entries → List (List ℕ)
 names es = names_of (map column_of es)
 
-any_or : (here : Bool) (n : ℕ) (rest : Option ℕ) (later : Bool) → is_some rest ≡ later
+any_or : (here : Bool) (n : ColumnValues) (rest : Option ColumnValues) (later : Bool) → is_some rest ≡ later
     → is_some (cond here (Some n) rest) ≡ (here || later)
 any_or true n rest later e = refl
 any_or false n rest later e = e
 
 -- a column with a new name goes last
-pub goes_last : (es : Entries) (name : String Global) (ndv : ℕ)
+pub goes_last : (es : Entries) (name : String Global) (values : ColumnValues)
     → list_any (bytes_eq (string_bytes name)) (names es) ≡ false
-    → map column_of (insert_entry string_eq es name ndv) ≡ map column_of es ++ column_of (name, ndv) ∷ []
-goes_last [] name ndv fresh = refl
-goes_last (e ∷ es) name ndv fresh =
+    → map column_of (insert_entry string_eq es name values) ≡ map column_of es ++ column_of (name, values) ∷ []
+goes_last [] name values fresh = refl
+goes_last (e ∷ es) name values fresh =
     let other = or_parts (bytes_eq (string_bytes name) (string_bytes e.0))
     (list_any (bytes_eq (string_bytes name)) (names es)) fresh in
-    rw other.0 (ap (λ (cs : List ColumnInfo). column_of e ∷ cs) (goes_last es name ndv other.1))
+    rw other.0 (ap (λ (cs : List ColumnInfo). column_of e ∷ cs) (goes_last es name values other.1))
 
 -- a name has a value where it is among the names
 pub name_there : (name : List ℕ) (es : Entries)

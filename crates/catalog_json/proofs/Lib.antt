@@ -1,5 +1,6 @@
 pub mod ColumnsKept
 pub mod Each
+pub mod HistogramsKept
 pub mod Elements
 pub mod Json
 pub mod Keys

@@ -1,5 +1,5 @@
 -- A list of columns that is read has 1 to 8 different places among the table's columns.
-use Rattle.std.proofs.Common.{◌≡◌, All, ◌==◌, ℕ, ◌≤◌, true, List, [], ◌∷◌, ◌++◌, length, nat_lt, codes}
+use Rattle.std.proofs.Common.{◌≡◌, All, ◌==◌, ℕ, ◌≤◌, Bool, true, false, cond, List, [], ◌∷◌, ◌++◌, length, nat_lt, codes}
 use Rattle.std.proofs.Common.{Option, Some, None, option_and_then, Ok, Err, refl, ◌∙◌, subst, arith}
 use Rattle.std.specs.List.{list_all}
 use Rattle.std.specs.Str.{bytes_eq}
@@ -7,22 +7,25 @@ use Rattle.std.specs.Cmp.{nat_eq_equiv}
 use Rattle.std.proofs.lemmas.List.Folds.{list_all-append}
 use Rattle.std.proofs.lemmas.List.Elements.{All-nil, All-push}
 use Rattle.query_core.specs.declared.catalog.Placing.{Placing}
-use Rattle.query_core.specs.declared.catalog.Placing.TheVariants.{Hashed, Random}
+use Rattle.query_core.specs.declared.catalog.Placing.TheVariants.{Hashed, Random, Replicated}
 use Rattle.serde_json.specs.Data.{Data}
 use Rattle.serde_json.specs.Find.{as_str}
 use Rattle.catalog_json.specs.declared.place.NameList.{NameList}
 use Rattle.catalog_json.specs.declared.place.NameList.TheVariants.{Distribution, Index}
 use Rattle.catalog_json.specs.declared.place.Place.{Place}
 use Rattle.catalog_json.specs.declared.place.Place.TheVariants as places
+use Rattle.catalog_json.specs.declared.version.CatalogVersion.{CatalogVersion}
+use Rattle.catalog_json.specs.declared.version.CatalogVersion.TheVariants.{One, Two}
+use Rattle.catalog_json.specs.declared.fault.Fault.{Fault}
 use Rattle.catalog_json.specs.declared.fault.Fault.TheVariants.{Shape}
 use Rattle.query_core.specs.Differ.{all_differ}
 use Rattle.query_core.specs.Catalog.{IsColumnList, IsPlacing}
 use Rattle.catalog_json.specs.Walk.{Reading, index_at, indexes_at, list_at, listed_at, name_at}
-use Rattle.catalog_json.specs.Walk.{places_at, placing_at, placing_by, random_at, seen}
+use Rattle.catalog_json.specs.Walk.{named_placing, places_at, placing_at, placing_by, replicated_at, seen}
 use Rattle.query_core.proofs.Apart.{differ_push}
 use Rattle.orca_base.proofs.Checked.{bind_ok, each_counts, met, ok_is}
 use Rattle.catalog_json.proofs.Steps.{all_keep, list_kept, listed_kept}
-use Rattle.catalog_json.proofs.ColumnsKept.{below}
+use Rattle.catalog_json.proofs.HistogramsKept.{below}
 
 -- places as those of a list, as far as they are read
 record ArePlaces (columns : ℕ) (places : List ℕ) : Type 0 where
@@ -58,10 +61,20 @@ places_kept list names found listed e =
 
 -- ---- where rows lie
 
-random_kept : (at : Place) (text : List ℕ) (columns : ℕ) (placing : Placing) → random_at at text ≡ Ok placing
-    → IsPlacing columns placing
-random_kept at text columns placing e =
-    let test = met (bytes_eq text (codes "random")) (Shape at) Random placing e in subst (IsPlacing columns) test.1 tt
+replicated_kept : (version : CatalogVersion) (at : Place) (text : List ℕ) (columns : ℕ) (placing : Placing)
+    → replicated_at version at text ≡ Ok placing → IsPlacing columns placing
+replicated_kept One at text columns placing e = absurd cc
+replicated_kept Two at text columns placing e =
+    let test = met (bytes_eq text (codes "replicated")) (Shape at) Replicated placing e in
+    subst (IsPlacing columns) test.1 tt
+
+named_kept : (version : CatalogVersion) (at : Place) (text : List ℕ) (columns : ℕ) (placing : Placing)
+    → named_placing version at text ≡ Ok placing → IsPlacing columns placing
+named_kept version at text columns placing = by (bytes_eq text (codes "random"))
+  where
+    by : (b : Bool) → cond b (Ok Random) (replicated_at version at text) ≡ Ok placing → IsPlacing columns placing
+    by true e = subst (IsPlacing columns) (ok_is {E = Fault} Random placing e) tt
+    by false e = replicated_kept version at text columns placing e
 
 hashed_kept : (columns : ℕ) (read : Reading (List ℕ)) (placing : Placing)
     → ((listed : List ℕ) → read ≡ Ok listed → IsColumnList columns listed) → seen Hashed read ≡ Ok placing
@@ -70,18 +83,18 @@ hashed_kept columns (Ok listed) placing kept e =
     subst (IsPlacing columns) (ok_is (Hashed listed) placing e) (kept listed refl)
 hashed_kept columns (Err fault) placing kept e = absurd cc
 
-placing_by_kept : (t : ℕ) (names : List (List ℕ)) (found : Option Data) (text : Option (List ℕ)) (placing : Placing)
-    → placing_by t names found text ≡ Ok placing → IsPlacing (length names) placing
+placing_by_kept : (version : CatalogVersion) (t : ℕ) (names : List (List ℕ)) (found : Option Data)
+    (text : Option (List ℕ)) (placing : Placing) → placing_by version t names found text ≡ Ok placing → IsPlacing (length names) placing
 unfolding placing_by
-placing_by_kept t names found (Some text) placing e =
-    random_kept (places.Names (Distribution t)) text (length names) placing e
-placing_by_kept t names found None placing e =
+placing_by_kept version t names found (Some text) placing e =
+    named_kept version (places.Names (Distribution t)) text (length names) placing e
+placing_by_kept version t names found None placing e =
     hashed_kept (length names) (places_at (Distribution t) names found) placing
     (places_kept (Distribution t) names found) e
 
-pub placing_kept : (t : ℕ) (names : List (List ℕ)) (found : Option Data) (placing : Placing)
-    → placing_at t names found ≡ Ok placing → IsPlacing (length names) placing
-placing_kept t names found placing e = placing_by_kept t names found (option_and_then as_str found) placing e
+pub placing_kept : (version : CatalogVersion) (t : ℕ) (names : List (List ℕ)) (found : Option Data) (placing : Placing)
+    → placing_at version t names found ≡ Ok placing → IsPlacing (length names) placing
+placing_kept version t names found placing e = placing_by_kept version t names found (option_and_then as_str found) placing e
 
 -- ---- indexes
 

@@ -4,7 +4,8 @@ use Rattle.catalog_json.specs.declared.place.NameList.{NameList}
 use Rattle.catalog_json.specs.declared.place.NameList.TheVariants.{Distribution, Index}
 use Rattle.catalog_json.specs.declared.place.Place.{Place}
 use Rattle.catalog_json.specs.declared.place.Place.TheVariants.{Whole, Version, Segments, Tables, Table, TableName}
-use Rattle.catalog_json.specs.declared.place.Place.TheVariants.{Rows, Columns, Column, ColumnName, Ndv, Indexes, Names}
+use Rattle.catalog_json.specs.declared.place.Place.TheVariants.{Rows, Columns, Column, ColumnName, Ndv, Histogram, Low}
+use Rattle.catalog_json.specs.declared.place.Place.TheVariants.{Buckets, Bucket, Upto, BucketRows, Indexes, Names}
 use Rattle.catalog_json.specs.declared.place.Place.TheVariants.{Listed}
 
 -- table t, and then the rest of the pointer
@@ -14,6 +15,10 @@ in_table t rest = codes "/tables/" ++ decimal t ++ rest
 -- column c of table t, and then the rest of the pointer
 abbrev pub in_column : ℕ → ℕ → List ℕ → List ℕ
 in_column t c rest = in_table t (codes "/columns/" ++ decimal c ++ rest)
+
+-- bucket b of the histogram of column c of table t, and then the rest of the pointer
+abbrev pub in_bucket : ℕ → ℕ → ℕ → List ℕ → List ℕ
+in_bucket t c b rest = in_column t c (codes "/histogram/buckets/" ++ decimal b ++ rest)
 
 -- a list of column names
 abbrev pub list_pointer : NameList → List ℕ
@@ -37,6 +42,12 @@ pointer_of (Columns t) = in_table t (codes "/columns")
 pointer_of (Column t c) = in_table t (codes "/columns/" ++ decimal c)
 pointer_of (ColumnName t c) = in_column t c (codes "/name")
 pointer_of (Ndv t c) = in_column t c (codes "/ndv")
+pointer_of (Histogram t c) = in_column t c (codes "/histogram")
+pointer_of (Low t c) = in_column t c (codes "/histogram/low")
+pointer_of (Buckets t c) = in_column t c (codes "/histogram/buckets")
+pointer_of (Bucket t c b) = in_bucket t c b []
+pointer_of (Upto t c b) = in_bucket t c b (codes "/upto")
+pointer_of (BucketRows t c b) = in_bucket t c b (codes "/rows")
 pointer_of (Indexes t) = in_table t (codes "/indexes")
 pointer_of (Names list) = list_pointer list
 pointer_of (Listed list i) = listed_pointer list i

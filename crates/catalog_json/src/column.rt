@@ -8,23 +8,31 @@ ghost use Rattle.catalog_json.specs.Columns.{names_of};
 ghost use Rattle.catalog_json.specs.Walk.{Gives, each, seen, column_at, columns_at};
 
 use crate::fault::Fault;
+use crate::histogram::read_histogram_by;
 use crate::member::{TRILLION, number_at, take_list, take_name};
 use crate::object::Object;
 use crate::place::Place;
+use crate::version::CatalogVersion;
 use indexmap::IndexMap;
 use orca_base::{List, Text};
-use query_core::ColumnInfo;
+use query_core::{ColumnInfo, Histogram};
 use serde_json::Value;
 use std::alloc::Global;
 use std::marker::Model;
 
 const MOST_COLUMNS: usize = 1_000;
 
+/// What is known of the values of a column.
+#[derive(Drop)]
+struct ColumnValues {
+    ndv: u64,
+    histogram: Option<Histogram>,
+}
+
 /// A table's columns, each found by its name.
 #[derive(Drop)]
 pub struct Columns {
-    /// How many distinct values each has.
-    ndvs: IndexMap<String, u64>,
+    values: IndexMap<String, ColumnValues>,
 }
 
 impl Model for Columns {
@@ -34,7 +42,7 @@ impl Model for Columns {
 
     ghost Value = { List ColumnInfo };
 
-    ghost view = { λ c. map column_of c.ndvs.entries };
+    ghost view = { λ c. map column_of c.values.entries };
 }
 
 impl Columns {
@@ -44,14 +52,14 @@ impl Columns {
         ensures memory { IfErr result (λ e. e ≡ Memory) }
     {
         Ok(Columns {
-            ndvs: IndexMap::with_capacity(alloc, count)?,
+            values: IndexMap::with_capacity(alloc, count)?,
         })
     }
 
     fn len(&self) -> usize
         ensures { result ≡ length self.now }
     {
-        self.ndvs.len()
+        self.values.len()
     }
 
     /// The place of the column with a name.
@@ -59,19 +67,25 @@ impl Columns {
         ensures place { result ≡ position (bytes_eq name.now) (names_of self.now) }
         ensures within { IfSome result (λ i. i < length self.now) }
     {
-        self.ndvs.get_index_of(name)
+        self.values.get_index_of(name)
     }
 
     fn has(&self, name: &str) -> bool
         ensures { result ≡ list_any (bytes_eq name.now) (names_of self.now) }
     {
-        self.ndvs.contains_key(name)
+        self.values.contains_key(name)
     }
 
     /// Reads one more of the columns of table `t`.
     #[tactic(auto, unfolding(crate::specs::Walk::column_at, crate::specs::Walk::new_name_at))]
-    fn read(&mut self, t: usize, value: Value) -> Result<(), Fault>
-        ensures { Gives (seen (λ c. self.old ++ c ∷ []) (column_at t self.old (view value)))
+    fn read(
+        &mut self,
+        alloc: Global,
+        version: CatalogVersion,
+        t: usize,
+        value: Value,
+    ) -> Result<(), Fault>
+        ensures { Gives (seen (λ c. self.old ++ c ∷ []) (column_at version t self.old (view value)))
             (seen (λ _. self.new) result) }
     {
         let c = self.len();
@@ -81,7 +95,8 @@ impl Columns {
             return Err(Fault::Twice(Place::ColumnName(t, c)));
         }
         let ndv = number_at(object.get("ndv"), 0, TRILLION, Place::Ndv(t, c))?;
-        self.ndvs.insert(name, ndv)?;
+        let histogram = read_histogram_by(alloc, version, t, c, object.take("histogram"))?;
+        self.values.insert(name, ColumnValues { ndv, histogram })?;
         Ok(())
     }
 
@@ -89,34 +104,44 @@ impl Columns {
         ensures all { IfOk result (λ list. list ≡ self) }
         ensures memory { IfErr result (λ e. e ≡ Memory) }
     {
-        let mut list = List::of(Vec::with_capacity(alloc, self.ndvs.len())?);
-        for (name, ndv) in self.ndvs {
+        let mut list = List::of(Vec::with_capacity(alloc, self.values.len())?);
+        for (name, values) in self.values {
             let name = Text::of(name);
             list.push(ColumnInfo {
                 name,
-                ndv,
-                histogram: None,
+                ndv: values.ndv,
+                histogram: values.histogram,
             })?;
         }
         Ok(list)
     }
 }
 
-fn read_each_column(alloc: Global, t: usize, values: Vec<Value>) -> Result<Columns, Fault>
-    ensures { Gives (each (column_at t) [] (map view values.items)) result }
+fn read_each_column(
+    alloc: Global,
+    version: CatalogVersion,
+    t: usize,
+    values: Vec<Value>,
+) -> Result<Columns, Fault>
+    ensures { Gives (each (column_at version t) [] (map view values.items)) result }
 {
     let mut columns = Columns::with_capacity(alloc, values.len())?;
     for value in values {
-        columns.read(t, value)?;
+        columns.read(alloc, version, t, value)?;
     }
     Ok(columns)
 }
 
 #[tactic(auto, unfolding(crate::specs::Walk::columns_at))]
-pub fn read_columns(alloc: Global, t: usize, value: Option<Value>) -> Result<Columns, Fault>
-    ensures read { Gives (columns_at t (option_map view value)) result }
+pub fn read_columns(
+    alloc: Global,
+    version: CatalogVersion,
+    t: usize,
+    value: Option<Value>,
+) -> Result<Columns, Fault>
+    ensures read { Gives (columns_at version t (option_map view value)) result }
     ensures count { IfOk result (λ columns. length columns ≤ 1000) }
 {
     let values = take_list(value, 1, MOST_COLUMNS, Place::Columns(t))?;
-    read_each_column(alloc, t, values)
+    read_each_column(alloc, version, t, values)
 }

@@ -15,9 +15,10 @@ pub enum CatalogFault {
     NotJson,
     /// A part is absent, of the wrong kind, no whole number, or no name of at most 64 bytes.
     Shape { path: Text },
-    /// The version is a whole number other than 1.
+    /// The version is a whole number other than 1 and 2.
     Version { found: u64 },
-    /// A number, or the length of a list, lies outside its limits.
+    /// A number, or the length of a list, lies outside its limits, or the end of a bucket isn't above
+    /// what comes before it.
     Range { path: Text },
     /// A name was there before.
     Twice { path: Text },

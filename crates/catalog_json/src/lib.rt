@@ -3,6 +3,7 @@
 
 mod column;
 mod fault;
+mod histogram;
 mod laws;
 mod listed;
 mod member;
@@ -11,7 +12,9 @@ mod object;
 mod place;
 mod reading;
 mod table;
+mod version;
 
 pub use fault::CatalogFault;
 pub use laws::faults_are_told;
 pub use reading::read_catalog;
+pub use version::CatalogVersion;

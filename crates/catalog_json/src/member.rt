@@ -28,6 +28,16 @@ fn is_within(least: u64, most: u64, n: u64) -> bool
     least <= n && n <= most
 }
 
+/// A whole number from -2^63 to 2^63 - 1.
+pub fn signed_at(value: Option<&Value>, place: Place) -> Result<i64, Fault>
+    ensures { result ≡ spec.signed_at place (option_map (λ v. view v.now) value.entry) }
+{
+    match value.and_then(Value::as_i64) {
+        None => Err(Fault::Shape(place)),
+        Some(n) => Ok(n),
+    }
+}
+
 /// A whole number from `least` to `most`.
 pub fn number_at(value: Option<&Value>, least: u64, most: u64, place: Place) -> Result<u64, Fault>
     ensures { result ≡ spec.number_at least most place (option_map (λ v. view v.now) value.entry) }

@@ -1,6 +1,6 @@
 //! Places in a catalogue's JSON value, and their pointers.
 ghost use Rattle.std.specs.Prelude.{◌≡◌, ◌++◌, codes, decimal, IfOk, string_bytes};
-ghost use Rattle.catalog_json.specs.Place.{in_table, in_column, pointer_of, list_pointer, listed_pointer};
+ghost use Rattle.catalog_json.specs.Place.{in_table, in_column, in_bucket, pointer_of, list_pointer, listed_pointer};
 
 use orca_base::Text;
 use std::alloc::{AllocError, Global};
@@ -13,7 +13,7 @@ pub enum NameList {
     Index(usize, usize),
 }
 
-/// A part of a catalogue: the first number is the table's, the second the column's.
+/// A part of a catalogue: the first number is the table's, the second the column's, the third the bucket's.
 #[derive(Clone, Copy)]
 pub enum Place {
     Whole,
@@ -27,6 +27,12 @@ pub enum Place {
     Column(usize, usize),
     ColumnName(usize, usize),
     Ndv(usize, usize),
+    Histogram(usize, usize),
+    Low(usize, usize),
+    Buckets(usize, usize),
+    Bucket(usize, usize, usize),
+    Upto(usize, usize, usize),
+    BucketRows(usize, usize, usize),
     Indexes(usize),
     Names(NameList),
     /// An element of the list.
@@ -56,6 +62,12 @@ fn in_column(alloc: Global, t: usize, c: usize, rest: &str) -> Result<String, Al
     ensures { IfOk result (λ text. string_bytes text ≡ in_column t c rest.now) }
 {
     format!(in alloc; "/tables/{t}/columns/{c}{rest}")
+}
+
+fn in_bucket(alloc: Global, t: usize, c: usize, b: usize, rest: &str) -> Result<String, AllocError>
+    ensures { IfOk result (λ text. string_bytes text ≡ in_bucket t c b rest.now) }
+{
+    format!(in alloc; "/tables/{t}/columns/{c}/histogram/buckets/{b}{rest}")
 }
 
 impl NameList {
@@ -98,6 +110,12 @@ impl Place {
             Place::Column(t, c) => numbered_in_table(alloc, t, "/columns/", c),
             Place::ColumnName(t, c) => in_column(alloc, t, c, "/name"),
             Place::Ndv(t, c) => in_column(alloc, t, c, "/ndv"),
+            Place::Histogram(t, c) => in_column(alloc, t, c, "/histogram"),
+            Place::Low(t, c) => in_column(alloc, t, c, "/histogram/low"),
+            Place::Buckets(t, c) => in_column(alloc, t, c, "/histogram/buckets"),
+            Place::Bucket(t, c, b) => in_bucket(alloc, t, c, b, ""),
+            Place::Upto(t, c, b) => in_bucket(alloc, t, c, b, "/upto"),
+            Place::BucketRows(t, c, b) => in_bucket(alloc, t, c, b, "/rows"),
             Place::Indexes(t) => in_table(alloc, t, "/indexes"),
             Place::Names(list) => list.pointer(alloc),
             Place::Listed(list, i) => list.element_pointer(alloc, i),

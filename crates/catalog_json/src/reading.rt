@@ -10,18 +10,20 @@ use crate::member::{number_at, whole};
 use crate::object::Object;
 use crate::place::Place;
 use crate::table::read_tables;
+use crate::version::CatalogVersion;
 use query_core::Catalog;
 use serde_json::Value;
 use std::alloc::Global;
 
 const MOST_BYTES: usize = 1_048_576;
 
-fn version_at(value: Option<&Value>) -> Result<u64, Fault>
+fn version_at(value: Option<&Value>) -> Result<CatalogVersion, Fault>
     ensures { result ≡ version_at (option_map (λ v. view v.now) value.entry) }
 {
     match whole(value) {
         None => Err(Fault::Shape(Place::Version)),
-        Some(1) => Ok(1),
+        Some(1) => Ok(CatalogVersion::One),
+        Some(2) => Ok(CatalogVersion::Two),
         Some(found) => Err(Fault::Version(found)),
     }
 }
@@ -31,9 +33,9 @@ fn read_value(alloc: Global, value: Value) -> Result<Catalog, Fault>
     ensures { Gives (catalog_at (view value)) result }
 {
     let mut object = Object::of(value, Place::Whole)?;
-    version_at(object.get("version"))?;
+    let version = version_at(object.get("version"))?;
     let segments = number_at(object.get("segments"), 1, 1_000, Place::Segments)?;
-    let tables = read_tables(alloc, object.take("tables"))?;
+    let tables = read_tables(alloc, version, object.take("tables"))?;
     Ok(Catalog { segments, tables })
 }
 

@@ -3,7 +3,7 @@ ghost use Rattle.std.specs.Prelude.{◌≡◌, ◌≤◌, [], ◌∷◌, ◌++�
 ghost use Rattle.serde_json.specs.View.{view};
 ghost use Rattle.catalog_json.specs.Columns.{names_of};
 ghost use Rattle.catalog_json.specs.Object.{data_of};
-ghost use Rattle.catalog_json.specs.Walk.{Gives, each, index_at, indexes_at, lists_at, named_table_at, placing_at, random_at, table_at, tables_at};
+ghost use Rattle.catalog_json.specs.Walk.{Gives, each, index_at, indexes_at, lists_at, named_table_at, named_placing, placing_at, replicated_at, table_at, tables_at};
 
 use crate::column::{Columns, read_columns};
 use crate::fault::Fault;
@@ -12,6 +12,7 @@ use crate::member::{TRILLION, list_at, number_at, take_list};
 use crate::names::Names;
 use crate::object::Object;
 use crate::place::{NameList, Place};
+use crate::version::CatalogVersion;
 use orca_base::{List, Text};
 use query_core::{Placing, TableInfo};
 use serde_json::Value;
@@ -21,30 +22,41 @@ const MOST_INDEXES: usize = 16;
 
 const MOST_TABLES: usize = 1_000;
 
-fn random_at(place: Place, text: &str) -> Result<Placing, Fault>
-    ensures { result ≡ random_at place text.now }
+fn replicated_at(version: CatalogVersion, place: Place, text: &str) -> Result<Placing, Fault>
+    ensures { result ≡ replicated_at version place text.now }
+{
+    match version {
+        CatalogVersion::One => Err(Fault::Shape(place)),
+        CatalogVersion::Two if text == "replicated" => Ok(Placing::Replicated),
+        CatalogVersion::Two => Err(Fault::Shape(place)),
+    }
+}
+
+fn named_placing(version: CatalogVersion, place: Place, text: &str) -> Result<Placing, Fault>
+    ensures { result ≡ named_placing version place text.now }
 {
     if text == "random" {
         Ok(Placing::Random)
     } else {
-        Err(Fault::Shape(place))
+        replicated_at(version, place, text)
     }
 }
 
 #[tactic(auto, unfolding(crate::specs::Walk::placing_by))]
 fn read_placing(
     alloc: Global,
+    version: CatalogVersion,
     t: usize,
     columns: &Columns,
     value: Option<&Value>,
 ) -> Result<Placing, Fault>
     requires { length columns.now ≤ 1000 }
     ensures { Gives
-        (placing_at t (names_of columns.now) (option_map (λ v. view v.now) value.entry)) result }
+        (placing_at version t (names_of columns.now) (option_map (λ v. view v.now) value.entry)) result }
 {
     let list = NameList::Distribution(t);
     match value.and_then(Value::as_str) {
-        Some(text) => random_at(Place::Names(list), text),
+        Some(text) => named_placing(version, Place::Names(list), text),
         None => Ok(Placing::Hashed(read_places(alloc, list, columns, value)?)),
     }
 }
@@ -91,14 +103,15 @@ fn read_indexes(
 #[tactic(auto, unfolding(crate::specs::Walk::lists_at))]
 fn read_lists(
     alloc: Global,
+    version: CatalogVersion,
     t: usize,
     columns: &Columns,
     object: &Object,
 ) -> Result<(Placing, List<List<u32>>), Fault>
     requires { length columns.now ≤ 1000 }
-    ensures { Gives (lists_at t (names_of columns.now) (data_of object.now)) result }
+    ensures { Gives (lists_at version t (names_of columns.now) (data_of object.now)) result }
 {
-    let placing = read_placing(alloc, t, columns, object.get("distribution"))?;
+    let placing = read_placing(alloc, version, t, columns, object.get("distribution"))?;
     let indexes = read_indexes(alloc, t, columns, object.get("indexes"))?;
     Ok((placing, indexes))
 }
@@ -107,16 +120,17 @@ fn read_lists(
 #[tactic(auto, unfolding(crate::specs::Walk::named_table_at, crate::specs::Walk::lists_at))]
 fn read_named_table(
     alloc: Global,
+    version: CatalogVersion,
     t: usize,
     name: Text,
     object: &mut Object,
 ) -> Result<TableInfo, Fault>
-    ensures read { Gives (named_table_at t name (data_of object.old)) result }
+    ensures read { Gives (named_table_at version t name (data_of object.old)) result }
     ensures named { IfOk result (λ table. table.name ≡ name) }
 {
     let rows = number_at(object.get("rows"), 0, TRILLION, Place::Rows(t))?;
-    let columns = read_columns(alloc, t, object.take("columns"))?;
-    let (placing, indexes) = read_lists(alloc, t, &columns, object)?;
+    let columns = read_columns(alloc, version, t, object.take("columns"))?;
+    let (placing, indexes) = read_lists(alloc, version, t, &columns, object)?;
     Ok(TableInfo {
         name,
         rows,
@@ -130,42 +144,48 @@ fn read_named_table(
 #[tactic(auto, unfolding(crate::specs::Walk::table_at))]
 fn read_table(
     alloc: Global,
+    version: CatalogVersion,
     before: &[TableInfo],
     names: &mut Names,
     value: Value,
 ) -> Result<TableInfo, Fault>
     requires { names.old ≡ map (λ t. t.name) before.now }
-    ensures read { Gives (table_at before.now (view value)) result }
+    ensures read { Gives (table_at version before.now (view value)) result }
     ensures added { IfOk result (λ table. names.new ≡ names.old ++ table.name ∷ []) }
 {
     let t = before.len();
     let mut object = Object::of(value, Place::Table(t))?;
     let name = names.read_new(alloc, object.take("name"), Place::TableName(t))?;
-    read_named_table(alloc, t, name, &mut object)
+    read_named_table(alloc, version, t, name, &mut object)
 }
 
 /// Reads the tables, and adds their names.
 fn read_each_table(
     alloc: Global,
+    version: CatalogVersion,
     values: Vec<Value>,
     names: &mut Names,
 ) -> Result<List<TableInfo>, Fault>
     requires { names.old ≡ [] }
-    ensures { Gives (each table_at [] (map view values.items)) result }
+    ensures { Gives (each (table_at version) [] (map view values.items)) result }
 {
     let mut tables = List::of(Vec::with_capacity(alloc, values.len())?);
     for value in values {
-        let table = read_table(alloc, tables.as_slice(), names, value)?;
+        let table = read_table(alloc, version, tables.as_slice(), names, value)?;
         tables.push(table)?;
     }
     Ok(tables)
 }
 
 #[tactic(auto, unfolding(crate::specs::Walk::tables_at))]
-pub fn read_tables(alloc: Global, value: Option<Value>) -> Result<List<TableInfo>, Fault>
-    ensures { Gives (tables_at (option_map view value)) result }
+pub fn read_tables(
+    alloc: Global,
+    version: CatalogVersion,
+    value: Option<Value>,
+) -> Result<List<TableInfo>, Fault>
+    ensures { Gives (tables_at version (option_map view value)) result }
 {
     let values = take_list(value, 0, MOST_TABLES, Place::Tables)?;
     let mut names = Names::with_capacity(alloc, values.len())?;
-    read_each_table(alloc, values, &mut names)
+    read_each_table(alloc, version, values, &mut names)
 }

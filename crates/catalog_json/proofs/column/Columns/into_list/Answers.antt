@@ -5,7 +5,7 @@ use Rattle.catalog_json.proofs.column.Columns.into_list.Goals as goal
 -- the first of those that were left goes last
 pub loop-name-preserved : goal.loop-name-preserved
 loop-name-preserved c =
-    let column = column_of (c.in-Some.name, c.in-Some.ndv) in
+    let column = column_of (c.in-Some.name, c.in-Some.values) in
     rw (
       c.in_ok-push.ensures.ok,
       c.of-name.ensures,

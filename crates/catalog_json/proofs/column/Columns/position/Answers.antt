@@ -5,4 +5,4 @@ use Rattle.catalog_json.proofs.column.Columns.position.Goals as goal
 
 pub returns-clause-place : goal.returns-clause-place
 returns-clause-place c = rw (← c.self.view_is) (c.get_index_of.ensures.index
-    ∙ position_shown c.args.name.now c.self.inside.ndvs.entries)
+    ∙ position_shown c.args.name.now c.self.inside.values.entries)
