@@ -1,6 +1,8 @@
 -- Steps of the writer, one after another.
-use Rattle.std.proofs.Common.{List, [], ◌∷◌, ◌++◌, Result, Ok, Err, OnOk, sym, ap, subst, ◌∙◌, append_assoc}
+use Rattle.std.proofs.Common.{ℕ, ◌+◌, ◌<◌, List, [], ◌∷◌, ◌++◌, length, get_or, take, Result, Ok, Err, OnOk, sym, ap}
+use Rattle.std.proofs.Common.{subst, ◌∙◌, append_assoc}
 use Rattle.std.specs.List.{flat_map}
+use Rattle.std.proofs.lemmas.List.{flat_map_more, take_more}
 use Rattle.json.specs.Token.{Token, begin_array, end_array}
 use Rattle.json.specs.Json.{Json}
 use Rattle.json.specs.Tree.{json_tokens}
@@ -16,6 +18,16 @@ both_added old mid new first second a b = record {
   tokens = b.tokens ∙ ap (λ (ts : List Token). ts ++ second) a.tokens ∙ append_assoc old.tokens first second;
   before = b.before ∙ a.before;
 }
+
+-- the elements before place i, and then the one there
+pub more_added : {X : Type 0} (json : X → Json) (xs : List X) (i : ℕ) (d : X) (old mid new : Written) → i < length xs
+    → Adds old mid (flat_map (λ x. json_tokens (json x)) (take i xs)) → Adds mid new (json_tokens (json (get_or xs i d)))
+    → Adds old new (flat_map (λ x. json_tokens (json x)) (take (i + 1) xs))
+more_added {X} json xs i d old mid new within so_far next =
+    let each : X → List Token = λ x. json_tokens (json x) in
+    subst (Adds old new)
+    (flat_map_more each [] (take i xs) (get_or xs i d) ∙ ap (flat_map each) (sym (take_more xs i d within)))
+    (both_added old mid new (flat_map each (take i xs)) (each (get_or xs i d)) so_far next)
 
 module _ {E : Type 0} where
   -- a token that is written is added

@@ -1,7 +1,8 @@
 -- The text of a catalogue says the catalogue.
-use Rattle.std.proofs.Common.{◌≡◌, ℕ, ◌^◌, ◌<◌, ◌≤◌, true, List, [], ◌∷◌, map, length, Ok}
+use Rattle.std.proofs.Common.{◌≡◌, ℕ, ◌^◌, ◌<◌, ◌≤◌, true, List, [], ◌∷◌, map, length, Option, Some, None, Ok}
 use Rattle.std.proofs.Common.{option_and_then, nat_le, IsUtf8, refl, sym, ap, ◌∙◌, arith}
 use Rattle.std.proofs.Common.{append-nil}
+use Rattle.std.specs.List.{All}
 use Rattle.std.proofs.lemmas.Bool.{leb-true, le-ltb, and_parts}
 use Rattle.std.proofs.lemmas.Str.{is_utf8-from_IsUtf8}
 use Rattle.json.specs.Token.{Token}
@@ -11,6 +12,7 @@ use Rattle.json.specs.Json.{Json, value, if_last}
 use Rattle.json.specs.Tree.{json_tokens, depth, items_depth, members_depth}
 use Rattle.json.proofs.Printed.Trees.{value-json_tokens}
 use Rattle.serde_json.specs.Read.{of_json, read, max_depth}
+use Rattle.query_core.specs.declared.histogram.Histogram.{Histogram}
 use Rattle.query_core.specs.declared.catalog.ColumnInfo.{ColumnInfo}
 use Rattle.query_core.specs.declared.catalog.Placing.{Placing}
 use Rattle.query_core.specs.declared.catalog.Placing.TheVariants.{Hashed, Random, Replicated}
@@ -18,8 +20,10 @@ use Rattle.query_core.specs.declared.catalog.TableInfo.{TableInfo}
 use Rattle.query_core.specs.declared.catalog.Catalog.{Catalog}
 use Rattle.query_core.specs.Catalog.{IsCatalog}
 use Rattle.catalog_json.specs.Outcome.{most_bytes, reading_of}
-use Rattle.catalog_text.specs.Text.{items_of, name_at, column_json, places_json, placing_json}
-use Rattle.catalog_text.specs.Text.{indexes_member, table_json, catalog_json, is_plain}
+use Rattle.catalog_json.specs.declared.version.CatalogVersion.{CatalogVersion}
+use Rattle.catalog_text.specs.Signed.{TableFits}
+use Rattle.catalog_text.specs.Text.{bucket_json, histogram_member, items_of, name_at, column_json, places_json}
+use Rattle.catalog_text.specs.Text.{placing_json, indexes_member, table_json, catalog_json, can_say}
 use Rattle.catalog_text.proofs.Values.{catalog_value}
 use Rattle.catalog_text.proofs.Walk.{catalog_read}
 
@@ -47,17 +51,24 @@ indexes_within columns [] = omega arith
 indexes_within columns (index ∷ indexes) =
     omega (arith, items_within (places_json columns) 1 (index ∷ indexes) (places_within columns))
 
-table_within : (t : TableInfo) → depth (table_json t) ≤ 3
+histogram_within : (histogram : Option Histogram) → members_depth (histogram_member histogram) ≤ 3
+histogram_within None = omega arith
+histogram_within (Some h) = omega (arith, items_within bucket_json 1 h.buckets (λ b. omega arith))
+
+column_within : (c : ColumnInfo) → depth (column_json c) ≤ 4
+column_within c = omega (arith, histogram_within c.histogram)
+
+table_within : (t : TableInfo) → depth (table_json t) ≤ 6
 table_within t =
     omega (
       arith,
       placing_within t.columns t.placing,
-      items_within column_json 1 t.columns (λ c. omega arith),
+      items_within column_json 4 t.columns column_within,
       indexes_within t.columns t.indexes,
     )
 
-catalog_within : (c : Catalog) → depth (catalog_json c) ≤ max_depth
-catalog_within c = omega (arith, items_within table_json 3 c.tables table_within)
+catalog_within : (version : CatalogVersion) (c : Catalog) → depth (catalog_json version c) ≤ max_depth
+catalog_within version c = omega (arith, items_within table_json 6 c.tables table_within)
 
 -- ---- the reading
 
@@ -68,12 +79,19 @@ value_read text j e within =
     ∙ ap (λ p. option_and_then of_json (option_and_then (λ q. if_last q.0 q.1) p))
     (value-json_tokens j max_depth [] within)
 
-pub read_back : (text : List ℕ) (c : Catalog) → IsCatalog c → is_plain c ≡ true → tokens text ≡ json_tokens (catalog_json c)
+pub read_back : (version : CatalogVersion) (text : List ℕ) (c : Catalog) → IsCatalog c → can_say version c ≡ true
+    → All TableFits c.tables → tokens text ≡ json_tokens (catalog_json version c)
     → IsUtf8 text → length text ≤ most_bytes → reading_of text ≡ Ok c
 unfolding reading_of
-read_back text c h plain e utf8 short =
+read_back version text c h said fit e utf8 short =
     let few : c.segments < 2 ^ 64 = let most : c.segments ≤ 1000 =
     leb-true c.segments 1000 (and_parts (nat_le 1 c.segments) (nat_le c.segments 1000) h.segment_count).1 in
     omega arith in
-    let value = value_read text (catalog_json c) e (catalog_within c) ∙ catalog_value c h few in
-    rw (le-ltb most_bytes (length text) short, is_utf8-from_IsUtf8 text utf8, value, catalog_read c h plain) refl
+    let value = value_read text (catalog_json version c) e (catalog_within version c)
+    ∙ catalog_value version c h fit few in
+    rw (
+      le-ltb most_bytes (length text) short,
+      is_utf8-from_IsUtf8 text utf8,
+      value,
+      catalog_read version c h said fit,
+    ) refl

@@ -1,32 +1,54 @@
 //! The text of a catalogue, a token at a time.
-ghost use Rattle.std.specs.Prelude.{◌≡◌, ◌<◌, ◌≤◌, [], ◌∷◌, ◌++◌, Ok, OnOk, IfOk, length, nat_lt, not, is_some, IsTrue};
+ghost use Rattle.std.specs.Prelude.{◌≡◌, ◌<◌, ◌≤◌, [], ◌∷◌, ◌++◌, Ok, OnOk, IfOk, length, nat_lt, IsTrue};
 ghost use Rattle.std.specs.List.{All, flat_map, list_all};
 ghost use Rattle.json.specs.Json.{string};
 ghost use Rattle.json.specs.Tree.{json_tokens, members_tokens};
 ghost use Rattle.query_core.specs.Catalog.{IsCatalog, IsColumnList, IsPlacing, IsTable};
 ghost use Rattle.catalog_json.specs.Outcome.{most_bytes, reading_of};
 ghost use Rattle.catalog_text.specs.Adds.{Adds};
-ghost use Rattle.catalog_text.specs.Text.{catalog_json, catalog_text, column_json, is_plain as has_plain_tables, is_plain_placing as plain_placing, is_plain_table as plain_table, indexes_member, list_json, name_at, places_json, placing_json, table_json};
+ghost use Rattle.catalog_text.specs.Signed.{ColumnFits, HistogramFits, TableFits};
+ghost use Rattle.catalog_text.specs.Text.{can_say, catalog_json, catalog_text, column_json, histogram_member, indexes_member, list_json, name_at, places_json, placing_json, table_json};
 
+use crate::histogram::write_histogram;
+use crate::version::number_of;
+use catalog_json::CatalogVersion;
 use json::Writer;
 use orca_base::List;
-use query_core::{Catalog, ColumnInfo, Placing, TableInfo};
+use query_core::{Catalog, ColumnInfo, Histogram, Placing, TableInfo};
 use std::alloc::{AllocError, Global};
 
+/// Ends the object of a column, after its histogram where it has one.
+fn end_column(out: &mut Writer, histogram: &Option<Histogram>) -> Result<(), AllocError>
+    ensures added { OnOk result
+        (Adds out.old out.new (members_tokens (histogram_member histogram.now))) }
+    ensures fit { OnOk result (HistogramFits histogram.now) }
+{
+    match histogram {
+        None => out.end_object(),
+        Some(histogram) => {
+            out.key("histogram")?;
+            write_histogram(out, histogram)?;
+            out.end_object()
+        }
+    }
+}
+
 fn write_column(out: &mut Writer, column: &ColumnInfo) -> Result<(), AllocError>
-    ensures { OnOk result (Adds out.old out.new (json_tokens (column_json column.now))) }
+    ensures added { OnOk result (Adds out.old out.new (json_tokens (column_json column.now))) }
+    ensures fits { OnOk result (ColumnFits column.now) }
 {
     out.begin_object()?;
     out.key("name")?;
     out.string(column.name.as_str())?;
     out.key("ndv")?;
     out.u64(column.ndv)?;
-    out.end_object()
+    end_column(out, &column.histogram)
 }
 
 fn write_each_column(out: &mut Writer, columns: &[ColumnInfo]) -> Result<(), AllocError>
-    ensures { OnOk result
+    ensures added { OnOk result
         (Adds out.old out.new (flat_map (λ c. json_tokens (column_json c)) columns.now)) }
+    ensures fit { OnOk result (All ColumnFits columns.now) }
 {
     for column in columns {
         write_column(out, column)?;
@@ -35,8 +57,9 @@ fn write_each_column(out: &mut Writer, columns: &[ColumnInfo]) -> Result<(), All
 }
 
 fn write_columns(out: &mut Writer, columns: &[ColumnInfo]) -> Result<(), AllocError>
-    ensures { OnOk result
+    ensures added { OnOk result
         (Adds out.old out.new (json_tokens (list_json column_json columns.now))) }
+    ensures fit { OnOk result (All ColumnFits columns.now) }
 {
     out.begin_array()?;
     write_each_column(out, columns)?;
@@ -140,7 +163,8 @@ fn end_table(
 
 fn write_table(out: &mut Writer, table: &TableInfo) -> Result<(), AllocError>
     requires { IsTable table.now }
-    ensures { OnOk result (Adds out.old out.new (json_tokens (table_json table.now))) }
+    ensures added { OnOk result (Adds out.old out.new (json_tokens (table_json table.now))) }
+    ensures fits { OnOk result (TableFits table.now) }
 {
     let columns = table.columns.as_slice();
     out.begin_object()?;
@@ -157,8 +181,9 @@ fn write_table(out: &mut Writer, table: &TableInfo) -> Result<(), AllocError>
 
 fn write_each_table(out: &mut Writer, tables: &[TableInfo]) -> Result<(), AllocError>
     requires { All IsTable tables.now }
-    ensures { OnOk result
+    ensures added { OnOk result
         (Adds out.old out.new (flat_map (λ t. json_tokens (table_json t)) tables.now)) }
+    ensures fit { OnOk result (All TableFits tables.now) }
 {
     for table in tables {
         write_table(out, table)?;
@@ -168,20 +193,28 @@ fn write_each_table(out: &mut Writer, tables: &[TableInfo]) -> Result<(), AllocE
 
 fn write_tables(out: &mut Writer, tables: &[TableInfo]) -> Result<(), AllocError>
     requires { All IsTable tables.now }
-    ensures { OnOk result (Adds out.old out.new (json_tokens (list_json table_json tables.now))) }
+    ensures added { OnOk result
+        (Adds out.old out.new (json_tokens (list_json table_json tables.now))) }
+    ensures fit { OnOk result (All TableFits tables.now) }
 {
     out.begin_array()?;
     write_each_table(out, tables)?;
     out.end_array()
 }
 
-fn write_value(out: &mut Writer, catalog: &Catalog) -> Result<(), AllocError>
+fn write_value(
+    out: &mut Writer,
+    catalog: &Catalog,
+    version: CatalogVersion,
+) -> Result<(), AllocError>
     requires { IsCatalog catalog.now }
-    ensures { OnOk result (Adds out.old out.new (json_tokens (catalog_json catalog.now))) }
+    ensures added { OnOk result
+        (Adds out.old out.new (json_tokens (catalog_json version catalog.now))) }
+    ensures fits { OnOk result (All TableFits catalog.now.tables) }
 {
     out.begin_object()?;
     out.key("version")?;
-    out.u64(1)?;
+    out.u64(number_of(version))?;
     out.key("segments")?;
     out.u64(catalog.segments)?;
     out.key("tables")?;
@@ -189,49 +222,20 @@ fn write_value(out: &mut Writer, catalog: &Catalog) -> Result<(), AllocError>
     out.end_object()
 }
 
-fn is_plain_placing(placing: &Placing) -> bool
-    ensures { result ≡ plain_placing placing.now }
-{
-    match placing {
-        Placing::Hashed(_) => true,
-        Placing::Random => true,
-        Placing::Replicated => false,
-    }
-}
-
-fn have_no_histogram(columns: &[ColumnInfo]) -> bool
-    ensures { result ≡ list_all (λ column. not (is_some column.histogram)) columns.now }
-{
-    columns.iter().all(|column| !column.histogram.is_some())
-}
-
-fn is_plain_table(table: &TableInfo) -> bool
-    ensures { result ≡ plain_table table.now }
-{
-    is_plain_placing(&table.placing) && have_no_histogram(table.columns.as_slice())
-}
-
-/// Whether the text has a member for all that the catalogue says, as for each one that was read.
-pub fn is_plain(catalog: &Catalog) -> bool
-    ensures { result ≡ has_plain_tables catalog.now }
-{
-    catalog
-        .tables
-        .as_slice()
-        .iter()
-        .all(|table| is_plain_table(table))
-}
-
 /// Writes a catalogue as JSON without spaces. A text over 1,048,576 bytes is written too, though it is
 /// too long to be read.
-pub fn write_catalog(alloc: Global, catalog: &Catalog) -> Result<Vec<u8>, AllocError>
+pub fn write_catalog(
+    alloc: Global,
+    catalog: &Catalog,
+    version: CatalogVersion,
+) -> Result<Vec<u8>, AllocError>
     requires kept { IsCatalog catalog.now }
-    requires plain { IsTrue (has_plain_tables catalog.now) }
-    ensures text { IfOk result (λ text. text.items ≡ catalog_text catalog.now) }
+    requires said { IsTrue (can_say version catalog.now) }
+    ensures text { IfOk result (λ text. text.items ≡ catalog_text version catalog.now) }
     ensures reads_back { IfOk result
         (λ text. length text.items ≤ most_bytes → reading_of text.items ≡ Ok catalog.now) }
 {
     let mut out = Writer::new(Vec::new(alloc));
-    write_value(&mut out, catalog)?;
+    write_value(&mut out, catalog, version)?;
     Ok(out.into_inner())
 }

@@ -8,7 +8,8 @@ use Rattle.query_core.specs.declared.catalog.Placing.TheVariants.{Hashed, Random
 use Rattle.query_core.specs.Catalog.{is_catalog_name, IsColumn, IsPlacing, IsTable, IsCatalog}
 use Rattle.query_core.specs.Histogram.{trillion}
 use Rattle.query_core.specs.Differ.{texts_differ}
-use Rattle.catalog_text.specs.Text.{is_plain, is_plain_placing, is_plain_table}
+use Rattle.catalog_json.specs.declared.version.CatalogVersion.TheVariants.{One}
+use Rattle.catalog_text.specs.Text.{can_say, is_plain_placing, is_plain_table}
 use Rattle.query_generator.specs.Draws.{draw}
 use Rattle.query_generator.specs.Catalog.{table_name, columns_with, table_with, table_of, catalog_of}
 use Rattle.query_generator.proofs.Throughout.{in_range}
@@ -71,7 +72,7 @@ plain_tables : (number a n : ℕ) → list_all is_plain_table (map (table_of num
 plain_tables number a zero = refl
 plain_tables number a (suc n) = rw (plain_table number a) (plain_tables number (a + 1) n)
 
-pub catalog_plain : (number tables : ℕ) → is_plain (catalog_of number tables) ≡ true
+pub catalog_plain : (number tables : ℕ) → can_say One (catalog_of number tables) ≡ true
 catalog_plain number tables = plain_tables number 0 tables
 
 pub catalog_kept : (number tables : ℕ) → tables ≤ 8 → IsCatalog (catalog_of number tables)

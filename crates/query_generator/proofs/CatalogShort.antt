@@ -9,6 +9,7 @@ use Rattle.json.specs.Print.{escape_byte, begins, ends, token_text, separator, p
 use Rattle.json.specs.Tree.{json_tokens, items_tokens, room}
 use Rattle.json.proofs.Printed.Trees.{room-append}
 use Rattle.catalog_json.specs.Outcome.{most_bytes}
+use Rattle.catalog_json.specs.declared.version.CatalogVersion.TheVariants.{One}
 use Rattle.catalog_text.specs.Text.{items_of, table_json, catalog_json, catalog_text}
 use Rattle.query_generator.specs.Draws.{draw}
 use Rattle.query_generator.specs.Catalog.{table_with, table_of, catalog_of}
@@ -68,13 +69,13 @@ tables_short number a (suc n) h =
           (items_tokens (items_of (map table_json (map (table_of number) (range_with_len (a + 1) n))))),
     )
 
-pub catalog_short : (number tables : ℕ) → tables ≤ 8 → length (catalog_text (catalog_of number tables)) ≤ most_bytes
+pub catalog_short : (number tables : ℕ) → tables ≤ 8 → length (catalog_text One (catalog_of number tables)) ≤ most_bytes
 unfolding digits escape_byte
 catalog_short number tables h =
     let written = items_tokens (items_of (map table_json (map (table_of number) (range_with_len 0 tables)))) in
     omega (
       arith,
-      text_fits false (json_tokens (catalog_json (catalog_of number tables))),
+      text_fits false (json_tokens (catalog_json One (catalog_of number tables))),
       tables_short number 0 tables (omega arith),
       room-append written (Token.end_object ∷ []),
     )

@@ -6,6 +6,7 @@ use Rattle.sql_print.specs.Canonical.{canonical_text}
 use Rattle.sql_print.specs.Unplaced.{unplaced}
 use Rattle.query_core.specs.declared.catalog.Catalog.{Catalog}
 use Rattle.catalog_json.specs.Outcome.{most_bytes, reading_of}
+use Rattle.catalog_json.specs.declared.version.CatalogVersion.TheVariants.{One}
 use Rattle.catalog_text.specs.Text.{catalog_text}
 use Rattle.query_generator.specs.declared.shape.GenShape.{GenShape}
 use Rattle.query_generator.specs.Catalog.{catalog_of}
@@ -17,12 +18,12 @@ use Rattle.query_generator.proofs.SelectKept.{plain_select}
 -- a text that was written for the catalogue is read as the catalogue
 pub catalog_said : {V E : Type 0} (bytes : V → List ℕ) (number tables : ℕ) (catalog : Catalog) (r : Result V E)
     → tables ≤ 8 → catalog ≡ catalog_of number tables
-    → IfOk r (λ text. bytes text ≡ catalog_text catalog)
+    → IfOk r (λ text. bytes text ≡ catalog_text One catalog)
     → IfOk r (λ text. length (bytes text) ≤ most_bytes → reading_of (bytes text) ≡ Ok catalog)
     → IfOk r (λ text. IsCatalogText number tables (bytes text))
 catalog_said bytes number tables catalog (Err fault) few is written reads = tt
 catalog_said bytes number tables catalog (Ok text) few is written reads =
-    let same : bytes text ≡ catalog_text (catalog_of number tables) = written ∙ ap catalog_text is in
+    let same : bytes text ≡ catalog_text One (catalog_of number tables) = written ∙ ap (catalog_text One) is in
     let short : length (bytes text) ≤ most_bytes =
     subst (λ (b : List ℕ). length b ≤ most_bytes) (sym same) (catalog_short number tables few) in
     record { written = same; read = reads short ∙ ap Ok is }

@@ -5,6 +5,7 @@ ghost use Rattle.query_generator.specs.Generated.{IsCatalogText, IsQueryText};
 use crate::catalog::catalog_of;
 use crate::select::select_of;
 use crate::shape::GenShape;
+use catalog_json::CatalogVersion;
 use catalog_text::write_catalog;
 use sql_print::{print_sql, reads_again};
 use std::alloc::{AllocError, Global};
@@ -14,7 +15,7 @@ fn catalog_text_of(alloc: Global, number: u64, tables: u32) -> Result<Vec<u8>, A
     ensures { IfOk result (λ text. IsCatalogText number tables text.items) }
 {
     let catalog = catalog_of(alloc, number, tables)?;
-    write_catalog(alloc, &catalog)
+    write_catalog(alloc, &catalog, CatalogVersion::One)
 }
 
 fn query_text_of(alloc: Global, shape: GenShape, tables: u32) -> Result<Vec<u8>, AllocError>

@@ -11,10 +11,10 @@ use Rattle.catalog_text.proofs.text.write_catalog.Goals as goal
 pub returns-clause-reads_back : goal.returns-clause-reads_back
 returns-clause-reads_back c =
     let wrote = c.in_ok-write_value.ensures in
-    let before = wrote.before ∙ c.new-out.ensures.before ∙ c.new.ensures.items in
+    let before = wrote.added.before ∙ c.new-out.ensures.before ∙ c.new.ensures.items in
     let same = c.into_inner.ensures.items ∙ ap (λ (front : List ℕ). front ++ print c.write_value.new.out.tokens)
     before in
-    λ short. read_back c.into_inner.result.items c.args.catalog.now c.requires.kept c.requires.plain
-    (ap tokens same ∙ c.into_inner.ensures.reads_back ∙ wrote.tokens
-    ∙ ap (λ (ts : List Token). ts ++ json_tokens (catalog_json c.args.catalog.now)) c.new-out.ensures.tokens)
+    λ short. read_back c.args.version c.into_inner.result.items c.args.catalog.now c.requires.kept c.requires.said wrote.fits
+    (ap tokens same ∙ c.into_inner.ensures.reads_back ∙ wrote.added.tokens
+    ∙ ap (λ (ts : List Token). ts ++ json_tokens (catalog_json c.args.version c.args.catalog.now)) c.new-out.ensures.tokens)
     (subst IsUtf8 (sym same) c.into_inner.ensures.utf8) short

@@ -1,11 +1,14 @@
--- the columns so far are written
+-- the columns so far are written, and their histograms' numbers fit
 use Rattle.std.proofs.Common.{take}
-use Rattle.std.specs.List.{flat_map}
+use Rattle.std.specs.List.{All, flat_map}
 use Rattle.json.specs.Tree.{json_tokens}
 use Rattle.catalog_text.specs.Text.{column_json}
 use Rattle.catalog_text.specs.Adds.{Adds}
+use Rattle.catalog_text.specs.Signed.{ColumnFits}
 use Rattle.catalog_text.proofs.text.write_each_column.Given as goal
 
 abbrev pub invariant-loop-column : goal.invariant-loop-column
-invariant-loop-column l = Adds l.initial.out l.out
-    (flat_map (λ c. json_tokens (column_json c)) (take l.column-index l.columns))
+invariant-loop-column l = record {
+  added : Adds l.initial.out l.out (flat_map (λ c. json_tokens (column_json c)) (take l.column-index l.columns));
+  fit : All ColumnFits (take l.column-index l.columns);
+}

@@ -2,8 +2,8 @@ use Rattle.catalog_text.proofs.Adding.{both_added, last_added, token_added}
 use Rattle.catalog_text.proofs.text.write_table.Goals as goal
 
 -- the members one after another, behind the brace that opens them
-pub returns : goal.returns
-returns c =
+pub returns-clause-added : goal.returns-clause-added
+returns-clause-added c =
     last_added c.end_table.result _ _ _ _ _
     (both_added _ _ _ _ _
     (both_added _ _ _ _ _
@@ -17,5 +17,5 @@ returns c =
     (token_added _ _ _ _ c.in_ok-key-3.ensures))
     (last_added c.end_table.result _ _ _ _ _ (rw c.as_slice-columns.ensures at c.in_ok-write_placing.ensures)
     (last_added c.end_table.result _ _ _ _ _ (token_added _ _ _ _ c.in_ok-key-4.ensures)
-    (last_added c.end_table.result _ _ _ _ _ (rw c.as_slice-columns.ensures at c.in_ok-write_columns.ensures)
+    (last_added c.end_table.result _ _ _ _ _ (rw c.as_slice-columns.ensures at c.in_ok-write_columns.ensures.added)
     (rw (c.as_slice-columns.ensures, c.as_slice.ensures) at c.end_table.ensures))))

@@ -3,8 +3,8 @@ use Rattle.catalog_text.proofs.Adding.{token_added, list_added}
 use Rattle.catalog_text.proofs.text.write_tables.Goals as goal
 
 -- the elements stand between the brackets
-pub returns : goal.returns
-returns c =
+pub returns-clause-added : goal.returns-clause-added
+returns-clause-added c =
     list_added (table_json) c.args.tables.now c.end_array.result c.args.out.now c.begin_array.new.self
     c.write_each_table.new.out c.end_array.new.self
-    (token_added _ _ _ _ c.in_ok-begin_array.ensures) c.in_ok-write_each_table.ensures c.end_array.ensures
+    (token_added _ _ _ _ c.in_ok-begin_array.ensures) c.in_ok-write_each_table.ensures.added c.end_array.ensures

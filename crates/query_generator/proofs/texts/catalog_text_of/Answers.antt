@@ -9,9 +9,9 @@ pub write_catalog-requires-clause-kept : goal.write_catalog-requires-clause-kept
 write_catalog-requires-clause-kept c = subst IsCatalog (sym c.in_ok-catalog.ensures)
     (catalog_kept c.args.number c.args.tables c.requires)
 
--- and the text has a member for all that it says
-pub write_catalog-requires-clause-plain : goal.write_catalog-requires-clause-plain
-write_catalog-requires-clause-plain c = rw c.in_ok-catalog.ensures (catalog_plain c.args.number c.args.tables)
+-- and the first version can say all of it
+pub write_catalog-requires-clause-said : goal.write_catalog-requires-clause-said
+write_catalog-requires-clause-said c = rw c.in_ok-catalog.ensures (catalog_plain c.args.number c.args.tables)
 
 pub returns : goal.returns
 returns c = catalog_said (λ v. v.items) c.args.number c.args.tables c.in_ok-catalog.catalog c.write_catalog.result

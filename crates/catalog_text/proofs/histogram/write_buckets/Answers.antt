@@ -1,0 +1,10 @@
+use Rattle.catalog_text.specs.Text.{bucket_json}
+use Rattle.catalog_text.proofs.Adding.{token_added, list_added}
+use Rattle.catalog_text.proofs.histogram.write_buckets.Goals as goal
+
+-- the elements stand between the brackets
+pub returns-clause-added : goal.returns-clause-added
+returns-clause-added c =
+    list_added (bucket_json) c.args.buckets.now c.end_array.result c.args.out.now c.begin_array.new.self
+    c.write_each_bucket.new.out c.end_array.new.self
+    (token_added _ _ _ _ c.in_ok-begin_array.ensures) c.in_ok-write_each_bucket.ensures.added c.end_array.ensures
