@@ -389,15 +389,18 @@ class Query:
         if op == "PartialAgg":
             return [Line(0, "PartialAgg", AS_SPREAD, ((), ()), None)]
         if op in ("HashAgg", "StreamAgg"):
-            order = () if op == "HashAgg" else self.group_order
-            return [Line(0, f"{op}(one)", (ONE, ONE), (order, order), None)] + [
-                Line(128 + h, f"{op}(hashed {self.list_text(h)})", (("Hashed", h),) * 2, (order, order), None)
-                for h, items in self.items_of.items()
-                if all(item in self.groups_by for item in items)
-            ]
+            return self.group_lines(op, [number for number in self.items_of if self.list_lies_in(key, number)])
         if op in ("HashJoin", "MergeJoin", "LoopJoin"):
             return self.join_lines(op, *children)
         return []
+
+    def group_lines(self, op, numbers):
+        """The lines of an aggregation at one place, and of one on rows hashed by each of these lists."""
+        order = () if op == "HashAgg" else self.group_order
+        return [Line(0, f"{op}(one)", (ONE, ONE), (order, order), None)] + [
+            Line(128 + h, f"{op}(hashed {self.list_text(h)})", (("Hashed", h),) * 2, (order, order), None)
+            for h in numbers
+        ]
 
     def join_lines(self, op, left, right):
         at_one, none = (ONE, ONE), ((), ())
@@ -577,83 +580,105 @@ def redistribute(query, number, kid):
 # ---- the memo
 
 
+def tables_text(query, mask):
+    return ", ".join(table["name"] for t, table in enumerate(query.tables) if mask >> t & 1)
+
+
+def group_text(query, key):
+    if key in (PARTIAL, AGG):
+        return "Partial" if key == PARTIAL else "Agg"
+    return f"{'Get' if key < 16 else 'Filter' if key < 32 else 'Join'}({tables_text(query, tables_of(key))})"
+
+
+def member_text(query, key, member):
+    op, index, children = member
+    if key in (PARTIAL, AGG):
+        return f"{op}({'partial' if children[0] == PARTIAL else 'input'})"
+    if len(children) == 2:
+        return f"{op}({' | '.join(tables_text(query, tables_of(child)) for child in children)})"
+    number = f", i{index}" if op in ("IndexScan", "IndexSeek") else ""
+    return f"{op}({tables_text(query, tables_of(key))}{number})"
+
+
 def memo_text(query):
     """The groups by their keys, each with its members by their words."""
-
-    def tables_text(mask):
-        return ", ".join(table["name"] for t, table in enumerate(query.tables) if mask >> t & 1)
-
-    def group_text(key):
-        if key in (PARTIAL, AGG):
-            return "Partial" if key == PARTIAL else "Agg"
-        return f"{'Get' if key < 16 else 'Filter' if key < 32 else 'Join'}({tables_text(tables_of(key))})"
-
-    def member_text(key, member):
-        op, index, children = member
-        if key in (PARTIAL, AGG):
-            return f"{op}({'partial' if children[0] == PARTIAL else 'input'})"
-        if len(children) == 2:
-            return f"{op}({' | '.join(tables_text(tables_of(child)) for child in children)})"
-        number = f", i{index}" if op in ("IndexScan", "IndexSeek") else ""
-        return f"{op}({tables_text(tables_of(key))}{number})"
-
     lines = [f"memo groups={len(query.members)} members={sum(map(len, query.members.values()))}"]
     for key in sorted(query.members):
-        lines.append(f"group {group_text(key)} rows={query.rows(key)}")
+        lines.append(f"group {group_text(query, key)} rows={query.rows(key)}")
         members = sorted(query.members[key], key=lambda member: word_of(key, member))
-        lines += [f"  {member_text(key, member)}" for member in members]
+        lines += [f"  {member_text(query, key, member)}" for member in members]
     return "\n".join(lines) + "\n"
+
+
+# ---- requests: a distribution and an order
+
+
+def fits(query, key, dist, order):
+    """Whether the list and the order of a request lie in the group."""
+    return (dist[0] != "Hashed" or query.list_lies_in(key, dist[1])) and query.order_lies_in(key, order)
+
+
+def below_enforcers(dist, order):
+    """The requests over which an enforcer gives this one."""
+    if order:
+        return [(dist, ())] + ([(SPREAD, order)] if dist == ONE else [])
+    return [] if dist == SPREAD else [(SPREAD, ())]
+
+
+def enforced(query, dist, order, kid, below):
+    """The enforcer that gives a request over a plan for the request below it."""
+    if order:
+        return sort(query, order, kid) if below == (dist, ()) else gather_merge(query, order, kid)
+    if dist == ONE:
+        return gather(query, kid)
+    return broadcast(query, kid) if dist == COPIES else redistribute(query, dist[1], kid)
+
+
+def serves(line, dist, order):
+    """Whether the line can give what is asked for."""
+    if line.dist == AS_SPREAD and not is_spread(dist):
+        return False
+    if not isinstance(line.dist, str) and not meets(line.dist[0], dist):
+        return False
+    return isinstance(line.order, str) or begins(line.order[0], order)
+
+
+def alternatives(query, key, member, dist, order):
+    """The lines of a member that serve the request, each with what is asked of the children."""
+    for line in query.lines(key, member):
+        if not serves(line, dist, order):
+            continue
+        if not member.children:
+            yield line, []
+            continue
+        of_left = (
+            dist if isinstance(line.dist, str) else line.dist[1],
+            order if isinstance(line.order, str) else line.order[1],
+        )
+        if fits(query, member.children[0], *of_left):
+            yield line, [of_left] + ([line.right] if line.right else [])
 
 
 # ---- the least plan by requests
 
 
 def least_by_requests(query):
-    def lies_in(key, dist, order):
-        return (dist[0] != "Hashed" or query.list_lies_in(key, dist[1])) and query.order_lies_in(key, order)
-
-    def enforced(key, dist, order):
-        if order:
-            yield best(key, dist, ()), lambda kid: sort(query, order, kid)
-            if dist == ONE:
-                yield best(key, SPREAD, order), lambda kid: gather_merge(query, order, kid)
-        elif dist == ONE:
-            yield best(key, SPREAD, ()), lambda kid: gather(query, kid)
-        elif dist == COPIES:
-            yield best(key, SPREAD, ()), lambda kid: broadcast(query, kid)
-        elif dist[0] == "Hashed":
-            yield best(key, SPREAD, ()), lambda kid: redistribute(query, dist[1], kid)
-
-    def serves(line, dist, order):
-        """Whether the line can give what is asked for."""
-        if line.dist == AS_SPREAD and not is_spread(dist):
-            return False
-        if not isinstance(line.dist, str) and not meets(line.dist[0], dist):
-            return False
-        return isinstance(line.order, str) or begins(line.order[0], order)
-
     def natives(key, dist, order):
         for member in query.members[key]:
-            for line in query.lines(key, member):
-                if not serves(line, dist, order):
-                    continue
-                asked = []
-                if member.children:
-                    of_left = (
-                        dist if isinstance(line.dist, str) else line.dist[1],
-                        order if isinstance(line.order, str) else line.order[1],
-                    )
-                    if not lies_in(member.children[0], *of_left):
-                        continue
-                    asked = [of_left] + ([line.right] if line.right else [])
+            for line, asked in alternatives(query, key, member, dist, order):
                 kids = tuple(best(child, *request) for child, request in zip(member.children, asked))
                 if all(kid is not None for kid in kids):
                     yield native(query, key, member, line, kids)
 
+    def enforcers(key, dist, order):
+        for below in below_enforcers(dist, order):
+            kid = best(key, *below)
+            if kid is not None:
+                yield enforced(query, dist, order, kid, below)
+
     @functools.lru_cache(None)
     def best(key, dist, order):
-        plans = [make(kid) for kid, make in enforced(key, dist, order) if kid is not None]
-        plans += natives(key, dist, order)
+        plans = [*enforcers(key, dist, order), *natives(key, dist, order)]
         return min(plans, key=Plan.rank, default=None)
 
     return best(query.root_key(), query.root, query.wanted)
@@ -662,18 +687,23 @@ def least_by_requests(query):
 # ---- the least plan by listing all of them
 
 
+def suits(line, kids):
+    """Whether the plans below give what the line needs."""
+    if not kids:
+        return True
+    left = kids[0]
+    if line.dist == AS_SPREAD and not is_spread(left.dist):
+        return False
+    if not isinstance(line.dist, str) and not meets(left.dist, line.dist[1]):
+        return False
+    if not isinstance(line.order, str) and not begins(left.order, line.order[1]):
+        return False
+    return len(kids) == 1 or (meets(kids[1].dist, line.right[0]) and begins(kids[1].order, line.right[1]))
+
+
 def least_by_listing(query, most):
     """The least of all valid plans of at most so many nodes, and how many plans of all groups were listed."""
     by_size = {size: {key: [] for key in query.members} for size in range(1, most + 1)}
-
-    def suits(line, left, right):
-        if line.dist == AS_SPREAD and not is_spread(left.dist):
-            return False
-        if not isinstance(line.dist, str) and not meets(left.dist, line.dist[1]):
-            return False
-        if not isinstance(line.order, str) and not begins(left.order, line.order[1]):
-            return False
-        return right is None or (meets(right.dist, line.right[0]) and begins(right.order, line.right[1]))
 
     def kids_of(size, children):
         """All kids of so many nodes together, one for each child."""
@@ -688,7 +718,7 @@ def least_by_listing(query, most):
         elif size == 0:
             yield ()
 
-    def enforced(kid):
+    def all_enforced(kid):
         for order in query.orders:
             if order and query.order_lies_in(kid.key, order):
                 yield sort(query, order, kid)
@@ -707,10 +737,10 @@ def least_by_listing(query, most):
             for member in members:
                 for line in query.lines(key, member):
                     for kids in kids_of(size - 1, member.children):
-                        if not kids or suits(line, kids[0], kids[1] if len(kids) > 1 else None):
+                        if suits(line, kids):
                             plans.append(native(query, key, member, line, kids))
             for kid in by_size.get(size - 1, {}).get(key, []):
-                plans.extend(enforced(kid))
+                plans.extend(all_enforced(kid))
     of_root = [plan for plans in by_size.values() for plan in plans[query.root_key()]]
     suiting = [plan for plan in of_root if meets(plan.dist, query.root) and begins(plan.order, query.wanted)]
     count = sum(len(plans) for of_groups in by_size.values() for plans in of_groups.values())
