@@ -17,7 +17,7 @@ def run_tests(tests, with_program):
     passed = failed = 0
     if os.access(PROGRAM, os.X_OK):
         tests = tests + with_program
-    else:
+    elif with_program:
         print(f"left out: {len(with_program)} tests that want the program, since {PROGRAM} isn't there")
     for test in tests:
         try:
