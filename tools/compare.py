@@ -6,14 +6,15 @@ It makes random small catalogues and queries, works out the text of the least pl
 against plans that were worked out by hand (known_plans.py), and with --trees against a listing of all plans. With
 --alone that is all: the program isn't run.
 
-With --folder it takes the queries of a folder, each *.sql over catalog.json, with either root, in place of random ones.
+With --folder it takes the queries of a folder, each *.sql over its catalog.json or the catalogue that --catalog names,
+with either root, in place of random ones.
 
 The program is run with each number of workers that --workers names, and has to print the same with all of them, within
 two minutes.
 
 Usage: tools/compare.py [--cases N] [--seed N] [--tables N] [--parts PART,PART] [--versions N,N] [--workers N,N]
        [--memo] [--trees NODES] [--alone]
-       tools/compare.py --folder FOLDER [--workers N,N] [--memo] [--alone]
+       tools/compare.py --folder FOLDER [--catalog NAME] [--workers N,N] [--memo] [--alone]
 """
 
 import argparse
@@ -78,14 +79,25 @@ def random_grouping(pick, column):
 def random_query(pick, most_tables, parts, versions):
     """A query over at most so many tables, over a catalogue of one of the versions; parts says what it may have beside
     joins and an order."""
+    tables, version = random_tables(pick, most_tables, parts, versions)
+    return random_query_over(pick, tables, parts, version)
+
+
+def random_tables(pick, most_tables, parts, versions):
+    """At most so many tables of a catalogue, and its version."""
     rows = pick.choice([FEW_ROWS, MANY_ROWS, FEW_ROWS + MANY_ROWS])
     version = pick.choice(versions)
     tables = [random_table(pick, t, rows, version) for t in range(pick.randint(1, most_tables))]
     if "indexes" not in parts:
         for table in tables:
             table["indexes"] = []
+    return tables, version
+
+
+def random_query_over(pick, tables, parts, version):
+    """A query over all these tables, or over one of them twice."""
     if "aliases" in parts and len(tables) > 1 and pick.random() < 0.15:
-        tables[-1] = {**tables[0], "name": "again", "of": tables[0]["name"]}
+        tables = tables[:-1] + [{**tables[0], "name": "again", "of": tables[0]["name"]}]
 
     def column(first=0, behind=len(tables)):
         t = pick.randrange(first, behind)
@@ -125,9 +137,9 @@ def random_cases(asked, folder):
         yield f"case {case}", query, catalog, text
 
 
-def cases_of_folder(folder):
-    """Each query of the folder with either root."""
-    catalog = os.path.join(folder, "catalog.json")
+def cases_of_folder(folder, catalog):
+    """Each query of the folder with either root, over the catalogue of this name in it."""
+    catalog = os.path.join(folder, catalog)
     with open(catalog) as file:
         tables = file.read()
     for text in sorted(glob.glob(os.path.join(folder, "*.sql"))):
@@ -187,15 +199,16 @@ def main():
     options.add_argument("--versions", default="1", help="the versions of catalogues, of 1 and 2")
     options.add_argument("--workers", default="1,4", help="with how many workers the program is run")
     options.add_argument("--memo", action="store_true", help="compare the memos, too")
-    options.add_argument("--trees", type=int, default=0, metavar="NODES", help="list all plans of at most so many nodes")
+    options.add_argument("--trees", type=int, default=0, metavar="NODES", help="list plans of at most so many nodes")
     options.add_argument("--alone", action="store_true", help="only check the plain program")
-    options.add_argument("--folder", help="take the queries of this folder, over its catalog.json")
+    options.add_argument("--folder", help="take the queries of this folder")
+    options.add_argument("--catalog", default="catalog.json", help="the folder's catalogue, catalog.json if not given")
     options.add_argument("--program", default=os.path.join(top, "crates", "orca", "out", "orca"))
     asked = options.parse_args()
     check_known()
     count = differ = without = listings = listed = 0
     with tempfile.TemporaryDirectory() as folder:
-        cases = cases_of_folder(asked.folder) if asked.folder else random_cases(asked, folder)
+        cases = cases_of_folder(asked.folder, asked.catalog) if asked.folder else random_cases(asked, folder)
         for name, query, catalog, text in cases:
             least = least_by_requests(query)
             count += 1

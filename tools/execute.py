@@ -18,7 +18,7 @@ twelve rows then, whatever the catalogue says.
 Usage: tools/execute.py CATALOG QUERY [--root one|spread] [--off RULE+RULE] [--workers N] [--capacity N]
        [--plan FILE] [--rows N] [--values N] [--seed N] [--analyze] [--program PROGRAM]
        tools/execute.py --cases N [--seed N] [--tables N] [--parts PART,PART] [--versions N,N] [--program PROGRAM]
-       tools/execute.py --folder FOLDER [--seed N] [--program PROGRAM]
+       tools/execute.py --folder FOLDER [--catalog NAME] [--seed N] [--program PROGRAM]
 """
 
 import argparse
@@ -33,11 +33,12 @@ import tempfile
 from compare import PARTS, cases_of_folder, random_cases
 from execution import COPIES, GROUPS, ONE_PLACE, ROWS, SPREAD, Execution, Fault, TooManyRows, is_in_order, order_key
 from orca_program import NO_PLAN, PLANNED, NoAnswer, plan_options, plan_words, planned_text, run, text_of_file
-from plain_plans import ONE
+from plain_plans import ONE, literal_text
+from plain_sql import tokens_of
 from plan_of_query import AGGREGATIONS, JOINS, READS, check_nodes, table_of, tables_below
 from printed_plan import NotAPlan, aligned, read_plan, section
 from random_rows import any_sizes, catalog_sizes, name_of, place_tables
-from read_query import FUNCTIONS, NotAQuery, Tokens, read_query
+from read_query import NotAQuery, read_query
 
 KINDS = [
     "Scan", "IndexScan", "IndexSeek", "Filter", "HashJoin(one)", "HashJoin(copied)", "HashJoin(colocated)",
@@ -51,12 +52,14 @@ KINDS = [
 
 def sqlite_text(text):
     """The query with its names in quotes, since some of them are SQLite's own words."""
-    tokens = Tokens(text).tokens[:-1]
-    words = []
-    for place, (kind, word) in enumerate(tokens):
-        is_function = word.upper() in FUNCTIONS and tokens[place + 1 : place + 2] == [("sign", "(")]
-        words.append(f'"{word}"' if kind == "name" and not is_function else word)
-    return " ".join(words)
+    tokens, _ = tokens_of(text.encode())
+    return " ".join(map(sqlite_word, tokens))
+
+
+def sqlite_word(token):
+    if token.kind == "name":
+        return f'"{token.value}"'
+    return literal_text(token.value) if token.kind in ("integer", "string") else token.value
 
 
 def sqlite_rows(text, placed):
@@ -231,7 +234,8 @@ def execute_many(asked):
     """Executes the plans of many queries, tells what differs and which kinds of nodes came up, and gives the status."""
     kinds, count, differ = collections.Counter(), 0, 0
     with tempfile.TemporaryDirectory() as folder:
-        for name, query, *files in cases_of_folder(asked.folder) if asked.folder else random_cases(asked, folder):
+        cases = cases_of_folder(asked.folder, asked.catalog) if asked.folder else random_cases(asked, folder)
+        for name, query, *files in cases:
             count += 1
             try:
                 differs = case_difference(asked, name, query, files, kinds)
@@ -259,7 +263,8 @@ def options_of(words):
     options.add_argument("--tables", type=int, default=4, help="the most tables of a random query")
     options.add_argument("--parts", default=",".join(PARTS), help="what random queries may have")
     options.add_argument("--versions", default="1", help="the versions of random catalogues, of 1 and 2")
-    options.add_argument("--folder", help="the queries of this folder, over its catalog.json")
+    options.add_argument("--folder", help="the queries of this folder")
+    options.add_argument("--catalog", default="catalog.json", help="the folder's catalogue, catalog.json if not given")
     plan_options(options)
     asked = options.parse_args(words)
     if len(asked.names) != (0 if asked.cases or asked.folder else 2):

@@ -45,7 +45,7 @@ RIGHT = [
 ]
 
 # the same where each segment has a copy of t
-REPLICATED = CATALOG.replace('"version": 1', '"version": 2').replace('"random"', '"replicated"')
+REPLICATED = CATALOG.replace('"version": 1', '"version": 2').replace('"random"', '"replicated", "indexes": [["n"]]')
 OF_COPIES = [
     (JOIN, "GatherMerge(s.x)|  Sort(s.x)|    HashJoin(copied)|      IndexSeek(s, i0)|      Filter(t)"
            "|        Scan(t copies)"),
@@ -53,10 +53,18 @@ OF_COPIES = [
     (GROUPS, "GatherMerge(t.n)|  StreamAgg(hashed t.n)|    Sort(t.n)|      Redistribute(t.n)|        PartialAgg"
              "|          Scan(t own)"),
     (GROUPS, "Sort(t.n)|  HashAgg(one)|    Scan(t one)"),
+    (GROUPS, "StreamAgg(one)|  IndexScan(t, i0 one)"),
+    (GROUPS, "GatherMerge(t.n)|  StreamAgg(hashed t.n)|    Sort(t.n)|      Redistribute(t.n)"
+             "|        IndexScan(t, i0 own)"),
+    (COUNT, "HashAgg(one)|  IndexSeek(t, i0 one)"),
+    (COUNT, "HashAgg(one)|  Gather|    PartialAgg|      IndexSeek(t, i0 own)"),
 ]
 WRONG_OF_COPIES = [
     (GROUPS, "Sort(t.n)|  HashAgg(one)|    Gather|      Scan(t copies)", "needs what is spread"),
     (GROUPS, "Sort(t.n)|  HashAgg(one)|    Gather|      Scan(t)", "doesn't say how it reads"),
+    (GROUPS, "Sort(t.n)|  HashAgg(one)|    Gather|      Scan(t mine)", "isn't told as a read is"),
+    (JOIN, "Sort(s.x)|  HashJoin(one)|    IndexSeek(s, i0 one)|    Filter(t)|      Scan(t one)",
+     "IndexSeek(s, i0 one) reads a copy of s, which has none"),
 ]
 
 # plans that don't, and a part of what is told
@@ -183,7 +191,7 @@ def rows_with_equal_keys_may_stand_in_any_order():
 def names_are_quoted_for_sqlite():
     text = "select count(*) as index, MIN(a.count) from t a -- all\nwhere a.b = 'from' and c < -5;"
     quoted = (
-        'SELECT count ( * ) AS "index" , MIN ( "a" . "count" ) '
+        'SELECT COUNT ( * ) AS "index" , MIN ( "a" . "count" ) '
         """FROM "t" "a" WHERE "a" . "b" = 'from' AND "c" < -5 ;"""
     )
     assert sqlite_text(text) == quoted, sqlite_text(text)
@@ -199,12 +207,9 @@ def queries_are_read_as_they_were_made():
 
 def texts_that_are_no_query_are_refused():
     for text, reason in [
-        ("SELECT x FROM s WHERE", "the end stands where name is expected"),
-        ("SELECT x s", "s stands where FROM is expected"),
-        ("SELECT x FROM s WHERE x = #", "no token begins at byte 26"),
-        ("SELECT x FROM u", "no table u"),
-        ("SELECT y FROM s", "no table has the column y"),
-        ("SELECT x FROM s, s AS z", "several tables have the column x"),
+        ("SELECT x FROM s WHERE", "the query can't be read: grammar at 21"),
+        ("SELECT x FROM u", "unknown table at 14"),
+        ("SELECT x FROM s, s AS z", "ambiguous column at 7"),
     ]:
         try:
             read_query(CATALOG, text)

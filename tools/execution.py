@@ -10,7 +10,7 @@ import heapq
 import operator
 
 from plain_plans import is_column
-from plan_of_query import columns_of_sides, index_of, merged_by, table_of, tested
+from plan_of_query import columns_of_sides, copy_of, index_of, merged_by, table_of, tested
 from random_rows import name_of, segment_of
 
 ONE_PLACE, SPREAD, COPIES = "at one place", "spread over the segments", "copied to each segment"
@@ -189,14 +189,12 @@ class Execution:
         """How the rows of a table lie as the node reads them; of copies all segments read a share, or one reads all."""
         if not table.replicated:
             return SPREAD, table.parts
-        mode, rows = node.inside.split(" ")[-1], self.shuffled(table.rows())
-        if mode == "own":
+        copy, rows = copy_of(node), self.shuffled(table.rows())
+        if copy == "own":
             return SPREAD, [rows[segment :: len(table.parts)] for segment in range(len(table.parts))]
-        if mode == "one":
+        if copy == "one":
             return ONE_PLACE, [rows]
-        if mode == "copies":
-            return COPIES, table.parts
-        raise Fault(f"{node.name} doesn't say how it reads a table of which each segment has a copy")
+        return COPIES, table.parts
 
     def table_and_index(self, node):
         """The table and the number of the index that a node names."""

@@ -10,6 +10,9 @@ JOINS = ["HashJoin", "MergeJoin", "LoopJoin"]
 AGGREGATIONS = ["HashAgg", "StreamAgg"]
 MOTIONS = ["Gather", "GatherMerge", "Redistribute", "Broadcast"]
 
+# what stands in the parentheses of a read
+READ = re.compile(r"\w+(?:, i\d+)?(?: (?P<copy>own|one|copies))?", re.ASCII)
+
 # how many nodes stand below a node
 KIDS = {
     **dict.fromkeys(READS, 0),
@@ -29,8 +32,21 @@ def check_nodes(query, plan):
             raise NotAPlan(f"{node.name} stands over {len(node.kids)} nodes in place of {KIDS[node.operator]}")
         if node.operator in JOINS:
             merged_by(query, node)
+        if node.operator in READS:
+            check_read(query, node)
     if tables_below(query, plan.root) != set(range(len(query.tables))):
         raise NotAPlan("the plan doesn't read each table of the query")
+
+
+def check_read(query, node):
+    """That a read says which copy of a table it reads, exactly where each segment has one."""
+    if READ.fullmatch(node.inside) is None:
+        raise NotAPlan(f"{node.name} isn't told as a read is")
+    if query.tables[table_of(query, node)].get("replicated"):
+        if copy_of(node) is None:
+            raise NotAPlan(f"{node.name} doesn't say how it reads a table of which each segment has a copy")
+    elif copy_of(node) is not None:
+        raise NotAPlan(f"{node.name} reads a copy of {alias_of(node)}, which has none")
 
 
 def alias_of(node):
@@ -42,6 +58,12 @@ def index_of(node):
     """The number of the index that a read names, or None."""
     named = re.search(r", i(\d+)", node.inside)
     return None if named is None else int(named[1])
+
+
+def copy_of(node):
+    """How a read takes a table of which each segment has a copy: "own", each segment its own share of the rows, "one",
+    one segment all rows, or "copies", each segment all rows; None where it doesn't say."""
+    return READ.fullmatch(node.inside)["copy"]
 
 
 def table_of(query, node):
