@@ -1,7 +1,7 @@
 #!/usr/bin/env python3
-"""Tests what the plain program answers to each command, by examples that were worked out by hand. It needs Python alone.
+"""Tests what the plain program answers to each command, by examples that were worked out by hand.
 
-Whether the program answers the same is what tools/compare_commands.py asks.
+It needs Python alone. Whether the program answers the same is what tools/compare_commands.py asks.
 """
 
 from plain_commands import answer
@@ -265,7 +265,7 @@ def words_that_are_no_command_get_the_usage_line():
         "", "plan c", "plan c q --workers 0", "plan c q --workers 65", "plan c q --workers=4", "plan c q --workers 04",
         "plan c q --off ExpandNAry", "plan c q --memo --memo", "plan c q --capacity 63", "gen 1 9 chain", "--help",
         "stages c q", "stages c q none", "stages c q all,", "stages c q all@0", "stages c q all@100000000000000001",
-        "stages c q all,all,all,all,all,all,all,all,all", "stages c q all+JoinToHash", "stages c q all --off JoinToHash",
+        "stages c q all,all,all,all,all,all,all,all,all", "stages c q all+JoinToHash", "stages c q all --off SplitAgg",
         "check c q", "check c q p --memo", "check c q p --workers 2", "check c q p --capacity 64",
         "dump c q --workers 2", "dump c q --by-worker", "dump c", "replay d --memo", "replay d --capacity 64",
         "replay", "replay d e", "batch c l --workers 64 --capacity 131073", "batch c l --by-worker", "batch c",
