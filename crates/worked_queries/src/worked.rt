@@ -3,13 +3,13 @@
 ghost use Rattle.query_core.specs.Results.{AreOptions};
 
 use catalog_json::read_catalog;
-use query_core::{Catalog, Options, Query, RootDist};
+use query_core::{Options, Query, RootDist};
 use sql_bind::bind;
 use sql_reader::read_sql;
 use std::alloc::Global;
 use std::test::Fail;
 
-/// The query of the text over these tables, which are an array as in a catalogue.
+/// The query of the text over these tables, which are an array as in a catalogue of version 2.
 pub fn worked(alloc: Global, tables: &str, text: &str) -> Result<Query, Fail> {
     worked_without(alloc, tables, text, 0)
 }
@@ -35,24 +35,8 @@ pub fn query_over(
 ) -> Result<Query, Fail>
     requires { AreOptions options }
 {
-    let json = format!(in alloc; "{{\"version\":1,\"segments\":{segments},\"tables\":{tables}}}")?;
+    let json = format!(in alloc; "{{\"version\":2,\"segments\":{segments},\"tables\":{tables}}}")?;
     let catalog = read_catalog(alloc, json.as_bytes())?;
     let select = read_sql(alloc, text.as_bytes())?;
     Ok(bind(alloc, &select, &catalog, options)?)
-}
-
-/// The query of the text over a catalogue that a test made, with these options.
-pub fn query_of(
-    alloc: Global,
-    catalog: &Catalog,
-    text: &str,
-    options: Options,
-) -> Result<Query, Fail>
-    requires { AreOptions options }
-{
-    if !catalog.keeps_limits() {
-        return Err(Fail::from("a catalogue outside its limits"));
-    }
-    let select = read_sql(alloc, text.as_bytes())?;
-    Ok(bind(alloc, &select, catalog, options)?)
 }
