@@ -30,10 +30,10 @@ import subprocess
 import sys
 import tempfile
 
+from changed_texts import changed_catalog, changed_dump, changed_plan, changed_query
 from compare import PARTS, SECONDS, random_query, random_query_over, random_tables
-from mutate import changed, words_changed
+from mutate import words_changed
 from orca_program import BUILT
-from plain_check import FIRST_NODE, PlanFault, judged_nodes, node_texts, read_lines
 from plain_commands import COMMANDS, USAGE, answer
 from plain_plans import RULES, SPREAD, Query, least_by_requests, text_of
 from plain_words import USAGES, NoCommand, read_words, usage_line
@@ -42,9 +42,10 @@ from plain_words import USAGES, NoCommand, read_words, usage_line
 Kind = collections.namedtuple("Kind", "commands cases changes workers make")
 # what is asked: words, the files that they name, and whether workers may be named
 Run = collections.namedtuple("Run", "words files by_workers")
-# what came of a case: how often each answer came, and what differs
-Tried = collections.namedtuple("Tried", "answers differences")
+# what came of a case: how many runs it has, how often each answer came, and what differs
+Tried = collections.namedtuple("Tried", "runs answers differences")
 
+FLAGS = ["--memo", "--trace", "--by-worker"]
 CAPACITIES = [[], [], ["--capacity", "64"], ["--capacity", "150"], ["--capacity", "600"]]
 # the names that words have for files
 CATALOG, QUERY, LIST, PLAN, DUMP = "c.json", "q.sql", "l.sql", "plan", "dump"
@@ -69,19 +70,11 @@ def shuffled(pick, words, options):
     """The words with the options, each with its value, before, between or behind the positional ones."""
     command, *rest = words
     while options:
-        length = 1 if options[0] in ("--memo", "--trace") else 2
-        places = [k for k in range(len(rest) + 1) if k == 0 or rest[k - 1] not in TAKE_VALUES]
-        at = pick.choice(places)
+        length = 1 if options[0] in FLAGS else 2
+        is_free = lambda at: at == 0 or not rest[at - 1].startswith("--") or rest[at - 1] in FLAGS
+        at = pick.choice([at for at in range(len(rest) + 1) if is_free(at)])
         rest, options = rest[:at] + options[:length] + rest[at:], options[length:]
     return [command, *rest]
-
-
-TAKE_VALUES = ["--workers", "--capacity", "--root", "--off"]
-
-
-def with_one_in(pick, count, text, others):
-    """The text, changed at random once in so many times."""
-    return changed(pick, text, others) if pick.randrange(count) == 0 else text
 
 
 # ---- plan and batch
@@ -90,8 +83,10 @@ def with_one_in(pick, count, text, others):
 def plan_runs(pick, asked):
     query = some_query(pick, asked)
     files = files_of(query)
-    files[QUERY] = with_one_in(pick, 2, files[QUERY], [files[QUERY]])
-    files[CATALOG] = with_one_in(pick, 4, files[CATALOG], [files[CATALOG]])
+    if pick.random() < 0.5:
+        files[QUERY] = changed_query(pick, files[QUERY])
+    if pick.random() < 0.4:
+        files[CATALOG] = changed_catalog(pick, files[CATALOG])
     options = query.words() + pick.choice(CAPACITIES) + sections(pick)
     yield Run(shuffled(pick, ["plan", CATALOG, QUERY], options), files, True)
 
@@ -104,7 +99,7 @@ def batch_runs(pick, asked):
     capacity = pick.choice(CAPACITIES)
     if pick.random() < 0.03:
         listed, capacity = listed + b"\n" * pick.choice([990, 1000, 1001, 1100]), pick.choice(CAPACITIES[2:])
-    files = {CATALOG: with_one_in(pick, 20, catalog, [catalog]), LIST: listed}
+    files = {CATALOG: changed_catalog(pick, catalog) if pick.random() < 0.05 else catalog, LIST: listed}
     options = some_query(pick, asked).words() + capacity + sections(pick)
     yield Run(shuffled(pick, ["batch", CATALOG, LIST], options), files, True)
 
@@ -115,7 +110,7 @@ def random_line(pick, tables, version):
         return b""
     some = tables[: pick.randint(1, len(tables))]
     text = random_query_over(pick, some, PARTS, version).sql().encode()
-    return with_one_in(pick, 3, text, [text]).replace(b"\n", b" ")
+    return (changed_query(pick, text) if pick.random() < 0.4 else text).replace(b"\n", b" ")
 
 
 # ---- stages
@@ -172,134 +167,14 @@ def with_off(query, off):
                  query.version)
 
 
-def changed_plan(pick, query, text):
-    """The text with some changes; half of the time with the rows and costs that are then right, where that can be."""
-    if pick.random() < 0.05:
-        return changed(pick, text.encode(), [text.encode()]).decode("latin-1")
-    lines = text.splitlines()
-    for _ in range(pick.choice([1, 1, 1, 2, 3])):
-        change = pick.choice(CHANGES)
-        at = pick.randrange(len(lines)) if lines else 0
-        lines = change(pick, query, lines, at) if at < len(lines) else lines
-    text = "".join(f"{line}\n" for line in lines)
-    return priced(query, text) if pick.random() < 0.5 else text
-
-
-def priced(query, text):
-    """The text with the rows and costs of its nodes, where these can stand over their kids."""
-    try:
-        _, lines = read_lines(query, text)
-        plans = [node.plan for node in judged_nodes(query, lines)]
-    except PlanFault:
-        return text
-    output = text.split("\n")[1]
-    nodes = [f"{'  ' * line.level}{line.text} rows={plan.rows} cost={plan.local}" for line, plan in zip(lines, plans)]
-    return "".join(f"{line}\n" for line in [f"cost {plans[0].cost}", output, *nodes])
-
-
-def depth_of(line):
-    return len(line) - len(line.lstrip(" "))
-
-
-def behind_block(lines, at):
-    """The place behind a line and all that stands under it."""
-    behind = at + 1
-    while behind < len(lines) and depth_of(lines[behind]) > depth_of(lines[at]):
-        behind += 1
-    return behind
-
-
-def dropped(pick, query, lines, at):
-    return lines[:at] + lines[at + 1 :]
-
-
-def doubled(pick, query, lines, at):
-    return lines[: at + 1] + lines[at:]
-
-
-def moved(pick, query, lines, at):
-    rest = lines[:at] + lines[at + 1 :]
-    to = pick.randrange(len(rest) + 1)
-    return rest[:to] + [lines[at]] + rest[to:]
-
-
-def indented(pick, query, lines, at):
-    by = pick.choice([-2, -2, -1, 1, 2, 2, 4])
-    line = " " * by + lines[at] if by > 0 else lines[at][-by:]
-    return lines[:at] + [line] + lines[at + 1 :]
-
-
-def renumbered(pick, query, lines, at):
-    """A number of the line is another one."""
-    numbers = list(re.finditer("[0-9]+", lines[at]))
-    if not numbers:
-        return lines
-    found = pick.choice(numbers)
-    value = int(found[0])
-    other = pick.choice([value + 1, value - 1, 0, f"0{value}", 2 * value, 2**64 - 1, 2**64, "", -value, f"{value}.0"])
-    return lines[:at] + [f"{lines[at][: found.start()]}{other}{lines[at][found.end() :]}"] + lines[at + 1 :]
-
-
-def renamed(pick, query, lines, at):
-    """The node is another one that the query can name."""
-    if at < FIRST_NODE:
-        return lines
-    text, mark, numbers = lines[at].partition(" rows=")
-    other = pick.choice(sorted(node_texts(query)))
-    return lines[:at] + [" " * depth_of(text) + other + mark + numbers] + lines[at + 1 :]
-
-
-def misspelled(pick, query, lines, at):
-    """A letter of the line is another one."""
-    if not lines[at]:
-        return lines
-    place = pick.randrange(len(lines[at]))
-    other = pick.choice(list("abtTsi019 .,()=p\t\r\xe9") + ["DESC", "  "])
-    return lines[:at] + [lines[at][:place] + other + lines[at][place + 1 :]] + lines[at + 1 :]
-
-
-def taken_out(pick, query, lines, at):
-    """The node is gone, and what stands under it moves up."""
-    if at < FIRST_NODE:
-        return lines
-    behind = behind_block(lines, at)
-    return lines[:at] + [line[2:] for line in lines[at + 1 : behind]] + lines[behind:]
-
-
-def put_in(pick, query, lines, at):
-    """A further node stands over the node."""
-    if at < FIRST_NODE:
-        return lines
-    behind = behind_block(lines, at)
-    enforcers = [text for text in node_texts(query) if re.match("Sort|Gather|Redistribute|Broadcast", text)]
-    node = " " * depth_of(lines[at]) + pick.choice(sorted(enforcers)) + " rows=1 cost=1"
-    return lines[:at] + [node] + [f"  {line}" for line in lines[at:behind]] + lines[behind:]
-
-
-def exchanged(pick, query, lines, at):
-    """Two nodes that stand side by side, with all under them, change places."""
-    if at < FIRST_NODE:
-        return lines
-    middle = behind_block(lines, at)
-    if middle == len(lines) or depth_of(lines[middle]) != depth_of(lines[at]):
-        return lines
-    behind = behind_block(lines, middle)
-    return lines[:at] + lines[middle:behind] + lines[at:middle] + lines[behind:]
-
-
-CHANGES = [
-    dropped, doubled, moved, indented, renumbered, renumbered, renamed, renamed, renamed, misspelled, taken_out,
-    taken_out, put_in, put_in, put_in, exchanged, exchanged,
-]
-
-
 # ---- dump and replay
 
 
 def dump_runs(pick, asked):
     query = some_query(pick, asked)
     files = files_of(query)
-    files[QUERY] = with_one_in(pick, 10, files[QUERY], [files[QUERY]])
+    if pick.random() < 0.1:
+        files[QUERY] = changed_query(pick, files[QUERY])
     words = shuffled(pick, ["dump", CATALOG, QUERY], query.words() + pick.choice(CAPACITIES) + sections(pick))
     yield Run(words, files, False)
     status, text = answer(words, files)
@@ -312,58 +187,40 @@ def dump_runs(pick, asked):
         yield Run(["replay", DUMP], {DUMP: changed_dump(pick, text.encode())}, False)
 
 
-def changed_dump(pick, text):
-    """The dump with another line in place of one, or with changes anywhere."""
-    if pick.random() < 0.3:
-        return changed(pick, text, [text])
-    lines = text.split(b"\n")
-    at = pick.randrange(len(lines))
-    way = pick.randrange(6)
-    if way == 0:
-        lines = lines[:at] + lines[at + 1 :]
-    elif way == 1:
-        lines = lines[: at + 1] + lines[at:]
-    elif way == 2:
-        other = pick.randrange(len(lines))
-        lines[at], lines[other] = lines[other], lines[at]
-    elif way == 3:
-        lines[at] = changed(pick, lines[at], [text])
-    elif way == 4:
-        return text[: pick.randrange(len(text) + 1)]
-    else:
-        lines[pick.choice([1, 2, 3, 4])] = pick.choice(OTHER_LINES)
-    return b"\n".join(lines)
-
-
-OTHER_LINES = [
-    b"capacity 64", b"capacity 100", b"capacity 63", b"capacity 064", b"capacity 1048577", b"capacity +70", b"capacity",
-    b"root one", b"root spread", b"root One", b"root", b"off", b"off ", b"off GetToScan",
-    b"off JoinCommute+JoinAssociate", b"off JoinAssociate+JoinCommute", b"off JoinCommute+JoinCommute",
-    b"off ExpandNAry", b"off JoinCommute+",
-    b"print", b"print memo", b"print trace", b"print memo trace", b"print trace memo", b"print ", b"print memo\r",
-]
-
-
 # ---- words
 
-EXAMPLES = [
-    ["stages", "c", "q", "all"],
-    ["stages", "c", "q", "JoinCommute+SplitAgg@100,all@7,GetToScan", "--workers", "2", "--capacity", "64"],
-    ["check", "c", "q", "p", "--off", "AggToHash", "--root", "spread"],
-    ["dump", "c", "q", "--capacity", "64", "--root", "one", "--off", "GetToScan", "--memo", "--trace"],
-    ["replay", "d", "--workers", "8"],
-    ["batch", "c", "l", "--workers", "64", "--capacity", "131072", "--memo", "--trace", "--root", "one"],
-    ["plan", "c", "q", "--by-worker", "--memo", "--off", "JoinCommute+JoinAssociate", "--workers", "64"],
+STAGES = [
+    "all", "all,all", "all@1", "JoinCommute+SplitAgg@100,all@7,GetToScan", "GetToScan@100000000000000000", "all@0",
+    "all@100000000000000001", "all@", "all,", "ExpandNAry", "all+GetToScan", "GetToScan+GetToScan", "all@07",
+    ",".join(["all"] * 8), ",".join(["all"] * 9), "ALL",
 ]
+VALUES = {
+    "--workers": ["1", "2", "64", "65", "0", "04"],
+    "--capacity": ["64", "131072", "131073", "1048576", "63", "1048577", "064"],
+    "--root": ["one", "spread", "two"],
+    "--off": ["GetToScan", "SplitAgg+JoinCommute", "ExpandNAry", "GetToScan+GetToScan", "GetToScan+"],
+}
 
 
 def words_runs(pick, asked):
-    words = [word.encode() for word in pick.choice([words for words in EXAMPLES if words[0] in asked.known])]
-    words = [word.replace(b"\0", b"") for word in words_changed(pick, words)]
-    try:
-        yield Run([word.decode() for word in words], {}, False)
-    except UnicodeDecodeError:
-        return
+    name = pick.choice([name for name in COMMANDS if name in asked.known])
+    names = re.sub(r"\[.*", "", USAGES[name]).lower().replace("stages", pick.choice(STAGES)).split()
+    words = shuffled(pick, [name, *names], some_options(pick, name))
+    if pick.random() < 0.4:
+        changed_words = words_changed(pick, [word.encode() for word in words])
+        words = [word.replace(b"\0", b"").decode(errors="replace") for word in changed_words]
+    yield Run(words, {}, False)
+
+
+def some_options(pick, name):
+    """Some of the command's options, mostly with the first of their values, and sometimes one of another command."""
+    options = []
+    for option in [*VALUES, *FLAGS]:
+        if pick.random() < (0.4 if option in USAGES[name] else 0.03):
+            options.append(option)
+            if option in VALUES:
+                options.append(pick.choice(VALUES[option][:2] if pick.random() < 0.7 else VALUES[option]))
+    return options
 
 
 KINDS = {
@@ -411,26 +268,29 @@ def commands_of(program):
     return known
 
 
-def kind_of_answer(status, text):
-    """The status, and the cause where the text is one line."""
-    if status == USAGE or text.count(b"\n") != 1:
-        return f"status {status}"
-    return f"status {status} {re.sub('(?<=fault):.*|[0-9].*| at .*', '', text.decode()).strip()}"
+def kinds_of_answer(status, text):
+    """The status, with the cause where the text is one line; and the statuses of a batch's queries."""
+    yield from [f"a query with status {found.decode()}" for found in re.findall(rb"\nquery \d+ status (\d+)", text)]
+    cause = ""
+    if status != USAGE and text.count(b"\n") == 1:
+        cause = " " + re.sub("(?<=fault):.*|[0-9].*| at .*", "", text.decode()).strip()
+    yield f"status {status}{cause}"
 
 
 def try_case(job):
     """Makes the runs of a case, and has both programs answer them."""
     number, asked = job
-    pick, answers, differences = random.Random(f"{asked.kind} {number}"), collections.Counter(), []
+    pick, runs, answers, differences = random.Random(f"{asked.kind} {number}"), 0, collections.Counter(), []
     with tempfile.TemporaryDirectory() as folder:
         for run in KINDS[asked.kind].make(pick, asked):
             wanted = expected(run, asked.known)
             if wanted is None:
                 continue
-            answers[kind_of_answer(*wanted)] += 1
+            runs += 1
+            answers.update(kinds_of_answer(*wanted))
             if not asked.alone:
                 differences += differing(asked, number, folder, run, wanted)
-    return Tried(answers, differences)
+    return Tried(runs, answers, differences)
 
 
 def differing(asked, number, folder, run, wanted):
@@ -483,18 +343,19 @@ def main():
         print(f"the program doesn't know the command {name}")
     if unknown and asked.kind != "words":
         sys.exit(2)
-    answers, differ = collections.Counter(), 0
+    runs, answers, differ = 0, collections.Counter(), 0
     jobs = [(number, asked) for number in range(asked.seed, asked.seed + asked.cases)]
     with multiprocessing.Pool(asked.jobs) as pool:
         for tried in pool.imap(try_case, jobs):
+            runs += tried.runs
             answers += tried.answers
             differ += len(tried.differences)
             for difference in tried.differences:
                 print(difference, flush=True)
     for kind, count in sorted(answers.items()):
         print(f"{count:8,}  {kind}")
-    print(f"{asked.cases} cases, {sum(answers.values())} runs of the plain program, {differ} answers differ")
-    sys.exit(1 if differ or not answers else 0)
+    print(f"{asked.cases} cases, {runs} runs of the plain program, {differ} answers differ")
+    sys.exit(1 if differ or not runs else 0)
 
 
 if __name__ == "__main__":
