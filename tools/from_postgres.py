@@ -11,8 +11,8 @@ column has no statistics, it is 200, as PostgreSQL takes it, or the rows where t
 PostgreSQL keeps all rows in one place, so the segments and where each table lies are options: a table lies at random
 where no option names it.
 
-Version 2 of the catalogue has tables with a copy on each segment, and histograms of integer columns. The program
-doesn't read it yet.
+The catalogue is one of version 2, which has tables with a copy on each segment and histograms of integer columns, or
+with --version 1 one of version 1, which has neither.
 
 Usage: tools/from_postgres.py --segments N [--schema NAME] [--hash TABLE=COLUMN,COLUMN].. [--replicate TABLE]..
        [--version 1|2] [-- PSQL'S WORDS]
@@ -297,9 +297,9 @@ def options():
     words.add_argument("--hash", dest="hashed", type=table_and_columns, action="append", default=[],
                        metavar="TABLE=COLUMN,..", help="the table's rows lie by the hash of these columns")
     words.add_argument("--replicate", action="append", default=[], metavar="TABLE",
-                       help="each segment has a copy of the table (version 2)")
-    words.add_argument("--version", type=int, choices=[1, 2], default=1,
-                       help="of the catalogue: 1, or 2, with copies and histograms, which the program doesn't read yet")
+                       help="each segment has a copy of the table (not in version 1)")
+    words.add_argument("--version", type=int, choices=[1, 2], default=2,
+                       help="of the catalogue: 2, with copies and histograms, or 1")
     words.add_argument("psql", nargs="*", help=argparse.SUPPRESS)
     asked = words.parse_args()
     asked.hashed = dict(asked.hashed)
