@@ -16,6 +16,6 @@ pub use joins::{
     two_tables_descending, without_a_plan,
 };
 pub use props::{implied, props_of};
-pub use single::{filtered_table, one_table, sorted_table, three_indexes};
+pub use single::{filtered_table, one_table, ranged_table, sorted_table, three_indexes};
 pub use told::{JOIN_MEMO, SCAN_BY_WORKER, SCAN_ROOT, SCAN_TRACE};
-pub use worked::query_over;
+pub use worked::{query_in, query_over};

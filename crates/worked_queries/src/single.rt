@@ -1,7 +1,7 @@
 //! Queries of one table, without aggregates.
 
-use crate::worked::worked;
-use query_core::Query;
+use crate::worked::{query_in, worked};
+use query_core::{Options, Query, RootDist};
 use std::alloc::Global;
 use std::test::Fail;
 
@@ -38,4 +38,23 @@ pub fn three_indexes(alloc: Global) -> Result<Query, Fail> {
         r#"[{"name":"t","rows":1000,"distribution":"random","indexes":[["a"],["b","a"],["b"]],"columns":[{"name":"a","ndv":10},{"name":"b","ndv":10}]}]"#,
         "SELECT t.a FROM t WHERE t.a <> 1 AND t.b < 5",
     )
+}
+
+/// The rows that meet a condition, of a table of so many. Its column `a` has this histogram, in JSON, and its column `b`
+/// has none.
+pub fn ranged_table(
+    alloc: Global,
+    rows: u64,
+    histogram: &str,
+    condition: &str,
+) -> Result<Query, Fail> {
+    let catalog = format!(in alloc;
+        "{{\"version\":2,\"segments\":4,\"tables\":[{{\"name\":\"t\",\"rows\":{rows},\"distribution\":\"random\",\"columns\":[{{\"name\":\"a\",\"ndv\":100,\"histogram\":{histogram}}},{{\"name\":\"b\",\"ndv\":10}}]}}]}}"
+    )?;
+    let text = format!(in alloc; "SELECT a FROM t WHERE {condition}")?;
+    let options = Options {
+        root: RootDist::One,
+        off: 0,
+    };
+    query_in(alloc, &catalog, &text, options)
 }
