@@ -38,6 +38,8 @@ mod props_tests;
 #[cfg(test)]
 mod query_words_tests;
 #[cfg(test)]
+mod replicated_tests;
+#[cfg(test)]
 mod rows_tests;
 #[cfg(test)]
 mod rules_tests;
