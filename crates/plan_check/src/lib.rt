@@ -11,3 +11,5 @@ mod places;
 
 pub use check::check_plan;
 pub use fault::PlanFault;
+pub use kids::has_kids;
+pub use nodes::{is_enforcer_of, is_kind_of};

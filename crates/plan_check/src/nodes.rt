@@ -38,7 +38,8 @@ pub fn known_kind(query: &Query, node: Node) -> NodeKind
     }
 }
 
-fn is_kind_of(query: &Query, props: &Props, kind: NodeKind) -> bool
+/// Whether the node is one of the query.
+pub fn is_kind_of(query: &Query, props: &Props, kind: NodeKind) -> bool
     requires props { IsProps query.now props.now }
     requires in_range { IsInRange kind }
     ensures { IsTrue result ↔ IsKindOf query.now kind }
@@ -65,7 +66,8 @@ fn has_line(query: &Query, props: &Props, expr: PhysicalExpr, mode: u32) -> bool
     line_of(query, props, expr, mode).is_some()
 }
 
-fn is_enforcer_of(query: &Query, props: &Props, enforcer: Enforcer) -> bool
+/// Whether the enforcer is one by an order or a list of the query.
+pub fn is_enforcer_of(query: &Query, props: &Props, enforcer: Enforcer) -> bool
     requires { IsProps query.now props.now }
     ensures { IsTrue result ↔ IsEnforcerOf query.now enforcer }
 {

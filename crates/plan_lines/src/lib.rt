@@ -6,4 +6,4 @@ mod nodes;
 mod section;
 
 pub use nodes::node_text;
-pub use section::plan_text;
+pub use section::{output_line, plan_text};

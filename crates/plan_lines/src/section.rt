@@ -65,7 +65,8 @@ fn first_lines(alloc: Global, query: &Query, cost: u64) -> Result<Vec<u8>, Alloc
     Ok(text)
 }
 
-fn output_line(alloc: Global, query: &Query) -> Result<String, AllocError>
+/// The line of the query's output, with its newline.
+pub fn output_line(alloc: Global, query: &Query) -> Result<String, AllocError>
     ensures { IfOk result (λ line. string_bytes line ≡ texts.output_line query.now) }
 {
     let outputs = outputs_text(alloc, query, query.output.as_slice())?;

@@ -1,0 +1,52 @@
+//! What holds of all texts of plans.
+#![tactic(auto)]
+
+ghost use Rattle.std.specs.Prelude.{◌≡◌, ℕ, List};
+ghost use Rattle.std.specs.List.{concat};
+ghost use Rattle.query_core.specs.declared.query.Query.{Query};
+ghost use Rattle.xform_rules.specs.Closure.{IsMember};
+ghost use Rattle.plan_space.specs.Nodes.{Tree};
+ghost use Rattle.plan_space.specs.Valid.{IsValid};
+ghost use Rattle.plan_lines.specs.Text.{plan_section};
+ghost use Rattle.plan_reading.specs.declared.named.Named.{Named as Name};
+ghost use Rattle.plan_reading.specs.Named.{named_text, HasForm};
+ghost use Rattle.plan_reading.specs.Outline.{IsPlanTree};
+ghost use Rattle.plan_reading.specs.Formed.{IsFormed, HasFormFault};
+ghost use Rattle.plan_reading.specs.declared.line.NodeLine.{NodeLine as AnyLine};
+
+use query_core::{candidates_are_known, sides_are_known};
+use request_props::listing_is_one;
+use xform_rules::members_are_candidates;
+
+/// No two nodes that the query can name have one text.
+pub fn texts_are_one()
+    ensures { (q : Query) (a b : Name) → HasForm q a → HasForm q b →
+        named_text q a ≡ named_text q b → a ≡ b }
+{
+    listing_is_one();
+    candidates_are_known();
+}
+
+/// Two plans with one text are the same plan: plans whose nodes are nodes of the query, and so all
+/// valid ones.
+pub fn plans_are_one()
+    ensures trees { (q : Query) (a b : Tree) → IsPlanTree q a → IsPlanTree q b →
+        concat (plan_section q a) ≡ concat (plan_section q b) → a ≡ b }
+    ensures valid { (q : Query) (t : Tree) → IsValid (IsMember q) q t → IsPlanTree q t }
+{
+    texts_are_one();
+    sides_are_known();
+    members_are_candidates();
+}
+
+/// A text is read in one way: as these lines, or with its first fault.
+pub fn readings_are_one()
+    ensures formed { (q : Query) (text : List ℕ) (c d : ℕ) (xs ys : List AnyLine) →
+        IsFormed q text c xs → IsFormed q text d ys → (c ≡ d) × (xs ≡ ys) }
+    ensures fault { (q : Query) (text : List ℕ) (line other : ℕ) →
+        HasFormFault q text line → HasFormFault q text other → line ≡ other }
+    ensures apart { (q : Query) (text : List ℕ) (c : ℕ) (xs : List AnyLine) (line : ℕ) →
+        IsFormed q text c xs → HasFormFault q text line → ⊥ }
+{
+    texts_are_one();
+}

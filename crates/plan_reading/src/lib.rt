@@ -1,0 +1,16 @@
+//! A printed plan read back.
+#![tactic(auto)]
+
+mod laws;
+mod line;
+mod line_ends;
+mod named;
+mod numbers;
+mod reader;
+mod text;
+mod texts;
+
+pub use laws::{plans_are_one, readings_are_one, texts_are_one};
+pub use line::NodeLine;
+pub use named::Named;
+pub use text::{LineFault, Lines, read_lines};
