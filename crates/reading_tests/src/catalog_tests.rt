@@ -28,8 +28,8 @@ fn told(alloc: Global, fault: CatalogFault) -> Result<String, AllocError> {
     }
 }
 
-// The line that says why the bytes are refused, or `read`.
-fn said(alloc: Global, bytes: &[u8]) -> Result<String, AllocError> {
+/// The line that says why the bytes are refused, or `read`.
+pub fn said(alloc: Global, bytes: &[u8]) -> Result<String, AllocError> {
     match read_catalog(alloc, bytes) {
         Ok(_) => String::from_str(alloc, "read"),
         Err(fault) => told(alloc, fault),
@@ -120,8 +120,8 @@ const CHANGES: &str = r#""version":1 | "version":3 | version 3
 {"name":"T1" | 5,{"name":"T1" | shape at /tables/0
 "#;
 
-// The parts of a line, between bars.
-fn parts_of(line: &str) -> Option<(&str, &str, &str)> {
+/// The parts of a line, between bars.
+pub fn parts_of(line: &str) -> Option<(&str, &str, &str)> {
     let (old, rest) = line.split_once(" | ")?;
     let (new, want) = rest.split_once(" | ")?;
     Some((old, new, want))

@@ -19,4 +19,6 @@ mod sql_tests;
 #[cfg(test)]
 mod texts;
 #[cfg(test)]
+mod version_two_tests;
+#[cfg(test)]
 mod written_tests;
