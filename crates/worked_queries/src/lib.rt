@@ -18,4 +18,4 @@ pub use joins::{
 pub use props::{implied, props_of};
 pub use single::{filtered_table, one_table, ranged_table, sorted_table, three_indexes};
 pub use told::{JOIN_MEMO, SCAN_BY_WORKER, SCAN_ROOT, SCAN_TRACE};
-pub use worked::{query_in, query_over};
+pub use worked::query_over;

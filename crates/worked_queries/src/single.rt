@@ -1,7 +1,7 @@
 //! Queries of one table, without aggregates.
 
-use crate::worked::{query_in, worked};
-use query_core::{Options, Query, RootDist};
+use crate::worked::worked;
+use query_core::Query;
 use std::alloc::Global;
 use std::test::Fail;
 
@@ -48,13 +48,9 @@ pub fn ranged_table(
     histogram: &str,
     condition: &str,
 ) -> Result<Query, Fail> {
-    let catalog = format!(in alloc;
-        "{{\"version\":2,\"segments\":4,\"tables\":[{{\"name\":\"t\",\"rows\":{rows},\"distribution\":\"random\",\"columns\":[{{\"name\":\"a\",\"ndv\":100,\"histogram\":{histogram}}},{{\"name\":\"b\",\"ndv\":10}}]}}]}}"
+    let tables = format!(in alloc;
+        "[{{\"name\":\"t\",\"rows\":{rows},\"distribution\":\"random\",\"columns\":[{{\"name\":\"a\",\"ndv\":100,\"histogram\":{histogram}}},{{\"name\":\"b\",\"ndv\":10}}]}}]"
     )?;
     let text = format!(in alloc; "SELECT a FROM t WHERE {condition}")?;
-    let options = Options {
-        root: RootDist::One,
-        off: 0,
-    };
-    query_in(alloc, &catalog, &text, options)
+    worked(alloc, &tables, &text)
 }

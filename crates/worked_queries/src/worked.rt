@@ -36,14 +36,7 @@ pub fn query_over(
     requires { AreOptions options }
 {
     let json = format!(in alloc; "{{\"version\":2,\"segments\":{segments},\"tables\":{tables}}}")?;
-    query_in(alloc, &json, text, options)
-}
-
-/// The query of the text over a catalogue of either version, in JSON.
-pub fn query_in(alloc: Global, catalog: &str, text: &str, options: Options) -> Result<Query, Fail>
-    requires { AreOptions options }
-{
-    let catalog = read_catalog(alloc, catalog.as_bytes())?;
+    let catalog = read_catalog(alloc, json.as_bytes())?;
     let select = read_sql(alloc, text.as_bytes())?;
     Ok(bind(alloc, &select, &catalog, options)?)
 }
