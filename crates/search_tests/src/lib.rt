@@ -14,6 +14,8 @@ mod goal_word_tests;
 #[cfg(test)]
 mod grouped_node_tests;
 #[cfg(test)]
+mod histogram_tests;
+#[cfg(test)]
 mod least_tests;
 #[cfg(test)]
 mod limits_tests;
