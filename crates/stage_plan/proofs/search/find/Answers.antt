@@ -1,0 +1,15 @@
+use Rattle.std.proofs.Common.{◌≡◌, subst}
+use Rattle.job_engine.specs.Runs.{RunEnds}
+use Rattle.job_outcome.specs.declared.outcome.Outcome.TheVariants as outcomes
+use Rattle.stage_plan.proofs.search.find.Goals as goal
+
+-- all entries fit, so there aren't more
+pub returns-in-Done : goal.returns-in-Done
+returns-in-Done g c =
+    let is : c.in_ok-answers.field-0
+    ≡ outcomes.Done c.in-Done.members c.in-Done.goals c.in-Done.answers c.in-Done.who = cc in
+    let done =
+    subst (λ outcome. RunEnds c.args.query.now c.args.cap c.args.workers outcome) is c.in_ok-answers.ensures in (
+      c.entries_fit_or_not.ensures c.args.query.now c.args.cap c.in-Done.members c.in-Done.goals done.fits,
+      c.in_ok-extract-in-Done.ensures,
+    )

@@ -1,0 +1,26 @@
+-- What all stages of a query share, and that they have one answer.
+use Rattle.std.specs.Prelude.{◌≡◌, ℕ, List, Option}
+use Rattle.query_core.specs.declared.query.Query.{Query}
+use Rattle.request_props.specs.Numbered.{IsProps, IsWithinLimits}
+use Rattle.request_props.specs.declared.props.Props.{Props}
+use Rattle.plan_space.specs.Nodes.{Tree}
+use Rattle.plan_space.specs.Cost.{cost_of}
+use Rattle.stage_plan.specs.Stages.{query_in}
+use Rattle.stage_plan.specs.StagedRuns.{StagedAnswer, IsStaging}
+use Rattle.stage_plan.specs.declared.stage.Stage.{Stage}
+
+-- the props of the query are those of the query in each stage
+abbrev pub SharesProps : Query → Type 0
+SharesProps q = (stage : Stage) (props : Props) → IsProps q props → IsProps (query_in q stage) props
+
+-- a plan costs the same in each stage
+abbrev pub SharesCosts : Query → Type 0
+SharesCosts q = (stage : Stage) (plan : Tree) → cost_of (query_in q stage) plan ≡ cost_of q plan
+
+-- the same stages have one answer, with the same costs
+abbrev pub HasOneStaging : Query → Type 0
+HasOneStaging q =
+    IsWithinLimits q → (cap : ℕ) (stages : List Stage) (costs other_costs : List (Option ℕ))
+    (answer other : StagedAnswer)
+    → IsStaging q cap stages costs answer → IsStaging q cap stages other_costs other
+    → (other_costs ≡ costs) × (other ≡ answer)

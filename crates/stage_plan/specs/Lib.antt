@@ -1,0 +1,4 @@
+pub mod Stages
+pub mod StagedRuns
+pub mod Laws
+pub mod SoFar

@@ -1,0 +1,15 @@
+//! A query planned in stages, in each of which other rules are off, until a plan is enough.
+#![tactic(auto)]
+
+mod codes;
+mod laws;
+mod run;
+mod search;
+mod so_far;
+mod stage;
+mod staged;
+
+pub use laws::{stages_have_one_answer, stages_share_costs, stages_share_props};
+pub use run::run_stages;
+pub use stage::Stage;
+pub use staged::{Staged, StagedRun};
