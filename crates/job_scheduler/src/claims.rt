@@ -101,7 +101,8 @@ impl<R: GoalRules, J: Jobs<R>> Scheduler<R, J> {
         None
     }
 
-    // Scans a piece of the places, and looks at the root goal and the full word where it finds none.
+    // Scans a piece of the places. Where it finds none it looks at the root goal and the full word, and then at what
+    // other workers were told of meanwhile.
     fn scan_piece(&self, worker: &mut Worker<R>, from: u32, to: u32) -> Sought
         requires worker { IsWorkerOf R.meaning self.now.board self.now.root self.now.goal worker.old }
         requires near { to ≤ self.now.board.key.room }
@@ -113,7 +114,10 @@ impl<R: GoalRules, J: Jobs<R>> Scheduler<R, J> {
         match self.claim_between(worker, from, to) {
             Some(right) => Sought::Claimed(right),
             None => match self.look(worker) {
-                Standing::Open => Sought::Busy,
+                Standing::Open => match self.claim_stolen(worker) {
+                    Some(right) => Sought::Claimed(right),
+                    None => Sought::Busy,
+                },
                 Standing::Done => Sought::Done,
                 Standing::Full => Sought::Full,
             },
