@@ -2,7 +2,7 @@ ghost use Rattle.std.specs.Prelude.{◌≡◌, ℕ, ◌+◌, ◌≤◌, ◌<◌,
 
 use crate::entries::put_goal;
 use crate::progress::{Progress, Turned};
-use goal_board::{Answer, Awaited, Board, GoalRules, Hints, Inserted, Right, Seat};
+use goal_board::{Answer, Awaited, Board, GoalRules, Hints, Inserted, Right, Seat, Suspended};
 
 /// A goal that was claimed, while its turn lasts: the right to it, and how many waits that has.
 pub struct Job {
@@ -139,7 +139,11 @@ impl Job {
                 Turned::Finished(board.finish(seat, right, worker, answer, hints))
             }
             Progress::Waiting => {
-                board.suspend(seat, right);
+                let place = right.place();
+                // Whatever it waited for is finished by now, and nobody else is told.
+                if let Suspended::Ready = board.suspend(seat, right) {
+                    hints.hint(place);
+                }
                 Turned::Suspended
             }
             Progress::Full => {

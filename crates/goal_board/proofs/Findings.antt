@@ -81,13 +81,30 @@ module _ {R : Type 0} {meaning_of : R → Meaning} {rules : R} {room : ℕ} wher
       let mine = term_le (λ (h : Hands R). rights_at at h.rights) s.views s.id w s.mine in
       each_elsewhere at w.rights (omega arith)
 
-  pub claims_goal : {v w u : Hands R} {at goal value : ℕ} → at < room → AreHandsOver meaning_of rules room v
-      → AreHandsOver meaning_of rules room w
+  -- and the step after them
+  three_looks : (v w x : Hands R) (at goal run value : ℕ) → AreHandsOver meaning_of rules room v
+      → AreHandsOver meaning_of rules room w → AreHandsOver meaning_of rules room x
+      → LooksAt meaning_of v (cell_word at) goal w → LooksAt meaning_of w (run_word at) run x
+      → Moment meaning_of x (run_word at) value
+      → IsSeen v ((run_word at, value) ∷ ((run_word at, run) ∷ ((cell_word at, goal) ∷ [])))
+  three_looks v w x at goal run value over after last told next moment =
+      seen_more v x (run_word at, value) ((run_word at, run) ∷ ((cell_word at, goal) ∷ []))
+      (next.hands_are ∙ ap (λ h. looked h (run_word at) run) told.hands_are) (λ e. omega (arith, e))
+      (both_looks v w at goal run over after told next.moment)
+      (saw_at meaning_of rules room x (run_word at) value last moment)
+
+  pub claims_goal : {v w x u : Hands R} {at goal run value : ℕ} → at < room → AreHandsOver meaning_of rules room v
+      → AreHandsOver meaning_of rules room w → AreHandsOver meaning_of rules room x
       → LooksAt meaning_of v (cell_word at) goal w → goal ≢ 0 → (meaning_of rules).goal goal ≡ true
-      → Tries meaning_of w (run_word at) value (claimed w at) u → value ≡ 0
+      → LooksAt meaning_of w (run_word at) run x → run ≡ 0
+      → Tries meaning_of x (run_word at) value (claimed x at) u → value ≡ 0
       → ClaimsGoal (meaning_of rules) room v at (record { place = at; goal = goal; waits = 0 }) u
-  claims_goal {v} {w} {u} {at} {goal} {value} near over after told some_goal is_goal tries free =
-      let is : u ≡ claimed (looked v (cell_word at) goal) at = tries.hit free ∙ ap (λ h. claimed h at) told.hands_are in
+  claims_goal {v} {w} {x} {u} {at} {goal} {run} {value} near over after last told some_goal is_goal next ready tries
+      free =
+      let looked_is : x ≡ looked (looked v (cell_word at) goal) (run_word at) 0 =
+      next.hands_are ∙ (ap (λ n. looked w (run_word at) n) ready ∙ ap (λ h. looked h (run_word at) 0) told.hands_are) in
+      let is : u ≡ claimed (looked (looked v (cell_word at) goal) (run_word at) 0) at =
+      tries.hit free ∙ ap (λ h. claimed h at) looked_is in
       let here : Looked w.looks (cell_word at) goal =
       subst (λ (h : Hands R). Looked h.looks (cell_word at) goal) (sym told.hands_are) (inl (refl, refl)) in
       record {
@@ -98,27 +115,29 @@ module _ {R : Type 0} {meaning_of : R → Meaning} {rules : R} {room : ℕ} wher
               near = near;
               held = inl refl;
               few = omega arith;
-              stands = inr (inl (refl, refl));
+              stands = inr (inr (inl (refl, refl)));
               some_goal = some_goal;
               is_goal = is_goal;
               enters = after.entries at goal near here some_goal;
             });
-        looks = subst (λ x. IsSeen v ((run_word at, x) ∷ ((cell_word at, goal) ∷ []))) free
-            (both_looks v w at goal value over after told tries.moment);
+        looks = subst (λ n. IsSeen v ((run_word at, 0) ∷ ((run_word at, n) ∷ ((cell_word at, goal) ∷ [])))) ready
+            (subst (λ n. IsSeen v ((run_word at, n) ∷ ((run_word at, run) ∷ ((cell_word at, goal) ∷ [])))) free
+            (three_looks v w x at goal run value over after last told next tries.moment));
         hands_are = is;
-        new = subst (λ (h : Hands R). Each (λ (r : Claimed). r.place ≢ at) h.rights) told.hands_are
-            (no_right w at value near after tries.moment free);
+        new = subst (λ (h : Hands R). Each (λ (r : Claimed). r.place ≢ at) h.rights) looked_is
+            (no_right x at value near last tries.moment free);
         lone = over.all;
       }
 
-  pub finds_busy : {v w u : Hands R} {at goal value : ℕ} → AreHandsOver meaning_of rules room v
+  -- the look at the run word found it taken
+  pub finds_taken : {v w u : Hands R} {at goal value : ℕ} → AreHandsOver meaning_of rules room v
       → AreHandsOver meaning_of rules room w
       → LooksAt meaning_of v (cell_word at) goal w → goal ≢ 0 → (meaning_of rules).goal goal ≡ true
-      → Tries meaning_of w (run_word at) value (claimed w at) u → value ≢ 0
+      → LooksAt meaning_of w (run_word at) value u → value ≢ 0
       → FindsBusy (meaning_of rules) room v at u
-  finds_busy {v} {w} {at} {goal} {value} over after told some_goal is_goal tries taken = record {
+  finds_taken {v} {w} {at} {goal} {value} over after told some_goal is_goal next taken = record {
     more = (run_word at, value) ∷ ((cell_word at, goal) ∷ []);
-    looks = both_looks v w at goal value over after told tries.moment;
+    looks = both_looks v w at goal value over after told next.moment;
     busy = inr (record {
       earlier = (cell_word at, goal) ∷ [];
       later = (run_word at, value) ∷ [];
@@ -131,7 +150,33 @@ module _ {R : Type 0} {meaning_of : R → Meaning} {rules : R} {room : ℕ} wher
       taken = taken;
       found = inl (refl, refl);
     });
-    hands_are = tries.miss taken ∙ ap (λ h. looked h (run_word at) value) told.hands_are;
+    hands_are = next.hands_are ∙ ap (λ h. looked h (run_word at) value) told.hands_are;
+  }
+
+  -- or the step after it
+  pub finds_busy : {v w x u : Hands R} {at goal run value : ℕ} → AreHandsOver meaning_of rules room v
+      → AreHandsOver meaning_of rules room w → AreHandsOver meaning_of rules room x
+      → LooksAt meaning_of v (cell_word at) goal w → goal ≢ 0 → (meaning_of rules).goal goal ≡ true
+      → LooksAt meaning_of w (run_word at) run x
+      → Tries meaning_of x (run_word at) value (claimed x at) u → value ≢ 0
+      → FindsBusy (meaning_of rules) room v at u
+  finds_busy {v} {w} {x} {at} {goal} {run} {value} over after last told some_goal is_goal next tries taken = record {
+    more = (run_word at, value) ∷ ((run_word at, run) ∷ ((cell_word at, goal) ∷ []));
+    looks = three_looks v w x at goal run value over after last told next tries.moment;
+    busy = inr (record {
+      earlier = (run_word at, run) ∷ ((cell_word at, goal) ∷ []);
+      later = (run_word at, value) ∷ [];
+      split = refl;
+      goal = goal;
+      some_goal = some_goal;
+      is_goal = is_goal;
+      stands = inr (inl (refl, refl));
+      run = value;
+      taken = taken;
+      found = inl (refl, refl);
+    });
+    hands_are = tries.miss taken ∙ ap (λ h. looked h (run_word at) value)
+        (next.hands_are ∙ ap (λ h. looked h (run_word at) run) told.hands_are);
   }
 
   -- a right was given up

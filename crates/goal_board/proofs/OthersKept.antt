@@ -57,7 +57,7 @@ module _ {R : Type 0} {meaning : Meaning} {room : ℕ} {v w : Hands R} where
 
   pub claim_keeps : {at : ℕ} {claimed : Right} → ClaimsGoal meaning room v at claimed w → KeepsRights meaning room v w
   claim_keeps {at} {claimed} t right old =
-      right_stays right (_ ∷ (_ ∷ [])) (ap (λ (h : Hands R). h.looks) t.hands_are)
+      right_stays right (_ ∷ (_ ∷ (_ ∷ []))) (ap (λ (h : Hands R). h.looks) t.hands_are)
       (subst (λ (h : Hands R). Among h.rights (waiting_right right.place right.waits)) (sym t.hands_are)
       (inr old.held)) old
 

@@ -64,13 +64,13 @@ KeepsOthers meaning room place v w = (right : Right) → right.place ≢ place �
     → IsRightOf meaning room w right
 
 module _ {R : Type 0} (meaning : Meaning) (room : ℕ) (v : Hands R) (at : ℕ) where
-  -- the goal was found ready, and claimed
+  -- the goal was found ready, by a look at its run word and then by the step that claimed it
   pub record ClaimsGoal (right : Right) (w : Hands R) : Type 0 where
     pub there : right.place ≡ at
     pub no_waits : right.waits ≡ 0
     pub its : IsRightOf meaning room w right
-    pub looks : IsSeen v ((run_word at, 0) ∷ ((cell_word at, right.goal) ∷ []))
-    pub hands_are : w ≡ claimed (looked v (cell_word at) right.goal) at
+    pub looks : IsSeen v ((run_word at, 0) ∷ ((run_word at, 0) ∷ ((cell_word at, right.goal) ∷ [])))
+    pub hands_are : w ≡ claimed (looked (looked v (cell_word at) right.goal) (run_word at) 0) at
     -- the seat had no right to it before
     pub new : Each (λ (r : Claimed). r.place ≢ at) v.rights
     pub lone : KeepsAll room v

@@ -66,4 +66,11 @@ impl Right {
     {
         self.goal
     }
+
+    /// The goal's place.
+    pub fn place(&self) -> u32
+        ensures { result ≡ self.now.place }
+    {
+        self.place
+    }
 }

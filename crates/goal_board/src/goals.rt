@@ -6,7 +6,7 @@ ghost use Rattle.goal_board.specs.SeatCalls.{HasRightTo, HasSeenPromise, HasSeen
 use crate::answers::{Answer, Suspended, Woken};
 use crate::board::{Board, Right, Seat};
 use crate::hints::Hints;
-use crate::steps::{CLOSED, HELD, cell_at, cost_at, head_at, node_at};
+use crate::steps::{CLOSED, HELD, cell_at, cost_at, head_at, node_at, run_at};
 use board_rule::GoalRules;
 
 impl<R: GoalRules> Board<R> {
@@ -20,6 +20,11 @@ impl<R: GoalRules> Board<R> {
     {
         let goal = self.look(seat, cell_at(at));
         if goal == 0 || !self.key.rules.is_goal(goal) {
+            return None;
+        }
+        // A look costs less than a step that finds the goal taken.
+        let run = self.look(seat, run_at(at));
+        if run != 0 {
             return None;
         }
         if self.hold(seat, at) == 0 {

@@ -51,7 +51,7 @@ module _ {R : Type 0} (meaning : Meaning) (room : ℕ) where
       → Later v.looks w.looks
   claims_later v right w t word found look =
       subst (λ (h : Hands R). Looked h.looks word found) (sym t.claims.hands_are)
-      (inr (inr (looks_later v t.middle t.looks word found look)))
+      (inr (inr (inr (looks_later v t.middle t.looks word found look))))
 
   pub may_claim_later : (v : Hands R) (result : Option Right) (w : Hands R) → MayClaimOne meaning room v result w
       → Later v.looks w.looks

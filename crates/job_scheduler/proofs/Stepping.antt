@@ -100,11 +100,13 @@ module _ {R : Type 0} (meaning : Meaning) (room : ℕ) where
 
     -- the looks of the claim and of those before it
     abbrev claim_more : List (ℕ × ℕ)
-    claim_more = (run_word right.place, 0) ∷ ((cell_word right.place, right.goal) ∷ t.looks.more)
+    claim_more = (run_word right.place, 0)
+        ∷ ((run_word right.place, 0) ∷ ((cell_word right.place, right.goal) ∷ t.looks.more))
 
     claim_looks : v.looks ≡ claim_more ++ u.looks
     claim_looks = ap (λ (h : Hands R). h.looks) t.claims.hands_are
-        ∙ ap (λ (h : Hands R). (run_word right.place, 0) ∷ ((cell_word right.place, right.goal) ∷ h.looks))
+        ∙ ap (λ (h : Hands R). (run_word right.place, 0)
+        ∷ ((run_word right.place, 0) ∷ ((cell_word right.place, right.goal) ∷ h.looks)))
         t.looks.hands_are
 
     -- of the words that a seat keeps while it is alone, one ready goal less is ready
@@ -115,7 +117,7 @@ module _ {R : Type 0} (meaning : Meaning) (room : ℕ) where
         let c = t.claims in
         let middle_is : t.middle.alone ≡ Some kept = alone_stays u t.middle t.looks ∙ is in
         let cell_is : slice_index kept (cell_word right.place) ≡ right.goal =
-        c.looks.alone kept middle_is (cell_word right.place) right.goal (inr (inl (refl, refl))) in
+        c.looks.alone kept middle_is (cell_word right.place) right.goal (inr (inr (inl (refl, refl)))) in
         let run_is : slice_index kept (run_word right.place) ≡ 0 =
         c.looks.alone kept middle_is (run_word right.place) 0 (inl (refl, refl)) in (
           ap (λ (h : Hands R). h.alone) c.hands_are ∙ ap (changed (run_word right.place) 256) middle_is,
