@@ -1,5 +1,5 @@
 -- The columns of a table that is read keep the limits, and their names differ.
-use Rattle.std.proofs.Common.{◌≡◌, All, ℕ, ◌≤◌, true, List, [], ◌∷◌, ◌++◌, length, map, codes, Option, Ok}
+use Rattle.std.proofs.Common.{◌≡◌, All, ℕ, true, List, [], ◌∷◌, ◌++◌, length, map, codes, Option, Ok}
 use Rattle.std.proofs.Common.{refl, subst}
 use Rattle.std.specs.Str.{bytes_eq}
 use Rattle.std.specs.Cmp.Lexicographic.{nat_list_eq_equiv}
@@ -24,8 +24,8 @@ pub record AreColumns (columns : List ColumnInfo) : Type 0 where
   pub all_are : All IsColumn columns
   pub differ : all_differ bytes_eq (map (λ c. c.name) columns) ≡ true
 
-column_kept : (version : CatalogVersion) (t : ℕ) (before : List ColumnInfo) (d : Data) (column : ColumnInfo) → AreColumns before
-    → column_at version t before d ≡ Ok column → AreColumns (before ++ column ∷ [])
+column_kept : (version : CatalogVersion) (t : ℕ) (before : List ColumnInfo) (d : Data) (column : ColumnInfo)
+    → AreColumns before → column_at version t before d ≡ Ok column → AreColumns (before ++ column ∷ [])
 unfolding column_at
 column_kept version t before d column so_far e =
     let at = length before in
@@ -61,7 +61,8 @@ unfolding columns_at
 columns_kept version t found columns e =
     let ds = bind_ok (list_at 1 1000 (places.Columns t) found) _ columns e in
     record {
-      width = rw (each_counts (column_at version t) ds.0 columns ds.2) (list_kept 1 1000 (places.Columns t) found ds.0 ds.1);
+      width = rw (each_counts (column_at version t) ds.0 columns ds.2)
+          (list_kept 1 1000 (places.Columns t) found ds.0 ds.1);
       are = all_keep (column_at version t) AreColumns (column_kept version t) [] ds.0 columns
           (record { all_are = All-nil IsColumn; differ = refl }) ds.2;
     }

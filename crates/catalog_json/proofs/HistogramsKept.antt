@@ -1,8 +1,7 @@
 -- A histogram that is read keeps the limits, and its ends rise.
-use Rattle.std.proofs.Common.{◌≡◌, ℕ, suc, ◌-◌, ◌≤◌, ◌&&◌, Bool, true, false, List, [], ◌∷◌, ◌++◌, length, codes, Option}
+use Rattle.std.proofs.Common.{◌≡◌, ℕ, suc, ◌-◌, ◌≤◌, ◌&&◌, Bool, true, List, [], ◌∷◌, ◌++◌, length, codes, Option}
 use Rattle.std.proofs.Common.{Some, None, Ok, refl, subst, ◌∙◌, arith, nat_le}
 use Rattle.std.specs.Prelude.{ℤ, int_le, int_lt, slice_get}
-use Rattle.std.specs.List.{list_all}
 use Rattle.std.specs.Option.{option_map_or}
 use Rattle.std.proofs.lemmas.Bool.{leb-true, and_from, and_parts}
 use Rattle.std.proofs.lemmas.List.Folds.{list_all-append}
@@ -10,14 +9,15 @@ use Rattle.serde_json.specs.Data.{Data}
 use Rattle.serde_json.specs.Find.{get}
 use Rattle.query_core.specs.declared.histogram.Bucket.{Bucket}
 use Rattle.query_core.specs.declared.histogram.Histogram.{Histogram}
-use Rattle.query_core.specs.Histogram.{trillion, within, ends_rise, ends_rise_above, is_histogram, may_be_histogram, rows_fit}
+use Rattle.query_core.specs.Histogram.{trillion, within, rows_fit, ends_rise, ends_rise_above, is_histogram}
+use Rattle.query_core.specs.Histogram.{may_be_histogram}
 use Rattle.catalog_json.specs.declared.place.Place.{Place}
 use Rattle.catalog_json.specs.declared.place.Place.TheVariants as places
 use Rattle.catalog_json.specs.declared.fault.Fault.TheVariants.{Range}
 use Rattle.catalog_json.specs.declared.version.CatalogVersion.{CatalogVersion}
 use Rattle.catalog_json.specs.declared.version.CatalogVersion.TheVariants.{One, Two}
-use Rattle.catalog_json.specs.Walk.{bucket_at, each, end_at, goes_above, histogram_at, histogram_by, list_at, number_at, object_at}
-use Rattle.catalog_json.specs.Walk.{signed_at}
+use Rattle.catalog_json.specs.Walk.{bucket_at, each, end_at, goes_above, histogram_at, histogram_by, list_at}
+use Rattle.catalog_json.specs.Walk.{number_at, object_at, signed_at}
 use Rattle.orca_base.proofs.Checked.{bind_ok, each_counts, met, ok_is, seen_ok}
 use Rattle.catalog_json.proofs.Steps.{all_keep, list_kept, number_kept}
 

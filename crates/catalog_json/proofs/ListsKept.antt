@@ -1,5 +1,6 @@
 -- A list of columns that is read has 1 to 8 different places among the table's columns.
-use Rattle.std.proofs.Common.{◌≡◌, All, ◌==◌, ℕ, ◌≤◌, Bool, true, false, cond, List, [], ◌∷◌, ◌++◌, length, nat_lt, codes}
+use Rattle.std.proofs.Common.{◌≡◌, All, ◌==◌, ℕ, ◌≤◌, Bool, true, false, cond, List, [], ◌∷◌, ◌++◌, length, nat_lt}
+use Rattle.std.proofs.Common.{codes}
 use Rattle.std.proofs.Common.{Option, Some, None, option_and_then, Ok, Err, refl, ◌∙◌, subst, arith}
 use Rattle.std.specs.List.{list_all}
 use Rattle.std.specs.Str.{bytes_eq}
@@ -84,7 +85,8 @@ hashed_kept columns (Ok listed) placing kept e =
 hashed_kept columns (Err fault) placing kept e = absurd cc
 
 placing_by_kept : (version : CatalogVersion) (t : ℕ) (names : List (List ℕ)) (found : Option Data)
-    (text : Option (List ℕ)) (placing : Placing) → placing_by version t names found text ≡ Ok placing → IsPlacing (length names) placing
+    (text : Option (List ℕ)) (placing : Placing) → placing_by version t names found text ≡ Ok placing
+    → IsPlacing (length names) placing
 unfolding placing_by
 placing_by_kept version t names found (Some text) placing e =
     named_kept version (places.Names (Distribution t)) text (length names) placing e
@@ -94,7 +96,8 @@ placing_by_kept version t names found None placing e =
 
 pub placing_kept : (version : CatalogVersion) (t : ℕ) (names : List (List ℕ)) (found : Option Data) (placing : Placing)
     → placing_at version t names found ≡ Ok placing → IsPlacing (length names) placing
-placing_kept version t names found placing e = placing_by_kept version t names found (option_and_then as_str found) placing e
+placing_kept version t names found placing e =
+    placing_by_kept version t names found (option_and_then as_str found) placing e
 
 -- ---- indexes
 

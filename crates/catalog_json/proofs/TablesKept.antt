@@ -47,8 +47,8 @@ record IsTableNamed (name : List ℕ) (table : TableInfo) : Type 0 where
   is : IsTable table
   called : table.name ≡ name
 
-named_table_kept : (version : CatalogVersion) (t : ℕ) (name : List ℕ) (d : Data) (table : TableInfo) → is_catalog_name name ≡ true
-    → named_table_at version t name d ≡ Ok table → IsTableNamed name table
+named_table_kept : (version : CatalogVersion) (t : ℕ) (name : List ℕ) (d : Data) (table : TableInfo)
+    → is_catalog_name name ≡ true → named_table_at version t name d ≡ Ok table → IsTableNamed name table
 unfolding named_table_at
 named_table_kept version t name d table named e =
     let texts = λ (columns : List ColumnInfo). map (λ c. c.name) columns in
@@ -109,8 +109,8 @@ tables_kept version found tables e =
     record {
       count = below 1000 (length tables) (rw (each_counts (table_at version) ds.0 tables ds.2)
           (list_kept 0 1000 places.Tables found ds.0 ds.1));
-      are = all_keep (table_at version) AreTables (table_kept version) [] ds.0 tables (record { all_are = All-nil IsTable; differ = refl })
-          ds.2;
+      are = all_keep (table_at version) AreTables (table_kept version) [] ds.0 tables
+          (record { all_are = All-nil IsTable; differ = refl }) ds.2;
     }
 
 pub catalog_kept : (d : Data) (catalog : Catalog) → catalog_at d ≡ Ok catalog → IsCatalog catalog

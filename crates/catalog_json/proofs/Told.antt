@@ -27,8 +27,8 @@ use Rattle.query_core.specs.Histogram.{trillion, within}
 use Rattle.catalog_json.specs.Walk.{Reading, elements, in_limits, whole, number_at, named, name_at, new_name_at}
 use Rattle.catalog_json.specs.Walk.{of_length, list_at, object_at, column_at, columns_at, new_place, listed_at}
 use Rattle.catalog_json.specs.Walk.{places_at, placing_by, index_at, indexes_at, lists_at, named_table_at, table_at}
-use Rattle.catalog_json.specs.Walk.{version_of, tables_at, catalog_at, in_word, signed_at, goes_above, end_at, bucket_at}
-use Rattle.catalog_json.specs.Walk.{histogram_at, histogram_by, replicated_at}
+use Rattle.catalog_json.specs.Walk.{version_of, tables_at, catalog_at, in_word, signed_at, goes_above, end_at}
+use Rattle.catalog_json.specs.Walk.{bucket_at, histogram_at, histogram_by, replicated_at}
 use Rattle.catalog_json.specs.Outcome.{told, told_of, of_value, json_of, most_bytes, reading_of}
 
 -- the reading has a value, or a fault other than want of memory

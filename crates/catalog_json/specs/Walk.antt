@@ -1,8 +1,9 @@
 -- Reading the parts of a catalogue in order, up to the first fault.
 pub use Rattle.orca_base.specs.Checked.{◌>>=◌, seen}
 unfoldable pub use Rattle.orca_base.specs.Checked.{each}
-use Rattle.std.specs.Prelude.{ℕ, ℤ, Bool, ◌-◌, ◌==◌, List, [], ◌∷◌, length, map, position, codes, if◌then◌else◌, Option, Some, None}
-use Rattle.std.specs.Prelude.{option_map, option_and_then, is_some, slice_get, int_le, int_lt, Result, Ok, Err}
+use Rattle.std.specs.Prelude.{ℕ, ℤ, Bool, ◌-◌, ◌==◌, List, [], ◌∷◌, length, map, position, codes, if◌then◌else◌}
+use Rattle.std.specs.Prelude.{Option, Some, None, option_map, option_and_then, is_some, slice_get, int_le, int_lt}
+use Rattle.std.specs.Prelude.{Result, Ok, Err}
 use Rattle.std.specs.List.{list_any}
 use Rattle.std.specs.Option.{option_map_or}
 use Rattle.std.specs.Str.{bytes_eq}
@@ -101,7 +102,8 @@ goes_above low before upto = option_map_or (λ bucket. int_lt bucket.upto upto)
 
 -- the end of a bucket, after the buckets before it
 abbrev pub end_at : Place → ℤ → List Bucket → Option Data → Reading ℤ
-end_at at low before found = signed_at at found >>= λ upto. if goes_above low before upto then Ok upto else Err (Range at)
+end_at at low before found =
+    signed_at at found >>= λ upto. if goes_above low before upto then Ok upto else Err (Range at)
 
 -- a bucket of column c of table t, after those before it
 unfoldable pub bucket_at : ℕ → ℕ → ℤ → List Bucket → Data → Reading Bucket

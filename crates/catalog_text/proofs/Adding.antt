@@ -21,7 +21,8 @@ both_added old mid new first second a b = record {
 
 -- the elements before place i, and then the one there
 pub more_added : {X : Type 0} (json : X → Json) (xs : List X) (i : ℕ) (d : X) (old mid new : Written) → i < length xs
-    → Adds old mid (flat_map (λ x. json_tokens (json x)) (take i xs)) → Adds mid new (json_tokens (json (get_or xs i d)))
+    → Adds old mid (flat_map (λ x. json_tokens (json x)) (take i xs))
+    → Adds mid new (json_tokens (json (get_or xs i d)))
     → Adds old new (flat_map (λ x. json_tokens (json x)) (take (i + 1) xs))
 more_added {X} json xs i d old mid new within so_far next =
     let each : X → List Token = λ x. json_tokens (json x) in

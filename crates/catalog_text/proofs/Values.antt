@@ -1,12 +1,13 @@
 -- The value that the JSON of a catalogue is read as.
-use Rattle.std.proofs.Common.{◌≡◌, ℕ, suc, ◌^◌, ◌<◌, ℤ, pos, negsuc, SFits, w64, true, List, [], ◌∷◌, map, codes, length}
-use Rattle.std.proofs.Common.{get_or, nat_le, Option, Some, None, option_map, refl, ap, arith}
+use Rattle.std.proofs.Common.{◌≡◌, ℕ, suc, ◌^◌, ◌<◌, ℤ, pos, negsuc, SFits, w64, true, List, [], ◌∷◌, map, codes}
+use Rattle.std.proofs.Common.{length, get_or, nat_le, Option, Some, None, option_map, refl, ap, arith}
 use Rattle.std.specs.Fmt.{signed_decimal}
 use Rattle.std.specs.List.{All}
 use Rattle.std.proofs.lemmas.Bool.{and_parts, leb-true}
 use Rattle.std.proofs.lemmas.List.Sums.{AllPass-from_list_all}
 use Rattle.json.specs.Json as json
-use Rattle.serde_json.specs.Data.{Data, Num, string, number, unsigned, negative, array, object, Members, no_members, put}
+use Rattle.serde_json.specs.Data.{Data, Num, string, number, unsigned, negative, array, object, Members, no_members}
+use Rattle.serde_json.specs.Data.{put}
 use Rattle.serde_json.specs.Read.{number_of, of_json, of_items, of_members}
 use Rattle.serde_json.specs.View.{items_of as data_items}
 use Rattle.serde_json.proofs.Numbers.{number_of-decimal, number_of-negative}

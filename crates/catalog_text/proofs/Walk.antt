@@ -1,7 +1,7 @@
 -- The walk over the value of a catalogue gives the catalogue.
-use Rattle.std.proofs.Common.{◌≡◌, ℕ, suc, ◌-◌, ◌^◌, ◌==◌, ◌<◌, ◌≤◌, ℤ, pos, negsuc, SFits, w64, int_le, int_lt, Bool, true}
-use Rattle.std.proofs.Common.{false, ◌&&◌, not, Option, is_some, List, [], ◌∷◌, ◌++◌, map, length, slice_get, codes, get_or, option_map}
-use Rattle.std.proofs.Common.{Some, Ok, nat_lt, nat_le, refl, sym, ap, subst, ◌∙◌, arith, None}
+use Rattle.std.proofs.Common.{◌≡◌, ℕ, suc, ◌-◌, ◌^◌, ◌==◌, ◌<◌, ◌≤◌, ℤ, pos, negsuc, SFits, w64, int_le, int_lt, Bool}
+use Rattle.std.proofs.Common.{true, false, ◌&&◌, not, Option, is_some, List, [], ◌∷◌, ◌++◌, map, length, slice_get}
+use Rattle.std.proofs.Common.{option_map, Some, Ok, nat_lt, nat_le, refl, sym, ap, subst, ◌∙◌, arith, None}
 use Rattle.std.proofs.lemmas.Bool.{le-leb, lt-ltb, ltb-true, and_from, and_parts}
 use Rattle.std.specs.List.{All, list_any, list_all}
 use Rattle.std.specs.Option.{option_map_or}

@@ -1,5 +1,5 @@
 -- The numbers of histograms fit 64 bits with a sign, as far as they were written.
-use Rattle.std.specs.Prelude.{List, Option, Some, None, FitsSigned, ⊤}
+use Rattle.std.specs.Prelude.{Option, Some, None, FitsSigned, ⊤}
 use Rattle.std.specs.List.{All}
 use Rattle.std.specs.Int.{w64}
 use Rattle.query_core.specs.declared.histogram.Bucket.{Bucket}

@@ -9,11 +9,11 @@ use Rattle.catalog_json.proofs.column.read_each_column.Goals as goal
 pub loop-value-preserved : goal.loop-value-preserved
 loop-value-preserved c =
     let loop = c.loop-value in
-    let column = added loop.columns (column_at c.args.version c.args.t loop.columns (view c.in-Some.value)) c.read.new.self
-    c.in_ok-read.ensures in
-    rw column.2 (next_read (column_at c.args.version c.args.t) c.args.values.items loop.columns (into_iter_items loop.value-iterator)
-    (into_iter_items c.next.new.self) (into_iter_len loop.value-iterator) (into_iter_len c.next.new.self)
-    c.in-Some.value column.0 loop.invariant c.in-Some.ensures.steps.0 c.in-Some.ensures.steps.1 column.1)
+    let column = added loop.columns (column_at c.args.version c.args.t loop.columns (view c.in-Some.value))
+    c.read.new.self c.in_ok-read.ensures in
+    rw column.2 (next_read (column_at c.args.version c.args.t) c.args.values.items loop.columns
+    (into_iter_items loop.value-iterator) (into_iter_items c.next.new.self) (into_iter_len loop.value-iterator)
+    (into_iter_len c.next.new.self) c.in-Some.value column.0 loop.invariant c.in-Some.ensures.steps.0 c.in-Some.ensures.steps.1 column.1)
 
 -- the first column with a fault ends the reading
 pub returns-in_err-read : goal.returns-in_err-read
@@ -21,9 +21,9 @@ returns-in_err-read c =
     let loop = c.loop-value in
     let fault = c.in_err-read.field-0.0 in
     let raised = err_from_is_err_and c.from_residual-in_err-read.result c.from_residual-in_err-read.ensures.1 in
-    rw raised.1 (next_stops (column_at c.args.version c.args.t) c.args.values.items loop.columns (into_iter_items loop.value-iterator)
-    (into_iter_items c.next.new.self) (into_iter_len loop.value-iterator) c.in-Some.value fault raised.0
-    loop.invariant c.in-Some.ensures.steps.0
+    rw raised.1 (next_stops (column_at c.args.version c.args.t) c.args.values.items loop.columns
+    (into_iter_items loop.value-iterator) (into_iter_items c.next.new.self) (into_iter_len loop.value-iterator)
+    c.in-Some.value fault raised.0 loop.invariant c.in-Some.ensures.steps.0
     (λ other. not_added loop.columns (column_at c.args.version c.args.t loop.columns (view c.in-Some.value)) fault
     (c.in_err-read.ensures other)) raised.2)
 

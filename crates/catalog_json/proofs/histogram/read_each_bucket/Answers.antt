@@ -22,10 +22,11 @@ returns-in_err-bucket c =
     let read = sym (rw (to_z-of_z c.ranges.low, c.as_slice.ensures) at c.in_err-bucket.ensures) in
     rw raised.1 (next_stops (bucket_at c.args.t c.args.c c.args.low) c.args.values.items loop.buckets
     (into_iter_items loop.value-iterator) (into_iter_items c.next.new.self) (into_iter_len loop.value-iterator)
-    c.in-Some.value c.in_err-bucket.field-0.0 raised.0 (rw (to_z-of_z c.ranges.low) at loop.invariant) c.in-Some.ensures.steps.0 (λ other. read) raised.2)
+    c.in-Some.value c.in_err-bucket.field-0.0 raised.0 (rw (to_z-of_z c.ranges.low) at loop.invariant)
+    c.in-Some.ensures.steps.0 (λ other. read) raised.2)
 
 -- no value is left
 pub returns : goal.returns
 returns c = all_read (bucket_at c.args.t c.args.c c.args.low) c.args.values.items c.loop-value.buckets
-    (into_iter_items c.loop-value.value-iterator) (into_iter_len c.loop-value.value-iterator) (rw (to_z-of_z c.ranges.low) at c.loop-value.invariant)
-    c.in-None.ensures.steps.0
+    (into_iter_items c.loop-value.value-iterator) (into_iter_len c.loop-value.value-iterator)
+    (rw (to_z-of_z c.ranges.low) at c.loop-value.invariant) c.in-None.ensures.steps.0

@@ -25,12 +25,13 @@ pub returns-in_err-table : goal.returns-in_err-table
 returns-in_err-table c =
     let loop = c.loop-value in
     let raised = err_from_is_err_and c.from_residual-in_err-table.result c.from_residual-in_err-table.ensures.1 in
-    rw raised.1 (next_stops (table_at c.args.version) c.args.values.items loop.tables (into_iter_items loop.value-iterator)
-    (into_iter_items c.next.new.self) (into_iter_len loop.value-iterator) c.in-Some.value c.in_err-table.field-0.0
-    raised.0 loop.invariant.tables c.in-Some.ensures.steps.0
+    rw raised.1 (next_stops (table_at c.args.version) c.args.values.items loop.tables
+    (into_iter_items loop.value-iterator) (into_iter_items c.next.new.self) (into_iter_len loop.value-iterator)
+    c.in-Some.value c.in_err-table.field-0.0 raised.0 loop.invariant.tables c.in-Some.ensures.steps.0
     (rw (← c.as_slice.ensures) c.in_err-table.ensures.read) raised.2)
 
 -- no value is left
 pub returns : goal.returns
-returns c = all_read (table_at c.args.version) c.args.values.items c.loop-value.tables (into_iter_items c.loop-value.value-iterator)
-    (into_iter_len c.loop-value.value-iterator) c.loop-value.invariant.tables c.in-None.ensures.steps.0
+returns c = all_read (table_at c.args.version) c.args.values.items c.loop-value.tables
+    (into_iter_items c.loop-value.value-iterator) (into_iter_len c.loop-value.value-iterator)
+    c.loop-value.invariant.tables c.in-None.ensures.steps.0

@@ -8,8 +8,8 @@ use Rattle.catalog_json.specs.Walk.{table_at}
 use Rattle.catalog_json.proofs.Each.{IsOnTheWay}
 use Rattle.catalog_json.proofs.table.read_each_table.Given as goal
 
-pub record AtPlace (version : CatalogVersion) (values : List Value) (read : List TableInfo) (texts : List (List ℕ)) (left : List Value)
-    (count : ℕ) : Type 0 where
+pub record AtPlace (version : CatalogVersion) (values : List Value) (read : List TableInfo) (texts : List (List ℕ))
+    (left : List Value) (count : ℕ) : Type 0 where
   pub names : texts ≡ map (λ t. t.name) read
   pub tables : IsOnTheWay (table_at version) values read left count
 

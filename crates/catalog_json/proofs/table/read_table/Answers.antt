@@ -27,6 +27,7 @@ returns-clause-read c =
     let t = length c.args.before.now in
     let name = c.in_ok-name.name in
     let object = c.in_ok-object.object in
-    let read : table_at c.args.version c.args.before.now (view c.args.value) ≡ named_table_at c.args.version t name (data_of object) = search rules in
+    let read : table_at c.args.version c.args.before.now (view c.args.value) ≡
+    named_table_at c.args.version t name (data_of object) = search rules in
     rw (read, ← without_name c.args.version t name (data_of object) (data_of c.take.new.self) c.take.ensures.others)
     c.read_named_table.ensures.read

@@ -14,7 +14,9 @@ returns-clause-reads_back c =
     let before = wrote.added.before ∙ c.new-out.ensures.before ∙ c.new.ensures.items in
     let same = c.into_inner.ensures.items ∙ ap (λ (front : List ℕ). front ++ print c.write_value.new.out.tokens)
     before in
-    λ short. read_back c.args.version c.into_inner.result.items c.args.catalog.now c.requires.kept c.requires.said wrote.fits
+    λ short. read_back c.args.version c.into_inner.result.items c.args.catalog.now c.requires.kept
+    c.requires.said wrote.fits
     (ap tokens same ∙ c.into_inner.ensures.reads_back ∙ wrote.added.tokens
-    ∙ ap (λ (ts : List Token). ts ++ json_tokens (catalog_json c.args.version c.args.catalog.now)) c.new-out.ensures.tokens)
+    ∙ ap (λ (ts : List Token). ts ++ json_tokens (catalog_json c.args.version c.args.catalog.now))
+    c.new-out.ensures.tokens)
     (subst IsUtf8 (sym same) c.into_inner.ensures.utf8) short

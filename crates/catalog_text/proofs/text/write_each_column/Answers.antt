@@ -17,8 +17,8 @@ loop-column-preserved c =
     record {
       added = more_added column_json columns loop.column-index _ c.args.out.now loop.out c.write_column.new.out within
           loop.invariant.added
-          (subst (λ (x : ColumnInfo). Adds loop.out c.write_column.new.out (json_tokens (column_json x))) c.column-item.is
-          c.in_ok-write_column.ensures.added);
+          (subst (λ (x : ColumnInfo). Adds loop.out c.write_column.new.out (json_tokens (column_json x)))
+          c.column-item.is c.in_ok-write_column.ensures.added);
       fit = All-more ColumnFits columns loop.column-index _ within loop.invariant.fit
           (subst ColumnFits c.column-item.is c.in_ok-write_column.ensures.fits);
     }

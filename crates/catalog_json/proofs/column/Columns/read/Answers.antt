@@ -18,7 +18,8 @@ returns c =
     let values : ColumnValues = record { ndv = c.in_ok-ndv.ndv; histogram = c.in_ok-histogram.histogram } in
     let fresh : list_any (bytes_eq (string_bytes name)) (names_of old) ≡ false =
     rw (← c.as_str.ensures.value) (sym c.has.ensures ∙ c.if-has.false) in
-    let made : column_at c.args.version c.args.t old (view c.args.value) ≡ Ok (column_of (name, values)) = search rules in
+    let made : column_at c.args.version c.args.t old (view c.args.value) ≡ Ok (column_of (name, values)) =
+    search rules in
     rw (made, c.in_ok-insert.ensures.entries, ← c.self.view_is)
     (ap (λ (columns : List ColumnInfo). Ok columns)
     (sym (goes_last c.self.inside.values.entries name values (rw (← c.self.view_is) at fresh))))
