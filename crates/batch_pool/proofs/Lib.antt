@@ -4,3 +4,4 @@ pub mod Moves
 pub mod Lookups
 pub mod Running
 pub mod Placing
+pub mod Passes

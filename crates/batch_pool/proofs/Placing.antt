@@ -5,7 +5,7 @@ use Rattle.std.proofs.lemmas.Bool.Decides.{nat_tests}
 use native.Mathlib.Decide.{ℕ_discrete}
 use mathlib.Core.Logic.{dite}
 use Rattle.batch_pool.specs.Rule.{times, once_below, HasEachOnce}
-use Rattle.batch_pool.specs.Runs.{times_run, AreRun, HoldsResult, ArePlaced}
+use Rattle.batch_pool.specs.Runs.{times_run, AreRun, HoldsResult, HasPlaced, ArePlaced}
 use Rattle.batch_pool.specs.declared.worker.RanItem.{RanItem}
 use Rattle.batch_pool.specs.declared.places.Placed.{Placed}
 use Rattle.batch_pool.proofs.Lists.{times-append}
@@ -31,20 +31,20 @@ module _ {O : Type 0} (gives : ℕ → O → Type 0) (workers : ℕ) where
 
   -- those of one worker more stand in their places
   pub placed_more : (n : ℕ) (taken other : List ℕ) (ran : List (RanItem O)) (places places' : List (Option (Placed O)))
-      → ArePlaced n gives workers taken places → AreRun n gives other ran
-      → ((k : ℕ) → 1 ≤ times_run k ran → Good k (slice_get places' k))
-      → ((k : ℕ) → Good k (slice_get places k) → Good k (slice_get places' k))
+      → ArePlaced n gives workers taken places → AreRun n gives other ran → HasPlaced gives workers ran places places'
       → ArePlaced n gives workers (taken ++ other) places'
-  placed_more n taken other ran places places' h run new kept k near some_time =
+  placed_more n taken other ran places places' h run put k near some_time =
       let t = times-append k taken other in
       let e = run.as_often k near in
-      ⊎_elim (λ (a : 1 ≤ times k taken). kept k (h k near a)) (λ (b : 1 ≤ times k other). new k (omega (arith, e)))
+      ⊎_elim (λ (a : 1 ≤ times k taken). put.kept k (h k near a))
+      (λ (b : 1 ≤ times k other). put.placed k (omega (arith, e)))
       (some_of (times k taken) (times k other) (omega (arith, t)))
 
-  pub placed_first : (n : ℕ) (taken : List ℕ) (ran : List (RanItem O)) (places : List (Option (Placed O)))
-      → AreRun n gives taken ran → ((k : ℕ) → 1 ≤ times_run k ran → Good k (slice_get places k))
-      → ArePlaced n gives workers taken places
-  placed_first n taken ran places run new k near some_time = let e = run.as_often k near in new k (omega (arith, e))
+  pub placed_first : (n : ℕ) (taken : List ℕ) (ran : List (RanItem O)) (places places' : List (Option (Placed O)))
+      → AreRun n gives taken ran → HasPlaced gives workers ran places places' → ArePlaced n gives workers taken places'
+  placed_first n taken ran places places' run put k near some_time =
+      let e = run.as_often k near in
+      put.placed k (omega (arith, e))
 
   -- the same, where what is written is known to be this
   pub good_put : (places : List (Option (Placed O))) (item : ℕ) (s : Option (Placed O)) (p : Placed O) (k : ℕ)

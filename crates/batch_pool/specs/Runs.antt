@@ -86,6 +86,11 @@ module _ {O : Type 0} where
     HoldsResult item (Some None) = ⊥
     HoldsResult item (Some (Some placed)) = gives item placed.output × (placed.worker < workers)
 
+    -- the items that were run have their results in their places, and no place has lost its result
+    pub record HasPlaced (ran : List (RanItem O)) (old now : List (Option (Placed O))) : Type 0 where
+      pub placed : (k : ℕ) → 1 ≤ times_run k ran → HoldsResult k (slice_get now k)
+      pub kept : (k : ℕ) → HoldsResult k (slice_get old k) → HoldsResult k (slice_get now k)
+
   module _ (n : ℕ) (gives : ℕ → O → Type 0) (workers : ℕ) where
     -- each item that was taken has its result in its place
     abbrev pub ArePlaced : List ℕ → List (Option (Placed O)) → Type 0

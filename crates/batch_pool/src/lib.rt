@@ -14,4 +14,4 @@ mod worker;
 pub use batch::Batch;
 pub use laws::pushes_come_first;
 pub use places::PoolRun;
-pub use pool::run_all;
+pub use pool::{run_all, run_alone};

@@ -1,6 +1,6 @@
 //! What the items gave, each in its place.
-ghost use Rattle.std.specs.Prelude.{◌≡◌, ℕ, ◌<◌, ◌≤◌, IfOk, Some, slice_get, vec_len};
-ghost use Rattle.batch_pool.specs.Runs.{AreOutputs, IsRunOf, HoldsResult, times_run};
+ghost use Rattle.std.specs.Prelude.{◌≡◌, ℕ, ◌<◌, IfOk, Some, slice_get, vec_len};
+ghost use Rattle.batch_pool.specs.Runs.{AreOutputs, IsRunOf, HasPlaced, HoldsResult};
 
 use crate::batch::Batch;
 use crate::worker::RanItem;
@@ -46,10 +46,8 @@ pub(crate) fn place_all<B: Batch>(
     requires ran { AreOutputs (B.items _batch.now) (B.gives _batch.now) ran.items }
     requires worker { worker < _workers }
     ensures len { vec_len places.new ≡ vec_len places.old }
-    ensures new { (k : ℕ) → 1 ≤ times_run k ran.items →
-        HoldsResult (B.gives _batch.now) _workers k (slice_get places.new.items k) }
-    ensures kept { (k : ℕ) → HoldsResult (B.gives _batch.now) _workers k (slice_get places.old.items k) →
-        HoldsResult (B.gives _batch.now) _workers k (slice_get places.new.items k) }
+    ensures placed { HasPlaced (B.gives _batch.now) _workers
+        ran.items places.old.items places.new.items }
 {
     let mut ran = ran;
     while let Some(one) = ran.pop() {

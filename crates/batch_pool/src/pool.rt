@@ -13,6 +13,19 @@ use std::sync::Wait;
 use std::thread;
 use std::thread::Threads;
 
+/// Runs each item once, in the order of their numbers, by the caller alone, whose number is 0. It returns.
+pub fn run_alone<B: Batch>(alloc: Global, batch: &B) -> Result<PoolRun<B::Output>, AllocError>
+    ensures { IfOk result (IsRunOf (B.items batch.now) (B.gives batch.now) 1) }
+{
+    let mut outputs = Vec::new(alloc);
+    let mut taken = Vec::new(alloc);
+    for item in 0..batch.len() {
+        outputs.push(batch.run(alloc, item)?)?;
+        taken.push(0)?;
+    }
+    Ok(PoolRun { outputs, taken })
+}
+
 /// Runs each item once, by so many workers, each in a thread of its own. Each passes the gate, takes an item and runs
 /// it, until none is left. It may wait.
 pub fn run_all<R: Threads + Wait + Sync, B: Batch, G: Gate>(
@@ -37,7 +50,8 @@ pub fn run_all<R: Threads + Wait + Sync, B: Batch, G: Gate>(
     let crew = hire(alloc, queue, pass, workers)?;
     let task = |worker: Worker| -> WorkerRun<B::Output>
         requires { IsNewWorker queue.now workers worker }
-        ensures { Returns (B.items batch.entry.now) (B.gives batch.entry.now) queue.entry.now workers worker result }
+        ensures { Returns (B.items batch.entry.now) (B.gives batch.entry.now)
+            queue.entry.now workers worker result }
     { run_worker(rt, alloc, queue, batch, worker, gate, workers) };
     let crew = thread::map_vec(rt, crew, &task)?;
     let (mut pass, mut places) = gather(alloc, queue, batch, crew, workers)?;

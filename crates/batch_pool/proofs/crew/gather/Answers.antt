@@ -27,8 +27,8 @@ loop-other-init g c =
       omega (arith, parts, all),
       omega (arith, pushed, all_pushed),
       omega (arith, long, places, n),
-      placed_first gives c.args._workers _ _ _ _ (returned_run _ _ _ _ c.in-Some.field-0 _ c.in_ok-ran.was last)
-          c.place_all.ensures.new,
+      placed_first gives c.args._workers _ _ _ _ _ (returned_run _ _ _ _ c.in-Some.field-0 _ c.in_ok-ran.was last)
+          c.place_all.ensures.placed,
     )
 
 pub place_all-requires-in-Some-pop-clause-ran : goal.place_all-requires-in-Some-pop-clause-ran
@@ -73,5 +73,5 @@ loop-other-preserved g c =
           (sym c.join.ensures.view)
           (placed_more gives c.args._workers n (view_of c.loop-other.pass).taken _ _ _ _ i.5
           (returned_run _ _ _ _ c.in-Some-pop.field-0 _ c.in_ok-ran-2.was last)
-          c.place_all-in-Some-pop.ensures.new c.place_all-in-Some-pop.ensures.kept),
+          c.place_all-in-Some-pop.ensures.placed),
     )

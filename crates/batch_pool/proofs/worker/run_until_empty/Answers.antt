@@ -1,5 +1,5 @@
-use Rattle.std.proofs.Common.{ap, refl, ◌∙◌, arith}
-use Rattle.batch_pool.specs.declared.pass_view.PassView.{PassView}
+use Rattle.std.proofs.Common.{refl, arith}
+use Rattle.batch_pool.proofs.Passes.{takes_more}
 use Rattle.batch_pool.proofs.Running.{run_none, run_more, run_skip}
 use Rattle.batch_pool.proofs.worker.run_until_empty.Goals as goal
 
@@ -12,10 +12,8 @@ loop-take-preserved-in-Continue-branch-2 g c =
     let long = c.len.ensures in (
       tt,
       tt,
-      c.pop.ensures.its,
-      ap (λ (h : PassView). h.parts) step ∙ i.3,
-      ap (λ (h : PassView). h.pushed) step ∙ i.4,
-      run_more _ _ _ _ _ _ _ (record { item = c.in-Some-pop.item; output = c.in_ok-output.output }) i.5
+      takes_more _ _ _ _ c.in-Some-pop.item i.2 c.pop.ensures.its step,
+      run_more _ _ _ _ _ _ _ (record { item = c.in-Some-pop.item; output = c.in_ok-output.output }) i.3
           (omega (arith, test, long)) c.in_ok-output.ensures step c.in_ok-push.ensures.items,
     )
 
@@ -28,11 +26,10 @@ loop-take-preserved g c =
     let long = c.len.ensures in (
       tt,
       tt,
-      c.pop.ensures.its,
-      ap (λ (h : PassView). h.parts) step ∙ i.3,
-      ap (λ (h : PassView). h.pushed) step ∙ i.4,
-      run_skip _ _ _ _ _ _ c.in-Some-pop.item i.5 (omega (arith, test, long)) step,
+      takes_more _ _ _ _ c.in-Some-pop.item i.2 c.pop.ensures.its step,
+      run_skip _ _ _ _ _ _ c.in-Some-pop.item i.3 (omega (arith, test, long)) step,
     )
 
 pub loop-take-init : goal.loop-take-init
-loop-take-init g c = (tt, tt, c.requires.its, refl, refl, run_none _ _ _ _ c.new-ran.ensures.items)
+loop-take-init g c =
+    (tt, tt, record { its = c.requires.its; parts = refl; pushed = refl }, run_none _ _ _ _ c.new-ran.ensures.items)

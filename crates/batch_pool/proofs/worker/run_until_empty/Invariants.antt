@@ -1,5 +1,4 @@
-use Rattle.std.proofs.Common.{◌≡◌}
-use Rattle.batch_pool.specs.Queues.{view_of, IsPassOf}
+use Rattle.batch_pool.specs.Queues.{view_of, StaysPassOf}
 use Rattle.batch_pool.specs.Runs.{RanSince}
 use Rattle.batch_pool.proofs.worker.run_until_empty.Given as goal
 
@@ -7,7 +6,5 @@ use Rattle.batch_pool.proofs.worker.run_until_empty.Given as goal
 abbrev pub invariant-loop-take : goal.invariant-loop-take
 invariant-loop-take g l = (goal.iterator-loop-take g).can_next l._take-iterator
     × (goal.iterator-loop-take g).is_finite l._take-iterator
-    × IsPassOf l.queue l.pass
-    × ((view_of l.pass).parts ≡ (view_of l.initial.pass).parts)
-    × ((view_of l.pass).pushed ≡ (view_of l.initial.pass).pushed)
+    × StaysPassOf l.queue l.initial.pass l.pass
     × RanSince (g.B.Batch.items l.batch) (g.B.Batch.gives l.batch) (view_of l.initial.pass) (view_of l.pass) l.ran.items
