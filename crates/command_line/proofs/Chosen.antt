@@ -4,7 +4,6 @@ use Rattle.std.proofs.Common.{◌∙◌, arith}
 use Rattle.std.specs.Bool.{⊤}
 use Rattle.std.specs.List.{fold}
 use Rattle.std.specs.Option.{option_and_then}
-use Rattle.query_core.specs.declared.options.RootDist.{RootDist}
 use Rattle.command_line.specs.Numbers.{number_within}
 use Rattle.command_line.specs.Rules.{rules_word}
 use Rattle.command_line.specs.Options.{Setting, a_number, a_root, some_rules, alone, setting_of, value_words, root_word}

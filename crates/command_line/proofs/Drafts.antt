@@ -10,7 +10,7 @@ use Rattle.std.proofs.Math.Bool.{and-false}
 use Rattle.std.proofs.lemmas.List.Folds.{list_all-append}
 use Rattle.query_core.specs.Differ.{numbers_differ}
 use Rattle.command_line.specs.Options.{setting_of, usual, takes_option}
-use Rattle.command_line.specs.Command.{AnyTask, AnyCommand, Given, Piece, name, given, name_in, given_in, number_of}
+use Rattle.command_line.specs.Command.{AnyTask, Given, Piece, name, given, name_in, given_in, number_of}
 use Rattle.command_line.specs.Command.{may_be_given}
 use Rattle.command_line.specs.Reading.{chosen_by, chosen, choices_of, task_of, command_with, command_made, command_from}
 use Rattle.command_line.specs.declared.choices.Choices.{Choices}
@@ -100,6 +100,7 @@ four_names task (a ∷ []) more word three = absurd (omega (arith, three))
 four_names task (a ∷ b ∷ []) more word three = absurd (omega (arith, three))
 four_names tasks.Plan (a ∷ b ∷ c ∷ []) more word three = refl
 four_names tasks.Gen (a ∷ b ∷ c ∷ []) more word three = refl
+four_names tasks.Batch (a ∷ b ∷ c ∷ []) more word three = refl
 four_names task (a ∷ b ∷ c ∷ d ∷ names) more word three = absurd (omega (arith, three))
 
 -- where there is no task, or nothing is chosen, there is no command

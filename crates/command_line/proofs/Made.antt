@@ -1,10 +1,13 @@
 -- The task that names make, and the command.
 use Rattle.std.proofs.Common.{◌≡◌, ℕ, ◌-◌, ◌^◌, Bool, true, false, cond, List, [], ◌∷◌, Option, None, Some, option_map}
-use Rattle.std.proofs.Common.{codes, bytes_eq, decimal, refl, sym, ap, ◌∙◌, subst, arith}
-use Rattle.command_line.specs.Command.{FileNames, AnyTask, AnyCommand, plan, gen, task_name, task_word, shape_word}
+use Rattle.std.proofs.Common.{codes, bytes_eq, decimal, refl, ap, ◌∙◌, subst, arith}
+use Rattle.std.specs.Option.{option_and_then}
+use Rattle.command_line.specs.Command.{AnyTask, AnyCommand, plan, gen, batch, task_name, task_word, shape_word}
 use Rattle.command_line.specs.Command.{IsInput, AreNames}
 use Rattle.command_line.specs.Numbers.{number_within}
-use Rattle.command_line.specs.Reading.{files_of, shape_of, input_with, input_of, task_of, command_with, task_named}
+use Rattle.command_line.specs.Options.{allows}
+use Rattle.command_line.specs.Reading.{of_two, plan_over, batch_over, shape_of, input_with, input_of, task_of}
+use Rattle.command_line.specs.Reading.{command_where, command_with, task_named}
 use Rattle.command_line.specs.declared.choices.Choices.{Choices}
 use Rattle.command_line.specs.declared.options.TaskName.{TaskName}
 use Rattle.command_line.specs.declared.options.TaskName.TheVariants as tasks
@@ -20,20 +23,27 @@ use Rattle.command_line.proofs.WrittenNumbers.{number_read, number_spelled}
 pub name_read : (name : TaskName) → task_named (task_word name) ≡ Some name
 name_read tasks.Plan = refl
 name_read tasks.Gen = refl
+name_read tasks.Batch = refl
 
 -- a word that names a task is its word
 pub name_spelled : (word : List ℕ) (name : TaskName) → task_named word ≡ Some name → word ≡ task_word name
-name_spelled word name is = of_word (bytes_eq word (codes "plan")) (bytes_eq word (codes "gen")) refl refl is
+name_spelled word name is = of_word (bytes_eq word (codes "plan")) (bytes_eq word (codes "gen"))
+    (bytes_eq word (codes "batch")) refl refl refl is
   where
-    of_word : (a b : Bool) → bytes_eq word (codes "plan") ≡ a → bytes_eq word (codes "gen") ≡ b
-        → cond a (Some tasks.Plan) (cond b (Some tasks.Gen) None) ≡ Some name → word ≡ task_word name
-    of_word true b same other found =
+    of_word : (a b c : Bool) → bytes_eq word (codes "plan") ≡ a → bytes_eq word (codes "gen") ≡ b
+        → bytes_eq word (codes "batch") ≡ c
+        → cond a (Some tasks.Plan) (cond b (Some tasks.Gen) (cond c (Some tasks.Batch) None)) ≡ Some name
+        → word ≡ task_word name
+    of_word true b c x y z found =
         let here : tasks.Plan ≡ name = cc in
-        is_text word (codes "plan") same ∙ ap task_word here
-    of_word false true same other found =
+        is_text word (codes "plan") x ∙ ap task_word here
+    of_word false true c x y z found =
         let here : tasks.Gen ≡ name = cc in
-        is_text word (codes "gen") other ∙ ap task_word here
-    of_word false false same other found = cc
+        is_text word (codes "gen") y ∙ ap task_word here
+    of_word false false true x y z found =
+        let here : tasks.Batch ≡ name = cc in
+        is_text word (codes "batch") z ∙ ap task_word here
+    of_word false false false x y z found = cc
 
 -- ---- shapes
 
@@ -112,15 +122,21 @@ pub names_read : (task : AnyTask) (names : List (List ℕ)) → AreNames task na
     → task_of (task_name task) names ≡ Some task
 names_read (plan files) names are = rw are refl
 names_read (gen input) names are = ap (option_map gen) (input_read input names are)
+names_read (batch files) names are = rw are refl
 
--- the names of files that are read
-files_spelled : (names : List (List ℕ)) (files : FileNames) → files_of names ≡ Some files
-    → names ≡ files.catalog ∷ files.query ∷ []
-files_spelled [] files is = cc
-files_spelled (a ∷ []) files is = cc
-files_spelled (a ∷ b ∷ []) files is = let made : record { catalog = a; query = b } ≡ files = cc in
-    ap (λ (f : FileNames). f.catalog ∷ f.query ∷ []) made
-files_spelled (a ∷ b ∷ c ∷ more) files is = cc
+-- two names, and the task that is made of them
+record OfTwo (make : List ℕ → List ℕ → AnyTask) (names : List (List ℕ)) (task : AnyTask) : Type 0 where
+  first : List ℕ
+  second : List ℕ
+  are : names ≡ first ∷ second ∷ []
+  is : make first second ≡ task
+
+two_spelled : (make : List ℕ → List ℕ → AnyTask) (names : List (List ℕ)) (task : AnyTask)
+    → of_two make names ≡ Some task → OfTwo make names task
+two_spelled make [] task is = cc
+two_spelled make (a ∷ []) task is = cc
+two_spelled make (a ∷ b ∷ []) task is = record { first = a; second = b; are = refl; is = cc }
+two_spelled make (a ∷ b ∷ c ∷ more) task is = cc
 
 -- names that are read as a task's are those of the task
 pub record HasNames (name : TaskName) (names : List (List ℕ)) (task : AnyTask) : Type 0 where
@@ -129,14 +145,9 @@ pub record HasNames (name : TaskName) (names : List (List ℕ)) (task : AnyTask)
 
 names_spelled : (name : TaskName) (names : List (List ℕ)) (task : AnyTask) → task_of name names ≡ Some task
     → HasNames name names task
-names_spelled tasks.Plan names task is = of_files (files_of names) refl is
-  where
-    of_files : (files : Option FileNames) → files_of names ≡ files → option_map plan files ≡ Some task
-        → HasNames tasks.Plan names task
-    of_files None read made = cc
-    of_files (Some files) read made =
-        let same : plan files ≡ task = cc in
-        subst (HasNames tasks.Plan names) same (record { named = refl; are_names = files_spelled names files read })
+names_spelled tasks.Plan names task is =
+    let two = two_spelled plan_over names task is in
+    subst (HasNames tasks.Plan names) two.is (record { named = refl; are_names = two.are })
 names_spelled tasks.Gen names task is = of_input (input_of names) refl is
   where
     of_input : (input : Option GenInput) → input_of names ≡ input → option_map gen input ≡ Some task
@@ -145,6 +156,9 @@ names_spelled tasks.Gen names task is = of_input (input_of names) refl is
     of_input (Some input) read made =
         let same : gen input ≡ task = cc in
         subst (HasNames tasks.Gen names) same (record { named = refl; are_names = input_spelled names input read })
+names_spelled tasks.Batch names task is =
+    let two = two_spelled batch_over names task is in
+    subst (HasNames tasks.Batch names) two.is (record { named = refl; are_names = two.are })
 
 -- ---- commands
 
@@ -154,18 +168,25 @@ pub record IsMade (name : TaskName) (names : List (List ℕ)) (choices : Option 
     pub named : name ≡ task_name command.task
     pub are_names : AreNames command.task names
     pub chosen : choices ≡ Some command.choices
+    pub allowed : allows (task_name command.task) command.choices ≡ true
 
 pub made_command : (name : TaskName) (names : List (List ℕ)) (choices : Option Choices) (command : AnyCommand)
     → command_with (task_of name names) choices ≡ Some command → IsMade name names choices command
 made_command name names None command is = cc
 made_command name names (Some choices) command is = of_task (task_of name names) refl is
   where
-    of_task : (task : Option AnyTask) → task_of name names ≡ task
-        → option_map (λ t. record { task = t; choices = choices }) task ≡ Some command
+    of_allowed : (task : AnyTask) (may : Bool) → task_of name names ≡ Some task → allows (task_name task) choices ≡ may
+        → cond may (Some (record { task = task; choices = choices })) None ≡ Some command
         → IsMade name names (Some choices) command
-    of_task None read made = cc
-    of_task (Some task) read made =
+    of_allowed task false read may made = cc
+    of_allowed task true read may made =
         let same : record { task = task; choices = choices } ≡ command = cc in
         let has = names_spelled name names task read in
         subst (IsMade name names (Some choices)) same
-        (record { named = has.named; are_names = has.are_names; chosen = refl })
+        (record { named = has.named; are_names = has.are_names; chosen = refl; allowed = may })
+
+    of_task : (task : Option AnyTask) → task_of name names ≡ task
+        → option_and_then (λ t. command_where t choices) task ≡ Some command
+        → IsMade name names (Some choices) command
+    of_task None read made = cc
+    of_task (Some task) read made = of_allowed task (allows (task_name task) choices) read refl made

@@ -1,6 +1,6 @@
 -- Words are read as the pieces that they spell, and as no others.
 use Rattle.std.proofs.Common.{◌≡◌, ℕ, ◌==◌, Bool, true, false, IsTrue, cond, List, [], ◌∷◌, ◌++◌, Option, None, Some}
-use Rattle.std.proofs.Common.{option_map, refl, sym, ap, ◌∙◌, subst}
+use Rattle.std.proofs.Common.{option_map, refl, sym, ◌∙◌, subst}
 use Rattle.std.specs.Option.{option_map_or}
 use Rattle.std.proofs.lemmas.Bool.{false≢true}
 use Rattle.command_line.specs.Options.{option_word, takes_value}

@@ -25,6 +25,7 @@ spelled_read words command is =
       is.once,
       names_read command.task (filter_map name_in is.pieces) is.names,
       all_chosen usual (filter_map given_in is.pieces) command.choices is.chosen,
+      is.allowed,
     ) refl
 
 -- a command that is read is spelled out
@@ -49,6 +50,7 @@ read_spelled (first ∷ others) command is = of_name_read (task_named first) ref
           once = subst (λ n. may_be_given n (filter_map given_in pieces) ≡ true) parts.named once;
           names = parts.are_names;
           chosen = chosen_spelled usual (filter_map given_in pieces) command.choices parts.chosen;
+          allowed = parts.allowed;
         }
 
     of_pieces : (task : TaskName) (ps : Option (List Piece)) → task_named first ≡ Some task

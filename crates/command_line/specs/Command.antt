@@ -3,7 +3,8 @@ use Rattle.std.specs.Prelude.{ℕ, ◌-◌, ◌^◌, Bool, true, false, not, ◌
 use Rattle.std.specs.Prelude.{Some, codes, decimal, map}
 use Rattle.std.specs.List.{filter_map, list_all}
 use Rattle.query_core.specs.Differ.{numbers_differ}
-use Rattle.command_line.specs.Options.{option_word, option_number, setting_of, takes_option, takes_value, usual, Chooses}
+use Rattle.command_line.specs.Options.{option_word, option_number, setting_of, takes_option, takes_value, allows}
+use Rattle.command_line.specs.Options.{usual, Chooses}
 use Rattle.command_line.specs.Numbers.{IsWithin}
 use Rattle.command_line.specs.declared.choices.Choices.{Choices}
 use Rattle.command_line.specs.declared.options.TaskName.{TaskName}
@@ -13,15 +14,22 @@ use Rattle.command_line.specs.declared.command.GenInput.{GenInput}
 use Rattle.query_generator.specs.declared.shape.GenShape.{GenShape}
 use Rattle.query_generator.specs.declared.shape.GenShape.TheVariants.{Chain, Star, Clique}
 
--- the files that a command names
+-- the files that `plan` names
 pub record FileNames : Type 0 where
   pub catalog : List ℕ
   pub query : List ℕ
 
--- what a command does: `plan` over two files, or `gen` of what a catalogue and a query are made of
+-- the files that a batch names
+pub record ListNames : Type 0 where
+  pub catalog : List ℕ
+  pub list : List ℕ
+
+-- what a command does: `plan` over two files, `gen` of what a catalogue and a query are made of, or `batch` over a
+-- catalogue and a list of queries
 pub data AnyTask : Type 0 where
   plan : FileNames → AnyTask
   gen : GenInput → AnyTask
+  batch : ListNames → AnyTask
 
 -- a command: a task, and what is chosen for it by options
 pub record AnyCommand : Type 0 where
@@ -32,11 +40,13 @@ pub record AnyCommand : Type 0 where
 abbrev pub task_name : AnyTask → TaskName
 task_name (plan files) = tasks.Plan
 task_name (gen input) = tasks.Gen
+task_name (batch files) = tasks.Batch
 
 -- the word of a name
 abbrev pub task_word : TaskName → List ℕ
 task_word tasks.Plan = codes "plan"
 task_word tasks.Gen = codes "gen"
+task_word tasks.Batch = codes "batch"
 
 -- the word of a shape
 abbrev pub shape_word : GenShape → List ℕ
@@ -93,11 +103,12 @@ pub record IsInput (input : GenInput) (words : List (List ℕ)) : Type 0 where
   pub tables : IsWithin 1 8 input.tables
   pub are : words ≡ decimal input.number ∷ decimal input.tables ∷ shape_word input.shape ∷ []
 
--- the names are those of the task: of the catalogue's file and of the query's, or what a catalogue and a query are
--- made of
+-- the names are those of the task: of the catalogue's file and of the query's, what a catalogue and a query are made of,
+-- or of the catalogue's file and of the list's
 abbrev pub AreNames : AnyTask → List (List ℕ) → Type 0
 AreNames (plan files) names = names ≡ files.catalog ∷ files.query ∷ []
 AreNames (gen input) names = IsInput input names
+AreNames (batch files) names = names ≡ files.catalog ∷ files.list ∷ []
 
 -- the options that are given take the choices before to those after, one behind the other
 abbrev pub AreChosen : Choices → List Given → Choices → Type 0
@@ -123,3 +134,4 @@ pub record IsSpelledOut (words : List (List ℕ)) (command : AnyCommand) : Type 
   pub once : IsTrue (may_be_given (task_name command.task) (filter_map given_in pieces))
   pub names : AreNames command.task (filter_map name_in pieces)
   pub chosen : AreChosen usual (filter_map given_in pieces) command.choices
+  pub allowed : IsTrue (allows (task_name command.task) command.choices)

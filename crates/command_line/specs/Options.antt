@@ -1,6 +1,6 @@
 -- The options: which task takes them, how each is spelled, and what it chooses.
-use Rattle.std.specs.Prelude.{ℕ, List, [], ◌∷◌, ◌≡◌, Bool, true, false, codes, IsTrue, nat_eq, bytes_eq, Option, None}
-use Rattle.std.specs.Prelude.{Some}
+use Rattle.std.specs.Prelude.{ℕ, ◌*◌, List, [], ◌∷◌, ◌≡◌, Bool, true, false, codes, IsTrue, nat_eq, nat_le, bytes_eq, Option}
+use Rattle.std.specs.Prelude.{None, Some}
 use Rattle.std.specs.List.{list_any, position_or_len}
 use Rattle.query_core.specs.declared.options.RootDist.{RootDist}
 use Rattle.query_core.specs.declared.options.RootDist.TheVariants.{One, Spread}
@@ -53,6 +53,15 @@ abbrev pub options_of : TaskName → List OptionName
 options_of tasks.Plan =
     names.Workers ∷ names.Capacity ∷ names.Root ∷ names.Off ∷ names.Memo ∷ names.Trace ∷ names.ByWorker ∷ []
 options_of tasks.Gen = names.Workers ∷ names.Capacity ∷ []
+options_of tasks.Batch =
+    names.Workers ∷ names.Capacity ∷ names.Root ∷ names.Off ∷ names.Memo ∷ names.Trace ∷ []
+
+-- the task allows what is chosen for it: in a batch each worker has a board of its own, and all boards together have at
+-- most 8388608 cells
+abbrev pub allows : TaskName → Choices → Bool
+allows tasks.Plan choices = true
+allows tasks.Gen choices = true
+allows tasks.Batch choices = nat_le (choices.workers * choices.capacity) 8388608
 
 -- ---- what follows from the tables
 

@@ -1,5 +1,5 @@
 -- How the words of a command line are read.
-use Rattle.std.specs.Prelude.{ℕ, ◌-◌, ◌^◌, Bool, true, false, List, [], ◌∷◌, ◌==◌, Option, None, Some, codes, bytes_eq}
+use Rattle.std.specs.Prelude.{ℕ, ◌-◌, ◌^◌, Bool, false, List, [], ◌∷◌, ◌==◌, Option, None, Some, codes, bytes_eq}
 use Rattle.std.specs.Prelude.{if◌then◌else◌, option_map}
 use Rattle.std.specs.List.{filter_map, find, fold, slice_split}
 use Rattle.std.specs.Option.{option_and_then, option_map_or}
@@ -10,8 +10,8 @@ use Rattle.xform_rules.specs.declared.rules.Rule.{Rule}
 use Rattle.command_line.specs.Numbers.{number_within}
 use Rattle.command_line.specs.Rules.{may_be_off, off_set}
 use Rattle.command_line.specs.Options.{Setting, a_number, a_root, some_rules, alone, option_word, setting_of, all_options}
-use Rattle.command_line.specs.Options.{takes_value, usual}
-use Rattle.command_line.specs.Command.{FileNames, AnyTask, AnyCommand, plan, gen, Given, Piece, name, given}
+use Rattle.command_line.specs.Options.{takes_value, allows, usual}
+use Rattle.command_line.specs.Command.{AnyTask, AnyCommand, plan, gen, batch, task_name, Given, Piece, name, given}
 use Rattle.command_line.specs.Command.{is_positional, name_in, given_in, may_be_given}
 use Rattle.command_line.specs.declared.choices.Choices.{Choices}
 use Rattle.command_line.specs.declared.options.TaskName.{TaskName}
@@ -102,12 +102,20 @@ pieces_of (word ∷ value ∷ more) = if is_valued word then in_front (valued_pi
 
 -- ---- commands
 
--- two names are those of the catalogue's file and of the query's
-abbrev pub files_of : List (List ℕ) → Option FileNames
-files_of [] = None
-files_of (catalog ∷ []) = None
-files_of (catalog ∷ query ∷ []) = Some (record { catalog = catalog; query = query })
-files_of (catalog ∷ query ∷ third ∷ more) = None
+-- the task of two names
+abbrev pub of_two : (List ℕ → List ℕ → AnyTask) → List (List ℕ) → Option AnyTask
+of_two make [] = None
+of_two make (first ∷ []) = None
+of_two make (first ∷ second ∷ []) = Some (make first second)
+of_two make (first ∷ second ∷ third ∷ more) = None
+
+-- `plan` over the files of a catalogue and of a query
+abbrev pub plan_over : List ℕ → List ℕ → AnyTask
+plan_over catalog query = plan (record { catalog = catalog; query = query })
+
+-- `batch` over the files of a catalogue and of a list
+abbrev pub batch_over : List ℕ → List ℕ → AnyTask
+batch_over catalog list = batch (record { catalog = catalog; list = list })
 
 -- the shape of a word
 abbrev pub shape_of : List ℕ → Option GenShape
@@ -134,13 +142,18 @@ input_of (number ∷ tables ∷ shape ∷ fourth ∷ more) = None
 
 -- what the task of this name does with the names
 abbrev pub task_of : TaskName → List (List ℕ) → Option AnyTask
-task_of tasks.Plan names = option_map plan (files_of names)
+task_of tasks.Plan names = of_two plan_over names
 task_of tasks.Gen names = option_map gen (input_of names)
+task_of tasks.Batch names = of_two batch_over names
 
--- the command of a task and of what is chosen; what a task asks of its choices has its place here
+-- the command of a task and of what is chosen, where the task allows that
+abbrev pub command_where : AnyTask → Choices → Option AnyCommand
+command_where task choices =
+    if allows (task_name task) choices then Some (record { task = task; choices = choices }) else None
+
+-- the same where there is a task, and something is chosen
 abbrev pub command_with : Option AnyTask → Option Choices → Option AnyCommand
-command_with task choices =
-    option_and_then (λ c. option_map (λ t. record { task = t; choices = c }) task) choices
+command_with task choices = option_and_then (λ c. option_and_then (λ t. command_where t c) task) choices
 
 -- the command of these names and of these options
 abbrev pub command_made : TaskName → List (List ℕ) → List Given → Option AnyCommand
@@ -160,6 +173,7 @@ abbrev pub task_named : List ℕ → Option TaskName
 task_named word =
     if bytes_eq word (codes "plan") then Some tasks.Plan
     else if bytes_eq word (codes "gen") then Some tasks.Gen
+    else if bytes_eq word (codes "batch") then Some tasks.Batch
     else None
 
 -- the command that the words are; there is none where they are spelled otherwise

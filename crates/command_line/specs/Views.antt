@@ -1,9 +1,10 @@
 -- What clauses see of the program's values.
 use Rattle.std.specs.Prelude.{ℕ, Option, List, option_map}
 use Rattle.std.specs.Borrow.{Bor}
-use Rattle.command_line.specs.Command.{FileNames, AnyTask, AnyCommand, plan, gen, Given, Piece, name, given}
+use Rattle.command_line.specs.Command.{FileNames, ListNames, AnyTask, AnyCommand, plan, gen, batch, Piece, name, given}
 use Rattle.command_line.specs.declared.command.Command.{Command}
 use Rattle.command_line.specs.declared.command.Files.{Files}
+use Rattle.command_line.specs.declared.command.ListFiles.{ListFiles}
 use Rattle.command_line.specs.declared.command.Task.{Task}
 use Rattle.command_line.specs.declared.command.Task.TheVariants as tasks
 use Rattle.command_line.specs.declared.options.OptionName.{OptionName}
@@ -14,10 +15,15 @@ use Rattle.command_line.specs.declared.pieces.Word.TheVariants as words
 abbrev pub file_names : Files → FileNames
 file_names files = record { catalog = files.catalog.now; query = files.query.now }
 
+-- and those of a batch
+abbrev pub list_names : ListFiles → ListNames
+list_names files = record { catalog = files.catalog.now; list = files.list.now }
+
 -- what a task does
 abbrev pub task_read : Task → AnyTask
 task_read (tasks.Plan files) = plan (file_names files)
 task_read (tasks.Gen made) = gen made.input
+task_read (tasks.Batch files) = batch (list_names files)
 
 -- what a command asks for
 abbrev pub command_read : Command → AnyCommand

@@ -13,6 +13,14 @@ pub struct Files<'w> {
     pub query: &'w str,
 }
 
+/// The names of the files that `batch` reads.
+#[derive(Clone, Copy)]
+pub struct ListFiles<'w> {
+    pub catalog: &'w str,
+    /// The file with a query on each line.
+    pub list: &'w str,
+}
+
 /// What `gen` makes a catalogue and a query of.
 #[derive(Clone, Copy)]
 pub struct GenInput {
@@ -36,6 +44,8 @@ pub enum Task<'w> {
     Plan(Files<'w>),
     /// Makes a catalogue and a query, and plans it.
     Gen(GenTask),
+    /// Plans each query of a list over a catalogue.
+    Batch(ListFiles<'w>),
 }
 
 /// A task, and what is chosen for it by options.

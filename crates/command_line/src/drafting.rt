@@ -1,13 +1,13 @@
 //! Puts what was read into a draft, piece by piece.
 ghost use Rattle.std.specs.Prelude.{◌≡◌, ◌++◌, ◌∷◌, [], None, List, option_map, IfSome, length};
-ghost use Rattle.command_line.specs.Command.{Piece};
+ghost use Rattle.command_line.specs.Command.{Piece, task_name};
 ghost use Rattle.command_line.specs.Drafts.{IsDraft, names_read};
 ghost use Rattle.command_line.specs.Reading.{command_from, task_of};
 ghost use Rattle.command_line.specs.Views.{command_read, option_given, piece as piece_read, task_read};
 ghost use Rattle.command_line.specs.declared.options.TaskName.{TaskName as AnyName};
 
 use crate::choices::Choices;
-use crate::command::{Command, Files, GenTask, Task};
+use crate::command::{Command, Files, GenTask, ListFiles, Task};
 use crate::draft::{Draft, Names};
 use crate::inputs::read_input;
 use crate::options::{OptionName, TaskName};
@@ -72,13 +72,17 @@ impl<'w> Draft<'w> {
         })
     }
 
-    /// The command, where its names were read. What a task asks of its choices has its place here.
+    /// The command, where its names were read and its task allows what is chosen.
     pub fn command(self) -> Option<Command<'w>>
         ensures { (task : AnyName) (pieces : List Piece) → IsDraft task pieces self.entry
             → option_map command_read result ≡ command_from task pieces }
     {
+        let task = self.task()?;
+        if !task.name().allows(self.choices) {
+            return None;
+        }
         Some(Command {
-            task: self.task()?,
+            task,
             choices: self.choices,
         })
     }
@@ -90,6 +94,7 @@ impl<'w> Draft<'w> {
         match self.task {
             TaskName::Plan => self.names.planned(),
             TaskName::Gen => self.names.generated(),
+            TaskName::Batch => self.names.listed(),
         }
     }
 }
@@ -119,6 +124,16 @@ impl<'w> Names<'w> {
         }
     }
 
+    // What `batch` does with them.
+    fn listed(self) -> Option<Task<'w>>
+        ensures { option_map task_read result ≡ task_of AnyName.Batch (names_read self.entry) }
+    {
+        match self {
+            Names::Two(catalog, list) => Some(Task::Batch(ListFiles { catalog, list })),
+            _ => None,
+        }
+    }
+
     // What `gen` does with them.
     fn generated(self) -> Option<Task<'w>>
         ensures { option_map task_read result ≡ task_of AnyName.Gen (names_read self.entry) }
@@ -128,6 +143,19 @@ impl<'w> Names<'w> {
                 input: read_input(number, tables, shape)?,
             })),
             _ => None,
+        }
+    }
+}
+
+impl<'w> Task<'w> {
+    // Its name.
+    fn name(self) -> TaskName
+        ensures { result ≡ task_name (task_read self.entry) }
+    {
+        match self {
+            Task::Plan(_) => TaskName::Plan,
+            Task::Gen(_) => TaskName::Gen,
+            Task::Batch(_) => TaskName::Batch,
         }
     }
 }

@@ -16,7 +16,7 @@ mod roots;
 mod words;
 
 pub use choices::Choices;
-pub use command::{Command, Files, GenInput, GenTask, Task};
+pub use command::{Command, Files, GenInput, GenTask, ListFiles, Task};
 pub use laws::commands_are_spelled;
 pub use numbers::number_within;
 pub use off_rules::read_off;

@@ -1,12 +1,18 @@
 //! The tasks, the options, and which task takes which.
 ghost use Rattle.std.specs.Prelude.{◌≡◌, ◌<◌};
-ghost use Rattle.command_line.specs.Options.{option_number, options_of, takes_option, takes_value as takes};
+ghost use Rattle.command_line.specs.Options.{allows as are_allowed, option_number, options_of, takes_option, takes_value as takes};
+
+use crate::choices::Choices;
+
+/// The most cells that the boards of all workers of a batch may have together.
+const BATCH_CELLS: u64 = 8_388_608;
 
 /// The tasks, each named by the first word of a command.
 #[derive(Clone, Copy)]
 pub enum TaskName {
     Plan,
     Gen,
+    Batch,
 }
 
 /// The options.
@@ -37,6 +43,14 @@ impl TaskName {
                 OptionName::ByWorker,
             ],
             TaskName::Gen => &[OptionName::Workers, OptionName::Capacity],
+            TaskName::Batch => &[
+                OptionName::Workers,
+                OptionName::Capacity,
+                OptionName::Root,
+                OptionName::Off,
+                OptionName::Memo,
+                OptionName::Trace,
+            ],
         }
     }
 
@@ -50,6 +64,18 @@ impl TaskName {
             }
         }
         false
+    }
+
+    /// Whether it allows what is chosen for it.
+    pub fn allows(self, choices: Choices) -> bool
+        ensures { result ≡ are_allowed self choices }
+    {
+        match self {
+            TaskName::Plan | TaskName::Gen => true,
+            TaskName::Batch => {
+                u64::from(choices.workers) * u64::from(choices.capacity) <= BATCH_CELLS
+            }
+        }
     }
 }
 

@@ -28,6 +28,7 @@ fn read_task(word: &str) -> Option<TaskName>
     match word {
         "plan" => Some(TaskName::Plan),
         "gen" => Some(TaskName::Gen),
+        "batch" => Some(TaskName::Batch),
         _ => None,
     }
 }

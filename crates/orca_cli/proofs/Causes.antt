@@ -1,21 +1,24 @@
 -- What follows from how a run ends.
-use Rattle.std.proofs.Common.{◌≡◌, List, [], ◌∷◌, ℕ, Option, None, Some, refl, sym, ◌∙◌, subst, inl, inr}
+use Rattle.std.proofs.Common.{◌≡◌, ◌⊎◌, List, [], ◌∷◌, ℕ, Option, None, Some, refl, sym, ◌∙◌, subst, inl, inr}
 use Rattle.orca_base.specs.Causes.{Rose}
-use Rattle.query_core.specs.declared.options.Options.{Options}
 use Rattle.query_core.specs.declared.query.Query.{Query}
-use Rattle.command_line.specs.Command.{FileNames, AnyTask, AnyCommand, plan, gen}
+use Rattle.command_line.specs.Command.{FileNames, ListNames, AnyTask, AnyCommand, plan, gen, batch}
 use Rattle.command_line.specs.declared.choices.Choices.{Choices}
 use Rattle.command_line.specs.declared.command.GenInput.{GenInput}
-use Rattle.orca_cli.specs.Causes.{HoldsRefused, ReadRose, Completes, HasCauses, EndsHaveCauses}
-use Rattle.orca_cli.specs.Prepared.{Reads, generated_in, TaskStops, unread, unusable, by_catalog, by_query}
-use Rattle.orca_cli.specs.Run.{Note, IsSearchEnd, planned, unplanned, too_many, IsEnding, answered, stopped, IsRun}
-use Rattle.orca_cli.specs.Run.{Puts, Ends, whole, cut_short, nothing}
+use Rattle.orca_cli.specs.Answers.{Note, IsSearchEnd, planned, unplanned, too_many}
+use Rattle.orca_cli.specs.Batches.{IsBatch}
+use Rattle.orca_cli.specs.Causes.{HoldsRefused, HoldsList, ReadRose, HasNoFault, Completes, HasCauses, EndsHaveCauses}
+use Rattle.orca_cli.specs.Lists.{IsListRefused}
+use Rattle.orca_cli.specs.Prepared.{Reads, generated_in, TaskStops, unread, unusable, by_catalog, by_file}
+use Rattle.orca_cli.specs.Run.{IsOwnEnd, IsEnding, answered, own_end, stopped, IsRun, Puts, Ends, whole, cut_short}
+use Rattle.orca_cli.specs.Run.{nothing}
 use Rattle.orca_cli.specs.Sections.{Tells}
-use Rattle.orca_cli.specs.Status.{IsOneOf, searched, settled, overflowed, turned_down, finished}
+use Rattle.orca_cli.specs.Status.{IsOneOf, searched, settled, overflowed, turned_down, finished, listed, list_refused}
 use Rattle.orca_cli.specs.declared.status.Status.{Status}
 use Rattle.orca_cli.specs.declared.status.Status.TheVariants.{Usage, QueryRefused, CatalogRefused}
-use Rattle.orca_cli.specs.declared.status.Status.TheVariants.{ReadFault, WriteFault, Memory}
-use Rattle.orca_cli.proofs.OneAnswer.{OneAnswer, answer_of, settled_search, overflow_search, refusal_of, sure_search}
+use Rattle.orca_cli.specs.declared.status.Status.TheVariants.{ReadFault, WriteFault, Memory, BatchRefused}
+use Rattle.orca_cli.proofs.OneAnswer.{OneAnswer, answer_of, batch_of, settled_search, overflow_search, refusal_of}
+use Rattle.orca_cli.proofs.OneAnswer.{sure_search}
 
 -- ---- the statuses of endings
 
@@ -30,26 +33,43 @@ search_status Tells choices query note status text (too_many is more line count 
 data EndedBy (task : AnyTask) (shelf : Reads) (status : Status) : Type 0 where
   by_search : IsOneOf searched status → EndedBy task shelf status
   by_refusal : IsOneOf (QueryRefused ∷ CatalogRefused ∷ []) status → EndedBy task shelf status
+  by_list : status ≡ BatchRefused → (files : ListNames) → task ≡ batch files → EndedBy task shelf status
   by_fault : status ≡ ReadFault → ReadRose task shelf → EndedBy task shelf status
 
-stop_status : (task : AnyTask) (options : Options) (shelf : Reads) (status : Status) (text : List ℕ)
-    → TaskStops task options shelf status text → EndedBy task shelf status
-stop_status (plan files) options shelf status text (by_catalog (unread is)) = by_fault is.fault (inl is.rose)
-stop_status (plan files) options shelf status text (by_catalog (unusable bytes told none)) =
+stop_status : (task : AnyTask) (choices : Choices) (shelf : Reads) (status : Status) (text : List ℕ)
+    → TaskStops task choices shelf status text → EndedBy task shelf status
+stop_status (plan files) choices shelf status text (by_catalog (unread is)) = by_fault is.fault (inl is.rose)
+stop_status (plan files) choices shelf status text (by_catalog (unusable bytes told none)) =
     by_refusal (inr (inl none.refused))
-stop_status (plan files) options shelf status text (by_query catalog offers (unread is)) =
+stop_status (plan files) choices shelf status text (by_file catalog offers (unread is)) =
     by_fault is.fault (inr is.rose)
-stop_status (plan files) options shelf status text (by_query catalog offers (unusable bytes told why)) =
+stop_status (plan files) choices shelf status text (by_file catalog offers (unusable bytes told why)) =
     by_refusal (inl why.refused)
-stop_status (gen input) options shelf status text stop = absurd stop
+stop_status (gen input) choices shelf status text stop = absurd stop
+stop_status (batch files) choices shelf status text (by_catalog (unread is)) = by_fault is.fault (inl is.rose)
+stop_status (batch files) choices shelf status text (by_catalog (unusable bytes told none)) =
+    by_refusal (inr (inl none.refused))
+stop_status (batch files) choices shelf status text (by_file catalog offers (unread is)) =
+    by_fault is.fault (inr is.rose)
+stop_status (batch files) choices shelf status text (by_file catalog offers (unusable bytes told why)) =
+    by_list why.refused files refl
+
+-- a batch ends as a search that found a plan
+own_status : (task : AnyTask) (choices : Choices) (shelf : Reads) (status : Status) (text : List ℕ)
+    → IsOwnEnd task choices shelf.held status text → EndedBy task shelf status
+own_status (plan files) choices shelf status text own = absurd own
+own_status (gen input) choices shelf status text own = absurd own
+own_status (batch files) choices shelf status text own = by_search (inl own.is_batch.done)
 
 ended_by : (command : AnyCommand) (shelf : Reads) (empty note : Note) (status : Status) (text : List ℕ)
     → IsEnding command shelf empty note status text → EndedBy command.task shelf status
 ended_by command shelf empty note status text (answered query asks found) =
     by_search (search_status (Tells (generated_in command.task) command.choices query) command.choices query note status
     text found)
+ended_by command shelf empty note status text (own_end own kept) =
+    own_status command.task command.choices shelf status text own
 ended_by command shelf empty note status text (stopped stop kept) =
-    stop_status command.task command.choices.options shelf status text stop
+    stop_status command.task command.choices shelf status text stop
 
 module _ (task : AnyTask) (shelf : Reads) (status : Status) where
   -- no ending is that of other words
@@ -61,6 +81,7 @@ module _ (task : AnyTask) (shelf : Reads) (status : Status) where
   never_usage (by_refusal (inr (inl is))) other = cc
   never_usage (by_search (inr (inr (inr none)))) other = absurd none
   never_usage (by_refusal (inr (inr none))) other = absurd none
+  never_usage (by_list is files task) other = cc
   never_usage (by_fault is rose) other = cc
 
   -- nor of a sink that failed
@@ -72,6 +93,7 @@ module _ (task : AnyTask) (shelf : Reads) (status : Status) where
   never_write (by_refusal (inr (inl is))) other = cc
   never_write (by_search (inr (inr (inr none)))) other = absurd none
   never_write (by_refusal (inr (inr none))) other = absurd none
+  never_write (by_list is files task) other = cc
   never_write (by_fault is rose) other = cc
 
   -- that of a read fault has a count that rose
@@ -83,7 +105,20 @@ module _ (task : AnyTask) (shelf : Reads) (status : Status) where
   read_rose (by_refusal (inr (inl is))) fault = cc
   read_rose (by_search (inr (inr (inr none)))) fault = absurd none
   read_rose (by_refusal (inr (inr none))) fault = absurd none
+  read_rose (by_list is files task) fault = cc
   read_rose (by_fault is rose) fault = rose
+
+  -- that of a refused list is a batch's
+  list_of : EndedBy task shelf status → status ≡ BatchRefused → (files : ListNames) × (task ≡ batch files)
+  list_of (by_search (inl is)) refused = cc
+  list_of (by_search (inr (inl is))) refused = cc
+  list_of (by_search (inr (inr (inl is)))) refused = cc
+  list_of (by_refusal (inl is)) refused = cc
+  list_of (by_refusal (inr (inl is))) refused = cc
+  list_of (by_search (inr (inr (inr none)))) refused = absurd none
+  list_of (by_refusal (inr (inr none))) refused = absurd none
+  list_of (by_list is files task) refused = (files, task)
+  list_of (by_fault is rose) refused = cc
 
 -- ---- the status of the run
 
@@ -144,6 +179,37 @@ module _ (one : OneAnswer) (named : Option AnyCommand) (shelf : Reads) (empty no
       of_named n (cut_short fault rose ended text ending taken) = rose
       of_named n (nothing memory kept) = cc
 
+  list_cause_of : status ≡ BatchRefused → (command : AnyCommand) × (files : ListNames) × (named ≡ Some command)
+      × (command.task ≡ batch files)
+  list_cause_of is = of_named named refl ends
+    where
+      of_named : (n : Option AnyCommand) → named ≡ n → Ends (IsRun n shelf empty note) sink status
+          → (command : AnyCommand) × (files : ListNames) × (named ≡ Some command) × (command.task ≡ batch files)
+      of_named None same (whole text run taken) = let other : Usage ≡ BatchRefused = sym run.0.0 ∙ is in cc
+      of_named (Some command) same (whole text ending taken) =
+          let (files, task) = list_of command.task shelf status (ended_by command shelf empty note status text ending) is
+          in (command, files, same, task)
+      of_named n same (cut_short fault rose ended text ending taken) = cc
+      of_named n same (nothing memory kept) = cc
+
+  -- a batch over a list that is held ends with its answers, or with its refusal, where there is no fault
+  batch_there : (P : Status → Type 0) (command : AnyCommand) (files : ListNames) (cause : Option (List ℕ))
+      → P Memory → named ≡ Some command → command.task ≡ batch files
+      → (held : HoldsList files command.choices.capacity shelf.held cause) → HasNoFault command.task shelf sink
+      → ((s : Status) (t : List ℕ) → IsListRefused command.choices.capacity held.list s t → P s)
+      → ((s : Status) (t : List ℕ) → IsBatch held.catalog command.choices held.list s t → P s) → P status
+  batch_there P command files cause memory is task held none refused done =
+      given (IsEnding command shelf empty note) P sink status memory
+      (λ s t ending. of_either s t (batch_of files command.choices shelf held.catalog held.list held.holds note s t empty
+      (subst (λ k. ReadRose k shelf → ⊥) task none.reads)
+      (subst (λ k. IsEnding (record { task = k; choices = command.choices }) shelf empty note s t) task ending)))
+      none.writes (of_command command is)
+    where
+      of_either : (s : Status) (t : List ℕ) → IsListRefused command.choices.capacity held.list s t
+          ⊎ IsBatch held.catalog command.choices held.list s t → P s
+      of_either s t (inl why) = refused s t why
+      of_either s t (inr answers) = done s t answers
+
   causes : HasCauses named shelf sink status
   causes = record {
     completes = completed;
@@ -163,6 +229,13 @@ module _ (one : OneAnswer) (named : Option AnyCommand) (shelf : Reads) (empty no
     finishes = λ command input is task none.
         given (IsEnding command shelf empty note) (IsOneOf finished) sink status (inr (inr (inr (inl refl))))
         (λ s t ending. finished_ending command input task s t ending) none.writes (of_command command is);
+    batch_refused = list_cause_of;
+    lists = λ command files is task held none.
+        batch_there (IsOneOf listed) command files None (inr (inl refl)) is task held none
+        (λ s t why. let usable = held.is_cause in let caused = why.caused in cc) (λ s t answers. inl answers.done);
+    refuses_list = λ command files cause is task held none.
+        batch_there (IsOneOf list_refused) command files (Some cause) (inr (inl refl)) is task held none
+        (λ s t why. inl why.refused) (λ s t answers. let caused = held.is_cause in let usable = answers.usable in cc);
   }
     where
       refused_ending : (command : AnyCommand) (files : FileNames) → command.task ≡ plan files
@@ -186,8 +259,10 @@ module _ (one : OneAnswer) (named : Option AnyCommand) (shelf : Reads) (empty no
           of_search (inr (inl is)) = inr (inl is)
           of_search (inr (inr (inl is))) = inr (inr (inl is))
           of_search (inr (inr (inr none))) = absurd none
+      finished_ending command input task s t (own_end own kept) =
+          absurd (subst (λ k. IsOwnEnd k command.choices shelf.held s t) task own)
       finished_ending command input task s t (stopped stop kept) =
-          absurd (subst (λ k. TaskStops k command.choices.options shelf s t) task stop)
+          absurd (subst (λ k. TaskStops k command.choices shelf s t) task stop)
 
 -- what follows from how a run ends
 pub causes_of : OneAnswer → EndsHaveCauses

@@ -1,11 +1,19 @@
 -- What is put of the end of a run.
-use Rattle.std.proofs.Common.{◌≡◌, ℕ, List, Option, None, Some, sym, subst}
-use Rattle.query_core.specs.declared.query.Query.{Query}
-use Rattle.command_line.specs.Command.{AnyCommand}
-use Rattle.orca_cli.specs.Prepared.{Reads, generated_in, IsAskedBy, Stops}
-use Rattle.orca_cli.specs.Run.{Note, IsSearchEnd, answered, stopped, IsRun, Puts, Ends, whole, cut_short, nothing}
+use Rattle.std.proofs.Common.{◌≡◌, ℕ, List, Option, None, Some, refl, sym, subst}
+use Rattle.command_line.specs.Command.{ListNames, AnyTask, AnyCommand, plan, gen, batch}
+use Rattle.command_line.specs.Views.{command_read, task_read}
+use Rattle.command_line.specs.declared.command.GenInput.{GenInput}
+use Rattle.orca_cli.specs.Answers.{Note, IsSearchEnd}
+use Rattle.orca_cli.specs.Batches.{IsBatch}
+use Rattle.orca_cli.specs.Lists.{IsListRefused}
+use Rattle.orca_cli.specs.Prepared.{Reads, generated_in, IsAskedBy, unusable, by_file, Stops}
+use Rattle.orca_cli.specs.Run.{IsEnding, answered, own_end, stopped, IsRun, Puts, Ends, whole, cut_short, nothing}
 use Rattle.orca_cli.specs.Sections.{Tells}
-use Rattle.orca_cli.specs.Views.{EndsAs, EndsWith, IsEndOf, text_of}
+use Rattle.orca_cli.specs.Views.{EndsAs, EndsWith, IsEndOf, text_of, AreListed, AsksFor, IsWanted}
+use Rattle.orca_cli.specs.declared.asked.Asked.{Asked}
+use Rattle.orca_cli.specs.declared.asked.Listed.{Listed}
+use Rattle.orca_cli.specs.declared.asked.Wanted.{Wanted}
+use Rattle.orca_cli.specs.declared.asked.Work.TheVariants as works
 use Rattle.orca_cli.specs.declared.ending.End.{End}
 use Rattle.orca_cli.specs.declared.ending.End.TheVariants as ends
 use Rattle.orca_cli.specs.declared.ending.Ending.{Ending}
@@ -35,16 +43,55 @@ pub ends_then : (P Q : Status → List ℕ → Type 0) (end : End) → ((s : Sta
 ends_then P Q (ends.Told ending) step fact = step ending.status (text_of ending) fact
 ends_then P Q ends.Memory step fact = tt
 
--- the end of a run that searched the query for which its command asks
-pub searched_run : (named : Option AnyCommand) (command : AnyCommand) (shelf : Reads) (empty note : Note)
-    (query : Query) (end : End) → named ≡ Some command
-    → IsAskedBy command.task command.choices.options shelf.held query
-    → EndsWith (IsSearchEnd (Tells (generated_in command.task) command.choices query) command.choices query note) end
-    → EndsWith (IsRun named shelf empty note) end
-searched_run named command shelf empty note query end is asks search =
-    ends_then (IsSearchEnd (Tells (generated_in command.task) command.choices query) command.choices query note)
-    (IsRun named shelf empty note) end
-    (λ s t found. subst (λ n. IsRun n shelf empty note s t) (sym is) (answered query asks found)) search
+-- a run that searched the query for which its command asks
+pub query_run : (named : Option AnyCommand) (shelf : Reads) (empty note : Note) (wanted : Wanted) (asked : Asked)
+    (input : Option GenInput) (status : Status) (text : List ℕ) → wanted.work ≡ works.Query asked
+    → IsWanted named shelf.held wanted → input ≡ generated_in (task_read wanted.command.task)
+    → IsSearchEnd (Tells input wanted.command.choices asked.query) wanted.command.choices asked.query note status text
+    → IsRun named shelf empty note status text
+query_run named shelf empty note wanted asked input status text work is made found =
+    let command = command_read wanted.command in
+    let asks : IsAskedBy command.task command.choices.options shelf.held asked.query =
+    subst (AsksFor command.task command.choices.options shelf.held) work is.asks_for in
+    subst (λ n. IsRun n shelf empty note status text) (sym is.named_is) (answered asked.query asks
+    (subst (λ i. IsSearchEnd (Tells i command.choices asked.query) command.choices asked.query note status text) made
+    found))
+
+-- a run of a batch, which leaves the note as it was
+module _ (named : Option AnyCommand) (shelf : Reads) (note : Note) (wanted : Wanted) (listed : Listed)
+    (work : wanted.work ≡ works.List listed) (is : IsWanted named shelf.held wanted) (status : Status)
+    (text : List ℕ) where
+  -- its command asks for the list
+  list_run : ((files : ListNames) → AreListed files shelf.held listed
+      → IsEnding (record { task = batch files; choices = wanted.command.choices }) shelf note note status text)
+      → IsRun named shelf note note status text
+  list_run ends =
+      subst (λ n. IsRun n shelf note note status text) (sym is.named_is)
+      (of_task (task_read wanted.command.task) (subst (AsksFor (task_read wanted.command.task)
+      wanted.command.choices.options shelf.held) work is.asks_for))
+    where
+      of_task : (task : AnyTask) → AsksFor task wanted.command.choices.options shelf.held (works.List listed)
+          → IsEnding (record { task = task; choices = wanted.command.choices }) shelf note note status text
+      of_task (plan files) asks = absurd asks
+      of_task (gen input) asks = absurd asks
+      of_task (batch files) asks = ends files asks
+
+  -- each line was answered
+  pub answered_run : IsBatch listed.catalog wanted.command.choices listed.list.items status text
+      → IsRun named shelf note note status text
+  answered_run answers = list_run (λ files are. own_end (record {
+    catalog = listed.catalog;
+    offers = are.offers;
+    list = listed.list.items;
+    told = are.told;
+    is_batch = answers;
+  }) refl)
+
+  -- the list was refused
+  pub refused_run : IsListRefused wanted.command.choices.capacity listed.list.items status text
+      → IsRun named shelf note note status text
+  refused_run why = list_run (λ files are.
+      stopped (by_file listed.catalog are.offers (unusable listed.list.items are.told why)) refl)
 
 -- the end of a run that searched nothing, and left the note as it was
 pub stopped_run : (named : Option AnyCommand) (shelf : Reads) (empty note : Note) (end : End) → note ≡ empty

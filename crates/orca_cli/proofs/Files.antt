@@ -1,9 +1,11 @@
 -- What a file's bytes say, and how a run ends that can't go on with them.
-use Rattle.std.proofs.Common.{◌≡◌, ◌≢◌, ℕ, ◌+◌, ◌<◌, ◌≤◌, ◌^◌, List, length, Option, None, Some, Err}
+use Rattle.std.proofs.Common.{◌≡◌, ◌≢◌, ℕ, ◌+◌, ◌<◌, ◌≤◌, ◌^◌, List, length, Option, None, Some, Result, Err, IfErr, codes, nat_lt, true, false}
 use Rattle.std.proofs.Common.{refl, sym, subst, ap, arith, inl, inr}
 use Rattle.std.specs.Prelude.{replicate}
 use Rattle.std.proofs.lemmas.Bool.{lt-ltb}
+use Rattle.std.proofs.lemmas.Bool.Decides.{nat_tests}
 use Rattle.std.proofs.lemmas.List.{length-replicate}
+use Rattle.std.proofs.lemmas.Result.{IfErr-weaker}
 use Rattle.query_core.specs.declared.catalog.Catalog.{Catalog}
 use Rattle.query_core.specs.declared.options.Options.{Options}
 use Rattle.query_core.specs.declared.query.Query.{Query}
@@ -25,12 +27,15 @@ use Rattle.request_props.specs.declared.fault.PropsFault.TheVariants as limits
 use Rattle.command_line.specs.Command.{FileNames}
 use Rattle.orca_cli.specs.Asked.{IsNoCatalog, IsBoundAs, IsUnread, IsUnbound, IsUnnumbered, IsRefused}
 use Rattle.orca_cli.specs.Prepared.{Reads, reads, AreTold, Offers, IsAskedAt, FilesAsk, IsCatalogRefused, IsQueryRefused}
-use Rattle.orca_cli.specs.Prepared.{FileStops, unread, unusable}
+use Rattle.orca_cli.specs.Lists.{lines_of, are_too_many, IsListRefused}
+use Rattle.orca_cli.specs.Prepared.{IsReadFault, FileStops, unread, unusable, FilesStop, by_catalog, by_file}
 use Rattle.orca_cli.specs.Texts as texts
-use Rattle.orca_cli.specs.Views.{EndsAs, text_of}
+use Rattle.orca_cli.specs.Views.{EndsAs, EndsWith, text_of}
+use Rattle.orca_cli.specs.declared.ending.End.{End}
 use Rattle.orca_cli.specs.declared.ending.Ending.{Ending}
 use Rattle.orca_cli.specs.declared.status.Status.{Status}
-use Rattle.orca_cli.specs.declared.status.Status.TheVariants.{QueryRefused, CatalogRefused}
+use Rattle.orca_cli.specs.declared.status.Status.TheVariants.{QueryRefused, CatalogRefused, BatchRefused}
+use Rattle.orca_cli.proofs.Ended.{ends_then}
 
 -- what holds of a status and a text holds of an ending that has them
 pub as_ended : (P : Status → List ℕ → Type 0) (ending : Ending) (status : Status) (text : List ℕ)
@@ -59,20 +64,55 @@ too_long : (bytes : List ℕ) → 1048576 < length bytes → reading_of bytes �
 unfolding reading_of
 too_long bytes long = rw (lt-ltb 1048576 (length bytes) long) refl
 
--- a catalogue's file over the limit is refused as too long
-pub long_catalog : (name : List ℕ) (shelf : Reads) → Exceeds (shelf.held name) 1048576
-    → FileStops IsCatalogRefused name shelf CatalogRefused (texts.catalog_refused (texts.catalog_cause catalogs.TooLong))
-long_catalog name shelf exceeds =
-    let long = exceeding (shelf.held name) 1048576 exceeds in
-    let none : IsNoCatalog long.bytes (texts.catalog_cause catalogs.TooLong) =
-    record {
-      fault = catalogs.TooLong;
-      first = too_long long.bytes long.long;
-      not_memory = λ same. cc;
-      caused = refl;
-    } in
-    unusable long.bytes long.told
-    (record { refused = refl; cause = texts.catalog_cause catalogs.TooLong; no_catalog = none; line = refl })
+-- a file over the limit is refused for that
+pub long_file : (Refuses : List ℕ → Status → List ℕ → Type 0) (name : List ℕ) (shelf : Reads) (limit : ℕ)
+    (status : Status) (text : List ℕ) → ((bytes : List ℕ) → limit < length bytes → Refuses bytes status text)
+    → Exceeds (shelf.held name) limit → FileStops Refuses name shelf status text
+long_file Refuses name shelf limit status text refuses exceeds =
+    let long = exceeding (shelf.held name) limit exceeds in
+    unusable long.bytes long.told (refuses long.bytes long.long)
+
+-- bytes over the limit are refused as no catalogue
+pub long_catalog : (bytes : List ℕ) → 1048576 < length bytes
+    → IsCatalogRefused bytes CatalogRefused (texts.catalog_refused (texts.catalog_cause catalogs.TooLong))
+long_catalog bytes long =
+    let none : IsNoCatalog bytes (texts.catalog_cause catalogs.TooLong) =
+    record { fault = catalogs.TooLong; first = too_long bytes long; not_memory = λ same. cc; caused = refl } in
+    record { refused = refl; cause = texts.catalog_cause catalogs.TooLong; no_catalog = none; line = refl }
+
+-- and as no list
+pub long_list : (capacity : ℕ) (bytes : List ℕ) → 1048576 < length bytes
+    → IsListRefused capacity bytes BatchRefused (texts.batch_refused (codes "too long"))
+long_list capacity bytes long = record {
+  refused = refl;
+  cause = codes "too long";
+  caused = rw (lt-ltb 1048576 (length bytes) long) refl;
+  line = refl;
+}
+
+-- a list with too many lines for the capacity
+pub crowded_list : (capacity count : ℕ) (bytes : List ℕ) → length bytes ≤ 1048576
+    → count ≡ length (lines_of bytes) → are_too_many count capacity ≡ true
+    → IsListRefused capacity bytes BatchRefused (texts.batch_refused (codes "too many queries"))
+crowded_list capacity count bytes short is many =
+    let here : are_too_many (length (lines_of bytes)) capacity ≡ true =
+    subst (λ (n : ℕ). are_too_many n capacity ≡ true) is many in
+    let not_long : nat_lt 1048576 (length bytes) ≡ false = grind (arith, nat_tests) in
+    record { refused = refl; cause = codes "too many queries"; caused = rw (not_long, here) refl; line = refl }
+
+-- ---- files that were read, or not
+
+module _ (Refuses : List ℕ → Status → List ℕ → Type 0) (name : List ℕ) (shelf : Reads) where
+  -- the bytes that were read are refused
+  pub file_refused : {A : Type 0} (bytes : List ℕ) (result : Result A End) → AreTold (shelf.held name) bytes
+      → IfErr result (EndsWith (Refuses bytes)) → IfErr result (EndsWith (FileStops Refuses name shelf))
+  file_refused bytes result told = IfErr-weaker result _ _
+      (λ end stops. ends_then (Refuses bytes) (FileStops Refuses name shelf) end (λ s t why. unusable bytes told why)
+      stops)
+
+  -- the file couldn't be read
+  pub file_unread : (end : End) → EndsWith (IsReadFault name shelf) end → EndsWith (FileStops Refuses name shelf) end
+  file_unread end = ends_then (IsReadFault name shelf) (FileStops Refuses name shelf) end (λ s t is. unread is)
 
 -- ---- bytes that are refused
 
@@ -137,15 +177,12 @@ module _ (catalog : Catalog) (options : Options) (bytes : List ℕ) where
       no_query (texts.props_cause fault) given (inr (inr why)) same
 
 -- a text over the limit is refused as too long
-pub long_query : (catalog : Catalog) (options : Options) (name : List ℕ) (shelf : Reads)
-    → ((bytes : List ℕ) → 2 ^ 16 < length bytes → IsFirst bytes selects.TooLong) → Exceeds (shelf.held name) 65536
-    → FileStops (IsQueryRefused catalog options) name shelf QueryRefused
-    (texts.query_refused (texts.sql_cause selects.TooLong))
-long_query catalog options name shelf first exceeds =
-    let long = exceeding (shelf.held name) 65536 exceeds in
-    unusable long.bytes long.told
-    (unread_query catalog options long.bytes (texts.sql_cause selects.TooLong) selects.TooLong
-    (first long.bytes long.long) refl)
+pub long_query : (catalog : Catalog) (options : Options)
+    → ((bytes : List ℕ) → 2 ^ 16 < length bytes → IsFirst bytes selects.TooLong) → (bytes : List ℕ)
+    → 65536 < length bytes
+    → IsQueryRefused catalog options bytes QueryRefused (texts.query_refused (texts.sql_cause selects.TooLong))
+long_query catalog options first bytes long =
+    unread_query catalog options bytes (texts.sql_cause selects.TooLong) selects.TooLong (first bytes long) refl
 
 -- ---- two files
 
@@ -167,6 +204,27 @@ stops_later Refuses name held told before middle after status text same later (u
     })
 stops_later Refuses name held told before middle after status text same later (unusable bytes are why) =
     unusable bytes (subst (λ h. AreTold h bytes) same are) why
+
+-- two files of which the first one stops the run
+pub first_stops : (Refuses : Catalog → List ℕ → Status → List ℕ → Type 0) (catalog_name name : List ℕ) (shelf : Reads)
+    (end : End) → EndsWith (FileStops IsCatalogRefused catalog_name shelf) end
+    → EndsWith (FilesStop Refuses catalog_name name shelf) end
+first_stops Refuses catalog_name name shelf end =
+    ends_then (FileStops IsCatalogRefused catalog_name shelf) (FilesStop Refuses catalog_name name shelf) end
+    (λ s t stop. by_catalog stop)
+
+-- two files of which the second one stops the run
+pub second_stops : {A : Type 0} (Refuses : Catalog → List ℕ → Status → List ℕ → Type 0) (catalog_name name : List ℕ)
+    (held told : List ℕ → Option (List ℕ)) (before middle after : List ℕ → ℕ) (catalog : Catalog) (result : Result A End)
+    → Offers (held catalog_name) catalog → told name ≡ held name → ((n : List ℕ) → before n ≤ middle n)
+    → IfErr result (EndsWith (FileStops (Refuses catalog) name (reads told middle after)))
+    → IfErr result (EndsWith (FilesStop Refuses catalog_name name (reads held before after)))
+second_stops Refuses catalog_name name held told before middle after catalog result offers same later =
+    IfErr-weaker result _ _
+    (λ end stops. ends_then (FileStops (Refuses catalog) name (reads told middle after))
+    (FilesStop Refuses catalog_name name (reads held before after)) end
+    (λ s t stop. by_file catalog offers
+    (stops_later (Refuses catalog) name held told before middle after s t same later stop)) stops)
 
 -- the query for which two files ask, where the shelf tells of the second one what it told before
 pub files_ask : (files : FileNames) (options : Options) (held : List ℕ → Option (List ℕ)) (told : Option (List ℕ))

@@ -8,6 +8,8 @@ pub mod Searching
 pub mod OneAnswer
 pub mod Causes
 pub mod Ended
+pub mod ListLines
+pub mod LineEnds
 pub mod Made
 pub mod FirstLines
 pub mod Outcomes

@@ -1,5 +1,5 @@
 -- The answer to a text over a catalogue is one: the search of its query, or its refusal.
-use Rattle.std.proofs.Common.{◌≡◌, ℕ, List, Option, None, Some, Ok, Err, IfSome, subst, inl, inr}
+use Rattle.std.proofs.Common.{◌≡◌, ◌⊎◌, ℕ, List, Option, None, Some, Ok, Err, IfSome, subst, inl, inr}
 use Rattle.query_core.specs.declared.catalog.Catalog.{Catalog}
 use Rattle.query_core.specs.declared.options.Options.{Options}
 use Rattle.query_core.specs.declared.query.Query.{Query}
@@ -11,15 +11,19 @@ use Rattle.sql_print.specs.Canonical.{canonical_text}
 use Rattle.query_generator.specs.Catalog.{catalog_of}
 use Rattle.query_generator.specs.Select.{select_of}
 use Rattle.job_outcome.specs.Outcomes.{HasMoreEntries, FitsIn}
-use Rattle.command_line.specs.Command.{FileNames, AnyTask, plan, gen}
+use Rattle.command_line.specs.Command.{FileNames, ListNames, AnyTask, plan, gen, batch}
 use Rattle.command_line.specs.declared.choices.Choices.{Choices}
 use Rattle.command_line.specs.declared.command.GenInput.{GenInput}
+use Rattle.orca_cli.specs.Answers.{HasRoom, Note, IsSearchEnd, planned, unplanned, too_many}
+use Rattle.orca_cli.specs.Answers.{IsAnswer, searched, turned_down}
 use Rattle.orca_cli.specs.Asked.{SaysCatalog, IsNoCatalog, Asks, IsRefused}
-use Rattle.orca_cli.specs.Causes.{Holds, SurelyAsks, ReadRose}
+use Rattle.orca_cli.specs.Batches.{IsBatch}
+use Rattle.orca_cli.specs.Causes.{Holds, SurelyAsks, OneRose, ReadRose}
 use Rattle.orca_cli.specs.Generated.{IsGenerated}
-use Rattle.orca_cli.specs.Prepared.{Reads, AreTold, generated_in, FilesAsk, IsQueryRefused}
-use Rattle.orca_cli.specs.Prepared.{unread, unusable, FilesStop, by_catalog, by_query}
-use Rattle.orca_cli.specs.Run.{HasRoom, Note, IsSearchEnd, planned, unplanned, too_many, IsEnding, answered, stopped}
+use Rattle.orca_cli.specs.Lists.{IsListRefused}
+use Rattle.orca_cli.specs.Prepared.{Reads, AreTold, Offers, generated_in, IsQueryRefused}
+use Rattle.orca_cli.specs.Prepared.{unread, unusable, FilesStop, by_catalog, by_file}
+use Rattle.orca_cli.specs.Run.{IsEnding, answered, own_end, stopped}
 use Rattle.orca_cli.specs.Sections.{Tells}
 use Rattle.orca_cli.specs.Status.{IsOneOf, settled, overflowed}
 use Rattle.orca_cli.specs.declared.status.Status.{Status}
@@ -48,53 +52,63 @@ some_catalog bytes cause catalog says none =
 
 -- ---- the answer to a text
 
--- the search of the query for which it asks, or its refusal
-pub data IsAnswer (catalog : Catalog) (choices : Choices) (asked : List ℕ) (note : Note) (status : Status)
-    (text : List ℕ) : Type 0 where
-  searched : (query : Query) → Asks catalog choices.options asked query
-      → IsSearchEnd (Tells None choices query) choices query note status text
-      → IsAnswer catalog choices asked note status text
-  turned_down : IsQueryRefused catalog choices.options asked status text
-      → IsAnswer catalog choices asked note status text
-
--- a run over files that hold a catalogue and a text ends with the answer to that text, where no count rose
-module _ (files : FileNames) (choices : Choices) (shelf : Reads) (catalog : Catalog) (asked : List ℕ)
-    (holds : Holds files shelf.held catalog asked) (note : Note) (status : Status) (text : List ℕ) where
-  -- the query for which the files ask is that of the text
-  asked_there : (query : Query) → FilesAsk files choices.options shelf.held query
-      → Asks catalog choices.options asked query
-  asked_there query asks =
-      let says : SaysCatalog holds.bytes asks.catalog =
-      subst (λ b. SaysCatalog b asks.catalog)
-      (told_one (shelf.held files.catalog) asks.offers.bytes holds.bytes asks.offers.told holds.bytes_told)
-      asks.offers.says in
-      subst (λ k. Asks k choices.options asked query) (one_catalog holds.bytes asks.catalog catalog says holds.says)
-      (subst (λ t. Asks asks.catalog choices.options t query)
-      (told_one (shelf.held files.query) asks.asked.asked asked asks.asked.told holds.text_told) asks.asked.asks)
-
-  -- the refusal is that of the text
-  refused_there : FilesStop files choices.options shelf status text → (ReadRose (plan files) shelf → ⊥)
-      → IsQueryRefused catalog choices.options asked status text
-  refused_there (by_catalog (unread is)) no_read = absurd (no_read (inl is.rose))
-  refused_there (by_catalog (unusable bytes told none)) no_read =
-      absurd (some_catalog holds.bytes none.cause catalog holds.says (subst (λ b. IsNoCatalog b none.cause)
-      (told_one (shelf.held files.catalog) bytes holds.bytes told holds.bytes_told) none.no_catalog))
-  refused_there (by_query other offers (unread is)) no_read = absurd (no_read (inr is.rose))
-  refused_there (by_query other offers (unusable bytes told why)) no_read =
+-- what a shelf holds under the names of a catalogue and of a text
+module _ (catalog_name name : List ℕ) (shelf : Reads) (catalog : Catalog) (asked : List ℕ)
+    (holds : Holds catalog_name name shelf.held catalog asked) where
+  -- the catalogue that is offered is the one that is held
+  offered_there : (other : Catalog) → Offers (shelf.held catalog_name) other → other ≡ catalog
+  offered_there other offers =
       let says : SaysCatalog holds.bytes other =
       subst (λ b. SaysCatalog b other)
-      (told_one (shelf.held files.catalog) offers.bytes holds.bytes offers.told holds.bytes_told) offers.says in
-      subst (λ k. IsQueryRefused k choices.options asked status text)
-      (one_catalog holds.bytes other catalog says holds.says)
-      (subst (λ t. IsQueryRefused other choices.options t status text)
-      (told_one (shelf.held files.query) bytes asked told holds.text_told) why)
+      (told_one (shelf.held catalog_name) offers.bytes holds.bytes offers.told holds.bytes_told) offers.says in
+      one_catalog holds.bytes other catalog says holds.says
 
-  -- so is the ending of the run
-  pub answer_of : (empty : Note) → (ReadRose (plan files) shelf → ⊥)
-      → IsEnding (record { task = plan files; choices = choices }) shelf empty note status text
-      → IsAnswer catalog choices asked note status text
-  answer_of empty no_read (answered query asks search) = searched query (asked_there query asks) search
-  answer_of empty no_read (stopped stop kept) = turned_down (refused_there stop no_read)
+  -- what stops a run is a refusal of the text, where no count rose
+  refused_there : (Refuses : Catalog → List ℕ → Status → List ℕ → Type 0) (status : Status) (text : List ℕ)
+      → FilesStop Refuses catalog_name name shelf status text → (OneRose shelf catalog_name name → ⊥)
+      → Refuses catalog asked status text
+  refused_there Refuses status text (by_catalog (unread is)) no_read = absurd (no_read (inl is.rose))
+  refused_there Refuses status text (by_catalog (unusable bytes told none)) no_read =
+      absurd (some_catalog holds.bytes none.cause catalog holds.says (subst (λ b. IsNoCatalog b none.cause)
+      (told_one (shelf.held catalog_name) bytes holds.bytes told holds.bytes_told) none.no_catalog))
+  refused_there Refuses status text (by_file other offers (unread is)) no_read = absurd (no_read (inr is.rose))
+  refused_there Refuses status text (by_file other offers (unusable bytes told why)) no_read =
+      subst (λ k. Refuses k asked status text) (offered_there other offers)
+      (subst (λ t. Refuses other t status text) (told_one (shelf.held name) bytes asked told holds.text_told) why)
+
+-- a run over files that hold a catalogue and a text ends with the answer to that text, where no count rose
+pub answer_of : (files : FileNames) (choices : Choices) (shelf : Reads) (catalog : Catalog) (asked : List ℕ)
+    → Holds files.catalog files.query shelf.held catalog asked → (note : Note) (status : Status) (text : List ℕ)
+    (empty : Note) → (ReadRose (plan files) shelf → ⊥)
+    → IsEnding (record { task = plan files; choices = choices }) shelf empty note status text
+    → IsAnswer catalog choices asked note status text
+answer_of files choices shelf catalog asked holds note status text empty no_read (answered query asks search) =
+    let told = told_one (shelf.held files.query) asks.asked.asked asked asks.asked.told holds.text_told in
+    searched query
+    (subst (λ k. Asks k choices.options asked query)
+    (offered_there files.catalog files.query shelf catalog asked holds asks.catalog asks.offers)
+    (subst (λ t. Asks asks.catalog choices.options t query) told asks.asked.asks)) search
+answer_of files choices shelf catalog asked holds note status text empty no_read (own_end own kept) = absurd own
+answer_of files choices shelf catalog asked holds note status text empty no_read (stopped stop kept) =
+    turned_down (refused_there files.catalog files.query shelf catalog asked holds
+    (λ k. IsQueryRefused k choices.options) status text stop no_read)
+
+-- and a batch with the answers to the lines of its list, or the list is refused
+pub batch_of : (files : ListNames) (choices : Choices) (shelf : Reads) (catalog : Catalog) (list : List ℕ)
+    → Holds files.catalog files.list shelf.held catalog list → (note : Note) (status : Status) (text : List ℕ)
+    (empty : Note) → (ReadRose (batch files) shelf → ⊥)
+    → IsEnding (record { task = batch files; choices = choices }) shelf empty note status text
+    → IsListRefused choices.capacity list status text ⊎ IsBatch catalog choices list status text
+batch_of files choices shelf catalog list holds note status text empty no_read (answered query asks search) =
+    absurd asks
+batch_of files choices shelf catalog list holds note status text empty no_read (own_end own kept) =
+    let told = told_one (shelf.held files.list) own.list list own.told holds.text_told in
+    inr (subst (λ k. IsBatch k choices list status text)
+    (offered_there files.catalog files.list shelf catalog list holds own.catalog own.offers)
+    (subst (λ t. IsBatch own.catalog choices t status text) told own.is_batch))
+batch_of files choices shelf catalog list holds note status text empty no_read (stopped stop kept) =
+    inl (refused_there files.catalog files.list shelf catalog list holds (λ k. IsListRefused choices.capacity) status
+    text stop no_read)
 
 -- what the layers below promise: a text has one reading or one fault, a query one list of links, and it has room or too
 -- many entries
@@ -174,4 +188,6 @@ sure_search one (plan files) choices shelf empty note status text query sure no_
 sure_search one (gen input) choices shelf empty note status text query made no_read (answered other again search) =
     subst (λ r. IsSearchEnd (Tells (Some input) choices r) choices r note status text)
     (one_generated one input choices.options other query again made) search
+sure_search one (gen input) choices shelf empty note status text query made no_read (own_end own kept) = absurd own
 sure_search one (gen input) choices shelf empty note status text query made no_read (stopped stop kept) = absurd stop
+sure_search one (batch files) choices shelf empty note status text query sure no_read ending = absurd sure

@@ -7,7 +7,7 @@ use Rattle.plan_tree.specs.declared.plan.Found.TheVariants as founds
 use Rattle.plan_lines.specs.Found.{IsFoundText}
 use Rattle.job_engine.specs.Runs.{Exceeds}
 use Rattle.command_line.specs.declared.choices.Choices.{Choices}
-use Rattle.orca_cli.specs.Run.{HasRoom, Note, noted, NotesGoals, IsSearchEnd, planned, unplanned, too_many}
+use Rattle.orca_cli.specs.Answers.{HasRoom, Note, noted, NotesGoals, IsSearchEnd, planned, unplanned, too_many}
 use Rattle.orca_cli.specs.Searches as searches
 use Rattle.orca_cli.specs.Searches.{IsPlanOf}
 use Rattle.orca_cli.specs.Texts as texts

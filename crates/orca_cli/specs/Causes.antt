@@ -5,52 +5,68 @@ use Rattle.query_core.specs.declared.catalog.Catalog.{Catalog}
 use Rattle.query_core.specs.declared.options.Options.{Options}
 use Rattle.query_core.specs.declared.query.Query.{Query}
 use Rattle.job_outcome.specs.Outcomes.{HasMoreEntries}
-use Rattle.command_line.specs.Command.{FileNames, AnyTask, AnyCommand, plan, gen}
+use Rattle.command_line.specs.Command.{FileNames, ListNames, AnyTask, AnyCommand, plan, gen, batch}
 use Rattle.command_line.specs.declared.command.GenInput.{GenInput}
 use Rattle.orca_cli.specs.Asked.{SaysCatalog, Asks, IsRefused}
+use Rattle.orca_cli.specs.Answers.{Note, HasRoom}
 use Rattle.orca_cli.specs.Generated.{IsGenerated}
+use Rattle.orca_cli.specs.Lists.{list_cause}
 use Rattle.orca_cli.specs.Prepared.{Reads}
-use Rattle.orca_cli.specs.Run.{Note, HasRoom, IsRun, Puts, Ends}
-use Rattle.orca_cli.specs.Status.{IsOneOf, settled, overflowed, turned_down, finished}
+use Rattle.orca_cli.specs.Run.{IsRun, Puts, Ends}
+use Rattle.orca_cli.specs.Status.{IsOneOf, settled, overflowed, turned_down, finished, listed, list_refused}
 use Rattle.orca_cli.specs.declared.status.Status.{Status}
-use Rattle.orca_cli.specs.declared.status.Status.TheVariants.{Usage, ReadFault, WriteFault}
+use Rattle.orca_cli.specs.declared.status.Status.TheVariants.{Usage, ReadFault, WriteFault, BatchRefused}
 
 -- ---- what a shelf surely holds
 
--- the shelf tells bytes that say this catalogue, and this text
-pub record Holds (files : FileNames) (held : List ℕ → Option (List ℕ)) (catalog : Catalog) (text : List ℕ) : Type 0
-  where
-    pub bytes : List ℕ
-    pub bytes_told : held files.catalog ≡ Some bytes
-    pub says : SaysCatalog bytes catalog
-    pub text_told : held files.query ≡ Some text
+-- the shelf tells bytes under one name that say this catalogue, and this text under another
+pub record Holds (catalog_name name : List ℕ) (held : List ℕ → Option (List ℕ)) (catalog : Catalog) (text : List ℕ) :
+    Type 0 where
+  pub bytes : List ℕ
+  pub bytes_told : held catalog_name ≡ Some bytes
+  pub says : SaysCatalog bytes catalog
+  pub text_told : held name ≡ Some text
 
 -- the shelf tells a catalogue, and a text that asks for this query over it
 pub record HoldsQuery (files : FileNames) (options : Options) (held : List ℕ → Option (List ℕ)) (query : Query) :
     Type 0 where
   pub catalog : Catalog
   pub text : List ℕ
-  pub holds : Holds files held catalog text
+  pub holds : Holds files.catalog files.query held catalog text
   pub asks : Asks catalog options text query
 
 -- the shelf tells a catalogue, and a text that is refused over it
 pub record HoldsRefused (files : FileNames) (options : Options) (held : List ℕ → Option (List ℕ)) : Type 0 where
   pub catalog : Catalog
   pub text : List ℕ
-  pub holds : Holds files held catalog text
+  pub holds : Holds files.catalog files.query held catalog text
   pub cause : List ℕ
   pub refused : IsRefused catalog options text cause
+
+-- the shelf tells a catalogue, and a list that has this cause of refusal, or none
+pub record HoldsList (files : ListNames) (capacity : ℕ) (held : List ℕ → Option (List ℕ))
+    (cause : Option (List ℕ)) : Type 0 where
+  pub catalog : Catalog
+  pub list : List ℕ
+  pub holds : Holds files.catalog files.list held catalog list
+  pub is_cause : list_cause capacity list ≡ cause
 
 -- the task surely asks for this query
 abbrev pub SurelyAsks : AnyTask → Options → (List ℕ → Option (List ℕ)) → Query → Type 0
 SurelyAsks (plan files) options held query = HoldsQuery files options held query
 SurelyAsks (gen input) options held query = IsGenerated input options query
+SurelyAsks (batch files) options held query = ⊥
+
+-- the count of one of two names rose
+abbrev pub OneRose : Reads → List ℕ → List ℕ → Type 0
+OneRose shelf first second = Rose (shelf.before first) (shelf.after first)
+    ⊎ Rose (shelf.before second) (shelf.after second)
 
 -- the count of a file of the task rose
 abbrev pub ReadRose : AnyTask → Reads → Type 0
-ReadRose (plan files) shelf = Rose (shelf.before files.catalog) (shelf.after files.catalog)
-    ⊎ Rose (shelf.before files.query) (shelf.after files.query)
+ReadRose (plan files) shelf = OneRose shelf files.catalog files.query
 ReadRose (gen input) shelf = ⊥
+ReadRose (batch files) shelf = OneRose shelf files.catalog files.list
 
 -- no count of faults rose, of no file of the task and not the sink's
 pub record HasNoFault (task : AnyTask) (shelf : Reads) (sink : Puts) : Type 0 where
@@ -86,6 +102,17 @@ pub record HasCauses (named : Option AnyCommand) (shelf : Reads) (sink : Puts) (
   -- what is generated is never refused
   pub finishes : (command : AnyCommand) (input : GenInput) → named ≡ Some command → command.task ≡ gen input
       → HasNoFault command.task shelf sink → IsOneOf finished status
+  -- a list is refused only by a batch
+  pub batch_refused : status ≡ BatchRefused → (command : AnyCommand) × (files : ListNames) × (named ≡ Some command)
+      × (command.task ≡ batch files)
+  -- a list that isn't refused has a status for each line
+  pub lists : (command : AnyCommand) (files : ListNames) → named ≡ Some command → command.task ≡ batch files
+      → HoldsList files command.choices.capacity shelf.held None → HasNoFault command.task shelf sink
+      → IsOneOf listed status
+  -- a list with a cause of refusal is refused
+  pub refuses_list : (command : AnyCommand) (files : ListNames) (cause : List ℕ) → named ≡ Some command
+      → command.task ≡ batch files → HoldsList files command.choices.capacity shelf.held (Some cause)
+      → HasNoFault command.task shelf sink → IsOneOf list_refused status
 
 -- all of it follows from the one record of how the run ends
 abbrev pub EndsHaveCauses : Type 0

@@ -1,14 +1,19 @@
 -- What follows from how commands are read, and how runs end.
-use Rattle.std.specs.Prelude.{◌≡◌, ◌⊎◌, ◌++◌, ℕ, Bool, true, false, List, [], Option, Some}
+use Rattle.std.specs.Prelude.{◌≡◌, ◌≢◌, ◌⊎◌, ◌++◌, ℕ, Bool, true, false, List, [], Option, Some}
+use Rattle.query_core.specs.declared.catalog.Catalog.{Catalog}
 use Rattle.query_core.specs.declared.query.Query.{Query}
-use Rattle.command_line.specs.Command.{FileNames, plan, gen}
+use Rattle.command_line.specs.Command.{FileNames, ListNames, plan, gen, batch}
 use Rattle.command_line.specs.declared.choices.Choices.{Choices}
 use Rattle.command_line.specs.declared.command.GenInput.{GenInput}
+use Rattle.orca_cli.specs.Answers.{Note}
+use Rattle.orca_cli.specs.Asked.{SaysCatalog}
+use Rattle.orca_cli.specs.Batches.{for_a_line, LineEnd, IsLineEnd}
 use Rattle.orca_cli.specs.Prepared.{Reads, reads}
-use Rattle.orca_cli.specs.Run.{Note, IsRun}
+use Rattle.orca_cli.specs.Run.{IsRun}
 use Rattle.orca_cli.specs.Sections.{IsByWorker}
 use Rattle.orca_cli.specs.Status.{IsOneOf, by_files}
 use Rattle.orca_cli.specs.declared.status.Status.{Status}
+use Rattle.orca_cli.specs.declared.status.Status.TheVariants.{ReadFault}
 
 -- a run over files that hold these bytes ends so, whatever its counts of faults are
 pub record Outcome (files : FileNames) (choices : Choices) (held : List ℕ → Option (List ℕ)) (catalog query : List ℕ)
@@ -29,6 +34,19 @@ pub record GenOutcome (input : GenInput) (choices : Choices) (status : Status) (
   pub empty : Note
   pub note : Note
   pub ends : IsRun (Some (record { task = gen input; choices = choices })) shelf empty note status text
+
+-- a batch over files that hold these bytes ends so, whatever its counts of faults are
+pub record BatchOutcome (files : ListNames) (choices : Choices) (held : List ℕ → Option (List ℕ))
+    (catalog list : List ℕ) (status : Status) (text : List ℕ) : Type 0 where
+  pub before : List ℕ → ℕ
+  pub after : List ℕ → ℕ
+  pub empty : Note
+  pub note : Note
+  pub catalog_told : held files.catalog ≡ Some catalog
+  pub list_told : held files.list ≡ Some list
+  pub ends : IsRun (Some (record { task = batch files; choices = choices })) (reads held before after) empty note status
+      text
+  pub were_read : status ≢ ReadFault
 
 -- the same choices, with so many workers
 abbrev pub by : ℕ → Choices → Choices
@@ -69,3 +87,19 @@ abbrev pub OneGenerated : Type 0
 OneGenerated = (input : GenInput) (choices : Choices) (workers more : ℕ) (first second : Status) (text other : List ℕ)
     → GenOutcome input (by workers choices) first text → GenOutcome input (by more choices) second other
     → (first ≡ second) × (text ≡ other)
+
+-- those of a batch are a function of the bytes, and of what the command chooses but for the workers
+abbrev pub OneBatch : Type 0
+OneBatch = (files others : ListNames) (choices : Choices) (workers more : ℕ) (held told : List ℕ → Option (List ℕ))
+    (catalog list : List ℕ) (first second : Status) (text other : List ℕ)
+    → BatchOutcome files (by workers choices) held catalog list first text
+    → BatchOutcome others (by more choices) told catalog list second other → (first ≡ second) × (text ≡ other)
+
+-- a line of a batch ends with the status and the text of a plan over the same catalogue and this line, by however many
+-- workers
+abbrev pub LinesAsPlanned : Type 0
+LinesAsPlanned = (files : FileNames) (choices : Choices) (workers : ℕ) (held : List ℕ → Option (List ℕ))
+    (bytes line : List ℕ) (catalog : Catalog) (end : LineEnd) (status : Status) (text : List ℕ)
+    → SaysCatalog bytes catalog → IsLineEnd catalog choices line end
+    → Outcome files (by workers (for_a_line choices)) held bytes line status text
+    → (end.status ≡ status) × (end.text ≡ text)

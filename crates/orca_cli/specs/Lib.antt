@@ -3,10 +3,14 @@ pub mod Reading
 pub mod Texts
 pub mod Asked
 pub mod Generated
+pub mod Lists
 pub mod Prepared
 pub mod Sections
+pub mod Answers
+pub mod Batches
 pub mod Run
 pub mod Views
+pub mod Items
 pub mod Searches
 pub mod Causes
 pub mod Laws

@@ -4,10 +4,12 @@ use Rattle.orca_base.specs.Causes.{Rose}
 use Rattle.query_core.specs.declared.catalog.Catalog.{Catalog}
 use Rattle.query_core.specs.declared.options.Options.{Options}
 use Rattle.query_core.specs.declared.query.Query.{Query}
-use Rattle.command_line.specs.Command.{FileNames, AnyTask, AnyCommand, plan, gen}
+use Rattle.command_line.specs.Command.{FileNames, AnyTask, AnyCommand, plan, gen, batch}
+use Rattle.command_line.specs.declared.choices.Choices.{Choices}
 use Rattle.command_line.specs.declared.command.GenInput.{GenInput}
 use Rattle.orca_cli.specs.Asked.{SaysCatalog, IsNoCatalog, Asks, IsRefused}
 use Rattle.orca_cli.specs.Generated.{IsGenerated}
+use Rattle.orca_cli.specs.Lists.{IsListRefused}
 use Rattle.orca_cli.specs.Texts as texts
 use Rattle.orca_cli.specs.declared.status.Status.{Status}
 use Rattle.orca_cli.specs.declared.status.Status.TheVariants.{Usage, QueryRefused, CatalogRefused, ReadFault}
@@ -47,15 +49,17 @@ pub record FilesAsk (files : FileNames) (options : Options) (held : List ℕ →
     pub offers : Offers (held files.catalog) catalog
     pub asked : IsAskedAt catalog options (held files.query) query
 
--- the task asks for this query
+-- the task asks for this query; a batch asks for none alone
 abbrev pub IsAskedBy : AnyTask → Options → (List ℕ → Option (List ℕ)) → Query → Type 0
 IsAskedBy (plan files) options held query = FilesAsk files options held query
 IsAskedBy (gen input) options held query = IsGenerated input options query
+IsAskedBy (batch files) options held query = ⊥
 
 -- what the query is made of, where it is generated
 abbrev pub generated_in : AnyTask → Option GenInput
 generated_in (plan files) = None
 generated_in (gen input) = Some input
+generated_in (batch files) = None
 
 -- the words are a command, and it asks for one worker
 abbrev pub AsksForOne : Option AnyCommand → Type 0
@@ -96,21 +100,23 @@ pub data FileStops (Refuses : List ℕ → Status → List ℕ → Type 0) (name
   unusable : (bytes : List ℕ) → AreTold (shelf.held name) bytes → Refuses bytes status text
       → FileStops Refuses name shelf status text
 
--- two files: that of the catalogue, or where it says a catalogue that of the query
-pub data FilesStop (files : FileNames) (options : Options) (shelf : Reads) (status : Status) (text : List ℕ) : Type 0
-  where
-    by_catalog : FileStops IsCatalogRefused files.catalog shelf status text
-        → FilesStop files options shelf status text
-    by_query : (catalog : Catalog) → Offers (shelf.held files.catalog) catalog
-        → FileStops (IsQueryRefused catalog options) files.query shelf status text
-        → FilesStop files options shelf status text
+-- two files: that of a catalogue, or where it says a catalogue another one, which may be refused over it
+pub data FilesStop (Refuses : Catalog → List ℕ → Status → List ℕ → Type 0) (catalog_name name : List ℕ) (shelf : Reads)
+    (status : Status) (text : List ℕ) : Type 0 where
+  by_catalog : FileStops IsCatalogRefused catalog_name shelf status text
+      → FilesStop Refuses catalog_name name shelf status text
+  by_file : (catalog : Catalog) → Offers (shelf.held catalog_name) catalog
+      → FileStops (Refuses catalog) name shelf status text → FilesStop Refuses catalog_name name shelf status text
 
--- a task that asks for no query; what is generated always asks for one
-abbrev pub TaskStops : AnyTask → Options → Reads → Status → List ℕ → Type 0
-TaskStops (plan files) options shelf status text = FilesStop files options shelf status text
-TaskStops (gen input) options shelf status text = ⊥
+-- a task that searches nothing, by what is chosen for it; what is generated is always searched
+abbrev pub TaskStops : AnyTask → Choices → Reads → Status → List ℕ → Type 0
+TaskStops (plan files) choices shelf status text =
+    FilesStop (λ catalog. IsQueryRefused catalog choices.options) files.catalog files.query shelf status text
+TaskStops (gen input) choices shelf status text = ⊥
+TaskStops (batch files) choices shelf status text =
+    FilesStop (λ catalog. IsListRefused choices.capacity) files.catalog files.list shelf status text
 
 -- a run by the command that its words are, where they are one
 abbrev pub Stops : Option AnyCommand → Reads → Status → List ℕ → Type 0
 Stops None shelf status text = IsUsage status text
-Stops (Some command) shelf status text = TaskStops command.task command.choices.options shelf status text
+Stops (Some command) shelf status text = TaskStops command.task command.choices shelf status text

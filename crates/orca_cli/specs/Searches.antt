@@ -7,9 +7,9 @@ use Rattle.goal_children.specs.Listed.{AreGoalsOf}
 use Rattle.plan_tree.specs.declared.plan.Found.{Found}
 use Rattle.plan_tree.specs.declared.plan.Found.TheVariants as found
 use Rattle.plan_tree.specs.declared.plan.Found.TheVariants.{Least}
-use Rattle.orca_cli.specs.Run.{IsPlanText, IsImpossible}
+use Rattle.orca_cli.specs.Answers.{IsPlanText, IsImpossible}
 use Rattle.orca_cli.specs.Texts.{no_plan}
-use Rattle.orca_cli.specs.declared.search.Search.{Search}
+use Rattle.orca_cli.specs.declared.answer.Search.{Search}
 use Rattle.orca_cli.specs.declared.status.Status.{Status}
 use Rattle.orca_cli.specs.declared.status.Status.TheVariants.{Planned, NoPlan}
 

@@ -2,7 +2,7 @@
 use Rattle.std.specs.Prelude.{ℕ, List, [], ◌∷◌, ◌≡◌, ◌⊎◌}
 use Rattle.orca_cli.specs.declared.status.Status.{Status}
 use Rattle.orca_cli.specs.declared.status.Status.TheVariants.{Planned, NoPlan, Usage, QueryRefused, CatalogRefused}
-use Rattle.orca_cli.specs.declared.status.Status.TheVariants.{TooManyEntries, ReadFault, WriteFault, Memory}
+use Rattle.orca_cli.specs.declared.status.Status.TheVariants.{TooManyEntries, ReadFault, WriteFault, Memory, BatchRefused}
 
 -- the number with which the program ends
 abbrev pub number_of : Status → ℕ
@@ -15,6 +15,7 @@ number_of TooManyEntries = 5
 number_of ReadFault = 6
 number_of WriteFault = 7
 number_of Memory = 8
+number_of BatchRefused = 11
 
 -- the status is one of these
 abbrev pub IsOneOf : List Status → Status → Type 0
@@ -42,6 +43,14 @@ overflowed = TooManyEntries ∷ Memory ∷ []
 -- the query was refused, or memory ran out
 abbrev pub turned_down : List Status
 turned_down = QueryRefused ∷ Memory ∷ []
+
+-- each line of a list has its status, or memory ran out
+abbrev pub listed : List Status
+listed = Planned ∷ Memory ∷ []
+
+-- the list was refused, or memory ran out
+abbrev pub list_refused : List Status
+list_refused = BatchRefused ∷ Memory ∷ []
 
 -- a search was made, or memory ran out
 abbrev pub finished : List Status

@@ -12,7 +12,7 @@ use Rattle.request_props.specs.declared.fault.PropsFault.{PropsFault}
 use Rattle.request_props.specs.declared.fault.PropsFault.TheVariants.{TooManyLists, TooManyOrders, Memory}
 
 abbrev pub usage_line : List ℕ
-usage_line = codes "usage: orca plan CATALOG QUERY [--workers N] [--capacity N] [--root one|spread] [--off RULE+RULE] [--memo] [--trace] [--by-worker] | orca gen NUMBER TABLES SHAPE [--workers N] [--capacity N]\n"
+usage_line = codes "usage: orca plan CATALOG QUERY [--workers N] [--capacity N] [--root one|spread] [--off RULE+RULE] [--memo] [--trace] [--by-worker] | orca gen NUMBER TABLES SHAPE [--workers N] [--capacity N] | orca batch CATALOG LIST [--workers N] [--capacity N] [--root one|spread] [--off RULE+RULE] [--memo] [--trace]\n"
 
 -- the line that names a file that couldn't be read
 abbrev pub read_fault : List ℕ → List ℕ
@@ -32,6 +32,10 @@ catalog_refused cause = codes "catalog refused: " ++ cause ++ codes "\n"
 -- the line of a refused query
 abbrev pub query_refused : List ℕ → List ℕ
 query_refused cause = codes "query refused: " ++ cause ++ codes "\n"
+
+-- the line of a refused list of queries
+abbrev pub batch_refused : List ℕ → List ℕ
+batch_refused cause = codes "batch refused: " ++ cause ++ codes "\n"
 
 -- why a catalogue is refused, with the JSON pointer of the place; want of memory has no line
 abbrev pub catalog_cause : CatalogFault → List ℕ

@@ -1,13 +1,20 @@
 -- What clauses see of the program's values.
-use Rattle.std.specs.Prelude.{◌≡◌, ℕ, ⊤, List, Option, Some, Vec, flat_map}
+use Rattle.std.specs.Prelude.{◌≡◌, ◌≤◌, ℕ, ⊤, List, Option, Some, Vec, flat_map, length, map}
+use Rattle.std.specs.Borrow.{Bor}
 use Rattle.std.specs.declared.alloc.Global.{Global}
+use Rattle.query_core.specs.Catalog.{IsCatalog}
+use Rattle.query_core.specs.declared.options.Options.{Options}
 use Rattle.query_core.specs.declared.query.Query.{Query}
 use Rattle.request_props.specs.Numbered.{IsProps}
-use Rattle.command_line.specs.Command.{AnyCommand}
+use Rattle.command_line.specs.Command.{ListNames, AnyTask, AnyCommand, plan, gen, batch}
 use Rattle.command_line.specs.Views.{command_read}
-use Rattle.orca_cli.specs.Prepared.{IsAskedBy}
+use Rattle.orca_cli.specs.Batches.{LineEnd}
+use Rattle.orca_cli.specs.Prepared.{AreTold, Offers, IsAskedBy}
 use Rattle.orca_cli.specs.declared.asked.Asked.{Asked}
+use Rattle.orca_cli.specs.declared.asked.Listed.{Listed}
 use Rattle.orca_cli.specs.declared.asked.Wanted.{Wanted}
+use Rattle.orca_cli.specs.declared.asked.Work.{Work}
+use Rattle.orca_cli.specs.declared.asked.Work.TheVariants as works
 use Rattle.orca_cli.specs.declared.ending.End.{End}
 use Rattle.orca_cli.specs.declared.ending.End.TheVariants as ends
 use Rattle.orca_cli.specs.declared.ending.Ending.{Ending}
@@ -17,6 +24,10 @@ use Rattle.orca_cli.specs.declared.status.Status.{Status}
 abbrev pub bytes_of_texts : List (Vec ℕ Global) → List ℕ
 bytes_of_texts texts = flat_map (λ (text : Vec ℕ Global). text.items) texts
 
+-- the lines behind references to them
+abbrev pub lines_read : List (Bor (List ℕ)) → List (List ℕ)
+lines_read lines = map (λ line. line.now) lines
+
 -- the text of an ending
 abbrev pub text_of : Ending → List ℕ
 text_of ending = bytes_of_texts ending.texts.items
@@ -25,6 +36,10 @@ text_of ending = bytes_of_texts ending.texts.items
 pub record EndsAs (ending : Ending) (ending_status : Status) (ending_text : List ℕ) : Type 0 where
   pub status : ending.status ≡ ending_status
   pub text : text_of ending ≡ ending_text
+
+-- an ending as the end of a line
+abbrev pub line_end : Ending → LineEnd
+line_end ending = record { status = ending.status; text = text_of ending }
 
 -- the end has a status and a text of which this holds, unless memory ran out
 abbrev pub EndsWith : (Status → List ℕ → Type 0) → End → Type 0
@@ -41,8 +56,29 @@ pub record IsAsked (IsQuery : Query → Type 0) (asked : Asked) : Type 0 where
   pub query_is : IsQuery asked.query
   pub props_are : IsProps asked.query asked.props
 
--- what the words ask for is wanted: the query of the command that they are
+-- a catalogue and a list are those of two files
+pub record AreListed (files : ListNames) (held : List ℕ → Option (List ℕ)) (listed : Listed) : Type 0 where
+  pub offers : Offers (held files.catalog) listed.catalog
+  pub told : AreTold (held files.list) listed.list.items
+
+-- the task asks for this work: the search of a query, or of each line of a list
+abbrev pub AsksFor : AnyTask → Options → (List ℕ → Option (List ℕ)) → Work → Type 0
+AsksFor task options held (works.Query asked) = IsAskedBy task options held asked.query
+AsksFor (plan files) options held (works.List listed) = ⊥
+AsksFor (gen input) options held (works.List listed) = ⊥
+AsksFor (batch files) options held (works.List listed) = AreListed files held listed
+
+-- the catalogue is one, and the list isn't too long
+pub record IsListed (listed : Listed) : Type 0 where
+  pub catalogue : IsCatalog listed.catalog
+  pub bounded : length listed.list.items ≤ 1048576
+
+-- the work can be done
+abbrev pub IsReady : Work → Type 0
+IsReady (works.Query asked) = IsProps asked.query asked.props
+IsReady (works.List listed) = IsListed listed
+
+-- the command is the one that the words are, and it asks for the work
 pub record IsWanted (named : Option AnyCommand) (held : List ℕ → Option (List ℕ)) (wanted : Wanted) : Type 0 where
   pub named_is : named ≡ Some (command_read wanted.command)
-  pub asks : IsAskedBy (command_read wanted.command).task wanted.command.choices.options held wanted.asked.query
-  pub props_are : IsProps wanted.asked.query wanted.asked.props
+  pub asks_for : AsksFor (command_read wanted.command).task wanted.command.choices.options held wanted.work

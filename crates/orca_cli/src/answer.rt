@@ -3,48 +3,35 @@ ghost use Rattle.std.specs.Prelude.{◌≡◌, IfOk};
 ghost use Rattle.request_props.specs.Numbered.{IsProps};
 ghost use Rattle.goal_space.specs.Answers.{AreAnswers};
 ghost use Rattle.job_engine.specs.Runs.{RunEnds, IsNoted};
-ghost use Rattle.orca_cli.specs.Run.{HasRoom, IsSearchEnd, Note, NotesGoals};
+ghost use Rattle.orca_cli.specs.Answers.{HasRoom, IsSearchEnd, Note, NotesGoals};
 ghost use Rattle.orca_cli.specs.Searches.{IsSearch};
 ghost use Rattle.orca_cli.specs.Sections.{Tells};
-ghost use Rattle.orca_cli.specs.Views.{EndsWith, text_of};
+ghost use Rattle.orca_cli.specs.Views.{text_of};
 
 use crate::asked::Asked;
-use crate::ending::{End, Ending, too_many_entries};
+use crate::ending::{Ending, too_many_entries};
 use crate::lines::with_first_lines;
 use crate::planning::{PlanLines, planned};
-use crate::search::Search;
 use crate::sections::with_sections;
 use command_line::{Choices, GenInput};
 use job_engine::Outcome;
 use plan_tree::Answers;
+use query_core::Query;
+use request_props::Props;
 use std::alloc::{AllocError, Global};
 
-/// The end of a run by what its search gave, with the note of that search.
-pub fn ended(
-    alloc: Global,
-    choices: Choices,
-    generated: Option<GenInput>,
-    asked: &Asked,
-    found: Result<Outcome, AllocError>,
-) -> End
-    requires props { IsProps asked.now.query asked.now.props }
-    requires ends { IfOk found (RunEnds asked.now.query choices.capacity choices.workers) }
-    ensures { (note : Note)
-        → IfOk found (λ outcome. IsNoted choices.capacity choices.workers outcome note)
-        → EndsWith (IsSearchEnd (Tells generated choices asked.now.query) choices asked.now.query note)
-        result }
-{
-    match found {
-        Ok(outcome) => match ending_of(alloc, choices, generated, asked, &outcome) {
-            Ok(ending) => End::Told(ending),
-            Err(AllocError) => End::Memory,
-        },
-        Err(AllocError) => End::Memory,
-    }
+/// What the search of a query gave: the words of its members and its goals, and the worker of each goal.
+#[derive(Clone, Copy)]
+pub struct Search<'a> {
+    pub query: &'a Query,
+    pub props: &'a Props,
+    pub members: &'a [u64],
+    pub goals: &'a [u64],
+    pub who: &'a [u32],
 }
 
-// The ending of a run, by the outcome of its search.
-fn ending_of(
+/// The ending of a run by the outcome of its search, with the note of that search.
+pub fn ending_of(
     alloc: Global,
     choices: Choices,
     generated: Option<GenInput>,

@@ -1,6 +1,6 @@
 //! What a run is to search.
 use command_line::Command;
-use query_core::Query;
+use query_core::{Catalog, Query};
 use request_props::Props;
 
 /// A query, and what was found of it.
@@ -10,9 +10,25 @@ pub struct Asked {
     pub props: Props,
 }
 
-/// A query that a command asks for, and the command.
+/// A catalogue, and a list with a query over it on each line.
+#[derive(Drop)]
+pub struct Listed {
+    pub catalog: Catalog,
+    pub list: Vec<u8>,
+}
+
+/// What is to be searched.
+#[derive(Drop)]
+pub enum Work {
+    /// One query.
+    Query(Asked),
+    /// Each line of a list.
+    List(Listed),
+}
+
+/// What a command asks for, and the command.
 #[derive(Drop)]
 pub struct Wanted<'w> {
     pub command: Command<'w>,
-    pub asked: Asked,
+    pub work: Work,
 }

@@ -5,9 +5,9 @@ ghost use Rattle.orca_cli.specs.Asked.{SaysCatalog};
 ghost use Rattle.orca_cli.specs.Prepared.{FileStops, IsCatalogRefused, Offers, reads};
 ghost use Rattle.orca_cli.specs.Views.{EndsWith};
 
-use crate::ending::{End, failed_read, refused_catalog};
+use crate::ending::{End, refused_catalog};
 use crate::faults::catalog_fault_text;
-use crate::reading::{Read, read_file};
+use crate::reading::read_file;
 use catalog_json::read_catalog;
 use orca_io::Shelf;
 use query_core::Catalog;
@@ -26,10 +26,10 @@ pub fn catalog_of_file<S: Shelf>(alloc: Global, shelf: &mut S, name: &str) -> Re
     ensures same { (n : List ℕ) → S.held shelf.new n ≡ S.held shelf.old n }
     ensures later { (n : List ℕ) → S.faults shelf.old n ≤ S.faults shelf.new n }
 {
-    match read_file(alloc, shelf, name, CATALOG_LIMIT)? {
-        Read::Bytes(bytes) => catalog_of_bytes(alloc, &bytes),
-        Read::TooLong => Err(End::Told(refused_catalog(alloc, "too long")?)),
-        Read::Failed => Err(End::Told(failed_read(alloc, name)?)),
+    match read_file(alloc, shelf, name, CATALOG_LIMIT) {
+        Ok(Some(bytes)) => catalog_of_bytes(alloc, &bytes),
+        Ok(None) => Err(End::Told(refused_catalog(alloc, "too long")?)),
+        Err(end) => Err(end),
     }
 }
 

@@ -99,3 +99,12 @@ pub fn too_many_entries(alloc: Global, capacity: u32) -> Result<Ending, AllocErr
     let text = format!(in alloc; "too many entries: capacity {capacity}\n")?;
     line(alloc, Status::TooManyEntries, &text)
 }
+
+/// The list of queries is refused for this cause.
+pub fn refused_batch(alloc: Global, cause: &str) -> Result<Ending, AllocError>
+    ensures { IfOk result
+        (λ ending. EndsAs ending Status.BatchRefused (texts.batch_refused cause.now)) }
+{
+    let text = format!(in alloc; "batch refused: {cause}\n")?;
+    line(alloc, Status::BatchRefused, &text)
+}

@@ -1,6 +1,6 @@
 //! What follows from how commands are read, and how runs end.
 ghost use Rattle.orca_cli.specs.Causes.{EndsHaveCauses};
-ghost use Rattle.orca_cli.specs.Laws.{OneGenerated, OneOutcome};
+ghost use Rattle.orca_cli.specs.Laws.{LinesAsPlanned, OneBatch, OneGenerated, OneOutcome};
 
 use goal_children::goal_lists_are_known;
 use job_outcome::entries_fit_or_not;
@@ -12,10 +12,12 @@ use xform_rules::members_are_known;
 /// The status and the text of a run are determined by what the two files hold, as long as no read
 /// fails and memory lasts: no other run over the same bytes ends in another way, by however many
 /// workers, but for their numbers in the lines by worker. Those of `gen` are determined by what it is
-/// given.
+/// given. Those of a batch are too, and each of its lines ends as a plan of that line.
 pub fn one_outcome()
     ensures outcome { OneOutcome }
     ensures generated { OneGenerated }
+    ensures batch { OneBatch }
+    ensures lines { LinesAsPlanned }
 {
     least_is_one();
     entries_fit_or_not();

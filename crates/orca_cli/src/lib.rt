@@ -3,12 +3,15 @@
 
 mod answer;
 mod asked;
+mod batch;
+mod batch_text;
 mod catalogs;
 mod ending;
 mod faults;
 mod generated;
 mod laws;
 mod lines;
+mod lists;
 mod planning;
 mod prepared;
 mod queries;
@@ -18,6 +21,7 @@ mod sections;
 mod status;
 mod text;
 mod top;
+mod work;
 
 pub use ending::finished;
 pub use job_engine::RunNote;

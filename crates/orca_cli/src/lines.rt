@@ -5,9 +5,9 @@ ghost use Rattle.orca_cli.specs.Searches.{IsSearch};
 ghost use Rattle.orca_cli.specs.Sections.{HasFirstLines, first_line as line_first, gen_line as line_of, gen_words as line_words};
 ghost use Rattle.orca_cli.specs.Views.{text_of};
 
+use crate::answer::Search;
 use crate::ending::Ending;
 use crate::planning::PlanLines;
-use crate::search::Search;
 use crate::sections::{memo_first_line, trace_first_line};
 use command_line::{Choices, GenInput};
 use query_generator::GenShape;

@@ -1,27 +1,30 @@
-//! What the words of a command line ask for: a query is wanted, or the run ends without a search.
+//! What the words of a command line ask for: work to be done, or the run ends without a search.
 ghost use Rattle.std.specs.Prelude.{◌≡◌, ◌≤◌, ℕ, List, IfOk, IfErr, map, string_bytes};
 ghost use Rattle.query_core.specs.Results.{AreOptions};
 ghost use Rattle.command_line.specs.Reading.{command_of};
-ghost use Rattle.command_line.specs.Views.{file_names, task_read};
-ghost use Rattle.orca_cli.specs.Prepared.{FilesAsk, FilesStop, IsAskedBy, Stops, TaskStops, reads};
+ghost use Rattle.command_line.specs.Options.{AreChoices};
+ghost use Rattle.command_line.specs.Views.{file_names, list_names, task_read};
+ghost use Rattle.orca_cli.specs.Lists.{IsListRefused};
+ghost use Rattle.orca_cli.specs.Prepared.{FilesAsk, FilesStop, IsQueryRefused, Stops, TaskStops, reads};
 ghost use Rattle.orca_cli.specs.Texts.{usage_line};
-ghost use Rattle.orca_cli.specs.Views.{EndsAs, EndsWith, IsAsked, IsWanted};
+ghost use Rattle.orca_cli.specs.Views.{AreListed, AsksFor, EndsAs, EndsWith, IsAsked, IsListed, IsReady, IsWanted};
 
-use crate::asked::{Asked, Wanted};
+use crate::asked::{Asked, Listed, Wanted, Work};
 use crate::catalogs::catalog_of_file;
 use crate::ending::{End, Ending, line};
 use crate::generated::query_of_input;
+use crate::lists::list_of_file;
 use crate::queries::query_of_file;
 use crate::status::Status;
-use command_line::{Command, Files, Task, read_command};
+use command_line::{Choices, Command, Files, ListFiles, Task, read_command};
 use orca_io::Shelf;
 use query_core::Options;
 use std::alloc::{AllocError, Global};
 
 pub const USAGE: &str =
-    "usage: orca plan CATALOG QUERY [--workers N] [--capacity N] [--root one|spread] [--off RULE+RULE] [--memo] [--trace] [--by-worker] | orca gen NUMBER TABLES SHAPE [--workers N] [--capacity N]\n";
+    "usage: orca plan CATALOG QUERY [--workers N] [--capacity N] [--root one|spread] [--off RULE+RULE] [--memo] [--trace] [--by-worker] | orca gen NUMBER TABLES SHAPE [--workers N] [--capacity N] | orca batch CATALOG LIST [--workers N] [--capacity N] [--root one|spread] [--off RULE+RULE] [--memo] [--trace]\n";
 
-/// The command that the words are, and the query for which it asks; or how the run ends.
+/// The command that the words are, and the work for which it asks; or how the run ends.
 pub fn prepared<'w, S: Shelf>(
     alloc: Global,
     words: &'w [String],
@@ -29,14 +32,15 @@ pub fn prepared<'w, S: Shelf>(
 ) -> Result<Wanted<'w>, End>
     ensures wanted { IfOk result
         (IsWanted (command_of (map string_bytes words.now)) (S.held shelf.old)) }
+    ensures ready { IfOk result (λ wanted. IsReady wanted.work) }
     ensures stops { IfErr result (EndsWith (Stops (command_of (map string_bytes words.now))
         (reads (S.held shelf.old) (S.faults shelf.old) (S.faults shelf.new)))) }
 
     ensures same { (n : List ℕ) → S.held shelf.new n ≡ S.held shelf.old n }
 {
     match read_command(words) {
-        Some(command) => match asked_by(alloc, shelf, command.task, command.choices.options) {
-            Ok(asked) => Ok(Wanted { command, asked }),
+        Some(command) => match work_of(alloc, shelf, command.task, command.choices) {
+            Ok(work) => Ok(Wanted { command, work }),
             Err(end) => Err(end),
         },
         None => Err(End::Told(usage(alloc)?)),
@@ -50,23 +54,32 @@ fn usage(alloc: Global) -> Result<Ending, AllocError>
     line(alloc, Status::Usage, USAGE)
 }
 
-// The query for which the task asks.
-fn asked_by<S: Shelf>(
+// The work for which the task asks.
+fn work_of<S: Shelf>(
     alloc: Global,
     shelf: &mut S,
     task: Task<'_>,
-    options: Options,
-) -> Result<Asked, End>
-    requires { AreOptions options }
-    ensures asks { IfOk result (IsAsked (IsAskedBy (task_read task.entry) options (S.held shelf.old))) }
-    ensures stops { IfErr result (EndsWith (TaskStops (task_read task.entry) options
+    choices: Choices,
+) -> Result<Work, End>
+    requires { AreChoices choices }
+    ensures asks { IfOk result
+        (AsksFor (task_read task.entry) choices.options (S.held shelf.old)) }
+    ensures ready { IfOk result IsReady }
+    ensures stops { IfErr result (EndsWith (TaskStops (task_read task.entry) choices
         (reads (S.held shelf.old) (S.faults shelf.old) (S.faults shelf.new)))) }
 
     ensures same { (n : List ℕ) → S.held shelf.new n ≡ S.held shelf.old n }
 {
     match task {
-        Task::Plan(files) => asked_by_files(alloc, shelf, files, options),
-        Task::Gen(made) => Ok(query_of_input(alloc, made, options)?),
+        Task::Plan(files) => match asked_by_files(alloc, shelf, files, choices.options) {
+            Ok(asked) => Ok(Work::Query(asked)),
+            Err(end) => Err(end),
+        },
+        Task::Gen(made) => Ok(Work::Query(query_of_input(alloc, made, choices.options)?)),
+        Task::Batch(files) => match listed_by_files(alloc, shelf, files, choices.capacity) {
+            Ok(listed) => Ok(Work::List(listed)),
+            Err(end) => Err(end),
+        },
     }
 }
 
@@ -80,13 +93,38 @@ fn asked_by_files<S: Shelf>(
     requires { AreOptions options }
     ensures asks { IfOk result
         (IsAsked (FilesAsk (file_names files.entry) options (S.held shelf.old))) }
-    ensures stops { IfErr result (EndsWith (FilesStop (file_names files.entry) options
+    ensures stops { IfErr result (EndsWith (FilesStop (λ catalog. IsQueryRefused catalog options)
+        files.entry.catalog.now files.entry.query.now
         (reads (S.held shelf.old) (S.faults shelf.old) (S.faults shelf.new)))) }
 
     ensures same { (n : List ℕ) → S.held shelf.new n ≡ S.held shelf.old n }
 {
     match catalog_of_file(alloc, shelf, files.catalog) {
         Ok(catalog) => query_of_file(alloc, shelf, files.query, &catalog, options),
+        Err(end) => Err(end),
+    }
+}
+
+// The catalogue and the list of two files, in this order.
+fn listed_by_files<S: Shelf>(
+    alloc: Global,
+    shelf: &mut S,
+    files: ListFiles<'_>,
+    capacity: u32,
+) -> Result<Listed, End>
+    ensures listed { IfOk result (AreListed (list_names files.entry) (S.held shelf.old)) }
+    ensures ready { IfOk result IsListed }
+    ensures stops { IfErr result (EndsWith (FilesStop (λ _. IsListRefused capacity)
+        files.entry.catalog.now files.entry.list.now
+        (reads (S.held shelf.old) (S.faults shelf.old) (S.faults shelf.new)))) }
+
+    ensures same { (n : List ℕ) → S.held shelf.new n ≡ S.held shelf.old n }
+{
+    match catalog_of_file(alloc, shelf, files.catalog) {
+        Ok(catalog) => match list_of_file(alloc, shelf, files.list, capacity) {
+            Ok(list) => Ok(Listed { catalog, list }),
+            Err(end) => Err(end),
+        },
         Err(end) => Err(end),
     }
 }

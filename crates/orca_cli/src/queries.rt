@@ -11,9 +11,9 @@ ghost use Rattle.orca_cli.specs.Prepared.{FileStops, IsAskedAt, IsQueryRefused, 
 ghost use Rattle.orca_cli.specs.Views.{EndsWith, IsAsked};
 
 use crate::asked::Asked;
-use crate::ending::{End, failed_read, refused_query};
+use crate::ending::{End, refused_query};
 use crate::faults::{bind_fault_text, props_fault_text, sql_fault_text};
-use crate::reading::{Read, read_file};
+use crate::reading::read_file;
 use orca_io::Shelf;
 use query_core::{Catalog, Options, Query};
 use request_props::Props;
@@ -44,10 +44,10 @@ pub fn query_of_file<S: Shelf>(
 {
     // A text over the limit has this one fault.
     one_outcome();
-    match read_file(alloc, shelf, name, QUERY_LIMIT)? {
-        Read::Bytes(text) => query_of_text(alloc, &text, catalog, options),
-        Read::TooLong => Err(End::Told(refused_query(alloc, "too long")?)),
-        Read::Failed => Err(End::Told(failed_read(alloc, name)?)),
+    match read_file(alloc, shelf, name, QUERY_LIMIT) {
+        Ok(Some(text)) => query_of_text(alloc, &text, catalog, options),
+        Ok(None) => Err(End::Told(refused_query(alloc, "too long")?)),
+        Err(end) => Err(end),
     }
 }
 

@@ -1,94 +1,65 @@
-//! The search of a query, and what it gives.
+//! The search of a query, and the ending of a run by what it gives.
 ghost use Rattle.std.specs.Prelude.{◌≡◌, IfOk};
 ghost use Rattle.request_props.specs.Numbered.{IsProps};
-ghost use Rattle.job_engine.specs.Runs.{RunEnds, IsNoted};
 ghost use Rattle.command_line.specs.Options.{AreChoices};
+ghost use Rattle.orca_cli.specs.Answers.{IsSearchEnd};
+ghost use Rattle.orca_cli.specs.Sections.{Tells};
+ghost use Rattle.orca_cli.specs.Views.{text_of};
 
-use command_line::Choices;
-use job_engine::{Outcome, RunNote};
+use crate::answer::ending_of;
+use crate::asked::Asked;
+use crate::ending::Ending;
+use command_line::{Choices, GenInput};
+use job_engine::{RunNote, search_alone, search_by_crew};
 use orca_io::Gate;
-use query_core::Query;
-use request_props::Props;
 use std::alloc::{AllocError, Global};
 use std::sync::Wait;
 use std::thread::Threads;
 
-/// What the search of a query gave: the words of its members and its goals, and the worker of each goal.
-#[derive(Clone, Copy)]
-pub struct Search<'a> {
-    pub query: &'a Query,
-    pub props: &'a Props,
-    pub members: &'a [u64],
-    pub goals: &'a [u64],
-    pub who: &'a [u32],
-}
-
-/// Searches by one worker. It returns.
-pub fn search_alone(
+/// The ending of a query that one worker searches. It returns.
+pub fn searched_alone(
     alloc: Global,
     choices: Choices,
-    query: &Query,
-    props: &Props,
+    generated: Option<GenInput>,
+    asked: &Asked,
     note: &mut RunNote,
-) -> Result<Outcome, AllocError>
-    requires props { IsProps query.now props.now }
+) -> Result<Ending, AllocError>
+    requires props { IsProps asked.now.query asked.now.props }
     requires choices { AreChoices choices }
     requires alone { choices.workers ≡ 1 }
-    ensures ends { IfOk result (RunEnds query.now choices.capacity choices.workers) }
-    ensures noted { IfOk result
-        (λ outcome. IsNoted choices.capacity choices.workers outcome note.new) }
+    ensures { IfOk result
+        (λ ending. IsSearchEnd (Tells generated choices asked.now.query) choices
+        asked.now.query note.new ending.status (text_of ending)) }
 {
-    job_engine::search_alone(alloc, query, props, choices.capacity, note)
+    let outcome = search_alone(alloc, &asked.query, &asked.props, choices.capacity, note)?;
+    ending_of(alloc, choices, generated, asked, &outcome)
 }
 
-/// Searches by the workers that the command chooses.
-pub fn search_by_crew<R: Threads + Wait + Sync, G: Gate>(
+/// The ending of a query that the workers search whom the command chooses.
+pub fn searched_by_crew<R: Threads + Wait + Sync, G: Gate>(
     rt: &R,
     alloc: Global,
     choices: Choices,
-    query: &Query,
-    props: &Props,
+    generated: Option<GenInput>,
+    asked: &Asked,
     gate: &G,
     note: &mut RunNote,
-) -> Result<Outcome, AllocError>
-    requires props { IsProps query.now props.now }
+) -> Result<Ending, AllocError>
+    requires props { IsProps asked.now.query asked.now.props }
     requires choices { AreChoices choices }
-    ensures ends { IfOk result (RunEnds query.now choices.capacity choices.workers) }
-    ensures noted { IfOk result
-        (λ outcome. IsNoted choices.capacity choices.workers outcome note.new) }
+    ensures { IfOk result
+        (λ ending. IsSearchEnd (Tells generated choices asked.now.query) choices
+        asked.now.query note.new ending.status (text_of ending)) }
 {
-    job_engine::search_by_crew(
+    let outcome = search_by_crew(
         rt,
         alloc,
-        query,
-        props,
+        &asked.query,
+        &asked.props,
         choices.capacity,
         choices.workers,
         gate,
         note,
-    )
-}
-
-/// Searches by one worker where one is chosen, and else by so many. This is the one place where a run
-/// by one worker and a run by a crew part.
-pub fn search_as_chosen<R: Threads + Wait + Sync, G: Gate>(
-    rt: &R,
-    alloc: Global,
-    choices: Choices,
-    query: &Query,
-    props: &Props,
-    gate: &G,
-    note: &mut RunNote,
-) -> Result<Outcome, AllocError>
-    requires props { IsProps query.now props.now }
-    requires choices { AreChoices choices }
-    ensures ends { IfOk result (RunEnds query.now choices.capacity choices.workers) }
-    ensures noted { IfOk result
-        (λ outcome. IsNoted choices.capacity choices.workers outcome note.new) }
-{
-    if choices.workers == 1 {
-        search_alone(alloc, choices, query, props, note)
-    } else {
-        search_by_crew(rt, alloc, choices, query, props, gate, note)
-    }
+    )?;
+    ending_of(alloc, choices, generated, asked, &outcome)
 }

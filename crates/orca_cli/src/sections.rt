@@ -4,9 +4,9 @@ ghost use Rattle.orca_cli.specs.Searches.{IsSearch};
 ghost use Rattle.orca_cli.specs.Sections.{GoesOn, IsBehind, IsByWorker, StartsMemo, IsMemo, IsSectionText, IsTrace, StartsTrace, is_asked as is_asked_by};
 ghost use Rattle.orca_cli.specs.Views.{text_of};
 
+use crate::answer::Search;
 use crate::ending::Ending;
 use crate::planning::PlanLines;
-use crate::search::Search;
 use command_line::Choices;
 use goal_children::{children_are_over_the_query, goal_lists_are_known};
 use job_trace::{crew_text, memo_line, memo_text, trace_line, trace_text};

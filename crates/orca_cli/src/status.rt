@@ -4,7 +4,7 @@ ghost use Rattle.orca_cli.specs.Status.{number_of};
 /// How a run ended.
 #[derive(Clone, Copy, Debug, PartialEq, Eq)]
 pub enum Status {
-    /// The text is that of the least plan.
+    /// The text is that of the least plan, or of a batch.
     Planned,
     /// No plan gives what is asked for.
     NoPlan,
@@ -22,13 +22,26 @@ pub enum Status {
     WriteFault,
     /// Memory was refused, and nothing was put.
     Memory,
+    /// The list of queries is refused; the text says why.
+    BatchRefused,
 }
 
 impl Status {
-    /// The number with which the program ends: 0 to 8, in the order of the statuses.
+    /// The number with which the program ends.
     pub fn number(self) -> u8
         ensures { result ≡ number_of self }
     {
-        self as u8
+        match self {
+            Status::Planned => 0,
+            Status::NoPlan => 1,
+            Status::Usage => 2,
+            Status::QueryRefused => 3,
+            Status::CatalogRefused => 4,
+            Status::TooManyEntries => 5,
+            Status::ReadFault => 6,
+            Status::WriteFault => 7,
+            Status::Memory => 8,
+            Status::BatchRefused => 11,
+        }
     }
 }

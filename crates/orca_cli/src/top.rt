@@ -1,29 +1,26 @@
 //! The top call: words, files, query, search, ending, put.
 ghost use Rattle.std.specs.Prelude.{◌≡◌, ◌⊎◌, ℕ, List, None, map, string_bytes};
 ghost use Rattle.command_line.specs.Reading.{command_of};
-ghost use Rattle.command_line.specs.Views.{task_read};
 ghost use Rattle.orca_cli.specs.Causes.{Completes};
 ghost use Rattle.orca_cli.specs.Run.{Ends, IsRun, puts};
-ghost use Rattle.orca_cli.specs.Prepared.{AsksForOne, IsUsage, generated_in as input_of, reads};
-ghost use Rattle.orca_cli.specs.Views.{EndsAs, IsEndOf};
+ghost use Rattle.orca_cli.specs.Prepared.{AsksForOne, IsUsage, reads};
+ghost use Rattle.orca_cli.specs.Views.{EndsAs, EndsWith, IsEndOf};
 
-use crate::answer::ended;
 use crate::ending::{End, Ending};
 use crate::laws::endings_have_causes;
 use crate::prepared::{USAGE, prepared};
-use crate::search::{search_alone, search_as_chosen};
 use crate::status::Status;
 use crate::text::put_texts;
-use command_line::{GenInput, Task};
+use crate::work::{done_alone, done_as_chosen};
 use job_engine::RunNote;
 use orca_io::{Gate, Shelf, Sink};
 use std::alloc::Global;
 use std::sync::Wait;
 use std::thread::Threads;
 
-/// Does what the words of a command line ask for: reads the files on the shelf, searches the query by
-/// so many workers as the command chooses, and puts the text into the sink line by line. The text is
-/// made whole in memory first.
+/// Does what the words of a command line ask for: reads the files on the shelf, searches the query, or
+/// each query of a list, by so many workers as the command chooses, and puts the text into the sink line
+/// by line. The text is made whole in memory first.
 pub fn orca_run<R: Threads + Wait + Sync, S: Shelf, K: Sink, G: Gate>(
     rt: &R,
     alloc: Global,
@@ -46,24 +43,8 @@ pub fn orca_run<R: Threads + Wait + Sync, S: Shelf, K: Sink, G: Gate>(
     ensures same { (n : List ℕ) → S.held shelf.new n ≡ S.held shelf.old n }
 {
     endings_have_causes();
-    match prepared(alloc, words, shelf) {
-        Ok(wanted) => {
-            let choices = wanted.command.choices;
-            let asked = &wanted.asked;
-            let found = search_as_chosen(
-                rt,
-                alloc,
-                choices,
-                &asked.query,
-                &asked.props,
-                gate,
-                note,
-            );
-            let generated = generated_in(wanted.command.task);
-            put(out, ended(alloc, choices, generated, asked, found))
-        }
-        Err(end) => put(out, end),
-    }
+    let end = end_as_chosen(rt, alloc, words, shelf, gate, note);
+    put(out, end)
 }
 
 /// The part of `orca_run` for one worker. It returns.
@@ -88,16 +69,8 @@ pub fn orca_alone<S: Shelf, K: Sink>(
     ensures same { (n : List ℕ) → S.held shelf.new n ≡ S.held shelf.old n }
 {
     endings_have_causes();
-    match prepared(alloc, words, shelf) {
-        Ok(wanted) => {
-            let choices = wanted.command.choices;
-            let asked = &wanted.asked;
-            let found = search_alone(alloc, choices, &asked.query, &asked.props, note);
-            let generated = generated_in(wanted.command.task);
-            put(out, ended(alloc, choices, generated, asked, found))
-        }
-        Err(end) => put(out, end),
-    }
+    let end = end_alone(alloc, words, shelf, note);
+    put(out, end)
 }
 
 /// Puts the line that says which commands there are, as for words that are none.
@@ -112,13 +85,39 @@ pub fn put_usage<K: Sink>(out: &mut K) -> Status
     }
 }
 
-// What is made for `gen`.
-fn generated_in(task: Task<'_>) -> Option<GenInput>
-    ensures { result ≡ input_of (task_read task.entry) }
+// The end of a run by as many workers as the command chooses.
+fn end_as_chosen<R: Threads + Wait + Sync, S: Shelf, G: Gate>(
+    rt: &R,
+    alloc: Global,
+    words: &[String],
+    shelf: &mut S,
+    gate: &G,
+    note: &mut RunNote,
+) -> End
+    ensures ends { EndsWith (IsRun (command_of (map string_bytes words.now))
+        (reads (S.held shelf.old) (S.faults shelf.old) (S.faults shelf.new)) note.old note.new)
+        result }
+
+    ensures same { (n : List ℕ) → S.held shelf.new n ≡ S.held shelf.old n }
 {
-    match task {
-        Task::Plan(_) => None,
-        Task::Gen(made) => Some(made.input),
+    match prepared(alloc, words, shelf) {
+        Ok(wanted) => done_as_chosen(rt, alloc, &wanted, gate, note),
+        Err(end) => end,
+    }
+}
+
+// The end of a run by one worker.
+fn end_alone<S: Shelf>(alloc: Global, words: &[String], shelf: &mut S, note: &mut RunNote) -> End
+    requires { AsksForOne (command_of (map string_bytes words.now)) }
+    ensures ends { EndsWith (IsRun (command_of (map string_bytes words.now))
+        (reads (S.held shelf.old) (S.faults shelf.old) (S.faults shelf.new)) note.old note.new)
+        result }
+
+    ensures same { (n : List ℕ) → S.held shelf.new n ≡ S.held shelf.old n }
+{
+    match prepared(alloc, words, shelf) {
+        Ok(wanted) => done_alone(alloc, &wanted, note),
+        Err(end) => end,
     }
 }
 

@@ -1,7 +1,10 @@
 use Rattle.query_core.specs.Keys.{root_of}
-use Rattle.request_props.specs.Numbered.{root_request}
+use Rattle.query_core.specs.declared.query.Query.{Query}
+use Rattle.request_props.specs.Numbered.{root_request, IsWithinLimits}
+use Rattle.plan_space.specs.Nodes.{Tree}
+use Rattle.plan_space.specs.Least.{IsLeastPlan}
 use Rattle.orca_cli.proofs.OneAnswer.{one_answer_of}
-use Rattle.orca_cli.proofs.Outcomes.{one_outcome_of, one_generated_of}
+use Rattle.orca_cli.proofs.Outcomes.{one_outcome_of, one_generated_of, one_batch_of, lines_as_planned}
 use Rattle.orca_cli.proofs.SectionTexts.{OneSections}
 use Rattle.orca_cli.proofs.laws.one_outcome.Goals as goal
 
@@ -20,11 +23,11 @@ returns c =
       memo_line = c.memos_are_known.ensures.line;
       trace_line = c.traces_are_known.ensures.line;
     } in
+    let least = λ (q : Query) (s t : Tree) (within : IsWithinLimits q) (one : IsLeastPlan q s) (other : IsLeastPlan q t).
+    c.least_is_one.ensures q within.few_lists within.few_orders (root_of q) (root_request q) t s other one in
     record {
-      outcome = one_outcome_of answer sections
-          (λ q s t within one other. c.least_is_one.ensures q within.few_lists within.few_orders (root_of q)
-          (root_request q) t s other one);
-      generated = one_generated_of answer sections
-          (λ q s t within one other. c.least_is_one.ensures q within.few_lists within.few_orders (root_of q)
-          (root_request q) t s other one);
+      outcome = one_outcome_of answer sections least;
+      generated = one_generated_of answer sections least;
+      batch = one_batch_of answer sections least;
+      lines = lines_as_planned answer sections least;
     }

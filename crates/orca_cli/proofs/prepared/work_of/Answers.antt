@@ -1,0 +1,9 @@
+use Rattle.orca_cli.proofs.prepared.work_of.Goals as goal
+
+-- the files of a plan stop it
+pub returns-in-Err-clause-stops : goal.returns-in-Err-clause-stops
+returns-in-Err-clause-stops g c = rw c.in-Plan.is c.in-Err.ensures.stops
+
+-- or those of a batch
+pub returns-in-Err-listed_by_files-clause-stops : goal.returns-in-Err-listed_by_files-clause-stops
+returns-in-Err-listed_by_files-clause-stops g c = rw c.in-Batch.is c.in-Err-listed_by_files.ensures.stops

@@ -1,0 +1,18 @@
+use Rattle.orca_cli.specs.Lists.{IsListRefused}
+use Rattle.orca_cli.specs.Run.{IsRun}
+use Rattle.orca_cli.proofs.Ended.{ends_then, query_run, refused_run}
+use Rattle.orca_cli.proofs.work.done_alone.Goals as goal
+
+-- the query was searched
+pub returns-in-Ok : goal.returns-in-Ok
+returns-in-Ok c = λ named shelf is.
+    query_run named shelf c.args.note.now c.searched_alone.new.note c.args.wanted.now c.in-Query.asked
+    c.generated_in-generated.result _ _ c.in-Query.is is c.generated_in-generated.ensures c.in-Ok.ensures
+
+-- the list was refused
+pub returns-in-Err-batch_alone : goal.returns-in-Err-batch_alone
+returns-in-Err-batch_alone c = λ named shelf is.
+    ends_then (IsListRefused c.args.wanted.now.command.choices.capacity c.in-List.listed.list.items)
+    (IsRun named shelf c.args.note.now c.args.note.now) c.in-Err-batch_alone.end
+    (λ s t why. refused_run named shelf c.args.note.now c.args.wanted.now c.in-List.listed c.in-List.is is s t why)
+    c.in-Err-batch_alone.ensures.stops
