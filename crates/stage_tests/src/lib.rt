@@ -1,0 +1,5 @@
+//! Queries planned in stages; tests alone.
+#![tactic(auto)]
+
+#[cfg(test)]
+mod stage_tests;
