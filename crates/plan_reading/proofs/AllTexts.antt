@@ -20,7 +20,7 @@ use Rattle.plan_space.proofs.ModeNumbers.{plain_at, copied_at, hashed_at}
 use Rattle.plan_check.specs.Nodes.{IsEnforcerOf}
 use Rattle.plan_reading.specs.Named.{named_operator, named_text, HasForm, HasOnlyForm, HasReadForm}
 use Rattle.plan_reading.specs.Named.{HasHashForm, HasMergeForm, HasLoopForm, HasAggForm}
-use Rattle.plan_reading.specs.NodeOver.{number_in}
+use Rattle.plan_reading.specs.NodeOver.{number_in, IsSmall}
 use Rattle.plan_reading.specs.Texts.{IsNodeText, IsNodeTexts, Adds, IsOfMove, IsOfNumbers, IsOfJoin, IsOfAgg}
 use Rattle.plan_reading.specs.Texts.{IsOfOperator, IsOfTables, index_numbers}
 use Rattle.plan_reading.specs.declared.named.Named.{Named}
@@ -108,17 +108,11 @@ module _ (q : Query) where
 
   -- ---- the whole list
 
-  -- the number of the mode is one that the numbers of modes have place for
-  abbrev IsSmall : Mode → Type 0
-  IsSmall (modes.Plain number) = number < 64
-  IsSmall (modes.Copied number) = number < 64
-  IsSmall (modes.Hashed number) = number < 64
+  pub record HasNumber (mode : Mode) : Type 0 where
+    pub less : number_in mode < modes_end
+    pub back : mode ≡ mode_at (number_in mode)
 
-  record HasNumber (mode : Mode) : Type 0 where
-    less : number_in mode < modes_end
-    back : mode ≡ mode_at (number_in mode)
-
-  has_number : (mode : Mode) → IsSmall mode → HasNumber mode
+  pub has_number : (mode : Mode) → IsSmall mode → HasNumber mode
   has_number (modes.Plain n) small = record { less = omega (arith, small); back = sym (plain_at n small) }
   has_number (modes.Copied n) small = record {
     less = omega (arith, small);
@@ -138,34 +132,34 @@ module _ (q : Query) where
   preds_small : (n : ℕ) → n < length q.preds → n < 64
   preds_small n below = let few = q.preds_valid.few in omega (arith, below, few)
 
-  only_small : (mode : Mode) → HasOnlyForm mode → IsSmall mode
+  pub only_small : (mode : Mode) → HasOnlyForm mode → IsSmall mode
   only_small (modes.Plain n) form = omega (arith, form)
   only_small (modes.Copied n) form = absurd form
   only_small (modes.Hashed n) form = absurd form
 
-  read_small : (t : ℕ) (mode : Mode) → HasReadForm q t mode → IsSmall mode
+  pub read_small : (t : ℕ) (mode : Mode) → HasReadForm q t mode → IsSmall mode
   read_small t (modes.Plain n) form = let few = read_few q t n form in omega (arith, few)
   read_small t (modes.Copied n) form = absurd form
   read_small t (modes.Hashed n) form = absurd form
 
-  hash_small : (mode : Mode) → HasHashForm q mode → IsSmall mode
+  pub hash_small : (mode : Mode) → HasHashForm q mode → IsSmall mode
   hash_small (modes.Plain n) form = omega (arith, form)
   hash_small (modes.Copied n) form = omega (arith, form)
   hash_small (modes.Hashed n) form = preds_small n form
 
-  merge_small : (mode : Mode) → HasMergeForm q mode → IsSmall mode
+  pub merge_small : (mode : Mode) → HasMergeForm q mode → IsSmall mode
   merge_small (modes.Plain n) form = preds_small n form
   merge_small (modes.Copied n) form = preds_small n form
   merge_small (modes.Hashed n) form = preds_small n form
 
-  loop_small : (mode : Mode) → HasLoopForm mode → IsSmall mode
+  pub loop_small : (mode : Mode) → HasLoopForm mode → IsSmall mode
   loop_small (modes.Plain n) form = omega (arith, form)
   loop_small (modes.Copied n) form = omega (arith, form)
   loop_small (modes.Hashed n) form = absurd form
 
   module _ (few_lists : length (lists_of q) ≤ 60) (few_orders : length (orders_of q) ≤ 60)
       (index_few : (t i : ℕ) → HasIndex q t i → (t < length q.tables) × (i < index_numbers)) where
-    agg_small : (mode : Mode) → HasAggForm q mode → IsSmall mode
+    pub agg_small : (mode : Mode) → HasAggForm q mode → IsSmall mode
     agg_small (modes.Plain n) form = omega (arith, form)
     agg_small (modes.Copied n) form = absurd form
     agg_small (modes.Hashed n) form = omega (arith, form, few_lists)

@@ -8,19 +8,19 @@ mod Lists
 mod Marks
 mod ReadTexts
 mod Nodes
-mod OneTree
+pub mod OneTree
 mod Bare
 mod LineTexts
-mod Formed
-mod Sections
-mod Valid
+pub mod Formed
+pub mod Sections
+pub mod Valid
 mod PartCuts
 mod LineParts
 mod WrittenNumbers
-mod Forests
-mod NodeOver
-mod AllTexts
-mod Indexes
+pub mod Forests
+pub mod NodeOver
+pub mod AllTexts
+pub mod Indexes
 mod Ended
 mod Ways
 mod Beginnings

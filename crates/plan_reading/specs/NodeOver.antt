@@ -1,5 +1,5 @@
 -- The node that a line names over kids of some groups.
-use Rattle.std.specs.Prelude.{ℕ, ◌+◌, List, [], ◌∷◌, bit_or}
+use Rattle.std.specs.Prelude.{ℕ, ◌+◌, ◌<◌, List, [], ◌∷◌, bit_or}
 use Rattle.query_core.specs.Keys.{tables_of}
 use Rattle.query_core.specs.declared.words.KeyParts.{KeyParts}
 use Rattle.query_core.specs.declared.words.KeyParts.TheVariants as groups
@@ -19,6 +19,12 @@ abbrev pub number_in : Mode → ℕ
 number_in (modes.Plain number) = number
 number_in (modes.Copied number) = 64 + number
 number_in (modes.Hashed number) = 128 + number
+
+-- the number of the mode is one that the numbers of modes have place for
+abbrev pub IsSmall : Mode → Type 0
+IsSmall (modes.Plain number) = number < 64
+IsSmall (modes.Copied number) = number < 64
+IsSmall (modes.Hashed number) = number < 64
 
 -- the group of the second of a node's kids
 abbrev pub second_group : List Kid → KeyParts

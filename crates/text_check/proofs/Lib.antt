@@ -1,0 +1,4 @@
+mod Trees
+mod Names
+mod LineBlocks
+mod Steps

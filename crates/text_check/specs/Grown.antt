@@ -1,0 +1,180 @@
+-- The plans that are made of lines, from the last line up.
+use Rattle.std.specs.Prelude.{ℕ, ◌≡◌, ◌<◌, ◌≤◌, ◌+◌, List, [], ◌∷◌, ◌++◌, Option, None, Some, map, ⊤}
+use Rattle.query_core.specs.Keys.{root_of, IsInRange}
+use Rattle.query_core.specs.declared.query.Query.{Query}
+use Rattle.plan_space.specs.Gives.{node_group, kid_of}
+use Rattle.plan_space.specs.Nodes.{Tree, leaf, over, two, node_modes}
+use Rattle.plan_space.specs.declared.nodes.NodeKind.{NodeKind}
+use Rattle.plan_space.specs.declared.nodes.NodeKind.TheVariants as nodes
+use Rattle.plan_space.specs.declared.seen.Kid.{Kid}
+use Rattle.plan_tree.specs.Seen.{root_node}
+use Rattle.plan_tree.specs.Spells.{Spells}
+use Rattle.plan_check.specs.Kids.{HasKids}
+use Rattle.plan_check.specs.Nodes.{IsKindOf}
+use Rattle.plan_check.specs.Places.{IsLastWithout}
+use Rattle.plan_reading.specs.Lines.{sketch}
+use Rattle.plan_reading.specs.Named.{named_of}
+use Rattle.plan_reading.specs.Outline.{outline, IsPlanTree}
+use Rattle.plan_reading.specs.NodeOver.{IsSmall}
+use Rattle.plan_reading.specs.declared.line.NodeLine.{NodeLine}
+use Rattle.plan_reading.specs.declared.named.Named.{Named}
+use Rattle.plan_reading.specs.declared.named.Named.TheVariants as named
+use Rattle.text_check.specs.Blocks.{Fits, EndsBlock, tails}
+use Rattle.text_check.specs.declared.fault.TreeFault.{TreeFault}
+use Rattle.text_check.specs.declared.fault.TreeFault.TheVariants as faults
+use Rattle.text_check.specs.declared.kids.Grown.{Grown}
+use Rattle.text_check.specs.declared.kids.Kids.{Kids}
+use Rattle.text_check.specs.declared.kids.Kids.TheVariants as kids
+
+-- ---- one plan
+
+-- the plans below a plan's root
+abbrev pub subtrees : Tree → List Tree
+subtrees (leaf node) = []
+subtrees (over node kid) = kid ∷ []
+subtrees (two node left right) = left ∷ right ∷ []
+
+-- a plan with the line's node at its root, over these, and at level 0 of the query's root
+pub record StandsOver (q : Query) (line : NodeLine) (below : List Tree) (tree : Tree) : Type 0 where
+  pub is_tree : IsPlanTree q tree
+  pub over : subtrees tree ≡ below
+  pub named : named_of (root_node tree) ≡ line.node
+  pub of_root : line.level ≡ 0 → (kid_of q tree).group ≡ root_of q
+
+-- the node may stand over plans that are seen so, at the level of the line
+pub record MayStand (q : Query) (level : ℕ) (node : NodeKind) (seen : List Kid) : Type 0 where
+  pub kind : IsKindOf q node
+  pub has_kids : HasKids node seen
+  pub of_root : level ≡ 0 → node_group node seen ≡ root_of q
+
+-- an expression's mode is one that a node's number can name
+abbrev pub HasMode : NodeKind → Type 0
+HasMode (nodes.Native e mode) = mode < node_modes
+HasMode (nodes.Enforcer e) = ⊤
+
+-- its mode, if it has one, is small
+abbrev pub HasSmallMode : Named → Type 0
+HasSmallMode (named.Scan table mode) = IsSmall mode
+HasSmallMode (named.IndexScan table index mode) = IsSmall mode
+HasSmallMode (named.Filter table mode) = IsSmall mode
+HasSmallMode (named.IndexSeek table index mode) = IsSmall mode
+HasSmallMode (named.HashJoin mode) = IsSmall mode
+HasSmallMode (named.MergeJoin mode) = IsSmall mode
+HasSmallMode (named.LoopJoin mode) = IsSmall mode
+HasSmallMode (named.HashAgg mode) = IsSmall mode
+HasSmallMode (named.StreamAgg mode) = IsSmall mode
+HasSmallMode (named.PartialAgg mode) = IsSmall mode
+HasSmallMode (named.Enforcer e) = ⊤
+
+-- the program's plan is this tree, and seen as that is
+pub record IsGrown (q : Query) (grown : Grown) (tree : Tree) : Type 0 where
+  pub is_tree : IsPlanTree q tree
+  pub spells : Spells grown.plan tree
+  pub seen : grown.kid ≡ kid_of q tree
+
+-- so are these
+abbrev pub AreGrown : Query → List Grown → List Tree → Type 0
+AreGrown q [] [] = ⊤
+AreGrown q [] (tree ∷ trees) = ⊥
+AreGrown q (grown ∷ others) [] = ⊥
+AreGrown q (grown ∷ others) (tree ∷ trees) = IsGrown q grown tree × AreGrown q others trees
+
+-- the plan of the line over these
+pub record IsOver (q : Query) (line : NodeLine) (below : List Tree) (grown : Grown) : Type 0 where
+  pub tree : Tree
+  pub stands : StandsOver q line below tree
+  pub is : IsGrown q grown tree
+  pub level : grown.level ≡ line.level
+
+-- ---- the plans below a node
+
+-- none, one or two, the left one first
+abbrev pub kids_list : Kids → List Grown
+kids_list kids.Nothing = []
+kids_list (kids.One only) = only ∷ []
+kids_list (kids.Two left right) = left ∷ right ∷ []
+
+-- what is seen of them
+abbrev pub seen_of : List Grown → List Kid
+seen_of list = map (λ grown. grown.kid) list
+
+-- their groups are groups that some query can have
+abbrev pub HaveRanges : List Kid → Type 0
+HaveRanges [] = ⊤
+HaveRanges (kid ∷ others) = IsInRange kid.group × HaveRanges others
+
+-- a node over none, one or two plans
+abbrev pub tree_over : NodeKind → List Tree → Tree
+tree_over node [] = leaf node
+tree_over node (kid ∷ []) = over node kid
+tree_over node (left ∷ right ∷ others) = two node left right
+
+-- ---- the plans of all lines, the one of the first line first
+
+-- it lies deeper
+abbrev pub IsDeeper : ℕ → Grown → Type 0
+IsDeeper level grown = level < grown.level
+
+-- each of them lies deeper
+abbrev pub AreDeeper : ℕ → List Grown → Type 0
+AreDeeper level [] = ⊤
+AreDeeper level (grown ∷ others) = IsDeeper level grown × AreDeeper level others
+
+-- the first of them doesn't lie deeper
+abbrev pub EndsAt : ℕ → List Grown → Type 0
+EndsAt level [] = ⊤
+EndsAt level (grown ∷ others) = grown.level ≤ level
+
+-- the first plan is that of a block of lines, behind which none is part of it
+pub record IsBlock (q : Query) (grown : Grown) (tree : Tree) (lines block rest : List NodeLine) : Type 0 where
+  pub parts : lines ≡ block ++ rest
+  pub is : IsGrown q grown tree
+  pub spelled : map sketch block ≡ outline grown.level tree
+  pub of_root : grown.level ≡ 0 → (kid_of q tree).group ≡ root_of q
+  pub ends : EndsBlock grown.level rest
+
+-- the plans of the lines, block by block
+abbrev pub AreOf : Query → List Grown → List NodeLine → Type 0
+AreOf q [] lines = lines ≡ []
+AreOf q (grown ∷ others) lines = (tree : Tree) × (block : List NodeLine) × (rest : List NodeLine)
+    × IsBlock q grown tree lines block rest × AreOf q others rest
+
+-- the first lies deeper
+abbrev pub IsFirstDeeper : ℕ → List Grown → Type 0
+IsFirstDeeper level [] = ⊥
+IsFirstDeeper level (grown ∷ others) = IsDeeper level grown
+
+-- the first was taken off, if it lies deeper
+abbrev pub IsPopped : ℕ → List Grown → List Grown → Option Grown → Type 0
+IsPopped level before after None = (before ≡ after) × EndsAt level after
+IsPopped level before after (Some first) = (before ≡ first ∷ after) × IsDeeper level first
+
+-- the deeper plans were taken off, none, one or two of them; there are more where none are told
+abbrev pub IsTaken : ℕ → List Grown → List Grown → Option Kids → Type 0
+IsTaken level before after None = (first : Grown) × (second : Grown) × (third : Grown) × (others : List Grown)
+    × (before ≡ first ∷ second ∷ third ∷ others) × AreDeeper level (first ∷ second ∷ third ∷ [])
+IsTaken level before after (Some taken) =
+    (before ≡ kids_list taken ++ after) × AreDeeper level (kids_list taken) × EndsAt level after
+
+-- ---- all lines
+
+-- the lines are those of the plan, which is of the query's root
+pub record AreLinesOf (q : Query) (lines : List NodeLine) (tree : Tree) : Type 0 where
+  pub is_tree : IsPlanTree q tree
+  pub spelled : map sketch lines ≡ outline 0 tree
+  pub of_root : (kid_of q tree).group ≡ root_of q
+
+-- a line fits over those behind it
+abbrev pub LineFits : Query → NodeLine × List NodeLine → Type 0
+LineFits q at = Fits q at.0 at.1
+
+-- this is the last line that doesn't fit, where the first two are counted too
+pub record IsMisfit (q : Query) (lines : List NodeLine) (line : ℕ) : Type 0 where
+  pub place : ℕ
+  pub line_is : line ≡ place + 2
+  pub last : IsLastWithout (LineFits q) (tails lines) place
+
+-- the fault is that of the lines
+abbrev pub HasTreeFault : Query → List NodeLine → TreeFault → Type 0
+HasTreeFault q lines (faults.Kids line) = IsMisfit q lines line
+HasTreeFault q lines faults.Memory = ⊤

@@ -1,0 +1,77 @@
+//! The plans that were made of the last lines, and those of them that a node stands over.
+#![tactic(auto)]
+
+ghost use Rattle.std.specs.Prelude.{◌≡◌, ◌↔◌, ◌<◌, IsTrue, reverse};
+ghost use Rattle.plan_tree.specs.Seen.{kids_seen};
+ghost use Rattle.text_check.specs.Grown.{IsTaken, IsPopped, IsFirstDeeper, kids_list, seen_of};
+
+use plan_space::Kid;
+use plan_tree::{Below, Plan};
+
+/// A plan, the level of its line, and what is seen of it.
+#[derive(Drop)]
+pub struct Grown {
+    pub level: u32,
+    pub plan: Plan,
+    pub kid: Kid,
+}
+
+/// The plans that a node stands over.
+#[derive(Drop)]
+pub enum Kids {
+    Nothing,
+    One(Grown),
+    /// The left one and the right one.
+    Two(Grown, Grown),
+}
+
+impl Kids {
+    /// What a node sees of them.
+    pub fn seen(&self) -> Below
+        ensures { kids_seen result ≡ seen_of (kids_list self.now) }
+    {
+        match self {
+            Kids::Nothing => Below::Nothing,
+            Kids::One(only) => Below::One(only.kid),
+            Kids::Two(left, right) => Below::Two(left.kid, right.kid),
+        }
+    }
+}
+
+/// Takes off the plans that lie deeper than this level, where they are at most two. The first plan
+/// is the last of the list.
+pub fn take_kids(grown: &mut Vec<Grown>, level: u32) -> Option<Kids>
+    ensures { IsTaken level (reverse grown.old.items) (reverse grown.new.items) result }
+{
+    let Some(left) = take_deeper(grown, level) else {
+        return Some(Kids::Nothing);
+    };
+    let Some(right) = take_deeper(grown, level) else {
+        return Some(Kids::One(left));
+    };
+    match take_deeper(grown, level) {
+        Some(_) => None,
+        None => Some(Kids::Two(left, right)),
+    }
+}
+
+// The first plan, if it lies deeper than this level.
+fn take_deeper(grown: &mut Vec<Grown>, level: u32) -> Option<Grown>
+    ensures { IsPopped level (reverse grown.old.items) (reverse grown.new.items) result }
+{
+    if is_deeper(grown.as_slice(), level) {
+        grown.pop()
+    } else {
+        None
+    }
+}
+
+// Whether the first plan lies deeper than this level.
+fn is_deeper(grown: &[Grown], level: u32) -> bool
+    ensures { IsTrue result ↔ IsFirstDeeper level (reverse grown.now) }
+{
+    match grown.split_last() {
+        Some((first, _)) => level < first.level,
+        None => false,
+    }
+}
