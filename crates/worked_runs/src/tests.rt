@@ -286,8 +286,8 @@ fn other_words_get_the_usage_line(rt: HostRuntime) -> Result<(), Fail> {
     Ok(())
 }
 
-// What one worker answers, where the words are a command for one.
-fn alone(
+/// What one worker answers, where the words are a command for one.
+pub fn alone(
     alloc: Global,
     words: &[String],
     shelf: &mut MemShelf,
