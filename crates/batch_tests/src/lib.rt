@@ -1,5 +1,7 @@
-//! Batches of numbers; tests alone.
+//! Batches of numbers, and of queries; tests alone.
 #![tactic(auto)]
 
 #[cfg(test)]
 mod pool_tests;
+#[cfg(test)]
+mod search_tests;
