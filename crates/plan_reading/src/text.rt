@@ -2,7 +2,7 @@
 #![tactic(auto)]
 
 ghost use Rattle.std.specs.Prelude.{◌≡◌, ◌≢◌, ◌++◌, ℕ, ◌<◌, ◌≤◌, ◌^◌, List, length, MatchOption, IfSome, IfOk, IfErr, IsTrue, ◌↔◌};
-ghost use Rattle.query_core.specs.declared.query.Query.{Query as Any};
+ghost use Rattle.query_core.specs.declared.query.Query.{Query as AnyQuery};
 ghost use Rattle.request_props.specs.Numbered.{IsProps};
 ghost use Rattle.plan_lines.specs.Text.{output_line as line_of_output};
 ghost use Rattle.plan_reading.specs.Texts.{IsNodeTexts};
@@ -93,7 +93,7 @@ fn read_by(
     text: &[u8],
 ) -> Result<Lines, LineFault>
     requires short { length text.now ≤ most_bytes }
-    ensures { (q : Any) → IsNodeTexts q texts.now → output.now ≡ line_of_output q →
+    ensures { (q : AnyQuery) → IsNodeTexts q texts.now → output.now ≡ line_of_output q →
         IsRead q text.now result }
 {
     let Some(first) = first_line(text) else {
@@ -135,9 +135,9 @@ fn behind<'t>(text: &'t [u8], piece: &[u8]) -> Option<&'t [u8]>
 // The lines of nodes.
 fn read_nodes(alloc: Global, texts: &[NodeText], text: &[u8]) -> Result<Vec<NodeLine>, LineFault>
     requires { length text.now ≤ most_bytes }
-    ensures ok { (q : Any) → IsNodeTexts q texts.now →
+    ensures ok { (q : AnyQuery) → IsNodeTexts q texts.now →
         IfOk result (λ nodes. AreLines q text.now nodes.items) }
-    ensures fault { (q : Any) → IsNodeTexts q texts.now →
+    ensures fault { (q : AnyQuery) → IsNodeTexts q texts.now →
         IfErr result (HasNodeFault q text.now) }
 {
     let mut nodes = Vec::new(alloc);
@@ -159,7 +159,7 @@ fn read_nodes(alloc: Global, texts: &[NodeText], text: &[u8]) -> Result<Vec<Node
 // The line of a node behind one of this level, or as the first.
 fn next_line<'t>(texts: &[NodeText], last: Option<u32>, text: &'t [u8]) -> Option<NextLine<'t>>
     requires { length text.now ≤ most_bytes }
-    ensures found { (q : Any) → IsNodeTexts q texts.now → MatchOption result
+    ensures found { (q : AnyQuery) → IsNodeTexts q texts.now → MatchOption result
         (HasNoNext q last text.now) (λ n. IsNext q last text.now n.line n.rest.now) }
     ensures shorter { IfSome result (λ n. length n.rest.now < length text.now) }
 {

@@ -4,7 +4,7 @@
 ghost use Rattle.std.specs.Prelude.{◌≡◌, ◌↔◌, ◌<◌, ◌≤◌, ℕ, List, IsTrue, IfOk, IfErr, MatchOption, length, reverse, map};
 ghost use Rattle.std.specs.List.{All};
 ghost use Rattle.query_core.specs.Keys.{root_of};
-ghost use Rattle.query_core.specs.declared.query.Query.{Query as Any};
+ghost use Rattle.query_core.specs.declared.query.Query.{Query as AnyQuery};
 ghost use Rattle.query_core.specs.Expressions.{expr_of, physical_fields, AreInRange as ChildrenInRange, IsPacked};
 ghost use Rattle.request_props.specs.Numbered.{IsProps};
 ghost use Rattle.plan_space.specs.Gives.{kid_of};
@@ -106,7 +106,7 @@ fn over(
 
 // The plan of a node over these.
 fn plan_over(alloc: Global, node: Node, kids: Kids) -> Result<Plan, AllocError>
-    ensures { (q : Any) (kind : Kind) (trees : List Tree) → IsNode node kind →
+    ensures { (q : AnyQuery) (kind : Kind) (trees : List Tree) → IsNode node kind →
         AreGrown q (kids_list kids) trees →
         IfOk result (λ plan. Spells plan (tree_over kind trees)) }
 {
