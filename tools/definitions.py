@@ -3,7 +3,8 @@
 
 A public clause is one of a function, a method, a trait or a model that the crate's lib.rt lets out. It rests on the
 files whose words it cites, and on those whose words these cite. A section of the document names files of the crates
-in its title. Run it at the top of the repository; its status is 1 where something is missing. No part of the gate.
+in its title. Its status is 1 where something is missing. tools/documents.py tells the same of it, beside all else that
+it tells of the documents.
 """
 import re
 import sys
@@ -129,9 +130,8 @@ def sections(document):
         yield title, crates, re.findall(r"`([A-Z]\w*)\.antt`", body)
 
 
-def main():
-    specs = specs_files()
-    needed = rested_on(specs)
+def faults_of(specs, needed):
+    """What the document lacks, and what it names that isn't there."""
     named, faults = set(), []
     for title, crates, files in sections((TOP / "docs" / "DEFINITIONS.md").read_text()):
         for stem in set(files):
@@ -143,10 +143,22 @@ def main():
                 named.update((crate, stem) for crate in there)
     for crate, stem in sorted(needed - named):
         faults.append(f"{crate}/specs/{stem}.antt isn't named")
-    for fault in faults:
+    return [f"docs/DEFINITIONS.md: {fault}" for fault in faults]
+
+
+def faults():
+    specs = specs_files()
+    return faults_of(specs, rested_on(specs))
+
+
+def main():
+    specs = specs_files()
+    needed = rested_on(specs)
+    found = faults_of(specs, needed)
+    for fault in found:
         print(fault)
-    print(f"{len(needed)} specs files carry public clauses, of {len(specs)}; {len(faults)} faults")
-    return 1 if faults else 0
+    print(f"{len(needed)} specs files carry public clauses, of {len(specs)}; {len(found)} faults")
+    return 1 if found else 0
 
 
 if __name__ == "__main__":
