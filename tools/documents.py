@@ -191,7 +191,7 @@ def plain(block):
 
 
 def sentences(block):
-    return [part for part in re.split(r"(?<=[.?!])[)\"]?\s+(?=[A-Z(\d])", plain(block)) if part.strip()]
+    return [part for part in re.split(r"(?<=[.?!])[)\"]?\s+", plain(block)) if part.strip()]
 
 
 def words_of(sentence):
