@@ -6,6 +6,7 @@ The documents are README.md, docs/*.md, bench/README.md and the README.md files 
 - each name in backticks that isn't there: a file, a folder, an option, or a word of code, definitions, proofs and tools
 - each name that is said to be a crate's and isn't: "`IsMember` of `xform_rules`", the calls of a crate in docs/PROVED.md,
   the clauses of a crate's promises
+- each line of Rust of docs/PROOFS.md that isn't in the sources
 - each link whose file or heading isn't there
 - each README of a crate that lacks one of its four headings
 - what tools/definitions.py tells of docs/DEFINITIONS.md
@@ -76,7 +77,7 @@ class Repository:
     """What documents may name."""
 
     def __init__(self):
-        self.names, self.words, self.options = set(), set(FOREIGN), set()
+        self.names, self.words, self.options, self.rust = set(), set(FOREIGN), set(), ""
         self.of_crate = {path.name: set() for path in CRATES.iterdir()}
         self.paths = {crate: [] for crate in self.of_crate}
         for path in files():
@@ -97,6 +98,8 @@ class Repository:
         self.options |= set(OPTION.findall(text))
         if crate:
             self.of_crate[crate] |= words
+        if path.suffix == ".rt":
+            self.rust += " ".join(path.read_text().split()) + "\n"
 
     def has_path(self, word, document, crates=()):
         """Whether a path is there: from the document's folder, the top or that of the crates, or the end of a path in
@@ -245,6 +248,14 @@ def owner_faults(repository, text):
         yield from ((line_of(text, found.start()), f"no {name} in {found.group(2)}") for name in lacking)
 
 
+def excerpt_faults(repository, text):
+    """The excerpts of code that aren't in the sources as they are shown; `..` stands for what is left out."""
+    for fence in re.finditer(r"^```rust\n(.*?)^```", text, re.M | re.S):
+        for part in fence.group(1).split(".."):
+            if " ".join(part.split()) not in repository.rust:
+                yield line_of(text, fence.start()), f"no such code: {part.strip()}"
+
+
 def public_words(repository, crate):
     """The names that a crate lets out, and the words of what they are. A program lets out none: of it they are all."""
     if not (CRATES / crate / "src" / "lib.rt").exists():
@@ -280,6 +291,8 @@ def faults_of(repository, document, text):
     yield from owner_faults(repository, text)
     yield from link_faults(document, text)
     yield from command_faults(repository, document, text)
+    if document.name == "PROOFS.md":
+        yield from excerpt_faults(repository, text)
     if document.name == "PROVED.md":
         yield from call_faults(repository, text)
     if document.parent.parent == CRATES:

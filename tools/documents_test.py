@@ -36,6 +36,8 @@ FAULTS = [
     (PAGE, "[a](../README.md#none)", ["1: no heading none in ../README.md"]),
     (PAGE, "```text\n$ ./orca plan examples/none.json examples/q.sql\n`none`\n```", ["2: no examples/none.json"]),
     (PAGE, "```text\n./orca plan examples/t.json examples/q.sql > none/none\n```", []),
+    (PAGE, "```rust\npub fn finished(status: Status, ..\n    ensures ok { OnOk written (result ≡ status) }\n```", []),
+    (PAGE, "```rust\npub fn finished(nothing)\n```", ["1: no such code: pub fn finished(nothing)"]),
     (PROVED, "- **plan_check**: A plan. Call: `check_plan`.", []),
     (PROVED, "- **plan_check**: A plan. Calls: `check_plan`, `read_sql`.", ["1: no read_sql let out by plan_check"]),
     (README, FOUR, []),
