@@ -4,8 +4,9 @@
 The documents are README.md, docs/*.md, bench/README.md and the README.md files below examples/ and of the crates. It tells
 
 - each name in backticks that isn't there: a file, a folder, an option, or a word of code, definitions, proofs and tools
-- each name that is said to be a crate's and isn't: "`IsMember` of `xform_rules`", the calls of a crate in docs/PROVED.md,
-  the clauses of a crate's promises
+- each name that is said to be a crate's and isn't: "`IsMember` of `xform_rules`", and the calls of a crate in
+  docs/PROVED.md
+- each name in the promises of a crate's README that is in no crate on which it stands, and each clause that isn't its own
 - each line of Rust of docs/PROOFS.md that isn't in the sources
 - each link whose file or heading isn't there
 - each README of a crate that lacks one of its four headings
@@ -55,6 +56,17 @@ def documents():
     return [path for pattern in patterns for path in sorted(TOP.glob(pattern))]
 
 
+def standing_on():
+    """Of each crate of crates.txt itself and all crates on which it stands."""
+    on = {}
+    for line in (TOP / "crates.txt").read_text().split("\n"):
+        names = WORD.findall(line.partition(":")[2])
+        crate = re.match(r"\w+", line)
+        if crate:
+            on[crate.group(0)] = {crate.group(0)}.union(*(on.get(name, {name}) for name in names))
+    return on
+
+
 def files():
     """All files and folders of the repository, but for those that a build makes."""
     found, todo = [], [TOP]
@@ -79,6 +91,7 @@ class Repository:
     def __init__(self):
         self.names, self.words, self.options, self.rust = set(), set(FOREIGN), set(), ""
         self.of_crate = {path.name: set() for path in CRATES.iterdir()}
+        self.below = standing_on()
         self.paths = {crate: [] for crate in self.of_crate}
         for path in files():
             self.names.add(path.name)
@@ -275,11 +288,22 @@ def call_faults(repository, text):
             yield from ((number, f"no {name} let out by {', '.join(crates)}") for name in names if name not in there)
 
 
+def promise_faults(repository, crate, text):
+    """The names of a README's promises that are in no crate on which this one stands."""
+    there = set(repository.below).union(*(repository.of_crate[below] for below in repository.below.get(crate, {crate})))
+    start, end = text.find("## Proved"), text.find("## Required")
+    for found in SPAN.finditer(blanked(OF_CRATE, text), max(start, 0), max(end, 0)):
+        if not PATH.fullmatch(found.group(1)) and not FILE.fullmatch(found.group(1)):
+            names = [name for name in WORD.findall(found.group(1)) if len(name) > 1 and name not in there]
+            yield from ((line_of(text, found.start()), f"no {name} below {crate}") for name in names)
+
+
 def readme_faults(repository, document, text):
-    """A crate's README: its headings, and the clauses of its promises."""
+    """A crate's README: its headings, and the names and clauses of its promises."""
     crate = document.parent.name
     lacking = [heading for heading in HEADINGS if heading not in headings(text)]
     yield from ((1, f"no heading {heading}") for heading in lacking)
+    yield from promise_faults(repository, crate, text)
     for found in CLAUSES.finditer(blanked(FENCE, text)):
         names = [name for name in SPAN.findall(found.group(1)) if name not in repository.of_crate[crate]]
         yield from ((line_of(text, found.start()), f"no clause {name}") for name in names)
