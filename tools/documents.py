@@ -290,7 +290,8 @@ def call_faults(repository, text):
 
 def promise_faults(repository, crate, text):
     """The names of a README's promises that are in no crate on which this one stands."""
-    there = set(repository.below).union(*(repository.of_crate[below] for below in repository.below.get(crate, {crate})))
+    below = repository.below.get(crate, {crate})
+    there = set(repository.below).union(*(repository.of_crate.get(name, set()) for name in below))
     start, end = text.find("## Proved"), text.find("## Required")
     for found in SPAN.finditer(blanked(OF_CRATE, text), max(start, 0), max(end, 0)):
         if not PATH.fullmatch(found.group(1)) and not FILE.fullmatch(found.group(1)):
