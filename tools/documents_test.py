@@ -7,7 +7,7 @@ from documents import CRATES, LONGEST, TOP, Repository, faults_of, long_sentence
 from run_tests import run_tests
 
 # How many sentences of more than 35 words the documents but README.md may have.
-MOST_LONG = 5
+MOST_LONG = 10
 
 REPOSITORY = Repository()
 PAGE = TOP / "docs" / "PROOFS.md"
