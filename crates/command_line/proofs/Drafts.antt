@@ -100,6 +100,10 @@ four_names task (a ∷ []) more word three = absurd (omega (arith, three))
 four_names task (a ∷ b ∷ []) more word three = absurd (omega (arith, three))
 four_names tasks.Plan (a ∷ b ∷ c ∷ []) more word three = refl
 four_names tasks.Gen (a ∷ b ∷ c ∷ []) more word three = refl
+four_names tasks.Stages (a ∷ b ∷ c ∷ []) more word three = refl
+four_names tasks.Check (a ∷ b ∷ c ∷ []) more word three = refl
+four_names tasks.Dump (a ∷ b ∷ c ∷ []) more word three = refl
+four_names tasks.Replay (a ∷ b ∷ c ∷ []) more word three = refl
 four_names tasks.Batch (a ∷ b ∷ c ∷ []) more word three = refl
 four_names task (a ∷ b ∷ c ∷ d ∷ names) more word three = absurd (omega (arith, three))
 

@@ -1,12 +1,15 @@
 pub mod WrittenNumbers
+pub mod Parts
+pub mod Joined
 pub mod GivenNumbers
 pub mod RuleNames
 pub mod OptionNames
 pub mod OffSets
-pub mod RulesOff
 pub mod Drafts
 pub mod FirstPieces
 pub mod Values
+pub mod StageWords
+pub mod ReadStages
 pub mod Chosen
 pub mod Made
 pub mod SpelledPieces

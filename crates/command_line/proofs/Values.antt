@@ -1,11 +1,14 @@
 -- The values of options are read as they are spelled.
-use Rattle.std.proofs.Common.{◌≡◌, ℕ, ◌==◌, Bool, true, false, IsTrue, cond, List, [], ◌∷◌, ◌++◌, map, Option, None}
-use Rattle.std.proofs.Common.{Some, option_map, codes, bytes_eq, refl, sym, ap, ◌∙◌}
-use Rattle.std.specs.List.{slice_split, join_with_byte}
+use Rattle.std.proofs.Common.{◌≡◌, ◌≢◌, ℕ, ◌<◌, ◌==◌, Bool, true, false, IsTrue, cond, List, [], ◌∷◌, map, nat_le, Option}
+use Rattle.std.proofs.Common.{None, Some, codes, bytes_eq, refl, sym, ap, ◌∙◌, arith}
+use Rattle.std.specs.List.{slice_split, join_with_byte, list_all}
 use Rattle.std.specs.Option.{option_and_then}
 use Rattle.std.proofs.lemmas.Bool.{false≢true}
+use Rattle.std.proofs.lemmas.Bool.Decides.{nat_tests}
+use Rattle.std.proofs.lemmas.List.Folds.{list_all-append}
 use Rattle.std.proofs.lemmas.List.Splits.{join_with_byte-slice_split}
 use Rattle.std.proofs.lemmas.Slice.Eq.{bytes_eq-Decides}
+use Rattle.std.proofs.lemmas.Slice.Zip.{AllZip-map}
 use Rattle.query_core.specs.declared.options.RootDist.{RootDist}
 use Rattle.query_core.specs.declared.options.RootDist.TheVariants.{One, Spread}
 use Rattle.xform_rules.specs.Rules.{rule_name}
@@ -13,7 +16,9 @@ use Rattle.xform_rules.specs.declared.rules.Rule.{Rule}
 use Rattle.xform_rules.specs.declared.rules.Rule.TheVariants as rules
 use Rattle.command_line.specs.Rules.{may_be_off, off_set, rules_word}
 use Rattle.command_line.specs.Options.{root_word, AreRules}
-use Rattle.command_line.specs.Reading.{root_of, rule_of_name, rules_of, set_where_off, off_of}
+use Rattle.command_line.specs.Reading.{root_of, rule_of_name, all_of, set_where_off, off_of}
+use Rattle.command_line.proofs.Joined.{all_read}
+use Rattle.command_line.proofs.Parts.{Lacks, AllLack, above, parts_joined}
 use Rattle.command_line.proofs.RuleNames.{rule_of_own_name, name_of_found}
 
 -- a word that is read as a text is that text
@@ -40,86 +45,71 @@ root_spelled value dist is = of_word (bytes_eq value (codes "one")) (bytes_eq va
 
 -- ---- rules
 
--- a rule's name ends at the `+` behind it
-split_name : (rule : Rule) (more : List ℕ)
-    → slice_split (λ byte. byte == 43) (rule_name rule ++ (43 ∷ more)) ≡ rule_name rule ∷ slice_split
-    (λ byte. byte == 43) more
-split_name rules.ExpandNAry more = refl
-split_name rules.JoinCommute more = refl
-split_name rules.JoinAssociate more = refl
-split_name rules.SplitAgg more = refl
-split_name rules.GetToScan more = refl
-split_name rules.GetToIndexScan more = refl
-split_name rules.SelectToFilter more = refl
-split_name rules.SelectToIndexSeek more = refl
-split_name rules.JoinToHash more = refl
-split_name rules.JoinToMerge more = refl
-split_name rules.JoinToLoop more = refl
-split_name rules.AggToHash more = refl
-split_name rules.AggToStream more = refl
-split_name rules.PartialToHash more = refl
+-- a rule's name has letters
+letters : (rule : Rule) → list_all (nat_le 65) (rule_name rule) ≡ true
+letters rules.ExpandNAry = refl
+letters rules.JoinCommute = refl
+letters rules.JoinAssociate = refl
+letters rules.SplitAgg = refl
+letters rules.GetToScan = refl
+letters rules.GetToIndexScan = refl
+letters rules.SelectToFilter = refl
+letters rules.SelectToIndexSeek = refl
+letters rules.JoinToHash = refl
+letters rules.JoinToMerge = refl
+letters rules.JoinToLoop = refl
+letters rules.AggToHash = refl
+letters rules.AggToStream = refl
+letters rules.PartialToHash = refl
 
--- the last name is the last part
-split_last : (rule : Rule) → slice_split (λ byte. byte == 43) (rule_name rule) ≡ rule_name rule ∷ []
-split_last rules.ExpandNAry = refl
-split_last rules.JoinCommute = refl
-split_last rules.JoinAssociate = refl
-split_last rules.SplitAgg = refl
-split_last rules.GetToScan = refl
-split_last rules.GetToIndexScan = refl
-split_last rules.SelectToFilter = refl
-split_last rules.SelectToIndexSeek = refl
-split_last rules.JoinToHash = refl
-split_last rules.JoinToMerge = refl
-split_last rules.JoinToLoop = refl
-split_last rules.AggToHash = refl
-split_last rules.AggToStream = refl
-split_last rules.PartialToHash = refl
+-- and no other byte
+name_lacks : (byte : ℕ) → byte < 65 → (rule : Rule) → Lacks byte (rule_name rule)
+name_lacks byte low rule = above byte low (rule_name rule) (letters rule)
 
--- names joined by `+` are read as their rules
-rules_read : (first : Rule) (others : List Rule)
-    → rules_of (slice_split (λ byte. byte == 43) (rules_word (first ∷ others))) ≡ Some (first ∷ others)
-rules_read first [] = rw (split_last first, rule_of_own_name first) refl
-rules_read first (second ∷ more) = rw (
-  split_name first (rules_word (second ∷ more)),
-  rule_of_own_name first,
-  rules_read second more,
-) refl
+names_lack : (byte : ℕ) → byte < 65 → (some : List Rule) → AllLack byte (map rule_name some)
+names_lack byte low [] = tt
+names_lack byte low (rule ∷ more) = (name_lacks byte low rule, names_lack byte low more)
+
+-- names joined by `+` have letters and `+`
+pub rules_lack : (byte : ℕ) → byte < 65 → byte ≢ 43 → (some : List Rule) → Lacks byte (rules_word some)
+rules_lack byte low other [] = refl
+rules_lack byte low other (rule ∷ []) = name_lacks byte low rule
+rules_lack byte low other (first ∷ second ∷ more) =
+    let differs : (43 == byte) ≡ false = grind (arith, nat_tests) in
+    rw (list_all-append, name_lacks byte low first, differs, rules_lack byte low other (second ∷ more)) refl
+
+-- names are read as their rules
+names_read : (some : List Rule) → all_of rule_of_name (map rule_name some) ≡ Some some
+names_read [] = refl
+names_read (rule ∷ more) = rw (rule_of_own_name rule, names_read more) refl
 
 -- the word of rules that may be off is read as their set
 pub off_read : (some : List Rule) → IsTrue (may_be_off some) → off_of (rules_word some) ≡ Some (off_set some)
 off_read [] may = absurd (false≢true may)
-off_read (first ∷ others) may = ap (option_and_then set_where_off) (rules_read first others) ∙ rw may refl
+off_read (first ∷ others) may =
+    ap (λ parts. option_and_then set_where_off (all_of rule_of_name parts))
+    (parts_joined 43 (rule_name first) (map rule_name others) (names_lack 43 (omega arith) (first ∷ others)))
+    ∙ ap (option_and_then set_where_off) (names_read (first ∷ others))
+    ∙ rw may refl
 
 -- names that are read as rules are their names
-names_of_rules : (words : List (List ℕ)) (some : List Rule) → rules_of words ≡ Some some → words ≡ map rule_name some
-names_of_rules [] some is = let none : some ≡ [] = cc in sym (ap (map rule_name) none)
-names_of_rules (word ∷ more) some is = of_rule (λ others rest. names_of_rules more others rest) (rule_of_name word)
-    (rules_of more) refl refl is
-  where
-    of_rule : ((others : List Rule) → rules_of more ≡ Some others → more ≡ map rule_name others)
-        → (r : Option Rule) (rs : Option (List Rule)) → rule_of_name word ≡ r → rules_of more ≡ rs
-        → option_and_then (λ rule. option_map (λ others. rule ∷ others) rs) r ≡ Some some
-        → word ∷ more ≡ map rule_name some
-    of_rule names None rs found rest whole = cc
-    of_rule names (Some rule) None found rest whole = cc
-    of_rule names (Some rule) (Some others) found rest whole =
-        let same : rule ∷ others ≡ some = cc in
-        ap (λ w. w ∷ more) (sym (name_of_found word rule found)) ∙ ap (λ ws. rule_name rule ∷ ws) (names others rest)
-        ∙ ap (map rule_name) same
+names_of_rules : (words : List (List ℕ)) (some : List Rule) → all_of rule_of_name words ≡ Some some → words ≡ map rule_name some
+names_of_rules words some is = AllZip-map rule_name some words
+    (all_read rule_of_name (λ rule word. word ≡ rule_name rule) (λ word rule named. sym (name_of_found word rule named))
+    words some is)
 
 -- a word that is read as a set of rules
 pub off_spelled : (value : List ℕ) (set : ℕ) → off_of value ≡ Some set → AreRules set (value ∷ [])
-off_spelled value set is = of_rules (rules_of (slice_split (λ byte. byte == 43) value)) refl is
+off_spelled value set is = of_rules (all_of rule_of_name (slice_split (λ other. other == 43) value)) refl is
   where
-    of_rules : (rs : Option (List Rule)) → rules_of (slice_split (λ byte. byte == 43) value) ≡ rs
+    of_rules : (rs : Option (List Rule)) → all_of rule_of_name (slice_split (λ other. other == 43) value) ≡ rs
         → option_and_then set_where_off rs ≡ Some set → AreRules set (value ∷ [])
     of_rules None found whole = cc
     of_rules (Some some) found whole = of_may (may_be_off some) refl whole
       where
         word : value ≡ rules_word some
         word = sym (join_with_byte-slice_split 43 value)
-            ∙ ap (join_with_byte 43) (names_of_rules (slice_split (λ byte. byte == 43) value) some found)
+            ∙ ap (join_with_byte 43) (names_of_rules (slice_split (λ other. other == 43) value) some found)
 
         of_may : (m : Bool) → may_be_off some ≡ m → cond m (Some (off_set some)) None ≡ Some set
             → AreRules set (value ∷ [])

@@ -6,6 +6,7 @@ use Rattle.query_core.specs.Differ.{numbers_differ}
 use Rattle.command_line.specs.Options.{option_word, option_number, setting_of, takes_option, takes_value, allows}
 use Rattle.command_line.specs.Options.{usual, Chooses}
 use Rattle.command_line.specs.Numbers.{IsWithin}
+use Rattle.command_line.specs.Stages.{AnyStage, IsStagesWord}
 use Rattle.command_line.specs.declared.choices.Choices.{Choices}
 use Rattle.command_line.specs.declared.options.TaskName.{TaskName}
 use Rattle.command_line.specs.declared.options.TaskName.TheVariants as tasks
@@ -14,21 +15,38 @@ use Rattle.command_line.specs.declared.command.GenInput.{GenInput}
 use Rattle.query_generator.specs.declared.shape.GenShape.{GenShape}
 use Rattle.query_generator.specs.declared.shape.GenShape.TheVariants.{Chain, Star, Clique}
 
--- the files that `plan` names
+-- the files of a catalogue and of a query
 pub record FileNames : Type 0 where
   pub catalog : List ℕ
   pub query : List ℕ
+
+-- those files, and the stages in which the query is planned
+pub record StageNames : Type 0 where
+  pub catalog : List ℕ
+  pub query : List ℕ
+  pub stages : List AnyStage
+
+-- those files, and that of a plan's text
+pub record PlanNames : Type 0 where
+  pub catalog : List ℕ
+  pub query : List ℕ
+  pub plan : List ℕ
 
 -- the files that a batch names
 pub record ListNames : Type 0 where
   pub catalog : List ℕ
   pub list : List ℕ
 
--- what a command does: `plan` over two files, `gen` of what a catalogue and a query are made of, or `batch` over a
--- catalogue and a list of queries
+-- what a command does: `plan` over the files of a catalogue and of a query; `gen` of what a catalogue and a query are
+-- made of; `stages` over two files and stages; `check` over two files and that of a plan; `dump` over two files; `replay`
+-- of a dump's file; or `batch` over a catalogue and a list of queries
 pub data AnyTask : Type 0 where
   plan : FileNames → AnyTask
   gen : GenInput → AnyTask
+  stages : StageNames → AnyTask
+  check : PlanNames → AnyTask
+  dump : FileNames → AnyTask
+  replay : List ℕ → AnyTask
   batch : ListNames → AnyTask
 
 -- a command: a task, and what is chosen for it by options
@@ -40,12 +58,20 @@ pub record AnyCommand : Type 0 where
 abbrev pub task_name : AnyTask → TaskName
 task_name (plan files) = tasks.Plan
 task_name (gen input) = tasks.Gen
+task_name (stages files) = tasks.Stages
+task_name (check files) = tasks.Check
+task_name (dump files) = tasks.Dump
+task_name (replay file) = tasks.Replay
 task_name (batch files) = tasks.Batch
 
 -- the word of a name
 abbrev pub task_word : TaskName → List ℕ
 task_word tasks.Plan = codes "plan"
 task_word tasks.Gen = codes "gen"
+task_word tasks.Stages = codes "stages"
+task_word tasks.Check = codes "check"
+task_word tasks.Dump = codes "dump"
+task_word tasks.Replay = codes "replay"
 task_word tasks.Batch = codes "batch"
 
 -- the word of a shape
@@ -103,11 +129,21 @@ pub record IsInput (input : GenInput) (words : List (List ℕ)) : Type 0 where
   pub tables : IsWithin 1 8 input.tables
   pub are : words ≡ decimal input.number ∷ decimal input.tables ∷ shape_word input.shape ∷ []
 
--- the names are those of the task: of the catalogue's file and of the query's, what a catalogue and a query are made of,
--- or of the catalogue's file and of the list's
+-- the words are two files and the word of stages
+pub record AreStageNames (files : StageNames) (words : List (List ℕ)) : Type 0 where
+  pub word : List ℕ
+  pub of_stages : IsStagesWord files.stages word
+  pub are : words ≡ files.catalog ∷ files.query ∷ word ∷ []
+
+-- the names are those of the task: its files, in the order of the task's record, and behind them the word of stages
+-- where it has some; or what a catalogue and a query are made of
 abbrev pub AreNames : AnyTask → List (List ℕ) → Type 0
 AreNames (plan files) names = names ≡ files.catalog ∷ files.query ∷ []
 AreNames (gen input) names = IsInput input names
+AreNames (stages files) names = AreStageNames files names
+AreNames (check files) names = names ≡ files.catalog ∷ files.query ∷ files.plan ∷ []
+AreNames (dump files) names = names ≡ files.catalog ∷ files.query ∷ []
+AreNames (replay file) names = names ≡ file ∷ []
 AreNames (batch files) names = names ≡ files.catalog ∷ files.list ∷ []
 
 -- the options that are given take the choices before to those after, one behind the other

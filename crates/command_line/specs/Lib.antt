@@ -1,8 +1,10 @@
 pub mod Numbers
 pub mod Rules
 pub mod Options
+pub mod Stages
 pub mod Command
 pub mod Reading
 pub mod Drafts
+pub mod HeldStages
 pub mod Views
 pub mod Laws

@@ -53,6 +53,10 @@ abbrev pub options_of : TaskName → List OptionName
 options_of tasks.Plan =
     names.Workers ∷ names.Capacity ∷ names.Root ∷ names.Off ∷ names.Memo ∷ names.Trace ∷ names.ByWorker ∷ []
 options_of tasks.Gen = names.Workers ∷ names.Capacity ∷ []
+options_of tasks.Stages = names.Workers ∷ names.Capacity ∷ names.Root ∷ []
+options_of tasks.Check = names.Root ∷ names.Off ∷ []
+options_of tasks.Dump = names.Capacity ∷ names.Root ∷ names.Off ∷ names.Memo ∷ names.Trace ∷ []
+options_of tasks.Replay = names.Workers ∷ []
 options_of tasks.Batch =
     names.Workers ∷ names.Capacity ∷ names.Root ∷ names.Off ∷ names.Memo ∷ names.Trace ∷ []
 
@@ -61,6 +65,10 @@ options_of tasks.Batch =
 abbrev pub allows : TaskName → Choices → Bool
 allows tasks.Plan choices = true
 allows tasks.Gen choices = true
+allows tasks.Stages choices = true
+allows tasks.Check choices = true
+allows tasks.Dump choices = true
+allows tasks.Replay choices = true
 allows tasks.Batch choices = nat_le (choices.workers * choices.capacity) 8388608
 
 -- ---- what follows from the tables

@@ -1,10 +1,14 @@
 -- What clauses see of the program's values.
 use Rattle.std.specs.Prelude.{ℕ, Option, List, option_map}
 use Rattle.std.specs.Borrow.{Bor}
-use Rattle.command_line.specs.Command.{FileNames, ListNames, AnyTask, AnyCommand, plan, gen, batch, Piece, name, given}
+use Rattle.command_line.specs.HeldStages.{stages_read}
+use Rattle.command_line.specs.Command.{FileNames, StageNames, PlanNames, ListNames, AnyTask, AnyCommand}
+use Rattle.command_line.specs.Command.{plan, gen, stages, check, dump, replay, batch, Piece, name, given}
 use Rattle.command_line.specs.declared.command.Command.{Command}
 use Rattle.command_line.specs.declared.command.Files.{Files}
 use Rattle.command_line.specs.declared.command.ListFiles.{ListFiles}
+use Rattle.command_line.specs.declared.command.PlanFiles.{PlanFiles}
+use Rattle.command_line.specs.declared.command.StageFiles.{StageFiles}
 use Rattle.command_line.specs.declared.command.Task.{Task}
 use Rattle.command_line.specs.declared.command.Task.TheVariants as tasks
 use Rattle.command_line.specs.declared.options.OptionName.{OptionName}
@@ -15,6 +19,15 @@ use Rattle.command_line.specs.declared.pieces.Word.TheVariants as words
 abbrev pub file_names : Files → FileNames
 file_names files = record { catalog = files.catalog.now; query = files.query.now }
 
+-- those of stages
+abbrev pub stage_names : StageFiles → StageNames
+stage_names files =
+    record { catalog = files.catalog.now; query = files.query.now; stages = stages_read files.stages }
+
+-- those of a check
+abbrev pub plan_names : PlanFiles → PlanNames
+plan_names files = record { catalog = files.catalog.now; query = files.query.now; plan = files.plan.now }
+
 -- and those of a batch
 abbrev pub list_names : ListFiles → ListNames
 list_names files = record { catalog = files.catalog.now; list = files.list.now }
@@ -23,6 +36,10 @@ list_names files = record { catalog = files.catalog.now; list = files.list.now }
 abbrev pub task_read : Task → AnyTask
 task_read (tasks.Plan files) = plan (file_names files)
 task_read (tasks.Gen made) = gen made.input
+task_read (tasks.Stages files) = stages (stage_names files)
+task_read (tasks.Check files) = check (plan_names files)
+task_read (tasks.Dump files) = dump (file_names files)
+task_read (tasks.Replay file) = replay file.now
 task_read (tasks.Batch files) = batch (list_names files)
 
 -- what a command asks for

@@ -4,13 +4,31 @@ ghost use Rattle.command_line.specs.Numbers.{IsWithin};
 ghost use Rattle.command_line.specs.Options.{AreChoices};
 
 use crate::choices::Choices;
+use crate::stages::Stages;
 use query_generator::GenShape;
 
-/// The names of the files that `plan` reads.
+/// The names of the files of a catalogue and of a query.
 #[derive(Clone, Copy)]
 pub struct Files<'w> {
     pub catalog: &'w str,
     pub query: &'w str,
+}
+
+/// The names of the files that `stages` reads, and the stages.
+#[derive(Clone, Copy)]
+pub struct StageFiles<'w> {
+    pub catalog: &'w str,
+    pub query: &'w str,
+    pub stages: Stages,
+}
+
+/// The names of the files that `check` reads.
+#[derive(Clone, Copy)]
+pub struct PlanFiles<'w> {
+    pub catalog: &'w str,
+    pub query: &'w str,
+    /// The file with the text of a plan.
+    pub plan: &'w str,
 }
 
 /// The names of the files that `batch` reads.
@@ -44,6 +62,14 @@ pub enum Task<'w> {
     Plan(Files<'w>),
     /// Makes a catalogue and a query, and plans it.
     Gen(GenTask),
+    /// Plans the query of one file over the catalogue of another in stages.
+    Stages(StageFiles<'w>),
+    /// Checks the plan of a file, for the query of another over the catalogue of a third.
+    Check(PlanFiles<'w>),
+    /// Writes all that the plan of a query over a catalogue depends on as one text.
+    Dump(Files<'w>),
+    /// Plans the query of the dump in the file of this name.
+    Replay(&'w str),
     /// Plans each query of a list over a catalogue.
     Batch(ListFiles<'w>),
 }

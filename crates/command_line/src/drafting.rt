@@ -1,15 +1,14 @@
 //! Puts what was read into a draft, piece by piece.
 ghost use Rattle.std.specs.Prelude.{◌≡◌, ◌++◌, ◌∷◌, [], None, List, option_map, IfSome, length};
-ghost use Rattle.command_line.specs.Command.{Piece, task_name};
+ghost use Rattle.command_line.specs.Command.{Piece};
 ghost use Rattle.command_line.specs.Drafts.{IsDraft, names_read};
 ghost use Rattle.command_line.specs.Reading.{command_from, task_of};
 ghost use Rattle.command_line.specs.Views.{command_read, option_given, piece as piece_read, task_read};
 ghost use Rattle.command_line.specs.declared.options.TaskName.{TaskName as AnyName};
 
 use crate::choices::Choices;
-use crate::command::{Command, Files, GenTask, ListFiles, Task};
+use crate::command::{Command, Task};
 use crate::draft::{Draft, Names};
-use crate::inputs::read_input;
 use crate::options::{OptionName, TaskName};
 use crate::pieces::Word;
 use query_core::sets;
@@ -94,6 +93,10 @@ impl<'w> Draft<'w> {
         match self.task {
             TaskName::Plan => self.names.planned(),
             TaskName::Gen => self.names.generated(),
+            TaskName::Stages => self.names.staged(),
+            TaskName::Check => self.names.checked(),
+            TaskName::Dump => self.names.dumped(),
+            TaskName::Replay => self.names.replayed(),
             TaskName::Batch => self.names.listed(),
         }
     }
@@ -111,51 +114,6 @@ impl<'w> Names<'w> {
             Names::One(first) => Some(Names::Two(first, name)),
             Names::Two(first, second) => Some(Names::Three(first, second, name)),
             Names::Three(_, _, _) => None,
-        }
-    }
-
-    // What `plan` does with them.
-    fn planned(self) -> Option<Task<'w>>
-        ensures { option_map task_read result ≡ task_of AnyName.Plan (names_read self.entry) }
-    {
-        match self {
-            Names::Two(catalog, query) => Some(Task::Plan(Files { catalog, query })),
-            _ => None,
-        }
-    }
-
-    // What `batch` does with them.
-    fn listed(self) -> Option<Task<'w>>
-        ensures { option_map task_read result ≡ task_of AnyName.Batch (names_read self.entry) }
-    {
-        match self {
-            Names::Two(catalog, list) => Some(Task::Batch(ListFiles { catalog, list })),
-            _ => None,
-        }
-    }
-
-    // What `gen` does with them.
-    fn generated(self) -> Option<Task<'w>>
-        ensures { option_map task_read result ≡ task_of AnyName.Gen (names_read self.entry) }
-    {
-        match self {
-            Names::Three(number, tables, shape) => Some(Task::Gen(GenTask {
-                input: read_input(number, tables, shape)?,
-            })),
-            _ => None,
-        }
-    }
-}
-
-impl<'w> Task<'w> {
-    // Its name.
-    fn name(self) -> TaskName
-        ensures { result ≡ task_name (task_read self.entry) }
-    {
-        match self {
-            Task::Plan(_) => TaskName::Plan,
-            Task::Gen(_) => TaskName::Gen,
-            Task::Batch(_) => TaskName::Batch,
         }
     }
 }

@@ -4,7 +4,7 @@ ghost use Rattle.std.specs.List.{slice_split};
 ghost use Rattle.std.specs.Option.{option_and_then};
 ghost use Rattle.xform_rules.specs.declared.rules.Rule.{Rule};
 ghost use Rattle.command_line.specs.Rules.{may_be_off};
-ghost use Rattle.command_line.specs.Reading.{off_of, rules_of, set_where_off};
+ghost use Rattle.command_line.specs.Reading.{all_of, off_of, rule_of_name, set_where_off};
 ghost use Rattle.command_line.specs.Drafts.{IsOffSet};
 
 use crate::off_set::OffSet;
@@ -40,7 +40,7 @@ pub fn read_off(word: &str) -> Option<OffSet>
 fn read_more(word: &str, set: OffSet) -> Option<OffSet>
     ensures { (before : List Rule) → IsOffSet before set.bits → option_map (λ all. all.bits) result
         ≡ option_and_then (λ after. set_where_off (before ++ after))
-        (rules_of (slice_split (λ byte. byte == 43) word.now)) }
+        (all_of rule_of_name (slice_split (λ byte. byte == 43) word.now)) }
 {
     match word.split_once('+') {
         Some((name, more)) => read_more(more, set.with(rule_named(name)?)?),

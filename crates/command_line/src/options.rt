@@ -12,6 +12,10 @@ const BATCH_CELLS: u64 = 8_388_608;
 pub enum TaskName {
     Plan,
     Gen,
+    Stages,
+    Check,
+    Dump,
+    Replay,
     Batch,
 }
 
@@ -43,6 +47,16 @@ impl TaskName {
                 OptionName::ByWorker,
             ],
             TaskName::Gen => &[OptionName::Workers, OptionName::Capacity],
+            TaskName::Stages => &[OptionName::Workers, OptionName::Capacity, OptionName::Root],
+            TaskName::Check => &[OptionName::Root, OptionName::Off],
+            TaskName::Dump => &[
+                OptionName::Capacity,
+                OptionName::Root,
+                OptionName::Off,
+                OptionName::Memo,
+                OptionName::Trace,
+            ],
+            TaskName::Replay => &[OptionName::Workers],
             TaskName::Batch => &[
                 OptionName::Workers,
                 OptionName::Capacity,
@@ -71,7 +85,12 @@ impl TaskName {
         ensures { result ≡ are_allowed self choices }
     {
         match self {
-            TaskName::Plan | TaskName::Gen => true,
+            TaskName::Plan
+            | TaskName::Gen
+            | TaskName::Stages
+            | TaskName::Check
+            | TaskName::Dump
+            | TaskName::Replay => true,
             TaskName::Batch => {
                 u64::from(choices.workers) * u64::from(choices.capacity) <= BATCH_CELLS
             }

@@ -28,6 +28,10 @@ fn read_task(word: &str) -> Option<TaskName>
     match word {
         "plan" => Some(TaskName::Plan),
         "gen" => Some(TaskName::Gen),
+        "stages" => Some(TaskName::Stages),
+        "check" => Some(TaskName::Check),
+        "dump" => Some(TaskName::Dump),
+        "replay" => Some(TaskName::Replay),
         "batch" => Some(TaskName::Batch),
         _ => None,
     }

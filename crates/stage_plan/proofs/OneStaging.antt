@@ -10,7 +10,7 @@ use Rattle.stage_plan.specs.Stages.{Stops}
 use Rattle.stage_plan.specs.StagedRuns.{Answers, full, enough, least, none, HasCost, IsFirstLeast}
 use Rattle.stage_plan.specs.StagedRuns.{StagedAnswer, planned, IsPlanAt}
 use Rattle.stage_plan.specs.Laws.{HasOneStaging}
-use Rattle.stage_plan.specs.declared.stage.Stage.{Stage}
+use Rattle.query_stage.specs.declared.stage.Stage.{Stage}
 use Rattle.stage_plan.proofs.Lists.{AllZip-one, one_split}
 use Rattle.stage_plan.proofs.PlansAt.{at_last, one_cost, one_plan, one_plan_at}
 

@@ -10,7 +10,7 @@ use Rattle.plan_space.specs.Laws.{LeastIsOne}
 use Rattle.plan_space.specs.Least.{IsLess, QueryHasNoPlan}
 use Rattle.stage_plan.specs.Stages.{query_in, IsPlanIn}
 use Rattle.stage_plan.specs.StagedRuns.{HasCost, HaveNoPlan, IsFirstLeast, IsPlanAt}
-use Rattle.stage_plan.specs.declared.stage.Stage.{Stage}
+use Rattle.query_stage.specs.declared.stage.Stage.{Stage}
 use Rattle.stage_plan.proofs.Lists.{get_left, get_last, get_cases}
 use Rattle.stage_plan.proofs.Less.{less_not_itself, less_trans, less_than_others}
 

@@ -19,7 +19,7 @@ use Rattle.stage_plan.specs.StagedRuns.{Answers, HasCost, HasRoom, HaveNoPlan, I
 use Rattle.stage_plan.specs.StagedRuns.{StagedAnswer, Tells, planned, unplanned, too_many}
 use Rattle.stage_plan.specs.StagedRuns as told
 use Rattle.stage_plan.specs.SoFar.{HaveRun, IsFoundIn, IsLeastOf, IsNext, IsPlanOf, Keeps, staged_of}
-use Rattle.stage_plan.specs.declared.stage.Stage.{Stage}
+use Rattle.query_stage.specs.declared.stage.Stage.{Stage}
 use Rattle.stage_plan.specs.declared.so_far.Chosen.{Chosen}
 use Rattle.stage_plan.specs.declared.so_far.SoFar.{SoFar}
 use Rattle.stage_plan.specs.declared.staged.Staged.TheVariants.{Least, Full}

@@ -7,7 +7,7 @@ use Rattle.plan_space.specs.Nodes.{Tree}
 use Rattle.plan_space.specs.Cost.{cost_of}
 use Rattle.stage_plan.specs.Stages.{query_in}
 use Rattle.stage_plan.specs.StagedRuns.{StagedAnswer, IsStaging}
-use Rattle.stage_plan.specs.declared.stage.Stage.{Stage}
+use Rattle.query_stage.specs.declared.stage.Stage.{Stage}
 
 -- the props of the query are those of the query in each stage
 abbrev pub SharesProps : Query → Type 0

@@ -12,7 +12,7 @@ use Rattle.plan_tree.specs.Spells.{Spells}
 use Rattle.plan_tree.specs.declared.plan.Found.{Found}
 use Rattle.stage_plan.specs.Stages.{query_in, Stops}
 use Rattle.stage_plan.specs.StagedRuns.{HasCost, IsFirstLeast, HaveNoPlan, IsStagedRun}
-use Rattle.stage_plan.specs.declared.stage.Stage.{Stage}
+use Rattle.query_stage.specs.declared.stage.Stage.{Stage}
 use Rattle.stage_plan.specs.declared.so_far.Chosen.{Chosen}
 use Rattle.stage_plan.specs.declared.so_far.SoFar.{SoFar}
 use Rattle.stage_plan.specs.declared.staged.Staged.{Staged}

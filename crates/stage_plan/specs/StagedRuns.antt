@@ -7,7 +7,7 @@ use Rattle.plan_space.specs.Cost.{cost_of}
 use Rattle.plan_space.specs.Least.{IsLess, QueryHasNoPlan}
 use Rattle.plan_tree.specs.Spells.{Spells}
 use Rattle.stage_plan.specs.Stages.{query_in, IsPlanIn, IsFullIn, IsEnough, Run}
-use Rattle.stage_plan.specs.declared.stage.Stage.{Stage}
+use Rattle.query_stage.specs.declared.stage.Stage.{Stage}
 use Rattle.stage_plan.specs.declared.staged.Staged.{Staged}
 use Rattle.stage_plan.specs.declared.staged.Staged.TheVariants.{Least, NoPlan, Full}
 use Rattle.stage_plan.specs.declared.staged.StagedRun.{StagedRun}

@@ -6,7 +6,7 @@ use Rattle.plan_space.specs.Nodes.{Tree}
 use Rattle.plan_space.specs.Cost.{cost_of}
 use Rattle.plan_space.specs.Least.{IsLeastPlan}
 use Rattle.job_outcome.specs.Outcomes.{HasMoreEntries}
-use Rattle.stage_plan.specs.declared.stage.Stage.{Stage}
+use Rattle.query_stage.specs.declared.stage.Stage.{Stage}
 
 -- ---- a stage
 

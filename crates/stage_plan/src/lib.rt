@@ -6,10 +6,9 @@ mod laws;
 mod run;
 mod search;
 mod so_far;
-mod stage;
 mod staged;
 
 pub use laws::{stages_have_one_answer, stages_share_costs, stages_share_props};
 pub use run::run_stages;
-pub use stage::Stage;
+pub use query_stage::Stage;
 pub use staged::{Staged, StagedRun};

@@ -5,10 +5,10 @@ ghost use Rattle.stage_plan.specs.StagedRuns.{IsStagedRun};
 
 use crate::search::search_stage;
 use crate::so_far::SoFar;
-use crate::stage::Stage;
 use crate::staged::StagedRun;
 use orca_io::Gate;
 use query_core::Query;
+use query_stage::Stage;
 use request_props::Props;
 use std::alloc::{AllocError, Global};
 use std::sync::Wait;

@@ -5,13 +5,13 @@ ghost use Rattle.job_engine.specs.Runs.{RunEnds};
 ghost use Rattle.stage_plan.specs.SoFar.{IsFoundWithin, IsFoundIn};
 
 use crate::laws::stages_share_props;
-use crate::stage::Stage;
 use job_engine::{Outcome, RunNote, search_alone, search_by_crew};
 use job_outcome::entries_fit_or_not;
 use orca_io::Gate;
 use plan_report::extract;
 use plan_tree::Found;
 use query_core::Query;
+use query_stage::Stage;
 use request_props::Props;
 use std::alloc::{AllocError, Global};
 use std::sync::Wait;

@@ -3,16 +3,16 @@ ghost use Rattle.std.specs.Prelude.{◌≡◌, ◌≤◌, ◌↔◌, [], ℕ, Li
 ghost use Rattle.query_core.specs.declared.query.Query.{Query};
 ghost use Rattle.plan_space.specs.Nodes.{Tree};
 ghost use Rattle.plan_space.specs.Least.{IsLess};
-ghost use Rattle.stage_plan.specs.declared.stage.Stage.{Stage as AnyStage};
+ghost use Rattle.query_stage.specs.declared.stage.Stage.{Stage as AnyStage};
 ghost use Rattle.stage_plan.specs.StagedRuns.{IsStagedRun};
 ghost use Rattle.stage_plan.specs.SoFar.{IsPlanOf, HaveRun, Keeps, TakesIn, staged_of};
 
 use crate::codes::code_of;
-use crate::stage::Stage;
 use crate::staged::{Staged, StagedRun};
 use orca_base::List;
 use plan_space::least_is_one;
 use plan_tree::{Found, Plan};
+use query_stage::Stage;
 use std::alloc::{AllocError, Global};
 
 /// The least plan of a stage, its cost, and the number of the stage.

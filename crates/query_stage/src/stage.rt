@@ -1,4 +1,4 @@
-//! The stages of a plan.
+//! A stage of a plan.
 ghost use Rattle.std.specs.Prelude.{◌≡◌, ◌<◌, ◌%◌, ◌↔◌, ℕ, Some, IsTrue};
 
 /// A stage: which rules are off, and which cost is enough.
