@@ -1,5 +1,6 @@
 #!/usr/bin/env python3
-"""Tests tools/plan_diff.py: what it prints for two batches, and with which status it ends.
+"""Tests tools/plan_diff.py: what it prints for two batches, and with which status it ends. The batches of docs/TOOLS.md
+are those of the plain program.
 
 Usage: tools/plan_diff_test.py
 """
@@ -9,7 +10,11 @@ import subprocess
 import sys
 import tempfile
 
-TOOL = os.path.join(os.path.dirname(os.path.abspath(__file__)), "plan_diff.py")
+from orca_program import TOP, bytes_of
+from plain_commands import answer
+
+TOOL = os.path.join(TOP, "tools", "plan_diff.py")
+STAR_SCHEMA = os.path.join(TOP, "examples", "star_schema")
 
 SORTED = """cost 5253
 output t.a
@@ -72,6 +77,19 @@ CASES = [
 ]
 
 
+def star_schema_batch(catalog):
+    """What is printed of the queries of the star schema over one of its catalogues."""
+    names = [os.path.join(STAR_SCHEMA, name) for name in (catalog, "all_queries.txt")]
+    return answer(["batch", *names], {name: bytes_of(name) for name in names})[1]
+
+
+def shown_rows():
+    """The rows that docs/TOOLS.md shows."""
+    page = bytes_of(os.path.join(TOP, "docs", "TOOLS.md")).decode()
+    rows = page.partition("the worst first:\n\n```text\n")[2]
+    return rows.partition("```")[0]
+
+
 def written(folder, name, text):
     path = os.path.join(folder, name)
     with open(path, "w", encoding="utf-8") as file:
@@ -93,9 +111,11 @@ def passes(name, before, after, listed, status, output):
 
 
 def main():
-    passed = sum(passes(*case) for case in CASES)
-    print(f"{passed} passed, {len(CASES) - passed} failed")
-    sys.exit(0 if passed == len(CASES) else 1)
+    cases = CASES + [("docs/TOOLS.md", star_schema_batch("catalog.json"), star_schema_batch("catalog_version_2.json"),
+                      None, 1, shown_rows())]
+    passed = sum(passes(*case) for case in cases)
+    print(f"{passed} passed, {len(cases) - passed} failed")
+    sys.exit(0 if passed == len(cases) else 1)
 
 
 if __name__ == "__main__":
