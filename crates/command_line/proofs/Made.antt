@@ -146,8 +146,8 @@ pub names_read : (task : AnyTask) (names : List (List ℕ)) → AreNames task na
     → task_of (task_name task) names ≡ Some task
 names_read (plan files) names are = rw are refl
 names_read (gen input) names are = ap (option_map gen) (input_read input names are)
-names_read (stages files) names are = rw (are.are, stages_read files.stages are.word are.of_stages) refl
-names_read (check files) names are = rw are refl
+names_read (stages named) names are = rw (are.are, stages_read named.stages are.word are.of_stages) refl
+names_read (check named) names are = rw are refl
 names_read (dump files) names are = rw are refl
 names_read (replay file) names are = rw are refl
 names_read (batch files) names are = rw are refl
@@ -189,18 +189,18 @@ names_spelled tasks.Stages names task is =
     of_word three.first three.second three.third (stages_of three.third) refl three.is three.are
   where
     of_word : (catalog query word : List ℕ) (some : Option (List AnyStage)) → stages_of word ≡ some
-        → option_map (λ all. stages (record { catalog = catalog; query = query; stages = all })) some ≡ Some task
+        → option_map (λ all. stages (record { files = record { catalog = catalog; query = query }; stages = all })) some ≡ Some task
         → names ≡ catalog ∷ query ∷ word ∷ [] → HasNames tasks.Stages names task
     of_word catalog query word None read made are = cc
     of_word catalog query word (Some all) read made are =
-        let same : stages (record { catalog = catalog; query = query; stages = all }) ≡ task = cc in
+        let same : stages (record { files = record { catalog = catalog; query = query }; stages = all }) ≡ task = cc in
         subst (HasNames tasks.Stages names) same (record {
           named = refl;
           are_names = record { word = word; of_stages = stages_spelled word all read; are = are };
         })
 names_spelled tasks.Check names task is =
     let three = three_spelled check_over names task is in
-    let same : check (record { catalog = three.first; query = three.second; plan = three.third }) ≡ task =
+    let same : check (record { files = record { catalog = three.first; query = three.second }; plan = three.third }) ≡ task =
     let made = three.is in cc in
     subst (HasNames tasks.Check names) same (record { named = refl; are_names = three.are })
 names_spelled tasks.Dump names task is =

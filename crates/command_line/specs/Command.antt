@@ -22,14 +22,12 @@ pub record FileNames : Type 0 where
 
 -- those files, and the stages in which the query is planned
 pub record StageNames : Type 0 where
-  pub catalog : List ℕ
-  pub query : List ℕ
+  pub files : FileNames
   pub stages : List AnyStage
 
 -- those files, and that of a plan's text
 pub record PlanNames : Type 0 where
-  pub catalog : List ℕ
-  pub query : List ℕ
+  pub files : FileNames
   pub plan : List ℕ
 
 -- the files that a batch names
@@ -58,8 +56,8 @@ pub record AnyCommand : Type 0 where
 abbrev pub task_name : AnyTask → TaskName
 task_name (plan files) = tasks.Plan
 task_name (gen input) = tasks.Gen
-task_name (stages files) = tasks.Stages
-task_name (check files) = tasks.Check
+task_name (stages named) = tasks.Stages
+task_name (check named) = tasks.Check
 task_name (dump files) = tasks.Dump
 task_name (replay file) = tasks.Replay
 task_name (batch files) = tasks.Batch
@@ -130,18 +128,18 @@ pub record IsInput (input : GenInput) (words : List (List ℕ)) : Type 0 where
   pub are : words ≡ decimal input.number ∷ decimal input.tables ∷ shape_word input.shape ∷ []
 
 -- the words are two files and the word of stages
-pub record AreStageNames (files : StageNames) (words : List (List ℕ)) : Type 0 where
+pub record AreStageNames (named : StageNames) (words : List (List ℕ)) : Type 0 where
   pub word : List ℕ
-  pub of_stages : IsStagesWord files.stages word
-  pub are : words ≡ files.catalog ∷ files.query ∷ word ∷ []
+  pub of_stages : IsStagesWord named.stages word
+  pub are : words ≡ named.files.catalog ∷ named.files.query ∷ word ∷ []
 
 -- the names are those of the task: its files, in the order of the task's record, and behind them the word of stages
 -- where it has some; or what a catalogue and a query are made of
 abbrev pub AreNames : AnyTask → List (List ℕ) → Type 0
 AreNames (plan files) names = names ≡ files.catalog ∷ files.query ∷ []
 AreNames (gen input) names = IsInput input names
-AreNames (stages files) names = AreStageNames files names
-AreNames (check files) names = names ≡ files.catalog ∷ files.query ∷ files.plan ∷ []
+AreNames (stages named) names = AreStageNames named names
+AreNames (check named) names = names ≡ named.files.catalog ∷ named.files.query ∷ named.plan ∷ []
 AreNames (dump files) names = names ≡ files.catalog ∷ files.query ∷ []
 AreNames (replay file) names = names ≡ file ∷ []
 AreNames (batch files) names = names ≡ files.catalog ∷ files.list ∷ []

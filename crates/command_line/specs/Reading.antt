@@ -165,11 +165,13 @@ plan_over catalog query = plan (record { catalog = catalog; query = query })
 -- `stages` over these files and stages
 abbrev pub stages_over : List ℕ → List ℕ → List ℕ → Option AnyTask
 stages_over catalog query word =
-    option_map (λ some. stages (record { catalog = catalog; query = query; stages = some })) (stages_of word)
+    option_map (λ some. stages (record { files = record { catalog = catalog; query = query }; stages = some }))
+    (stages_of word)
 
 -- `check` over the files of a catalogue, of a query and of a plan
 abbrev pub check_over : List ℕ → List ℕ → List ℕ → Option AnyTask
-check_over catalog query text = Some (check (record { catalog = catalog; query = query; plan = text }))
+check_over catalog query text =
+    Some (check (record { files = record { catalog = catalog; query = query }; plan = text }))
 
 -- `dump` over the files of a catalogue and of a query
 abbrev pub dump_over : List ℕ → List ℕ → AnyTask

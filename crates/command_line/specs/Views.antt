@@ -21,12 +21,11 @@ file_names files = record { catalog = files.catalog.now; query = files.query.now
 
 -- those of stages
 abbrev pub stage_names : StageFiles → StageNames
-stage_names files =
-    record { catalog = files.catalog.now; query = files.query.now; stages = stages_read files.stages }
+stage_names named = record { files = file_names named.files; stages = stages_read named.stages }
 
 -- those of a check
 abbrev pub plan_names : PlanFiles → PlanNames
-plan_names files = record { catalog = files.catalog.now; query = files.query.now; plan = files.plan.now }
+plan_names named = record { files = file_names named.files; plan = named.plan.now }
 
 -- and those of a batch
 abbrev pub list_names : ListFiles → ListNames
@@ -36,8 +35,8 @@ list_names files = record { catalog = files.catalog.now; list = files.list.now }
 abbrev pub task_read : Task → AnyTask
 task_read (tasks.Plan files) = plan (file_names files)
 task_read (tasks.Gen made) = gen made.input
-task_read (tasks.Stages files) = stages (stage_names files)
-task_read (tasks.Check files) = check (plan_names files)
+task_read (tasks.Stages named) = stages (stage_names named)
+task_read (tasks.Check named) = check (plan_names named)
 task_read (tasks.Dump files) = dump (file_names files)
 task_read (tasks.Replay file) = replay file.now
 task_read (tasks.Batch files) = batch (list_names files)

@@ -17,16 +17,14 @@ pub struct Files<'w> {
 /// The names of the files that `stages` reads, and the stages.
 #[derive(Clone, Copy)]
 pub struct StageFiles<'w> {
-    pub catalog: &'w str,
-    pub query: &'w str,
+    pub files: Files<'w>,
     pub stages: Stages,
 }
 
 /// The names of the files that `check` reads.
 #[derive(Clone, Copy)]
 pub struct PlanFiles<'w> {
-    pub catalog: &'w str,
-    pub query: &'w str,
+    pub files: Files<'w>,
     /// The file with the text of a plan.
     pub plan: &'w str,
 }

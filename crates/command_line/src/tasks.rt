@@ -41,8 +41,7 @@ impl<'w> Names<'w> {
     {
         match self {
             Names::Three(catalog, query, word) => Some(Task::Stages(StageFiles {
-                catalog,
-                query,
+                files: Files { catalog, query },
                 stages: read_stages(word)?,
             })),
             _ => None,
@@ -55,8 +54,7 @@ impl<'w> Names<'w> {
     {
         match self {
             Names::Three(catalog, query, plan) => Some(Task::Check(PlanFiles {
-                catalog,
-                query,
+                files: Files { catalog, query },
                 plan,
             })),
             _ => None,
