@@ -1,7 +1,7 @@
-mod FirstAndLast
+pub mod FirstAndLast
 mod NodeAndBelow
-mod Lists
-mod Trees
-mod OneTree
-mod Validity
+pub mod Lists
+pub mod Trees
+pub mod OneTree
+pub mod Validity
 mod OneOutcome

@@ -6,19 +6,10 @@ use Rattle.std.specs.Prelude.{nat_lt}
 use Rattle.query_core.specs.Keys.{tables_of, top_of}
 use Rattle.query_core.specs.declared.query.Query.{Query}
 use Rattle.plan_space.specs.Nodes.{Tree, leaf, over, two}
-use Rattle.plan_reading.specs.Outline.{outline, IsPlanTree}
+use Rattle.plan_reading.specs.Outline.{outline, forest, ArePlanTrees}
 use Rattle.plan_reading.specs.declared.line.NodeLine.{NodeLine}
 use Rattle.plan_reading.specs.declared.named.Named.{Named}
 use Rattle.plan_reading.proofs.OneTree.{IsBeside, beside_outline, outlines_one}
-
--- the outlines of plans at one depth, one after the other
-abbrev pub forest : ℕ → List Tree → List (ℕ × Named)
-forest depth [] = []
-forest depth (tree ∷ trees) = outline depth tree ++ forest depth trees
-
-abbrev pub ArePlanTrees : Query → List Tree → Type 0
-ArePlanTrees q [] = Unit {0}
-ArePlanTrees q (tree ∷ trees) = IsPlanTree q tree × ArePlanTrees q trees
 
 beside_forest : (depth : ℕ) (trees : List Tree) → IsBeside depth (forest depth trees)
 beside_forest depth [] = tt

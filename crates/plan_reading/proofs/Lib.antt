@@ -8,19 +8,23 @@ mod Lists
 mod Marks
 mod ReadTexts
 mod Nodes
-pub mod OneTree
+mod OneTree
 mod Bare
 mod LineTexts
-pub mod Formed
-pub mod Sections
-pub mod Valid
+mod Formed
+mod PlanLines
+mod Sections
+mod Valid
 mod PartCuts
 mod LineParts
 mod WrittenNumbers
-pub mod Forests
-pub mod NodeOver
-pub mod AllTexts
-pub mod Indexes
+mod Forests
+mod NodeOver
+mod AllTexts
+mod Indexes
 mod Ended
 mod Ways
 mod Beginnings
+mod Names
+mod Bounds
+mod InPlace

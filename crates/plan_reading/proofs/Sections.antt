@@ -3,28 +3,17 @@ use Rattle.std.proofs.Common.{◌≡◌, ℕ, suc, List, [], ◌∷◌, ◌++◌
 use Rattle.std.proofs.Common.{arith, decimal, drop}
 use Rattle.std.specs.Prelude.{codes}
 use Rattle.std.specs.List.{concat}
-use Rattle.std.proofs.lemmas.List.{length-append, append_cancel_left, map-append}
+use Rattle.std.proofs.lemmas.List.{length-append, append_cancel_left}
 use Rattle.query_core.specs.Keys.{tables_of, top_of}
 use Rattle.query_core.specs.declared.query.Query.{Query}
-use Rattle.cardinality.specs.Rows.{rows_of}
-use Rattle.cost_units.specs.Cost.{local_cost}
-use Rattle.plan_space.specs.Cost.{cost_of, shape_of}
-use Rattle.plan_space.specs.Gives.{node_group, kid_of}
-use Rattle.plan_space.specs.Lines.{table_in}
-use Rattle.plan_space.specs.Modes.{mode_at}
-use Rattle.plan_space.specs.declared.modes.Mode.{Mode}
-use Rattle.query_core.specs.declared.expressions.Physical.{Physical}
+use Rattle.plan_space.specs.Cost.{cost_of}
 use Rattle.plan_space.specs.Nodes.{Tree, leaf, over, two}
-use Rattle.plan_space.specs.declared.nodes.NodeKind.{NodeKind}
-use Rattle.plan_space.specs.declared.nodes.NodeKind.TheVariants as nodes
 use Rattle.plan_space.specs.declared.nodes.Enforcer.TheVariants as enforcers
-use Rattle.query_core.specs.declared.expressions.Physical.TheVariants as physical
-use Rattle.plan_space.specs.declared.seen.Kid.{Kid}
-use Rattle.plan_lines.specs.Text.{indent, numbered, node_text, operator_text, node_line, plan_lines, plan_section, output_line}
-use Rattle.plan_reading.specs.Named.{named_of, named_operator, named_text, HasForm}
+use Rattle.plan_lines.specs.Text.{indent, plan_lines, plan_section, output_line}
+use Rattle.plan_reading.specs.Named.{named_text, HasForm}
 use Rattle.plan_reading.specs.Reading.{is_inner}
-use Rattle.plan_reading.specs.Outline.{outline, IsPlanTree}
-use Rattle.plan_reading.specs.Lines.{line_text, sketch, line_of_node, tree_lines}
+use Rattle.plan_reading.specs.Outline.{IsPlanTree}
+use Rattle.plan_reading.specs.Lines.{line_text, sketch, tree_lines}
 use Rattle.plan_reading.specs.declared.line.NodeLine.{NodeLine}
 use Rattle.plan_reading.specs.declared.named.Named.{Named}
 use Rattle.plan_reading.specs.declared.named.Named.TheVariants as named
@@ -34,24 +23,7 @@ use Rattle.plan_reading.proofs.Ended.{inner_line, line_and, cost_and, cost_inner
 use Rattle.plan_reading.proofs.Formed.{known_form}
 use Rattle.plan_reading.proofs.LineTexts.{unended, IsFlush, names_one}
 use Rattle.plan_reading.proofs.OneTree.{outline_one}
-
-operator_named : (q : Query) (o : Physical) (t : ℕ) (mode : Mode) → operator_text q o t mode
-    ≡ named_text q (named_operator o t mode)
-operator_named q physical.Scan t mode = refl
-operator_named q (physical.IndexScan i) t mode = refl
-operator_named q (physical.Filter c) t mode = refl
-operator_named q (physical.IndexSeek i) t mode = refl
-operator_named q (physical.HashJoin l r) t mode = refl
-operator_named q (physical.MergeJoin l r) t mode = refl
-operator_named q (physical.LoopJoin l r) t mode = refl
-operator_named q (physical.HashAgg c) t mode = refl
-operator_named q (physical.StreamAgg c) t mode = refl
-operator_named q (physical.PartialAgg c) t mode = refl
-
--- a node's text is that of how its line names it
-pub node_named : (q : Query) (node : NodeKind) → node_text q node ≡ named_text q (named_of node)
-node_named q (nodes.Enforcer e) = refl
-node_named q (nodes.Native e m) = operator_named q e.operator (table_in e.group) (mode_at m)
+use Rattle.plan_reading.proofs.PlanLines.{plan_lines_are, outline_is}
 
 -- it begins with no space
 pub flush : (q : Query) (n : Named) → IsFlush (named_text q n)
@@ -105,33 +77,6 @@ module _ (q : Query) (texts : (a b : Named) → HasForm q a → HasForm q b → 
 
   -- ---- the lines of a plan
 
-  node_line_is : (d : ℕ) (node : NodeKind) (kids : List Kid) → node_line q d node kids ≡ line_text q (line_of_node q d node kids)
-  node_line_is d node kids =
-      ap (λ t. numbered (indent d) t (rows_of q (node_group node kids)) (local_cost (shape_of q node kids))) (node_named q node)
-
-  plan_lines_are : (d : ℕ) (t : Tree) → plan_lines q d t ≡ map (line_text q) (tree_lines q d t)
-  plan_lines_are d (leaf node) = ap (λ l. l ∷ []) (node_line_is d node [])
-  plan_lines_are d (over node kid) =
-      ap (λ l. l ∷ plan_lines q (suc d) kid) (node_line_is d node (kid_of q kid ∷ []))
-      ∙ ap (λ ls. line_text q (line_of_node q d node (kid_of q kid ∷ [])) ∷ ls) (plan_lines_are (suc d) kid)
-  plan_lines_are d (two node left right) =
-      let kids = kid_of q left ∷ kid_of q right ∷ [] in
-      let below : plan_lines q (suc d) left ++ plan_lines q (suc d) right
-      ≡ map (line_text q) (tree_lines q (suc d) left ++ tree_lines q (suc d) right) =
-      ap (λ ls. ls ++ plan_lines q (suc d) right) (plan_lines_are (suc d) left)
-      ∙ ap (λ ls. map (line_text q) (tree_lines q (suc d) left) ++ ls) (plan_lines_are (suc d) right)
-      ∙ sym (map-append (line_text q) (tree_lines q (suc d) left) (tree_lines q (suc d) right)) in
-      ap (λ l. l ∷ (plan_lines q (suc d) left ++ plan_lines q (suc d) right)) (node_line_is d node kids)
-      ∙ ap (λ ls. line_text q (line_of_node q d node kids) ∷ ls) below
-
-  outline_is : (d : ℕ) (t : Tree) → outline d t ≡ map sketch (tree_lines q d t)
-  outline_is d (leaf node) = refl
-  outline_is d (over node kid) = ap (λ ls. (d, named_of node) ∷ ls) (outline_is (suc d) kid)
-  outline_is d (two node left right) = ap (λ ls. (d, named_of node) ∷ ls)
-      (ap (λ ls. ls ++ outline (suc d) right) (outline_is (suc d) left)
-      ∙ ap (λ ls. map sketch (tree_lines q (suc d) left) ++ ls) (outline_is (suc d) right)
-      ∙ sym (map-append sketch (tree_lines q (suc d) left) (tree_lines q (suc d) right)))
-
   formed_append : (xs ys : List NodeLine) → AreFormed xs → AreFormed ys → AreFormed (xs ++ ys)
   formed_append [] ys in_xs in_ys = in_ys
   formed_append (x ∷ xs) ys in_xs in_ys = (in_xs.0, formed_append xs ys in_xs.1 in_ys)
@@ -151,9 +96,9 @@ module _ (q : Query) (texts : (a b : Named) → HasForm q a → HasForm q b → 
         → a ≡ b
     lines_plan_one a b is_a is_b same =
         let lines : concat (map (line_text q) (tree_lines q 0 a)) ≡ concat (map (line_text q) (tree_lines q 0 b)) =
-        sym (ap concat (plan_lines_are 0 a)) ∙ same ∙ ap concat (plan_lines_are 0 b) in
+        sym (ap concat (plan_lines_are q 0 a)) ∙ same ∙ ap concat (plan_lines_are q 0 b) in
         let outlines = lines_one (tree_lines q 0 a) (tree_lines q 0 b) (formed_tree 0 a is_a) (formed_tree 0 b is_b) lines in
-        outline_one q tables 0 a b is_a is_b (outline_is 0 a ∙ outlines ∙ sym (outline_is 0 b))
+        outline_one q tables 0 a b is_a is_b (outline_is q 0 a ∙ outlines ∙ sym (outline_is q 0 b))
 
     pub sections_one : (a b : Tree) → IsPlanTree q a → IsPlanTree q b → concat (plan_section q a) ≡ concat (plan_section q b) → a ≡ b
     sections_one a b is_a is_b same =

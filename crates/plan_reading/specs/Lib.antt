@@ -5,3 +5,4 @@ pub mod Lines
 pub mod Reading
 pub mod Texts
 pub mod Formed
+pub mod Laws

@@ -1,5 +1,5 @@
 -- The node that a line names over kids of some groups.
-use Rattle.std.specs.Prelude.{ℕ, ◌+◌, ◌<◌, List, [], ◌∷◌, bit_or}
+use Rattle.std.specs.Prelude.{ℕ, ◌+◌, ◌<◌, List, [], ◌∷◌, bit_or, ⊤}
 use Rattle.query_core.specs.Keys.{tables_of}
 use Rattle.query_core.specs.declared.words.KeyParts.{KeyParts}
 use Rattle.query_core.specs.declared.words.KeyParts.TheVariants as groups
@@ -25,6 +25,20 @@ abbrev pub IsSmall : Mode → Type 0
 IsSmall (modes.Plain number) = number < 64
 IsSmall (modes.Copied number) = number < 64
 IsSmall (modes.Hashed number) = number < 64
+
+-- the mode that a line names, if it names one, is such
+abbrev pub HasSmallMode : Named → Type 0
+HasSmallMode (named.Scan table mode) = IsSmall mode
+HasSmallMode (named.IndexScan table index mode) = IsSmall mode
+HasSmallMode (named.Filter table mode) = IsSmall mode
+HasSmallMode (named.IndexSeek table index mode) = IsSmall mode
+HasSmallMode (named.HashJoin mode) = IsSmall mode
+HasSmallMode (named.MergeJoin mode) = IsSmall mode
+HasSmallMode (named.LoopJoin mode) = IsSmall mode
+HasSmallMode (named.HashAgg mode) = IsSmall mode
+HasSmallMode (named.StreamAgg mode) = IsSmall mode
+HasSmallMode (named.PartialAgg mode) = IsSmall mode
+HasSmallMode (named.Enforcer e) = ⊤
 
 -- the group of the second of a node's kids
 abbrev pub second_group : List Kid → KeyParts

@@ -12,6 +12,8 @@ ghost use Rattle.plan_reading.specs.declared.named.Named.{Named as Name};
 ghost use Rattle.plan_reading.specs.Named.{named_text, HasForm};
 ghost use Rattle.plan_reading.specs.Outline.{IsPlanTree};
 ghost use Rattle.plan_reading.specs.Formed.{IsFormed, HasFormFault};
+ghost use Rattle.plan_reading.specs.Laws.{PlansAreRead, LinesAreSpelled, OutlinesAreOne};
+ghost use Rattle.plan_reading.specs.Laws.{NodesAreMeant, NamesAreKept, ModesAreSmall};
 ghost use Rattle.plan_reading.specs.declared.line.NodeLine.{NodeLine as AnyLine};
 
 use query_core::{candidates_are_known, sides_are_known};
@@ -49,4 +51,27 @@ pub fn readings_are_one()
         IsFormed q text c xs → HasFormFault q text line → ⊥ }
 {
     texts_are_one();
+}
+
+/// The text of a plan of few enough nodes is made of the plan's own lines.
+pub fn plans_are_read()
+    ensures read { (q : Query) → PlansAreRead q }
+    ensures spelled { (q : Query) → LinesAreSpelled q }
+{}
+
+/// Lines without their numbers are those of one list of plans.
+pub fn outlines_are_one()
+    ensures { (q : Query) → OutlinesAreOne q }
+{
+    sides_are_known();
+}
+
+/// What a line names is told by the node, and the node by its name and the groups of its kids.
+pub fn nodes_are_meant()
+    ensures meant { (q : Query) → NodesAreMeant q }
+    ensures kept { (q : Query) → NamesAreKept q }
+    ensures small { (q : Query) → ModesAreSmall q }
+{
+    sides_are_known();
+    candidates_are_known();
 }

@@ -10,7 +10,10 @@ mod reader;
 mod text;
 mod texts;
 
-pub use laws::{plans_are_one, readings_are_one, texts_are_one};
+pub use laws::{
+    nodes_are_meant, outlines_are_one, plans_are_one, plans_are_read, readings_are_one,
+    texts_are_one,
+};
 pub use line::NodeLine;
 pub use named::Named;
 pub use text::{LineFault, Lines, read_lines};

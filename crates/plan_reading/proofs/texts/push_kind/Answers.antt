@@ -4,7 +4,7 @@ use Rattle.std.proofs.lemmas.Bool.{false≢true}
 use Rattle.plan_reading.specs.Named.{HasForm, named_text}
 use Rattle.plan_reading.specs.Texts.{Adds, IsOfKind}
 use Rattle.plan_reading.proofs.AllTexts.{adds_none, adds_one}
-use Rattle.plan_reading.proofs.Sections.{node_named}
+use Rattle.plan_reading.proofs.PlanLines.{node_named}
 use Rattle.plan_reading.proofs.texts.push_kind.Goals as goal
 
 pub returns-in_ok-push : goal.returns-in_ok-push

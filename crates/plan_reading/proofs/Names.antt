@@ -8,13 +8,12 @@ use Rattle.plan_space.specs.Modes.{mode_at}
 use Rattle.plan_space.specs.declared.modes.Mode.{Mode}
 use Rattle.plan_space.specs.declared.seen.Kid.{Kid}
 use Rattle.plan_reading.specs.Named.{named_of, HasForm}
-use Rattle.plan_reading.specs.NodeOver.{node_over, number_in, IsSmall}
+use Rattle.plan_reading.specs.NodeOver.{node_over, number_in, IsSmall, HasSmallMode}
 use Rattle.plan_reading.specs.Texts.{index_numbers}
 use Rattle.plan_reading.specs.declared.named.Named.{Named}
 use Rattle.plan_reading.specs.declared.named.Named.TheVariants as named
 use Rattle.plan_reading.proofs.AllTexts.{has_number, only_small, read_small, hash_small, merge_small, loop_small, agg_small}
 use Rattle.plan_reading.proofs.Indexes.{index_known}
-use Rattle.text_check.specs.Grown.{HasSmallMode}
 
 module _ (q : Query) (few_lists : length (lists_of q) ≤ 60) (few_orders : length (orders_of q) ≤ 60)
     (packed : (e : ExprParts) → IsCandidate q e → IsPacked e) where
