@@ -1,4 +1,12 @@
 mod Trees
-mod Names
 mod LineBlocks
 mod Steps
+mod FirstAt
+mod TreeFits
+mod PlanNodes
+mod Members
+mod OwnNumbers
+mod OwnFollowing
+mod OneOutcome
+mod Text
+mod Judged

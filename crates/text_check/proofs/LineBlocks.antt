@@ -7,16 +7,15 @@ use Rattle.std.specs.List.{list_all, take_while}
 use Rattle.std.proofs.lemmas.Bool.{and_parts, and_from, le-ltb}
 use Rattle.std.proofs.lemmas.List.Folds.{list_all-append}
 use Rattle.std.proofs.lemmas.List.Sums.{take_while-cons}
-use Rattle.query_core.specs.Keys.{tables_of, top_of}
 use Rattle.query_core.specs.declared.query.Query.{Query}
 use Rattle.plan_space.specs.Nodes.{Tree, leaf, over, two}
 use Rattle.plan_tree.specs.Seen.{root_node}
 use Rattle.plan_reading.specs.Lines.{sketch}
 use Rattle.plan_reading.specs.Named.{named_of}
-use Rattle.plan_reading.specs.Outline.{outline}
+use Rattle.plan_reading.specs.Laws.{OutlinesAreOne}
+use Rattle.plan_reading.specs.Outline.{outline, forest, ArePlanTrees}
 use Rattle.plan_reading.specs.declared.line.NodeLine.{NodeLine}
 use Rattle.plan_reading.specs.declared.named.Named.{Named}
-use Rattle.plan_reading.proofs.Forests.{forest, ArePlanTrees, forests_one}
 use Rattle.text_check.specs.Blocks.{Fits, EndsBlock, block}
 use Rattle.text_check.specs.Grown.{subtrees, StandsOver, AreGrown, IsOver, AreDeeper, EndsAt, AreOf}
 use Rattle.text_check.specs.declared.kids.Grown.{Grown}
@@ -27,11 +26,11 @@ abbrev Sketch : Type 0
 Sketch = ℕ × Named
 
 -- whether a line is deeper
-abbrev deeper : ℕ → NodeLine → Bool
+abbrev pub deeper : ℕ → NodeLine → Bool
 deeper level line = nat_lt level line.level
 
 -- the lines are deeper
-abbrev AreDeep : ℕ → List NodeLine → Type 0
+abbrev pub AreDeep : ℕ → List NodeLine → Type 0
 AreDeep level lines = list_all (deeper level) lines ≡ true
 
 -- ---- the lines of a plan
@@ -53,7 +52,7 @@ deep_map : (level : ℕ) (lines : List NodeLine) → list_all (deeper level) lin
 deep_map level [] = refl
 deep_map level (line ∷ lines) = rw (deep_map level lines) refl
 
-block_deep : (level depth : ℕ) (t : Tree) (lines : List NodeLine) → level < depth → map sketch lines ≡ outline depth t
+pub block_deep : (level depth : ℕ) (t : Tree) (lines : List NodeLine) → level < depth → map sketch lines ≡ outline depth t
     → AreDeep level lines
 block_deep level depth t lines less spelled =
     deep_map level lines ∙ ap (list_all (λ (s : Sketch). nat_lt level s.0)) spelled ∙ outline_deep level depth t less
@@ -190,10 +189,10 @@ line_fits q line taken others lines f t is = record {
 }
 
 -- and only there
-pub line_stands : (q : Query) (tables : (set : ℕ) → tables_of (top_of q set) ≡ set) (line : NodeLine)
+pub line_stands : (q : Query) (one : OutlinesAreOne q) (line : NodeLine)
     (taken others : List Grown) (lines : List NodeLine) (f : IsForest q line.level taken others lines)
     (fits : Fits q line lines) → StandsOver q line f.trees fits.tree
-line_stands q tables line taken others lines f fits =
+line_stands q one line taken others lines f fits =
     let t = fits.tree in
     let both : sketch line ∷ map sketch f.block ≡ (line.level, named_of (root_node t)) ∷ forest (suc line.level) (subtrees t) =
     sym (ap (map sketch) (block_is q line taken others lines f)) ∙ fits.spelled ∙ outline_parts line.level t in
@@ -201,18 +200,18 @@ line_stands q tables line taken others lines f fits =
     let behind : map sketch f.block ≡ forest (suc line.level) (subtrees t) = cc in
     record {
       is_tree = fits.is_tree;
-      over = forests_one q tables (suc line.level) (subtrees t) f.trees (below_are q t fits.is_tree)
+      over = one (suc line.level) (subtrees t) f.trees (below_are q t fits.is_tree)
           (grown_trees q taken f.trees f.grown) (sym behind ∙ f.spelled);
       named = sym (ap (λ (s : Sketch). s.1) head);
       of_root = fits.of_root;
     }
 
 -- over three plans none fits
-pub none_fits : (q : Query) (tables : (set : ℕ) → tables_of (top_of q set) ≡ set) (line : NodeLine)
+pub none_fits : (q : Query) (one : OutlinesAreOne q) (line : NodeLine)
     (taken others : List Grown) (lines : List NodeLine) → IsForest q line.level taken others lines → 3 ≤ length taken
     → Fits q line lines → ⊥
-none_fits q tables line taken others lines f many fits =
-    let is = line_stands q tables line taken others lines f fits in
+none_fits q one line taken others lines f many fits =
+    let is = line_stands q one line taken others lines f fits in
     let few = few_below fits.tree in
     let over = ap length is.over in
     let all = as_many q taken f.trees f.grown in

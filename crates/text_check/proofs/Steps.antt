@@ -7,7 +7,7 @@ use Rattle.std.proofs.lemmas.Bool.{cases_lt}
 use Rattle.std.proofs.lemmas.List.{append-nil, reverse-append}
 use Rattle.std.proofs.lemmas.List.Elements.{All-nil, All-cons}
 use Rattle.query_core.specs.Expressions.{IsCandidate, IsPacked, expr_of}
-use Rattle.query_core.specs.Keys.{tables_of, top_of, IsGroup, IsInRange}
+use Rattle.query_core.specs.Keys.{IsGroup, IsInRange}
 use Rattle.query_core.specs.declared.expressions.ExprParts.{ExprParts}
 use Rattle.query_core.specs.declared.query.Query.{Query}
 use Rattle.query_core.specs.declared.words.KeyParts.{KeyParts}
@@ -22,13 +22,14 @@ use Rattle.plan_tree.specs.Nodes.{EnforcerInRange, IsInRange as IsNodeInRange}
 use Rattle.plan_tree.specs.Spells.{Spells}
 use Rattle.plan_check.specs.Nodes.{IsEnforcerOf, IsKindOf}
 use Rattle.plan_reading.specs.Formed.{AreInPlace, Follows}
+use Rattle.plan_reading.specs.Laws.{OutlinesAreOne}
 use Rattle.plan_reading.specs.Lines.{sketch}
 use Rattle.plan_reading.specs.Named.{HasForm}
 use Rattle.plan_reading.specs.Outline.{outline}
 use Rattle.plan_reading.specs.declared.line.NodeLine.{NodeLine}
-use Rattle.text_check.specs.Blocks.{Fits, EndsBlock, tails}
-use Rattle.text_check.specs.Grown.{StandsOver, AreGrown, IsOver, AreDeeper, EndsAt, AreOf, IsTaken, AreLinesOf, LineFits}
-use Rattle.text_check.specs.Grown.{IsMisfit, HasMode, HaveRanges, kids_list, seen_of}
+use Rattle.text_check.specs.Blocks.{Fits, LineFits, EndsBlock, tails, AreLinesOf, IsMisfit}
+use Rattle.text_check.specs.Grown.{StandsOver, AreGrown, IsOver, AreDeeper, EndsAt, AreOf, IsTaken}
+use Rattle.text_check.specs.Grown.{HasMode, HaveRanges, kids_list, seen_of}
 use Rattle.text_check.specs.declared.kids.Grown.{Grown}
 use Rattle.text_check.specs.declared.kids.Kids.{Kids}
 use Rattle.text_check.specs.declared.kids.Kids.TheVariants as kids
@@ -116,7 +117,7 @@ pub line_parts : (lines rest before done : List NodeLine) (line : NodeLine) → 
 line_parts lines rest before done line parts is =
     parts ∙ ap (λ ls. ls ++ done) is ∙ append_assoc before (line ∷ []) done
 
-module _ (q : Query) (tables : (set : ℕ) → tables_of (top_of q set) ≡ set) (lines : List NodeLine)
+module _ (q : Query) (one : OutlinesAreOne q) (lines : List NodeLine)
     (in_place : AreInPlace q None lines) where
   -- what stands before the line and behind it
   pub record IsAt (before : List NodeLine) (line : NodeLine) (done : List NodeLine) : Type 0 where
@@ -178,7 +179,7 @@ module _ (q : Query) (tables : (set : ℕ) → tables_of (top_of q set) ≡ set)
   misfit_over before done line gs after taken told at are is fits none place =
       let f = forest_at before done line gs after taken at are is in
       misfit_at before done line told at fits
-      (λ (x : Fits q line done). none x.tree (line_stands q tables line (kids_list taken) after done f x)) place
+      (λ (x : Fits q line done). none x.tree (line_stands q one line (kids_list taken) after done f x)) place
 
   -- the deeper plans come first
   deepest : (level : ℕ) (gs : List Grown) → (taken : List Grown) × (others : List Grown) × (gs ≡ taken ++ others)
@@ -201,7 +202,7 @@ module _ (q : Query) (tables : (set : ℕ) → tables_of (top_of q set) ≡ set)
       let f = forest_of q line.level (a ∷ b ∷ c ∷ more.0) more.1 done (deep.0, (deep.1.0, (deep.1.1.0, more.3))) more.4 at.start
       (subst (λ x. AreOf q x done) all are) in
       misfit_at before done line told at fits
-      (none_fits q tables line (a ∷ b ∷ c ∷ more.0) more.1 done f (omega arith)) place
+      (none_fits q one line (a ∷ b ∷ c ∷ more.0) more.1 done f (omega arith)) place
 
   -- or else its plan comes first
   pub made_next : (before done : List NodeLine) (line : NodeLine) (gs : List Grown) (after items : List Grown) (taken : Kids)

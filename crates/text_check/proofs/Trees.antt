@@ -1,7 +1,7 @@
 -- A plan by the plans below its root.
 use Rattle.std.proofs.Common.{◌≡◌, ℕ, suc, ◌≤◌, List, [], ◌∷◌, ◌++◌, map, length, refl, sym, ap, ◌∙◌, subst, arith}
 use Rattle.std.proofs.lemmas.List.{append-nil}
-use Rattle.query_core.specs.Keys.{tables_of, top_of, IsGroup, IsInRange}
+use Rattle.query_core.specs.Keys.{IsGroup, IsInRange}
 use Rattle.query_core.specs.declared.query.Query.{Query}
 use Rattle.query_core.specs.declared.words.KeyParts.{KeyParts}
 use Rattle.plan_space.specs.Gives.{node_group, kid_of, kid_under}
@@ -14,10 +14,9 @@ use Rattle.plan_check.specs.Kids.{HasKids}
 use Rattle.plan_check.specs.Nodes.{IsKindOf}
 use Rattle.plan_reading.specs.Named.{named_of}
 use Rattle.plan_reading.specs.NodeOver.{node_over}
-use Rattle.plan_reading.specs.Outline.{outline, IsPlanTree}
+use Rattle.plan_reading.specs.Laws.{NodesAreMeant}
+use Rattle.plan_reading.specs.Outline.{outline, forest, IsPlanTree, ArePlanTrees}
 use Rattle.plan_reading.specs.declared.line.NodeLine.{NodeLine}
-use Rattle.plan_reading.proofs.Forests.{forest, ArePlanTrees}
-use Rattle.plan_reading.proofs.NodeOver.{over_one}
 use Rattle.text_check.specs.Grown.{subtrees, StandsOver, MayStand, tree_over, HaveRanges}
 
 -- what is seen of plans
@@ -83,12 +82,12 @@ trees_range q range (t ∷ ts) are = (range (kid_of q t).group (tree_known q t a
 
 -- ---- a line's node over plans
 
-module _ (q : Query) (tables : (set : ℕ) → tables_of (top_of q set) ≡ set) where
+module _ (q : Query) (meant : NodesAreMeant q) where
   -- its node is the one that may be meant
   pub stands_node : (line : NodeLine) (below : List Tree) (t : Tree) → StandsOver q line below t
       → root_node t ≡ node_over line.node (kids_at q below)
   stands_node line below t is =
-      over_one q tables (root_node t) (kids_at q (subtrees t)) (root_kind q t is.is_tree) (root_kids q t is.is_tree)
+      meant (root_node t) (kids_at q (subtrees t)) (root_kind q t is.is_tree) (root_kids q t is.is_tree)
       ∙ ap (λ n. node_over n (kids_at q (subtrees t))) is.named
       ∙ ap (λ ts. node_over line.node (kids_at q ts)) is.over
 

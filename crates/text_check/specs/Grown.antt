@@ -1,5 +1,5 @@
 -- The plans that are made of lines, from the last line up.
-use Rattle.std.specs.Prelude.{ℕ, ◌≡◌, ◌<◌, ◌≤◌, ◌+◌, List, [], ◌∷◌, ◌++◌, Option, None, Some, map, ⊤}
+use Rattle.std.specs.Prelude.{ℕ, ◌≡◌, ◌<◌, ◌≤◌, List, [], ◌∷◌, ◌++◌, Option, None, Some, map, ⊤}
 use Rattle.query_core.specs.Keys.{root_of, IsInRange}
 use Rattle.query_core.specs.declared.query.Query.{Query}
 use Rattle.plan_space.specs.Gives.{node_group, kid_of}
@@ -11,15 +11,11 @@ use Rattle.plan_tree.specs.Seen.{root_node}
 use Rattle.plan_tree.specs.Spells.{Spells}
 use Rattle.plan_check.specs.Kids.{HasKids}
 use Rattle.plan_check.specs.Nodes.{IsKindOf}
-use Rattle.plan_check.specs.Places.{IsLastWithout}
 use Rattle.plan_reading.specs.Lines.{sketch}
 use Rattle.plan_reading.specs.Named.{named_of}
 use Rattle.plan_reading.specs.Outline.{outline, IsPlanTree}
-use Rattle.plan_reading.specs.NodeOver.{IsSmall}
 use Rattle.plan_reading.specs.declared.line.NodeLine.{NodeLine}
-use Rattle.plan_reading.specs.declared.named.Named.{Named}
-use Rattle.plan_reading.specs.declared.named.Named.TheVariants as named
-use Rattle.text_check.specs.Blocks.{Fits, EndsBlock, tails}
+use Rattle.text_check.specs.Blocks.{EndsBlock, IsMisfit}
 use Rattle.text_check.specs.declared.fault.TreeFault.{TreeFault}
 use Rattle.text_check.specs.declared.fault.TreeFault.TheVariants as faults
 use Rattle.text_check.specs.declared.kids.Grown.{Grown}
@@ -51,20 +47,6 @@ pub record MayStand (q : Query) (level : ℕ) (node : NodeKind) (seen : List Kid
 abbrev pub HasMode : NodeKind → Type 0
 HasMode (nodes.Native e mode) = mode < node_modes
 HasMode (nodes.Enforcer e) = ⊤
-
--- its mode, if it has one, is small
-abbrev pub HasSmallMode : Named → Type 0
-HasSmallMode (named.Scan table mode) = IsSmall mode
-HasSmallMode (named.IndexScan table index mode) = IsSmall mode
-HasSmallMode (named.Filter table mode) = IsSmall mode
-HasSmallMode (named.IndexSeek table index mode) = IsSmall mode
-HasSmallMode (named.HashJoin mode) = IsSmall mode
-HasSmallMode (named.MergeJoin mode) = IsSmall mode
-HasSmallMode (named.LoopJoin mode) = IsSmall mode
-HasSmallMode (named.HashAgg mode) = IsSmall mode
-HasSmallMode (named.StreamAgg mode) = IsSmall mode
-HasSmallMode (named.PartialAgg mode) = IsSmall mode
-HasSmallMode (named.Enforcer e) = ⊤
 
 -- the program's plan is this tree, and seen as that is
 pub record IsGrown (q : Query) (grown : Grown) (tree : Tree) : Type 0 where
@@ -156,25 +138,7 @@ IsTaken level before after None = (first : Grown) × (second : Grown) × (third 
 IsTaken level before after (Some taken) =
     (before ≡ kids_list taken ++ after) × AreDeeper level (kids_list taken) × EndsAt level after
 
--- ---- all lines
-
--- the lines are those of the plan, which is of the query's root
-pub record AreLinesOf (q : Query) (lines : List NodeLine) (tree : Tree) : Type 0 where
-  pub is_tree : IsPlanTree q tree
-  pub spelled : map sketch lines ≡ outline 0 tree
-  pub of_root : (kid_of q tree).group ≡ root_of q
-
--- a line fits over those behind it
-abbrev pub LineFits : Query → NodeLine × List NodeLine → Type 0
-LineFits q at = Fits q at.0 at.1
-
--- this is the last line that doesn't fit, where the first two are counted too
-pub record IsMisfit (q : Query) (lines : List NodeLine) (line : ℕ) : Type 0 where
-  pub place : ℕ
-  pub line_is : line ≡ place + 2
-  pub last : IsLastWithout (LineFits q) (tails lines) place
-
--- the fault is that of the lines
+-- the fault is that of all lines
 abbrev pub HasTreeFault : Query → List NodeLine → TreeFault → Type 0
 HasTreeFault q lines (faults.Kids line) = IsMisfit q lines line
 HasTreeFault q lines faults.Memory = ⊤

@@ -17,19 +17,19 @@ ghost use Rattle.plan_check.specs.Nodes.{IsKindOf};
 ghost use Rattle.plan_check.specs.Outcome.{most_nodes};
 ghost use Rattle.plan_reading.specs.Formed.{AreInPlace};
 ghost use Rattle.plan_reading.specs.Named.{HasForm};
-ghost use Rattle.text_check.specs.Grown.{AreGrown, AreLinesOf, HasMode, HasTreeFault, IsOver, MayStand, StandsOver};
+ghost use Rattle.text_check.specs.Blocks.{AreLinesOf};
+ghost use Rattle.text_check.specs.Grown.{AreGrown, HasMode, HasTreeFault, IsOver, MayStand, StandsOver};
 ghost use Rattle.text_check.specs.Grown.{kids_list, seen_of, tree_over, HaveRanges};
 
 use crate::fault::TreeFault;
 use crate::kids::{Grown, Kids, take_kids};
 use crate::node_over::node_over;
 use plan_check::{has_kids, is_enforcer_of, is_kind_of};
-use plan_reading::NodeLine;
+use plan_reading::{NodeLine, nodes_are_meant, outlines_are_one};
 use plan_space::NodeKind;
 use plan_tree::{Below, Node, Plan, seen_above};
 use query_core::{
     Children, KeyParts, Physical, PhysicalExpr, Query, candidates_are_known, groups_are_known,
-    sides_are_known,
 };
 use request_props::Props;
 use std::alloc::{AllocError, AllocFailed, Global};
@@ -48,8 +48,8 @@ pub fn plan_of(
     ensures ok { IfOk result (λ plan. (t : Tree) × Spells plan t × AreLinesOf query.now lines.now t) }
     ensures fault { IfErr result (HasTreeFault query.now lines.now) }
 {
-    // For the proof: what is known of the groups of plans.
-    sides_are_known();
+    // For the proof: what is known of plans and their groups.
+    outlines_are_one();
     groups_are_known();
     let mut grown = Vec::new(alloc);
     let mut rest = lines;
@@ -88,7 +88,7 @@ fn over(
         ((t : Tree) → StandsOver query.now line trees t → ⊥) (IsOver query.now line trees)) }
 {
     // For the proof: the node is the only one that may be meant.
-    sides_are_known();
+    nodes_are_meant();
     candidates_are_known();
     let below = kids.seen();
     let kind = node_over(line.node, below);

@@ -7,9 +7,9 @@ ghost use Rattle.plan_space.specs.Gives.{first_group as group_of_first};
 ghost use Rattle.plan_space.specs.Modes.{modes_end};
 ghost use Rattle.plan_tree.specs.Seen.{kids_seen};
 ghost use Rattle.plan_reading.specs.NodeOver.{node_over as node_by_name, native as native_in};
-ghost use Rattle.plan_reading.specs.NodeOver.{number_in as number_of_mode, IsSmall};
+ghost use Rattle.plan_reading.specs.NodeOver.{number_in as number_of_mode, IsSmall, HasSmallMode};
 ghost use Rattle.plan_reading.specs.NodeOver.{second_group as group_of_second};
-ghost use Rattle.text_check.specs.Grown.{HasMode, HasSmallMode, HaveRanges};
+ghost use Rattle.text_check.specs.Grown.{HasMode, HaveRanges};
 
 use plan_reading::Named;
 use plan_space::{Mode, NodeKind};

@@ -7,7 +7,6 @@ use Rattle.plan_reading.specs.Named.{named_of}
 use Rattle.plan_reading.specs.NodeOver.{node_over}
 use Rattle.text_check.specs.Grown.{MayStand, kids_list, tree_over}
 use Rattle.text_check.proofs.LineBlocks.{as_many, grown_trees}
-use Rattle.text_check.proofs.Names.{form_named}
 use Rattle.text_check.proofs.Steps.{kids_few, node_range, seen_is}
 use Rattle.text_check.proofs.Trees.{may_stand, over_seen, stands_over}
 use Rattle.text_check.proofs.grow.over.Goals as goal
@@ -18,7 +17,7 @@ returns-then-not-may_stand c = λ trees are t is.
     let q = c.args.query.now in
     let line = c.args.line in
     let seen = c.seen-below.ensures ∙ seen_is q (kids_list c.args.kids) trees are in
-    let may = may_stand q (c.sides_are_known.ensures.tables q) line trees t is in
+    let may = may_stand q (c.nodes_are_meant.ensures.meant q) line trees t is in
     let back = subst (λ ks. MayStand q line.level (node_over line.node ks) ks) (sym seen) may in
     let own = subst (λ n. MayStand q line.level n (kids_seen c.seen-below.result)) (sym c.node_over-kind.ensures.node) back in
     false≢true (sym c.if-not-may_stand.true ∙ c.may_stand.ensures.1 own)
@@ -39,8 +38,8 @@ returns c = λ trees are.
     let may = c.may_stand.ensures.0 c.if-not-may_stand.false in
     let may_at = subst (λ ks. MayStand q line.level node ks) seen may in
     let named = ap named_of c.node_over-kind.ensures.node
-    ∙ form_named q c.requires.props.few_lists c.requires.props.few_orders (c.candidates_are_known.ensures.packed q) line.node
-    (kids_seen c.seen-below.result) c.requires.form in
+    ∙ c.nodes_are_meant.ensures.kept q line.node (kids_seen c.seen-below.result)
+    (record { few_lists = c.requires.props.few_lists; few_orders = c.requires.props.few_orders }) c.requires.form in
     let many = as_many q taken trees are in
     let two = kids_few c.args.kids in
     let few : length trees ≤ 2 = omega (arith, many, two) in

@@ -10,31 +10,31 @@ use Rattle.text_check.proofs.grow.plan_of.Goals as goal
 pub returns-in_default-take_kids-clause-fault : goal.returns-in_default-take_kids-clause-fault
 returns-in_default-take_kids-clause-fault c =
     let q = c.args.query.now in
-    let tables = c.sides_are_known.ensures.tables q in
+    let one = c.outlines_are_one.ensures q in
     let lines = c.args.lines.now in
     let in_place = c.requires.in_place in
     let made = c.loop-line.invariant in
-    let at = at_line q tables lines in_place c.loop-line.rest.now c.in-Some.before.now made.done c.in-Some.line.now made.parts
+    let at = at_line q one lines in_place c.loop-line.rest.now c.in-Some.before.now made.done c.in-Some.line.now made.parts
     c.in-Some.ensures.cases.0 in
-    misfit_many q tables lines in_place c.in-Some.before.now made.done c.in-Some.line.now (reverse c.loop-line.grown.items)
+    misfit_many q one lines in_place c.in-Some.before.now made.done c.in-Some.line.now (reverse c.loop-line.grown.items)
     (reverse c.take_kids.new.grown.items) _ at made.plans c.in_default-take_kids.ensures made.fits refl
 
 pub over-requires-clause-form : goal.over-requires-clause-form
 over-requires-clause-form c =
     let made = c.loop-line.invariant in
-    (at_line c.args.query.now (c.sides_are_known.ensures.tables c.args.query.now) c.args.lines.now c.requires.in_place c.loop-line.rest.now
+    (at_line c.args.query.now (c.outlines_are_one.ensures c.args.query.now) c.args.lines.now c.requires.in_place c.loop-line.rest.now
     c.in-Some.before.now made.done c.in-Some.line.now made.parts c.in-Some.ensures.cases.0).form
 
 pub over-requires-clause-groups : goal.over-requires-clause-groups
 over-requires-clause-groups c =
     let q = c.args.query.now in
-    let tables = c.sides_are_known.ensures.tables q in
+    let one = c.outlines_are_one.ensures q in
     let lines = c.args.lines.now in
     let in_place = c.requires.in_place in
     let made = c.loop-line.invariant in
-    let at = at_line q tables lines in_place c.loop-line.rest.now c.in-Some.before.now made.done c.in-Some.line.now made.parts
+    let at = at_line q one lines in_place c.loop-line.rest.now c.in-Some.before.now made.done c.in-Some.line.now made.parts
     c.in-Some.ensures.cases.0 in
-    let forest = forest_at q tables lines in_place c.in-Some.before.now made.done c.in-Some.line.now
+    let forest = forest_at q one lines in_place c.in-Some.before.now made.done c.in-Some.line.now
     (reverse c.loop-line.grown.items) (reverse c.take_kids.new.grown.items) c.in-Some-take_kids.kids at made.plans
     c.in-Some-take_kids.ensures in
     seen_range q (c.groups_are_known.ensures.in_range q) (kids_list c.in-Some-take_kids.kids) forest.trees forest.grown
@@ -43,16 +43,16 @@ over-requires-clause-groups c =
 pub returns-in_default-2-clause-fault : goal.returns-in_default-2-clause-fault
 returns-in_default-2-clause-fault c =
     let q = c.args.query.now in
-    let tables = c.sides_are_known.ensures.tables q in
+    let one = c.outlines_are_one.ensures q in
     let lines = c.args.lines.now in
     let in_place = c.requires.in_place in
     let made = c.loop-line.invariant in
     let line = c.in-Some.line.now in
-    let at = at_line q tables lines in_place c.loop-line.rest.now c.in-Some.before.now made.done line made.parts
+    let at = at_line q one lines in_place c.loop-line.rest.now c.in-Some.before.now made.done line made.parts
     c.in-Some.ensures.cases.0 in
-    let forest = forest_at q tables lines in_place c.in-Some.before.now made.done line (reverse c.loop-line.grown.items)
+    let forest = forest_at q one lines in_place c.in-Some.before.now made.done line (reverse c.loop-line.grown.items)
     (reverse c.take_kids.new.grown.items) c.in-Some-take_kids.kids at made.plans c.in-Some-take_kids.ensures in
-    misfit_over q tables lines in_place c.in-Some.before.now made.done line (reverse c.loop-line.grown.items)
+    misfit_over q one lines in_place c.in-Some.before.now made.done line (reverse c.loop-line.grown.items)
     (reverse c.take_kids.new.grown.items) c.in-Some-take_kids.kids _ at made.plans c.in-Some-take_kids.ensures made.fits
     (none_at c.in_ok-plan.field-0 ((t : Tree) → StandsOver q line forest.trees t → ⊥) (IsOver q line forest.trees)
     c.in_default-2.is (c.in_ok-plan.ensures forest.trees forest.grown)) refl
@@ -61,16 +61,16 @@ returns-in_default-2-clause-fault c =
 pub loop-line-preserved : goal.loop-line-preserved
 loop-line-preserved c =
     let q = c.args.query.now in
-    let tables = c.sides_are_known.ensures.tables q in
+    let one = c.outlines_are_one.ensures q in
     let lines = c.args.lines.now in
     let in_place = c.requires.in_place in
     let made = c.loop-line.invariant in
     let line = c.in-Some.line.now in
-    let at = at_line q tables lines in_place c.loop-line.rest.now c.in-Some.before.now made.done line made.parts
+    let at = at_line q one lines in_place c.loop-line.rest.now c.in-Some.before.now made.done line made.parts
     c.in-Some.ensures.cases.0 in
-    let forest = forest_at q tables lines in_place c.in-Some.before.now made.done line (reverse c.loop-line.grown.items)
+    let forest = forest_at q one lines in_place c.in-Some.before.now made.done line (reverse c.loop-line.grown.items)
     (reverse c.take_kids.new.grown.items) c.in-Some-take_kids.kids at made.plans c.in-Some-take_kids.ensures in
-    made_next q tables lines in_place c.in-Some.before.now made.done line (reverse c.loop-line.grown.items)
+    made_next q one lines in_place c.in-Some.before.now made.done line (reverse c.loop-line.grown.items)
     c.take_kids.new.grown.items c.push.new.self.items c.in-Some-take_kids.kids c.in-Some-2.plan at made.plans
     c.in-Some-take_kids.ensures made.fits
     (some_at c.in_ok-plan.field-0 ((t : Tree) → StandsOver q line forest.trees t → ⊥) (IsOver q line forest.trees)
@@ -88,5 +88,5 @@ returns-clause-ok c =
     let popped = c.in-Some-pop.ensures.items in
     let turned : gs ≡ c.in-Some-pop.root ∷ reverse c.pop.new.self.items =
     ap reverse popped ∙ reverse-append c.pop.new.self.items (c.in-Some-pop.root ∷ []) in
-    plan_whole q (c.sides_are_known.ensures.tables q) lines c.requires.in_place gs c.in-Some-pop.root
+    plan_whole q (c.outlines_are_one.ensures q) lines c.requires.in_place gs c.in-Some-pop.root
     (reverse c.pop.new.self.items) c.requires.some (subst (AreOf q gs) (sym all) made.plans) turned
