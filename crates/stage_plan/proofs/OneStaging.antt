@@ -1,5 +1,6 @@
 -- The same stages have one answer.
-use Rattle.std.proofs.Common.{◌≡◌, inl, inr, ℕ, List, [], ◌∷◌, ◌++◌, Option, length, sym, subst, ◌∙◌}
+use Rattle.std.proofs.Common.{◌≡◌, inl, inr, ℕ, List, [], ◌∷◌, ◌++◌, Option, Some, append_assoc, length, slice_get, sym}
+use Rattle.std.proofs.Common.{subst, ◌∙◌}
 use Rattle.std.specs.List.{AllZip}
 use Rattle.std.proofs.lemmas.Bool.{cases_order}
 use Rattle.query_core.specs.declared.query.Query.{Query}
@@ -9,9 +10,9 @@ use Rattle.plan_space.specs.Laws.{LeastIsOne}
 use Rattle.stage_plan.specs.Stages.{Stops}
 use Rattle.stage_plan.specs.StagedRuns.{Answers, full, enough, least, none, HasCost, IsFirstLeast}
 use Rattle.stage_plan.specs.StagedRuns.{StagedAnswer, planned, IsPlanAt}
-use Rattle.stage_plan.specs.Laws.{HasOneStaging}
+use Rattle.stage_plan.specs.Laws.{HasOneStaging, PlansAreOfStages}
 use Rattle.query_stage.specs.declared.stage.Stage.{Stage}
-use Rattle.stage_plan.proofs.Lists.{AllZip-one, one_split}
+use Rattle.stage_plan.proofs.Lists.{AllZip-one, one_split, get_left}
 use Rattle.stage_plan.proofs.PlansAt.{at_last, one_cost, one_plan, one_plan_at}
 
 module _ (one : (q : Query) → LeastIsOne q) (q : Query) (limits : IsWithinLimits q) (cap : ℕ) where
@@ -82,3 +83,38 @@ one_staging one q limits cap stages costs others answer other first also =
     one_answer one q limits cap first.before first.last costs others answer other first.answers
     (subst (λ b. Answers q cap b first.last others other) before_same
     (subst (λ l. Answers q cap also.before l others other) last_same also.answers))
+
+-- a plan that is the answer is that of its stage
+pub plans_of_stages : (q : Query) → PlansAreOfStages q
+plans_of_stages q cap stages costs number plan staging =
+    subst (λ some. IsPlanAt q some number plan) (sym staging.run.all) (of_answers staging.answers)
+  where
+    before : List Stage
+    before = staging.before
+
+    rest : List Stage
+    rest = staging.run.rest
+
+    last : Stage
+    last = staging.last
+
+    of_answers : Answers q cap before last costs (planned number plan) → IsPlanAt q (before ++ last ∷ rest) number plan
+    of_answers (full more are is) = cc
+    of_answers (enough room found its is) =
+        let counted : length before ≡ number = cc in
+        let same : found ≡ plan = cc in
+        subst (λ n. IsPlanAt q (before ++ last ∷ rest) n plan) counted
+        (subst (λ p. IsPlanAt q (before ++ last ∷ rest) (length before) p) same
+        (at_last q before rest last found its.least))
+    of_answers (least room not_enough n found its is) =
+        let counted : n ≡ number = cc in
+        let same : found ≡ plan = cc in
+        let at = its.its in
+        subst (λ k. IsPlanAt q (before ++ last ∷ rest) k plan) counted
+        (subst (λ p. IsPlanAt q (before ++ last ∷ rest) n p) same (record {
+          stage = at.stage;
+          there = subst (λ some. slice_get some n ≡ Some at.stage) (append_assoc before (last ∷ []) rest)
+              (get_left (before ++ last ∷ []) rest n at.stage at.there);
+          least = at.least;
+        }))
+    of_answers (none room its is) = cc

@@ -6,7 +6,7 @@ use Rattle.request_props.specs.declared.props.Props.{Props}
 use Rattle.plan_space.specs.Nodes.{Tree}
 use Rattle.plan_space.specs.Cost.{cost_of}
 use Rattle.stage_plan.specs.Stages.{query_in}
-use Rattle.stage_plan.specs.StagedRuns.{StagedAnswer, IsStaging}
+use Rattle.stage_plan.specs.StagedRuns.{StagedAnswer, planned, IsStaging, IsPlanAt}
 use Rattle.query_stage.specs.declared.stage.Stage.{Stage}
 
 -- the props of the query are those of the query in each stage
@@ -16,6 +16,12 @@ SharesProps q = (stage : Stage) (props : Props) → IsProps q props → IsProps 
 -- a plan costs the same in each stage
 abbrev pub SharesCosts : Query → Type 0
 SharesCosts q = (stage : Stage) (plan : Tree) → cost_of (query_in q stage) plan ≡ cost_of q plan
+
+-- a plan that is the answer is the least one of the stage that is told with it
+abbrev pub PlansAreOfStages : Query → Type 0
+PlansAreOfStages q =
+    (cap : ℕ) (stages : List Stage) (costs : List (Option ℕ)) (number : ℕ) (plan : Tree)
+    → IsStaging q cap stages costs (planned number plan) → IsPlanAt q stages number plan
 
 -- the same stages have one answer, with the same costs
 abbrev pub HasOneStaging : Query → Type 0

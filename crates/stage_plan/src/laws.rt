@@ -1,6 +1,6 @@
 //! What all stages of a query share, and that they have one answer.
 ghost use Rattle.query_core.specs.declared.query.Query.{Query};
-ghost use Rattle.stage_plan.specs.Laws.{HasOneStaging, SharesCosts, SharesProps};
+ghost use Rattle.stage_plan.specs.Laws.{HasOneStaging, PlansAreOfStages, SharesCosts, SharesProps};
 
 use plan_space::least_is_one;
 
@@ -12,6 +12,11 @@ pub fn stages_share_props()
 /// A plan costs the same in each stage of a query.
 pub fn stages_share_costs()
     ensures { (q : Query) → SharesCosts q }
+{}
+
+/// A plan that is the answer of stages is the least one of the stage whose number is told with it.
+pub fn staged_plans_are_least()
+    ensures { (q : Query) → PlansAreOfStages q }
 {}
 
 /// The same stages have one answer and one list of costs, where the query has at most 60 hashed lists and orders.

@@ -8,7 +8,9 @@ mod search;
 mod so_far;
 mod staged;
 
-pub use laws::{stages_have_one_answer, stages_share_costs, stages_share_props};
-pub use run::run_stages;
+pub use laws::{
+    staged_plans_are_least, stages_have_one_answer, stages_share_costs, stages_share_props,
+};
 pub use query_stage::Stage;
+pub use run::run_stages;
 pub use staged::{Staged, StagedRun};
