@@ -7,6 +7,7 @@ mod PlanNodes
 mod Members
 mod OwnNumbers
 mod OwnFollowing
+mod Exclusions
 mod OneOutcome
 mod Text
 mod Judged
