@@ -9,7 +9,8 @@ The documents are README.md, docs/*.md, bench/README.md and the README.md files 
 - each name in the promises of a crate's README that is in no crate on which it stands, and each clause that isn't its own
 - each line of Rust of docs/PROOFS.md that isn't in the sources
 - each link whose file or heading isn't there
-- each README of a crate that lacks one of its four headings
+- each README of a crate that lacks one of its four headings, and each function that the crate lets out and its README
+  doesn't name
 - what tools/definitions.py tells of docs/DEFINITIONS.md
 - each sentence of more than 35 words, in which what stands in backticks counts as one word
 
@@ -41,6 +42,9 @@ WORD = re.compile(r"[A-Za-z_]\w*")
 OPTION = re.compile(r"(?<![\w-])--[a-z][\w-]*")
 PATH = re.compile(r"[\w.*@-]*(?:/[\w.*@-]*)+")
 FILE = re.compile(r"[\w*-]+\.(?:antt|rt|md|py|sh|c|sql|svg|json|txt|edit)")
+# The crates whose functions are too many to be named: each is a query for tests.
+UNNAMED = {"worked_queries"}
+
 HASH = re.compile(r"[0-9a-f]{16}")
 OF_CRATE = re.compile(r"`([A-Za-z_]\w*(?:::\w+)?)` (?:of|from) `(\w+)`")
 CLAUSES = re.compile(r"[Cc]lauses? ((?:`\w+`(?:, | and )?)+)")
@@ -324,9 +328,21 @@ def faults_of(repository, document, text):
         yield from readme_faults(repository, document, text)
 
 
+def unnamed(crate, text):
+    """The functions that a crate lets out and the text of its README doesn't name."""
+    said = {name for span in SPAN.findall(text) for name in WORD.findall(span)}
+    return sorted(name for name in definitions.let_out(crate)[0] - said if name[:1].islower() and crate not in UNNAMED)
+
+
+def unnamed_faults():
+    for document in sorted(CRATES.glob("*/README.md")):
+        for name in unnamed(document.parent.name, document.read_text()):
+            yield f"{relative(document)}: {name} isn't named"
+
+
 def told():
     """What is told of all documents: faults, and sentences that are too long but no fault."""
-    repository, faults, long = Repository(), definitions.faults(), []
+    repository, faults, long = Repository(), definitions.faults() + list(unnamed_faults()), []
     for document in documents():
         text = document.read_text()
         faults += [f"{relative(document)}:{line}: {what}" for line, what in faults_of(repository, document, text)]

@@ -3,7 +3,7 @@
 
 Usage: tools/documents_test.py
 """
-from documents import CRATES, LONGEST, TOP, Repository, faults_of, long_sentences, told
+from documents import CRATES, LONGEST, TOP, Repository, faults_of, long_sentences, told, unnamed
 from run_tests import run_tests
 
 # How many sentences of more than 35 words the documents but README.md may have.
@@ -77,6 +77,11 @@ def counts_the_words_of_sentences():
         assert found == expected, f"{text}\n{found}"
 
 
+def tells_calls_that_are_not_named():
+    assert unnamed("cost_units", "`share` and `local`") == ["bits_are_digits"]
+    assert unnamed("cost_units", "`share`, `local(shape)`, `bits_are_digits`") == []
+
+
 def documents_name_what_is_there():
     faults, long = told()
     assert not faults, "\n".join(faults)
@@ -84,4 +89,5 @@ def documents_name_what_is_there():
 
 
 if __name__ == "__main__":
-    run_tests([tells_what_is_not_there, counts_the_words_of_sentences, documents_name_what_is_there], [])
+    run_tests([tells_what_is_not_there, counts_the_words_of_sentences, tells_calls_that_are_not_named,
+               documents_name_what_is_there], [])
