@@ -1,6 +1,10 @@
-//! The engine, what its board gives, and the plans that it finds against a listing of all; tests alone.
+//! The engine, what its board gives, and what it finds against the plain search and a listing of all plans; tests alone.
 #![tactic(auto)]
 
+#[cfg(test)]
+mod answer_tests;
+#[cfg(test)]
+mod child_tests;
 #[cfg(test)]
 mod gate_tests;
 #[cfg(test)]
@@ -14,8 +18,12 @@ mod ranked;
 #[cfg(test)]
 mod run_tests;
 #[cfg(test)]
+mod searches;
+#[cfg(test)]
 mod settled_tests;
 #[cfg(test)]
 mod thread_tests;
+#[cfg(test)]
+mod trace_tests;
 #[cfg(test)]
 mod turn_tests;

@@ -1,16 +1,14 @@
 //! The least plan of small queries, as the engine finds it, against the listing of all their plans.
-ghost use Rattle.std.specs.Prelude.{IfOk};
 ghost use Rattle.request_props.specs.Numbered.{IsProps};
-ghost use Rattle.job_engine.specs.Runs.{RunEnds};
 
 use crate::listing::least_listed;
 use crate::ranked::{Ranked, rank_of};
-use job_engine::{Outcome, RunNote, search_alone};
+use crate::searches::search;
 use plan_report::extract;
 use plan_tree::Found;
 use query_core::{Options, Query, RootDist};
 use request_props::Props;
-use std::alloc::{AllocError, Global};
+use std::alloc::Global;
 use std::test::Fail;
 use worked_queries::{implied, query_over};
 
@@ -68,15 +66,6 @@ fn query_of(
     query_over(alloc, segments, tables, text, options)
 }
 
-// The outcome of the engine with one worker.
-fn searched(alloc: Global, query: &Query, props: &Props) -> Result<Outcome, AllocError>
-    requires { IsProps query.now props.now }
-    ensures { IfOk result (RunEnds query.now 8192 1) }
-{
-    let mut note = RunNote::new();
-    search_alone(alloc, query, props, 8192, &mut note)
-}
-
 // The least plan that the engine finds, and the least of those of at most so many nodes.
 fn both_least(
     alloc: Global,
@@ -86,22 +75,13 @@ fn both_least(
 ) -> Result<(Option<Ranked>, Option<Ranked>), Fail>
     requires { IsProps query.now props.now }
 {
-    match searched(alloc, query, props)? {
-        Outcome::Done {
-            members,
-            goals: _,
-            answers,
-            who: _,
-        } => {
-            let found = match extract(alloc, query, props, &answers)? {
-                Found::Least { plan, cost } => Some(rank_of(alloc, &plan, cost)?),
-                Found::NoPlan => None,
-            };
-            let listed = least_listed(alloc, query, props, members.as_slice(), most)?;
-            Ok((found, listed))
-        }
-        _ => Err(Fail::new("the engine has not ended")),
-    }
+    let found = search(alloc, query, props)?;
+    let least = match extract(alloc, query, props, &found.answers)? {
+        Found::Least { plan, cost } => Some(rank_of(alloc, &plan, cost)?),
+        Found::NoPlan => None,
+    };
+    let listed = least_listed(alloc, query, props, found.members.as_slice(), most)?;
+    Ok((least, listed))
 }
 
 // The same of a text over tables.

@@ -1,15 +1,13 @@
 //! The entries of a query in the cells of a board.
 
-ghost use Rattle.std.specs.Prelude.{◌≡◌, [], All, IfOk};
+ghost use Rattle.std.specs.Prelude.{◌≡◌, [], All};
 ghost use Rattle.request_props.specs.Numbered.{IsProps};
 ghost use Rattle.goal_space.specs.Entries.{IsEntry};
 ghost use Rattle.goal_board.specs.Seats.{IsSeatOf, hands};
 
+use crate::searches::search;
 use goal_board::{Board, GoalRules, Inserted, Seat};
-use goal_list::plain_goals;
 use goal_rules::Rules;
-use orca_base::List;
-use plan_search::plain_closure;
 use query_core::Query;
 use request_props::Props;
 use std::alloc::{AllocError, Global};
@@ -17,21 +15,6 @@ use std::test::Fail;
 use std::thread;
 use std::thread::Threads;
 use worked_queries::{implied, two_tables};
-
-// The words of all members, and those of all goals.
-fn entries_of(
-    alloc: Global,
-    query: &Query,
-    props: &Props,
-) -> Result<(List<u64>, List<u64>), AllocError>
-    requires { IsProps query.now props.now }
-    ensures members { IfOk result (λ made. All (IsEntry query.now) made.0) }
-    ensures goals { IfOk result (λ made. All (IsEntry query.now) made.1) }
-{
-    let members = plain_closure(alloc, query)?;
-    let goals = plain_goals(alloc, query, props, members.as_slice())?;
-    Ok((members, goals))
-}
 
 // Puts an entry in, and says whether it was new.
 fn put_in<R: GoalRules>(board: &Board<R>, seat: &mut Seat<R>, word: u64) -> bool
@@ -167,18 +150,18 @@ fn put_entries(
     alloc: Global,
     query: &Query,
     props: &Props,
-) -> Result<(usize, usize, bool), AllocError>
+) -> Result<(usize, usize, bool), Fail>
     requires { IsProps query.now props.now }
 {
-    let (members, goals) = entries_of(alloc, query, props)?;
-    put_into_board(
+    let found = search(alloc, query, props)?;
+    Ok(put_into_board(
         rt,
         alloc,
         query,
         props,
-        members.as_slice(),
-        goals.as_slice(),
-    )
+        found.members.as_slice(),
+        found.goals.as_slice(),
+    )?)
 }
 
 #[test]

@@ -7,15 +7,14 @@ ghost use Rattle.goal_space.specs.Entries.{IsGoalWord};
 ghost use Rattle.goal_space.specs.declared.goals.GoalKind.TheVariants.{Exp};
 ghost use Rattle.job_turns.specs.Searches.{IsBoardOf, IsSeat};
 
+use crate::searches::search;
 use goal_board::{Board, Inserted, Seat};
-use goal_list::plain_goals;
 use goal_rules::Rules;
 use goal_space::{GoalKind, goal_kinds_are_one, goals_are_known};
 use job_turns::{Settled, settled};
-use plan_search::plain_closure;
 use query_core::{Expr, Goal, KeyParts, Query, candidates_are_known};
 use request_props::Props;
-use std::alloc::{AllocError, Global};
+use std::alloc::Global;
 use std::test::Fail;
 use worked_queries::{implied, two_tables};
 
@@ -88,17 +87,12 @@ fn settled_among<'q>(
 }
 
 // The same over the query's goals, on a board with room for all entries.
-fn settled_at_first(
-    alloc: Global,
-    query: &Query,
-    props: &Props,
-) -> Result<Option<Settled>, AllocError>
+fn settled_at_first(alloc: Global, query: &Query, props: &Props) -> Result<Option<Settled>, Fail>
     requires { IsProps query.now props.now }
 {
-    let members = plain_closure(alloc, query)?;
-    let goals = plain_goals(alloc, query, props, members.as_slice())?;
+    let found = search(alloc, query, props)?;
     let (board, mut seat) = Board::start(alloc, Rules::new(query, props), 79)?;
-    Ok(settled_among(query, props, &board, &mut seat, goals.as_slice()))
+    Ok(settled_among(query, props, &board, &mut seat, found.goals.as_slice()))
 }
 
 // ExpE of the origin isn't finished. Its word has kind 1, key 0 and the operator Get.

@@ -1,10 +1,6 @@
-//! Worked queries: what they imply, rules, plans and the check of plans, printed texts, and goals; tests alone.
+//! Worked queries: what they imply, rules, plans and the check of plans, printed texts, and words of goals; tests alone.
 #![tactic(auto)]
 
-#[cfg(test)]
-mod answer_tests;
-#[cfg(test)]
-mod child_tests;
 #[cfg(test)]
 mod closure_tests;
 #[cfg(test)]
@@ -47,5 +43,3 @@ mod rows_tests;
 mod rules_tests;
 #[cfg(test)]
 mod texts;
-#[cfg(test)]
-mod trace_tests;

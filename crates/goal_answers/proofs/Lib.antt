@@ -1,5 +1,0 @@
-pub mod ByRank
-pub mod Trying
-pub mod Enforcing
-pub mod Asking
-pub mod Serving

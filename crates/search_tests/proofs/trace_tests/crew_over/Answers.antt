@@ -1,9 +1,0 @@
-use Rattle.std.proofs.Common.{List, ℕ, subst, sym}
-use Rattle.goal_children.specs.Over.{AreGoalWords}
-use Rattle.search_tests.proofs.trace_tests.crew_over.Goals as goal
-
--- the words are those of all goals
-pub crew_text-requires-clause-goals : goal.crew_text-requires-clause-goals
-crew_text-requires-clause-goals c =
-    subst (λ (words : List ℕ). AreGoalWords c.args.query.now words) (sym c.as_slice-2.ensures)
-    (c.goal_lists_are_known.ensures.over c.args.query.now _ c.in_ok-goals.ensures)
