@@ -1,0 +1,11 @@
+pub mod Filtered
+pub mod Cuts
+pub mod OneLine
+pub mod Rules
+pub mod OffLines
+pub mod Alike
+pub mod Kept
+pub mod Begun
+pub mod Written
+pub mod Said
+pub mod Dumped
