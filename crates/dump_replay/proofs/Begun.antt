@@ -1,7 +1,7 @@
 -- What a text begins with is one thing.
 use Rattle.std.proofs.Common.{◌≡◌, ℕ, suc, zero, List, [], ◌∷◌, ◌++◌, take, slice_get, Some, refl, sym, ap, subst, ◌∙◌}
 use Rattle.std.proofs.lemmas.List.{append_cancel_right}
-use Rattle.dump_replay.specs.Lines.{DumpLine, BeginsWith, Lacks, version, capacity, root, off, print, catalog, query}
+use Rattle.dump_replay.specs.Lines.{DumpLine, BeginsWith, version, capacity, root, off, print, catalog, query}
 use Rattle.dump_replay.specs.Dumps.{AreFirst, IsFirstLacking}
 use Rattle.dump_replay.proofs.Cuts.{one_cut}
 

@@ -1,5 +1,5 @@
 -- The tables that FROM names are a catalogue.
-use Rattle.std.proofs.Common.{◌≡◌, ◌≤◌, true, List, map, filter, length, bytes_eq, arith}
+use Rattle.std.proofs.Common.{bytes_eq, arith}
 use Rattle.std.proofs.lemmas.List.Sums.{length-filter, count_by-le-length}
 use Rattle.std.proofs.lemmas.List.Elements.{All-filter}
 use Rattle.query_core.specs.Catalog.{IsCatalog, IsTable}

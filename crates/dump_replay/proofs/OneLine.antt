@@ -1,5 +1,5 @@
 -- The text of a catalogue is one line.
-use Rattle.std.proofs.Common.{◌≡◌, ◌≢◌, ℕ, suc, zero, ◌+◌, ◌/◌, ◌%◌, ◌<◌, ◌==◌, ◌&&◌, ◌||◌, ℤ, pos, negsuc, Bool, true, false, not}
+use Rattle.std.proofs.Common.{◌≡◌, ◌≢◌, ℕ, suc, zero, ◌+◌, ◌/◌, ◌%◌, ◌==◌, ◌&&◌, ◌||◌, ℤ, pos, negsuc, Bool, true, false, not}
 use Rattle.std.proofs.Common.{cond, List, [], ◌∷◌, ◌++◌, map, nat_lt, Option, None, Some, codes, refl, sym, ap, subst, ◌∙◌, arith}
 use Rattle.std.specs.Char.{digit_char}
 use Rattle.std.specs.Fmt.{decimal, digits, digits_onto, digit_glyph, signed_decimal}
@@ -9,7 +9,7 @@ use Rattle.std.proofs.lemmas.Bool.Decides.{nat_tests}
 use Rattle.std.proofs.lemmas.List.Folds.{list_all-append}
 use Rattle.json.specs.Json as json
 use Rattle.json.specs.Json.{Json, Items, Members, member, no_members}
-use Rattle.json.specs.Print.{print, print_from, token_text, separator, ends, escape, escape_byte, escape_letter, quoted, begins}
+use Rattle.json.specs.Print.{print_from, token_text, separator, ends, escape, escape_byte, escape_letter, quoted, begins}
 use Rattle.json.specs.Token.{Token, begin_object, end_object, begin_array, end_array, key, string, number, boolean, null, bad}
 use Rattle.json.specs.Tree.{json_tokens, items_tokens, members_tokens}
 use Rattle.query_core.specs.declared.histogram.Bucket.{Bucket}
@@ -20,7 +20,7 @@ use Rattle.query_core.specs.declared.catalog.Placing.TheVariants.{Hashed, Random
 use Rattle.query_core.specs.declared.catalog.TableInfo.{TableInfo}
 use Rattle.query_core.specs.declared.catalog.Catalog.{Catalog}
 use Rattle.catalog_json.specs.declared.version.CatalogVersion.{CatalogVersion}
-use Rattle.catalog_text.specs.Text.{bucket_json, histogram_json, histogram_member, items_of, list_json, name_at, column_json}
+use Rattle.catalog_text.specs.Text.{bucket_json, histogram_member, items_of, list_json, name_at, column_json}
 use Rattle.catalog_text.specs.Text.{places_json, placing_json, indexes_member, table_json, version_number, catalog_json}
 use Rattle.catalog_text.specs.Text.{catalog_text}
 use Rattle.dump_replay.specs.Lines.{is_one_line}

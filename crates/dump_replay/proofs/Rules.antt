@@ -1,14 +1,12 @@
 -- The rules of a set are read as that set.
-use Rattle.std.proofs.Common.{◌≡◌, ℕ, ◌+◌, ◌*◌, ◌/◌, ◌%◌, ◌^◌, ◌<◌, ◌&&◌, Bool, true, false, cond, List, [], ◌∷◌, map, filter, drop}
-use Rattle.std.proofs.Common.{IsTrue, nat_eq, nat_le, length, Some, refl, sym, ap, ◌∙◌, arith}
-use Rattle.std.specs.Int.{bit_at}
+use Rattle.std.proofs.Common.{◌≡◌, ℕ, ◌+◌, ◌*◌, ◌/◌, ◌%◌, ◌^◌, ◌<◌, true, false, cond, List, [], ◌∷◌, map, drop}
+use Rattle.std.proofs.Common.{nat_eq, nat_le, length, Some, refl, sym, ap, ◌∙◌, arith}
 use Rattle.std.specs.List.{fold, list_all}
 use Rattle.std.proofs.lemmas.Bool.Decides.{nat_tests}
 use Rattle.query_core.specs.Differ.{numbers_differ}
 use Rattle.query_core.specs.Sets.{bit}
 use Rattle.xform_rules.specs.Rules.{all_rules, can_be_off, rule_number}
 use Rattle.xform_rules.specs.declared.rules.Rule.{Rule}
-use Rattle.xform_rules.specs.declared.rules.Rule.TheVariants as rules
 use Rattle.command_line.specs.Options.{MayBeOff}
 use Rattle.command_line.specs.Reading.{off_of}
 use Rattle.command_line.specs.Rules.{may_be_off, off_set, rules_word}

@@ -1,6 +1,6 @@
 -- What the lines of a text say.
-use Rattle.std.proofs.Common.{◌≡◌, ◌≢◌, ℕ, ◌<◌, ◌^◌, Bool, true, false, List, [], ◌∷◌, ◌++◌, Option, None, Some, codes, decimal}
-use Rattle.std.proofs.Common.{option_map, refl, sym, ap, subst, ◌∙◌, arith}
+use Rattle.std.proofs.Common.{◌≡◌, ◌≢◌, ℕ, ◌<◌, ◌^◌, Bool, true, false, List, [], ◌++◌, Option, None, Some, codes, decimal}
+use Rattle.std.proofs.Common.{refl, sym, ap, subst, ◌∙◌, arith}
 use Rattle.std.specs.Prelude.{MatchOption}
 use Rattle.std.specs.Borrow.{Bor}
 use Rattle.std.specs.Str.{IsUtf8}
@@ -9,13 +9,13 @@ use Rattle.std.proofs.lemmas.List.{append_cancel_left}
 use Rattle.std.proofs.lemmas.Str.{IsUtf8-from_ascii}
 use Rattle.query_core.specs.declared.options.RootDist.{RootDist}
 use Rattle.query_core.specs.declared.options.RootDist.TheVariants.{One, Spread}
-use Rattle.command_line.specs.Numbers.{IsWithin, number_within}
-use Rattle.command_line.specs.Options.{MayBeOff, root_word}
+use Rattle.command_line.specs.Numbers.{number_within}
+use Rattle.command_line.specs.Options.{root_word}
 use Rattle.command_line.specs.Reading.{off_of}
 use Rattle.command_line.proofs.WrittenNumbers.{number_read}
-use Rattle.dump_replay.specs.Lines.{DumpLine, BeginsWith, Ends, HasForm, Lacks, IsCut, capacity, off_line, sections_word}
+use Rattle.dump_replay.specs.Lines.{DumpLine, Ends, HasForm, Lacks, IsCut, capacity, sections_word}
 use Rattle.dump_replay.proofs.Cuts.{IsOneLine, same_cut}
-use Rattle.dump_replay.proofs.OffLines.{SaysOff, none, some, ascii_from, line_says, off_alone}
+use Rattle.dump_replay.proofs.OffLines.{SaysOff, none, some, ascii_from, off_alone}
 
 -- ---- words
 

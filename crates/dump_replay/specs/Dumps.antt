@@ -28,13 +28,13 @@ pub record AreDumpOptions (chosen : DumpOptions) : Type 0 where
 -- the text of these options, of a catalogue's text and of a query's
 unfoldable pub text_of : DumpOptions → (catalog query : List ℕ) → List ℕ
 text_of options catalog query = lines_text (
-  version_line ∷
-  capacity_line options.capacity ∷
-  root_line options.options.root ∷
-  off_line options.options.off ∷
-  print_line options.memo options.trace ∷
-  catalog_line catalog ∷
-  query_line query ∷ [])
+    version_line ∷
+    capacity_line options.capacity ∷
+    root_line options.options.root ∷
+    off_line options.options.off ∷
+    print_line options.memo options.trace ∷
+    catalog_line catalog ∷
+    query_line query ∷ [])
 
 -- the text says this dump
 pub record IsDump (text : List ℕ) (dump : Dump) : Type 0 where

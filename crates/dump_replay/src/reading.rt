@@ -2,7 +2,9 @@
 ghost use Rattle.dump_replay.specs.Dumps.{IsReadAs, IsShort};
 
 use crate::dump::{Dump, DumpFault, DumpOptions};
-use crate::lines::{catalog_line, capacity_line, off_line_of, print_line, query_line, root_line, version_line};
+use crate::lines::{
+    capacity_line, catalog_line, off_line_of, print_line, query_line, root_line, version_line,
+};
 use orca_base::List;
 use query_core::Options;
 use std::alloc::Global;

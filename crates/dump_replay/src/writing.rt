@@ -67,5 +67,7 @@ fn head_of(alloc: Global, options: &DumpOptions) -> Result<String, AllocError>
     let root = root_word(options.options.root);
     let off = off_line(alloc, options.options.off)?;
     let print = print_line(options.memo, options.trace);
-    Ok(format!(in alloc; "orca dump 1\ncapacity {capacity}\nroot {root}\n{off}\n{print}\ncatalog ")?)
+    Ok(format!(in alloc;
+        "orca dump 1\ncapacity {capacity}\nroot {root}\n{off}\n{print}\ncatalog "
+    )?)
 }

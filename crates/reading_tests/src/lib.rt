@@ -9,6 +9,8 @@ mod catalog_tests;
 #[cfg(test)]
 mod command_tests;
 #[cfg(test)]
+mod dump_tests;
+#[cfg(test)]
 mod generator_tests;
 #[cfg(test)]
 mod io_tests;

@@ -1,5 +1,5 @@
 -- The line of a set is `off`, or names rules that are read as the set.
-use Rattle.std.proofs.Common.{◌≡◌, ◌≢◌, Some, None, codes, option_map, sym, ap, ◌∙◌}
+use Rattle.std.proofs.Common.{◌≡◌, Some, None, option_map, sym, ap, ◌∙◌}
 use Rattle.std.proofs.lemmas.Bool.{false≢true}
 use Rattle.command_line.specs.Reading.{off_of}
 use Rattle.dump_replay.proofs.OffLines.{line_says}

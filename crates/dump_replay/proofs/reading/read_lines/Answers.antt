@@ -51,4 +51,3 @@ returns-in_default-query_line c = (
     lacking = c.in_default-query_line.ensures;
   },
 )
-

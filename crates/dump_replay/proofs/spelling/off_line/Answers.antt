@@ -1,7 +1,7 @@
 -- A rule that the set has is added, and each other left out.
-use Rattle.std.proofs.Common.{◌≡◌, ℕ, ◌+◌, List, Bor, String, Global, get_or, refl, sym, ap, ◌∙◌, arith, codes, string_bytes, subst}
+use Rattle.std.proofs.Common.{◌≡◌, ℕ, ◌+◌, List, Bor, String, Global, get_or, sym, ap, ◌∙◌, arith, codes, string_bytes, subst}
 use Rattle.std.proofs.lemmas.Bool.{false≢true}
-use Rattle.xform_rules.specs.Rules.{all_rules, rule_number, rule_name}
+use Rattle.xform_rules.specs.Rules.{all_rules, rule_number}
 use Rattle.xform_rules.specs.declared.rules.Rule.{Rule}
 use Rattle.xform_rules.specs.declared.rules.Rule.TheVariants.{ExpandNAry}
 use Rattle.dump_replay.specs.Lines.{rules_line}
