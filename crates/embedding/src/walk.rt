@@ -1,71 +1,56 @@
 //! A walk over a plan, as an executor makes its operators of it.
-ghost use Rattle.request_props.specs.Numbered.{IsProps};
-
-use plan_space::{Enforcer, NodeKind};
-use plan_tree::{Below, Node, Plan, cost_above_any, rows_above, seen_below, table_in};
-use query_core::{KeyParts, Physical, PhysicalExpr, Query};
-use request_props::Props;
-use std::alloc::Global;
+use planner::{Enforcer, LeastPlan, NodeKind, Physical, PhysicalExpr, PlanColumn, PlanNode, Query};
+use planner::table_in;
+use query_core::KeyParts;
+use std::alloc::{AllocError, Global};
 use std::io;
 
 /// Prints each node with the rows of its group and its own cost, a node before those below it.
-pub fn visit(
-    rt: &impl Print,
-    alloc: Global,
-    query: &Query,
-    props: &Props,
-    indent: &str,
-    plan: &Plan,
-) -> io::Result<()>
-    requires { IsProps query.now props.now }
-{
-    let below = seen_below(query, props, plan);
-    let deeper = format!(in alloc; "{indent}  ")?;
-    match plan {
-        Plan::Leaf(node) => show(rt, query, props, indent, *node, below)?,
-        Plan::Over(node, kid) => {
-            show(rt, query, props, indent, *node, below)?;
-            visit(rt, alloc, query, props, &deeper, kid)?;
-        }
-        Plan::Two(node, left, right) => {
-            show(rt, query, props, indent, *node, below)?;
-            visit(rt, alloc, query, props, &deeper, left)?;
-            visit(rt, alloc, query, props, &deeper, right)?;
-        }
+pub fn visit(rt: &impl Print, alloc: Global, plan: &LeastPlan) -> io::Result<()> {
+    for node in plan.nodes.as_slice() {
+        show(rt, alloc, &plan.query, node)?;
     }
     Ok(())
 }
 
-fn show(
-    rt: &impl Print,
-    query: &Query,
-    props: &Props,
-    indent: &str,
-    node: Node,
-    below: Below,
-) -> io::Result<()>
-    requires { IsProps query.now props.now }
-{
-    let Some(kind) = node.kind() else {
-        return Ok(());
-    };
-    let rows = rows_above(query, props, kind, below);
-    let cost = cost_above_any(query, props, kind, below);
-    let (operator, table) = match kind {
+fn show(rt: &impl Print, alloc: Global, query: &Query, node: &PlanNode) -> io::Result<()> {
+    let (operator, table) = match node.operator {
         NodeKind::Enforcer(enforcer) => (enforcer_name(enforcer), ""),
         NodeKind::Native(expr, _) => operator_name(query, expr),
     };
-    println!(rt; "{indent}{operator}{table}: {rows} rows, cost {cost}")
+    let indent = indent(alloc, node.depth)?;
+    let columns = names(alloc, node.columns.as_slice())?;
+    let (rows, cost) = (node.rows, node.cost);
+    println!(rt; "{indent}{operator}{table}{columns}: {rows} rows, cost {cost}")
 }
 
-// An executor makes an operator of its own here, of the list or the order of this number in the props.
+// Two spaces for each node above.
+fn indent(alloc: Global, depth: usize) -> Result<String, AllocError> {
+    let mut spaces = String::new(alloc);
+    for _ in 0..depth {
+        spaces.push_str("  ")?;
+    }
+    Ok(spaces)
+}
+
+// The columns by which a node works, each behind a space.
+fn names(alloc: Global, columns: &[PlanColumn]) -> Result<String, AllocError> {
+    let mut text = String::new(alloc);
+    for column in columns {
+        text.push_str(" ")?;
+        text.push_str(column.name.as_str())?;
+    }
+    Ok(text)
+}
+
+// An executor makes an operator of its own here, of the columns of the node.
 fn enforcer_name(enforcer: Enforcer) -> &'static str {
     match enforcer {
         Enforcer::Gather => "receive from all segments",
         Enforcer::Broadcast => "copy to all segments",
         Enforcer::Sort(_) => "sort",
         Enforcer::GatherMerge(_) => "merge from all segments",
-        Enforcer::Redistribute(_) => "send by hash",
+        Enforcer::Redistribute(_) => "send by hash of",
     }
 }
 

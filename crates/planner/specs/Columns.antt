@@ -1,0 +1,63 @@
+-- The columns by which a node works.
+use Rattle.std.specs.Prelude.{ℕ, false, true, ◌/◌, ◌%◌, ◌==◌, List, [], ◌∷◌, flat_map, map, Option, None, Some}
+use Rattle.std.specs.Prelude.{if◌then◌else◌}
+use Rattle.query_core.specs.Crossing.{crossing_by}
+use Rattle.query_core.specs.declared.query.Query.{Query}
+use Rattle.query_core.specs.declared.words.KeyParts.{KeyParts}
+use Rattle.query_core.specs.declared.expressions.Physical.{Physical}
+use Rattle.query_core.specs.declared.expressions.Physical.TheVariants as physical
+use Rattle.query_text.specs.Columns.{computed_text}
+use Rattle.request_props.specs.Numbered.{list_of, order_of}
+use Rattle.request_props.specs.Satisfied.{index_columns}
+use Rattle.plan_space.specs.Lines.{table_in}
+use Rattle.plan_space.specs.declared.nodes.Enforcer.{Enforcer}
+use Rattle.plan_space.specs.declared.nodes.Enforcer.TheVariants as enforcers
+use Rattle.plan_space.specs.declared.nodes.NodeKind.{NodeKind}
+use Rattle.plan_space.specs.declared.nodes.NodeKind.TheVariants as nodes
+use Rattle.planner.specs.declared.node.PlanColumn.{PlanColumn}
+
+-- a column, or an aggregate, from its least value up
+abbrev pub column_at : Query → ℕ → PlanColumn
+column_at q number = record { name = computed_text q number; descending = false }
+
+-- an element of an order
+abbrev pub column_by : Query → ℕ → PlanColumn
+column_by q element = record {
+  name = computed_text q (element / 2);
+  descending = if element % 2 == 0 then false else true;
+}
+
+-- the two columns that a predicate equates, if it does
+abbrev pub both_sides : Option (ℕ × ℕ) → List ℕ
+both_sides None = []
+both_sides (Some sides) = sides.0 ∷ sides.1 ∷ []
+
+-- the two columns of each equality between the groups, that of the left group first
+abbrev pub join_columns : Query → KeyParts → KeyParts → List ℕ
+join_columns q left right = flat_map (λ pred. both_sides (crossing_by q left right pred)) q.preds
+
+-- of an operator that makes rows of this table, if it makes a table's
+abbrev pub operator_columns : Query → Physical → ℕ → List ℕ
+operator_columns q physical.Scan table = []
+operator_columns q (physical.IndexScan index) table = index_columns q table index
+operator_columns q (physical.Filter child) table = []
+operator_columns q (physical.IndexSeek index) table = index_columns q table index
+operator_columns q (physical.HashJoin left right) table = join_columns q left right
+operator_columns q (physical.MergeJoin left right) table = join_columns q left right
+operator_columns q (physical.LoopJoin left right) table = join_columns q left right
+operator_columns q (physical.HashAgg child) table = q.group_by
+operator_columns q (physical.StreamAgg child) table = q.group_by
+operator_columns q (physical.PartialAgg child) table = q.group_by
+
+-- the columns of an enforcer's order or of its hashed list
+abbrev pub enforcer_columns : Query → Enforcer → List PlanColumn
+enforcer_columns q enforcers.Gather = []
+enforcer_columns q enforcers.Broadcast = []
+enforcer_columns q (enforcers.Sort order) = map (column_by q) (order_of q order)
+enforcer_columns q (enforcers.GatherMerge order) = map (column_by q) (order_of q order)
+enforcer_columns q (enforcers.Redistribute list) = map (column_at q) (list_of q list)
+
+-- the columns of a node
+abbrev pub columns_of : Query → NodeKind → List PlanColumn
+columns_of q (nodes.Native e mode) = map (column_at q) (operator_columns q e.operator (table_in e.group))
+columns_of q (nodes.Enforcer e) = enforcer_columns q e

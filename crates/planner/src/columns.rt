@@ -1,0 +1,176 @@
+//! The columns by which a node works, by name.
+#![tactic(auto)]
+
+ghost use Rattle.std.specs.Prelude.{◌≡◌, IfOk, map};
+ghost use Rattle.request_props.specs.Found.{element_of, elements_of};
+ghost use Rattle.request_props.specs.Numbered.{IsProps, list_of, order_of};
+ghost use Rattle.request_props.specs.Satisfied.{index_columns as columns_of_index};
+ghost use Rattle.query_text.specs.Columns.{computed_text as computed};
+ghost use Rattle.plan_space.specs.Lines.{table_in as table_of_group};
+ghost use Rattle.planner.specs.Columns.{columns_of as columns_meant, operator_columns as columns_by_operator};
+ghost use Rattle.planner.specs.Columns.{enforcer_columns as columns_by_enforcer, column_at, column_by};
+ghost use Rattle.planner.specs.Columns.{join_columns as columns_of_join};
+
+use crate::node::PlanColumn;
+use orca_base::{List, Text};
+use plan_space::{Enforcer, NodeKind};
+use plan_tree::table_in;
+use query_core::{KeyParts, OrderKey, Physical, PhysicalExpr, Query};
+use query_text::computed_text;
+use request_props::Props;
+use std::alloc::{AllocError, Global};
+
+/// The columns of a node.
+pub fn columns_of(
+    alloc: Global,
+    query: &Query,
+    props: &Props,
+    kind: NodeKind,
+) -> Result<List<PlanColumn>, AllocError>
+    requires { IsProps query.now props.now }
+    ensures { IfOk result (λ columns. columns ≡ columns_meant query.now kind) }
+{
+    match kind {
+        NodeKind::Native(expr, _) => operator_columns(alloc, query, expr),
+        NodeKind::Enforcer(enforcer) => enforcer_columns(alloc, query, props, enforcer),
+    }
+}
+
+fn operator_columns(
+    alloc: Global,
+    query: &Query,
+    expr: PhysicalExpr,
+) -> Result<List<PlanColumn>, AllocError>
+    ensures { IfOk result (λ columns. columns ≡
+        map (column_at query.now) (columns_by_operator query.now expr.operator (table_of_group expr.group))) }
+{
+    let table = table_in(expr.group);
+    match expr.operator {
+        Physical::Scan => Ok(List::new(alloc)),
+        Physical::IndexScan(index) => named(alloc, query, index_columns(query, table, index)),
+        Physical::Filter(_) => Ok(List::new(alloc)),
+        Physical::IndexSeek(index) => named(alloc, query, index_columns(query, table, index)),
+        Physical::HashJoin(left, right) => join_columns(alloc, query, left, right),
+        Physical::MergeJoin(left, right) => join_columns(alloc, query, left, right),
+        Physical::LoopJoin(left, right) => join_columns(alloc, query, left, right),
+        Physical::HashAgg(_) => named(alloc, query, query.group_by.as_slice()),
+        Physical::StreamAgg(_) => named(alloc, query, query.group_by.as_slice()),
+        Physical::PartialAgg(_) => named(alloc, query, query.group_by.as_slice()),
+    }
+}
+
+fn enforcer_columns(
+    alloc: Global,
+    query: &Query,
+    props: &Props,
+    enforcer: Enforcer,
+) -> Result<List<PlanColumn>, AllocError>
+    requires { IsProps query.now props.now }
+    ensures { IfOk result (λ columns. columns ≡ columns_by_enforcer query.now enforcer) }
+{
+    match enforcer {
+        Enforcer::Gather => Ok(List::new(alloc)),
+        Enforcer::Broadcast => Ok(List::new(alloc)),
+        Enforcer::Sort(order) => sorted(alloc, query, keys_of(query, props, order)),
+        Enforcer::GatherMerge(order) => sorted(alloc, query, keys_of(query, props, order)),
+        Enforcer::Redistribute(list) => named(alloc, query, list_columns(query, props, list)),
+    }
+}
+
+// The columns of an index of a table; none where there is no such index.
+fn index_columns(query: &Query, table: u32, index: u32) -> &[u32]
+    ensures { result.now ≡ columns_of_index query.now table index }
+{
+    let Some(table) = query.tables.as_slice().get(table as usize) else {
+        return &[];
+    };
+    match table.indexes.as_slice().get(index as usize) {
+        Some(columns) => columns.as_slice(),
+        None => &[],
+    }
+}
+
+// What the order of this number sorts by; nothing where there is none.
+fn keys_of<'a>(query: &Query, props: &'a Props, number: u32) -> &'a [OrderKey]
+    requires { IsProps query.now props.now }
+    ensures { elements_of result.now ≡ order_of query.now number }
+{
+    if props.has_order(query, number) {
+        props.order(number)
+    } else {
+        &[]
+    }
+}
+
+// The columns of the hashed list of this number; none where there is no list.
+fn list_columns<'a>(query: &Query, props: &'a Props, number: u32) -> &'a [u32]
+    requires { IsProps query.now props.now }
+    ensures { result.now ≡ list_of query.now number }
+{
+    match props.hashed.as_slice().get(number as usize) {
+        Some(list) => list.as_slice(),
+        None => &[],
+    }
+}
+
+// The two columns of each equality between the groups.
+fn join_columns(
+    alloc: Global,
+    query: &Query,
+    left: KeyParts,
+    right: KeyParts,
+) -> Result<List<PlanColumn>, AllocError>
+    ensures { IfOk result (λ columns.
+        columns ≡ map (column_at query.now) (columns_of_join query.now left right)) }
+{
+    let mut numbers = Vec::new(alloc);
+    for pred in 0..query.preds.len() as u32 {
+        if let Some((a, b)) = query.crossing_groups(left, right, pred) {
+            numbers.push(a)?;
+            numbers.push(b)?;
+        }
+    }
+    named(alloc, query, numbers.as_slice())
+}
+
+// The columns of an order, by name.
+fn sorted(alloc: Global, query: &Query, keys: &[OrderKey]) -> Result<List<PlanColumn>, AllocError>
+    ensures { IfOk result (λ columns.
+        columns ≡ map (column_by query.now) (elements_of keys.now)) }
+{
+    let mut columns = List::new(alloc);
+    for key in keys {
+        columns.push(column(alloc, query, *key)?)?;
+    }
+    Ok(columns)
+}
+
+fn column(alloc: Global, query: &Query, key: OrderKey) -> Result<PlanColumn, AllocError>
+    ensures { IfOk result (λ column. column ≡ column_by query.now (element_of key)) }
+{
+    Ok(PlanColumn {
+        name: name(alloc, query, key.item)?,
+        descending: key.desc,
+    })
+}
+
+// The name of a column, or what an aggregate computes.
+fn name(alloc: Global, query: &Query, number: u32) -> Result<Text, AllocError>
+    ensures { IfOk result (λ name. name ≡ computed query.now number) }
+{
+    Ok(Text::of(computed_text(alloc, query, number)?))
+}
+
+// The columns of these numbers, by name, each ascending.
+fn named(alloc: Global, query: &Query, numbers: &[u32]) -> Result<List<PlanColumn>, AllocError>
+    ensures { IfOk result (λ columns. columns ≡ map (column_at query.now) numbers.now) }
+{
+    let mut columns = List::new(alloc);
+    for number in numbers {
+        columns.push(PlanColumn {
+            name: name(alloc, query, *number)?,
+            descending: false,
+        })?;
+    }
+    Ok(columns)
+}

@@ -1,0 +1,24 @@
+//! The least plan of a query, for a program that has the optimiser as a library. What a host names of the crates below
+//! is had from here.
+#![tactic(auto)]
+
+mod columns;
+mod fault;
+mod node;
+mod nodes;
+mod planning;
+mod settings;
+
+pub use catalog_json::{CatalogFault, CatalogVersion, read_catalog};
+pub use fault::PlanFault;
+pub use node::{LeastPlan, PlanColumn, PlanNode, Planned};
+pub use plan_space::{Enforcer, Mode, NodeKind};
+pub use plan_tree::table_in;
+pub use planning::{plan_select, plan_select_by_crew, plan_sql, plan_sql_by_crew};
+pub use query_core::{
+    Catalog, ColumnInfo, Options, Physical, PhysicalExpr, Placing, Query, RootDist, TableInfo,
+};
+pub use request_props::PropsFault;
+pub use settings::Settings;
+pub use sql_bind::BindFault;
+pub use sql_reader::{Select, SqlFault};
