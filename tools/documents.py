@@ -11,7 +11,7 @@ The documents are README.md, docs/*.md, bench/README.md and the README.md files 
 - each link whose file or heading isn't there
 - each README of a crate that lacks one of its four headings, and each function that the crate lets out and its README
   doesn't name
-- what tools/definitions.py tells of docs/DEFINITIONS.md
+- what tools/definitions.py tells of docs/DEFINITIONS.md, and each page of docs/ to which README.md has no link
 - each sentence of more than 35 words, in which what stands in backticks counts as one word
 
 Its status is 1 where there is a fault. A long sentence is one in README.md alone; elsewhere it is only printed.
@@ -42,6 +42,9 @@ WORD = re.compile(r"[A-Za-z_]\w*")
 OPTION = re.compile(r"(?<![\w-])--[a-z][\w-]*")
 PATH = re.compile(r"[\w.*@-]*(?:/[\w.*@-]*)+")
 FILE = re.compile(r"[\w*-]+\.(?:antt|rt|md|py|sh|c|sql|svg|json|txt|edit)")
+# The files that a reader of the documents has or makes.
+MADE = {"query.sql", "report.dump", "before.txt", "after.txt"}
+
 # The crates whose functions are too many to be named: each is a query for tests.
 UNNAMED = {"worked_queries"}
 
@@ -157,6 +160,8 @@ class Repository:
         """The parts of what stands in backticks that aren't there."""
         for word in span.split():
             word = word.strip(",;:()[]|\\'\"")
+            if word.lstrip(">") in MADE:
+                continue
             if OPTION.fullmatch(word):
                 if word not in self.options:
                     yield word
@@ -340,9 +345,17 @@ def unnamed_faults():
             yield f"{relative(document)}: {name} isn't named"
 
 
+def unlisted_faults():
+    """The pages to which README.md has no link."""
+    links = {target.partition("#")[0] for _, target in LINK.findall((TOP / "README.md").read_text())}
+    return [f"README.md: no link to {relative(page)}" for page in documents()
+            if page.parent == TOP / "docs" and relative(page) not in links]
+
+
 def told():
     """What is told of all documents: faults, and sentences that are too long but no fault."""
-    repository, faults, long = Repository(), definitions.faults() + list(unnamed_faults()), []
+    repository, long = Repository(), []
+    faults = definitions.faults() + list(unnamed_faults()) + unlisted_faults()
     for document in documents():
         text = document.read_text()
         faults += [f"{relative(document)}:{line}: {what}" for line, what in faults_of(repository, document, text)]
