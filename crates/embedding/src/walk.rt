@@ -1,6 +1,7 @@
 //! A walk over a plan, as an executor makes its operators of it.
-use planner::{Enforcer, LeastPlan, NodeKind, Physical, PhysicalExpr, PlanColumn, PlanNode, Query};
-use planner::table_in;
+use planner::{
+    Enforcer, LeastPlan, NodeKind, Physical, PhysicalExpr, PlanColumn, PlanNode, Query, table_in,
+};
 use query_core::KeyParts;
 use std::alloc::{AllocError, Global};
 use std::io;

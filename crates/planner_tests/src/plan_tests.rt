@@ -2,14 +2,17 @@
 
 ghost use Rattle.planner.specs.Settings.{AreSettings};
 
-use planner::{BindFault, LeastPlan, PlanFault, PlanNode, Planned, Settings, SqlFault};
-use planner::{Options, RootDist, plan_sql, plan_sql_by_crew, read_catalog};
+use planner::{
+    BindFault, LeastPlan, Options, PlanFault, PlanNode, Planned, RootDist, Settings, SqlFault,
+    plan_sql, plan_sql_by_crew, read_catalog,
+};
 use std::alloc::{AllocError, Global};
 use std::sync::Wait;
 use std::test::Fail;
 use std::thread::Threads;
 
-const TWO_TABLES: &str = r#"[{"name":"T1","rows":1000,"distribution":["a"],"columns":[{"name":"a","ndv":1000}]},
+const TWO_TABLES: &str =
+    r#"[{"name":"T1","rows":1000,"distribution":["a"],"columns":[{"name":"a","ndv":1000}]},
 {"name":"T2","rows":1000,"distribution":["a"],"columns":[{"name":"a","ndv":1000},{"name":"b","ndv":500}]}]"#;
 
 const INDEXED: &str = r#"[{"name":"t","rows":1000,"distribution":"random",
@@ -32,8 +35,7 @@ const JOINED: &str = "cost 7506
 fn push_node(alloc: Global, node: &PlanNode, text: &mut String) -> Result<(), AllocError> {
     let (depth, name, children) = (node.depth, node.text.as_str(), node.children);
     let (rows, cost) = (node.rows, node.cost);
-    let line =
-        format!(in alloc; "{depth} {name} rows={rows} cost={cost} over {children} by")?;
+    let line = format!(in alloc; "{depth} {name} rows={rows} cost={cost} over {children} by")?;
     text.push_str(&line)?;
     for column in node.columns.as_slice() {
         text.push_str(" ")?;
@@ -104,9 +106,11 @@ fn tell<R: Threads + Wait + Sync>(
     let alone = lines_of(alloc, plan_sql(alloc, &catalog, settings, text))?;
     let by_one = plan_sql_by_crew(rt, alloc, &catalog, settings, 1, text);
     let by_eight = plan_sql_by_crew(rt, alloc, &catalog, settings, 8, text);
-    Ok(alone.as_str() == lines
-        && lines_of(alloc, by_one)?.as_str() == lines
-        && lines_of(alloc, by_eight)?.as_str() == lines)
+    Ok(
+        alone.as_str() == lines
+            && lines_of(alloc, by_one)?.as_str() == lines
+            && lines_of(alloc, by_eight)?.as_str() == lines,
+    )
 }
 
 #[test]

@@ -161,8 +161,14 @@ fn a_text_that_ends_early_lacks_a_line(rt: HostRuntime) -> Result<(), Fail> {
         ("", "line 0"),
         ("orca dump 1", "line 0"),
         ("orca dump 1\n", "line 1"),
-        ("orca dump 1\ncapacity 64\nroot one\noff\nprint\ncatalog \nquery ", "line 6"),
-        ("orca dump 1\ncapacity 64\nroot one\noff\nprint\ncatalog \nquery \n", "read"),
+        (
+            "orca dump 1\ncapacity 64\nroot one\noff\nprint\ncatalog \nquery ",
+            "line 6",
+        ),
+        (
+            "orca dump 1\ncapacity 64\nroot one\noff\nprint\ncatalog \nquery \n",
+            "read",
+        ),
     ] {
         let told = said(rt.alloc(), text.as_bytes())?;
         assert_told(&rt, &told, wanted, text);

@@ -16,10 +16,12 @@ const JOIN: &str = "    HashJoin(colocated p0) rows=1000 cost=1001\n";
 
 const SCAN: &str = "      Scan(T1) rows=1000 cost=251\n";
 
-const MOVED: &str = "      Redistribute(T2.b) rows=1000 cost=1001\n        Scan(T2) rows=1000 cost=251\n";
+const MOVED: &str =
+    "      Redistribute(T2.b) rows=1000 cost=1001\n        Scan(T2) rows=1000 cost=251\n";
 
 // The lines under the merge, one level up.
-const JOINED: &str = "  HashJoin(colocated p0) rows=1000 cost=1001\n    Scan(T1) rows=1000 cost=251\n    Redistribute(T2.b) rows=1000 cost=1001\n      Scan(T2) rows=1000 cost=251\n";
+const JOINED: &str =
+    "  HashJoin(colocated p0) rows=1000 cost=1001\n    Scan(T1) rows=1000 cost=251\n    Redistribute(T2.b) rows=1000 cost=1001\n      Scan(T2) rows=1000 cost=251\n";
 
 // What is said of a text of these lines.
 fn said(alloc: Global, lines: &[&str]) -> Result<Result<u64, TextFault>, Fail> {
@@ -52,16 +54,40 @@ fn a_text_that_is_no_plan_is_refused_at_its_line(rt: HostRuntime) -> Result<(), 
     let other_column = "  Sort(T2.a) rows=1000 cost=2001\n";
     let other_total = "cost 7507\noutput T1.a\n";
     let cases: [([&str; 6], TextFault); 10] = [
-        (["no plan\n", "", "", "", "", ""], TextFault::Form { line: 0 }),
+        (
+            ["no plan\n", "", "", "", "", ""],
+            TextFault::Form { line: 0 },
+        ),
         ([HEAD, "", "", "", "", ""], TextFault::Form { line: 2 }),
-        ([HEAD, MERGE, other_column, JOIN, SCAN, MOVED], TextFault::Form { line: 3 }),
-        ([HEAD, MERGE, SORT, JOIN, SCAN, over_nothing], TextFault::Kids { line: 6 }),
-        ([HEAD, MERGE, JOINED, "", "", ""], TextFault::Needs { line: 2 }),
-        ([HEAD, MERGE, SORT, JOIN, SCAN, not_moved], TextFault::Needs { line: 4 }),
+        (
+            [HEAD, MERGE, other_column, JOIN, SCAN, MOVED],
+            TextFault::Form { line: 3 },
+        ),
+        (
+            [HEAD, MERGE, SORT, JOIN, SCAN, over_nothing],
+            TextFault::Kids { line: 6 },
+        ),
+        (
+            [HEAD, MERGE, JOINED, "", "", ""],
+            TextFault::Needs { line: 2 },
+        ),
+        (
+            [HEAD, MERGE, SORT, JOIN, SCAN, not_moved],
+            TextFault::Needs { line: 4 },
+        ),
         ([HEAD, sorted, JOINED, "", "", ""], TextFault::Request),
-        ([other_total, MERGE, SORT, JOIN, SCAN, MOVED], TextFault::Number { line: 0 }),
-        ([HEAD, MERGE, SORT, other_rows, SCAN, MOVED], TextFault::Number { line: 4 }),
-        ([HEAD, MERGE, SORT, JOIN, other_cost, MOVED], TextFault::Number { line: 5 }),
+        (
+            [other_total, MERGE, SORT, JOIN, SCAN, MOVED],
+            TextFault::Number { line: 0 },
+        ),
+        (
+            [HEAD, MERGE, SORT, other_rows, SCAN, MOVED],
+            TextFault::Number { line: 4 },
+        ),
+        (
+            [HEAD, MERGE, SORT, JOIN, other_cost, MOVED],
+            TextFault::Number { line: 5 },
+        ),
     ];
     for (lines, fault) in &cases {
         let found = said(alloc, lines)?;
