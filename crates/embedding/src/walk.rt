@@ -2,7 +2,6 @@
 use planner::{
     Enforcer, LeastPlan, NodeKind, Physical, PhysicalExpr, PlanColumn, PlanNode, Query, table_in,
 };
-use query_core::KeyParts;
 use std::alloc::{AllocError, Global};
 use std::io;
 
@@ -58,10 +57,10 @@ fn enforcer_name(enforcer: Enforcer) -> &'static str {
 // And here one of the groups that the expression stands on. What is read has the name of its table.
 fn operator_name(query: &Query, expr: PhysicalExpr) -> (&'static str, &str) {
     match expr.operator {
-        Physical::Scan => ("read ", table_name(query, expr.group)),
-        Physical::IndexScan(_) => ("read by an index ", table_name(query, expr.group)),
-        Physical::IndexSeek(_) => ("seek in an index of ", table_name(query, expr.group)),
-        Physical::Filter(_) => ("filter ", table_name(query, expr.group)),
+        Physical::Scan => ("read ", table_name(query, expr)),
+        Physical::IndexScan(_) => ("read by an index ", table_name(query, expr)),
+        Physical::IndexSeek(_) => ("seek in an index of ", table_name(query, expr)),
+        Physical::Filter(_) => ("filter ", table_name(query, expr)),
         Physical::HashJoin(_, _) => ("hash join", ""),
         Physical::MergeJoin(_, _) => ("merge join", ""),
         Physical::LoopJoin(_, _) => ("loop join", ""),
@@ -71,8 +70,8 @@ fn operator_name(query: &Query, expr: PhysicalExpr) -> (&'static str, &str) {
     }
 }
 
-fn table_name(query: &Query, group: KeyParts) -> &str {
-    match query.tables.as_slice().get(table_in(group) as usize) {
+fn table_name(query: &Query, expr: PhysicalExpr) -> &str {
+    match query.tables.as_slice().get(table_in(expr.group) as usize) {
         Some(table) => table.alias.as_str(),
         None => "",
     }

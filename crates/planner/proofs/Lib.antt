@@ -1,3 +1,4 @@
 pub mod Adding
 pub mod Steps
 pub mod Sides
+pub mod Told

@@ -4,6 +4,7 @@
 
 mod columns;
 mod fault;
+mod laws;
 mod node;
 mod nodes;
 mod planning;
@@ -11,6 +12,7 @@ mod settings;
 
 pub use catalog_json::{CatalogFault, CatalogVersion, read_catalog};
 pub use fault::PlanFault;
+pub use laws::{costs_add_up, nodes_tell_the_plan};
 pub use node::{LeastPlan, PlanColumn, PlanNode, Planned};
 pub use plan_space::{Enforcer, Mode, NodeKind};
 pub use plan_tree::table_in;
