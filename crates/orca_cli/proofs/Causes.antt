@@ -1,124 +1,32 @@
 -- What follows from how a run ends.
-use Rattle.std.proofs.Common.{◌≡◌, ◌⊎◌, List, [], ◌∷◌, ℕ, Option, None, Some, refl, sym, ◌∙◌, subst, inl, inr}
+use Rattle.std.proofs.Common.{◌≡◌, ◌⊎◌, List, ℕ, Option, None, Some, refl, sym, ◌∙◌, subst, inl, inr}
 use Rattle.orca_base.specs.Causes.{Rose}
 use Rattle.query_core.specs.declared.query.Query.{Query}
-use Rattle.command_line.specs.Command.{FileNames, ListNames, AnyTask, AnyCommand, plan, gen, batch}
+use Rattle.command_line.specs.Command.{FileNames, StageNames, ListNames, AnyTask, AnyCommand}
+use Rattle.command_line.specs.Command.{plan, gen, stages, check, dump, replay, batch}
 use Rattle.command_line.specs.declared.choices.Choices.{Choices}
 use Rattle.command_line.specs.declared.command.GenInput.{GenInput}
-use Rattle.orca_cli.specs.Answers.{Note, IsSearchEnd, planned, unplanned, too_many}
+use Rattle.orca_cli.specs.Answers.{Note}
 use Rattle.orca_cli.specs.Batches.{IsBatch}
-use Rattle.orca_cli.specs.Causes.{HoldsRefused, HoldsList, ReadRose, HasNoFault, Completes, HasCauses, EndsHaveCauses}
+use Rattle.orca_cli.specs.Asked.{Asks}
+use Rattle.orca_cli.specs.Causes.{HoldsQuery, HoldsRefused, HoldsList, query_files, ReadRose, HasNoFault}
+use Rattle.orca_cli.specs.Causes.{IsNoTask, Completes, HasCauses, EndsHaveCauses}
 use Rattle.orca_cli.specs.Lists.{IsListRefused}
-use Rattle.orca_cli.specs.Prepared.{Reads, generated_in, TaskStops, unread, unusable, by_catalog, by_file}
+use Rattle.orca_cli.specs.Prepared.{Reads, generated_in, IsQueryRefused, TaskStops}
 use Rattle.orca_cli.specs.Run.{IsOwnEnd, IsEnding, answered, own_end, stopped, IsRun, Puts, Ends, whole, cut_short}
 use Rattle.orca_cli.specs.Run.{nothing}
 use Rattle.orca_cli.specs.Sections.{Tells}
-use Rattle.orca_cli.specs.Status.{IsOneOf, searched, settled, overflowed, turned_down, finished, listed, list_refused}
+use Rattle.orca_cli.specs.Staged.{IsStagedEnd}
+use Rattle.orca_cli.specs.Status.{IsOneOf, settled, overflowed, turned_down, finished, listed, list_refused}
 use Rattle.orca_cli.specs.declared.status.Status.{Status}
-use Rattle.orca_cli.specs.declared.status.Status.TheVariants.{Usage, QueryRefused, CatalogRefused}
+use Rattle.orca_cli.specs.declared.status.Status.TheVariants.{Usage, QueryRefused}
 use Rattle.orca_cli.specs.declared.status.Status.TheVariants.{ReadFault, WriteFault, Memory, BatchRefused}
-use Rattle.orca_cli.proofs.OneAnswer.{OneAnswer, answer_of, batch_of, settled_search, overflow_search, refusal_of}
+use Rattle.orca_cli.proofs.OneAnswer.{OneAnswer, answer_of, staged_of, batch_of, settled_search, overflow_search}
+use Rattle.orca_cli.proofs.OneAnswer.{refusal_of}
 use Rattle.orca_cli.proofs.OneAnswer.{sure_search}
-
--- ---- the statuses of endings
-
--- a search ends with one of three statuses
-search_status : (Tells : List ℕ → List ℕ → Type 0) (choices : Choices) (query : Query) (note : Note) (status : Status)
-    (text : List ℕ) → IsSearchEnd Tells choices query note status text → IsOneOf searched status
-search_status Tells choices query note status text (planned is room lines is_plan goes notes) = inl is
-search_status Tells choices query note status text (unplanned is room impossible goes notes) = inr (inl is)
-search_status Tells choices query note status text (too_many is more line count notes) = inr (inr (inl is))
-
--- a search, a refusal, or a fault of a file whose count rose
-data EndedBy (task : AnyTask) (shelf : Reads) (status : Status) : Type 0 where
-  by_search : IsOneOf searched status → EndedBy task shelf status
-  by_refusal : IsOneOf (QueryRefused ∷ CatalogRefused ∷ []) status → EndedBy task shelf status
-  by_list : status ≡ BatchRefused → (files : ListNames) → task ≡ batch files → EndedBy task shelf status
-  by_fault : status ≡ ReadFault → ReadRose task shelf → EndedBy task shelf status
-
-stop_status : (task : AnyTask) (choices : Choices) (shelf : Reads) (status : Status) (text : List ℕ)
-    → TaskStops task choices shelf status text → EndedBy task shelf status
-stop_status (plan files) choices shelf status text (by_catalog (unread is)) = by_fault is.fault (inl is.rose)
-stop_status (plan files) choices shelf status text (by_catalog (unusable bytes told none)) =
-    by_refusal (inr (inl none.refused))
-stop_status (plan files) choices shelf status text (by_file catalog offers (unread is)) =
-    by_fault is.fault (inr is.rose)
-stop_status (plan files) choices shelf status text (by_file catalog offers (unusable bytes told why)) =
-    by_refusal (inl why.refused)
-stop_status (gen input) choices shelf status text stop = absurd stop
-stop_status (batch files) choices shelf status text (by_catalog (unread is)) = by_fault is.fault (inl is.rose)
-stop_status (batch files) choices shelf status text (by_catalog (unusable bytes told none)) =
-    by_refusal (inr (inl none.refused))
-stop_status (batch files) choices shelf status text (by_file catalog offers (unread is)) =
-    by_fault is.fault (inr is.rose)
-stop_status (batch files) choices shelf status text (by_file catalog offers (unusable bytes told why)) =
-    by_list why.refused files refl
-
--- a batch ends as a search that found a plan
-own_status : (task : AnyTask) (choices : Choices) (shelf : Reads) (status : Status) (text : List ℕ)
-    → IsOwnEnd task choices shelf.held status text → EndedBy task shelf status
-own_status (plan files) choices shelf status text own = absurd own
-own_status (gen input) choices shelf status text own = absurd own
-own_status (batch files) choices shelf status text own = by_search (inl own.is_batch.done)
-
-ended_by : (command : AnyCommand) (shelf : Reads) (empty note : Note) (status : Status) (text : List ℕ)
-    → IsEnding command shelf empty note status text → EndedBy command.task shelf status
-ended_by command shelf empty note status text (answered query asks found) =
-    by_search (search_status (Tells (generated_in command.task) command.choices query) command.choices query note status
-    text found)
-ended_by command shelf empty note status text (own_end own kept) =
-    own_status command.task command.choices shelf status text own
-ended_by command shelf empty note status text (stopped stop kept) =
-    stop_status command.task command.choices shelf status text stop
-
-module _ (task : AnyTask) (shelf : Reads) (status : Status) where
-  -- no ending is that of other words
-  never_usage : EndedBy task shelf status → status ≡ Usage → ⊥
-  never_usage (by_search (inl is)) other = cc
-  never_usage (by_search (inr (inl is))) other = cc
-  never_usage (by_search (inr (inr (inl is)))) other = cc
-  never_usage (by_refusal (inl is)) other = cc
-  never_usage (by_refusal (inr (inl is))) other = cc
-  never_usage (by_search (inr (inr (inr none)))) other = absurd none
-  never_usage (by_refusal (inr (inr none))) other = absurd none
-  never_usage (by_list is files task) other = cc
-  never_usage (by_fault is rose) other = cc
-
-  -- nor of a sink that failed
-  never_write : EndedBy task shelf status → status ≡ WriteFault → ⊥
-  never_write (by_search (inl is)) other = cc
-  never_write (by_search (inr (inl is))) other = cc
-  never_write (by_search (inr (inr (inl is)))) other = cc
-  never_write (by_refusal (inl is)) other = cc
-  never_write (by_refusal (inr (inl is))) other = cc
-  never_write (by_search (inr (inr (inr none)))) other = absurd none
-  never_write (by_refusal (inr (inr none))) other = absurd none
-  never_write (by_list is files task) other = cc
-  never_write (by_fault is rose) other = cc
-
-  -- that of a read fault has a count that rose
-  read_rose : EndedBy task shelf status → status ≡ ReadFault → ReadRose task shelf
-  read_rose (by_search (inl is)) fault = cc
-  read_rose (by_search (inr (inl is))) fault = cc
-  read_rose (by_search (inr (inr (inl is)))) fault = cc
-  read_rose (by_refusal (inl is)) fault = cc
-  read_rose (by_refusal (inr (inl is))) fault = cc
-  read_rose (by_search (inr (inr (inr none)))) fault = absurd none
-  read_rose (by_refusal (inr (inr none))) fault = absurd none
-  read_rose (by_list is files task) fault = cc
-  read_rose (by_fault is rose) fault = rose
-
-  -- that of a refused list is a batch's
-  list_of : EndedBy task shelf status → status ≡ BatchRefused → (files : ListNames) × (task ≡ batch files)
-  list_of (by_search (inl is)) refused = cc
-  list_of (by_search (inr (inl is))) refused = cc
-  list_of (by_search (inr (inr (inl is)))) refused = cc
-  list_of (by_refusal (inl is)) refused = cc
-  list_of (by_refusal (inr (inl is))) refused = cc
-  list_of (by_search (inr (inr (inr none)))) refused = absurd none
-  list_of (by_refusal (inr (inr none))) refused = absurd none
-  list_of (by_list is files task) refused = (files, task)
-  list_of (by_fault is rose) refused = cc
+use Rattle.orca_cli.proofs.Refusals.{one_query, never_refused}
+use Rattle.orca_cli.proofs.StagedEnds.{staged_status, settled_stages}
+use Rattle.orca_cli.proofs.EndingStatuses.{search_status, of_search, ended_by, usage_of, never_write, read_rose, list_of}
 
 -- ---- the status of the run
 
@@ -144,13 +52,13 @@ module _ (one : OneAnswer) (named : Option AnyCommand) (shelf : Reads) (empty no
       (sure_search one command.task command.choices shelf empty note s t query sure none.reads ending)) none.writes
       (of_command command is)
 
-  usage_cause : status ≡ Usage → named ≡ None
+  usage_cause : status ≡ Usage → IsNoTask named
   usage_cause is = of_named named ends
     where
-      of_named : (n : Option AnyCommand) → Ends (IsRun n shelf empty note) sink status → n ≡ None
-      of_named None ends = refl
+      of_named : (n : Option AnyCommand) → Ends (IsRun n shelf empty note) sink status → IsNoTask n
+      of_named None ends = tt
       of_named (Some command) (whole text ending taken) =
-          absurd (never_usage command.task shelf status (ended_by command shelf empty note status text ending) is)
+          usage_of command.task shelf status (ended_by command shelf empty note status text ending) is
       of_named (Some command) (cut_short fault rose ended text ending taken) = cc
       of_named (Some command) (nothing memory kept) = cc
 
@@ -210,6 +118,29 @@ module _ (one : OneAnswer) (named : Option AnyCommand) (shelf : Reads) (empty no
       of_either s t (inl why) = refused s t why
       of_either s t (inr answers) = done s t answers
 
+  -- stages over files that ask for a query end with the end of this query, where there is no fault
+  stages_there : (P : Status → Type 0) (command : AnyCommand) (query : Query) (asked : StageNames) → P Memory
+      → named ≡ Some command → command.task ≡ stages asked
+      → HoldsQuery asked.files command.choices.options shelf.held query → HasNoFault command.task shelf sink
+      → ((s : Status) (t : List ℕ) → IsStagedEnd query command.choices.capacity asked.stages s t → P s) → P status
+  stages_there P command query asked memory is task held none done =
+      given (IsEnding command shelf empty note) P sink status memory
+      (λ s t ending. of_either s t (staged_of asked command.choices shelf held.catalog held.text held.holds note s t empty
+      (subst (λ k. ReadRose k shelf → ⊥) task none.reads)
+      (subst (λ k. IsEnding (record { task = k; choices = command.choices }) shelf empty note s t) task ending)))
+      none.writes (of_command command is)
+    where
+      of_either : (s : Status) (t : List ℕ) → IsQueryRefused held.catalog command.choices.options held.text s t
+          ⊎ ((q : Query) × Asks held.catalog command.choices.options held.text q
+          × IsStagedEnd q command.choices.capacity asked.stages s t) → P s
+      of_either s t (inl why) =
+          absurd (never_refused one.reading held.catalog command.choices.options held.text query why.cause held.asks
+          why.no_query)
+      of_either s t (inr (q, asks, end)) =
+          let same : q ≡ query = one_query one.reading held.catalog command.choices.options held.text one.links q query
+          asks.bound held.asks.bound in
+          done s t (subst (λ r. IsStagedEnd r command.choices.capacity asked.stages s t) same end)
+
   causes : HasCauses named shelf sink status
   causes = record {
     completes = completed;
@@ -222,13 +153,19 @@ module _ (one : OneAnswer) (named : Option AnyCommand) (shelf : Reads) (empty no
         query note s t more
         (sure_search one command.task command.choices shelf empty note s t query sure none.reads ending)) none.writes
         (of_command command is);
-    refuses = λ command files is task held none.
+    refuses = λ command files is named_files held none.
         given (IsEnding command shelf empty note) (IsOneOf turned_down) sink status (inr (inl refl))
-        (λ s t ending. inl (refused_ending command files task held none.reads s t ending)) none.writes
-        (of_command command is);
+        (λ s t ending. inl (refused_ending command.task command.choices files named_files held none.reads s t ending))
+        none.writes (of_command command is);
     finishes = λ command input is task none.
         given (IsEnding command shelf empty note) (IsOneOf finished) sink status (inr (inr (inr (inl refl))))
         (λ s t ending. finished_ending command input task s t ending) none.writes (of_command command is);
+    stages_finish = λ command query asked is task held none.
+        stages_there (IsOneOf finished) command query asked (inr (inr (inr (inl refl)))) is task held none
+        (λ s t end. of_search s (staged_status query command.choices.capacity asked.stages s t end));
+    stages_settle = λ command query asked is task held room none.
+        stages_there (IsOneOf settled) command query asked (inr (inr (inl refl))) is task held none
+        (λ s t end. settled_stages one query command.choices.capacity asked.stages s t room end);
     batch_refused = list_cause_of;
     lists = λ command files is task held none.
         batch_there (IsOneOf listed) command files None (inr (inl refl)) is task held none
@@ -238,27 +175,34 @@ module _ (one : OneAnswer) (named : Option AnyCommand) (shelf : Reads) (empty no
         (λ s t why. inl why.refused) (λ s t answers. let caused = held.is_cause in let usable = answers.usable in cc);
   }
     where
-      refused_ending : (command : AnyCommand) (files : FileNames) → command.task ≡ plan files
-          → HoldsRefused files command.choices.options shelf.held → (ReadRose command.task shelf → ⊥)
-          → (s : Status) (t : List ℕ) → IsEnding command shelf empty note s t → s ≡ QueryRefused
-      refused_ending command files task held no_read s t ending =
-          let here : IsEnding (record { task = plan files; choices = command.choices }) shelf empty note s t =
-          subst (λ k. IsEnding (record { task = k; choices = command.choices }) shelf empty note s t) task ending in
-          (refusal_of one held.catalog command.choices held.text note s t held.cause held.refused
-          (answer_of files command.choices shelf held.catalog held.text held.holds note s t empty
-          (subst (λ k. ReadRose k shelf → ⊥) task no_read) here)).refused
+      refused_ending : (task : AnyTask) (choices : Choices) (files : FileNames) → query_files task ≡ Some files
+          → HoldsRefused files choices.options shelf.held → (ReadRose task shelf → ⊥) → (s : Status) (t : List ℕ)
+          → IsEnding (record { task = task; choices = choices }) shelf empty note s t → s ≡ QueryRefused
+      refused_ending (plan own) choices files names held no_read s t ending =
+          let same : files ≡ own = cc in
+          let here = subst (λ f. HoldsRefused f choices.options shelf.held) same held in
+          (refusal_of one here.catalog choices here.text note s t here.cause here.refused
+          (answer_of own choices shelf here.catalog here.text here.holds note s t empty no_read ending)).refused
+      refused_ending (stages own) choices files names held no_read s t ending =
+          let same : files ≡ own.files = cc in
+          let here = subst (λ f. HoldsRefused f choices.options shelf.held) same held in
+          elim (staged_of own choices shelf here.catalog here.text here.holds note s t empty no_read ending)
+          as (λ _. s ≡ QueryRefused) [
+            | inl why ↦ why.refused
+            | inr end ↦
+                absurd (never_refused one.reading here.catalog choices.options here.text end.0 here.cause end.1 here.refused)
+          ]
+      refused_ending (gen input) choices files names held no_read s t ending = cc
+      refused_ending (check own) choices files names held no_read s t ending = cc
+      refused_ending (dump own) choices files names held no_read s t ending = cc
+      refused_ending (replay own) choices files names held no_read s t ending = cc
+      refused_ending (batch own) choices files names held no_read s t ending = cc
 
       finished_ending : (command : AnyCommand) (input : GenInput) → command.task ≡ gen input
           → (s : Status) (t : List ℕ) → IsEnding command shelf empty note s t → IsOneOf finished s
       finished_ending command input task s t (answered query asks found) =
-          of_search (search_status (Tells (generated_in command.task) command.choices query) command.choices query note
-          s t found)
-        where
-          of_search : IsOneOf searched s → IsOneOf finished s
-          of_search (inl is) = inl is
-          of_search (inr (inl is)) = inr (inl is)
-          of_search (inr (inr (inl is))) = inr (inr (inl is))
-          of_search (inr (inr (inr none))) = absurd none
+          of_search s (search_status (Tells (generated_in command.task) command.choices query) command.choices query
+          note s t found)
       finished_ending command input task s t (own_end own kept) =
           absurd (subst (λ k. IsOwnEnd k command.choices shelf.held s t) task own)
       finished_ending command input task s t (stopped stop kept) =

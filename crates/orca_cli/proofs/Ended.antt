@@ -1,18 +1,25 @@
 -- What is put of the end of a run.
 use Rattle.std.proofs.Common.{◌≡◌, ℕ, List, Option, None, Some, refl, sym, subst}
-use Rattle.command_line.specs.Command.{ListNames, AnyTask, AnyCommand, plan, gen, batch}
+use Rattle.command_line.specs.Command.{ListNames, AnyTask, AnyCommand}
+use Rattle.command_line.specs.Command.{plan, gen, stages, check, dump, replay, batch}
+use Rattle.command_line.specs.HeldStages.{stages_read}
 use Rattle.command_line.specs.Views.{command_read, task_read}
+use Rattle.command_line.specs.declared.choices.Choices.{Choices}
 use Rattle.command_line.specs.declared.command.GenInput.{GenInput}
 use Rattle.orca_cli.specs.Answers.{Note, IsSearchEnd}
 use Rattle.orca_cli.specs.Batches.{IsBatch}
 use Rattle.orca_cli.specs.Lists.{IsListRefused}
-use Rattle.orca_cli.specs.Prepared.{Reads, generated_in, IsAskedBy, unusable, by_file, Stops}
+use Rattle.orca_cli.specs.Prepared.{Reads, generated_in, IsAskedBy, IsForOne, AsksForOne, unusable, by_file, Stops}
 use Rattle.orca_cli.specs.Run.{IsEnding, answered, own_end, stopped, IsRun, Puts, Ends, whole, cut_short, nothing}
 use Rattle.orca_cli.specs.Sections.{Tells}
-use Rattle.orca_cli.specs.Views.{EndsAs, EndsWith, IsEndOf, text_of, AreListed, AsksFor, IsWanted}
+use Rattle.orca_cli.specs.Staged.{IsStagedEnd}
+use Rattle.orca_cli.specs.Views.{EndsAs, EndsWith, IsEndOf, text_of, AreListed, AsksInStages, AsksFor, IsWorkForOne}
+use Rattle.orca_cli.specs.Views.{IsWanted}
 use Rattle.orca_cli.specs.declared.asked.Asked.{Asked}
+use Rattle.orca_cli.specs.declared.asked.InStages.{InStages}
 use Rattle.orca_cli.specs.declared.asked.Listed.{Listed}
 use Rattle.orca_cli.specs.declared.asked.Wanted.{Wanted}
+use Rattle.orca_cli.specs.declared.asked.Work.{Work}
 use Rattle.orca_cli.specs.declared.asked.Work.TheVariants as works
 use Rattle.orca_cli.specs.declared.ending.End.{End}
 use Rattle.orca_cli.specs.declared.ending.End.TheVariants as ends
@@ -74,6 +81,10 @@ module _ (named : Option AnyCommand) (shelf : Reads) (note : Note) (wanted : Wan
           → IsEnding (record { task = task; choices = wanted.command.choices }) shelf note note status text
       of_task (plan files) asks = absurd asks
       of_task (gen input) asks = absurd asks
+      of_task (stages named) asks = absurd asks
+      of_task (check named) asks = absurd asks
+      of_task (dump files) asks = absurd asks
+      of_task (replay file) asks = absurd asks
       of_task (batch files) asks = ends files asks
 
   -- each line was answered
@@ -92,6 +103,66 @@ module _ (named : Option AnyCommand) (shelf : Reads) (note : Note) (wanted : Wan
       → IsRun named shelf note note status text
   refused_run why = list_run (λ files are.
       stopped (by_file listed.catalog are.offers (unusable listed.list.items are.told why)) refl)
+
+-- a run that planned its query in stages, which leaves the note as it was
+pub staged_run : (named : Option AnyCommand) (shelf : Reads) (note : Note) (wanted : Wanted) (staged : InStages)
+    (status : Status) (text : List ℕ) → wanted.work ≡ works.Stages staged → IsWanted named shelf.held wanted
+    → IsStagedEnd staged.asked.query wanted.command.choices.capacity (stages_read staged.stages) status text
+    → IsRun named shelf note note status text
+staged_run named shelf note wanted staged status text work is end =
+    subst (λ n. IsRun n shelf note note status text) (sym is.named_is)
+    (of_task (task_read wanted.command.task) (subst (AsksFor (task_read wanted.command.task)
+    wanted.command.choices.options shelf.held) work is.asks_for))
+  where
+    of_task : (task : AnyTask) → AsksFor task wanted.command.choices.options shelf.held (works.Stages staged)
+        → IsEnding (record { task = task; choices = wanted.command.choices }) shelf note note status text
+    of_task (plan files) asks = absurd asks
+    of_task (gen input) asks = absurd asks
+    of_task (stages named) asks = own_end (record {
+      query = staged.asked.query;
+      asks = asks.asks;
+      end = subst (λ some. IsStagedEnd staged.asked.query wanted.command.choices.capacity some status text)
+          asks.stages_are end;
+    }) refl
+    of_task (check named) asks = absurd asks
+    of_task (dump files) asks = absurd asks
+    of_task (replay file) asks = absurd asks
+    of_task (batch files) asks = absurd asks
+
+-- a command that one worker does asks for work that one does
+pub work_for_one : (named : Option AnyCommand) (held : List ℕ → Option (List ℕ)) (wanted : Wanted) → AsksForOne named
+    → IsWanted named held wanted → IsWorkForOne wanted.work wanted.command.choices.workers
+work_for_one named held wanted alone is =
+    of_work wanted.work is.asks_for (subst AsksForOne is.named_is alone)
+  where
+    choices : Choices
+    choices = wanted.command.choices
+
+    -- whatever the task is, it asks for one worker
+    one_worker : (task : AnyTask) → IsForOne task choices → choices.workers ≡ 1
+    one_worker (plan files) for_one = for_one
+    one_worker (gen input) for_one = for_one
+    one_worker (stages named) for_one = absurd for_one
+    one_worker (check named) for_one = for_one
+    one_worker (dump files) for_one = for_one
+    one_worker (replay file) for_one = for_one
+    one_worker (batch files) for_one = for_one
+
+    never_staged : (task : AnyTask) (staged : InStages) → AsksInStages task choices.options held staged
+        → IsForOne task choices → ⊥
+    never_staged (plan files) staged asks for_one = asks
+    never_staged (gen input) staged asks for_one = asks
+    never_staged (stages named) staged asks for_one = for_one
+    never_staged (check named) staged asks for_one = asks
+    never_staged (dump files) staged asks for_one = asks
+    never_staged (replay file) staged asks for_one = asks
+    never_staged (batch files) staged asks for_one = asks
+
+    of_work : (work : Work) → AsksFor (task_read wanted.command.task) choices.options held work
+        → IsForOne (task_read wanted.command.task) choices → IsWorkForOne work choices.workers
+    of_work (works.Query asked) asks for_one = one_worker (task_read wanted.command.task) for_one
+    of_work (works.Stages staged) asks for_one = never_staged (task_read wanted.command.task) staged asks for_one
+    of_work (works.List listed) asks for_one = one_worker (task_read wanted.command.task) for_one
 
 -- the end of a run that searched nothing, and left the note as it was
 pub stopped_run : (named : Option AnyCommand) (shelf : Reads) (empty note : Note) (end : End) → note ≡ empty

@@ -6,10 +6,14 @@ pub mod SectionTexts
 pub mod Files
 pub mod Searching
 pub mod OneAnswer
+pub mod StagedEnds
+pub mod EndingStatuses
 pub mod Causes
 pub mod Ended
 pub mod ListLines
 pub mod LineEnds
+pub mod StageLines
 pub mod Made
 pub mod FirstLines
 pub mod Outcomes
+pub mod StagedOutcomes

@@ -11,7 +11,8 @@ use Rattle.sql_print.specs.Canonical.{canonical_text}
 use Rattle.query_generator.specs.Catalog.{catalog_of}
 use Rattle.query_generator.specs.Select.{select_of}
 use Rattle.job_outcome.specs.Outcomes.{HasMoreEntries, FitsIn}
-use Rattle.command_line.specs.Command.{FileNames, ListNames, AnyTask, plan, gen, batch}
+use Rattle.command_line.specs.Command.{FileNames, StageNames, ListNames, AnyTask}
+use Rattle.command_line.specs.Command.{plan, gen, stages, check, dump, replay, batch}
 use Rattle.command_line.specs.declared.choices.Choices.{Choices}
 use Rattle.command_line.specs.declared.command.GenInput.{GenInput}
 use Rattle.orca_cli.specs.Answers.{HasRoom, Note, IsSearchEnd, planned, unplanned, too_many}
@@ -21,10 +22,11 @@ use Rattle.orca_cli.specs.Batches.{IsBatch}
 use Rattle.orca_cli.specs.Causes.{Holds, SurelyAsks, OneRose, ReadRose}
 use Rattle.orca_cli.specs.Generated.{IsGenerated}
 use Rattle.orca_cli.specs.Lists.{IsListRefused}
-use Rattle.orca_cli.specs.Prepared.{Reads, AreTold, Offers, generated_in, IsQueryRefused}
+use Rattle.orca_cli.specs.Prepared.{Reads, AreTold, Offers, FilesAsk, generated_in, IsQueryRefused}
 use Rattle.orca_cli.specs.Prepared.{unread, unusable, FilesStop, by_catalog, by_file}
 use Rattle.orca_cli.specs.Run.{IsEnding, answered, own_end, stopped}
 use Rattle.orca_cli.specs.Sections.{Tells}
+use Rattle.orca_cli.specs.Staged.{IsStagedEnd}
 use Rattle.orca_cli.specs.Status.{IsOneOf, settled, overflowed}
 use Rattle.orca_cli.specs.declared.status.Status.{Status}
 use Rattle.orca_cli.proofs.OneQuery.{OneLinks}
@@ -76,6 +78,16 @@ module _ (catalog_name name : List ℕ) (shelf : Reads) (catalog : Catalog) (ask
       subst (λ k. Refuses k asked status text) (offered_there other offers)
       (subst (λ t. Refuses other t status text) (told_one (shelf.held name) bytes asked told holds.text_told) why)
 
+-- the query for which two files ask is the one for which the text asks that they hold
+asked_there : (files : FileNames) (options : Options) (shelf : Reads) (catalog : Catalog) (asked : List ℕ)
+    → Holds files.catalog files.query shelf.held catalog asked → (query : Query)
+    → FilesAsk files options shelf.held query → Asks catalog options asked query
+asked_there files options shelf catalog asked holds query asks =
+    let told = told_one (shelf.held files.query) asks.asked.asked asked asks.asked.told holds.text_told in
+    subst (λ k. Asks k options asked query)
+    (offered_there files.catalog files.query shelf catalog asked holds asks.catalog asks.offers)
+    (subst (λ t. Asks asks.catalog options t query) told asks.asked.asks)
+
 -- a run over files that hold a catalogue and a text ends with the answer to that text, where no count rose
 pub answer_of : (files : FileNames) (choices : Choices) (shelf : Reads) (catalog : Catalog) (asked : List ℕ)
     → Holds files.catalog files.query shelf.held catalog asked → (note : Note) (status : Status) (text : List ℕ)
@@ -83,11 +95,7 @@ pub answer_of : (files : FileNames) (choices : Choices) (shelf : Reads) (catalog
     → IsEnding (record { task = plan files; choices = choices }) shelf empty note status text
     → IsAnswer catalog choices asked note status text
 answer_of files choices shelf catalog asked holds note status text empty no_read (answered query asks search) =
-    let told = told_one (shelf.held files.query) asks.asked.asked asked asks.asked.told holds.text_told in
-    searched query
-    (subst (λ k. Asks k choices.options asked query)
-    (offered_there files.catalog files.query shelf catalog asked holds asks.catalog asks.offers)
-    (subst (λ t. Asks asks.catalog choices.options t query) told asks.asked.asks)) search
+    searched query (asked_there files choices.options shelf catalog asked holds query asks) search
 answer_of files choices shelf catalog asked holds note status text empty no_read (own_end own kept) = absurd own
 answer_of files choices shelf catalog asked holds note status text empty no_read (stopped stop kept) =
     turned_down (refused_there files.catalog files.query shelf catalog asked holds
@@ -109,6 +117,22 @@ batch_of files choices shelf catalog list holds note status text empty no_read (
 batch_of files choices shelf catalog list holds note status text empty no_read (stopped stop kept) =
     inl (refused_there files.catalog files.list shelf catalog list holds (λ k. IsListRefused choices.capacity) status
     text stop no_read)
+
+-- and one in stages with the end of the query for which the text asks, or the text is refused
+pub staged_of : (named : StageNames) (choices : Choices) (shelf : Reads) (catalog : Catalog) (asked : List ℕ)
+    → Holds named.files.catalog named.files.query shelf.held catalog asked → (note : Note) (status : Status)
+    → (text : List ℕ) (empty : Note) → (ReadRose (stages named) shelf → ⊥)
+    → IsEnding (record { task = stages named; choices = choices }) shelf empty note status text
+    → IsQueryRefused catalog choices.options asked status text
+    ⊎ ((query : Query) × Asks catalog choices.options asked query
+    × IsStagedEnd query choices.capacity named.stages status text)
+staged_of named choices shelf catalog asked holds note status text empty no_read (answered query asks search) =
+    absurd asks
+staged_of named choices shelf catalog asked holds note status text empty no_read (own_end own kept) =
+    inr (own.query, asked_there named.files choices.options shelf catalog asked holds own.query own.asks, own.end)
+staged_of named choices shelf catalog asked holds note status text empty no_read (stopped stop kept) =
+    inl (refused_there named.files.catalog named.files.query shelf catalog asked holds
+    (λ k. IsQueryRefused k choices.options) status text stop no_read)
 
 -- what the layers below promise: a text has one reading or one fault, a query one list of links, and it has room or too
 -- many entries
@@ -190,4 +214,8 @@ sure_search one (gen input) choices shelf empty note status text query made no_r
     (one_generated one input choices.options other query again made) search
 sure_search one (gen input) choices shelf empty note status text query made no_read (own_end own kept) = absurd own
 sure_search one (gen input) choices shelf empty note status text query made no_read (stopped stop kept) = absurd stop
+sure_search one (stages named) choices shelf empty note status text query sure no_read ending = absurd sure
+sure_search one (check named) choices shelf empty note status text query sure no_read ending = absurd sure
+sure_search one (dump files) choices shelf empty note status text query sure no_read ending = absurd sure
+sure_search one (replay file) choices shelf empty note status text query sure no_read ending = absurd sure
 sure_search one (batch files) choices shelf empty note status text query sure no_read ending = absurd sure

@@ -18,7 +18,7 @@ use Rattle.query_core.specs.Grouping.{IsGrouping}
 use Rattle.query_core.specs.Results.{IsOutput, IsOrder, AreOptions}
 use Rattle.query_core.specs.declared.query.Query.{Query}
 
-query_same : (q r : Query) → q.segments ≡ r.segments → q.tables ≡ r.tables → q.items ≡ r.items → q.preds ≡ r.preds
+pub query_same : (q r : Query) → q.segments ≡ r.segments → q.tables ≡ r.tables → q.items ≡ r.items → q.preds ≡ r.preds
     → q.links ≡ r.links → q.grouped ≡ r.grouped
     → q.group_by ≡ r.group_by → q.aggs ≡ r.aggs → q.output ≡ r.output → q.order ≡ r.order → q.options ≡ r.options
     → q ≡ r

@@ -150,7 +150,7 @@ known_of files choices held bytes asked status text o (stopped stop kept) = of_s
         (told_one (held files.query) other asked told o.query_told) why))
 
 -- bytes that are no catalogue have one cause
-one_fault : (bytes cause other : List ℕ) → IsNoCatalog bytes cause → IsNoCatalog bytes other → cause ≡ other
+pub one_fault : (bytes cause other : List ℕ) → IsNoCatalog bytes cause → IsNoCatalog bytes other → cause ≡ other
 one_fault bytes cause other is again =
     let refused_here : reading_of bytes ≡ Err is.fault = is.first in
     let refused_again : reading_of bytes ≡ Err again.fault = again.first in

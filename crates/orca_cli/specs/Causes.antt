@@ -1,11 +1,17 @@
 -- When a run is sure to be answered, and which causes its status has.
-use Rattle.std.specs.Prelude.{◌≡◌, ◌⊎◌, ℕ, List, Option, None, Some}
+use Rattle.std.specs.Prelude.{◌≡◌, ◌⊎◌, ℕ, ⊤, List, Option, None, Some, map}
+use Rattle.std.specs.List.{All}
 use Rattle.orca_base.specs.Causes.{Rose}
 use Rattle.query_core.specs.declared.catalog.Catalog.{Catalog}
 use Rattle.query_core.specs.declared.options.Options.{Options}
 use Rattle.query_core.specs.declared.query.Query.{Query}
 use Rattle.job_outcome.specs.Outcomes.{HasMoreEntries}
-use Rattle.command_line.specs.Command.{FileNames, ListNames, AnyTask, AnyCommand, plan, gen, batch}
+use Rattle.query_stage.specs.declared.stage.Stage.{Stage}
+use Rattle.stage_plan.specs.Stages.{query_in}
+use Rattle.command_line.specs.Command.{FileNames, StageNames, ListNames, AnyTask, AnyCommand}
+use Rattle.command_line.specs.Command.{plan, gen, stages, check, dump, replay, batch}
+use Rattle.command_line.specs.HeldStages.{stage_read}
+use Rattle.command_line.specs.Stages.{AnyStage}
 use Rattle.command_line.specs.declared.command.GenInput.{GenInput}
 use Rattle.orca_cli.specs.Asked.{SaysCatalog, Asks, IsRefused}
 use Rattle.orca_cli.specs.Answers.{Note, HasRoom}
@@ -55,7 +61,21 @@ pub record HoldsList (files : ListNames) (capacity : ℕ) (held : List ℕ → O
 abbrev pub SurelyAsks : AnyTask → Options → (List ℕ → Option (List ℕ)) → Query → Type 0
 SurelyAsks (plan files) options held query = HoldsQuery files options held query
 SurelyAsks (gen input) options held query = IsGenerated input options query
+SurelyAsks (stages named) options held query = ⊥
+SurelyAsks (check named) options held query = ⊥
+SurelyAsks (dump files) options held query = ⊥
+SurelyAsks (replay file) options held query = ⊥
 SurelyAsks (batch files) options held query = ⊥
+
+-- the files of a catalogue and of a query that the task names, if it does
+abbrev pub query_files : AnyTask → Option FileNames
+query_files (plan files) = Some files
+query_files (gen input) = None
+query_files (stages named) = Some named.files
+query_files (check named) = None
+query_files (dump files) = None
+query_files (replay file) = None
+query_files (batch files) = None
 
 -- the count of one of two names rose
 abbrev pub OneRose : Reads → List ℕ → List ℕ → Type 0
@@ -66,12 +86,31 @@ OneRose shelf first second = Rose (shelf.before first) (shelf.after first)
 abbrev pub ReadRose : AnyTask → Reads → Type 0
 ReadRose (plan files) shelf = OneRose shelf files.catalog files.query
 ReadRose (gen input) shelf = ⊥
+ReadRose (stages named) shelf = OneRose shelf named.files.catalog named.files.query
+ReadRose (check named) shelf = ⊥
+ReadRose (dump files) shelf = ⊥
+ReadRose (replay file) shelf = ⊥
 ReadRose (batch files) shelf = OneRose shelf files.catalog files.list
 
 -- no count of faults rose, of no file of the task and not the sink's
 pub record HasNoFault (task : AnyTask) (shelf : Reads) (sink : Puts) : Type 0 where
   pub reads : ReadRose task shelf → ⊥
   pub writes : Rose sink.before sink.after → ⊥
+
+-- the task is one that isn't there yet
+abbrev pub IsNotThere : AnyTask → Type 0
+IsNotThere (plan files) = ⊥
+IsNotThere (gen input) = ⊥
+IsNotThere (stages named) = ⊥
+IsNotThere (check named) = ⊤
+IsNotThere (dump files) = ⊤
+IsNotThere (replay file) = ⊤
+IsNotThere (batch files) = ⊥
+
+-- the words are no command, or they are one that isn't there yet
+abbrev pub IsNoTask : Option AnyCommand → Type 0
+IsNoTask None = ⊤
+IsNoTask (Some command) = IsNotThere command.task
 
 -- ---- completeness
 
@@ -82,12 +121,17 @@ Completes named shelf sink status =
     → SurelyAsks command.task command.choices.options shelf.held query → HasRoom query command.choices.capacity
     → HasNoFault command.task shelf sink → IsOneOf settled status
 
+-- the query has room in each of these stages
+abbrev pub HaveRoom : Query → (capacity : ℕ) → List AnyStage → Type 0
+HaveRoom query capacity asked = (some : List Stage) → map stage_read some ≡ asked
+    → All (λ stage. HasRoom (query_in query stage) capacity) some
+
 -- ---- what follows from how a run ends
 
 pub record HasCauses (named : Option AnyCommand) (shelf : Reads) (sink : Puts) (status : Status) : Type 0 where
   pub completes : Completes named shelf sink status
   -- what an answer other than that of a search comes from
-  pub usage : status ≡ Usage → named ≡ None
+  pub usage : status ≡ Usage → IsNoTask named
   pub read_fault : status ≡ ReadFault → (command : AnyCommand) × (named ≡ Some command) × ReadRose command.task shelf
   pub write_fault : status ≡ WriteFault → Rose sink.before sink.after
   -- a query with more entries than the capacity is told so, where there is no fault
@@ -96,12 +140,22 @@ pub record HasCauses (named : Option AnyCommand) (shelf : Reads) (sink : Puts) (
       → HasMoreEntries query command.choices.capacity → HasNoFault command.task shelf sink
       → IsOneOf overflowed status
   -- a text with a cause of refusal is refused
-  pub refuses : (command : AnyCommand) (files : FileNames) → named ≡ Some command → command.task ≡ plan files
+  pub refuses : (command : AnyCommand) (files : FileNames) → named ≡ Some command
+      → query_files command.task ≡ Some files
       → HoldsRefused files command.choices.options shelf.held → HasNoFault command.task shelf sink
       → IsOneOf turned_down status
   -- what is generated is never refused
   pub finishes : (command : AnyCommand) (input : GenInput) → named ≡ Some command → command.task ≡ gen input
       → HasNoFault command.task shelf sink → IsOneOf finished status
+  -- a query that is planned in stages has an answer, or there is no room for it in a stage
+  pub stages_finish : (command : AnyCommand) (query : Query) (asked : StageNames) → named ≡ Some command
+      → command.task ≡ stages asked → HoldsQuery asked.files command.choices.options shelf.held query
+      → HasNoFault command.task shelf sink → IsOneOf finished status
+  -- where each stage has room it has an answer
+  pub stages_settle : (command : AnyCommand) (query : Query) (asked : StageNames) → named ≡ Some command
+      → command.task ≡ stages asked → HoldsQuery asked.files command.choices.options shelf.held query
+      → HaveRoom query command.choices.capacity asked.stages → HasNoFault command.task shelf sink
+      → IsOneOf settled status
   -- a list is refused only by a batch
   pub batch_refused : status ≡ BatchRefused → (command : AnyCommand) × (files : ListNames) × (named ≡ Some command)
       × (command.task ≡ batch files)

@@ -1,12 +1,15 @@
 -- What follows from how commands are read, and how runs end.
 use Rattle.std.specs.Prelude.{◌≡◌, ◌≢◌, ◌⊎◌, ◌++◌, ℕ, Bool, true, false, List, [], Option, Some}
 use Rattle.query_core.specs.declared.catalog.Catalog.{Catalog}
+use Rattle.query_core.specs.declared.options.Options.{Options}
 use Rattle.query_core.specs.declared.query.Query.{Query}
-use Rattle.command_line.specs.Command.{FileNames, ListNames, plan, gen, batch}
+use Rattle.query_stage.specs.declared.stage.Stage.{Stage}
+use Rattle.stage_plan.specs.Stages.{query_in}
+use Rattle.command_line.specs.Command.{FileNames, StageNames, ListNames, plan, gen, stages, batch}
 use Rattle.command_line.specs.declared.choices.Choices.{Choices}
 use Rattle.command_line.specs.declared.command.GenInput.{GenInput}
 use Rattle.orca_cli.specs.Answers.{Note}
-use Rattle.orca_cli.specs.Asked.{SaysCatalog}
+use Rattle.orca_cli.specs.Asked.{SaysCatalog, Asks}
 use Rattle.orca_cli.specs.Batches.{for_a_line, LineEnd, IsLineEnd}
 use Rattle.orca_cli.specs.Prepared.{Reads, reads}
 use Rattle.orca_cli.specs.Run.{IsRun}
@@ -34,6 +37,19 @@ pub record GenOutcome (input : GenInput) (choices : Choices) (status : Status) (
   pub empty : Note
   pub note : Note
   pub ends : IsRun (Some (record { task = gen input; choices = choices })) shelf empty note status text
+
+-- a run in stages over files that hold these bytes ends so, whatever its counts of faults are
+pub record StagesOutcome (named : StageNames) (choices : Choices) (held : List ℕ → Option (List ℕ))
+    (catalog query : List ℕ) (status : Status) (text : List ℕ) : Type 0 where
+  pub before : List ℕ → ℕ
+  pub after : List ℕ → ℕ
+  pub empty : Note
+  pub note : Note
+  pub catalog_told : held named.files.catalog ≡ Some catalog
+  pub query_told : held named.files.query ≡ Some query
+  pub ends : IsRun (Some (record { task = stages named; choices = choices })) (reads held before after) empty note
+      status text
+  pub were_read : status ≢ ReadFault
 
 -- a batch over files that hold these bytes ends so, whatever its counts of faults are
 pub record BatchOutcome (files : ListNames) (choices : Choices) (held : List ℕ → Option (List ℕ))
@@ -87,6 +103,18 @@ abbrev pub OneGenerated : Type 0
 OneGenerated = (input : GenInput) (choices : Choices) (workers more : ℕ) (first second : Status) (text other : List ℕ)
     → GenOutcome input (by workers choices) first text → GenOutcome input (by more choices) second other
     → (first ≡ second) × (text ≡ other)
+
+-- those of stages are a function of the bytes, the stages, and of what the command chooses but for the workers
+abbrev pub OneStages : Type 0
+OneStages = (named others : StageNames) (choices : Choices) (workers more : ℕ) (held told : List ℕ → Option (List ℕ))
+    (catalog query : List ℕ) (first second : Status) (text other : List ℕ) → others.stages ≡ named.stages
+    → StagesOutcome named (by workers choices) held catalog query first text
+    → StagesOutcome others (by more choices) told catalog query second other → (first ≡ second) × (text ≡ other)
+
+-- with the rules of a stage off a text asks for the query in that stage, so it is bound once for all stages
+abbrev pub BindsOnce : Type 0
+BindsOnce = (catalog : Catalog) (options : Options) (text : List ℕ) (query : Query) (stage : Stage)
+    → Asks catalog options text query → Asks catalog (record options { off = stage.off }) text (query_in query stage)
 
 -- those of a batch are a function of the bytes, and of what the command chooses but for the workers
 abbrev pub OneBatch : Type 0

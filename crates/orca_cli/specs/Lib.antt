@@ -8,6 +8,7 @@ pub mod Prepared
 pub mod Sections
 pub mod Answers
 pub mod Batches
+pub mod Staged
 pub mod Run
 pub mod Views
 pub mod Items

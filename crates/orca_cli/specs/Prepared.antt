@@ -4,7 +4,7 @@ use Rattle.orca_base.specs.Causes.{Rose}
 use Rattle.query_core.specs.declared.catalog.Catalog.{Catalog}
 use Rattle.query_core.specs.declared.options.Options.{Options}
 use Rattle.query_core.specs.declared.query.Query.{Query}
-use Rattle.command_line.specs.Command.{FileNames, AnyTask, AnyCommand, plan, gen, batch}
+use Rattle.command_line.specs.Command.{FileNames, AnyTask, AnyCommand, plan, gen, stages, check, dump, replay, batch}
 use Rattle.command_line.specs.declared.choices.Choices.{Choices}
 use Rattle.command_line.specs.declared.command.GenInput.{GenInput}
 use Rattle.orca_cli.specs.Asked.{SaysCatalog, IsNoCatalog, Asks, IsRefused}
@@ -49,22 +49,40 @@ pub record FilesAsk (files : FileNames) (options : Options) (held : List ℕ →
     pub offers : Offers (held files.catalog) catalog
     pub asked : IsAskedAt catalog options (held files.query) query
 
--- the task asks for this query; a batch asks for none alone
+-- the task asks for the search of this query, and nothing else; most tasks ask for more, or for none
 abbrev pub IsAskedBy : AnyTask → Options → (List ℕ → Option (List ℕ)) → Query → Type 0
 IsAskedBy (plan files) options held query = FilesAsk files options held query
 IsAskedBy (gen input) options held query = IsGenerated input options query
+IsAskedBy (stages named) options held query = ⊥
+IsAskedBy (check named) options held query = ⊥
+IsAskedBy (dump files) options held query = ⊥
+IsAskedBy (replay file) options held query = ⊥
 IsAskedBy (batch files) options held query = ⊥
 
 -- what the query is made of, where it is generated
 abbrev pub generated_in : AnyTask → Option GenInput
 generated_in (plan files) = None
 generated_in (gen input) = Some input
+generated_in (stages named) = None
+generated_in (check named) = None
+generated_in (dump files) = None
+generated_in (replay file) = None
 generated_in (batch files) = None
 
--- the words are a command, and it asks for one worker
+-- the task is done by one worker, where no crew may be: stages never are
+abbrev pub IsForOne : AnyTask → Choices → Type 0
+IsForOne (plan files) choices = choices.workers ≡ 1
+IsForOne (gen input) choices = choices.workers ≡ 1
+IsForOne (stages named) choices = ⊥
+IsForOne (check named) choices = choices.workers ≡ 1
+IsForOne (dump files) choices = choices.workers ≡ 1
+IsForOne (replay file) choices = choices.workers ≡ 1
+IsForOne (batch files) choices = choices.workers ≡ 1
+
+-- the words are a command that one worker does
 abbrev pub AsksForOne : Option AnyCommand → Type 0
 AsksForOne None = ⊥
-AsksForOne (Some command) = command.choices.workers ≡ 1
+AsksForOne (Some command) = IsForOne command.task command.choices
 
 -- ---- how a run ends that searches nothing
 
@@ -108,11 +126,19 @@ pub data FilesStop (Refuses : Catalog → List ℕ → Status → List ℕ → T
   by_file : (catalog : Catalog) → Offers (shelf.held catalog_name) catalog
       → FileStops (Refuses catalog) name shelf status text → FilesStop Refuses catalog_name name shelf status text
 
+-- the files of a catalogue and of a query
+abbrev pub QueryStops : FileNames → Options → Reads → Status → List ℕ → Type 0
+QueryStops files options shelf status text =
+    FilesStop (λ catalog. IsQueryRefused catalog options) files.catalog files.query shelf status text
+
 -- a task that searches nothing, by what is chosen for it; what is generated is always searched
 abbrev pub TaskStops : AnyTask → Choices → Reads → Status → List ℕ → Type 0
-TaskStops (plan files) choices shelf status text =
-    FilesStop (λ catalog. IsQueryRefused catalog choices.options) files.catalog files.query shelf status text
+TaskStops (plan files) choices shelf status text = QueryStops files choices.options shelf status text
 TaskStops (gen input) choices shelf status text = ⊥
+TaskStops (stages named) choices shelf status text = QueryStops named.files choices.options shelf status text
+TaskStops (check named) choices shelf status text = IsUsage status text
+TaskStops (dump files) choices shelf status text = IsUsage status text
+TaskStops (replay file) choices shelf status text = IsUsage status text
 TaskStops (batch files) choices shelf status text =
     FilesStop (λ catalog. IsListRefused choices.capacity) files.catalog files.list shelf status text
 

@@ -6,11 +6,14 @@ use Rattle.query_core.specs.Catalog.{IsCatalog}
 use Rattle.query_core.specs.declared.options.Options.{Options}
 use Rattle.query_core.specs.declared.query.Query.{Query}
 use Rattle.request_props.specs.Numbered.{IsProps}
-use Rattle.command_line.specs.Command.{ListNames, AnyTask, AnyCommand, plan, gen, batch}
+use Rattle.command_line.specs.Command.{StageNames, ListNames, AnyTask, AnyCommand}
+use Rattle.command_line.specs.Command.{plan, gen, stages, check, dump, replay, batch}
+use Rattle.command_line.specs.HeldStages.{stages_read}
 use Rattle.command_line.specs.Views.{command_read}
 use Rattle.orca_cli.specs.Batches.{LineEnd}
-use Rattle.orca_cli.specs.Prepared.{AreTold, Offers, IsAskedBy}
+use Rattle.orca_cli.specs.Prepared.{AreTold, Offers, FilesAsk, IsAskedBy}
 use Rattle.orca_cli.specs.declared.asked.Asked.{Asked}
+use Rattle.orca_cli.specs.declared.asked.InStages.{InStages}
 use Rattle.orca_cli.specs.declared.asked.Listed.{Listed}
 use Rattle.orca_cli.specs.declared.asked.Wanted.{Wanted}
 use Rattle.orca_cli.specs.declared.asked.Work.{Work}
@@ -61,12 +64,37 @@ pub record AreListed (files : ListNames) (held : List ℕ → Option (List ℕ))
   pub offers : Offers (held files.catalog) listed.catalog
   pub told : AreTold (held files.list) listed.list.items
 
--- the task asks for this work: the search of a query, or of each line of a list
+-- a query is the one for which two files ask, and the stages are those of the command
+pub record AreStaged (named : StageNames) (options : Options) (held : List ℕ → Option (List ℕ)) (staged : InStages) :
+    Type 0 where
+  pub asks : FilesAsk named.files options held staged.asked.query
+  pub stages_are : stages_read staged.stages ≡ named.stages
+
+-- the task asks that this query be planned in these stages
+abbrev pub AsksInStages : AnyTask → Options → (List ℕ → Option (List ℕ)) → InStages → Type 0
+AsksInStages (plan files) options held staged = ⊥
+AsksInStages (gen input) options held staged = ⊥
+AsksInStages (stages named) options held staged = AreStaged named options held staged
+AsksInStages (check named) options held staged = ⊥
+AsksInStages (dump files) options held staged = ⊥
+AsksInStages (replay file) options held staged = ⊥
+AsksInStages (batch files) options held staged = ⊥
+
+-- the task asks that each line of this list be searched
+abbrev pub AsksForList : AnyTask → (List ℕ → Option (List ℕ)) → Listed → Type 0
+AsksForList (plan files) held listed = ⊥
+AsksForList (gen input) held listed = ⊥
+AsksForList (stages named) held listed = ⊥
+AsksForList (check named) held listed = ⊥
+AsksForList (dump files) held listed = ⊥
+AsksForList (replay file) held listed = ⊥
+AsksForList (batch files) held listed = AreListed files held listed
+
+-- the task asks for this work: the search of a query, a query planned in stages, or the search of each line of a list
 abbrev pub AsksFor : AnyTask → Options → (List ℕ → Option (List ℕ)) → Work → Type 0
 AsksFor task options held (works.Query asked) = IsAskedBy task options held asked.query
-AsksFor (plan files) options held (works.List listed) = ⊥
-AsksFor (gen input) options held (works.List listed) = ⊥
-AsksFor (batch files) options held (works.List listed) = AreListed files held listed
+AsksFor task options held (works.Stages staged) = AsksInStages task options held staged
+AsksFor task options held (works.List listed) = AsksForList task held listed
 
 -- the catalogue is one, and the list isn't too long
 pub record IsListed (listed : Listed) : Type 0 where
@@ -76,7 +104,14 @@ pub record IsListed (listed : Listed) : Type 0 where
 -- the work can be done
 abbrev pub IsReady : Work → Type 0
 IsReady (works.Query asked) = IsProps asked.query asked.props
+IsReady (works.Stages staged) = IsProps staged.asked.query staged.asked.props
 IsReady (works.List listed) = IsListed listed
+
+-- one worker does the work, where no crew may be
+abbrev pub IsWorkForOne : Work → ℕ → Type 0
+IsWorkForOne (works.Query asked) workers = workers ≡ 1
+IsWorkForOne (works.Stages staged) workers = ⊥
+IsWorkForOne (works.List listed) workers = workers ≡ 1
 
 -- the command is the one that the words are, and it asks for the work
 pub record IsWanted (named : Option AnyCommand) (held : List ℕ → Option (List ℕ)) (wanted : Wanted) : Type 0 where

@@ -1,5 +1,5 @@
 //! What a run is to search.
-use command_line::Command;
+use command_line::{Command, Stages};
 use query_core::{Catalog, Query};
 use request_props::Props;
 
@@ -8,6 +8,13 @@ use request_props::Props;
 pub struct Asked {
     pub query: Query,
     pub props: Props,
+}
+
+/// A query, what was found of it, and the stages in which it is to be planned.
+#[derive(Drop)]
+pub struct InStages {
+    pub asked: Asked,
+    pub stages: Stages,
 }
 
 /// A catalogue, and a list with a query over it on each line.
@@ -22,6 +29,8 @@ pub struct Listed {
 pub enum Work {
     /// One query.
     Query(Asked),
+    /// One query, in stages.
+    Stages(InStages),
     /// Each line of a list.
     List(Listed),
 }

@@ -1,21 +1,24 @@
 //! What follows from how commands are read, and how runs end.
 ghost use Rattle.orca_cli.specs.Causes.{EndsHaveCauses};
-ghost use Rattle.orca_cli.specs.Laws.{LinesAsPlanned, OneBatch, OneGenerated, OneOutcome};
+ghost use Rattle.orca_cli.specs.Laws.{BindsOnce, LinesAsPlanned, OneBatch, OneGenerated, OneOutcome, OneStages};
 
 use goal_children::goal_lists_are_known;
 use job_outcome::entries_fit_or_not;
 use job_trace::{memos_are_known, traces_are_known};
 use plan_space::least_is_one;
 use query_core::links_are_one;
+use stage_plan::stages_have_one_answer;
 use xform_rules::members_are_known;
 
 /// The status and the text of a run are determined by what the two files hold, as long as no read
 /// fails and memory lasts: no other run over the same bytes ends in another way, by however many
 /// workers, but for their numbers in the lines by worker. Those of `gen` are determined by what it is
-/// given. Those of a batch are too, and each of its lines ends as a plan of that line.
+/// given. Those of stages are determined by the files and the stages. Those of a batch are determined by its
+/// files, and each of its lines ends as a plan of that line.
 pub fn one_outcome()
     ensures outcome { OneOutcome }
     ensures generated { OneGenerated }
+    ensures stages { OneStages }
     ensures batch { OneBatch }
     ensures lines { LinesAsPlanned }
 {
@@ -27,7 +30,13 @@ pub fn one_outcome()
     memos_are_known();
     goal_lists_are_known();
     traces_are_known();
+    stages_have_one_answer();
 }
+
+/// A text is bound once for all stages: with the rules of a stage off it asks for the query in that stage.
+pub fn stages_are_bound_once()
+    ensures { BindsOnce }
+{}
 
 /// What follows from how a run ends: it is complete, and each status has its causes.
 pub fn endings_have_causes()

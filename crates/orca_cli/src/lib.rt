@@ -18,6 +18,8 @@ mod queries;
 mod reading;
 mod search;
 mod sections;
+mod stage_text;
+mod stages;
 mod status;
 mod text;
 mod top;
@@ -25,6 +27,6 @@ mod work;
 
 pub use ending::finished;
 pub use job_engine::RunNote;
-pub use laws::{endings_have_causes, one_outcome};
+pub use laws::{endings_have_causes, one_outcome, stages_are_bound_once};
 pub use status::Status;
-pub use top::{orca_alone, orca_run, put_usage};
+pub use top::{is_for_one, orca_alone, orca_run, put_usage};

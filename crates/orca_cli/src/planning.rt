@@ -37,7 +37,8 @@ pub fn planned(
     })
 }
 
-fn status_of(found: &Found) -> Status
+/// The status that goes with what was found.
+pub fn status_of(found: &Found) -> Status
     ensures { result ≡ status_for found.now }
 {
     match found {

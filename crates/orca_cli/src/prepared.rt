@@ -3,26 +3,26 @@ ghost use Rattle.std.specs.Prelude.{◌≡◌, ◌≤◌, ℕ, List, IfOk, IfErr
 ghost use Rattle.query_core.specs.Results.{AreOptions};
 ghost use Rattle.command_line.specs.Reading.{command_of};
 ghost use Rattle.command_line.specs.Options.{AreChoices};
-ghost use Rattle.command_line.specs.Views.{file_names, list_names, task_read};
+ghost use Rattle.command_line.specs.Views.{file_names, list_names, stage_names, task_read};
 ghost use Rattle.orca_cli.specs.Lists.{IsListRefused};
-ghost use Rattle.orca_cli.specs.Prepared.{FilesAsk, FilesStop, IsQueryRefused, Stops, TaskStops, reads};
+ghost use Rattle.orca_cli.specs.Prepared.{FilesAsk, FilesStop, QueryStops, Stops, TaskStops, reads};
 ghost use Rattle.orca_cli.specs.Texts.{usage_line};
-ghost use Rattle.orca_cli.specs.Views.{AreListed, AsksFor, EndsAs, EndsWith, IsAsked, IsListed, IsReady, IsWanted};
+ghost use Rattle.orca_cli.specs.Views.{AreListed, AreStaged, AsksFor, EndsAs, EndsWith, IsAsked, IsListed, IsReady, IsWanted};
 
-use crate::asked::{Asked, Listed, Wanted, Work};
+use crate::asked::{Asked, InStages, Listed, Wanted, Work};
 use crate::catalogs::catalog_of_file;
 use crate::ending::{End, Ending, line};
 use crate::generated::query_of_input;
 use crate::lists::list_of_file;
 use crate::queries::query_of_file;
 use crate::status::Status;
-use command_line::{Choices, Command, Files, ListFiles, Task, read_command};
+use command_line::{Choices, Command, Files, ListFiles, StageFiles, Task, read_command};
 use orca_io::Shelf;
 use query_core::Options;
 use std::alloc::{AllocError, Global};
 
 pub const USAGE: &str =
-    "usage: orca plan CATALOG QUERY [--workers N] [--capacity N] [--root one|spread] [--off RULE+RULE] [--memo] [--trace] [--by-worker] | orca gen NUMBER TABLES SHAPE [--workers N] [--capacity N] | orca batch CATALOG LIST [--workers N] [--capacity N] [--root one|spread] [--off RULE+RULE] [--memo] [--trace]\n";
+    "usage: orca plan CATALOG QUERY [--workers N] [--capacity N] [--root one|spread] [--off RULE+RULE] [--memo] [--trace] [--by-worker] | orca gen NUMBER TABLES SHAPE [--workers N] [--capacity N] | orca stages CATALOG QUERY STAGES [--workers N] [--capacity N] [--root one|spread] | orca batch CATALOG LIST [--workers N] [--capacity N] [--root one|spread] [--off RULE+RULE] [--memo] [--trace]\n";
 
 /// The command that the words are, and the work for which it asks; or how the run ends.
 pub fn prepared<'w, S: Shelf>(
@@ -76,6 +76,11 @@ fn work_of<S: Shelf>(
             Err(end) => Err(end),
         },
         Task::Gen(made) => Ok(Work::Query(query_of_input(alloc, made, choices.options)?)),
+        Task::Stages(named) => match staged_by_files(alloc, shelf, named, choices.options) {
+            Ok(staged) => Ok(Work::Stages(staged)),
+            Err(end) => Err(end),
+        },
+        Task::Check(_) | Task::Dump(_) | Task::Replay(_) => Err(End::Told(usage(alloc)?)),
         Task::Batch(files) => match listed_by_files(alloc, shelf, files, choices.capacity) {
             Ok(listed) => Ok(Work::List(listed)),
             Err(end) => Err(end),
@@ -93,14 +98,38 @@ fn asked_by_files<S: Shelf>(
     requires { AreOptions options }
     ensures asks { IfOk result
         (IsAsked (FilesAsk (file_names files.entry) options (S.held shelf.old))) }
-    ensures stops { IfErr result (EndsWith (FilesStop (λ catalog. IsQueryRefused catalog options)
-        files.entry.catalog.now files.entry.query.now
+    ensures stops { IfErr result (EndsWith (QueryStops (file_names files.entry) options
         (reads (S.held shelf.old) (S.faults shelf.old) (S.faults shelf.new)))) }
 
     ensures same { (n : List ℕ) → S.held shelf.new n ≡ S.held shelf.old n }
 {
     match catalog_of_file(alloc, shelf, files.catalog) {
         Ok(catalog) => query_of_file(alloc, shelf, files.query, &catalog, options),
+        Err(end) => Err(end),
+    }
+}
+
+// The query for which two files ask, and the stages of the command.
+fn staged_by_files<S: Shelf>(
+    alloc: Global,
+    shelf: &mut S,
+    named: StageFiles<'_>,
+    options: Options,
+) -> Result<InStages, End>
+    requires { AreOptions options }
+    ensures staged { IfOk result
+        (AreStaged (stage_names named.entry) options (S.held shelf.old)) }
+    ensures ready { IfOk result (λ staged. IsReady (Work.Stages staged)) }
+    ensures stops { IfErr result (EndsWith (QueryStops (file_names named.entry.files) options
+        (reads (S.held shelf.old) (S.faults shelf.old) (S.faults shelf.new)))) }
+
+    ensures same { (n : List ℕ) → S.held shelf.new n ≡ S.held shelf.old n }
+{
+    match asked_by_files(alloc, shelf, named.files, options) {
+        Ok(asked) => Ok(InStages {
+            asked,
+            stages: named.stages,
+        }),
         Err(end) => Err(end),
     }
 }

@@ -1,9 +1,10 @@
 //! The top call: words, files, query, search, ending, put.
-ghost use Rattle.std.specs.Prelude.{◌≡◌, ◌⊎◌, ℕ, List, None, map, string_bytes};
+ghost use Rattle.std.specs.Prelude.{◌≡◌, ◌↔◌, ◌⊎◌, ℕ, IsTrue, List, None, map, string_bytes};
 ghost use Rattle.command_line.specs.Reading.{command_of};
+ghost use Rattle.command_line.specs.Views.{task_read};
 ghost use Rattle.orca_cli.specs.Causes.{Completes};
 ghost use Rattle.orca_cli.specs.Run.{Ends, IsRun, puts};
-ghost use Rattle.orca_cli.specs.Prepared.{AsksForOne, IsUsage, reads};
+ghost use Rattle.orca_cli.specs.Prepared.{AsksForOne, IsForOne, IsUsage, reads};
 ghost use Rattle.orca_cli.specs.Views.{EndsAs, EndsWith, IsEndOf};
 
 use crate::ending::{End, Ending};
@@ -12,15 +13,16 @@ use crate::prepared::{USAGE, prepared};
 use crate::status::Status;
 use crate::text::put_texts;
 use crate::work::{done_alone, done_as_chosen};
+use command_line::{Choices, Task, read_command};
 use job_engine::RunNote;
 use orca_io::{Gate, Shelf, Sink};
 use std::alloc::Global;
 use std::sync::Wait;
 use std::thread::Threads;
 
-/// Does what the words of a command line ask for: reads the files on the shelf, searches the query, or
-/// each query of a list, by so many workers as the command chooses, and puts the text into the sink line
-/// by line. The text is made whole in memory first.
+/// Does what the words of a command line ask for: reads the files on the shelf, searches the query, plans
+/// it in stages, or searches each query of a list, by so many workers as the command chooses, and puts the
+/// text into the sink line by line. The text is made whole in memory first.
 pub fn orca_run<R: Threads + Wait + Sync, S: Shelf, K: Sink, G: Gate>(
     rt: &R,
     alloc: Global,
@@ -47,7 +49,7 @@ pub fn orca_run<R: Threads + Wait + Sync, S: Shelf, K: Sink, G: Gate>(
     put(out, end)
 }
 
-/// The part of `orca_run` for one worker. It returns.
+/// The part of `orca_run` for one worker, where no crew may be. It returns.
 pub fn orca_alone<S: Shelf, K: Sink>(
     alloc: Global,
     words: &[String],
@@ -71,6 +73,30 @@ pub fn orca_alone<S: Shelf, K: Sink>(
     endings_have_causes();
     let end = end_alone(alloc, words, shelf, note);
     put(out, end)
+}
+
+/// Whether the words are a command that one worker does, where no crew may be.
+pub fn is_for_one(words: &[String]) -> bool
+    ensures { IsTrue result ↔ AsksForOne (command_of (map string_bytes words.now)) }
+{
+    match read_command(words) {
+        Some(command) => is_task_for_one(command.task, command.choices),
+        None => false,
+    }
+}
+
+fn is_task_for_one(task: Task<'_>, choices: Choices) -> bool
+    ensures { IsTrue result ↔ IsForOne (task_read task.entry) choices }
+{
+    match task {
+        Task::Plan(_)
+        | Task::Gen(_)
+        | Task::Check(_)
+        | Task::Dump(_)
+        | Task::Replay(_)
+        | Task::Batch(_) => choices.workers == 1,
+        Task::Stages(_) => false,
+    }
 }
 
 /// Puts the line that says which commands there are, as for words that are none.
@@ -101,7 +127,7 @@ fn end_as_chosen<R: Threads + Wait + Sync, S: Shelf, G: Gate>(
     ensures same { (n : List ℕ) → S.held shelf.new n ≡ S.held shelf.old n }
 {
     match prepared(alloc, words, shelf) {
-        Ok(wanted) => done_as_chosen(rt, alloc, &wanted, gate, note),
+        Ok(mut wanted) => done_as_chosen(rt, alloc, &mut wanted, gate, note),
         Err(end) => end,
     }
 }

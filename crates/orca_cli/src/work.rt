@@ -1,15 +1,16 @@
 //! How a run ends that searches what its command asks for.
-ghost use Rattle.std.specs.Prelude.{◌≡◌, Option};
+ghost use Rattle.std.specs.Prelude.{◌≡◌, ◌↔◌, IsTrue, Option};
 ghost use Rattle.command_line.specs.Command.{AnyCommand};
 ghost use Rattle.command_line.specs.Views.{task_read};
 ghost use Rattle.orca_cli.specs.Prepared.{Reads, generated_in as input_of};
 ghost use Rattle.orca_cli.specs.Run.{IsRun};
-ghost use Rattle.orca_cli.specs.Views.{EndsWith, IsReady, IsWanted};
+ghost use Rattle.orca_cli.specs.Views.{EndsWith, IsReady, IsWanted, IsWorkForOne};
 
 use crate::asked::{Wanted, Work};
 use crate::batch::{batch_alone, batch_by_crew};
 use crate::ending::End;
 use crate::search::{searched_alone, searched_by_crew};
+use crate::stages::stages_ending;
 use command_line::{GenInput, Task};
 use job_engine::RunNote;
 use orca_io::Gate;
@@ -17,10 +18,10 @@ use std::alloc::{AllocError, Global};
 use std::sync::Wait;
 use std::thread::Threads;
 
-/// The end of a run whose work one worker does. It returns.
+/// The end of a run whose work one worker does, where no crew may be. It returns.
 pub fn done_alone(alloc: Global, wanted: &Wanted<'_>, note: &mut RunNote) -> End
     requires ready { IsReady wanted.now.work }
-    requires alone { wanted.now.command.choices.workers ≡ 1 }
+    requires alone { IsWorkForOne wanted.now.work wanted.now.command.choices.workers }
     ensures { (named : Option AnyCommand) (shelf : Reads) → IsWanted named shelf.held wanted.now
         → EndsWith (IsRun named shelf note.old note.new) result }
 {
@@ -33,6 +34,7 @@ pub fn done_alone(alloc: Global, wanted: &Wanted<'_>, note: &mut RunNote) -> End
                 Err(AllocError) => End::Memory,
             }
         }
+        Work::Stages(_) => unreachable!(),
         Work::List(listed) => match batch_alone(alloc, choices, listed) {
             Ok(ending) => End::Told(ending),
             Err(end) => end,
@@ -40,20 +42,20 @@ pub fn done_alone(alloc: Global, wanted: &Wanted<'_>, note: &mut RunNote) -> End
     }
 }
 
-// The same by a crew of as many workers as the command chooses.
+// The same by as many workers as the command chooses, where a crew may be.
 fn done_by_crew<R: Threads + Wait + Sync, G: Gate>(
     rt: &R,
     alloc: Global,
-    wanted: &Wanted<'_>,
+    wanted: &mut Wanted<'_>,
     gate: &G,
     note: &mut RunNote,
 ) -> End
-    requires ready { IsReady wanted.now.work }
-    ensures { (named : Option AnyCommand) (shelf : Reads) → IsWanted named shelf.held wanted.now
+    requires ready { IsReady wanted.old.work }
+    ensures { (named : Option AnyCommand) (shelf : Reads) → IsWanted named shelf.held wanted.old
         → EndsWith (IsRun named shelf note.old note.new) result }
 {
     let choices = wanted.command.choices;
-    match &wanted.work {
+    match &mut wanted.work {
         Work::Query(asked) => {
             let generated = generated_in(wanted.command.task);
             match searched_by_crew(rt, alloc, choices, generated, asked, gate, note) {
@@ -61,6 +63,10 @@ fn done_by_crew<R: Threads + Wait + Sync, G: Gate>(
                 Err(AllocError) => End::Memory,
             }
         }
+        Work::Stages(staged) => match stages_ending(rt, alloc, choices, staged, gate) {
+            Ok(ending) => End::Told(ending),
+            Err(AllocError) => End::Memory,
+        },
         Work::List(listed) => match batch_by_crew(rt, alloc, choices, listed, gate) {
             Ok(ending) => End::Told(ending),
             Err(end) => end,
@@ -69,22 +75,34 @@ fn done_by_crew<R: Threads + Wait + Sync, G: Gate>(
 }
 
 /// The end of a run by one worker where one is chosen, and else by so many. This is the one place where a run by one
-/// worker and a run by a crew part.
+/// worker and a run by a crew part; stages go the way of a crew, however many workers there are.
 pub fn done_as_chosen<R: Threads + Wait + Sync, G: Gate>(
     rt: &R,
     alloc: Global,
-    wanted: &Wanted<'_>,
+    wanted: &mut Wanted<'_>,
     gate: &G,
     note: &mut RunNote,
 ) -> End
-    requires { IsReady wanted.now.work }
-    ensures { (named : Option AnyCommand) (shelf : Reads) → IsWanted named shelf.held wanted.now
+    requires { IsReady wanted.old.work }
+    ensures { (named : Option AnyCommand) (shelf : Reads) → IsWanted named shelf.held wanted.old
         → EndsWith (IsRun named shelf note.old note.new) result }
 {
-    if wanted.command.choices.workers == 1 {
+    if wanted.is_for_one() {
         done_alone(alloc, wanted, note)
     } else {
         done_by_crew(rt, alloc, wanted, gate, note)
+    }
+}
+
+impl Wanted<'_> {
+    // Whether one worker does the work, where no crew may be.
+    fn is_for_one(&self) -> bool
+        ensures { IsTrue result ↔ IsWorkForOne self.now.work self.now.command.choices.workers }
+    {
+        match self.work {
+            Work::Query(_) | Work::List(_) => self.command.choices.workers == 1,
+            Work::Stages(_) => false,
+        }
     }
 }
 
@@ -94,6 +112,11 @@ fn generated_in(task: Task<'_>) -> Option<GenInput>
 {
     match task {
         Task::Gen(made) => Some(made.input),
-        Task::Plan(_) | Task::Batch(_) => None,
+        Task::Plan(_)
+        | Task::Stages(_)
+        | Task::Check(_)
+        | Task::Dump(_)
+        | Task::Replay(_)
+        | Task::Batch(_) => None,
     }
 }

@@ -3,6 +3,7 @@
 use command_line::*;
 use query_core::{Options, RootDist};
 use query_generator::GenShape;
+use query_stage::Stage;
 use std::alloc::{AllocError, Global};
 use std::test::Fail;
 
@@ -87,6 +88,82 @@ fn a_number_tables_and_a_shape_are_generated(rt: HostRuntime) -> Result<(), Fail
     Ok(())
 }
 
+// Whether three stages are named: one without JoinCommute and AggToHash and with the greatest threshold, one with all
+// rules, and one with all rules and the least threshold.
+fn has_three_stages(command: &Command<'_>) -> bool {
+    let choices = command.choices;
+    matches!(command.task, Task::Stages(named) if are_three_stages(named))
+        && choices.workers == 8
+        && choices.capacity == 64
+        && choices.options.root == RootDist::Spread
+}
+
+fn are_three_stages(named: StageFiles<'_>) -> bool {
+    let first = Stage {
+        off: 4100,
+        threshold: Some(100_000_000_000_000_000),
+    };
+    let second = Stage {
+        off: 0,
+        threshold: None,
+    };
+    let third = Stage {
+        off: 0,
+        threshold: Some(1),
+    };
+    named.files.catalog == "c.json"
+        && named.files.query == "q.sql"
+        && named.stages.as_slice() == [first, second, third].as_slice()
+}
+
+#[test]
+fn stages_have_rules_that_are_off_and_thresholds(rt: HostRuntime) -> Result<(), Fail> {
+    let line = "stages c.json q.sql --root spread AggToHash+JoinCommute@100000000000000000,all,all@1 --workers 8 --capacity 64";
+    let words = words_of(rt.alloc(), line)?;
+    assert!(rt; matches!(read_command(&words), Some(command) if has_three_stages(&command)));
+    Ok(())
+}
+
+// Whether a plan is checked with two options, which are all that a check takes.
+fn checks_a_plan(command: &Command<'_>) -> bool {
+    let options = Options {
+        root: RootDist::Spread,
+        off: 4,
+    };
+    matches!(command.task, Task::Check(named) if named.files.catalog == "c.json"
+        && named.files.query == "q.sql" && named.plan == "p.txt")
+        && command.choices.options == options
+}
+
+// Whether a dump keeps its five options.
+fn dumps_a_query(command: &Command<'_>) -> bool {
+    let choices = command.choices;
+    matches!(command.task, Task::Dump(files) if files.catalog == "c.json" && files.query == "q.sql")
+        && choices.capacity == 64
+        && choices.memo
+        && choices.trace
+        && choices.options.root == RootDist::Spread
+        && choices.options.off == 4
+}
+
+#[test]
+fn checks_dumps_and_replays_are_read(rt: HostRuntime) -> Result<(), Fail> {
+    let check = words_of(
+        rt.alloc(),
+        "check c.json --off JoinCommute q.sql p.txt --root spread",
+    )?;
+    assert!(rt; matches!(read_command(&check), Some(command) if checks_a_plan(&command)));
+    let dump = words_of(
+        rt.alloc(),
+        "dump c.json q.sql --memo --capacity 64 --trace --root spread --off JoinCommute",
+    )?;
+    assert!(rt; matches!(read_command(&dump), Some(command) if dumps_a_query(&command)));
+    let replay = words_of(rt.alloc(), "replay --workers 8 d.txt")?;
+    assert!(rt; matches!(read_command(&replay), Some(command)
+        if command.choices.workers == 8 && matches!(command.task, Task::Replay(file) if file == "d.txt")));
+    Ok(())
+}
+
 // The first line is empty.
 const OTHERS: &str = "
 plan c.json
@@ -122,6 +199,38 @@ gen 1 1
 gen 1 1 chain more
 gen 1 1 chain --memo
 gen 1 1 chain --workers 2 --workers 2
+stages c.json q.sql
+stages c.json q.sql all more
+stages c.json q.sql all --off JoinCommute
+stages c.json q.sql all --memo
+stages c.json q.sql All
+stages c.json q.sql all,
+stages c.json q.sql ,all
+stages c.json q.sql all,,all
+stages c.json q.sql all@
+stages c.json q.sql all@0
+stages c.json q.sql all@01
+stages c.json q.sql all@+1
+stages c.json q.sql all@1@1
+stages c.json q.sql all@100000000000000001
+stages c.json q.sql @1
+stages c.json q.sql ExpandNAry
+stages c.json q.sql JoinCommute+JoinCommute
+stages c.json q.sql JoinCommute+all
+stages c.json q.sql JoinCommute+
+stages c.json q.sql all,all,all,all,all,all,all,all,all
+check c.json q.sql
+check c.json q.sql p.txt more
+check c.json q.sql p.txt --workers 2
+check c.json q.sql p.txt --capacity 64
+dump c.json
+dump c.json q.sql more
+dump c.json q.sql --workers 2
+dump c.json q.sql --by-worker
+replay
+replay d.txt more
+replay d.txt --capacity 64
+replay d.txt --root one
 ";
 
 // Whether the words of the line are no command.

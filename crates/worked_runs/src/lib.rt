@@ -22,4 +22,6 @@ mod option_tests;
 #[cfg(test)]
 mod runs;
 #[cfg(test)]
+mod stages_tests;
+#[cfg(test)]
 mod tests;

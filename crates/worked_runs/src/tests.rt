@@ -3,8 +3,7 @@ use crate::runs::{
     EMPTY, EMPTY_MEMO, EMPTY_PLAN, PLAN, TWO_TABLES, assert_catalog_fault, assert_planned,
     assert_plans, assert_printed, assert_query_fault, assert_sections, printed, shelf_of, words_of,
 };
-use command_line::read_command;
-use orca_cli::{RunNote, Status, orca_alone};
+use orca_cli::{RunNote, Status, is_for_one, orca_alone};
 use orca_io::{MemShelf, MemSink};
 use std::alloc::{AllocGlobal, Global};
 use std::process::Abort;
@@ -293,13 +292,11 @@ pub fn alone(
     shelf: &mut MemShelf,
     sink: &mut MemSink,
 ) -> Option<Status> {
-    match read_command(words) {
-        Some(command) if command.choices.workers == 1 => {
-            let mut note = RunNote::new();
-            Some(orca_alone(alloc, words, shelf, sink, &mut note))
-        }
-        _ => None,
+    if !is_for_one(words) {
+        return None;
     }
+    let mut note = RunNote::new();
+    Some(orca_alone(alloc, words, shelf, sink, &mut note))
 }
 
 #[test]

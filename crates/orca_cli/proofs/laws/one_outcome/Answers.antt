@@ -6,6 +6,7 @@ use Rattle.plan_space.specs.Least.{IsLeastPlan}
 use Rattle.orca_cli.proofs.OneAnswer.{one_answer_of}
 use Rattle.orca_cli.proofs.Outcomes.{one_outcome_of, one_generated_of, one_batch_of, lines_as_planned}
 use Rattle.orca_cli.proofs.SectionTexts.{OneSections}
+use Rattle.orca_cli.proofs.StagedOutcomes.{one_stages_of}
 use Rattle.orca_cli.proofs.laws.one_outcome.Goals as goal
 
 -- a text has one reading, a query one list of links, one least plan, one closure and one list of goals, and it has room
@@ -28,6 +29,7 @@ returns c =
     record {
       outcome = one_outcome_of answer sections least;
       generated = one_generated_of answer sections least;
+      stages = one_stages_of answer c.stages_have_one_answer.ensures;
       batch = one_batch_of answer sections least;
       lines = lines_as_planned answer sections least;
     }

@@ -1,6 +1,6 @@
 use Rattle.orca_cli.specs.Lists.{IsListRefused}
 use Rattle.orca_cli.specs.Run.{IsRun}
-use Rattle.orca_cli.proofs.Ended.{ends_then, query_run, refused_run}
+use Rattle.orca_cli.proofs.Ended.{ends_then, query_run, staged_run, refused_run}
 use Rattle.orca_cli.proofs.work.done_by_crew.Goals as goal
 
 -- the query was searched
@@ -8,6 +8,12 @@ pub returns-in-Ok : goal.returns-in-Ok
 returns-in-Ok g c = λ named shelf is.
     query_run named shelf c.args.note.now c.searched_by_crew.new.note c.args.wanted.now c.in-Query.asked
     c.generated_in-generated.result _ _ c.in-Query.is is c.generated_in-generated.ensures c.in-Ok.ensures
+
+-- the query was planned in stages
+pub returns-in-Ok-stages_ending : goal.returns-in-Ok-stages_ending
+returns-in-Ok-stages_ending g c = λ named shelf is.
+    staged_run named shelf c.args.note.now c.args.wanted.now c.in-Stages.staged _ _ c.in-Stages.is is
+    c.in-Ok-stages_ending.ensures
 
 -- the list was refused
 pub returns-in-Err-batch_by_crew : goal.returns-in-Err-batch_by_crew
