@@ -33,12 +33,17 @@ fn indent(alloc: Global, depth: usize) -> Result<String, AllocError> {
     Ok(spaces)
 }
 
-// The columns by which a node works, each behind a space.
+// The columns by which a node works, if it has any.
 fn names(alloc: Global, columns: &[PlanColumn]) -> Result<String, AllocError> {
     let mut text = String::new(alloc);
+    let mut before = " (";
     for column in columns {
-        text.push_str(" ")?;
+        text.push_str(before)?;
         text.push_str(column.name.as_str())?;
+        before = ", ";
+    }
+    if !columns.is_empty() {
+        text.push_str(")")?;
     }
     Ok(text)
 }
@@ -50,7 +55,7 @@ fn enforcer_name(enforcer: Enforcer) -> &'static str {
         Enforcer::Broadcast => "copy to all segments",
         Enforcer::Sort(_) => "sort",
         Enforcer::GatherMerge(_) => "merge from all segments",
-        Enforcer::Redistribute(_) => "send by hash of",
+        Enforcer::Redistribute(_) => "send by hash",
     }
 }
 
