@@ -118,7 +118,8 @@ fn are_three_stages(named: StageFiles<'_>) -> bool {
 
 #[test]
 fn stages_have_rules_that_are_off_and_thresholds(rt: HostRuntime) -> Result<(), Fail> {
-    let line = "stages c.json q.sql --root spread AggToHash+JoinCommute@100000000000000000,all,all@1 --workers 8 --capacity 64";
+    let line =
+        "stages c.json q.sql --root spread AggToHash+JoinCommute@100000000000000000,all,all@1 --workers 8 --capacity 64";
     let words = words_of(rt.alloc(), line)?;
     assert!(rt; matches!(read_command(&words), Some(command) if has_three_stages(&command)));
     Ok(())
@@ -159,8 +160,10 @@ fn checks_dumps_and_replays_are_read(rt: HostRuntime) -> Result<(), Fail> {
     )?;
     assert!(rt; matches!(read_command(&dump), Some(command) if dumps_a_query(&command)));
     let replay = words_of(rt.alloc(), "replay --workers 8 d.txt")?;
-    assert!(rt; matches!(read_command(&replay), Some(command)
-        if command.choices.workers == 8 && matches!(command.task, Task::Replay(file) if file == "d.txt")));
+    assert!(rt;
+        matches!(read_command(&replay), Some(command)
+        if command.choices.workers == 8 && matches!(command.task, Task::Replay(file) if file == "d.txt"))
+    );
     Ok(())
 }
 

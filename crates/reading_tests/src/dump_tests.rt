@@ -7,7 +7,7 @@ use catalog_json::read_catalog;
 use dump_replay::{Dump, DumpFault, DumpOptions, dump_text, read_dump};
 use query_core::{Options, RootDist};
 use sql_reader::read_sql;
-use std::alloc::{AllocError, Global};
+use std::alloc::{AllocError, AllocGlobal, Global};
 use std::process::Abort;
 use std::test::Fail;
 
@@ -139,7 +139,7 @@ const CHANGED: [(&str, &str, &str); 28] = [
     ("print memo", "print memo memo", "line 4"),
     ("catalog {", "catalog \n{", "line 6"),
     ("catalog {", "catalog{", "line 5"),
-    ("query SELECT", "query", "line 6"),
+    ("query SELECT", "query:SELECT", "line 6"),
     ("query SELECT", "query \nSELECT", "read"),
     (" ORDER BY T1.a\n", "", "line 6"),
     ("query SELECT", "SELECT", "line 6"),
@@ -177,7 +177,7 @@ fn a_text_that_ends_early_lacks_a_line(rt: HostRuntime) -> Result<(), Fail> {
 }
 
 // Asserts what is said of a dump of this length, whose query has line feeds alone.
-fn assert_length(rt: &HostRuntime, length: usize, wanted: &str) -> Result<(), Fail> {
+fn assert_length(rt: &(impl Abort + AllocGlobal), length: usize, wanted: &str) -> Result<(), Fail> {
     let alloc = rt.alloc();
     let front = "orca dump 1\ncapacity 64\nroot one\noff\nprint\ncatalog \nquery ";
     let feeds = "\n".repeat(alloc, length.saturating_sub(front.len()))?;

@@ -38,13 +38,7 @@ fn assert_staged<R: Threads + Wait + Sync + AllocGlobal + Abort>(
     text: &str,
 ) -> Result<(), Fail> {
     for workers in ["1", "8"] {
-        let line = [
-            "stages c.json q.sql ",
-            stages,
-            " --workers ",
-            workers,
-        ]
-        .concat(rt.alloc())?;
+        let line = ["stages c.json q.sql ", stages, " --workers ", workers].concat(rt.alloc())?;
         let (catalog, query) = (TWO_TABLES.as_bytes(), JOIN.as_bytes());
         assert_printed(rt, &line, catalog, query, status, text)?;
     }
@@ -53,26 +47,49 @@ fn assert_staged<R: Threads + Wait + Sync + AllocGlobal + Abort>(
 
 #[test]
 fn a_plan_that_is_not_enough_leads_to_the_next_stage(rt: HostRuntime) -> Result<(), Fail> {
-    let text = ["stages ran=2\nstage 0 cost 259506\nstage 1 cost 7506\n", HASH_JOIN].concat(rt.alloc())?;
-    assert_staged(&rt, "JoinToHash+JoinToMerge@7000,all", Status::Planned, &text)
+    let text = [
+        "stages ran=2\nstage 0 cost 259506\nstage 1 cost 7506\n",
+        HASH_JOIN,
+    ]
+    .concat(rt.alloc())?;
+    assert_staged(
+        &rt,
+        "JoinToHash+JoinToMerge@7000,all",
+        Status::Planned,
+        &text,
+    )
 }
 
 #[test]
 fn a_plan_below_the_threshold_is_enough(rt: HostRuntime) -> Result<(), Fail> {
     let text = ["stages ran=1\nstage 0 cost 259506\n", LOOP_JOIN].concat(rt.alloc())?;
-    assert_staged(&rt, "JoinToHash+JoinToMerge@300000,all", Status::Planned, &text)
+    assert_staged(
+        &rt,
+        "JoinToHash+JoinToMerge@300000,all",
+        Status::Planned,
+        &text,
+    )
 }
 
 #[test]
 fn a_cost_at_the_threshold_is_not_enough(rt: HostRuntime) -> Result<(), Fail> {
-    let text = ["stages ran=2\nstage 0 cost 7506\nstage 1 cost 9257\n", HASH_JOIN].concat(rt.alloc())?;
+    let text = [
+        "stages ran=2\nstage 0 cost 7506\nstage 1 cost 9257\n",
+        HASH_JOIN,
+    ]
+    .concat(rt.alloc())?;
     assert_staged(&rt, "all@7506,JoinToHash", Status::Planned, &text)
 }
 
 #[test]
 fn a_stage_may_have_no_plan(rt: HostRuntime) -> Result<(), Fail> {
     let text = "stages ran=1\nstage 0 no plan\nno plan\n";
-    assert_staged(&rt, "JoinToHash+JoinToMerge+JoinToLoop", Status::NoPlan, text)
+    assert_staged(
+        &rt,
+        "JoinToHash+JoinToMerge+JoinToLoop",
+        Status::NoPlan,
+        text,
+    )
 }
 
 #[test]
@@ -91,14 +108,33 @@ fn what_plan_refuses_stages_refuse(rt: HostRuntime) -> Result<(), Fail> {
     let text = "catalog refused: not JSON\n";
     assert_printed(&rt, line, b"{", query, Status::CatalogRefused, text)?;
     let text = "query refused: unknown table at 14\n";
-    assert_printed(&rt, line, catalog, b"SELECT a FROM t", Status::QueryRefused, text)
+    assert_printed(
+        &rt,
+        line,
+        catalog,
+        b"SELECT a FROM t",
+        Status::QueryRefused,
+        text,
+    )
 }
 
 #[test]
 fn a_wrong_word_of_stages_is_no_command(rt: HostRuntime) -> Result<(), Fail> {
-    for stages in ["all@0", "all,", "ExpandNAry", "all@100000000000000001", "all,all,all,all,all,all,all,all,all"] {
+    for stages in [
+        "all@0",
+        "all,",
+        "ExpandNAry",
+        "all@100000000000000001",
+        "all,all,all,all,all,all,all,all,all",
+    ] {
         let line = ["stages c.json q.sql ", stages].concat(rt.alloc())?;
-        let told = printed(&rt, &line, TWO_TABLES.as_bytes(), JOIN.as_bytes(), Status::Usage)?;
+        let told = printed(
+            &rt,
+            &line,
+            TWO_TABLES.as_bytes(),
+            JOIN.as_bytes(),
+            Status::Usage,
+        )?;
         assert!(rt; told.starts_with("usage: orca plan "), "{stages}");
     }
     Ok(())
