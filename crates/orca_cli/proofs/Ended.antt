@@ -8,6 +8,7 @@ use Rattle.command_line.specs.declared.choices.Choices.{Choices}
 use Rattle.command_line.specs.declared.command.GenInput.{GenInput}
 use Rattle.orca_cli.specs.Answers.{Note, IsSearchEnd}
 use Rattle.orca_cli.specs.Batches.{IsBatch}
+use Rattle.orca_cli.specs.Checked.{IsCheckEnd}
 use Rattle.orca_cli.specs.Lists.{IsListRefused}
 use Rattle.orca_cli.specs.Prepared.{Reads, generated_in, IsAskedBy, IsForOne, AsksForOne, unusable, by_file, Stops}
 use Rattle.orca_cli.specs.Run.{IsEnding, answered, own_end, stopped, IsRun, Puts, Ends, whole, cut_short, nothing}
@@ -16,6 +17,7 @@ use Rattle.orca_cli.specs.Staged.{IsStagedEnd}
 use Rattle.orca_cli.specs.Views.{EndsAs, EndsWith, IsEndOf, text_of, AreListed, AsksInStages, AsksFor, IsWorkForOne}
 use Rattle.orca_cli.specs.Views.{IsWanted}
 use Rattle.orca_cli.specs.declared.asked.Asked.{Asked}
+use Rattle.orca_cli.specs.declared.asked.Checked.{Checked}
 use Rattle.orca_cli.specs.declared.asked.InStages.{InStages}
 use Rattle.orca_cli.specs.declared.asked.Listed.{Listed}
 use Rattle.orca_cli.specs.declared.asked.Wanted.{Wanted}
@@ -129,6 +131,31 @@ staged_run named shelf note wanted staged status text work is end =
     of_task (replay file) asks = absurd asks
     of_task (batch files) asks = absurd asks
 
+-- a run that checked a text, which leaves the note as it was
+pub checked_run : (named : Option AnyCommand) (shelf : Reads) (note : Note) (wanted : Wanted) (checked : Checked)
+    (status : Status) (text : List ℕ) → wanted.work ≡ works.Check checked → IsWanted named shelf.held wanted
+    → IsCheckEnd checked.asked.query checked.plan.items status text → IsRun named shelf note note status text
+checked_run named shelf note wanted checked status text work is end =
+    subst (λ n. IsRun n shelf note note status text) (sym is.named_is)
+    (of_task (task_read wanted.command.task) (subst (AsksFor (task_read wanted.command.task)
+    wanted.command.choices.options shelf.held) work is.asks_for))
+  where
+    of_task : (task : AnyTask) → AsksFor task wanted.command.choices.options shelf.held (works.Check checked)
+        → IsEnding (record { task = task; choices = wanted.command.choices }) shelf note note status text
+    of_task (plan files) asks = absurd asks
+    of_task (gen input) asks = absurd asks
+    of_task (stages named) asks = absurd asks
+    of_task (check named) asks = own_end (record {
+      query = checked.asked.query;
+      asks = asks.asks;
+      plan = checked.plan.items;
+      told = asks.told;
+      end = end;
+    }) refl
+    of_task (dump files) asks = absurd asks
+    of_task (replay file) asks = absurd asks
+    of_task (batch files) asks = absurd asks
+
 -- a command that one worker does asks for work that one does
 pub work_for_one : (named : Option AnyCommand) (held : List ℕ → Option (List ℕ)) (wanted : Wanted) → AsksForOne named
     → IsWanted named held wanted → IsWorkForOne wanted.work wanted.command.choices.workers
@@ -162,6 +189,7 @@ work_for_one named held wanted alone is =
         → IsForOne (task_read wanted.command.task) choices → IsWorkForOne work choices.workers
     of_work (works.Query asked) asks for_one = one_worker (task_read wanted.command.task) for_one
     of_work (works.Stages staged) asks for_one = never_staged (task_read wanted.command.task) staged asks for_one
+    of_work (works.Check checked) asks for_one = one_worker (task_read wanted.command.task) for_one
     of_work (works.List listed) asks for_one = one_worker (task_read wanted.command.task) for_one
 
 -- the end of a run that searched nothing, and left the note as it was

@@ -2,20 +2,21 @@
 use Rattle.std.proofs.Common.{◌≡◌, List, [], ◌∷◌, ℕ, refl, inl, inr}
 use Rattle.query_core.specs.declared.options.Options.{Options}
 use Rattle.query_core.specs.declared.query.Query.{Query}
-use Rattle.command_line.specs.Command.{FileNames, ListNames, AnyTask, AnyCommand}
+use Rattle.command_line.specs.Command.{FileNames, PlanNames, ListNames, AnyTask, AnyCommand}
 use Rattle.command_line.specs.Command.{plan, gen, stages, check, dump, replay, batch}
 use Rattle.command_line.specs.declared.choices.Choices.{Choices}
 use Rattle.orca_cli.specs.Answers.{Note, IsSearchEnd, planned, unplanned, too_many}
 use Rattle.orca_cli.specs.Causes.{OneRose, ReadRose}
 use Rattle.orca_cli.specs.Causes.{IsNotThere}
+use Rattle.orca_cli.specs.Checked.{IsCheckEnd, priced, faulty}
 use Rattle.orca_cli.specs.Prepared.{Reads, generated_in, QueryStops, TaskStops, unread, unusable}
-use Rattle.orca_cli.specs.Prepared.{by_catalog, by_file}
+use Rattle.orca_cli.specs.Prepared.{by_catalog, by_file, by_query, by_plan}
 use Rattle.orca_cli.specs.Run.{IsOwnEnd, IsEnding, answered, own_end, stopped}
 use Rattle.orca_cli.specs.Sections.{Tells}
 use Rattle.orca_cli.specs.Status.{IsOneOf, searched, finished}
 use Rattle.orca_cli.specs.declared.status.Status.{Status}
 use Rattle.orca_cli.specs.declared.status.Status.TheVariants.{Usage, QueryRefused, CatalogRefused}
-use Rattle.orca_cli.specs.declared.status.Status.TheVariants.{ReadFault, WriteFault, BatchRefused}
+use Rattle.orca_cli.specs.declared.status.Status.TheVariants.{ReadFault, WriteFault, PlanRefused, BatchRefused}
 use Rattle.orca_cli.proofs.StagedEnds.{staged_status}
 
 -- ---- the statuses of endings
@@ -33,6 +34,7 @@ pub data EndedBy (task : AnyTask) (shelf : Reads) (status : Status) : Type 0 whe
   by_refusal : IsOneOf (QueryRefused ∷ CatalogRefused ∷ []) status → EndedBy task shelf status
   by_list : status ≡ BatchRefused → (files : ListNames) → task ≡ batch files → EndedBy task shelf status
   by_fault : status ≡ ReadFault → ReadRose task shelf → EndedBy task shelf status
+  by_plan_text : status ≡ PlanRefused → (named : PlanNames) → task ≡ check named → EndedBy task shelf status
   by_words : status ≡ Usage → IsNotThere task → EndedBy task shelf status
 
 -- the files of a catalogue and of a query that the task reads
@@ -55,7 +57,11 @@ stop_status (plan files) choices shelf status text stop =
 stop_status (gen input) choices shelf status text stop = absurd stop
 stop_status (stages named) choices shelf status text stop =
     query_stop_status (stages named) named.files choices.options shelf status text (λ rose. rose) stop
-stop_status (check named) choices shelf status text stop = by_words stop.0 tt
+stop_status (check named) choices shelf status text (by_query stop) =
+    query_stop_status (check named) named.files choices.options shelf status text (λ rose. inl rose) stop
+stop_status (check named) choices shelf status text (by_plan query asks (unread is)) = by_fault is.fault (inr is.rose)
+stop_status (check named) choices shelf status text (by_plan query asks (unusable bytes told why)) =
+    by_plan_text why.refused named refl
 stop_status (dump files) choices shelf status text stop = by_words stop.0 tt
 stop_status (replay file) choices shelf status text stop = by_words stop.0 tt
 stop_status (batch files) choices shelf status text (by_catalog (unread is)) = by_fault is.fault (inl is.rose)
@@ -66,14 +72,18 @@ stop_status (batch files) choices shelf status text (by_file catalog offers (unr
 stop_status (batch files) choices shelf status text (by_file catalog offers (unusable bytes told why)) =
     by_list why.refused files refl
 
--- stages end as a search, and a batch as one that found a plan
+-- stages end as a search, and a batch and the check of a valid plan as one that found a plan
 own_status : (task : AnyTask) (choices : Choices) (shelf : Reads) (status : Status) (text : List ℕ)
     → IsOwnEnd task choices shelf.held status text → EndedBy task shelf status
 own_status (plan files) choices shelf status text own = absurd own
 own_status (gen input) choices shelf status text own = absurd own
 own_status (stages named) choices shelf status text own =
     by_search (staged_status own.query choices.capacity named.stages status text own.end)
-own_status (check named) choices shelf status text own = absurd own
+own_status (check named) choices shelf status text own = of_end own.end
+  where
+    of_end : IsCheckEnd own.query own.plan status text → EndedBy (check named) shelf status
+    of_end (priced is cost good line) = by_search (inl is)
+    of_end (faulty is fault lasts has line) = by_plan_text is named refl
 own_status (dump files) choices shelf status text own = absurd own
 own_status (replay file) choices shelf status text own = absurd own
 own_status (batch files) choices shelf status text own = by_search (inl own.is_batch.done)
@@ -107,6 +117,7 @@ module _ (task : AnyTask) (shelf : Reads) (status : Status) where
   usage_of (by_refusal (inr (inr none))) other = absurd none
   usage_of (by_list is files task) other = cc
   usage_of (by_fault is rose) other = cc
+  usage_of (by_plan_text is named_files task) other = cc
   usage_of (by_words is there) other = there
 
   -- nor of a sink that failed
@@ -120,6 +131,7 @@ module _ (task : AnyTask) (shelf : Reads) (status : Status) where
   never_write (by_refusal (inr (inr none))) other = absurd none
   never_write (by_list is files task) other = cc
   never_write (by_fault is rose) other = cc
+  never_write (by_plan_text is named_files task) other = cc
   never_write (by_words is there) other = cc
 
   -- that of a read fault has a count that rose
@@ -133,6 +145,7 @@ module _ (task : AnyTask) (shelf : Reads) (status : Status) where
   read_rose (by_refusal (inr (inr none))) fault = absurd none
   read_rose (by_list is files task) fault = cc
   read_rose (by_fault is rose) fault = rose
+  read_rose (by_plan_text is named_files task) fault = cc
   read_rose (by_words is there) fault = cc
 
   -- that of a refused list is a batch's
@@ -146,4 +159,19 @@ module _ (task : AnyTask) (shelf : Reads) (status : Status) where
   list_of (by_refusal (inr (inr none))) refused = absurd none
   list_of (by_list is files task) refused = (files, task)
   list_of (by_fault is rose) refused = cc
+  list_of (by_plan_text is named_files task) refused = cc
   list_of (by_words is there) refused = cc
+
+  -- and that of a text that is no plan is a check's
+  pub plan_text_of : EndedBy task shelf status → status ≡ PlanRefused → (named : PlanNames) × (task ≡ check named)
+  plan_text_of (by_search (inl is)) refused = cc
+  plan_text_of (by_search (inr (inl is))) refused = cc
+  plan_text_of (by_search (inr (inr (inl is)))) refused = cc
+  plan_text_of (by_refusal (inl is)) refused = cc
+  plan_text_of (by_refusal (inr (inl is))) refused = cc
+  plan_text_of (by_search (inr (inr (inr none)))) refused = absurd none
+  plan_text_of (by_refusal (inr (inr none))) refused = absurd none
+  plan_text_of (by_list is files task) refused = cc
+  plan_text_of (by_fault is rose) refused = cc
+  plan_text_of (by_plan_text is named_files task) refused = (named_files, task)
+  plan_text_of (by_words is there) refused = cc

@@ -24,17 +24,18 @@ use Rattle.sql_bind.specs.declared.fault.BindFault.TheVariants as names
 use Rattle.request_props.specs.Numbered.{IsRefusedFor}
 use Rattle.request_props.specs.declared.fault.PropsFault.{PropsFault}
 use Rattle.request_props.specs.declared.fault.PropsFault.TheVariants as limits
+use Rattle.text_check.specs.declared.text_fault.TextFault.TheVariants as plans
 use Rattle.command_line.specs.Command.{FileNames}
 use Rattle.orca_cli.specs.Asked.{IsNoCatalog, IsBoundAs, IsUnread, IsUnbound, IsUnnumbered, IsRefused}
 use Rattle.orca_cli.specs.Prepared.{Reads, reads, AreTold, Offers, IsAskedAt, FilesAsk, IsCatalogRefused, IsQueryRefused}
 use Rattle.orca_cli.specs.Lists.{lines_of, are_too_many, IsListRefused}
-use Rattle.orca_cli.specs.Prepared.{IsReadFault, FileStops, unread, unusable, FilesStop, by_catalog, by_file}
+use Rattle.orca_cli.specs.Prepared.{IsReadFault, IsPlanTooLong, FileStops, unread, unusable, FilesStop, by_catalog, by_file}
 use Rattle.orca_cli.specs.Texts as texts
 use Rattle.orca_cli.specs.Views.{EndsAs, EndsWith, text_of}
 use Rattle.orca_cli.specs.declared.ending.End.{End}
 use Rattle.orca_cli.specs.declared.ending.Ending.{Ending}
 use Rattle.orca_cli.specs.declared.status.Status.{Status}
-use Rattle.orca_cli.specs.declared.status.Status.TheVariants.{QueryRefused, CatalogRefused, BatchRefused}
+use Rattle.orca_cli.specs.declared.status.Status.TheVariants.{QueryRefused, CatalogRefused, PlanRefused, BatchRefused}
 use Rattle.orca_cli.proofs.Ended.{ends_then}
 
 -- what holds of a status and a text holds of an ending that has them
@@ -89,6 +90,11 @@ long_list capacity bytes long = record {
   caused = rw (lt-ltb 1048576 (length bytes) long) refl;
   line = refl;
 }
+
+-- and as no text of a plan
+pub long_plan : (bytes : List ℕ) → 1048576 < length bytes
+    → IsPlanTooLong bytes PlanRefused (texts.plan_refused (texts.plan_cause plans.TooLong))
+long_plan bytes long = record { refused = refl; long = long; line = refl }
 
 -- a list with too many lines for the capacity
 pub crowded_list : (capacity count : ℕ) (bytes : List ℕ) → length bytes ≤ 1048576

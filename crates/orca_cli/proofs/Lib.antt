@@ -7,6 +7,7 @@ pub mod Files
 pub mod Searching
 pub mod OneAnswer
 pub mod StagedEnds
+pub mod CheckedEnds
 pub mod EndingStatuses
 pub mod Causes
 pub mod Ended
@@ -17,3 +18,4 @@ pub mod Made
 pub mod FirstLines
 pub mod Outcomes
 pub mod StagedOutcomes
+pub mod CheckOutcomes

@@ -66,7 +66,7 @@ module _ (catalog_name name : List ℕ) (shelf : Reads) (catalog : Catalog) (ask
       one_catalog holds.bytes other catalog says holds.says
 
   -- what stops a run is a refusal of the text, where no count rose
-  refused_there : (Refuses : Catalog → List ℕ → Status → List ℕ → Type 0) (status : Status) (text : List ℕ)
+  pub refused_there : (Refuses : Catalog → List ℕ → Status → List ℕ → Type 0) (status : Status) (text : List ℕ)
       → FilesStop Refuses catalog_name name shelf status text → (OneRose shelf catalog_name name → ⊥)
       → Refuses catalog asked status text
   refused_there Refuses status text (by_catalog (unread is)) no_read = absurd (no_read (inl is.rose))
@@ -79,7 +79,7 @@ module _ (catalog_name name : List ℕ) (shelf : Reads) (catalog : Catalog) (ask
       (subst (λ t. Refuses other t status text) (told_one (shelf.held name) bytes asked told holds.text_told) why)
 
 -- the query for which two files ask is the one for which the text asks that they hold
-asked_there : (files : FileNames) (options : Options) (shelf : Reads) (catalog : Catalog) (asked : List ℕ)
+pub asked_there : (files : FileNames) (options : Options) (shelf : Reads) (catalog : Catalog) (asked : List ℕ)
     → Holds files.catalog files.query shelf.held catalog asked → (query : Query)
     → FilesAsk files options shelf.held query → Asks catalog options asked query
 asked_there files options shelf catalog asked holds query asks =

@@ -1,14 +1,17 @@
 -- When a run is sure to be answered, and which causes its status has.
-use Rattle.std.specs.Prelude.{◌≡◌, ◌⊎◌, ℕ, ⊤, List, Option, None, Some, map}
+use Rattle.std.specs.Prelude.{◌≡◌, ◌≢◌, ◌⊎◌, ℕ, ⊤, List, Option, None, Some, map}
 use Rattle.std.specs.List.{All}
 use Rattle.orca_base.specs.Causes.{Rose}
 use Rattle.query_core.specs.declared.catalog.Catalog.{Catalog}
 use Rattle.query_core.specs.declared.options.Options.{Options}
 use Rattle.query_core.specs.declared.query.Query.{Query}
 use Rattle.job_outcome.specs.Outcomes.{HasMoreEntries}
+use Rattle.text_check.specs.Outcome.{IsGoodText, HasFault}
+use Rattle.text_check.specs.declared.text_fault.TextFault.{TextFault}
+use Rattle.text_check.specs.declared.text_fault.TextFault.TheVariants as faults
 use Rattle.query_stage.specs.declared.stage.Stage.{Stage}
 use Rattle.stage_plan.specs.Stages.{query_in}
-use Rattle.command_line.specs.Command.{FileNames, StageNames, ListNames, AnyTask, AnyCommand}
+use Rattle.command_line.specs.Command.{FileNames, StageNames, PlanNames, ListNames, AnyTask, AnyCommand}
 use Rattle.command_line.specs.Command.{plan, gen, stages, check, dump, replay, batch}
 use Rattle.command_line.specs.HeldStages.{stage_read}
 use Rattle.command_line.specs.Stages.{AnyStage}
@@ -20,8 +23,9 @@ use Rattle.orca_cli.specs.Lists.{list_cause}
 use Rattle.orca_cli.specs.Prepared.{Reads}
 use Rattle.orca_cli.specs.Run.{IsRun, Puts, Ends}
 use Rattle.orca_cli.specs.Status.{IsOneOf, settled, overflowed, turned_down, finished, listed, list_refused}
+use Rattle.orca_cli.specs.Status.{plan_accepted, plan_turned_down}
 use Rattle.orca_cli.specs.declared.status.Status.{Status}
-use Rattle.orca_cli.specs.declared.status.Status.TheVariants.{Usage, ReadFault, WriteFault, BatchRefused}
+use Rattle.orca_cli.specs.declared.status.Status.TheVariants.{Usage, ReadFault, WriteFault, PlanRefused, BatchRefused}
 
 -- ---- what a shelf surely holds
 
@@ -57,6 +61,12 @@ pub record HoldsList (files : ListNames) (capacity : ℕ) (held : List ℕ → O
   pub holds : Holds files.catalog files.list held catalog list
   pub is_cause : list_cause capacity list ≡ cause
 
+-- the shelf tells a query, and this text under the name of a plan
+pub record HoldsPlan (named : PlanNames) (options : Options) (held : List ℕ → Option (List ℕ)) (query : Query)
+    (plan : List ℕ) : Type 0 where
+  pub holds_query : HoldsQuery named.files options held query
+  pub plan_told : held named.plan ≡ Some plan
+
 -- the task surely asks for this query
 abbrev pub SurelyAsks : AnyTask → Options → (List ℕ → Option (List ℕ)) → Query → Type 0
 SurelyAsks (plan files) options held query = HoldsQuery files options held query
@@ -72,7 +82,7 @@ abbrev pub query_files : AnyTask → Option FileNames
 query_files (plan files) = Some files
 query_files (gen input) = None
 query_files (stages named) = Some named.files
-query_files (check named) = None
+query_files (check named) = Some named.files
 query_files (dump files) = None
 query_files (replay file) = None
 query_files (batch files) = None
@@ -87,7 +97,8 @@ abbrev pub ReadRose : AnyTask → Reads → Type 0
 ReadRose (plan files) shelf = OneRose shelf files.catalog files.query
 ReadRose (gen input) shelf = ⊥
 ReadRose (stages named) shelf = OneRose shelf named.files.catalog named.files.query
-ReadRose (check named) shelf = ⊥
+ReadRose (check named) shelf =
+    OneRose shelf named.files.catalog named.files.query ⊎ Rose (shelf.before named.plan) (shelf.after named.plan)
 ReadRose (dump files) shelf = ⊥
 ReadRose (replay file) shelf = ⊥
 ReadRose (batch files) shelf = OneRose shelf files.catalog files.list
@@ -102,7 +113,7 @@ abbrev pub IsNotThere : AnyTask → Type 0
 IsNotThere (plan files) = ⊥
 IsNotThere (gen input) = ⊥
 IsNotThere (stages named) = ⊥
-IsNotThere (check named) = ⊤
+IsNotThere (check named) = ⊥
 IsNotThere (dump files) = ⊤
 IsNotThere (replay file) = ⊤
 IsNotThere (batch files) = ⊥
@@ -156,6 +167,19 @@ pub record HasCauses (named : Option AnyCommand) (shelf : Reads) (sink : Puts) (
       → command.task ≡ stages asked → HoldsQuery asked.files command.choices.options shelf.held query
       → HaveRoom query command.choices.capacity asked.stages → HasNoFault command.task shelf sink
       → IsOneOf settled status
+  -- a text is refused as no plan only by a check
+  pub plan_refused : status ≡ PlanRefused → (command : AnyCommand) × (named_files : PlanNames)
+      × (named ≡ Some command) × (command.task ≡ check named_files)
+  -- the text of a valid plan is told to be one
+  pub accepts_plan : (command : AnyCommand) (named_files : PlanNames) (query : Query) (text : List ℕ) (cost : ℕ)
+      → named ≡ Some command → command.task ≡ check named_files
+      → HoldsPlan named_files command.choices.options shelf.held query text → IsGoodText query text cost
+      → HasNoFault command.task shelf sink → IsOneOf plan_accepted status
+  -- a text with a fault is refused
+  pub refuses_plan : (command : AnyCommand) (named_files : PlanNames) (query : Query) (text : List ℕ) (fault : TextFault)
+      → named ≡ Some command → command.task ≡ check named_files
+      → HoldsPlan named_files command.choices.options shelf.held query text → fault ≢ faults.Memory
+      → HasFault query text fault → HasNoFault command.task shelf sink → IsOneOf plan_turned_down status
   -- a list is refused only by a batch
   pub batch_refused : status ≡ BatchRefused → (command : AnyCommand) × (files : ListNames) × (named ≡ Some command)
       × (command.task ≡ batch files)

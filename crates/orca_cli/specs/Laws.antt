@@ -5,7 +5,7 @@ use Rattle.query_core.specs.declared.options.Options.{Options}
 use Rattle.query_core.specs.declared.query.Query.{Query}
 use Rattle.query_stage.specs.declared.stage.Stage.{Stage}
 use Rattle.stage_plan.specs.Stages.{query_in}
-use Rattle.command_line.specs.Command.{FileNames, StageNames, ListNames, plan, gen, stages, batch}
+use Rattle.command_line.specs.Command.{FileNames, StageNames, PlanNames, ListNames, plan, gen, stages, check, batch}
 use Rattle.command_line.specs.declared.choices.Choices.{Choices}
 use Rattle.command_line.specs.declared.command.GenInput.{GenInput}
 use Rattle.orca_cli.specs.Answers.{Note}
@@ -61,6 +61,20 @@ pub record BatchOutcome (files : ListNames) (choices : Choices) (held : List ℕ
   pub catalog_told : held files.catalog ≡ Some catalog
   pub list_told : held files.list ≡ Some list
   pub ends : IsRun (Some (record { task = batch files; choices = choices })) (reads held before after) empty note status
+      text
+  pub were_read : status ≢ ReadFault
+
+-- a check over files that hold these bytes ends so, whatever its counts of faults are
+pub record CheckOutcome (named : PlanNames) (choices : Choices) (held : List ℕ → Option (List ℕ))
+    (catalog query plan : List ℕ) (status : Status) (text : List ℕ) : Type 0 where
+  pub before : List ℕ → ℕ
+  pub after : List ℕ → ℕ
+  pub empty : Note
+  pub note : Note
+  pub catalog_told : held named.files.catalog ≡ Some catalog
+  pub query_told : held named.files.query ≡ Some query
+  pub plan_told : held named.plan ≡ Some plan
+  pub ends : IsRun (Some (record { task = check named; choices = choices })) (reads held before after) empty note status
       text
   pub were_read : status ≢ ReadFault
 
@@ -122,6 +136,13 @@ OneBatch = (files others : ListNames) (choices : Choices) (workers more : ℕ) (
     (catalog list : List ℕ) (first second : Status) (text other : List ℕ)
     → BatchOutcome files (by workers choices) held catalog list first text
     → BatchOutcome others (by more choices) told catalog list second other → (first ≡ second) × (text ≡ other)
+
+-- those of a check are a function of the bytes, and of what the command chooses
+abbrev pub OneCheck : Type 0
+OneCheck = (named others : PlanNames) (choices : Choices) (held told : List ℕ → Option (List ℕ))
+    (catalog query plan : List ℕ) (first second : Status) (text other : List ℕ)
+    → CheckOutcome named choices held catalog query plan first text
+    → CheckOutcome others choices told catalog query plan second other → (first ≡ second) × (text ≡ other)
 
 -- a line of a batch ends with the status and the text of a plan over the same catalogue and this line, by however many
 -- workers

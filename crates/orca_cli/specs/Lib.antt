@@ -9,6 +9,7 @@ pub mod Sections
 pub mod Answers
 pub mod Batches
 pub mod Staged
+pub mod Checked
 pub mod Run
 pub mod Views
 pub mod Items

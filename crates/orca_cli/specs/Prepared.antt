@@ -4,7 +4,9 @@ use Rattle.orca_base.specs.Causes.{Rose}
 use Rattle.query_core.specs.declared.catalog.Catalog.{Catalog}
 use Rattle.query_core.specs.declared.options.Options.{Options}
 use Rattle.query_core.specs.declared.query.Query.{Query}
-use Rattle.command_line.specs.Command.{FileNames, AnyTask, AnyCommand, plan, gen, stages, check, dump, replay, batch}
+use Rattle.text_check.specs.Outcome.{IsTooLong}
+use Rattle.text_check.specs.declared.text_fault.TextFault.TheVariants.{TooLong}
+use Rattle.command_line.specs.Command.{FileNames, PlanNames, AnyTask, AnyCommand, plan, gen, stages, check, dump, replay, batch}
 use Rattle.command_line.specs.declared.choices.Choices.{Choices}
 use Rattle.command_line.specs.declared.command.GenInput.{GenInput}
 use Rattle.orca_cli.specs.Asked.{SaysCatalog, IsNoCatalog, Asks, IsRefused}
@@ -12,7 +14,7 @@ use Rattle.orca_cli.specs.Generated.{IsGenerated}
 use Rattle.orca_cli.specs.Lists.{IsListRefused}
 use Rattle.orca_cli.specs.Texts as texts
 use Rattle.orca_cli.specs.declared.status.Status.{Status}
-use Rattle.orca_cli.specs.declared.status.Status.TheVariants.{Usage, QueryRefused, CatalogRefused, ReadFault}
+use Rattle.orca_cli.specs.declared.status.Status.TheVariants.{Usage, QueryRefused, CatalogRefused, ReadFault, PlanRefused}
 
 -- what a call finds on its shelf: what is held under each name, where it is told, and each name's count of faults
 -- before the call and after it
@@ -131,12 +133,25 @@ abbrev pub QueryStops : FileNames → Options → Reads → Status → List ℕ 
 QueryStops files options shelf status text =
     FilesStop (λ catalog. IsQueryRefused catalog options) files.catalog files.query shelf status text
 
+-- the bytes are too long for the text of a plan, and the text says so
+pub record IsPlanTooLong (bytes : List ℕ) (status : Status) (text : List ℕ) : Type 0 where
+  pub refused : status ≡ PlanRefused
+  pub long : IsTooLong bytes
+  pub line : text ≡ texts.plan_refused (texts.plan_cause TooLong)
+
+-- the files of a catalogue and of a query, or where they ask for a query that of a plan's text
+pub data CheckStops (named : PlanNames) (options : Options) (shelf : Reads) (status : Status) (text : List ℕ) : Type 0
+  where
+    by_query : QueryStops named.files options shelf status text → CheckStops named options shelf status text
+    by_plan : (query : Query) → FilesAsk named.files options shelf.held query
+        → FileStops IsPlanTooLong named.plan shelf status text → CheckStops named options shelf status text
+
 -- a task that searches nothing, by what is chosen for it; what is generated is always searched
 abbrev pub TaskStops : AnyTask → Choices → Reads → Status → List ℕ → Type 0
 TaskStops (plan files) choices shelf status text = QueryStops files choices.options shelf status text
 TaskStops (gen input) choices shelf status text = ⊥
 TaskStops (stages named) choices shelf status text = QueryStops named.files choices.options shelf status text
-TaskStops (check named) choices shelf status text = IsUsage status text
+TaskStops (check named) choices shelf status text = CheckStops named choices.options shelf status text
 TaskStops (dump files) choices shelf status text = IsUsage status text
 TaskStops (replay file) choices shelf status text = IsUsage status text
 TaskStops (batch files) choices shelf status text =

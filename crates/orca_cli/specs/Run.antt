@@ -7,6 +7,7 @@ use Rattle.query_core.specs.declared.query.Query.{Query}
 use Rattle.command_line.specs.Command.{AnyTask, AnyCommand, plan, gen, stages, check, dump, replay, batch}
 use Rattle.command_line.specs.declared.choices.Choices.{Choices}
 use Rattle.orca_cli.specs.Batches.{FilesBatch}
+use Rattle.orca_cli.specs.Checked.{FilesChecked}
 use Rattle.orca_cli.specs.Prepared.{Reads, generated_in, IsAskedBy, IsUsage, TaskStops}
 use Rattle.orca_cli.specs.Answers.{Note, IsSearchEnd}
 use Rattle.orca_cli.specs.Sections.{Tells}
@@ -14,12 +15,13 @@ use Rattle.orca_cli.specs.Staged.{FilesStaged}
 use Rattle.orca_cli.specs.declared.status.Status.{Status}
 use Rattle.orca_cli.specs.declared.status.Status.TheVariants.{WriteFault, Memory}
 
--- the end of a task that is more than the search of one query, with a text of its own: that of stages, or of a batch
+-- the end of a task that is more than the search of one query, with a text of its own: that of stages, of a check, or of a
+-- batch
 abbrev pub IsOwnEnd : AnyTask → Choices → (List ℕ → Option (List ℕ)) → Status → List ℕ → Type 0
 IsOwnEnd (plan files) choices held status text = ⊥
 IsOwnEnd (gen input) choices held status text = ⊥
 IsOwnEnd (stages named) choices held status text = FilesStaged named choices held status text
-IsOwnEnd (check named) choices held status text = ⊥
+IsOwnEnd (check named) choices held status text = FilesChecked named choices.options held status text
 IsOwnEnd (dump files) choices held status text = ⊥
 IsOwnEnd (replay file) choices held status text = ⊥
 IsOwnEnd (batch files) choices held status text = FilesBatch files choices held status text

@@ -2,7 +2,7 @@
 use Rattle.std.specs.Prelude.{ℕ, List, [], ◌∷◌, ◌≡◌, ◌⊎◌}
 use Rattle.orca_cli.specs.declared.status.Status.{Status}
 use Rattle.orca_cli.specs.declared.status.Status.TheVariants.{Planned, NoPlan, Usage, QueryRefused, CatalogRefused}
-use Rattle.orca_cli.specs.declared.status.Status.TheVariants.{TooManyEntries, ReadFault, WriteFault, Memory, BatchRefused}
+use Rattle.orca_cli.specs.declared.status.Status.TheVariants.{TooManyEntries, ReadFault, WriteFault, Memory, PlanRefused, BatchRefused}
 
 -- the number with which the program ends
 abbrev pub number_of : Status → ℕ
@@ -15,6 +15,7 @@ number_of TooManyEntries = 5
 number_of ReadFault = 6
 number_of WriteFault = 7
 number_of Memory = 8
+number_of PlanRefused = 9
 number_of BatchRefused = 11
 
 -- the status is one of these
@@ -47,6 +48,14 @@ turned_down = QueryRefused ∷ Memory ∷ []
 -- each line of a list has its status, or memory ran out
 abbrev pub listed : List Status
 listed = Planned ∷ Memory ∷ []
+
+-- the text is a valid plan, or memory ran out
+abbrev pub plan_accepted : List Status
+plan_accepted = Planned ∷ Memory ∷ []
+
+-- it is none, or memory ran out
+abbrev pub plan_turned_down : List Status
+plan_turned_down = PlanRefused ∷ Memory ∷ []
 
 -- the list was refused, or memory ran out
 abbrev pub list_refused : List Status

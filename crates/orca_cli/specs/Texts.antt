@@ -10,9 +10,11 @@ use Rattle.sql_bind.specs.declared.fault.BindFault.{BindFault}
 use Rattle.sql_bind.specs.declared.fault.BindFault.TheVariants as names
 use Rattle.request_props.specs.declared.fault.PropsFault.{PropsFault}
 use Rattle.request_props.specs.declared.fault.PropsFault.TheVariants.{TooManyLists, TooManyOrders, Memory}
+use Rattle.text_check.specs.declared.text_fault.TextFault.{TextFault}
+use Rattle.text_check.specs.declared.text_fault.TextFault.TheVariants as plans
 
 abbrev pub usage_line : List ℕ
-usage_line = codes "usage: orca plan CATALOG QUERY [--workers N] [--capacity N] [--root one|spread] [--off RULE+RULE] [--memo] [--trace] [--by-worker] | orca gen NUMBER TABLES SHAPE [--workers N] [--capacity N] | orca stages CATALOG QUERY STAGES [--workers N] [--capacity N] [--root one|spread] | orca batch CATALOG LIST [--workers N] [--capacity N] [--root one|spread] [--off RULE+RULE] [--memo] [--trace]\n"
+usage_line = codes "usage: orca plan CATALOG QUERY [--workers N] [--capacity N] [--root one|spread] [--off RULE+RULE] [--memo] [--trace] [--by-worker] | orca gen NUMBER TABLES SHAPE [--workers N] [--capacity N] | orca stages CATALOG QUERY STAGES [--workers N] [--capacity N] [--root one|spread] | orca check CATALOG QUERY PLAN [--root one|spread] [--off RULE+RULE] | orca batch CATALOG LIST [--workers N] [--capacity N] [--root one|spread] [--off RULE+RULE] [--memo] [--trace]\n"
 
 -- the line that names a file that couldn't be read
 abbrev pub read_fault : List ℕ → List ℕ
@@ -32,6 +34,14 @@ catalog_refused cause = codes "catalog refused: " ++ cause ++ codes "\n"
 -- the line of a refused query
 abbrev pub query_refused : List ℕ → List ℕ
 query_refused cause = codes "query refused: " ++ cause ++ codes "\n"
+
+-- the line of a text that is a valid plan of this cost
+abbrev pub valid_plan : ℕ → List ℕ
+valid_plan cost = codes "valid cost " ++ decimal cost ++ codes "\n"
+
+-- the line of a text that is no valid plan
+abbrev pub plan_refused : List ℕ → List ℕ
+plan_refused cause = codes "plan refused: " ++ cause ++ codes "\n"
 
 -- the line of a refused list of queries
 abbrev pub batch_refused : List ℕ → List ℕ
@@ -80,3 +90,15 @@ abbrev pub props_cause : PropsFault → List ℕ
 props_cause (TooManyLists found) = codes "too many hashed lists: " ++ decimal found
 props_cause (TooManyOrders found) = codes "too many orders: " ++ decimal found
 props_cause Memory = []
+
+-- why a text is no valid plan of a query, with the line of the place; want of memory has no line
+abbrev pub plan_cause : TextFault → List ℕ
+plan_cause plans.TooLong = codes "too long"
+plan_cause (plans.Form line) = codes "form at line " ++ decimal line
+plan_cause (plans.TooLarge nodes) = codes "too large: " ++ decimal nodes
+plan_cause (plans.Kids line) = codes "kids at line " ++ decimal line
+plan_cause (plans.Member line) = codes "member at line " ++ decimal line
+plan_cause (plans.Needs line) = codes "needs at line " ++ decimal line
+plan_cause plans.Request = codes "root request"
+plan_cause (plans.Number line) = codes "number at line " ++ decimal line
+plan_cause plans.Memory = []

@@ -6,13 +6,14 @@ use Rattle.query_core.specs.Catalog.{IsCatalog}
 use Rattle.query_core.specs.declared.options.Options.{Options}
 use Rattle.query_core.specs.declared.query.Query.{Query}
 use Rattle.request_props.specs.Numbered.{IsProps}
-use Rattle.command_line.specs.Command.{StageNames, ListNames, AnyTask, AnyCommand}
+use Rattle.command_line.specs.Command.{StageNames, PlanNames, ListNames, AnyTask, AnyCommand}
 use Rattle.command_line.specs.Command.{plan, gen, stages, check, dump, replay, batch}
 use Rattle.command_line.specs.HeldStages.{stages_read}
 use Rattle.command_line.specs.Views.{command_read}
 use Rattle.orca_cli.specs.Batches.{LineEnd}
 use Rattle.orca_cli.specs.Prepared.{AreTold, Offers, FilesAsk, IsAskedBy}
 use Rattle.orca_cli.specs.declared.asked.Asked.{Asked}
+use Rattle.orca_cli.specs.declared.asked.Checked.{Checked}
 use Rattle.orca_cli.specs.declared.asked.InStages.{InStages}
 use Rattle.orca_cli.specs.declared.asked.Listed.{Listed}
 use Rattle.orca_cli.specs.declared.asked.Wanted.{Wanted}
@@ -80,6 +81,22 @@ AsksInStages (dump files) options held staged = ⊥
 AsksInStages (replay file) options held staged = ⊥
 AsksInStages (batch files) options held staged = ⊥
 
+-- a query is the one for which two files ask, and a text that of a third one
+pub record AreChecked (named : PlanNames) (options : Options) (held : List ℕ → Option (List ℕ)) (checked : Checked) :
+    Type 0 where
+  pub asks : FilesAsk named.files options held checked.asked.query
+  pub told : AreTold (held named.plan) checked.plan.items
+
+-- the task asks that this text be checked as a plan of this query
+abbrev pub AsksToCheck : AnyTask → Options → (List ℕ → Option (List ℕ)) → Checked → Type 0
+AsksToCheck (plan files) options held checked = ⊥
+AsksToCheck (gen input) options held checked = ⊥
+AsksToCheck (stages named) options held checked = ⊥
+AsksToCheck (check named) options held checked = AreChecked named options held checked
+AsksToCheck (dump files) options held checked = ⊥
+AsksToCheck (replay file) options held checked = ⊥
+AsksToCheck (batch files) options held checked = ⊥
+
 -- the task asks that each line of this list be searched
 abbrev pub AsksForList : AnyTask → (List ℕ → Option (List ℕ)) → Listed → Type 0
 AsksForList (plan files) held listed = ⊥
@@ -90,10 +107,12 @@ AsksForList (dump files) held listed = ⊥
 AsksForList (replay file) held listed = ⊥
 AsksForList (batch files) held listed = AreListed files held listed
 
--- the task asks for this work: the search of a query, a query planned in stages, or the search of each line of a list
+-- the task asks for this work: the search of a query, a query planned in stages, the check of a text, or the search of
+-- each line of a list
 abbrev pub AsksFor : AnyTask → Options → (List ℕ → Option (List ℕ)) → Work → Type 0
 AsksFor task options held (works.Query asked) = IsAskedBy task options held asked.query
 AsksFor task options held (works.Stages staged) = AsksInStages task options held staged
+AsksFor task options held (works.Check checked) = AsksToCheck task options held checked
 AsksFor task options held (works.List listed) = AsksForList task held listed
 
 -- the catalogue is one, and the list isn't too long
@@ -105,12 +124,14 @@ pub record IsListed (listed : Listed) : Type 0 where
 abbrev pub IsReady : Work → Type 0
 IsReady (works.Query asked) = IsProps asked.query asked.props
 IsReady (works.Stages staged) = IsProps staged.asked.query staged.asked.props
+IsReady (works.Check checked) = IsProps checked.asked.query checked.asked.props
 IsReady (works.List listed) = IsListed listed
 
 -- one worker does the work, where no crew may be
 abbrev pub IsWorkForOne : Work → ℕ → Type 0
 IsWorkForOne (works.Query asked) workers = workers ≡ 1
 IsWorkForOne (works.Stages staged) workers = ⊥
+IsWorkForOne (works.Check checked) workers = workers ≡ 1
 IsWorkForOne (works.List listed) workers = workers ≡ 1
 
 -- the command is the one that the words are, and it asks for the work

@@ -1,4 +1,4 @@
-//! What a run is to search.
+//! What a run is to search, or to check.
 use command_line::{Command, Stages};
 use query_core::{Catalog, Query};
 use request_props::Props;
@@ -17,6 +17,13 @@ pub struct InStages {
     pub stages: Stages,
 }
 
+/// A query, what was found of it, and a text that is to be checked as its plan.
+#[derive(Drop)]
+pub struct Checked {
+    pub asked: Asked,
+    pub plan: Vec<u8>,
+}
+
 /// A catalogue, and a list with a query over it on each line.
 #[derive(Drop)]
 pub struct Listed {
@@ -24,13 +31,15 @@ pub struct Listed {
     pub list: Vec<u8>,
 }
 
-/// What is to be searched.
+/// What is to be done.
 #[derive(Drop)]
 pub enum Work {
     /// One query.
     Query(Asked),
     /// One query, in stages.
     Stages(InStages),
+    /// A text that may be a query's plan.
+    Check(Checked),
     /// Each line of a list.
     List(Listed),
 }

@@ -100,6 +100,23 @@ pub fn too_many_entries(alloc: Global, capacity: u32) -> Result<Ending, AllocErr
     line(alloc, Status::TooManyEntries, &text)
 }
 
+/// The text is that of a valid plan, which costs this.
+pub fn valid_plan(alloc: Global, cost: u64) -> Result<Ending, AllocError>
+    ensures { IfOk result (λ ending. EndsAs ending Status.Planned (texts.valid_plan cost)) }
+{
+    let text = format!(in alloc; "valid cost {cost}\n")?;
+    line(alloc, Status::Planned, &text)
+}
+
+/// The text is no valid plan, for this cause.
+pub fn refused_plan(alloc: Global, cause: &str) -> Result<Ending, AllocError>
+    ensures { IfOk result
+        (λ ending. EndsAs ending Status.PlanRefused (texts.plan_refused cause.now)) }
+{
+    let text = format!(in alloc; "plan refused: {cause}\n")?;
+    line(alloc, Status::PlanRefused, &text)
+}
+
 /// The list of queries is refused for this cause.
 pub fn refused_batch(alloc: Global, cause: &str) -> Result<Ending, AllocError>
     ensures { IfOk result

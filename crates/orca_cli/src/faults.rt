@@ -1,12 +1,13 @@
-//! Why a catalogue or a query is refused, as text. Want of memory has none, and stays what it is.
+//! Why a catalogue, a query or the text of a plan is refused, as text. Want of memory has none, and stays what it is.
 ghost use Rattle.std.specs.Prelude.{◌≡◌, ◌≢◌, IfOk, string_bytes};
-ghost use Rattle.orca_cli.specs.Texts.{catalog_cause, limit_name, sql_cause, bind_cause, props_cause};
+ghost use Rattle.orca_cli.specs.Texts.{catalog_cause, limit_name, sql_cause, bind_cause, props_cause, plan_cause};
 
 use catalog_json::CatalogFault;
 use request_props::PropsFault;
 use sql_bind::BindFault;
 use sql_reader::{Limit, SqlFault};
 use std::alloc::{AllocError, Global};
+use text_check::TextFault;
 
 /// Why bytes are no catalogue, with the JSON pointer of the place.
 pub fn catalog_fault_text(alloc: Global, fault: &CatalogFault) -> Result<String, AllocError>
@@ -81,5 +82,23 @@ pub fn props_fault_text(alloc: Global, fault: PropsFault) -> Result<String, Allo
         PropsFault::TooManyLists { found } => format!(in alloc; "too many hashed lists: {found}"),
         PropsFault::TooManyOrders { found } => format!(in alloc; "too many orders: {found}"),
         PropsFault::Memory => Err(AllocError),
+    }
+}
+
+/// Why a text is no valid plan of a query, with the line of the place.
+pub fn plan_fault_text(alloc: Global, fault: TextFault) -> Result<String, AllocError>
+    ensures text { IfOk result (λ text. string_bytes text ≡ plan_cause fault) }
+    ensures not_memory { IfOk result (λ text. fault ≢ TextFault.Memory) }
+{
+    match fault {
+        TextFault::TooLong => String::from_str(alloc, "too long"),
+        TextFault::Form { line } => format!(in alloc; "form at line {line}"),
+        TextFault::TooLarge { nodes } => format!(in alloc; "too large: {nodes}"),
+        TextFault::Kids { line } => format!(in alloc; "kids at line {line}"),
+        TextFault::Member { line } => format!(in alloc; "member at line {line}"),
+        TextFault::Needs { line } => format!(in alloc; "needs at line {line}"),
+        TextFault::Request => String::from_str(alloc, "root request"),
+        TextFault::Number { line } => format!(in alloc; "number at line {line}"),
+        TextFault::Memory => Err(AllocError),
     }
 }

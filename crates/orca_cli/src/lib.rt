@@ -6,6 +6,7 @@ mod asked;
 mod batch;
 mod batch_text;
 mod catalogs;
+mod checks;
 mod ending;
 mod faults;
 mod generated;

@@ -3,26 +3,27 @@ ghost use Rattle.std.specs.Prelude.{◌≡◌, ◌≤◌, ℕ, List, IfOk, IfErr
 ghost use Rattle.query_core.specs.Results.{AreOptions};
 ghost use Rattle.command_line.specs.Reading.{command_of};
 ghost use Rattle.command_line.specs.Options.{AreChoices};
-ghost use Rattle.command_line.specs.Views.{file_names, list_names, stage_names, task_read};
+ghost use Rattle.command_line.specs.Views.{file_names, list_names, plan_names, stage_names, task_read};
 ghost use Rattle.orca_cli.specs.Lists.{IsListRefused};
-ghost use Rattle.orca_cli.specs.Prepared.{FilesAsk, FilesStop, QueryStops, Stops, TaskStops, reads};
+ghost use Rattle.orca_cli.specs.Prepared.{CheckStops, FilesAsk, FilesStop, QueryStops, Stops, TaskStops, reads};
 ghost use Rattle.orca_cli.specs.Texts.{usage_line};
-ghost use Rattle.orca_cli.specs.Views.{AreListed, AreStaged, AsksFor, EndsAs, EndsWith, IsAsked, IsListed, IsReady, IsWanted};
+ghost use Rattle.orca_cli.specs.Views.{AreChecked, AreListed, AreStaged, AsksFor, EndsAs, EndsWith, IsAsked, IsListed, IsReady, IsWanted};
 
-use crate::asked::{Asked, InStages, Listed, Wanted, Work};
+use crate::asked::{Asked, Checked, InStages, Listed, Wanted, Work};
 use crate::catalogs::catalog_of_file;
+use crate::checks::plan_of_file;
 use crate::ending::{End, Ending, line};
 use crate::generated::query_of_input;
 use crate::lists::list_of_file;
 use crate::queries::query_of_file;
 use crate::status::Status;
-use command_line::{Choices, Command, Files, ListFiles, StageFiles, Task, read_command};
+use command_line::{Choices, Command, Files, ListFiles, PlanFiles, StageFiles, Task, read_command};
 use orca_io::Shelf;
 use query_core::Options;
 use std::alloc::{AllocError, Global};
 
 pub const USAGE: &str =
-    "usage: orca plan CATALOG QUERY [--workers N] [--capacity N] [--root one|spread] [--off RULE+RULE] [--memo] [--trace] [--by-worker] | orca gen NUMBER TABLES SHAPE [--workers N] [--capacity N] | orca stages CATALOG QUERY STAGES [--workers N] [--capacity N] [--root one|spread] | orca batch CATALOG LIST [--workers N] [--capacity N] [--root one|spread] [--off RULE+RULE] [--memo] [--trace]\n";
+    "usage: orca plan CATALOG QUERY [--workers N] [--capacity N] [--root one|spread] [--off RULE+RULE] [--memo] [--trace] [--by-worker] | orca gen NUMBER TABLES SHAPE [--workers N] [--capacity N] | orca stages CATALOG QUERY STAGES [--workers N] [--capacity N] [--root one|spread] | orca check CATALOG QUERY PLAN [--root one|spread] [--off RULE+RULE] | orca batch CATALOG LIST [--workers N] [--capacity N] [--root one|spread] [--off RULE+RULE] [--memo] [--trace]\n";
 
 /// The command that the words are, and the work for which it asks; or how the run ends.
 pub fn prepared<'w, S: Shelf>(
@@ -80,7 +81,11 @@ fn work_of<S: Shelf>(
             Ok(staged) => Ok(Work::Stages(staged)),
             Err(end) => Err(end),
         },
-        Task::Check(_) | Task::Dump(_) | Task::Replay(_) => Err(End::Told(usage(alloc)?)),
+        Task::Check(named) => match checked_by_files(alloc, shelf, named, choices.options) {
+            Ok(checked) => Ok(Work::Check(checked)),
+            Err(end) => Err(end),
+        },
+        Task::Dump(_) | Task::Replay(_) => Err(End::Told(usage(alloc)?)),
         Task::Batch(files) => match listed_by_files(alloc, shelf, files, choices.capacity) {
             Ok(listed) => Ok(Work::List(listed)),
             Err(end) => Err(end),
@@ -102,6 +107,7 @@ fn asked_by_files<S: Shelf>(
         (reads (S.held shelf.old) (S.faults shelf.old) (S.faults shelf.new)))) }
 
     ensures same { (n : List ℕ) → S.held shelf.new n ≡ S.held shelf.old n }
+    ensures later { (n : List ℕ) → S.faults shelf.old n ≤ S.faults shelf.new n }
 {
     match catalog_of_file(alloc, shelf, files.catalog) {
         Ok(catalog) => query_of_file(alloc, shelf, files.query, &catalog, options),
@@ -130,6 +136,31 @@ fn staged_by_files<S: Shelf>(
             asked,
             stages: named.stages,
         }),
+        Err(end) => Err(end),
+    }
+}
+
+// The query for which two files ask, and then the text of a third one.
+fn checked_by_files<S: Shelf>(
+    alloc: Global,
+    shelf: &mut S,
+    named: PlanFiles<'_>,
+    options: Options,
+) -> Result<Checked, End>
+    requires { AreOptions options }
+    ensures checked { IfOk result
+        (AreChecked (plan_names named.entry) options (S.held shelf.old)) }
+    ensures ready { IfOk result (λ checked. IsReady (Work.Check checked)) }
+    ensures stops { IfErr result (EndsWith (CheckStops (plan_names named.entry) options
+        (reads (S.held shelf.old) (S.faults shelf.old) (S.faults shelf.new)))) }
+
+    ensures same { (n : List ℕ) → S.held shelf.new n ≡ S.held shelf.old n }
+{
+    match asked_by_files(alloc, shelf, named.files, options) {
+        Ok(asked) => match plan_of_file(alloc, shelf, named.plan) {
+            Ok(plan) => Ok(Checked { asked, plan }),
+            Err(end) => Err(end),
+        },
         Err(end) => Err(end),
     }
 }

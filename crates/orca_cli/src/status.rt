@@ -4,7 +4,7 @@ ghost use Rattle.orca_cli.specs.Status.{number_of};
 /// How a run ended.
 #[derive(Clone, Copy, Debug, PartialEq, Eq)]
 pub enum Status {
-    /// The text is that of the least plan, or of a batch.
+    /// The text is that of the least plan, or of a batch; or it says what a plan costs that was given.
     Planned,
     /// No plan gives what is asked for.
     NoPlan,
@@ -22,6 +22,8 @@ pub enum Status {
     WriteFault,
     /// Memory was refused, and nothing was put.
     Memory,
+    /// The text is no valid plan of the query; the text of the run says why.
+    PlanRefused,
     /// The list of queries is refused; the text says why.
     BatchRefused,
 }
@@ -41,6 +43,7 @@ impl Status {
             Status::ReadFault => 6,
             Status::WriteFault => 7,
             Status::Memory => 8,
+            Status::PlanRefused => 9,
             Status::BatchRefused => 11,
         }
     }

@@ -8,6 +8,7 @@ ghost use Rattle.orca_cli.specs.Views.{EndsWith, IsReady, IsWanted, IsWorkForOne
 
 use crate::asked::{Wanted, Work};
 use crate::batch::{batch_alone, batch_by_crew};
+use crate::checks::check_ending;
 use crate::ending::End;
 use crate::search::{searched_alone, searched_by_crew};
 use crate::stages::stages_ending;
@@ -35,6 +36,10 @@ pub fn done_alone(alloc: Global, wanted: &Wanted<'_>, note: &mut RunNote) -> End
             }
         }
         Work::Stages(_) => unreachable!(),
+        Work::Check(checked) => match check_ending(alloc, checked) {
+            Ok(ending) => End::Told(ending),
+            Err(AllocError) => End::Memory,
+        },
         Work::List(listed) => match batch_alone(alloc, choices, listed) {
             Ok(ending) => End::Told(ending),
             Err(end) => end,
@@ -64,6 +69,10 @@ fn done_by_crew<R: Threads + Wait + Sync, G: Gate>(
             }
         }
         Work::Stages(staged) => match stages_ending(rt, alloc, choices, staged, gate) {
+            Ok(ending) => End::Told(ending),
+            Err(AllocError) => End::Memory,
+        },
+        Work::Check(checked) => match check_ending(alloc, checked) {
             Ok(ending) => End::Told(ending),
             Err(AllocError) => End::Memory,
         },
@@ -100,7 +109,7 @@ impl Wanted<'_> {
         ensures { IsTrue result ↔ IsWorkForOne self.now.work self.now.command.choices.workers }
     {
         match self.work {
-            Work::Query(_) | Work::List(_) => self.command.choices.workers == 1,
+            Work::Query(_) | Work::Check(_) | Work::List(_) => self.command.choices.workers == 1,
             Work::Stages(_) => false,
         }
     }

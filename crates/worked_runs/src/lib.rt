@@ -4,6 +4,8 @@
 #[cfg(test)]
 mod batch_tests;
 #[cfg(test)]
+mod check_tests;
+#[cfg(test)]
 mod crew_tests;
 #[cfg(test)]
 mod failing_tests;

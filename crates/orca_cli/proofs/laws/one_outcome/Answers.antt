@@ -3,6 +3,7 @@ use Rattle.query_core.specs.declared.query.Query.{Query}
 use Rattle.request_props.specs.Numbered.{root_request, IsWithinLimits}
 use Rattle.plan_space.specs.Nodes.{Tree}
 use Rattle.plan_space.specs.Least.{IsLeastPlan}
+use Rattle.orca_cli.proofs.CheckOutcomes.{one_check_of}
 use Rattle.orca_cli.proofs.OneAnswer.{one_answer_of}
 use Rattle.orca_cli.proofs.Outcomes.{one_outcome_of, one_generated_of, one_batch_of, lines_as_planned}
 use Rattle.orca_cli.proofs.SectionTexts.{OneSections}
@@ -32,4 +33,5 @@ returns c =
       stages = one_stages_of answer c.stages_have_one_answer.ensures;
       batch = one_batch_of answer sections least;
       lines = lines_as_planned answer sections least;
+      check = one_check_of answer c.outcomes_are_one.ensures;
     }

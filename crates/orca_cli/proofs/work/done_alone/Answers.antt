@@ -1,6 +1,6 @@
 use Rattle.orca_cli.specs.Lists.{IsListRefused}
 use Rattle.orca_cli.specs.Run.{IsRun}
-use Rattle.orca_cli.proofs.Ended.{ends_then, query_run, refused_run}
+use Rattle.orca_cli.proofs.Ended.{ends_then, query_run, checked_run, refused_run}
 use Rattle.orca_cli.proofs.work.done_alone.Goals as goal
 
 -- the query was searched
@@ -8,6 +8,12 @@ pub returns-in-Ok : goal.returns-in-Ok
 returns-in-Ok c = λ named shelf is.
     query_run named shelf c.args.note.now c.searched_alone.new.note c.args.wanted.now c.in-Query.asked
     c.generated_in-generated.result _ _ c.in-Query.is is c.generated_in-generated.ensures c.in-Ok.ensures
+
+-- the text was checked
+pub returns-in-Ok-check_ending : goal.returns-in-Ok-check_ending
+returns-in-Ok-check_ending c = λ named shelf is.
+    checked_run named shelf c.args.note.now c.args.wanted.now c.in-Check.checked _ _ c.in-Check.is is
+    c.in-Ok-check_ending.ensures
 
 -- the list was refused
 pub returns-in-Err-batch_alone : goal.returns-in-Err-batch_alone

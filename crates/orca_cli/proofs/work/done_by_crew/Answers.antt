@@ -1,6 +1,6 @@
 use Rattle.orca_cli.specs.Lists.{IsListRefused}
 use Rattle.orca_cli.specs.Run.{IsRun}
-use Rattle.orca_cli.proofs.Ended.{ends_then, query_run, staged_run, refused_run}
+use Rattle.orca_cli.proofs.Ended.{ends_then, query_run, staged_run, checked_run, refused_run}
 use Rattle.orca_cli.proofs.work.done_by_crew.Goals as goal
 
 -- the query was searched
@@ -14,6 +14,12 @@ pub returns-in-Ok-stages_ending : goal.returns-in-Ok-stages_ending
 returns-in-Ok-stages_ending g c = λ named shelf is.
     staged_run named shelf c.args.note.now c.args.wanted.now c.in-Stages.staged _ _ c.in-Stages.is is
     c.in-Ok-stages_ending.ensures
+
+-- the text was checked
+pub returns-in-Ok-check_ending : goal.returns-in-Ok-check_ending
+returns-in-Ok-check_ending g c = λ named shelf is.
+    checked_run named shelf c.args.note.now c.args.wanted.now c.in-Check.checked _ _ c.in-Check.is is
+    c.in-Ok-check_ending.ensures
 
 -- the list was refused
 pub returns-in-Err-batch_by_crew : goal.returns-in-Err-batch_by_crew
