@@ -43,7 +43,7 @@ OPTION = re.compile(r"(?<![\w-])--[a-z][\w-]*")
 PATH = re.compile(r"[\w.*@-]*(?:/[\w.*@-]*)+")
 FILE = re.compile(r"[\w*-]+\.(?:antt|rt|md|py|sh|c|sql|svg|json|txt|edit)")
 # The files that a reader of the documents has or makes.
-MADE = {"query.sql", "report.dump", "before.txt", "after.txt"}
+MADE = {"query.sql", "report.dump", "before.txt", "after.txt", "products_first.sql", "products_first.txt"}
 
 # The crates whose functions are too many to be named: each is a query for tests.
 UNNAMED = {"worked_queries"}
