@@ -1,10 +1,12 @@
 #!/usr/bin/env python3
-"""Times a clique of tables planned in stages against a plan of it, and counts the goals of each stage.
+"""Times a clique of tables planned in stages by one worker, and counts the goals of each stage.
 
 Each table has a column for each other one, and the query links each two. The goals of a stage are those that
 `plan --trace` tells with the rules of the stage off: a law of orca_cli says that both search the same query.
 
-Usage: bench/stages.py [--tables 8] [--runs 3] [--workers 1,4] [--program PROGRAM]
+Times are those of processors, so other work on the machine matters little.
+
+Usage: bench/stages.py [--tables 8] [--runs 3] [--program PROGRAM]
 """
 
 import argparse
@@ -13,12 +15,13 @@ import os
 import subprocess
 import sys
 import tempfile
-import time
 
 TOP = os.path.dirname(os.path.dirname(os.path.abspath(__file__)))
 CAPACITY = ["--capacity", "1048576"]
 # the rules that are off in a stage, from the least search to the whole one
 SUBSETS = ["JoinCommute+JoinAssociate", "JoinAssociate", "JoinCommute", "JoinToMerge+JoinToLoop", "all"]
+# the one that stands in front of all rules
+FIRST = "JoinAssociate"
 
 
 def clique(tables):
@@ -31,22 +34,22 @@ def clique(tables):
 
 
 def run(words):
-    """The lines that a run printed."""
-    done = subprocess.run(words, stdout=subprocess.PIPE, check=False, text=True)
-    if done.returncode > 1:
-        sys.exit(f"{' '.join(words)}: {done.stdout}")
-    return done.stdout.splitlines()
+    """The lines that a run printed, and its milliseconds on processors."""
+    child = subprocess.Popen(words, stdout=subprocess.PIPE, text=True)
+    lines = child.stdout.read().splitlines()
+    _, status, used = os.wait4(child.pid, 0)
+    if os.waitstatus_to_exitcode(status) > 1:
+        sys.exit(f"{' '.join(words)}: {lines}")
+    return lines, 1000 * (used.ru_utime + used.ru_stime)
 
 
 def timed(words, runs):
-    """The lines that a run printed, and the milliseconds of the fastest."""
-    best = None
+    """The lines that a run printed, and the milliseconds of the one that took least."""
+    lines, times = [], []
     for _ in range(runs):
-        began = time.perf_counter()
-        lines = run(words)
-        took = time.perf_counter() - began
-        best = took if best is None else min(best, took)
-    return lines, 1000 * best
+        lines, took = run(words)
+        times.append(took)
+    return lines, min(times)
 
 
 def without(rules):
@@ -55,34 +58,28 @@ def without(rules):
 
 
 def main():
-    options = argparse.ArgumentParser(description="times stages against a plan")
+    options = argparse.ArgumentParser(description="times stages, and counts their goals")
     options.add_argument("--tables", type=int, default=8)
-    options.add_argument("--runs", type=int, default=3, help="of which the fastest counts")
-    options.add_argument("--workers", default="1,4")
+    options.add_argument("--runs", type=int, default=3, help="of which the one that takes least counts")
     options.add_argument("--program", default=os.path.join(TOP, "crates", "orca", "out", "orca"))
-    chosen = options.parse_args()
-    program = chosen.program
-    workers = chosen.workers.split(",")
+    asked = options.parse_args()
     with tempfile.TemporaryDirectory() as folder:
         names = [os.path.join(folder, name) for name in ("catalog", "query")]
-        for name, text in zip(names, clique(chosen.tables)):
+        for name, text in zip(names, clique(asked.tables)):
             with open(name, "w") as file:
                 file.write(text)
-        print(f"{'stages':<52} {'goals':>7} {'cost':>9}" + "".join(f" {w + ' w, ms':>10}" for w in workers))
-        costs = {}
+        print(f"{'stages':<34} {'goals':>8} {'cost':>8} {'ms':>9}")
+        costs, goals = {}, {}
         for rules in SUBSETS:
-            lines = run([program, "plan", *names, *CAPACITY, *without(rules), "--trace"])
+            lines, _ = run([asked.program, "plan", *names, *CAPACITY, *without(rules), "--trace"])
             costs[rules] = int(lines[0].split()[1])
-            goals = next(int(line.split("=")[1]) for line in lines if line.startswith("trace goals="))
-            times = [timed([program, "stages", *names, rules, *CAPACITY, "--workers", w], chosen.runs)[1]
-                     for w in workers]
-            print(f"{rules:<52} {goals:>7} {costs[rules]:>9}" + "".join(f" {t:>10.1f}" for t in times))
-        first = SUBSETS[0]
-        for threshold in (costs[first], costs[first] + 1):
-            stages = f"{first}@{threshold},all"
-            told = [timed([program, "stages", *names, stages, *CAPACITY, "--workers", w], chosen.runs) for w in workers]
-            cost = next(line for line in told[0][0] if line.startswith("cost ")).split()[1]
-            print(f"{stages:<52} {told[0][0][0]:>7} {cost:>9}" + "".join(f" {t:>10.1f}" for _, t in told))
+            goals[rules] = next(int(line.split()[1].split("=")[1]) for line in lines if line.startswith("trace goals="))
+        for stages in [*SUBSETS, *(f"{FIRST}@{threshold},all" for threshold in (costs[FIRST] + 1, costs[FIRST]))]:
+            lines, took = timed([asked.program, "stages", *names, stages, *CAPACITY], asked.runs)
+            ran = [stage.split("@")[0] for stage in stages.split(",")][:int(lines[0].split("=")[1])]
+            cost = next(line for line in lines if line.startswith("cost ")).split()[1]
+            print(f"{stages:<34} {sum(goals[rules] for rules in ran):>8} {cost:>8} {took:>9.1f}")
 
 
-main()
+if __name__ == "__main__":
+    main()
