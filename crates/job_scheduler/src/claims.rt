@@ -10,8 +10,10 @@ use crate::sought::{Sought, Standing};
 use crate::worker::Worker;
 use goal_board::{GoalRules, Right};
 
-/// How many places are looked at between two looks at the root goal and the full word.
-const PIECE: u32 = 512;
+/// How many places the first piece of a scan has, and the most that a later one has. Between two pieces a worker looks
+/// at the root goal, at the full word, and at what other workers were told of.
+const FIRST_PIECE: u32 = 64;
+const LONGEST_PIECE: u32 = 512;
 
 impl<R: GoalRules, J: Jobs<R>> Scheduler<R, J> {
     // Looks at the root goal, and then at the full word.
@@ -124,7 +126,7 @@ impl<R: GoalRules, J: Jobs<R>> Scheduler<R, J> {
         }
     }
 
-    // Scans these places, piece by piece.
+    // Scans these places, piece by piece. The first pieces are short: often another worker is told of a goal soon.
     fn scan(&self, worker: &mut Worker<R>, from: u32, to: u32) -> Sought
         requires worker { IsWorkerOf R.meaning self.now.board self.now.root self.now.goal worker.old }
         requires near { to ≤ self.now.board.key.room }
@@ -135,7 +137,7 @@ impl<R: GoalRules, J: Jobs<R>> Scheduler<R, J> {
     {
         let mut at = from;
         while at < to {
-            let end = piece_end(at, to);
+            let end = piece_end(from, at, to);
             match self.scan_piece(worker, at, end) {
                 Sought::Busy => at = end,
                 sought => return sought,
@@ -175,10 +177,11 @@ impl<R: GoalRules, J: Jobs<R>> Scheduler<R, J> {
     }
 }
 
-// Where the piece ends that begins here.
-fn piece_end(at: u32, to: u32) -> u32
+// Where the piece ends that begins here: it has as many places as were scanned before it, within the bounds.
+fn piece_end(from: u32, at: u32, to: u32) -> u32
     requires { at < to }
     ensures { (at < result) × (result ≤ to) }
 {
-    if to - at > PIECE { at + PIECE } else { to }
+    let length = at.saturating_sub(from).max(FIRST_PIECE).min(LONGEST_PIECE);
+    if to - at > length { at + length } else { to }
 }

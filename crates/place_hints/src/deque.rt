@@ -1,4 +1,4 @@
-ghost use Rattle.std.specs.Prelude.{◌≡◌, ℕ, ◌<◌, IfOk, IfSome};
+ghost use Rattle.std.specs.Prelude.{◌≡◌, ℕ, ◌<◌, All, IfOk, IfSome};
 ghost use Rattle.crossbeam_deque.specs.Handles.{worker_port, worker_view};
 
 use crate::rule::{BelowCapacity, Moves, Opens};
@@ -49,6 +49,16 @@ impl Deque {
         ensures { self.new ≡ self.old }
     {
         let _ = self.worker.push_as::<Moves>(place);
+    }
+
+    /// Adds these places, the last one as the newest.
+    pub fn push_all(&mut self, places: &[u32])
+        requires { All (λ place. place < self.old) places.now }
+        ensures { self.new ≡ self.old }
+    {
+        for place in places {
+            self.push(*place);
+        }
     }
 
     /// Takes the newest place.

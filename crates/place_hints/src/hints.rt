@@ -1,4 +1,4 @@
-ghost use Rattle.std.specs.Prelude.{◌≡◌, ℕ, ◌<◌, IfOk, IfSome};
+ghost use Rattle.std.specs.Prelude.{◌≡◌, ℕ, ◌<◌, All, IfOk, IfSome};
 
 use crate::deque::Deque;
 use crate::sources::Sources;
@@ -10,6 +10,8 @@ use std::marker::Model;
 /// Contracts see the capacity of the board, which each place is below.
 #[derive(Drop)]
 pub struct PlaceHints {
+    // Those that nobody else can see, the newest last: while there is no other worker, a deque would cost more.
+    alone: Vec<u32>,
     own: Deque,
     others: Sources,
 }
@@ -19,7 +21,7 @@ impl Model for PlaceHints {
 
     ghost view = { λ h. h.others };
 
-    ghost invariant = { λ h. h.own ≡ h.others };
+    ghost invariant = { λ h. (h.own ≡ h.others) × All (λ place. place < h.others) h.alone.items };
 }
 
 impl PlaceHints {
@@ -29,6 +31,7 @@ impl PlaceHints {
         ensures { IfOk result (λ hints. hints ≡ capacity) }
     {
         Ok(PlaceHints {
+            alone: Vec::new(alloc),
             own: Deque::open(alloc, capacity)?,
             others: Sources::none(alloc, capacity),
         })
@@ -39,7 +42,10 @@ impl PlaceHints {
         ensures below { IfSome result (λ place. place < self.old) }
         ensures same { self.new ≡ self.old }
     {
-        self.own.pop()
+        match self.alone.pop() {
+            Some(place) => Some(place),
+            None => self.own.pop(),
+        }
     }
 
     /// How many workers it can steal from.
@@ -61,6 +67,7 @@ impl PlaceHints {
         ensures other { IfOk result (λ hints. hints ≡ self.old) }
         ensures same { self.new ≡ self.old }
     {
+        self.show();
         let capacity = self.others.capacity();
         let mut other = PlaceHints::new(alloc, capacity)?;
         other.others.add(self.own.source(capacity)?)?;
@@ -68,12 +75,24 @@ impl PlaceHints {
         self.others.add(other.own.source(capacity)?)?;
         Ok(other)
     }
+
+    // Lets others see those that nobody else could.
+    fn show(&mut self)
+        ensures { self.new ≡ self.old }
+    {
+        self.own.push_all(&self.alone);
+        self.alone.clear();
+    }
 }
 
 impl Hints for PlaceHints {
     ghost capacity = { λ hints. hints };
 
     fn hint(&mut self, place: u32) {
-        self.own.push(place);
+        if self.others.len() == 0 {
+            let _ = self.alone.push(place);
+        } else {
+            self.own.push(place);
+        }
     }
 }
