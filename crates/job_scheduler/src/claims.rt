@@ -13,6 +13,7 @@ use goal_board::{GoalRules, Right};
 /// How many places the first piece of a scan has, and the most that a later one has. Between two pieces a worker looks
 /// at the root goal, at the full word, and at what other workers were told of.
 const FIRST_PIECE: u32 = 64;
+
 const LONGEST_PIECE: u32 = 512;
 
 impl<R: GoalRules, J: Jobs<R>> Scheduler<R, J> {
