@@ -1,23 +1,35 @@
 -- The lines of a candidate ask what fits its children, and give what lies in its group.
-use Rattle.std.proofs.Common.{◌≡◌, ℕ, refl, sym, subst, inl, inr}
+use Rattle.std.proofs.Common.{◌≡◌, ℕ, refl, sym, subst, ◌∙◌, inl, inr, IsTrue}
 use Rattle.std.specs.Prelude.{Option, None, Some, slice_get}
 use Rattle.std.specs.Option.{option_map}
-use Rattle.query_core.specs.Expressions.{expr_of, physical_children, HasPhysical, IsFiltered, IsJoin, IsAggregated}
+use Rattle.query_core.specs.Expressions.{expr_of, physical_children, IsFiltered, IsJoin, IsAggregated}
 use Rattle.query_core.specs.Expressions.{IsPartial, IsCandidate}
-use Rattle.query_core.specs.Keys.{input_of, top_of}
+use Rattle.query_core.specs.Items.{is_column_of}
+use Rattle.query_core.specs.Keys.{has_item, input_of, top_of}
 use Rattle.query_core.specs.declared.query.Query.{Query}
 use Rattle.query_core.specs.declared.words.KeyParts.{KeyParts}
 use Rattle.query_core.specs.declared.words.KeyParts.TheVariants as groups
-use Rattle.query_core.specs.declared.expressions.Physical.{Physical}
-use Rattle.query_core.specs.declared.expressions.Physical.TheVariants as physical
 use Rattle.query_core.specs.declared.expressions.PhysicalExpr.{PhysicalExpr}
+use Rattle.query_core.specs.declared.expressions.Children.{Children}
 use Rattle.query_core.specs.declared.expressions.Children.TheVariants.{Zero, One, Two}
 use Rattle.request_props.specs.declared.given.GivenDist.{GivenDist}
 use Rattle.request_props.specs.declared.given.GivenOrder.{GivenOrder}
 use Rattle.request_props.specs.declared.given.GivenOrder.TheVariants.{Listed, Index}
 use Rattle.plan_space.specs.Gives.{gives_so}
-use Rattle.request_props.specs.Numbered.{group_order}
-use Rattle.plan_space.specs.Lines.{in_order, single_line, table_in, dists_of_table, table_line, operator_line, line_of}
+use Rattle.request_props.specs.Numbered.{IsNumbered, order_of}
+use Rattle.request_props.specs.Lying.{OrderLiesIn}
+use Rattle.plan_space.specs.Lines.{in_order, single_line, table_in, dists_of_table, table_line, order_read, join_line}
+use Rattle.plan_space.specs.Lines.{grouped_order, way_line, line_of}
+use Rattle.plan_space.specs.Ways.{way_of}
+use Rattle.plan_space.specs.declared.ways.Reading.{Reading}
+use Rattle.plan_space.specs.declared.ways.Reading.TheVariants.{InNoOrder, ByIndex}
+use Rattle.plan_space.specs.declared.ways.Kept.TheVariants.{Rows, SpreadRows}
+use Rattle.plan_space.specs.declared.ways.JoinBy.{JoinBy}
+use Rattle.plan_space.specs.declared.ways.JoinBy.TheVariants as joins
+use Rattle.plan_space.specs.declared.ways.GroupBy.{GroupBy}
+use Rattle.plan_space.specs.declared.ways.GroupBy.TheVariants as grouping
+use Rattle.plan_space.specs.declared.ways.Way.{Way}
+use Rattle.plan_space.specs.declared.ways.Way.TheVariants as ways
 use Rattle.plan_space.specs.declared.lines.LeftDist.TheVariants as left_dists
 use Rattle.plan_space.specs.declared.lines.LeftOrder.TheVariants as left_orders
 use Rattle.plan_space.specs.declared.lines.Line.{Line}
@@ -34,6 +46,7 @@ use Rattle.plan_space.proofs.Grouped.{HasGrouped, input_has_grouped, group_order
 use Rattle.plan_space.proofs.Joins.{hash_line_fits, merge_line_fits, loop_line_fits}
 use Rattle.plan_space.proofs.Leaves.{ReadsFit, scan_fits, index_scan_fits}
 use Rattle.plan_space.proofs.FewModes.{only_found}
+use Rattle.plan_space.proofs.WayShapes.{way_children, WayShape, children_same, way_shape}
 
 -- an operator with one line has no other
 only_one : (line found : Line) (mode : Mode) → single_line line mode ≡ Some found → line ≡ found
@@ -123,70 +136,79 @@ module _ (one : ListingIsOne) (q : Query) where
   join_lists group left right (set, a, b, of_set, falls, is_left, is_right) =
       subst (DistsFit q) (sym is_left) (top_dists_fit q a)
 
-  -- an operator over two children joins them
-  joins_by : (group left right : KeyParts) (operator : Physical) → HasPhysical q group operator
-      → physical_children operator ≡ Two left right → IsJoin q group left right
-  joins_by group left right physical.Scan shape is = cc
-  joins_by group left right (physical.IndexScan index) shape is = cc
-  joins_by group left right (physical.Filter child) shape is = cc
-  joins_by group left right (physical.IndexSeek index) shape is = cc
-  joins_by group left right (physical.HashJoin first second) shape is =
+  -- what stands on two groups joins them
+  joins_by : (group left right : KeyParts) (way : Way) → WayShape q group way → way_children way ≡ Two left right
+      → IsJoin q group left right
+  joins_by group left right (ways.Reads reading) shape is = cc
+  joins_by group left right (ways.Passes kept child) shape is = cc
+  joins_by group left right (ways.Joins by first second) shape is =
       let one_left : first ≡ left = cc in
       let one_right : second ≡ right = cc in
       subst (λ l. IsJoin q group l right) one_left (subst (IsJoin q group first) one_right shape)
-  joins_by group left right (physical.MergeJoin first second) shape is =
-      let one_left : first ≡ left = cc in
-      let one_right : second ≡ right = cc in
-      subst (λ l. IsJoin q group l right) one_left (subst (IsJoin q group first) one_right shape)
-  joins_by group left right (physical.LoopJoin first second) shape is =
-      let one_left : first ≡ left = cc in
-      let one_right : second ≡ right = cc in
-      subst (λ l. IsJoin q group l right) one_left (subst (IsJoin q group first) one_right shape)
-  joins_by group left right (physical.HashAgg child) shape is = cc
-  joins_by group left right (physical.StreamAgg child) shape is = cc
-  joins_by group left right (physical.PartialAgg child) shape is = cc
+  joins_by group left right (ways.Groups by child) shape is = cc
 
   -- the hash and the order of the left one of the columns that a predicate equates across the children fit the left
   -- child
   pub crossings_fit : CrossingsFit q
   crossings_fit e left right pred a b candidate over crosses =
-      let joins = join_shape e.group left right (joins_by e.group left right e.operator candidate.shape over) in
-      let sides = joins.sides pred (a, b) crosses in
+      let joined = join_shape e.group left right (joins_by e.group left right (way_of e.operator)
+      (way_shape q e.group e.operator candidate.shape) (sym (children_same e.operator) ∙ over)) in
+      let sides = joined.sides pred (a, b) crosses in
       let order = column_order_fits one q left a sides.in_left sides.left_joined in
       (column_hash_fits one q left a sides.in_left sides.left_joined, record { numbered = order.0; lies_in = order.1 })
 
-  -- the lines of an operator that a group of the query can have
-  line_fits : (group : KeyParts) (operator : Physical) (mode : Mode) (line : Line) → HasPhysical q group operator
-      → operator_line q group operator mode ≡ Some line → IsFitting q group (physical_children operator) line
-  line_fits group physical.Scan mode line (t, of_table) is =
-      table_line_fits group (groups.Get t) (λ g. Listed 0) mode line of_table is
-      (scan_fits one q t (groups.Get t) (λ i column. column))
-  line_fits group (physical.IndexScan index) mode line (t, of_table, there) is =
-      table_line_fits group (groups.Get t) (λ g. Index (table_in g) index) mode line of_table is
-      (index_scan_fits one q t (groups.Get t) (λ i column. column) index)
-  line_fits group (physical.Filter child) mode line shape is = filter_over group child mode line shape is
-  line_fits group (physical.IndexSeek index) mode line (t, of_table, there) is =
-      table_line_fits group (groups.Filter t) (λ g. Index (table_in g) index) mode line of_table is
-      (index_scan_fits one q t (groups.Filter t) (λ i column. column) index)
-  line_fits group (physical.HashJoin left right) mode line shape is =
+  -- the rows of a table, read in any of the orders in which it can be, lie in its group
+  read_fits : (t : ℕ) (own : KeyParts) → ((i : ℕ) → IsTrue (is_column_of q.items t i) → IsTrue (has_item q own i))
+      → table_in own ≡ t → (reading : Reading) → ReadsFit q (table_in own) own (order_read own reading)
+  read_fits t own columns is InNoOrder =
+      subst (λ x. ReadsFit q x own (Listed 0)) (sym is) (scan_fits one q t own columns)
+  read_fits t own columns is (ByIndex index) =
+      subst (λ x. ReadsFit q x own (Index x index)) (sym is) (index_scan_fits one q t own columns index)
+
+  reads_fit : (group : KeyParts) (reading : Reading) (mode : Mode) (line : Line) → WayShape q group (ways.Reads reading)
+      → table_line q group (order_read group reading) mode ≡ Some line → IsFitting q group Zero line
+  reads_fit group reading mode line (t, inl of_table) is =
+      table_line_fits group (groups.Get t) (λ g. order_read g reading) mode line of_table is
+      (read_fits t (groups.Get t) (λ i column. column) refl reading)
+  reads_fit group reading mode line (t, inr of_table) is =
+      table_line_fits group (groups.Filter t) (λ g. order_read g reading) mode line of_table is
+      (read_fits t (groups.Filter t) (λ i column. column) refl reading)
+
+  join_line_fits : (by : JoinBy) (group left right : KeyParts) (mode : Mode) (line : Line) → IsJoin q group left right
+      → join_line q by left right mode ≡ Some line → IsFitting q group (Two left right) line
+  join_line_fits joins.Hashing group left right mode line shape is =
       hash_line_fits one q group left right (join_lists group left right shape) (join_shape group left right shape) line
       mode is
-  line_fits group (physical.MergeJoin left right) mode line shape is =
+  join_line_fits joins.Merging group left right mode line shape is =
       merge_line_fits one q group left right (join_lists group left right shape) (join_shape group left right shape)
       line mode is
-  line_fits group (physical.LoopJoin left right) mode line shape is =
+  join_line_fits joins.Looping group left right mode line shape is =
       loop_line_fits one q group left right (join_lists group left right shape) (join_shape group left right shape) line
       mode is
-  line_fits group (physical.HashAgg child) mode line shape is =
+
+  -- the order in which rows are grouped fits each group that has the GROUP BY columns
+  grouped_order_fits : (by : GroupBy) (other : KeyParts) → HasGrouped q other
+      → IsNumbered q (grouped_order q by) × OrderLiesIn q other (order_of q (grouped_order q by))
+  grouped_order_fits grouping.Hashing other has = no_order_fits q other
+  grouped_order_fits grouping.Ordered other has = group_order_fits one q other has
+
+  -- the lines of a way of which a group of the query can have an operator
+  way_line_fits : (group : KeyParts) (way : Way) (mode : Mode) (line : Line) → WayShape q group way
+      → way_line q group way mode ≡ Some line → IsFitting q group (way_children way) line
+  way_line_fits group (ways.Reads reading) mode line shape is = reads_fit group reading mode line shape is
+  way_line_fits group (ways.Passes Rows child) mode line shape is = filter_over group child mode line shape is
+  way_line_fits group (ways.Passes SpreadRows child) mode line shape is = partial_over group child mode line shape is
+  way_line_fits group (ways.Joins by left right) mode line shape is =
+      join_line_fits by group left right mode line shape is
+  way_line_fits group (ways.Groups by child) mode line shape is =
       agg_over group child line shape (λ from has.
-      agg_line_fits q from has 0 (λ other has_too. no_order_fits q other) mode line is)
-  line_fits group (physical.StreamAgg child) mode line shape is =
-      agg_over group child line shape (λ from has.
-      agg_line_fits q from has (group_order q) (group_order_fits one q) mode line is)
-  line_fits group (physical.PartialAgg child) mode line shape is = partial_over group child mode line shape is
+      agg_line_fits q from has (grouped_order q by) (grouped_order_fits by) mode line is)
 
   -- the lines of an expression that a group of the query can hold
   pub candidate_line_fits : (e : PhysicalExpr) (mode : ℕ) (line : Line) → IsCandidate q (expr_of e)
       → line_of q e mode ≡ Some line
       → IsFitting q e.group (physical_children e.operator) line
-  candidate_line_fits e mode line candidate is = line_fits e.group e.operator (mode_at mode) line candidate.shape is
+  candidate_line_fits e mode line candidate is =
+      subst (λ (c : Children). IsFitting q e.group c line) (sym (children_same e.operator))
+      (way_line_fits e.group (way_of e.operator) (mode_at mode) line
+      (way_shape q e.group e.operator candidate.shape) is)

@@ -14,12 +14,16 @@ use Rattle.query_core.specs.declared.query.Query.{Query}
 use Rattle.query_core.specs.declared.words.KeyParts.{KeyParts}
 use Rattle.query_core.specs.declared.words.KeyParts.TheVariants as groups
 use Rattle.query_core.specs.declared.expressions.Physical.{Physical}
-use Rattle.query_core.specs.declared.expressions.Physical.TheVariants as physical
 use Rattle.query_core.specs.declared.expressions.Children.{Children}
 use Rattle.query_core.specs.declared.expressions.Children.TheVariants.{Zero, One, Two}
 use Rattle.std.specs.Prelude.{List, [], ◌∷◌, ⊤}
 use Rattle.plan_space.specs.Choices.{groups_of}
+use Rattle.plan_space.specs.Ways.{way_of}
+use Rattle.plan_space.specs.declared.ways.Kept.TheVariants.{Rows, SpreadRows}
+use Rattle.plan_space.specs.declared.ways.Way.{Way}
+use Rattle.plan_space.specs.declared.ways.Way.TheVariants.{Reads, Passes, Joins, Groups}
 use Rattle.plan_space.proofs.NodeCounts.{group_nodes, nodes_below, some_nodes}
+use Rattle.plan_space.proofs.WayShapes.{way_children, WayShape, children_same, way_shape}
 
 -- each of the groups has a lesser key
 abbrev pub HaveLesserKeys : KeyParts → List KeyParts → Type 0
@@ -132,19 +136,19 @@ module _ (q : Query) (group : KeyParts) where
   none_lesser : AreLesser group []
   none_lesser = record { keys = tt; nodes = some_nodes group }
 
+  way_lesser : (way : Way) → WayShape q group way → AreLesser group (groups_of (way_children way))
+  way_lesser (Reads reading) shape = none_lesser
+  way_lesser (Passes Rows child) shape = filtered_lesser child shape
+  way_lesser (Passes SpreadRows child) shape = partial_lesser child shape
+  way_lesser (Joins by left right) shape = joined_lesser left right shape
+  way_lesser (Groups by child) shape = aggregated_lesser child shape
+
   -- the children's groups have lesser keys, and fewer nodes together
   pub children_lesser : (operator : Physical) → HasPhysical q group operator
       → AreLesser group (groups_of (physical_children operator))
-  children_lesser physical.Scan shape = none_lesser
-  children_lesser (physical.IndexScan index) shape = none_lesser
-  children_lesser (physical.Filter child) shape = filtered_lesser child shape
-  children_lesser (physical.IndexSeek index) shape = none_lesser
-  children_lesser (physical.HashJoin left right) shape = joined_lesser left right shape
-  children_lesser (physical.MergeJoin left right) shape = joined_lesser left right shape
-  children_lesser (physical.LoopJoin left right) shape = joined_lesser left right shape
-  children_lesser (physical.HashAgg child) shape = aggregated_lesser child shape
-  children_lesser (physical.StreamAgg child) shape = aggregated_lesser child shape
-  children_lesser (physical.PartialAgg child) shape = partial_lesser child shape
+  children_lesser operator shape =
+      subst (λ (c : Children). AreLesser group (groups_of c)) (sym (children_same operator))
+      (way_lesser (way_of operator) (way_shape q group operator shape))
 
   -- so does each child's
   pub child_key : (children : Children) (child : KeyParts) → HaveLesserKeys group (groups_of children)

@@ -5,14 +5,18 @@ use Rattle.std.specs.Option.{option_map}
 use Rattle.std.proofs.lemmas.Bool.{cases_lt, cond_both, ltb-true}
 use Rattle.std.proofs.lemmas.Option.{slice_get_within}
 use Rattle.query_core.specs.Crossing.{crossing_at, crossing_of}
-use Rattle.query_core.specs.declared.expressions.Physical.{Physical}
-use Rattle.query_core.specs.declared.expressions.Physical.TheVariants as physical
 use Rattle.query_core.specs.declared.expressions.PhysicalExpr.{PhysicalExpr}
 use Rattle.query_core.specs.declared.predicate.Pred.{Pred}
 use Rattle.query_core.specs.declared.query.Query.{Query}
 use Rattle.query_core.specs.declared.words.KeyParts.{KeyParts}
-use Rattle.request_props.specs.Numbered.{lists_of, group_order}
-use Rattle.plan_space.specs.Lines.{only_line, hash_colocated, merge_colocated, agg_line, operator_line, line_of}
+use Rattle.request_props.specs.Numbered.{lists_of}
+use Rattle.plan_space.specs.Ways.{way_of}
+use Rattle.plan_space.specs.Lines.{only_line, hash_colocated, merge_colocated, agg_line, grouped_order, join_line}
+use Rattle.plan_space.specs.Lines.{way_line, line_of}
+use Rattle.plan_space.specs.declared.ways.JoinBy.{JoinBy}
+use Rattle.plan_space.specs.declared.ways.JoinBy.TheVariants as joins
+use Rattle.plan_space.specs.declared.ways.Way.{Way}
+use Rattle.plan_space.specs.declared.ways.Way.TheVariants as ways
 use Rattle.plan_space.specs.declared.lines.Line.{Line}
 use Rattle.plan_space.specs.Nodes.{node_modes}
 use Rattle.plan_space.specs.Modes.{mode_at, modes_end}
@@ -61,34 +65,35 @@ module _ (q : Query) (most : ℕ) (lists_fit : length (lists_of q) ≤ most) (pr
     crossing_line line_with number is = omega
         (arith, sides_few line_with number (crossing_of q left right number) refl is, preds_fit)
 
-  hashed_few : (group : KeyParts) (operator : Physical) (number : ℕ)
-      → IsFew (operator_line q group operator (Hashed number)) number
-  hashed_few group physical.Scan number = no_line number
-  hashed_few group (physical.IndexScan index) number = no_line number
-  hashed_few group (physical.Filter child) number = no_line number
-  hashed_few group (physical.IndexSeek index) number = no_line number
-  hashed_few group (physical.HashJoin left right) number = crossing_line left right (hash_colocated q) number
-  hashed_few group (physical.MergeJoin left right) number = crossing_line left right (merge_colocated q) number
-  hashed_few group (physical.LoopJoin left right) number = no_line number
-  hashed_few group (physical.HashAgg child) number = agg_few 0 number
-  hashed_few group (physical.StreamAgg child) number = agg_few (group_order q) number
-  hashed_few group (physical.PartialAgg child) number = no_line number
+  join_few : (by : JoinBy) (left right : KeyParts) (number : ℕ)
+      → IsFew (join_line q by left right (Hashed number)) number
+  join_few joins.Hashing left right number = crossing_line left right (hash_colocated q) number
+  join_few joins.Merging left right number = crossing_line left right (merge_colocated q) number
+  join_few joins.Looping left right number = no_line number
+
+  hashed_few : (group : KeyParts) (way : Way) (number : ℕ) → IsFew (way_line q group way (Hashed number)) number
+  hashed_few group (ways.Reads reading) number = no_line number
+  hashed_few group (ways.Passes kept child) number = no_line number
+  hashed_few group (ways.Joins by left right) number = join_few by left right number
+  hashed_few group (ways.Groups by child) number = agg_few (grouped_order q by) number
 
   -- so no mode goes further than 128 and that
-  line_few : (group : KeyParts) (operator : Physical) (mode : ℕ)
-      → operator_line q group operator (mode_at mode) ≡ Some line → mode < 128 + most
-  line_few group operator mode is = elim (cases_lt mode 128) [
+  line_few : (group : KeyParts) (way : Way) (mode : ℕ) → way_line q group way (mode_at mode) ≡ Some line
+      → mode < 128 + most
+  line_few group way mode is = elim (cases_lt mode 128) [
     | inl near ↦ omega (arith, near)
     | inr far ↦
-        let there = subst (λ (m : Mode). operator_line q group operator m ≡ Some line) (hashed_at mode far) is in
-        omega (arith, far, hashed_few group operator (mode - 128) there)
+        let there = subst (λ (m : Mode). way_line q group way m ≡ Some line) (hashed_at mode far) is in
+        omega (arith, far, hashed_few group way (mode - 128) there)
   ]
 
 -- an expression has lines in modes below their end only, where the query has few hashed lists
 pub few_modes : (q : Query) → length (lists_of q) ≤ 60 → (e : PhysicalExpr) (mode : ℕ) (line : Line)
     → line_of q e mode ≡ Some line → mode < modes_end
-few_modes q few e mode line = line_few q 64 (omega (arith, few)) (omega arith) line e.group e.operator mode
+few_modes q few e mode line = line_few q 64 (omega (arith, few)) (omega arith) line e.group (way_of e.operator) mode
 
 -- and a node's number can name them in each query
-pub byte_modes : (q : Query) (e : PhysicalExpr) (mode : ℕ) (line : Line) → line_of q e mode ≡ Some line → mode < node_modes
-byte_modes q e mode line = line_few q 128 (omega (arith, lists_few q)) (omega arith) line e.group e.operator mode
+pub byte_modes : (q : Query) (e : PhysicalExpr) (mode : ℕ) (line : Line) → line_of q e mode ≡ Some line
+    → mode < node_modes
+byte_modes q e mode line =
+    line_few q 128 (omega (arith, lists_few q)) (omega arith) line e.group (way_of e.operator) mode

@@ -26,7 +26,7 @@ use Rattle.plan_space.specs.Laws.{AsksWhatFits}
 use Rattle.plan_space.proofs.Exchange.{IsOrdered, same_shape, exchange}
 use Rattle.plan_space.proofs.Kids.{sights, AreValid, kids_of_children}
 use Rattle.plan_space.proofs.Serving.{enforcer_serves}
-use Rattle.plan_space.proofs.Choice.{AreSettled}
+use Rattle.plan_space.proofs.LeastBelow.{AreSettled}
 use Rattle.plan_space.proofs.Plans.{at_most_costs}
 use Rattle.plan_space.proofs.NodeCounts.{group_nodes, most_nodes, nodes_below, request_few, some_nodes, all_few}
 use Rattle.plan_space.proofs.Children.{children_lesser}

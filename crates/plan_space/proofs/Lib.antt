@@ -5,6 +5,7 @@ pub mod Fitting
 pub mod Joins
 pub mod Leaves
 pub mod Grouped
+pub mod WayShapes
 pub mod Candidates
 pub mod Given
 pub mod Enforcers
@@ -25,6 +26,7 @@ pub mod Children
 pub mod Below
 pub mod Serving
 pub mod Roots
+pub mod LeastBelow
 pub mod Choice
 pub mod Cheapest
 pub mod LeastCosts

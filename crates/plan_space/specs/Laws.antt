@@ -182,4 +182,5 @@ RootRequestIsCollected q = (props : Props) → IsProps q props → props.root �
 -- where a query has at most 60 hashed lists, an expression has lines in modes below their end only
 abbrev pub ModesAreFew : Query → Type 0
 ModesAreFew q =
-    length (lists_of q) ≤ 60 → (e : PhysicalExpr) (mode : ℕ) (line : Line) → line_of q e mode ≡ Some line → mode < modes_end
+    length (lists_of q) ≤ 60 → (e : PhysicalExpr) (mode : ℕ) (line : Line) → line_of q e mode ≡ Some line
+    → mode < modes_end

@@ -1,5 +1,6 @@
 pub mod Nodes
 pub mod Modes
+pub mod Ways
 pub mod Lines
 pub mod Gives
 pub mod Valid

@@ -7,7 +7,6 @@ use Rattle.query_core.specs.declared.query.Query.{Query}
 use Rattle.query_core.specs.declared.words.KeyParts.{KeyParts}
 use Rattle.query_core.specs.declared.words.KeyParts.TheVariants as groups
 use Rattle.query_core.specs.declared.expressions.Physical.{Physical}
-use Rattle.query_core.specs.declared.expressions.Physical.TheVariants as physical
 use Rattle.query_core.specs.declared.expressions.PhysicalExpr.{PhysicalExpr}
 use Rattle.request_props.specs.Numbered.{lists_of, table_dist, column_list, column_order, group_order}
 use Rattle.request_props.specs.declared.given.GivenDist.{GivenDist}
@@ -23,6 +22,17 @@ use Rattle.plan_space.specs.declared.lines.LeftOrder.{LeftOrder}
 use Rattle.plan_space.specs.declared.lines.LeftOrder.TheVariants as left_orders
 use Rattle.plan_space.specs.declared.lines.Line.{Line}
 use Rattle.plan_space.specs.declared.lines.Line.TheVariants.{Leaf, Above, Beside}
+use Rattle.plan_space.specs.declared.ways.Reading.{Reading}
+use Rattle.plan_space.specs.declared.ways.Reading.TheVariants.{InNoOrder, ByIndex}
+use Rattle.plan_space.specs.declared.ways.Kept.{Kept}
+use Rattle.plan_space.specs.declared.ways.Kept.TheVariants.{Rows, SpreadRows}
+use Rattle.plan_space.specs.declared.ways.JoinBy.{JoinBy}
+use Rattle.plan_space.specs.declared.ways.JoinBy.TheVariants as joins
+use Rattle.plan_space.specs.declared.ways.GroupBy.{GroupBy}
+use Rattle.plan_space.specs.declared.ways.GroupBy.TheVariants as grouping
+use Rattle.plan_space.specs.declared.ways.Way.{Way}
+use Rattle.plan_space.specs.declared.ways.Way.TheVariants.{Reads, Passes, Joins, Groups}
+use Rattle.plan_space.specs.Ways.{way_of}
 use Rattle.plan_space.specs.Modes.{mode_at}
 use Rattle.plan_space.specs.declared.modes.Mode.{Mode}
 use Rattle.plan_space.specs.declared.modes.Mode.TheVariants.{Plain, Copied, Hashed}
@@ -42,7 +52,7 @@ on_one = left_dists.Fixed given.One dists.One
 abbrev pub on_hashed : ℕ → LeftDist
 on_hashed list = left_dists.Fixed (given.Hashed list) (dists.Hashed list)
 
--- ---- the lines of each operator
+-- ---- the lines of each way
 
 -- a line where the number is 0
 abbrev pub only_line : Line → ℕ → Option Line
@@ -66,8 +76,8 @@ table_in groups.Agg = 0
 abbrev pub is_replicated : Query → ℕ → Bool
 is_replicated q t = option_map_or (λ table. table.replicated) (slice_get q.tables t) false
 
--- where each segment has all rows of a table, a read gives a share of its own on each segment, all rows at one place, or
--- all rows on each segment
+-- where each segment has all rows of a table, a read gives a share of its own on each segment, all rows at one place,
+-- or all rows on each segment
 abbrev pub replica_dists : List GivenDist
 replica_dists = given.Random ∷ given.One ∷ given.Copies ∷ []
 
@@ -125,18 +135,36 @@ agg_line q order (Hashed number) =
 
 -- ---- the table
 
--- the line of a group's operator in a mode, if it has the mode
+-- in no order, or in that of the index of this number of the group's table
+abbrev pub order_read : KeyParts → Reading → GivenOrder
+order_read group InNoOrder = Listed 0
+order_read group (ByIndex index) = Index (table_in group) index
+
+-- all rows where they lie and in their order, or rows that are shared out, in no order
+abbrev pub kept_line : Kept → Line
+kept_line Rows = Above left_dists.Same left_orders.Same
+kept_line SpreadRows = Above left_dists.SameSpread (in_order 0)
+
+abbrev pub join_line : Query → JoinBy → KeyParts → KeyParts → Mode → Option Line
+join_line q joins.Hashing left right mode = hash_line q left right mode
+join_line q joins.Merging left right mode = merge_line q left right mode
+join_line q joins.Looping left right mode = loop_line mode
+
+-- the order in which rows are grouped
+abbrev pub grouped_order : Query → GroupBy → ℕ
+grouped_order q grouping.Hashing = 0
+grouped_order q grouping.Ordered = group_order q
+
+-- the line of a group's way of working in a mode, if it has the mode
+abbrev pub way_line : Query → KeyParts → Way → Mode → Option Line
+way_line q group (Reads reading) mode = table_line q group (order_read group reading) mode
+way_line q group (Passes kept child) mode = single_line (kept_line kept) mode
+way_line q group (Joins by left right) mode = join_line q by left right mode
+way_line q group (Groups by child) mode = agg_line q (grouped_order q by) mode
+
+-- that of a group's operator
 abbrev pub operator_line : Query → KeyParts → Physical → Mode → Option Line
-operator_line q group physical.Scan mode = table_line q group (Listed 0) mode
-operator_line q group (physical.IndexScan index) mode = table_line q group (Index (table_in group) index) mode
-operator_line q group (physical.Filter child) mode = single_line (Above left_dists.Same left_orders.Same) mode
-operator_line q group (physical.IndexSeek index) mode = table_line q group (Index (table_in group) index) mode
-operator_line q group (physical.HashJoin left right) mode = hash_line q left right mode
-operator_line q group (physical.MergeJoin left right) mode = merge_line q left right mode
-operator_line q group (physical.LoopJoin left right) mode = loop_line mode
-operator_line q group (physical.HashAgg child) mode = agg_line q 0 mode
-operator_line q group (physical.StreamAgg child) mode = agg_line q (group_order q) mode
-operator_line q group (physical.PartialAgg child) mode = single_line (Above left_dists.SameSpread (in_order 0)) mode
+operator_line q group operator mode = way_line q group (way_of operator) mode
 
 -- the line of an expression in the mode of a number, if it has the mode
 abbrev pub line_of : Query → PhysicalExpr → ℕ → Option Line

@@ -6,6 +6,7 @@ mod lines;
 mod modes;
 mod nodes;
 mod seen;
+mod ways;
 
 pub use laws::{
     choices_serve, costs_fit, keys_fall, least_is_one, modes_are_few, plans_are_ordered,
@@ -16,3 +17,4 @@ pub use lines::{LeftDist, LeftOrder, Line};
 pub use modes::{END as MODES_END, Mode, ModeSets};
 pub use nodes::{Enforcer, NodeKind};
 pub use seen::Kid;
+pub use ways::{GroupBy, JoinBy, Kept, Reading, Way};

@@ -11,9 +11,9 @@ use request_props::NumberSet;
 /// How an expression works, with the number of an equality or of a hashed list where it works by one.
 #[derive(Clone, Copy, PartialEq, Eq)]
 pub enum Mode {
-    /// Neither with copies nor by a hash. A join or an aggregation has all rows on one segment. A read of a table that has
-    /// all its rows on each segment gives by the number a share on each segment (0), all rows at one place (1), or all
-    /// rows on each segment (2).
+    /// Neither with copies nor by a hash. A join or an aggregation has all rows on one segment. A read of a table that
+    /// has all its rows on each segment gives by the number a share on each segment (0), all rows at one place (1), or
+    /// all rows on each segment (2).
     Plain(u32),
     /// The left rows where they lie, and copies of the right rows on each segment.
     Copied(u32),
