@@ -1,12 +1,9 @@
--- The modes of an expression that are exactly those to try, as those of its operator are; of no join they are among
--- these.
-use Rattle.std.proofs.Common.{◌≡◌, ◌↔◌, ℕ, Some, ap, refl, sym, subst, ◌∙◌, IsTrue}
+-- The modes of an expression that are exactly those to try, as those of its way of working are; of no join they are
+-- among these.
+use Rattle.std.proofs.Common.{◌≡◌, ◌↔◌, ℕ, Some, sym, subst, IsTrue}
 use Rattle.query_core.specs.Crossing.{crossing_of}
-use Rattle.query_core.specs.Expressions.{physical_children}
 use Rattle.query_core.specs.declared.expressions.Children.{Children}
 use Rattle.query_core.specs.declared.expressions.Children.TheVariants as arities
-use Rattle.query_core.specs.declared.expressions.Physical.{Physical}
-use Rattle.query_core.specs.declared.expressions.Physical.TheVariants as physical
 use Rattle.query_core.specs.declared.expressions.PhysicalExpr.{PhysicalExpr}
 use Rattle.query_core.specs.declared.query.Query.{Query}
 use Rattle.query_core.specs.declared.words.KeyParts.{KeyParts}
@@ -14,7 +11,12 @@ use Rattle.request_props.specs.Fitting.{HashFits, OrderFits}
 use Rattle.request_props.specs.Numbered.{column_list, column_order}
 use Rattle.request_props.specs.declared.request.Request.{Request}
 use Rattle.plan_space.specs.Alternatives.{LineServes}
-use Rattle.plan_space.specs.Lines.{loop_line, operator_line}
+use Rattle.plan_space.specs.Lines.{loop_line, join_line, way_line}
+use Rattle.plan_space.specs.Ways.{way_of}
+use Rattle.plan_space.specs.declared.ways.JoinBy.{JoinBy}
+use Rattle.plan_space.specs.declared.ways.JoinBy.TheVariants as joins
+use Rattle.plan_space.specs.declared.ways.Way.{Way}
+use Rattle.plan_space.specs.declared.ways.Way.TheVariants.{Joins}
 use Rattle.plan_space.specs.Laws.{CrossingsFit}
 use Rattle.plan_space.specs.Modes.{HasModeIn, mode_at}
 use Rattle.plan_space.specs.declared.lines.Line.{Line}
@@ -23,34 +25,34 @@ use Rattle.plan_space.specs.declared.modes.Mode.TheVariants as kinds
 use Rattle.plan_space.specs.declared.modes.ModeSets.{ModeSets}
 use Rattle.plan_tree.specs.Alternatives.{HasAlternative}
 use Rattle.plan_tree.specs.ServingModes.{AreServingByKind, AreServing, AreToTry, IsModeFor, is_join}
+use Rattle.plan_tree.proofs.JoinWays.{join_children}
 use Rattle.plan_tree.proofs.NumberedLines.{only_own}
 use Rattle.plan_tree.proofs.JoinModes.{HasServing}
 
 module _ (q : Query) (e : PhysicalExpr) (left right : KeyParts) (wanted : Request) (modes : ModeSets) where
-  -- where the modes of an operator over the children that serve are exactly these of the kind, so are those of the
+  -- where the modes of a join over the children that serve are exactly these of the kind, so are those of the
   -- expression
-  pub to_try_by : CrossingsFit q → (operator : Physical) → e.operator ≡ operator
-      → physical_children operator ≡ arities.Two left right
-      → ((mode : Mode) (line : Line) → operator_line q e.group operator mode ≡ Some line
+  pub to_try_by : CrossingsFit q → (by : JoinBy) → way_of e.operator ≡ Joins by left right
+      → ((mode : Mode) (line : Line) → join_line q by left right mode ≡ Some line
       → LineServes q line (arities.Two left right) wanted → HasModeIn modes mode)
       → (((pred a b : ℕ) → crossing_of q left right pred ≡ Some (a, b) → HashFits q left (column_list q a)
       × OrderFits q left (column_order q a))
       → (mode : Mode) → HasModeIn modes mode → IsModeFor wanted.dist mode
-      → HasServing q left right wanted (operator_line q e.group operator mode))
+      → HasServing q left right wanted (join_line q by left right mode))
       → AreServingByKind q e wanted modes
-  to_try_by known operator joins over among only =
-      let children : physical_children e.operator ≡ arities.Two left right = ap physical_children joins ∙ over in
+  to_try_by known by is_join among only =
+      let children = join_children e.operator by left right is_join in
       record {
         all = λ mode (line, is).
-            among (mode_at mode) line (subst (λ (o : Physical). operator_line q e.group o (mode_at mode) ≡ Some line)
-            joins is.is_line)
+            among (mode_at mode) line (subst (λ (way : Way). way_line q e.group way (mode_at mode) ≡ Some line)
+            is_join is.is_line)
             (subst (λ (c : Children). LineServes q line c wanted) children is.serves);
         only = λ candidate join mode has kind.
             let (line, found, serves) = only (λ pred a b crosses.
             known e left right pred a b candidate children crosses) (mode_at mode) has kind in (
               line,
               record {
-                is_line = subst (λ (o : Physical). operator_line q e.group o (mode_at mode) ≡ Some line) (sym joins)
+                is_line = subst (λ (way : Way). way_line q e.group way (mode_at mode) ≡ Some line) (sym is_join)
                     found;
                 serves = subst (λ (c : Children). LineServes q line c wanted) (sym children) serves;
               },
@@ -71,27 +73,13 @@ module _ (q : Query) (e : PhysicalExpr) (left right : KeyParts) (wanted : Reques
       record { numbered = own.fits.numbered; lies_in = own.fits.order }
   loop_fits (kinds.Hashed number) line is serves = cc
 
-  pub loop_join_fits : e.operator ≡ physical.LoopJoin left right → (mode : ℕ) → HasAlternative q e wanted mode
+  pub loop_join_fits : way_of e.operator ≡ Joins joins.Looping left right → (mode : ℕ) → HasAlternative q e wanted mode
       → OrderFits q left wanted.order
-  loop_join_fits joins mode (line, is) =
-      loop_fits (mode_at mode) line (subst (λ (o : Physical). operator_line q e.group o (mode_at mode) ≡ Some line)
-      joins is.is_line)
-      (subst (λ (o : Physical). LineServes q line (physical_children o) wanted) joins is.serves)
-
--- what is none of the three joins is no join
-pub no_join : (operator : Physical) → ((left right : KeyParts) → operator ≡ physical.HashJoin left right → ⊥)
-    → ((left right : KeyParts) → operator ≡ physical.MergeJoin left right → ⊥)
-    → ((left right : KeyParts) → operator ≡ physical.LoopJoin left right → ⊥) → IsTrue (is_join operator) → ⊥
-no_join physical.Scan hash merge loop is = cc
-no_join (physical.IndexScan index) hash merge loop is = cc
-no_join (physical.Filter child) hash merge loop is = cc
-no_join (physical.IndexSeek index) hash merge loop is = cc
-no_join (physical.HashJoin left right) hash merge loop is = hash left right refl
-no_join (physical.MergeJoin left right) hash merge loop is = merge left right refl
-no_join (physical.LoopJoin left right) hash merge loop is = loop left right refl
-no_join (physical.HashAgg child) hash merge loop is = cc
-no_join (physical.StreamAgg child) hash merge loop is = cc
-no_join (physical.PartialAgg child) hash merge loop is = cc
+  loop_join_fits loops mode (line, is) =
+      loop_fits (mode_at mode) line (subst (λ (way : Way). way_line q e.group way (mode_at mode) ≡ Some line) loops
+      is.is_line)
+      (subst (λ (c : Children). LineServes q line c wanted) (join_children e.operator joins.Looping left right loops)
+      is.serves)
 
 module _ (q : Query) (e : PhysicalExpr) (wanted : Request) (modes : ModeSets) where
   -- where none serves, no modes are those that do

@@ -1,6 +1,5 @@
 -- Joins serve all requests for distributions that they can give: hash joins without an order, loop joins in an order
--- that
--- fits the left child, and merge joins in one that a column gives by which they merge.
+-- that fits the left child, and merge joins in one that a column gives by which they merge.
 use Rattle.std.proofs.Common.{◌≡◌, ℕ, ◌+◌, ◌-◌, ◌<◌, [], Option, None, Some, true, false, nat_lt, ap, refl, sym, subst}
 use Rattle.std.proofs.Common.{arith, lt-ltb}
 use Rattle.std.specs.Prelude.{slice_get}
@@ -8,12 +7,9 @@ use Rattle.std.proofs.lemmas.Bool.{le-ltb}
 use Rattle.std.proofs.lemmas.Option.{slice_get_within}
 use Rattle.std.proofs.lemmas.List.Elements.{All-nil}
 use Rattle.query_core.specs.Crossing.{crossing_at, crossing_of}
-use Rattle.query_core.specs.Expressions.{IsCandidate, expr_of, physical_children}
+use Rattle.query_core.specs.Expressions.{IsCandidate, expr_of}
 use Rattle.query_core.specs.declared.predicate.Pred.{Pred}
 use Rattle.query_core.specs.declared.expressions.Children.{Children}
-use Rattle.query_core.specs.declared.expressions.Children.TheVariants as arities
-use Rattle.query_core.specs.declared.expressions.Physical.{Physical}
-use Rattle.query_core.specs.declared.expressions.Physical.TheVariants as physical
 use Rattle.query_core.specs.declared.expressions.PhysicalExpr.{PhysicalExpr}
 use Rattle.query_core.specs.declared.query.Query.{Query}
 use Rattle.query_core.specs.declared.words.KeyParts.{KeyParts}
@@ -26,9 +22,14 @@ use Rattle.request_props.specs.declared.request.Dist.TheVariants.{One, Spread, C
 use Rattle.request_props.specs.declared.request.Request.{Request}
 use Rattle.plan_space.specs.Alternatives.{DistServes, JoinServes, LineServes, dist_asked}
 use Rattle.plan_space.specs.Laws.{CrossingsFit}
-use Rattle.plan_space.specs.Lines.{hash_line, in_order, loop_line, merge_line, merge_with, on_one, operator_line}
+use Rattle.plan_space.specs.Lines.{hash_line, in_order, loop_line, merge_line, merge_with, on_one, join_line, way_line}
 use Rattle.plan_space.specs.Lines.{request}
 use Rattle.plan_space.specs.Modes.{mode_at}
+use Rattle.plan_space.specs.Ways.{way_of}
+use Rattle.plan_space.specs.declared.ways.JoinBy.{JoinBy}
+use Rattle.plan_space.specs.declared.ways.JoinBy.TheVariants as joins
+use Rattle.plan_space.specs.declared.ways.Way.{Way}
+use Rattle.plan_space.specs.declared.ways.Way.TheVariants.{Joins}
 use Rattle.plan_space.specs.declared.modes.Mode.TheVariants as kinds
 use Rattle.plan_space.specs.declared.lines.LeftDist.{LeftDist}
 use Rattle.plan_space.specs.declared.lines.LeftDist.TheVariants as left_dists
@@ -36,6 +37,7 @@ use Rattle.plan_space.specs.declared.lines.LeftOrder.{LeftOrder}
 use Rattle.plan_space.specs.declared.lines.LeftOrder.TheVariants as left_orders
 use Rattle.plan_space.specs.declared.lines.Line.TheVariants.{Beside}
 use Rattle.plan_tree.specs.ServingModes.{DistSuits, MayServe}
+use Rattle.plan_tree.proofs.JoinWays.{join_children}
 use Rattle.plan_tree.proofs.JoinsTried.{MergesIn}
 
 -- the mode for a distribution: on one segment, or with copies of the right side
@@ -125,55 +127,55 @@ merge_by q left right Copies pred a b near crosses = copied_by q left right pred
 merge_by q left right (Hashed list) pred a b near crosses = copied_by q left right pred a b near crosses
 
 module _ (q : Query) (e : PhysicalExpr) (left right : KeyParts) (wanted : Request) where
-  -- an operator over the children serves a request in a mode whose line does
-  serves_by : (operator : Physical) (mode : ℕ) (dist : LeftDist) (order : LeftOrder) (asked : Request)
-      → e.operator ≡ operator
-      → physical_children operator ≡ arities.Two left right
-      → operator_line q e.group operator (mode_at mode) ≡ Some (Beside dist order asked)
+  -- a join of the groups serves a request in a mode whose line does
+  serves_by : (by : JoinBy) (mode : ℕ) (dist : LeftDist) (order : LeftOrder) (asked : Request)
+      → way_of e.operator ≡ Joins by left right
+      → join_line q by left right (mode_at mode) ≡ Some (Beside dist order asked)
       → JoinServes q left dist order wanted → MayServe q e wanted
-  serves_by operator mode dist order asked is over found serves =
+  serves_by by mode dist order asked is found serves =
       let line = Beside dist order asked in
-      let children = subst (λ (c : Children). LineServes q line c wanted) (sym over) serves in (
+      let over = join_children e.operator by left right is in (
         mode,
         (
           line,
           record {
-            is_line = subst (λ (o : Physical). operator_line q e.group o (mode_at mode) ≡ Some line) (sym is) found;
-            serves = subst (λ (o : Physical). LineServes q line (physical_children o) wanted) (sym is) children;
+            is_line = subst (λ (way : Way). way_line q e.group way (mode_at mode) ≡ Some line) (sym is) found;
+            serves = subst (λ (c : Children). LineServes q line c wanted) (sym over) serves;
           },
         ),
       )
 
   module _ (suits : DistSuits q left wanted.dist) where
     -- a hash join serves a request without an order, where it can give the distribution
-    pub hash_join_serves : e.operator ≡ physical.HashJoin left right → BeginsWith [] (order_of q wanted.order)
+    pub hash_join_serves : way_of e.operator ≡ Joins joins.Hashing left right → BeginsWith [] (order_of q wanted.order)
         → MayServe q e wanted
     hash_join_serves is none =
-        serves_by (physical.HashJoin left right) (mode_by wanted.dist) (left_by wanted.dist) (in_order 0)
-        (request (right_by wanted.dist) 0) is refl (hash_by q left right wanted.dist) (record {
+        serves_by joins.Hashing (mode_by wanted.dist) (left_by wanted.dist) (in_order 0)
+        (request (right_by wanted.dist) 0) is (hash_by q left right wanted.dist) (record {
           serves = record { dist_served = dist_served q left wanted.dist suits; order_served = none };
           fits = record { dist = dist_fits q left wanted.dist suits; numbered = omega arith; order = All-nil _ };
         })
 
     -- a loop join serves one whose order fits the left child
-    pub loop_join_serves : e.operator ≡ physical.LoopJoin left right → OrderFits q left wanted.order
+    pub loop_join_serves : way_of e.operator ≡ Joins joins.Looping left right → OrderFits q left wanted.order
         → MayServe q e wanted
     loop_join_serves is fits =
-        serves_by (physical.LoopJoin left right) (mode_by wanted.dist) (left_by wanted.dist) left_orders.Same
-        (request (right_by wanted.dist) 0) is refl (loop_by wanted.dist) (record {
+        serves_by joins.Looping (mode_by wanted.dist) (left_by wanted.dist) left_orders.Same
+        (request (right_by wanted.dist) 0) is (loop_by wanted.dist) (record {
           serves = record { dist_served = dist_served q left wanted.dist suits; order_served = tt };
           fits = record { dist = dist_fits q left wanted.dist suits; numbered = fits.numbered; order = fits.lies_in };
         })
 
     -- a merge join serves one whose order a column that it merges by gives
-    pub merge_join_serves : CrossingsFit q → IsCandidate q (expr_of e) → e.operator ≡ physical.MergeJoin left right
+    pub merge_join_serves : CrossingsFit q → IsCandidate q (expr_of e)
+        → way_of e.operator ≡ Joins joins.Merging left right
         → (pred : ℕ) → CrossesBy q left right (MergesIn q wanted.order) pred → MayServe q e wanted
     merge_join_serves known candidate is pred (a, b, crosses, merges) =
         let near = crossing_near q left right pred a b crosses in
-        let over : physical_children e.operator ≡ arities.Two left right = ap physical_children is in
+        let over = join_children e.operator joins.Merging left right is in
         let fits = (known e left right pred a b candidate over crosses).1 in
-        serves_by (physical.MergeJoin left right) (mode_by_pred wanted.dist pred) (left_by wanted.dist)
-        (in_order (column_order q a)) (request (right_by wanted.dist) (column_order q b)) is refl
+        serves_by joins.Merging (mode_by_pred wanted.dist pred) (left_by wanted.dist)
+        (in_order (column_order q a)) (request (right_by wanted.dist) (column_order q b)) is
         (merge_by q left right wanted.dist pred a b near crosses) (record {
           serves = record { dist_served = dist_served q left wanted.dist suits; order_served = merges };
           fits = record { dist = dist_fits q left wanted.dist suits; numbered = fits.numbered; order = fits.lies_in };

@@ -1,19 +1,16 @@
 -- By which equalities across its groups a join serves a request: a merge join by those whose left column gives the
--- order,
--- and one of rows that are hashed alike by those whose left column gives the hash.
-use Rattle.std.proofs.Common.{◌≡◌, ◌↔◌, ℕ, Option, Some, None, refl, sym, subst}
+-- order, and one of rows that are hashed alike by those whose left column gives the hash.
+use Rattle.std.proofs.Common.{◌≡◌, ℕ, Option, Some, None, refl, subst}
 use Rattle.std.specs.Option.{option_map}
 use Rattle.query_core.specs.Crossing.{crossing_of}
 use Rattle.query_core.specs.Expressions.{physical_children}
 use Rattle.query_core.specs.declared.expressions.Children.{Children}
 use Rattle.query_core.specs.declared.expressions.Children.TheVariants as arities
-use Rattle.query_core.specs.declared.expressions.Physical.{Physical}
-use Rattle.query_core.specs.declared.expressions.Physical.TheVariants as physical
 use Rattle.query_core.specs.declared.expressions.PhysicalExpr.{PhysicalExpr}
 use Rattle.query_core.specs.declared.query.Query.{Query}
 use Rattle.query_core.specs.declared.words.KeyParts.{KeyParts}
 use Rattle.request_props.specs.Ends.{AreCrossingBy}
-use Rattle.request_props.specs.NumberSets.{HasBelow, IsInSet}
+use Rattle.request_props.specs.NumberSets.{IsInSet}
 use Rattle.request_props.specs.Numbered.{column_list, column_order, order_of}
 use Rattle.request_props.specs.Satisfied.{BeginsWith, Meets}
 use Rattle.request_props.specs.declared.given.GivenDist.TheVariants as given
@@ -22,9 +19,13 @@ use Rattle.request_props.specs.declared.request.Dist.{Dist}
 use Rattle.request_props.specs.declared.request.Dist.TheVariants.{One, Copies, Hashed}
 use Rattle.request_props.specs.declared.request.Request.{Request}
 use Rattle.plan_space.specs.Alternatives.{LineServes}
-use Rattle.plan_space.specs.Lines.{on_one, on_hashed, hash_colocated, hash_line, merge_with, merge_colocated}
-use Rattle.plan_space.specs.Lines.{merge_line, operator_line}
-use Rattle.plan_space.specs.Modes.{mode_at, HasModeIn}
+use Rattle.plan_space.specs.Lines.{on_one, on_hashed, hash_colocated, merge_with, merge_colocated}
+use Rattle.plan_space.specs.Lines.{merge_line, way_line}
+use Rattle.plan_space.specs.Ways.{way_of}
+use Rattle.plan_space.specs.declared.ways.JoinBy.TheVariants as joins
+use Rattle.plan_space.specs.declared.ways.Way.{Way}
+use Rattle.plan_space.specs.declared.ways.Way.TheVariants.{Joins}
+use Rattle.plan_space.specs.Modes.{mode_at}
 use Rattle.plan_space.specs.declared.lines.LeftDist.{LeftDist}
 use Rattle.plan_space.specs.declared.lines.LeftDist.TheVariants as left_dists
 use Rattle.plan_space.specs.declared.lines.Line.{Line}
@@ -33,7 +34,7 @@ use Rattle.plan_space.specs.declared.modes.Mode.TheVariants as kinds
 use Rattle.plan_space.specs.declared.modes.ModeSets.{ModeSets}
 use Rattle.plan_tree.specs.ServingModes.{AreServing, MayServe}
 use Rattle.plan_tree.specs.Walks.{AreTriedOf}
-use Rattle.plan_tree.proofs.TriedOfOperators.{only_first, operator_tried}
+use Rattle.plan_tree.proofs.TriedOfWays.{way_tried}
 
 -- rows in the order of the left column are in the order
 abbrev pub MergesIn : Query → ℕ → ℕ → Type 0
@@ -82,61 +83,6 @@ module _ (q : Query) (line : Line) (children : Children) (wanted : Request) (lef
       let same : line ≡ line_with (a, b) = cc in
       (all pred).1 (a, b, at, each (a, b) (subst (λ (l : Line). LineServes q l children wanted) same serves))
 
-  module _ (hashing : NumberSet) (hashes : AreHashingTo q left right wanted.dist hashing) where
-    hash_mode : (modes : ModeSets) → HasBelow modes.plain 1 → HasBelow modes.copied 1 → modes.hashed ≡ hashing
-        → (mode : Mode) → hash_line q left right mode ≡ Some line → LineServes q line children wanted
-        → HasModeIn modes mode
-    hash_mode modes one copied hashed (kinds.Plain number) is serves = one number (only_first _ line number is)
-    hash_mode modes one copied hashed (kinds.Copied number) is serves = copied number (only_first _ line number is)
-    hash_mode modes one copied hashed (kinds.Hashed number) is serves =
-        subst (λ preds. IsInSet preds number) (sym hashed)
-        (found_serves (HashesTo q wanted.dist) hashing hashes (hash_colocated q)
-        (λ sides. hash_serves q sides children wanted) number (crossing_of q left right number) refl is serves)
-
-    module _ (merging both : NumberSet) (merges : AreMergingIn q left right wanted.order merging)
-        (in_both : (pred : ℕ) → IsInSet both pred ↔ (IsInSet merging pred × IsInSet hashing pred)) where
-      merge_mode : (modes : ModeSets) → modes.plain ≡ merging → modes.copied ≡ merging → modes.hashed ≡ both
-          → (mode : Mode) → merge_line q left right mode ≡ Some line → LineServes q line children wanted
-          → HasModeIn modes mode
-      merge_mode modes one copied hashed (kinds.Plain number) is serves =
-          subst (λ preds. IsInSet preds number) (sym one)
-          (found_serves (MergesIn q wanted.order) merging merges (merge_with q on_one One)
-          (λ sides. with_merges q on_one One sides children wanted)
-          number (crossing_of q left right number) refl is serves)
-      merge_mode modes one copied hashed (kinds.Copied number) is serves =
-          subst (λ preds. IsInSet preds number) (sym copied)
-          (found_serves (MergesIn q wanted.order) merging merges (merge_with q left_dists.SameSpread Copies)
-          (λ sides. with_merges q left_dists.SameSpread Copies sides children wanted)
-          number (crossing_of q left right number) refl is serves)
-      merge_mode modes one copied hashed (kinds.Hashed number) is serves =
-          let found = crossing_of q left right number in
-          let in_order = found_serves (MergesIn q wanted.order) merging merges (merge_colocated q)
-          (λ sides. with_merges q (on_hashed (column_list q sides.0)) (Hashed (column_list q sides.1)) sides children
-          wanted) number found refl is serves in
-          let in_place = found_serves (HashesTo q wanted.dist) hashing hashes (merge_colocated q)
-          (λ sides. merge_hashes q sides children wanted) number found refl is serves in
-          subst (λ preds. IsInSet preds number) (sym hashed) ((in_both number).1 (in_order, in_place))
-
-module _ (q : Query) (e : PhysicalExpr) (left right : KeyParts) (wanted : Request) (modes : ModeSets)
-    (hashing : NumberSet) (hashes : AreHashingTo q left right wanted.dist hashing) where
-  -- a hash join serves a request in its first modes, and hashed by such a predicate
-  pub hash_join_tried : e.operator ≡ physical.HashJoin left right → HasBelow modes.plain 1 → HasBelow modes.copied 1
-      → modes.hashed ≡ hashing → AreServing q e wanted modes
-  hash_join_tried joins one copied hashed mode (line, is) =
-      let found = subst (λ (o : Physical). operator_line q e.group o (mode_at mode) ≡ Some line) joins is.is_line in
-      hash_mode q line (physical_children e.operator) wanted left right hashing hashes modes one copied hashed
-      (mode_at mode) found is.serves
-
-  -- a merge join only by one whose left column gives the order, and hashed only by one that is both
-  pub merge_join_tried : (merging both : NumberSet) → AreMergingIn q left right wanted.order merging
-      → ((pred : ℕ) → IsInSet both pred ↔ (IsInSet merging pred × IsInSet hashing pred))
-      → e.operator ≡ physical.MergeJoin left right → modes.plain ≡ merging → modes.copied ≡ merging → modes.hashed ≡ both
-      → AreServing q e wanted modes
-  merge_join_tried merging both merges in_both joins one copied hashed mode (line, is) =
-      let found = subst (λ (o : Physical). operator_line q e.group o (mode_at mode) ≡ Some line) joins is.is_line in
-      merge_mode q line (physical_children e.operator) wanted left right hashing hashes merging both merges in_both
-      modes one copied hashed (mode_at mode) found is.serves
-
 module _ (q : Query) (e : PhysicalExpr) (left right : KeyParts) (wanted : Request) (merging : NumberSet)
     (merges : AreMergingIn q left right wanted.order merging) where
   -- a merge join that serves a request in a mode merges by such a predicate
@@ -162,14 +108,14 @@ module _ (q : Query) (e : PhysicalExpr) (left right : KeyParts) (wanted : Reques
         wanted) number (crossing_of q left right number) refl is serves,
   )
 
-  pub merge_join_merges : e.operator ≡ physical.MergeJoin left right → MayServe q e wanted → (pred : ℕ)
+  pub merge_join_merges : way_of e.operator ≡ Joins joins.Merging left right → MayServe q e wanted → (pred : ℕ)
       × IsInSet merging pred
-  merge_join_merges joins (mode, (line, is)) =
-      let found = subst (λ (o : Physical). operator_line q e.group o (mode_at mode) ≡ Some line) joins is.is_line in
+  merge_join_merges joined (mode, (line, is)) =
+      let found = subst (λ (way : Way). way_line q e.group way (mode_at mode) ≡ Some line) joined is.is_line in
       merges_by line (physical_children e.operator) (mode_at mode) found is.serves
 
--- of any operator, a mode that is there for a request is tried
+-- in any way of working, a mode that is there for a request is tried
 pub alternatives_tried : (q : Query) (e : PhysicalExpr) (wanted : Request) (modes : ModeSets)
-    → AreTriedOf q e.group e.operator modes → AreServing q e wanted modes
+    → AreTriedOf q e.group (way_of e.operator) modes → AreServing q e wanted modes
 alternatives_tried q e wanted modes are mode (line, is) =
-    operator_tried q modes line e.group e.operator (mode_at mode) are is.is_line
+    way_tried q modes line e.group (way_of e.operator) (mode_at mode) are is.is_line

@@ -6,8 +6,6 @@ use Rattle.query_core.specs.Expressions.{physical_children}
 use Rattle.query_core.specs.Keys.{has_item}
 use Rattle.query_core.specs.declared.expressions.Children.{Children}
 use Rattle.query_core.specs.declared.expressions.Children.TheVariants as arities
-use Rattle.query_core.specs.declared.expressions.Physical.{Physical}
-use Rattle.query_core.specs.declared.expressions.Physical.TheVariants as physical
 use Rattle.query_core.specs.declared.expressions.PhysicalExpr.{PhysicalExpr}
 use Rattle.query_core.specs.declared.query.Query.{Query}
 use Rattle.query_core.specs.declared.words.KeyParts.{KeyParts}
@@ -28,9 +26,11 @@ use Rattle.plan_space.specs.declared.lines.LeftOrder.TheVariants as left_orders
 use Rattle.plan_space.specs.declared.lines.Line.{Line}
 use Rattle.plan_space.specs.declared.lines.Line.TheVariants.{Leaf, Above, Beside}
 use Rattle.plan_space.specs.Modes.{mode_at}
+use Rattle.plan_space.specs.Ways.{way_of}
 use Rattle.plan_space.specs.declared.modes.Mode.{Mode}
 use Rattle.plan_tree.specs.Alternatives.{HasAlternative}
 use Rattle.plan_tree.specs.ServingModes.{DistSuits, IsModeFor, MayServe, is_plain_on_one}
+use Rattle.plan_tree.proofs.JoinWays.{join_on_one}
 use Rattle.plan_tree.proofs.LineModes.{IsDistIn, IsOrderOfLeft, IsLineIn, line_in}
 
 -- ---- modes
@@ -118,37 +118,23 @@ line_fits q (Beside dist order asked) left right mode wanted numbered is serves 
   order = order_fits q left order wanted.order is.1 serves.serves.order_served serves.fits.order;
 }
 
--- an operator over two children is a join
-join_has_spread : (operator : Physical) (left right : KeyParts) → physical_children operator ≡ arities.Two left right
-    → is_plain_on_one operator ≡ true
-join_has_spread physical.Scan left right is = cc
-join_has_spread (physical.IndexScan index) left right is = cc
-join_has_spread (physical.Filter child) left right is = cc
-join_has_spread (physical.IndexSeek index) left right is = cc
-join_has_spread (physical.HashJoin first second) left right is = refl
-join_has_spread (physical.MergeJoin first second) left right is = refl
-join_has_spread (physical.LoopJoin first second) left right is = refl
-join_has_spread (physical.HashAgg child) left right is = refl
-join_has_spread (physical.StreamAgg child) left right is = refl
-join_has_spread (physical.PartialAgg child) left right is = cc
-
 -- a join serves only requests that fit its left child
 pub left_fits : (q : Query) (e : PhysicalExpr) (left right : KeyParts) (wanted : Request)
     → physical_children e.operator ≡ arities.Two left right → IsNumbered q wanted.order
     → MayServe q e wanted → Fits q left wanted
 left_fits q e left right wanted over numbered (mode, (line, is)) =
     line_fits q line left right (mode_at mode) wanted numbered
-    (line_in q line e.group e.operator (mode_at mode) (join_has_spread e.operator left right over) is.is_line)
+    (line_in q line e.group (way_of e.operator) (mode_at mode) (join_on_one e.operator left right over) is.is_line)
     (subst (λ (children : Children). LineServes q line children wanted) over is.serves)
 
--- an expression whose operator has both kinds of modes serves in those for the distribution
+-- an expression whose way of working has both kinds of modes serves in those for the distribution
 pub alternative_mode : (q : Query) (e : PhysicalExpr) (wanted : Request) (dist : Dist) (mode : ℕ)
-    → is_plain_on_one e.operator ≡ true → wanted.dist ≡ dist → HasAlternative q e wanted mode
+    → is_plain_on_one (way_of e.operator) ≡ true → wanted.dist ≡ dist → HasAlternative q e wanted mode
     → IsModeFor dist (mode_at mode)
 alternative_mode q e wanted dist mode both asked (line, is) =
     subst (λ (d : Dist). IsModeFor d (mode_at mode)) asked
     (mode_for q line (physical_children e.operator) (mode_at mode) wanted
-    (line_in q line e.group e.operator (mode_at mode) both is.is_line) is.serves)
+    (line_in q line e.group (way_of e.operator) (mode_at mode) both is.is_line) is.serves)
 
 suits_by : (q : Query) (left : KeyParts) (dist : Dist) → (dist ≡ Copies → ⊥) → DistFits q left dist
     → DistSuits q left dist
@@ -164,7 +150,7 @@ module _ (q : Query) (e : PhysicalExpr) (left right : KeyParts) (wanted : Reques
   pub dist_suits : DistSuits q left wanted.dist
   dist_suits =
       suits_by q left wanted.dist (λ copies. alternative_mode q e wanted Copies serves.0
-      (join_has_spread e.operator left right over) copies serves.1)
+      (join_on_one e.operator left right over) copies serves.1)
       (left_fits q e left right wanted over numbered serves).dist
 
   -- and for orders that fit its left child

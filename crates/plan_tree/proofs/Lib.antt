@@ -14,7 +14,8 @@ pub mod ServedDists
 pub mod NumberedLines
 pub mod JoinModes
 pub mod ExpressionModes
-pub mod TriedOfOperators
+pub mod JoinWays
+pub mod TriedOfWays
 pub mod JoinsServe
 pub mod FirstModes
 pub mod FoundEnforcers

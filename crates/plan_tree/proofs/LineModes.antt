@@ -1,19 +1,21 @@
--- In which modes an operator with modes on one segment and with spread ones has which lines.
+-- In which modes a way of working with modes on one segment and with spread ones has which lines.
 use Rattle.std.proofs.Common.{◌≡◌, ℕ, true, refl, subst}
 use Rattle.std.specs.Prelude.{Option, Some, None, ◌==◌, nat_lt, length, ⊤}
 use Rattle.std.specs.Option.{option_map}
 use Rattle.std.proofs.lemmas.Bool.{cond_both}
 use Rattle.query_core.specs.Crossing.{crossing_of}
-use Rattle.query_core.specs.declared.expressions.Physical.{Physical}
-use Rattle.query_core.specs.declared.expressions.Physical.TheVariants as physical
 use Rattle.query_core.specs.declared.query.Query.{Query}
 use Rattle.query_core.specs.declared.words.KeyParts.{KeyParts}
-use Rattle.request_props.specs.Numbered.{lists_of, group_order}
+use Rattle.request_props.specs.Numbered.{lists_of}
 use Rattle.request_props.specs.declared.given.GivenDist.TheVariants as given
 use Rattle.request_props.specs.declared.given.GivenOrder.TheVariants.{Listed}
 use Rattle.request_props.specs.declared.request.Dist.TheVariants.{One, Copies, Hashed}
 use Rattle.plan_space.specs.Lines.{on_one, only_line, hash_colocated, hash_line, merge_with, merge_colocated}
-use Rattle.plan_space.specs.Lines.{merge_line, loop_line, agg_line, operator_line}
+use Rattle.plan_space.specs.Lines.{merge_line, loop_line, join_line, agg_line, grouped_order, way_line}
+use Rattle.plan_space.specs.declared.ways.JoinBy.{JoinBy}
+use Rattle.plan_space.specs.declared.ways.JoinBy.TheVariants as joins
+use Rattle.plan_space.specs.declared.ways.Way.{Way}
+use Rattle.plan_space.specs.declared.ways.Way.TheVariants.{Reads, Passes, Joins, Groups}
 use Rattle.plan_space.specs.declared.lines.LeftDist.{LeftDist}
 use Rattle.plan_space.specs.declared.lines.LeftDist.TheVariants as left_dists
 use Rattle.plan_space.specs.declared.lines.LeftOrder.{LeftOrder}
@@ -100,15 +102,14 @@ module _ (q : Query) (line : Line) where
   loop_kept (modes.Copied number) = only_kept _ number (modes.Copied number) (tt, tt)
   loop_kept (modes.Hashed number) = no_line (modes.Hashed number)
 
-  pub line_in : (group : KeyParts) (operator : Physical) (mode : Mode) → is_plain_on_one operator ≡ true
-      → IsKept (operator_line q group operator mode) mode
-  line_in group physical.Scan mode both = cc
-  line_in group (physical.IndexScan index) mode both = cc
-  line_in group (physical.Filter child) mode both = cc
-  line_in group (physical.IndexSeek index) mode both = cc
-  line_in group (physical.HashJoin left right) mode both = hash_kept left right mode
-  line_in group (physical.MergeJoin left right) mode both = merge_kept left right mode
-  line_in group (physical.LoopJoin left right) mode both = loop_kept mode
-  line_in group (physical.HashAgg child) mode both = agg_kept 0 mode
-  line_in group (physical.StreamAgg child) mode both = agg_kept (group_order q) mode
-  line_in group (physical.PartialAgg child) mode both = cc
+  join_kept : (by : JoinBy) (left right : KeyParts) (mode : Mode) → IsKept (join_line q by left right mode) mode
+  join_kept joins.Hashing left right mode = hash_kept left right mode
+  join_kept joins.Merging left right mode = merge_kept left right mode
+  join_kept joins.Looping left right mode = loop_kept mode
+
+  pub line_in : (group : KeyParts) (way : Way) (mode : Mode) → is_plain_on_one way ≡ true
+      → IsKept (way_line q group way mode) mode
+  line_in group (Reads reading) mode both = cc
+  line_in group (Passes kept child) mode both = cc
+  line_in group (Joins by left right) mode both = join_kept by left right mode
+  line_in group (Groups by child) mode both = agg_kept (grouped_order q by) mode

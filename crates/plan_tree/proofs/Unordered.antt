@@ -7,8 +7,6 @@ use Rattle.query_core.specs.Crossing.{crossing_of}
 use Rattle.query_core.specs.declared.expressions.Children.{Children}
 use Rattle.query_core.specs.declared.expressions.Children.TheVariants as arities
 use Rattle.query_core.specs.Expressions.{physical_children}
-use Rattle.query_core.specs.declared.expressions.Physical.{Physical}
-use Rattle.query_core.specs.declared.expressions.Physical.TheVariants as physical
 use Rattle.query_core.specs.declared.expressions.PhysicalExpr.{PhysicalExpr}
 use Rattle.query_core.specs.declared.query.Query.{Query}
 use Rattle.query_core.specs.declared.words.KeyParts.{KeyParts}
@@ -18,7 +16,11 @@ use Rattle.request_props.specs.declared.given.GivenOrder.{GivenOrder}
 use Rattle.request_props.specs.declared.given.GivenOrder.TheVariants.{Listed}
 use Rattle.request_props.specs.declared.request.Request.{Request}
 use Rattle.plan_space.specs.Alternatives.{LineServes, OrderServes}
-use Rattle.plan_space.specs.Lines.{only_line, hash_colocated, hash_line, operator_line, in_order}
+use Rattle.plan_space.specs.Lines.{only_line, hash_colocated, hash_line, way_line, in_order}
+use Rattle.plan_space.specs.Ways.{way_of}
+use Rattle.plan_space.specs.declared.ways.JoinBy.TheVariants as joins
+use Rattle.plan_space.specs.declared.ways.Way.{Way}
+use Rattle.plan_space.specs.declared.ways.Way.TheVariants.{Joins}
 use Rattle.plan_space.specs.declared.lines.LeftOrder.{LeftOrder}
 use Rattle.plan_space.specs.declared.lines.Line.{Line}
 use Rattle.plan_space.specs.declared.lines.Line.TheVariants.{Leaf, Above, Beside}
@@ -79,8 +81,8 @@ none_serves q (Beside dist order asked) (arities.Two left right) wanted is serve
 
 -- so the empty order begins with the one that is asked of a hash join
 pub hash_join_none : (q : Query) (e : PhysicalExpr) (left right : KeyParts) (wanted : Request)
-    → e.operator ≡ physical.HashJoin left right → MayServe q e wanted → BeginsWith [] (order_of q wanted.order)
-hash_join_none q e left right wanted joins (mode, (line, is)) =
-    let found = subst (λ (o : Physical). operator_line q e.group o (mode_at mode) ≡ Some line) joins is.is_line in
+    → way_of e.operator ≡ Joins joins.Hashing left right → MayServe q e wanted → BeginsWith [] (order_of q wanted.order)
+hash_join_none q e left right wanted hashes (mode, (line, is)) =
+    let found = subst (λ (way : Way). way_line q e.group way (mode_at mode) ≡ Some line) hashes is.is_line in
     none_serves q line (physical_children e.operator) wanted (hash_none q line left right (mode_at mode) found)
     is.serves

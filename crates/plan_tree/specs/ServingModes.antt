@@ -4,7 +4,6 @@ use Rattle.query_core.specs.Expressions.{IsCandidate, expr_of, physical_children
 use Rattle.query_core.specs.declared.expressions.Children.{Children}
 use Rattle.query_core.specs.declared.expressions.Children.TheVariants as arities
 use Rattle.query_core.specs.declared.expressions.Physical.{Physical}
-use Rattle.query_core.specs.declared.expressions.Physical.TheVariants as physical
 use Rattle.query_core.specs.declared.expressions.PhysicalExpr.{PhysicalExpr}
 use Rattle.query_core.specs.declared.query.Query.{Query}
 use Rattle.query_core.specs.declared.words.KeyParts.{KeyParts}
@@ -18,20 +17,16 @@ use Rattle.plan_space.specs.Modes.{mode_at, modes_end, HasModeIn, IsPlain, IsSpr
 use Rattle.plan_space.specs.declared.modes.Mode.{Mode}
 use Rattle.plan_space.specs.declared.lines.Line.{Line}
 use Rattle.plan_space.specs.declared.modes.ModeSets.{ModeSets}
+use Rattle.plan_space.specs.declared.ways.Way.{Way}
+use Rattle.plan_space.specs.declared.ways.Way.TheVariants.{Reads, Passes, Joins, Groups}
 use Rattle.plan_tree.specs.Alternatives.{HasAlternative}
 
--- in the operator's plain modes all rows are on one segment, and in its others they are shared out
-abbrev pub is_plain_on_one : Physical → Bool
-is_plain_on_one physical.Scan = false
-is_plain_on_one (physical.IndexScan index) = false
-is_plain_on_one (physical.Filter child) = false
-is_plain_on_one (physical.IndexSeek index) = false
-is_plain_on_one (physical.HashJoin left right) = true
-is_plain_on_one (physical.MergeJoin left right) = true
-is_plain_on_one (physical.LoopJoin left right) = true
-is_plain_on_one (physical.HashAgg child) = true
-is_plain_on_one (physical.StreamAgg child) = true
-is_plain_on_one (physical.PartialAgg child) = false
+-- in the plain modes of the way all rows are on one segment, and in its others they are shared out
+abbrev pub is_plain_on_one : Way → Bool
+is_plain_on_one (Reads reading) = false
+is_plain_on_one (Passes kept child) = false
+is_plain_on_one (Joins by left right) = true
+is_plain_on_one (Groups by child) = true
 
 -- a join over this left child can give the distribution: no copies, and a hash only by what lies in the child
 abbrev pub DistSuits : Query → KeyParts → Dist → Type 0
@@ -70,8 +65,7 @@ abbrev pub AreServing : Query → PhysicalExpr → Request → ModeSets → Type
 AreServing q e wanted modes = (mode : ℕ) → HasAlternative q e wanted mode → HasModeIn modes (mode_at mode)
 
 -- all modes that are there for the request are among these, and of a join that a group can hold no others are of the
--- kind
--- that serves the distribution
+-- kind that serves the distribution
 pub record AreServingByKind (q : Query) (e : PhysicalExpr) (wanted : Request) (modes : ModeSets) : Type 0 where
   pub all : AreServing q e wanted modes
   pub only : IsCandidate q (expr_of e) → IsTrue (is_join e.operator)
@@ -87,5 +81,5 @@ pub record AreToTry (q : Query) (e : PhysicalExpr) (wanted : Request) (modes : M
 -- the first mode from the number on that is there for the request, with its line; or none is
 abbrev pub IsNextServing : Query → PhysicalExpr → Request → ℕ → Option (ℕ × Line) → Type 0
 IsNextServing q e wanted from None = (mode : ℕ) → from ≤ mode → HasAlternative q e wanted mode → ⊥
-IsNextServing q e wanted from (Some found) = (from ≤ found.0) × (found.0 < modes_end) × NoneServes q e wanted from found.0
-    × IsAlternative q e wanted found.0 found.1
+IsNextServing q e wanted from (Some found) = (from ≤ found.0) × (found.0 < modes_end)
+    × NoneServes q e wanted from found.0 × IsAlternative q e wanted found.0 found.1

@@ -1,7 +1,5 @@
 -- The modes of an expression, one after the other.
 use Rattle.std.specs.Prelude.{ℕ, ◌≡◌, ◌≤◌, ◌<◌, Option, None, Some, length}
-use Rattle.query_core.specs.declared.expressions.Physical.{Physical}
-use Rattle.query_core.specs.declared.expressions.Physical.TheVariants as physical
 use Rattle.query_core.specs.declared.expressions.PhysicalExpr.{PhysicalExpr}
 use Rattle.query_core.specs.declared.query.Query.{Query}
 use Rattle.query_core.specs.Crossing.{crossing_of}
@@ -13,6 +11,10 @@ use Rattle.plan_space.specs.Lines.{line_of, table_in, dists_of_table}
 use Rattle.plan_space.specs.Modes.{mode_at, modes_end, HasModeIn}
 use Rattle.plan_space.specs.declared.lines.Line.{Line}
 use Rattle.plan_space.specs.declared.modes.ModeSets.{ModeSets}
+use Rattle.plan_space.specs.declared.ways.JoinBy.{JoinBy}
+use Rattle.plan_space.specs.declared.ways.JoinBy.TheVariants as joins
+use Rattle.plan_space.specs.declared.ways.Way.{Way}
+use Rattle.plan_space.specs.declared.ways.Way.TheVariants.{Reads, Passes, Joins, Groups}
 
 -- no mode from the number on and below the other has a line
 abbrev pub AreNone : Query → PhysicalExpr → ℕ → ℕ → Type 0
@@ -34,8 +36,8 @@ AreNoneTried q e modes from below = (mode : ℕ) → from ≤ mode → mode < be
 abbrev pub IsNextTried : Query → PhysicalExpr → ModeSets → ℕ → Option (ℕ × Line) → Type 0
 IsNextTried q e modes from None = (mode : ℕ) → from ≤ mode → HasModeIn modes (mode_at mode) → line_of q e mode ≡ None
 IsNextTried q e modes from (Some found) =
-    (from ≤ found.0) × (found.0 < modes_end) × AreNoneTried q e modes from found.0 × (line_of q e found.0 ≡ Some found.1)
-    × HasModeIn modes (mode_at found.0)
+    (from ≤ found.0) × (found.0 < modes_end) × AreNoneTried q e modes from found.0
+    × (line_of q e found.0 ≡ Some found.1) × HasModeIn modes (mode_at found.0)
 
 -- each predicate that equates columns across the groups is among these
 abbrev pub AreCrossingsBetween : Query → KeyParts → KeyParts → NumberSet → Type 0
@@ -45,19 +47,19 @@ AreCrossingsBetween q left right preds = (pred : ℕ) → (crossing_of q left ri
 abbrev pub AreReadsOf : Query → KeyParts → ModeSets → Type 0
 AreReadsOf q group modes = HasBelow modes.plain (length (dists_of_table q (table_in group)))
 
--- each mode in which the operator can work is among these: the first of a kind, those in which a table is read, or those
--- by equalities or lists
-abbrev pub AreTriedOf : Query → KeyParts → Physical → ModeSets → Type 0
-AreTriedOf q group physical.Scan modes = AreReadsOf q group modes
-AreTriedOf q group (physical.IndexScan index) modes = AreReadsOf q group modes
-AreTriedOf q group (physical.Filter child) modes = HasBelow modes.plain 1
-AreTriedOf q group (physical.IndexSeek index) modes = AreReadsOf q group modes
-AreTriedOf q group (physical.HashJoin left right) modes = HasBelow modes.plain 1 × HasBelow modes.copied 1
-    × AreCrossingsBetween q left right modes.hashed
-AreTriedOf q group (physical.MergeJoin left right) modes =
+-- each mode in which a join can work is among these: the first of a kind, or those by equalities across its groups
+abbrev pub AreJoinsTried : Query → JoinBy → KeyParts → KeyParts → ModeSets → Type 0
+AreJoinsTried q joins.Hashing left right modes =
+    HasBelow modes.plain 1 × HasBelow modes.copied 1 × AreCrossingsBetween q left right modes.hashed
+AreJoinsTried q joins.Merging left right modes =
     AreCrossingsBetween q left right modes.plain × AreCrossingsBetween q left right modes.copied
     × AreCrossingsBetween q left right modes.hashed
-AreTriedOf q group (physical.LoopJoin left right) modes = HasBelow modes.plain 1 × HasBelow modes.copied 1
-AreTriedOf q group (physical.HashAgg child) modes = HasBelow modes.plain 1 × HasBelow modes.hashed (length (lists_of q))
-AreTriedOf q group (physical.StreamAgg child) modes = HasBelow modes.plain 1 × HasBelow modes.hashed (length (lists_of q))
-AreTriedOf q group (physical.PartialAgg child) modes = HasBelow modes.plain 1
+AreJoinsTried q joins.Looping left right modes = HasBelow modes.plain 1 × HasBelow modes.copied 1
+
+-- each mode of a way of working is among these: the first of a kind, those in which a table is read, or those by
+-- equalities or lists
+abbrev pub AreTriedOf : Query → KeyParts → Way → ModeSets → Type 0
+AreTriedOf q group (Reads reading) modes = AreReadsOf q group modes
+AreTriedOf q group (Passes kept child) modes = HasBelow modes.plain 1
+AreTriedOf q group (Joins by left right) modes = AreJoinsTried q by left right modes
+AreTriedOf q group (Groups by child) modes = HasBelow modes.plain 1 × HasBelow modes.hashed (length (lists_of q))

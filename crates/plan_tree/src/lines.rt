@@ -4,6 +4,9 @@
 ghost use Rattle.std.specs.Prelude.{ℕ, ◌≡◌, slice_get, length};
 ghost use Rattle.request_props.specs.Numbered.{IsProps, side_of};
 ghost use Rattle.plan_space.specs.Lines.{line_of as line_by_table, table_line as line_of_table};
+ghost use Rattle.plan_space.specs.Lines.{way_line as line_by_way, order_read as order_by_reading};
+ghost use Rattle.plan_space.specs.Lines.{kept_line as line_kept, grouped_order as order_grouped};
+ghost use Rattle.plan_space.specs.Lines.{join_line as join_line_by_table};
 ghost use Rattle.plan_space.specs.Lines.{hash_line as hash_line_by_table, merge_line as merge_line_by_table};
 ghost use Rattle.plan_space.specs.Lines.{loop_line as loop_line_by_table, agg_line as agg_line_by_table};
 ghost use Rattle.plan_space.specs.Lines.{hash_colocated as hash_line_with, merge_with as merge_line_with};
@@ -12,8 +15,9 @@ ghost use Rattle.plan_space.specs.Lines.{merge_colocated as merge_line_hashed};
 ghost use Rattle.plan_space.specs.Lines.{table_in as table_of_group, on_one, on_hashed, in_order};
 ghost use Rattle.plan_space.specs.Lines.{is_replicated as has_copies, replica_dists, dists_of_table};
 
-use plan_space::{LeftDist, LeftOrder, Line, Mode};
-use query_core::{KeyParts, Physical, PhysicalExpr, Query};
+use crate::ways::way_of;
+use plan_space::{GroupBy, JoinBy, Kept, LeftDist, LeftOrder, Line, Mode, Reading, Way};
+use query_core::{KeyParts, PhysicalExpr, Query};
 use request_props::{Dist, GivenDist, GivenOrder, Props, Request, Side};
 
 /// The line of an expression in the mode of a number, if it has the mode.
@@ -21,26 +25,75 @@ pub fn line_of(query: &Query, props: &Props, expr: PhysicalExpr, mode: u32) -> O
     requires { IsProps query.now props.now }
     ensures { result ≡ line_by_table query.now expr mode }
 {
-    let mode = Mode::at(mode);
-    let group = expr.group;
-    let table = table_in(group);
-    match expr.operator {
-        Physical::Scan => table_line(query, props, group, GivenOrder::Listed(0), mode),
-        Physical::IndexScan(index) => {
-            table_line(query, props, group, GivenOrder::Index(table, index), mode)
-        }
-        Physical::Filter(_) => single_line(Line::Above(LeftDist::Same, LeftOrder::Same), mode),
-        Physical::IndexSeek(index) => {
-            table_line(query, props, group, GivenOrder::Index(table, index), mode)
-        }
-        Physical::HashJoin(left, right) => hash_line(query, props, left, right, mode),
-        Physical::MergeJoin(left, right) => merge_line(query, props, left, right, mode),
-        Physical::LoopJoin(_, _) => loop_line(mode),
-        Physical::HashAgg(_) => agg_line(query, props, 0, mode),
-        Physical::StreamAgg(_) => agg_line(query, props, props.group_order(query), mode),
-        Physical::PartialAgg(_) => {
-            single_line(Line::Above(LeftDist::SameSpread, left_in_order(0)), mode)
-        }
+    line_by(
+        query,
+        props,
+        expr.group,
+        way_of(expr.operator),
+        Mode::at(mode),
+    )
+}
+
+// The line of a group's way of working in a mode, if it has the mode.
+fn line_by(query: &Query, props: &Props, group: KeyParts, way: Way, mode: Mode) -> Option<Line>
+    requires { IsProps query.now props.now }
+    ensures { result ≡ line_by_way query.now group way mode }
+{
+    match way {
+        Way::Reads(reading) => table_line(query, props, group, order_read(group, reading), mode),
+        Way::Passes(kept, _) => single_line(kept_line(kept), mode),
+        Way::Joins(by, left, right) => join_line(query, props, by, left, right, mode),
+        Way::Groups(by, _) => agg_line(query, props, grouped_order(query, props, by), mode),
+    }
+}
+
+// In no order, or in that of the index of this number of the group's table.
+fn order_read(group: KeyParts, reading: Reading) -> GivenOrder
+    ensures { result ≡ order_by_reading group reading }
+{
+    match reading {
+        Reading::InNoOrder => GivenOrder::Listed(0),
+        Reading::ByIndex(index) => GivenOrder::Index(table_in(group), index),
+    }
+}
+
+// All rows where they lie and in their order, or rows that are shared out, in no order.
+fn kept_line(kept: Kept) -> Line
+    ensures { result ≡ line_kept kept }
+{
+    match kept {
+        Kept::Rows => Line::Above(LeftDist::Same, LeftOrder::Same),
+        Kept::SpreadRows => Line::Above(LeftDist::SameSpread, left_in_order(0)),
+    }
+}
+
+// The line of a join over these children.
+fn join_line(
+    query: &Query,
+    props: &Props,
+    by: JoinBy,
+    left: KeyParts,
+    right: KeyParts,
+    mode: Mode,
+) -> Option<Line>
+    requires { IsProps query.now props.now }
+    ensures { result ≡ join_line_by_table query.now by left right mode }
+{
+    match by {
+        JoinBy::Hashing => hash_line(query, props, left, right, mode),
+        JoinBy::Merging => merge_line(query, props, left, right, mode),
+        JoinBy::Looping => loop_line(mode),
+    }
+}
+
+// The order in which rows are grouped.
+fn grouped_order(query: &Query, props: &Props, by: GroupBy) -> u32
+    requires { IsProps query.now props.now }
+    ensures { result ≡ order_grouped query.now by }
+{
+    match by {
+        GroupBy::Hashing => 0,
+        GroupBy::Ordered => props.group_order(query),
     }
 }
 

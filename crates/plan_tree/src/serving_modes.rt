@@ -1,12 +1,14 @@
-//! The modes in which an expression may serve a request, one after the other, and whether there are any. Of most
-//! operators the first mode or the request itself tells that, of a merge join the predicates whose left column gives
-//! the order, and only aggregations and reads of tables are looked at mode by mode. A read has one mode, but where all
-//! rows of the table lie on each segment.
+//! The modes in which an expression may serve a request, one after the other, and whether there are any. Of most ways
+//! of working the first mode or the request itself tells that, of a merge join the predicates whose left column gives
+//! the order. Only aggregations and reads of tables are looked at mode by mode. A read has one mode, but where all rows
+//! of the table lie on each segment.
 #![tactic(auto)]
 
 ghost use Rattle.std.specs.Prelude.{ℕ, [], ◌≡◌, ◌↔◌, IsTrue};
 ghost use Rattle.request_props.specs.NumberSets.{IsInSet};
 ghost use Rattle.query_core.specs.Expressions.{expr_of, IsCandidate};
+ghost use Rattle.query_core.specs.declared.expressions.PhysicalExpr.{PhysicalExpr as Parts};
+ghost use Rattle.plan_space.specs.Ways.{way_of as way_by_table};
 ghost use Rattle.request_props.specs.Numbered.{IsProps, IsNumbered, order_of};
 ghost use Rattle.request_props.specs.Satisfied.{BeginsWith};
 ghost use Rattle.plan_tree.specs.Alternatives.{HasAlternative};
@@ -17,8 +19,9 @@ ghost use Rattle.plan_tree.specs.ServingModes.{AreServingByKind, AreToTry, DistS
 use crate::lines::line_of;
 use crate::serving::serves;
 use crate::walks::{next_tried, tried, tried_modes};
-use plan_space::{Line, ModeSets, what_is_asked_fits};
-use query_core::{Children, KeyParts, Physical, PhysicalExpr, Query};
+use crate::ways::way_of;
+use plan_space::{GroupBy, JoinBy, Line, ModeSets, Way, what_is_asked_fits};
+use query_core::{Children, KeyParts, PhysicalExpr, Query};
 use request_props::{Dist, NumberSet, Props, Request};
 
 /// Whether the expression may serve the request in some mode.
@@ -28,30 +31,41 @@ pub fn may_serve(query: &Query, props: &Props, expr: PhysicalExpr, wanted: Reque
     requires numbered { IsNumbered query.now wanted.order }
     ensures { IsTrue result ↔ MayServe query.now expr wanted }
 {
-    // For the proof: the columns of a join have orders that fit its left child.
-    what_is_asked_fits();
-    match expr.operator {
-        Physical::Scan => serves_in_some(query, props, expr, wanted),
-        Physical::IndexScan(_) => serves_in_some(query, props, expr, wanted),
-        Physical::Filter(_) => serves_in_first(query, props, expr, wanted),
-        Physical::IndexSeek(_) => serves_in_some(query, props, expr, wanted),
-        Physical::HashJoin(left, _) => {
-            wants_no_order(query, props, wanted.order)
-                && dist_suits(query, props, left, wanted.dist)
-        }
-        Physical::MergeJoin(left, right) => {
-            dist_suits(query, props, left, wanted.dist)
-                && !props.merging(query, left, right, wanted.order).is_empty()
-        }
-        Physical::LoopJoin(left, _) => {
-            dist_suits(query, props, left, wanted.dist)
-                && props.order_fits(query, left, wanted.order)
-        }
-        Physical::HashAgg(_) => {
+    match way_of(expr.operator) {
+        Way::Reads(_) => serves_in_some(query, props, expr, wanted),
+        Way::Passes(_, _) => serves_in_first(query, props, expr, wanted),
+        Way::Joins(by, left, right) => join_may_serve(query, props, by, left, right, wanted),
+        Way::Groups(GroupBy::Hashing, _) => {
             wants_no_order(query, props, wanted.order) && serves_in_some(query, props, expr, wanted)
         }
-        Physical::StreamAgg(_) => serves_in_some(query, props, expr, wanted),
-        Physical::PartialAgg(_) => serves_in_first(query, props, expr, wanted),
+        Way::Groups(GroupBy::Ordered, _) => serves_in_some(query, props, expr, wanted),
+    }
+}
+
+// Whether a join of these groups may serve the request in some mode.
+fn join_may_serve(
+    query: &Query,
+    props: &Props,
+    by: JoinBy,
+    left: KeyParts,
+    right: KeyParts,
+    wanted: Request,
+) -> bool
+    requires props { IsProps query.now props.now }
+    requires numbered { IsNumbered query.now wanted.order }
+    ensures { (e : Parts) → IsCandidate query.now (expr_of e) →
+        way_by_table e.operator ≡ Way.Joins by left right →
+        IsTrue result ↔ MayServe query.now e wanted }
+{
+    // For the proof: the columns of a join have orders that fit its left child.
+    what_is_asked_fits();
+    if !dist_suits(query, props, left, wanted.dist) {
+        return false;
+    }
+    match by {
+        JoinBy::Hashing => wants_no_order(query, props, wanted.order),
+        JoinBy::Merging => !props.merging(query, left, right, wanted.order).is_empty(),
+        JoinBy::Looping => props.order_fits(query, left, wanted.order),
     }
 }
 
@@ -105,8 +119,8 @@ pub fn modes_to_try(query: &Query, props: &Props, expr: PhysicalExpr, wanted: Re
     requires { IsProps query.now props.now }
     ensures { AreToTry query.now expr wanted result }
 {
-    let modes = modes_by_operator(query, props, expr, wanted);
-    if !is_plain_on_one(expr.operator) {
+    let modes = modes_by_way(query, props, expr, wanted);
+    if !is_plain_on_one(way_of(expr.operator)) {
         return modes;
     }
     match wanted.dist {
@@ -144,17 +158,38 @@ pub fn next_alternative(
     None
 }
 
-// The modes to try, without a look at their kinds: of a hash join only where no order is asked for, of a merge join
-// those by predicates whose left column gives the order, of a loop join only where the order fits the left child; and
-// hashed those whose left column gives the hash that is asked for.
-fn modes_by_operator(query: &Query, props: &Props, expr: PhysicalExpr, wanted: Request) -> ModeSets
+// The modes to try, without a look at their kinds.
+fn modes_by_way(query: &Query, props: &Props, expr: PhysicalExpr, wanted: Request) -> ModeSets
     requires { IsProps query.now props.now }
     ensures { AreServingByKind query.now expr wanted result }
 {
+    match way_of(expr.operator) {
+        Way::Reads(_) => tried_modes(query, props, expr),
+        Way::Passes(_, _) => tried_modes(query, props, expr),
+        Way::Joins(by, left, right) => join_modes(query, props, by, left, right, wanted),
+        Way::Groups(_, _) => tried_modes(query, props, expr),
+    }
+}
+
+// Those of a join of these groups: of a hash join only where no order is asked for, of a merge join those by predicates
+// whose left column gives the order, of a loop join only where the order fits the left child; and hashed those whose
+// left column gives the hash that is asked for.
+fn join_modes(
+    query: &Query,
+    props: &Props,
+    by: JoinBy,
+    left: KeyParts,
+    right: KeyParts,
+    wanted: Request,
+) -> ModeSets
+    requires { IsProps query.now props.now }
+    ensures { (e : Parts) → way_by_table e.operator ≡ Way.Joins by left right →
+        AreServingByKind query.now e wanted result }
+{
     // For the proof: the columns of a join have lists and orders that fit its left child.
     what_is_asked_fits();
-    match expr.operator {
-        Physical::HashJoin(left, right) if wants_no_order(query, props, wanted.order) => {
+    match by {
+        JoinBy::Hashing if wants_no_order(query, props, wanted.order) => {
             let first = NumberSet::below(1);
             let copied = where_suits(query, props, left, wanted.dist, first);
             tried(
@@ -163,20 +198,19 @@ fn modes_by_operator(query: &Query, props: &Props, expr: PhysicalExpr, wanted: R
                 props.hashing(query, left, right, wanted.dist),
             )
         }
-        Physical::HashJoin(_, _) => ModeSets::none(),
-        Physical::MergeJoin(left, right) => {
+        JoinBy::Hashing => ModeSets::none(),
+        JoinBy::Merging => {
             let merging = props.merging(query, left, right, wanted.order);
             let hashing = props.hashing(query, left, right, wanted.dist);
             let copied = where_suits(query, props, left, wanted.dist, merging);
             tried(merging, copied, merging.and(hashing))
         }
-        Physical::LoopJoin(left, _) if props.order_fits(query, left, wanted.order) => {
+        JoinBy::Looping if props.order_fits(query, left, wanted.order) => {
             let first = NumberSet::below(1);
             let copied = where_suits(query, props, left, wanted.dist, first);
             tried(first, copied, NumberSet::none())
         }
-        Physical::LoopJoin(_, _) => ModeSets::none(),
-        _ => tried_modes(query, props, expr),
+        JoinBy::Looping => ModeSets::none(),
     }
 }
 
@@ -210,19 +244,13 @@ fn is_join(expr: PhysicalExpr) -> bool
     }
 }
 
-fn is_plain_on_one(operator: Physical) -> bool
-    ensures { result ≡ plain_is_on_one operator }
+fn is_plain_on_one(way: Way) -> bool
+    ensures { result ≡ plain_is_on_one way }
 {
-    match operator {
-        Physical::Scan => false,
-        Physical::IndexScan(_) => false,
-        Physical::Filter(_) => false,
-        Physical::IndexSeek(_) => false,
-        Physical::HashJoin(_, _) => true,
-        Physical::MergeJoin(_, _) => true,
-        Physical::LoopJoin(_, _) => true,
-        Physical::HashAgg(_) => true,
-        Physical::StreamAgg(_) => true,
-        Physical::PartialAgg(_) => false,
+    match way {
+        Way::Reads(_) => false,
+        Way::Passes(_, _) => false,
+        Way::Joins(_, _, _) => true,
+        Way::Groups(_, _) => true,
     }
 }

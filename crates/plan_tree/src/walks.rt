@@ -4,11 +4,13 @@
 ghost use Rattle.std.specs.Prelude.{◌≡◌, length};
 ghost use Rattle.request_props.specs.NumberSets.{HasBelow};
 ghost use Rattle.request_props.specs.Numbered.{IsProps, lists_of};
-ghost use Rattle.plan_tree.specs.Walks.{AreReadsOf, AreTriedOf, IsNextLine, IsNextTried};
+ghost use Rattle.plan_space.specs.Ways.{way_of as way_by_table};
+ghost use Rattle.plan_tree.specs.Walks.{AreJoinsTried, AreReadsOf, AreTriedOf, IsNextLine, IsNextTried};
 
 use crate::lines::{line_of, read_count, table_in};
-use plan_space::{Line, MODES_END, ModeSets, modes_are_few};
-use query_core::{KeyParts, Physical, PhysicalExpr, Query};
+use crate::ways::way_of;
+use plan_space::{JoinBy, Line, MODES_END, ModeSets, Way, modes_are_few};
+use query_core::{KeyParts, PhysicalExpr, Query};
 use request_props::{NumberSet, Props};
 
 /// The first mode from this number on in which the expression works, with its line.
@@ -46,26 +48,44 @@ pub fn next_tried(
 /// The modes that are tried of an expression: all are among them in which it works.
 pub fn tried_modes(query: &Query, props: &Props, expr: PhysicalExpr) -> ModeSets
     requires { IsProps query.now props.now }
-    ensures { AreTriedOf query.now expr.group expr.operator result }
+    ensures { AreTriedOf query.now expr.group (way_by_table expr.operator) result }
+{
+    tried_by(query, props, expr.group, way_of(expr.operator))
+}
+
+// The same of a group's way of working.
+fn tried_by(query: &Query, props: &Props, group: KeyParts, way: Way) -> ModeSets
+    requires { IsProps query.now props.now }
+    ensures { AreTriedOf query.now group way result }
 {
     let first = NumberSet::below(1);
-    let none = NumberSet::none();
-    match expr.operator {
-        Physical::Scan => by_reads(query, expr.group),
-        Physical::IndexScan(_) => by_reads(query, expr.group),
-        Physical::Filter(_) => tried(first, none, none),
-        Physical::IndexSeek(_) => by_reads(query, expr.group),
-        Physical::HashJoin(left, right) => {
-            tried(first, first, props.crossings(query, left, right))
-        }
-        Physical::MergeJoin(left, right) => {
+    match way {
+        Way::Reads(_) => by_reads(query, group),
+        Way::Passes(_, _) => tried(first, NumberSet::none(), NumberSet::none()),
+        Way::Joins(by, left, right) => by_equalities(query, props, by, left, right),
+        Way::Groups(_, _) => tried(first, NumberSet::none(), by_lists(query, props)),
+    }
+}
+
+// The modes of a join: the first of a kind, or those by the equalities across its groups.
+fn by_equalities(
+    query: &Query,
+    props: &Props,
+    by: JoinBy,
+    left: KeyParts,
+    right: KeyParts,
+) -> ModeSets
+    requires { IsProps query.now props.now }
+    ensures { AreJoinsTried query.now by left right result }
+{
+    let first = NumberSet::below(1);
+    match by {
+        JoinBy::Hashing => tried(first, first, props.crossings(query, left, right)),
+        JoinBy::Merging => {
             let crossings = props.crossings(query, left, right);
             tried(crossings, crossings, crossings)
         }
-        Physical::LoopJoin(_, _) => tried(first, first, none),
-        Physical::HashAgg(_) => tried(first, none, by_lists(query, props)),
-        Physical::StreamAgg(_) => tried(first, none, by_lists(query, props)),
-        Physical::PartialAgg(_) => tried(first, none, none),
+        JoinBy::Looping => tried(first, first, NumberSet::none()),
     }
 }
 

@@ -1,4 +1,4 @@
-use Rattle.plan_tree.proofs.TriedOfOperators.{first_of_all}
+use Rattle.plan_tree.proofs.TriedOfWays.{first_of_all}
 use Rattle.plan_tree.proofs.walks.next_line.Goals as goal
 
 pub returns : goal.returns

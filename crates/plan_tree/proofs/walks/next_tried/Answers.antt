@@ -1,5 +1,5 @@
 use Rattle.std.proofs.Common.{sym, arith}
-use Rattle.plan_tree.proofs.TriedOfOperators.{none_passed, none_after, none_from}
+use Rattle.plan_tree.proofs.TriedOfWays.{none_passed, none_after, none_from}
 use Rattle.plan_tree.proofs.walks.next_tried.Goals as goal
 
 pub loop-mode-init : goal.loop-mode-init

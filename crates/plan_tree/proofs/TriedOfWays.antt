@@ -1,5 +1,6 @@
 -- A mode with a line is one that is tried.
-use Rattle.std.proofs.Common.{◌≡◌, ℕ, ◌+◌, ◌<◌, ◌≤◌, List, Option, None, Some, length, refl, subst, inl, inr, arith, nat_lt}
+use Rattle.std.proofs.Common.{◌≡◌, ℕ, ◌+◌, ◌<◌, ◌≤◌, List, Option, None, Some, length, refl, subst, inl, inr, arith}
+use Rattle.std.proofs.Common.{nat_lt}
 use Rattle.std.specs.Prelude.{◌==◌, slice_get}
 use Rattle.std.specs.Option.{option_map}
 use Rattle.std.proofs.lemmas.Bool.{cases_lt, cond_both, eqb-true, ltb-true}
@@ -7,14 +8,13 @@ use Rattle.std.proofs.lemmas.Option.{slice_get_within}
 use Rattle.query_core.specs.Crossing.{crossing_of}
 use Rattle.query_core.specs.declared.query.Query.{Query}
 use Rattle.query_core.specs.declared.words.KeyParts.{KeyParts}
-use Rattle.query_core.specs.declared.expressions.Physical.{Physical}
-use Rattle.query_core.specs.declared.expressions.Physical.TheVariants as physical
 use Rattle.query_core.specs.declared.expressions.PhysicalExpr.{PhysicalExpr}
-use Rattle.request_props.specs.Numbered.{lists_of, group_order}
+use Rattle.request_props.specs.Numbered.{lists_of}
 use Rattle.request_props.specs.NumberSets.{HasBelow, NoneBetween}
 use Rattle.request_props.specs.declared.given.GivenDist.{GivenDist}
 use Rattle.request_props.specs.declared.given.GivenOrder.{GivenOrder}
-use Rattle.plan_space.specs.Lines.{only_line, single_line, loop_line, agg_line, operator_line, line_of}
+use Rattle.plan_space.specs.Lines.{only_line, single_line, loop_line, agg_line, join_line, grouped_order}
+use Rattle.plan_space.specs.Lines.{way_line, line_of}
 use Rattle.plan_space.specs.Lines.{table_in, dists_of_table, table_line}
 use Rattle.plan_space.specs.Modes.{mode_at, HasModeIn}
 use Rattle.plan_space.specs.declared.lines.Line.{Line}
@@ -22,7 +22,12 @@ use Rattle.plan_space.specs.declared.lines.Line.TheVariants.{Leaf}
 use Rattle.plan_space.specs.declared.modes.Mode.{Mode}
 use Rattle.plan_space.specs.declared.modes.Mode.TheVariants.{Plain, Copied, Hashed}
 use Rattle.plan_space.specs.declared.modes.ModeSets.{ModeSets}
-use Rattle.plan_tree.specs.Walks.{AreNone, AreNoneTried, AreReadsOf, AreTriedOf, IsNextLine, IsNextTried}
+use Rattle.plan_space.specs.Ways.{way_of}
+use Rattle.plan_space.specs.declared.ways.JoinBy.{JoinBy}
+use Rattle.plan_space.specs.declared.ways.JoinBy.TheVariants as joins
+use Rattle.plan_space.specs.declared.ways.Way.{Way}
+use Rattle.plan_space.specs.declared.ways.Way.TheVariants.{Reads, Passes, Joins, Groups}
+use Rattle.plan_tree.specs.Walks.{AreJoinsTried, AreNone, AreNoneTried, AreReadsOf, AreTriedOf, IsNextLine, IsNextTried}
 
 -- what a crossing made crosses
 pub some_crosses : (line_by : (ℕ × ℕ) → Line) (found : Option (ℕ × ℕ)) (line : Line)
@@ -74,27 +79,26 @@ module _ (q : Query) (modes : ModeSets) (line : Line) where
   agg_tried first lists order (Copied number) is = let wrong : ⊥ = cc in absurd wrong
   agg_tried first lists order (Hashed list) is = lists list (list_numbered order list is)
 
-  pub operator_tried : (group : KeyParts) (operator : Physical) (mode : Mode) → AreTriedOf q group operator modes
-      → operator_line q group operator mode ≡ Some line → HasModeIn modes mode
-  operator_tried group physical.Scan mode are is = table_tried group are _ mode is
-  operator_tried group (physical.IndexScan index) mode are is = table_tried group are _ mode is
-  operator_tried group (physical.Filter child) mode are is = single_tried are _ mode is
-  operator_tried group (physical.IndexSeek index) mode are is = table_tried group are _ mode is
-  operator_tried group (physical.HashJoin left right) (Plain number) are is = are.0 number (only_first _ line number is)
-  operator_tried group (physical.HashJoin left right) (Copied number) are is =
-      are.1 number (only_first _ line number is)
-  operator_tried group (physical.HashJoin left right) (Hashed number) are is =
+  join_tried : (by : JoinBy) (left right : KeyParts) (mode : Mode) → AreJoinsTried q by left right modes
+      → join_line q by left right mode ≡ Some line → HasModeIn modes mode
+  join_tried joins.Hashing left right (Plain number) are is = are.0 number (only_first _ line number is)
+  join_tried joins.Hashing left right (Copied number) are is = are.1 number (only_first _ line number is)
+  join_tried joins.Hashing left right (Hashed number) are is =
       are.2 number (some_crosses _ (crossing_of q left right number) line is)
-  operator_tried group (physical.MergeJoin left right) (Plain number) are is =
+  join_tried joins.Merging left right (Plain number) are is =
       are.0 number (some_crosses _ (crossing_of q left right number) line is)
-  operator_tried group (physical.MergeJoin left right) (Copied number) are is =
+  join_tried joins.Merging left right (Copied number) are is =
       are.1 number (some_crosses _ (crossing_of q left right number) line is)
-  operator_tried group (physical.MergeJoin left right) (Hashed number) are is =
+  join_tried joins.Merging left right (Hashed number) are is =
       are.2 number (some_crosses _ (crossing_of q left right number) line is)
-  operator_tried group (physical.LoopJoin left right) mode are is = loop_tried are.0 are.1 mode is
-  operator_tried group (physical.HashAgg child) mode are is = agg_tried are.0 are.1 0 mode is
-  operator_tried group (physical.StreamAgg child) mode are is = agg_tried are.0 are.1 (group_order q) mode is
-  operator_tried group (physical.PartialAgg child) mode are is = single_tried are _ mode is
+  join_tried joins.Looping left right mode are is = loop_tried are.0 are.1 mode is
+
+  pub way_tried : (group : KeyParts) (way : Way) (mode : Mode) → AreTriedOf q group way modes
+      → way_line q group way mode ≡ Some line → HasModeIn modes mode
+  way_tried group (Reads reading) mode are is = table_tried group are _ mode is
+  way_tried group (Passes kept child) mode are is = single_tried are _ mode is
+  way_tried group (Joins by left right) mode are is = join_tried by left right mode are is
+  way_tried group (Groups by child) mode are is = agg_tried are.0 are.1 (grouped_order q by) mode is
 
 module _ (q : Query) (e : PhysicalExpr) (modes : ModeSets) where
   -- numbers that are passed have no line among these
@@ -127,13 +131,13 @@ module _ (q : Query) (e : PhysicalExpr) (modes : ModeSets) where
             absurd never
       ] refl
 
-  module _ (are : AreTriedOf q e.group e.operator modes) where
+  module _ (are : AreTriedOf q e.group (way_of e.operator) modes) where
     -- a mode that would have a line, and isn't tried, has none
     untried : (mode : ℕ) (found : Option Line) → line_of q e mode ≡ found
         → (HasModeIn modes (mode_at mode) → line_of q e mode ≡ None) → found ≡ None
     untried mode None is none = refl
     untried mode (Some line) is none =
-        let never = none (operator_tried q modes line e.group e.operator (mode_at mode) are is) in
+        let never = none (way_tried q modes line e.group (way_of e.operator) (mode_at mode) are is) in
         let wrong : ⊥ = cc in
         absurd wrong
 
