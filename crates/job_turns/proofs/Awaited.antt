@@ -18,7 +18,7 @@ use Rattle.board_moves.proofs.Shown.{still_finished}
 use Rattle.board_moves.proofs.MovesLemmas.{proceeds_none, proceeds_then, later_proceeded, runs_out_then}
 use Rattle.board_moves.proofs.Children.{awaited}
 use Rattle.goal_space.specs.Words.{goal_word}
-use Rattle.goal_space.specs.Phases.{IsOfRule, IsRuleAt}
+use Rattle.goal_space.specs.Phases.{IsTried, IsOfRule, IsRuleAt}
 use Rattle.goal_space.specs.declared.phase.Phase.{Phase}
 use Rattle.goal_space.specs.Entries.{IsChildWord}
 use Rattle.goal_space.specs.declared.goals.GoalKind.{GoalKind}
@@ -112,12 +112,12 @@ rule_more q phase e rules place child (k, below, is) =
     (λ (most : place ≤ k). let same : k ≡ place = omega arith in
     inr (subst (λ i. IsOfRule q phase e (get_or rules i ExpandNAry) child) same is)) (cases_lt k place)
 
--- each rule is one of the list
+-- each rule that is tried is one of the list
 pub each_rule : (q : Query) (phase : Phase) (e : ExprParts) (rules : List Rule) (place : ℕ) (child : GoalKind)
-    → ((rule : Rule) → Contains rules rule) → length rules ≤ place → IsRuleAt q phase e child
+    → ((rule : Rule) → IsTried q phase e rule → Contains rules rule) → length rules ≤ place → IsRuleAt q phase e child
     → IsRuleBefore q phase e rules place child
 each_rule q phase e rules place child every past (rule, of_rule) =
-    let at = every rule in (
+    let at = every rule of_rule.0 in (
       at.0,
       omega (arith, at.1),
       subst (λ r. IsOfRule q phase e r child)

@@ -11,6 +11,7 @@ ghost use Rattle.job_turns.specs.Works.{IsOneOf};
 ghost use Rattle.job_turns.specs.Seats.{AreChildrenOf, SeatAwaits, SeatWorks};
 
 use crate::laws::words_are_known;
+use crate::operator_rules::rules_to_try;
 use crate::over_query::{await_both, await_if};
 use board_moves::{Job, Progress};
 use goal_board::{Answer, Board, Hints, Seat};
@@ -78,8 +79,8 @@ fn await_rules<'q, H: Hints>(
     ensures awaits { SeatAwaits query.now board.now seat.old job.old
         (IsRuleAt query.now phase e) result seat.new job.new }
 {
-    let rules = Rule::all();
-    for rule in &rules {
+    let rules = rules_to_try(phase, e);
+    for rule in rules {
         let goal = rule_goal(query, phase, e, *rule);
         if !await_if(query, board, seat, job, goal, hints) {
             return false;

@@ -10,6 +10,7 @@ mod laws;
 mod members;
 mod modes;
 mod one_turn;
+mod operator_rules;
 mod over_query;
 mod requests;
 mod rule_results;

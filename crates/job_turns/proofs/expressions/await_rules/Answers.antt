@@ -1,5 +1,5 @@
 -- One rule more.
-use Rattle.std.proofs.Common.{◌≡◌, ◌+◌, ◌⊎◌, Some, length, get_or, sym, ap, subst, inl, inr, ⊎_elim, arith}
+use Rattle.std.proofs.Common.{◌≡◌, ◌+◌, ◌⊎◌, Some, get_or, sym, subst, inl, inr, ⊎_elim, arith}
 use Rattle.xform_rules.specs.declared.rules.Rule.TheVariants.{ExpandNAry}
 use Rattle.goal_board.specs.Seats.{hands}
 use Rattle.goal_space.specs.Phases.{IsRuleAt}
@@ -12,7 +12,7 @@ pub loop-rule-init : goal.loop-rule-init
 loop-rule-init g c = record {
   at_work = c.requires.at_work;
   awaited = has_none c.args.query.now c.args.board.now.key.room (hands c.args.seat.now) c.args.job.now.right
-      (IsRuleBefore c.args.query.now c.args.phase c.args.e c.all-rules.result 0) (λ child is. let none = is.1 in
+      (IsRuleBefore c.args.query.now c.args.phase c.args.e c.rules_to_try-rules.result.now 0) (λ child is. let none = is.1 in
       absurd (omega arith));
 }
 
@@ -20,12 +20,12 @@ pub await_if-requires-clause-child : goal.await_if-requires-clause-child
 await_if-requires-clause-child g c = λ child is.
     let of_rule = (c.rule_goal-goal.ensures child).0 is in
     subst (λ k. IsChildOf c.args.query.now k child) (sym c.loop-rule.invariant.awaited.proceeds.same_goal)
-    (c.requires.children child (get_or c.all-rules.result c.loop-rule.rule-index ExpandNAry, of_rule))
+    (c.requires.children child (get_or c.rules_to_try-rules.result.now c.loop-rule.rule-index ExpandNAry, of_rule))
 
 pub returns-then-not-await_if-clause-awaits : goal.returns-then-not-await_if-clause-awaits
 returns-then-not-await_if-clause-awaits g c =
     runs_out_after c.args.query.now c.args.board.now.key.room (hands c.args.seat.now) c.args.job.now.right
-    (IsRuleBefore c.args.query.now c.args.phase c.args.e c.all-rules.result c.loop-rule.rule-index)
+    (IsRuleBefore c.args.query.now c.args.phase c.args.e c.rules_to_try-rules.result.now c.loop-rule.rule-index)
     (hands c.loop-rule.seat) c.loop-rule.job.right
     (hands c.await_if.new.seat) c.await_if.new.job.right c.loop-rule.invariant.awaited c.if-not-await_if.ensures.awaits
 
@@ -33,14 +33,14 @@ pub loop-rule-preserved : goal.loop-rule-preserved
 loop-rule-preserved g c =
     let q = c.args.query.now in
     let b = c.args.board.now in
-    let before = IsRuleBefore q c.args.phase c.args.e c.all-rules.result c.loop-rule.rule-index in
+    let before = IsRuleBefore q c.args.phase c.args.e c.rules_to_try-rules.result.now c.loop-rule.rule-index in
     let here : GoalKind → Type 0 = λ child. c.rule_goal-goal.result ≡ Some child in
     record {
       at_work = c.await_if.ensures.at_work;
       awaited = has_others q b.key.room (hands c.args.seat.now) c.args.job.now.right (λ child. before child
-          ⊎ here child) (IsRuleBefore q c.args.phase c.args.e c.all-rules.result (c.loop-rule.rule-index + 1))
+          ⊎ here child) (IsRuleBefore q c.args.phase c.args.e c.rules_to_try-rules.result.now (c.loop-rule.rule-index + 1))
           (λ child is. ⊎_elim (λ old. inl old) (λ new. inr ((c.rule_goal-goal.ensures child).1 new))
-          (rule_more q c.args.phase c.args.e c.all-rules.result c.loop-rule.rule-index child is))
+          (rule_more q c.args.phase c.args.e c.rules_to_try-rules.result.now c.loop-rule.rule-index child is))
           (hands c.await_if.new.seat) c.await_if.new.job.right
           (has_both q b.key.room (hands c.args.seat.now) c.args.job.now.right before here (hands c.loop-rule.seat)
           c.loop-rule.job.right (hands c.await_if.new.seat) c.await_if.new.job.right c.loop-rule.invariant.awaited
@@ -52,8 +52,8 @@ returns-clause-awaits g c =
     let q = c.args.query.now in
     let b = c.args.board.now in
     has_others q b.key.room (hands c.args.seat.now) c.args.job.now.right
-    (IsRuleBefore q c.args.phase c.args.e c.all-rules.result c.loop-rule.rule-index)
+    (IsRuleBefore q c.args.phase c.args.e c.rules_to_try-rules.result.now c.loop-rule.rule-index)
     (IsRuleAt q c.args.phase c.args.e)
-    (λ child is. each_rule q c.args.phase c.args.e c.all-rules.result c.loop-rule.rule-index child
-    c.all-rules.ensures.every (omega (arith, ap length c.all-rules.ensures.value, c.loop-rule-test.false)) is)
+    (λ child is. each_rule q c.args.phase c.args.e c.rules_to_try-rules.result.now c.loop-rule.rule-index child
+    (c.rules_to_try-rules.ensures.every q) c.loop-rule-test.false is)
     (hands c.loop-rule.seat) c.loop-rule.job.right c.loop-rule.invariant.awaited

@@ -9,5 +9,5 @@ abbrev pub invariant-loop-rule : goal.invariant-loop-rule
 invariant-loop-rule g l = record {
   at_work : IsAtWork l.query l.board l.seat l.job (g.H.Hints.capacity l.hints);
   awaited : HasAwaited l.query l.board.key.room (hands l.initial.seat) l.initial.job.right
-      (IsRuleBefore l.query l.phase l.e l.rule-items l.rule-index) (hands l.seat) l.job.right;
+      (IsRuleBefore l.query l.phase l.e l.rules l.rule-index) (hands l.seat) l.job.right;
 }
