@@ -18,3 +18,4 @@ pub mod Serving
 pub mod Held
 pub mod GoalsHeld
 pub mod JobHeld
+pub mod JoinsMade

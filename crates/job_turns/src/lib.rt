@@ -7,6 +7,7 @@ mod expressions;
 mod group_members;
 mod groups;
 mod laws;
+mod made_joins;
 mod members;
 mod modes;
 mod one_turn;

@@ -15,6 +15,7 @@ ghost use Rattle.job_turns.specs.Requests.{IsImplemented, IsMemberGoal, IsBestOf
 ghost use Rattle.job_turns.specs.Requests.{IsGoalOfMember, IsBestOfMember, IsWordOfMember};
 
 use crate::choice::{Choice, await_choice};
+use crate::made_joins::is_made;
 use crate::words::member_goal;
 use best_answers::answers_are_best;
 use board_moves::Job;
@@ -123,8 +124,13 @@ fn goal_here<'q>(
     if !may_serve(query, props, candidate.expr, wanted) {
         return None;
     }
+    let goal = member_goal(Expr(candidate.word), wanted);
+    // Where the rules alone tell that it is a member, its cell needn't be found.
+    if is_made(query, candidate.expr) {
+        return Some(goal);
+    }
     if board.holds(seat, candidate.word) {
-        Some(member_goal(Expr(candidate.word), wanted))
+        Some(goal)
     } else {
         None
     }

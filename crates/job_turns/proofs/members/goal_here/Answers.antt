@@ -1,5 +1,7 @@
--- A candidate that is held is a member, and one that isn't is none: the looks would show it.
-use Rattle.std.proofs.Common.{◌≢◌, Bool, sym, subst, ◌∙◌, arith, refl}
+-- A candidate that the rules make is a member. Any other is one where it is held, and else none: the looks would show
+-- it.
+use Rattle.std.proofs.Common.{◌≢◌, Bool, ap, sym, subst, ◌∙◌, arith, refl}
+use Rattle.std.specs.Prelude.{is_some}
 use Rattle.std.proofs.lemmas.Bool.{false≢true}
 use Rattle.query_core.specs.Expressions.{expr_of}
 use Rattle.query_core.specs.Goals.{FitsExpr}
@@ -16,8 +18,8 @@ use Rattle.job_turns.specs.Searches.{rules_mean}
 use Rattle.job_turns.proofs.Held.{member_shown}
 use Rattle.job_turns.proofs.members.goal_here.Goals as goal
 
-pub member_goal-requires-clause-expr : goal.member_goal-requires-clause-expr
-member_goal-requires-clause-expr c =
+pub member_goal-goal-requires-clause-expr : goal.member_goal-goal-requires-clause-expr
+member_goal-goal-requires-clause-expr c =
     let candidate = c.requires.candidate in
     let small = c.expressions_are_one.ensures.small (expr_of c.args.candidate.expr)
     (c.candidates_are_known.ensures.packed c.args.query.now (expr_of c.args.candidate.expr) candidate.candidate) in
@@ -31,6 +33,31 @@ pub returns-then-not-may_serve-clause-goal : goal.returns-then-not-may_serve-cla
 returns-then-not-may_serve-clause-goal c =
     λ can. false≢true (sym c.if-not-may_serve.true ∙ c.may_serve.ensures.1 (can.mode, can.serves))
 
+-- what may serve a request has a mode
+pub is_made-requires-clause-candidate : goal.is_made-requires-clause-candidate
+is_made-requires-clause-candidate c = c.requires.candidate.candidate
+
+pub is_made-requires-clause-has_mode : goal.is_made-requires-clause-has_mode
+is_made-requires-clause-has_mode c =
+    let serves = c.may_serve.ensures.0 c.if-not-may_serve.false in (serves.0, ap is_some serves.1.1.is_line)
+
+-- one that the rules make is a member without a look
+pub returns-then-is_made-clause-looks : goal.returns-then-is_made-clause-looks
+returns-then-is_made-clause-looks c = looks_none (hands c.args.seat.now)
+
+pub returns-then-is_made-clause-goal : goal.returns-then-is_made-clause-goal
+returns-then-is_made-clause-goal c =
+    let serves = c.may_serve.ensures.0 c.if-not-may_serve.false in (
+      record {
+        member = c.is_made.ensures.member c.if-is_made.true;
+        of_group = refl;
+        mode = serves.0;
+        serves = serves.1;
+      },
+      c.member_goal-goal.ensures.word c.args.candidate.expr c.requires.candidate.number,
+    )
+
+-- any other is looked for
 pub returns-then-holds-clause-looks : goal.returns-then-holds-clause-looks
 returns-then-holds-clause-looks c = only_looks_held c.args.board.now.key.room (hands c.args.seat.now)
     c.args.candidate.word c.holds.result (hands c.holds.new.seat) c.holds.ensures.answer
@@ -57,7 +84,7 @@ returns-then-holds-clause-goal c =
         mode = serves.0;
         serves = serves.1;
       },
-      c.member_goal.ensures.word e c.requires.candidate.number,
+      c.member_goal-goal.ensures.word e c.requires.candidate.number,
     )
 
 pub returns-else-holds-clause-looks : goal.returns-else-holds-clause-looks

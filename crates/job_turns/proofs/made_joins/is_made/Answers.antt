@@ -1,0 +1,40 @@
+-- With these rules on the group holds the join of any two sides into which its tables fall.
+use Rattle.std.proofs.Common.{IsSome, sym, subst}
+use Rattle.query_core.specs.Expressions.{HasPhysical, IsJoin}
+use Rattle.query_core.specs.declared.expressions.Physical.{Physical}
+use Rattle.xform_rules.specs.Forms.{physical_in}
+use Rattle.xform_rules.specs.Closure.{IsMember}
+use Rattle.plan_space.specs.Lines.{operator_line, merge_line}
+use Rattle.plan_space.specs.Modes.{mode_at}
+use Rattle.job_turns.proofs.JoinsMade.{merge_crosses, merge_member, loop_member}
+use Rattle.job_turns.proofs.made_joins.is_made.Goals as goal
+
+pub returns-then-turns_joins : goal.returns-then-turns_joins
+returns-then-turns_joins c =
+    let q = c.args.query.now in
+    let g = c.args.e.group in
+    let l = c.in-MergeJoin.field-0 in
+    let r = c.in-MergeJoin.field-1 in
+    let joins : IsJoin q g l r = subst (HasPhysical q g) c.in-MergeJoin.is c.requires.candidate.shape in
+    let mode = mode_at c.requires.has_mode.0 in
+    let some : IsSome (merge_line q l r mode) =
+    subst (λ (o : Physical). IsSome (operator_line q g o mode)) c.in-MergeJoin.is c.requires.has_mode.1 in
+    record {
+      member = λ on. subst (λ (o : Physical). IsMember q (physical_in g o)) (sym c.in-MergeJoin.is)
+          (merge_member q (c.splits_are_complete.ensures.splits q) (c.turns_joins.ensures.0 c.if-turns_joins.true) g l r
+          c.requires.candidate.known joins (c.is_on.ensures.0 on) (merge_crosses q l r mode some));
+    }
+
+pub returns-then-turns_joins-2 : goal.returns-then-turns_joins-2
+returns-then-turns_joins-2 c =
+    let q = c.args.query.now in
+    let g = c.args.e.group in
+    let l = c.in-LoopJoin.field-0 in
+    let r = c.in-LoopJoin.field-1 in
+    let joins : IsJoin q g l r = subst (HasPhysical q g) c.in-LoopJoin.is c.requires.candidate.shape in
+    record {
+      member = λ on. subst (λ (o : Physical). IsMember q (physical_in g o)) (sym c.in-LoopJoin.is)
+          (loop_member q (c.splits_are_complete.ensures.splits q)
+          (c.turns_joins-in-LoopJoin.ensures.0 c.if-turns_joins-2.true) g l r c.requires.candidate.known joins
+          (c.is_on-then-turns_joins-2.ensures.0 on));
+    }
