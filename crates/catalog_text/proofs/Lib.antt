@@ -3,5 +3,9 @@ pub mod Tokens
 pub mod Each
 pub mod Differ
 pub mod Values
+pub mod Among
+pub mod Said
+pub mod Parts
+pub mod Histograms
 pub mod Walk
 pub mod Back

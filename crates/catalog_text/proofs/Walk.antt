@@ -1,15 +1,12 @@
 -- The walk over the value of a catalogue gives the catalogue.
-use Rattle.std.proofs.Common.{◌≡◌, ℕ, suc, ◌-◌, ◌^◌, ◌==◌, ◌<◌, ◌≤◌, ℤ, pos, negsuc, SFits, w64, int_le, int_lt, Bool}
-use Rattle.std.proofs.Common.{true, false, ◌&&◌, not, Option, is_some, List, [], ◌∷◌, ◌++◌, map, length, slice_get}
-use Rattle.std.proofs.Common.{option_map, Some, Ok, nat_lt, nat_le, refl, sym, ap, subst, ◌∙◌, arith, None}
-use Rattle.std.proofs.lemmas.Bool.{le-leb, lt-ltb, ltb-true, and_from, and_parts}
+use Rattle.std.proofs.Common.{◌≡◌, ℕ, ◌==◌, ◌<◌, ◌≤◌}
+use Rattle.std.proofs.Common.{true, false, not, Option, is_some, List, [], ◌∷◌, ◌++◌, map, length}
+use Rattle.std.proofs.Common.{Some, Ok, nat_lt, refl, sym, subst, arith, None}
+use Rattle.std.proofs.lemmas.Bool.{ltb-true}
 use Rattle.std.specs.List.{All, list_any, list_all}
-use Rattle.std.specs.Option.{option_map_or}
 use Rattle.std.specs.Str.{bytes_eq}
-use Rattle.std.proofs.lemmas.List.{get_or-map, length-map, map-append}
-use Rattle.std.proofs.lemmas.List.Sums.{AllPass-from_list_all}
-use Rattle.serde_json.specs.Data.{Data, string, number, unsigned, object}
-use Rattle.query_core.specs.declared.histogram.Bucket.{Bucket}
+use Rattle.std.proofs.lemmas.List.{get_or-map, length-map}
+use Rattle.serde_json.specs.Data.{string, number, unsigned, object}
 use Rattle.query_core.specs.declared.histogram.Histogram.{Histogram}
 use Rattle.query_core.specs.declared.catalog.ColumnInfo.{ColumnInfo}
 use Rattle.query_core.specs.declared.catalog.Placing.{Placing}
@@ -17,142 +14,29 @@ use Rattle.query_core.specs.declared.catalog.Placing.TheVariants.{Hashed, Random
 use Rattle.query_core.specs.declared.catalog.TableInfo.{TableInfo}
 use Rattle.query_core.specs.declared.catalog.Catalog.{Catalog}
 use Rattle.query_core.specs.Catalog.{is_catalog_name, IsColumn, IsColumnList, IsPlacing, IsTable}
-use Rattle.query_core.specs.Histogram.{trillion, within, ends_rise, ends_rise_above, is_histogram, may_be_histogram}
+use Rattle.query_core.specs.Histogram.{trillion, within, may_be_histogram}
 use Rattle.query_core.specs.Catalog.{IsCatalog}
 use Rattle.query_core.specs.Differ.{all_differ, texts_differ}
 use Rattle.catalog_json.specs.declared.place.NameList.{NameList}
 use Rattle.catalog_json.specs.declared.place.NameList.TheVariants.{Distribution, Index}
-use Rattle.catalog_json.specs.declared.place.Place.{Place}
 use Rattle.catalog_json.specs.declared.place.Place.TheVariants as places
 use Rattle.catalog_json.specs.declared.version.CatalogVersion.{CatalogVersion}
 use Rattle.catalog_json.specs.declared.version.CatalogVersion.TheVariants.{One, Two}
 use Rattle.catalog_json.specs.Columns.{names_of}
-use Rattle.catalog_json.specs.Walk.{number_at, signed_at, list_at, name_at as name_read, new_name_at}
-use Rattle.catalog_json.specs.Walk.{goes_above, bucket_at, histogram_at, histogram_by}
+use Rattle.catalog_json.specs.Walk.{new_name_at}
 use Rattle.catalog_json.specs.Walk.{column_at, columns_at, listed_at, places_at, placing_at, placing_by, index_at}
 use Rattle.catalog_json.specs.Walk.{indexes_at, lists_at, named_table_at, table_at, version_at, tables_at, catalog_at}
-use Rattle.catalog_json.proofs.Elements.{elements_items_of}
-use Rattle.catalog_text.specs.Signed.{ColumnFits, EndFits, HistogramFits, NumbersFit, TableFits}
+use Rattle.catalog_text.specs.Signed.{ColumnFits, HistogramFits, TableFits}
 use Rattle.catalog_text.specs.Text.{name_at, can_say, is_plain_placing, is_plain_table, version_number}
-use Rattle.catalog_text.proofs.Differ.{new_text, new_number, place_of}
+use Rattle.catalog_text.proofs.Differ.{new_number, place_of}
 use Rattle.catalog_text.proofs.Each.{each_read}
-use Rattle.catalog_text.proofs.Values.{list_data, signed, bucket_data, histogram_data, histogram_parts, with_histogram}
+use Rattle.catalog_text.proofs.Values.{list_data, with_histogram}
 use Rattle.catalog_text.proofs.Values.{column_members, column_data, places_data, placing_data}
 use Rattle.catalog_text.proofs.Values.{table_data, catalog_data}
-
--- ---- what a version says
-
--- the first version says what is plain
-abbrev Says : CatalogVersion → Bool → Type 0
-Says One plain = plain ≡ true
-Says Two plain = Unit {0}
-
-says_both : (version : CatalogVersion) (a b : Bool) → Says version (a && b) → Says version a × Says version b
-says_both One a b said = and_parts a b said
-says_both Two a b said = (tt, tt)
-
--- ---- numbers, names and lists
-
-at_most : (n most : ℕ) → n ≤ most → within 0 most n ≡ true
-at_most n most h = and_from (nat_le 0 n) (nat_le n most) (le-leb 0 n (omega arith)) (le-leb n most h)
-
-number_read : (least most n : ℕ) (at : Place) → within least most n ≡ true
-    → number_at least most at (Some (number (unsigned n))) ≡ Ok n
-number_read least most n at h = rw h refl
-
-signed_read : (at : Place) (z : ℤ) → SFits w64 z → signed_at at (Some (number (signed z))) ≡ Ok z
-signed_read at (pos n) fits = rw (lt-ltb n (2 ^ 63) (omega (arith, fits.sfits))) refl
-signed_read at (negsuc n) fits = refl
-
-plain_name : (at : Place) (text : List ℕ) → is_catalog_name text ≡ true → name_read at (Some (string text)) ≡ Ok text
-plain_name at text h = rw h refl
-
-new_name : (at : Place) (before : List (List ℕ)) (text : List ℕ) → is_catalog_name text ≡ true
-    → list_any (bytes_eq text) before ≡ false → new_name_at at before (Some (string text)) ≡ Ok text
-unfolding new_name_at
-new_name at before text named new = rw (named, new) refl
-
-list_read : {X : Type 0} (form : X → Data) (least most : ℕ) (at : Place) (xs : List X)
-    → within least most (length xs) ≡ true → list_at least most at (Some (list_data form xs)) ≡ Ok (map form xs)
-list_read form least most at xs h = rw (elements_items_of (map form xs), length-map xs form, h) refl
-
--- ---- an element of a list that keeps its limits
-
-among : {X : Type 0} (P : X → Type 0) (before : List X) (a : X) (after : List X) → All P (before ++ a ∷ after) → P a
-among P [] a after h = h 0 a (omega arith)
-among P (b ∷ before) a after h = among P before a after (λ k d l. h (suc k) d (omega arith))
-
-new_among : {X : Type 0} (name : X → List ℕ) (whole before : List X) (a : X) (after : List X)
-    → texts_differ (map name whole) ≡ true → whole ≡ before ++ a ∷ after
-    → list_any (bytes_eq (name a)) (map name before) ≡ false
-new_among name whole before a after differ e =
-    new_text (map name before) (name a) (map name after)
-    (subst (λ (texts : List (List ℕ)). texts_differ texts ≡ true) (ap (map name) e
-    ∙ map-append name before (a ∷ after)) differ)
-
-passes_among : {X : Type 0} (test : X → Bool) (whole before : List X) (a : X) (after : List X)
-    → list_all test whole ≡ true → whole ≡ before ++ a ∷ after → test a ≡ true
-passes_among test whole before a after all e =
-    among (λ x. test x ≡ true) before a after
-    (AllPass-from_list_all test _ (subst (λ (xs : List _). list_all test xs ≡ true) e all))
-
--- what the first version says of all, it says of each
-says_among : {X : Type 0} (version : CatalogVersion) (test : X → Bool) (whole before : List X) (a : X) (after : List X)
-    → Says version (list_all test whole) → whole ≡ before ++ a ∷ after → Says version (test a)
-says_among One test whole before a after said e = passes_among test whole before a after said e
-says_among Two test whole before a after said e = tt
-
--- ---- histograms
-
--- ends that rise do so at the bucket in the middle
-last_above : (first : Bucket) (others : List Bucket) (b : Bucket) (after : List Bucket) (other : Bool)
-    → ends_rise_above first.upto (others ++ b ∷ after) ≡ true
-    → option_map_or (λ x. int_lt x.upto b.upto) (slice_get (first ∷ others) (length others)) other ≡ true
-last_above first [] b after other rise = (and_parts (int_lt first.upto b.upto) _ rise).0
-last_above first (next ∷ others) b after other rise =
-    last_above next others b after other (and_parts (int_lt first.upto next.upto) _ rise).1
-
-last_place : (n : ℕ) → suc n - 1 ≡ n
-last_place n = omega arith
-
-goes_on_above : (low : ℤ) (before : List Bucket) (b : Bucket) (after : List Bucket)
-    → ends_rise low (before ++ b ∷ after) ≡ true → goes_above low before b.upto ≡ true
-goes_on_above low [] b after rise = (and_parts (int_le low b.upto) _ rise).0
-goes_on_above low (first ∷ others) b after rise =
-    rw (last_place (length others)) (last_above first others b after (int_le low b.upto)
-    (and_parts (int_le low first.upto) _ rise).1)
-
-bucket_read : (t c : ℕ) (low : ℤ) (before : List Bucket) (b : Bucket) → EndFits b → nat_le b.rows trillion ≡ true
-    → goes_above low before b.upto ≡ true → bucket_at t c low before (bucket_data b) ≡ Ok b
-unfolding bucket_at
-bucket_read t c low before b fits few above =
-    let rows : within 0 trillion b.rows ≡ true = and_from (nat_le 0 b.rows) (nat_le b.rows trillion)
-    (le-leb 0 b.rows (omega arith)) few in
-    rw (signed_read (places.Upto t c (length before)) b.upto fits, above, rows) refl
-
-histogram_read : (t c : ℕ) (h : Histogram) → is_histogram h ≡ true → NumbersFit h
-    → histogram_at t c (histogram_data h) ≡ Ok h
-unfolding histogram_at
-histogram_read t c h is fit =
-    let parts = histogram_parts h is in
-    let buckets = each_read (bucket_at t c h.low) bucket_data h.buckets (λ before b after e.
-    bucket_read t c h.low before b
-    (among EndFits before b after (subst (λ (bs : List Bucket). All EndFits bs) e fit.ends))
-    (passes_among (λ (x : Bucket). nat_le x.rows trillion) h.buckets before b after parts.rows e)
-    (goes_on_above h.low before b after (subst (λ (bs : List Bucket). ends_rise h.low bs ≡ true) e parts.rise))) in
-    rw (
-      signed_read (places.Low t c) h.low fit.low,
-      list_read bucket_data 1 64 (places.Buckets t c) h.buckets parts.count,
-      buckets,
-    ) refl
-
-found_read : (version : CatalogVersion) (t c : ℕ) (histogram : Option Histogram)
-    → may_be_histogram histogram ≡ true → HistogramFits histogram → Says version (not (is_some histogram))
-    → histogram_by version t c (option_map histogram_data histogram) ≡ Ok histogram
-found_read One t c None is fits said = refl
-found_read One t c (Some histogram) is fits said = absurd cc
-found_read Two t c None is fits said = refl
-found_read Two t c (Some histogram) is fits said = rw (histogram_read t c histogram is fits) refl
+use Rattle.catalog_text.proofs.Among.{among, new_among, passes_among}
+use Rattle.catalog_text.proofs.Histograms.{found_read}
+use Rattle.catalog_text.proofs.Said.{Says, says_among, says_both}
+use Rattle.catalog_text.proofs.Parts.{at_most, list_read, new_name}
 
 -- ---- columns
 
