@@ -18,7 +18,8 @@ pub fn grouped(alloc: Global) -> Result<Query, Fail> {
 pub fn hashed_count(alloc: Global) -> Result<Query, Fail> {
     worked(
         alloc,
-        r#"[{"name":"t","rows":1000,"distribution":["a"],"indexes":[["a"]],"columns":[{"name":"a","ndv":100},{"name":"b","ndv":10}]}]"#,
+        r#"[{"name":"t","rows":1000,"distribution":["a"],"indexes":[["a"]],
+"columns":[{"name":"a","ndv":100},{"name":"b","ndv":10}]}]"#,
         "SELECT COUNT(*) FROM t GROUP BY t.b",
     )
 }
@@ -27,7 +28,8 @@ pub fn hashed_count(alloc: Global) -> Result<Query, Fail> {
 pub fn filtered_count(alloc: Global) -> Result<Query, Fail> {
     worked(
         alloc,
-        r#"[{"name":"t","rows":100000,"distribution":"random","indexes":[["a"],["b","a"]],"columns":[{"name":"a","ndv":100},{"name":"b","ndv":10}]}]"#,
+        r#"[{"name":"t","rows":100000,"distribution":"random","indexes":[["a"],["b","a"]],
+"columns":[{"name":"a","ndv":100},{"name":"b","ndv":10}]}]"#,
         "SELECT COUNT(*) FROM t WHERE t.a = 5 GROUP BY t.b",
     )
 }
@@ -36,7 +38,8 @@ pub fn filtered_count(alloc: Global) -> Result<Query, Fail> {
 pub fn totals(alloc: Global) -> Result<Query, Fail> {
     worked(
         alloc,
-        r#"[{"name":"t","rows":1000,"distribution":["a"],"indexes":[["a"]],"columns":[{"name":"a","ndv":10},{"name":"b","ndv":10}]}]"#,
+        r#"[{"name":"t","rows":1000,"distribution":["a"],"indexes":[["a"]],
+"columns":[{"name":"a","ndv":10},{"name":"b","ndv":10}]}]"#,
         "SELECT COUNT(*), SUM(t.a) AS total, t.b FROM t WHERE t.a = 5 GROUP BY t.b ORDER BY total DESC, t.b",
     )
 }
@@ -48,7 +51,8 @@ pub fn per_group(alloc: Global, ordered_by: &str) -> Result<Query, Fail> {
     )?;
     worked(
         alloc,
-        r#"[{"name":"t","rows":1000,"distribution":["a"],"indexes":[["b","c","a"]],"columns":[{"name":"a","ndv":100},{"name":"b","ndv":10},{"name":"c","ndv":4}]}]"#,
+        r#"[{"name":"t","rows":1000,"distribution":["a"],"indexes":[["b","c","a"]],
+"columns":[{"name":"a","ndv":100},{"name":"b","ndv":10},{"name":"c","ndv":4}]}]"#,
         &text,
     )
 }

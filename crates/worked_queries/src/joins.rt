@@ -8,22 +8,30 @@ use std::alloc::Global;
 use std::test::Fail;
 
 const A_THOUSAND_EACH: &str =
-    r#"[{"name":"T1","rows":1000,"distribution":"random","columns":[{"name":"a","ndv":1000}]},{"name":"T2","rows":1000,"distribution":"random","columns":[{"name":"b","ndv":500}]}]"#;
+    r#"[{"name":"T1","rows":1000,"distribution":"random","columns":[{"name":"a","ndv":1000}]},
+{"name":"T2","rows":1000,"distribution":"random","columns":[{"name":"b","ndv":500}]}]"#;
 
 const UNLINKED: &str =
-    r#"[{"name":"t","rows":100,"distribution":"random","columns":[{"name":"a","ndv":10}]},{"name":"u","rows":10,"distribution":"random","columns":[{"name":"b","ndv":10}]}]"#;
+    r#"[{"name":"t","rows":100,"distribution":"random","columns":[{"name":"a","ndv":10}]},
+{"name":"u","rows":10,"distribution":"random","columns":[{"name":"b","ndv":10}]}]"#;
 
 const FOUR: &str =
-    r#"[{"name":"A","rows":100,"distribution":"random","columns":[{"name":"a","ndv":10}]},{"name":"B","rows":100,"distribution":"random","columns":[{"name":"a","ndv":10}]},{"name":"C","rows":100,"distribution":"random","columns":[{"name":"a","ndv":10}]},{"name":"D","rows":100,"distribution":"random","columns":[{"name":"a","ndv":10}]}]"#;
+    r#"[{"name":"A","rows":100,"distribution":"random","columns":[{"name":"a","ndv":10}]},
+{"name":"B","rows":100,"distribution":"random","columns":[{"name":"a","ndv":10}]},
+{"name":"C","rows":100,"distribution":"random","columns":[{"name":"a","ndv":10}]},
+{"name":"D","rows":100,"distribution":"random","columns":[{"name":"a","ndv":10}]}]"#;
 
 const ONE_FILTERED: &str =
-    r#"[{"name":"T","rows":10,"distribution":"random","columns":[{"name":"a","ndv":10}]},{"name":"U","rows":10,"distribution":"random","columns":[{"name":"x","ndv":10}]},{"name":"V","rows":10,"distribution":"random","columns":[{"name":"y","ndv":10}]}]"#;
+    r#"[{"name":"T","rows":10,"distribution":"random","columns":[{"name":"a","ndv":10}]},
+{"name":"U","rows":10,"distribution":"random","columns":[{"name":"x","ndv":10}]},
+{"name":"V","rows":10,"distribution":"random","columns":[{"name":"y","ndv":10}]}]"#;
 
 /// The running example: two tables, each hashed on a, of which one is joined on b.
 pub fn two_tables(alloc: Global) -> Result<Query, Fail> {
     worked(
         alloc,
-        r#"[{"name":"T1","rows":1000,"distribution":["a"],"columns":[{"name":"a","ndv":1000}]},{"name":"T2","rows":1000,"distribution":["a"],"columns":[{"name":"a","ndv":1000},{"name":"b","ndv":500}]}]"#,
+        r#"[{"name":"T1","rows":1000,"distribution":["a"],"columns":[{"name":"a","ndv":1000}]},
+{"name":"T2","rows":1000,"distribution":["a"],"columns":[{"name":"a","ndv":1000},{"name":"b","ndv":500}]}]"#,
         "SELECT T1.a FROM T1, T2 WHERE T1.a = T2.b ORDER BY T1.a",
     )
 }
@@ -32,7 +40,9 @@ pub fn two_tables(alloc: Global) -> Result<Query, Fail> {
 pub fn two_tables_descending(alloc: Global) -> Result<Query, Fail> {
     worked(
         alloc,
-        r#"[{"name":"T1","rows":1000,"distribution":["a"],"columns":[{"name":"a","ndv":1000}]},{"name":"T2","rows":1000,"distribution":["a"],"indexes":[["b"]],"columns":[{"name":"a","ndv":1000},{"name":"b","ndv":1000}]}]"#,
+        r#"[{"name":"T1","rows":1000,"distribution":["a"],"columns":[{"name":"a","ndv":1000}]},
+{"name":"T2","rows":1000,"distribution":["a"],"indexes":[["b"]],
+"columns":[{"name":"a","ndv":1000},{"name":"b","ndv":1000}]}]"#,
         "SELECT T1.a, T2.b AS c FROM T1, T2 WHERE T1.a = T2.b ORDER BY T1.a DESC",
     )
 }
@@ -41,7 +51,8 @@ pub fn two_tables_descending(alloc: Global) -> Result<Query, Fail> {
 pub fn hashed_alike(alloc: Global) -> Result<Query, Fail> {
     worked(
         alloc,
-        r#"[{"name":"T1","rows":1000,"distribution":["a"],"columns":[{"name":"a","ndv":1000}]},{"name":"T2","rows":1000,"distribution":["a"],"columns":[{"name":"a","ndv":1000}]}]"#,
+        r#"[{"name":"T1","rows":1000,"distribution":["a"],"columns":[{"name":"a","ndv":1000}]},
+{"name":"T2","rows":1000,"distribution":["a"],"columns":[{"name":"a","ndv":1000}]}]"#,
         "SELECT T1.a FROM T1, T2 WHERE T1.a = T2.a",
     )
 }
@@ -50,7 +61,8 @@ pub fn hashed_alike(alloc: Global) -> Result<Query, Fail> {
 pub fn large_and_small(alloc: Global) -> Result<Query, Fail> {
     worked(
         alloc,
-        r#"[{"name":"b","rows":100000,"distribution":"random","columns":[{"name":"x","ndv":1000}]},{"name":"s","rows":10,"distribution":"random","columns":[{"name":"y","ndv":10}]}]"#,
+        r#"[{"name":"b","rows":100000,"distribution":"random","columns":[{"name":"x","ndv":1000}]},
+{"name":"s","rows":10,"distribution":"random","columns":[{"name":"y","ndv":10}]}]"#,
         "SELECT b.x FROM b, s WHERE b.x = s.y",
     )
 }
@@ -59,7 +71,8 @@ pub fn large_and_small(alloc: Global) -> Result<Query, Fail> {
 pub fn huge_tables(alloc: Global) -> Result<Query, Fail> {
     worked(
         alloc,
-        r#"[{"name":"T1","rows":1000000000000,"distribution":"random","columns":[{"name":"a","ndv":1}]},{"name":"T2","rows":1000000000000,"distribution":"random","columns":[{"name":"b","ndv":1}]}]"#,
+        r#"[{"name":"T1","rows":1000000000000,"distribution":"random","columns":[{"name":"a","ndv":1}]},
+{"name":"T2","rows":1000000000000,"distribution":"random","columns":[{"name":"b","ndv":1}]}]"#,
         "SELECT T1.a FROM T1, T2 WHERE T1.a < T2.b",
     )
 }
@@ -111,7 +124,9 @@ pub fn one_linked_pair_without(alloc: Global, off: u32) -> Result<Query, Fail>
 pub fn two_equalities(alloc: Global) -> Result<Query, Fail> {
     worked(
         alloc,
-        r#"[{"name":"A","rows":100,"distribution":["x","y"],"indexes":[["x","y"]],"columns":[{"name":"x","ndv":10},{"name":"y","ndv":10}]},{"name":"B","rows":100,"distribution":"random","columns":[{"name":"z","ndv":10},{"name":"w","ndv":10}]}]"#,
+        r#"[{"name":"A","rows":100,"distribution":["x","y"],"indexes":[["x","y"]],
+"columns":[{"name":"x","ndv":10},{"name":"y","ndv":10}]},
+{"name":"B","rows":100,"distribution":"random","columns":[{"name":"z","ndv":10},{"name":"w","ndv":10}]}]"#,
         "SELECT A.x FROM A, B WHERE A.x = B.z AND A.x = A.y AND A.y < B.w ORDER BY A.x DESC",
     )
 }
@@ -120,7 +135,9 @@ pub fn two_equalities(alloc: Global) -> Result<Query, Fail> {
 pub fn chain(alloc: Global) -> Result<Query, Fail> {
     worked(
         alloc,
-        r#"[{"name":"a","rows":100,"distribution":"random","columns":[{"name":"x","ndv":10}]},{"name":"b","rows":1000,"distribution":"random","columns":[{"name":"x","ndv":100}]},{"name":"c","rows":10,"distribution":"random","columns":[{"name":"x","ndv":5}]}]"#,
+        r#"[{"name":"a","rows":100,"distribution":"random","columns":[{"name":"x","ndv":10}]},
+{"name":"b","rows":1000,"distribution":"random","columns":[{"name":"x","ndv":100}]},
+{"name":"c","rows":10,"distribution":"random","columns":[{"name":"x","ndv":5}]}]"#,
         "SELECT a.x FROM a, b, c WHERE a.x = b.x AND b.x = c.x",
     )
 }
@@ -129,7 +146,9 @@ pub fn chain(alloc: Global) -> Result<Query, Fail> {
 pub fn cycle(alloc: Global) -> Result<Query, Fail> {
     worked(
         alloc,
-        r#"[{"name":"A","rows":100,"distribution":"random","columns":[{"name":"x","ndv":10}]},{"name":"B","rows":100,"distribution":"random","columns":[{"name":"x","ndv":10}]},{"name":"C","rows":100,"distribution":"random","columns":[{"name":"x","ndv":10}]}]"#,
+        r#"[{"name":"A","rows":100,"distribution":"random","columns":[{"name":"x","ndv":10}]},
+{"name":"B","rows":100,"distribution":"random","columns":[{"name":"x","ndv":10}]},
+{"name":"C","rows":100,"distribution":"random","columns":[{"name":"x","ndv":10}]}]"#,
         "SELECT A.x FROM A, B, C WHERE A.x = B.x AND B.x = C.x AND A.x = C.x",
     )
 }
@@ -138,7 +157,11 @@ pub fn cycle(alloc: Global) -> Result<Query, Fail> {
 pub fn cycle_of_four_predicates(alloc: Global) -> Result<Query, Fail> {
     worked(
         alloc,
-        r#"[{"name":"A","rows":100,"distribution":"random","columns":[{"name":"x","ndv":10},{"name":"y","ndv":10},{"name":"w","ndv":10}]},{"name":"B","rows":100,"distribution":"random","columns":[{"name":"x","ndv":10},{"name":"y","ndv":10},{"name":"z","ndv":10}]},{"name":"C","rows":100,"distribution":"random","columns":[{"name":"z","ndv":10},{"name":"w","ndv":10}]}]"#,
+        r#"[{"name":"A","rows":100,"distribution":"random",
+"columns":[{"name":"x","ndv":10},{"name":"y","ndv":10},{"name":"w","ndv":10}]},
+{"name":"B","rows":100,"distribution":"random",
+"columns":[{"name":"x","ndv":10},{"name":"y","ndv":10},{"name":"z","ndv":10}]},
+{"name":"C","rows":100,"distribution":"random","columns":[{"name":"z","ndv":10},{"name":"w","ndv":10}]}]"#,
         "SELECT A.x FROM A, B, C WHERE A.x = B.x AND A.y = B.y AND B.z = C.z AND A.w = C.w",
     )
 }

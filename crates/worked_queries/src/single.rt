@@ -8,7 +8,7 @@ use std::test::Fail;
 /// All values of a column of a table that has so many rows, from 1 to 10^12, at random places.
 pub fn one_table(alloc: Global, rows: u64) -> Result<Query, Fail> {
     let tables = format!(in alloc;
-        "[{{\"name\":\"t\",\"rows\":{rows},\"distribution\":\"random\",\"columns\":[{{\"name\":\"a\",\"ndv\":1000}}]}}]"
+        r#"[{{"name":"t","rows":{rows},"distribution":"random","columns":[{{"name":"a","ndv":1000}}]}}]"#
     )?;
     worked(alloc, &tables, "SELECT t.a FROM t")
 }
@@ -35,13 +35,14 @@ pub fn filtered_table(alloc: Global) -> Result<Query, Fail> {
 pub fn three_indexes(alloc: Global) -> Result<Query, Fail> {
     worked(
         alloc,
-        r#"[{"name":"t","rows":1000,"distribution":"random","indexes":[["a"],["b","a"],["b"]],"columns":[{"name":"a","ndv":10},{"name":"b","ndv":10}]}]"#,
+        r#"[{"name":"t","rows":1000,"distribution":"random","indexes":[["a"],["b","a"],["b"]],
+"columns":[{"name":"a","ndv":10},{"name":"b","ndv":10}]}]"#,
         "SELECT t.a FROM t WHERE t.a <> 1 AND t.b < 5",
     )
 }
 
-/// The rows that meet a condition, of a table of so many. Its column `a` has this histogram, in JSON, and its column `b`
-/// has none.
+/// The rows that meet a condition, of a table of so many. Its column `a` has this histogram, in JSON, and its column
+/// `b` has none.
 pub fn ranged_table(
     alloc: Global,
     rows: u64,
@@ -49,7 +50,8 @@ pub fn ranged_table(
     condition: &str,
 ) -> Result<Query, Fail> {
     let tables = format!(in alloc;
-        "[{{\"name\":\"t\",\"rows\":{rows},\"distribution\":\"random\",\"columns\":[{{\"name\":\"a\",\"ndv\":100,\"histogram\":{histogram}}},{{\"name\":\"b\",\"ndv\":10}}]}}]"
+        r#"[{{"name":"t","rows":{rows},"distribution":"random",
+"columns":[{{"name":"a","ndv":100,"histogram":{histogram}}},{{"name":"b","ndv":10}}]}}]"#
     )?;
     let text = format!(in alloc; "SELECT a FROM t WHERE {condition}")?;
     worked(alloc, &tables, &text)
