@@ -1,5 +1,5 @@
-//! The answers that the engine finds to the goals of small queries, beside what the plain search finds, and the plans made
-//! of them.
+//! The answers that the engine finds to the goals of small queries, beside what the plain search finds, and the plans
+//! made of them.
 
 ghost use Rattle.std.specs.Prelude.{All};
 ghost use Rattle.request_props.specs.Numbered.{IsProps};

@@ -1,4 +1,4 @@
-//! The engine, what its board gives, and what it finds against the plain search and a listing of all plans; tests alone.
+//! The engine, what its board gives, what it finds against the plain search and a listing of all plans; tests alone.
 #![tactic(auto)]
 
 #[cfg(test)]

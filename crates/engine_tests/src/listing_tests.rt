@@ -15,20 +15,26 @@ use worked_queries::{implied, query_over};
 const ONE_TABLE: &str =
     r#"[{"name":"t","rows":100,"distribution":"random","columns":[{"name":"a","ndv":100},{"name":"b","ndv":10}]}]"#;
 
-const INDEXED: &str =
-    r#"[{"name":"t","rows":100,"distribution":["a"],"indexes":[["a","b"],["b"]],"columns":[{"name":"a","ndv":100},{"name":"b","ndv":10}]}]"#;
+const INDEXED: &str = r#"[{"name":"t","rows":100,"distribution":["a"],"indexes":[["a","b"],["b"]],
+"columns":[{"name":"a","ndv":100},{"name":"b","ndv":10}]}]"#;
 
 const HASHED: &str =
-    r#"[{"name":"t","rows":100,"distribution":["a"],"columns":[{"name":"a","ndv":100}]},{"name":"u","rows":100,"distribution":["a"],"columns":[{"name":"a","ndv":100},{"name":"b","ndv":50}]}]"#;
+    r#"[{"name":"t","rows":100,"distribution":["a"],"columns":[{"name":"a","ndv":100}]},
+{"name":"u","rows":100,"distribution":["a"],"columns":[{"name":"a","ndv":100},{"name":"b","ndv":50}]}]"#;
 
 const SMALL: &str =
-    r#"[{"name":"t","rows":100,"distribution":"random","columns":[{"name":"a","ndv":100}]},{"name":"u","rows":10,"distribution":"random","columns":[{"name":"b","ndv":10}]}]"#;
+    r#"[{"name":"t","rows":100,"distribution":"random","columns":[{"name":"a","ndv":100}]},
+{"name":"u","rows":10,"distribution":"random","columns":[{"name":"b","ndv":10}]}]"#;
 
 const UNLINKED: &str =
-    r#"[{"name":"t","rows":10,"distribution":"random","columns":[{"name":"a","ndv":10}]},{"name":"u","rows":2,"distribution":"random","columns":[{"name":"b","ndv":2}]},{"name":"v","rows":1,"distribution":"random","columns":[{"name":"c","ndv":1}]}]"#;
+    r#"[{"name":"t","rows":10,"distribution":"random","columns":[{"name":"a","ndv":10}]},
+{"name":"u","rows":2,"distribution":"random","columns":[{"name":"b","ndv":2}]},
+{"name":"v","rows":1,"distribution":"random","columns":[{"name":"c","ndv":1}]}]"#;
 
 const ALIKE: &str =
-    r#"[{"name":"t","rows":100,"distribution":["a"],"columns":[{"name":"a","ndv":100}]},{"name":"u","rows":100,"distribution":["a"],"columns":[{"name":"a","ndv":100}]},{"name":"v","rows":100,"distribution":["a"],"columns":[{"name":"a","ndv":100}]}]"#;
+    r#"[{"name":"t","rows":100,"distribution":["a"],"columns":[{"name":"a","ndv":100}]},
+{"name":"u","rows":100,"distribution":["a"],"columns":[{"name":"a","ndv":100}]},
+{"name":"v","rows":100,"distribution":["a"],"columns":[{"name":"a","ndv":100}]}]"#;
 
 const PLAIN: Options = Options {
     root: RootDist::One,

@@ -127,8 +127,8 @@ const OF_ALL_NUMBERS: [(&str, u64); 3] = [
     ("a < 0", 1000),
 ];
 
-const GREATEST_APART: &str =
-    r#"{"low":-9223372036854775808,"buckets":[{"upto":9223372036854775806,"rows":1},{"upto":9223372036854775807,"rows":2}]}"#;
+const GREATEST_APART: &str = r#"{"low":-9223372036854775808,"buckets":[
+{"upto":9223372036854775806,"rows":1},{"upto":9223372036854775807,"rows":2}]}"#;
 
 const OF_GREATEST_APART: [(&str, u64); 3] = [
     ("a >= 9223372036854775807", 667),
@@ -136,8 +136,8 @@ const OF_GREATEST_APART: [(&str, u64); 3] = [
     ("a <= 9223372036854775807", 1000),
 ];
 
-const LEAST_APART: &str =
-    r#"{"low":-9223372036854775808,"buckets":[{"upto":-9223372036854775808,"rows":1},{"upto":-9223372036854775807,"rows":2}]}"#;
+const LEAST_APART: &str = r#"{"low":-9223372036854775808,"buckets":[
+{"upto":-9223372036854775808,"rows":1},{"upto":-9223372036854775807,"rows":2}]}"#;
 
 const OF_LEAST_APART: [(&str, u64); 4] = [
     ("a < -9223372036854775807", 334),
@@ -185,8 +185,8 @@ fn buckets_may_have_no_rows(rt: HostRuntime) -> Result<(), Fail> {
     assert_left(&rt, rt.alloc(), 1_000, ALL_EMPTY, &of_all_empty)
 }
 
-// The histogram of 64 buckets of 10^12 rows, but for the first, which has these. The first ends at 10 and each later one
-// 10 above the one before it.
+// The histogram of 64 buckets of 10^12 rows, but for the first, which has these. The first ends at 10, and each later
+// one 10 above the one before it.
 fn full_histogram(alloc: Global, first: u64) -> Result<String, AllocError> {
     let mut text = format!(in alloc; "{{\"low\":1,\"buckets\":[{{\"upto\":10,\"rows\":{first}}}")?;
     for i in 2..=64u64 {

@@ -1,4 +1,4 @@
-//! Worked queries: what they imply, rules, plans and the check of plans, printed texts, and words of goals; tests alone.
+//! Worked queries: what they imply, rules, plans and the check of plans, printed texts, words of goals; tests alone.
 #![tactic(auto)]
 
 #[cfg(test)]

@@ -1,5 +1,5 @@
-//! Membership without a memo against the closure that is made, with each choice of the two rules off that turn joins into
-//! joins.
+//! Membership without a memo against the closure that is made, with each choice of the two rules off that turn joins
+//! into joins.
 
 ghost use Rattle.query_core.specs.declared.words.KeyParts.{KeyParts};
 ghost use Rattle.request_props.specs.Candidates.{AreCandidatesOf};

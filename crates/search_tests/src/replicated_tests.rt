@@ -179,22 +179,29 @@ fn there_is_no_plan_where_no_rule_reads_the_table(rt: HostRuntime) -> Result<(),
 const JOINED: &str = "SELECT b.x FROM b, s WHERE b.x = s.y";
 
 const LARGE_AND_SMALL: &str =
-    r#"[{"name":"b","rows":100000,"distribution":"random","columns":[{"name":"x","ndv":1000}]},{"name":"s","rows":10,"distribution":"replicated","columns":[{"name":"y","ndv":10}]}]"#;
+    r#"[{"name":"b","rows":100000,"distribution":"random","columns":[{"name":"x","ndv":1000}]},
+{"name":"s","rows":10,"distribution":"replicated","columns":[{"name":"y","ndv":10}]}]"#;
 
 const BOTH_REPLICATED: &str =
-    r#"[{"name":"b","rows":100000,"distribution":"replicated","columns":[{"name":"x","ndv":1000}]},{"name":"s","rows":10,"distribution":"replicated","columns":[{"name":"y","ndv":10}]}]"#;
+    r#"[{"name":"b","rows":100000,"distribution":"replicated","columns":[{"name":"x","ndv":1000}]},
+{"name":"s","rows":10,"distribution":"replicated","columns":[{"name":"y","ndv":10}]}]"#;
 
 const HASHED_AND_INDEXED: &str =
-    r#"[{"name":"b","rows":1000,"distribution":["x"],"columns":[{"name":"x","ndv":1000}]},{"name":"s","rows":1000,"distribution":"replicated","indexes":[["y"]],"columns":[{"name":"y","ndv":1000}]}]"#;
+    r#"[{"name":"b","rows":1000,"distribution":["x"],"columns":[{"name":"x","ndv":1000}]},
+{"name":"s","rows":1000,"distribution":"replicated","indexes":[["y"]],"columns":[{"name":"y","ndv":1000}]}]"#;
 
 const FILTERED_SIDE: &str =
-    r#"[{"name":"b","rows":100000,"distribution":"random","columns":[{"name":"x","ndv":1000}]},{"name":"s","rows":1000,"distribution":"replicated","columns":[{"name":"y","ndv":1000},{"name":"z","ndv":10}]}]"#;
+    r#"[{"name":"b","rows":100000,"distribution":"random","columns":[{"name":"x","ndv":1000}]},
+{"name":"s","rows":1000,"distribution":"replicated","columns":[{"name":"y","ndv":1000},{"name":"z","ndv":10}]}]"#;
 
 const SOUGHT_SIDE: &str =
-    r#"[{"name":"b","rows":100000,"distribution":"random","columns":[{"name":"x","ndv":1000}]},{"name":"s","rows":1000,"distribution":"replicated","indexes":[["z"]],"columns":[{"name":"y","ndv":1000},{"name":"z","ndv":10}]}]"#;
+    r#"[{"name":"b","rows":100000,"distribution":"random","columns":[{"name":"x","ndv":1000}]},
+{"name":"s","rows":1000,"distribution":"replicated","indexes":[["z"]],
+"columns":[{"name":"y","ndv":1000},{"name":"z","ndv":10}]}]"#;
 
 const THREE_EACH: &str =
-    r#"[{"name":"b","rows":3,"distribution":"replicated","columns":[{"name":"x","ndv":3}]},{"name":"s","rows":3,"distribution":"replicated","columns":[{"name":"y","ndv":3}]}]"#;
+    r#"[{"name":"b","rows":3,"distribution":"replicated","columns":[{"name":"x","ndv":3}]},
+{"name":"s","rows":3,"distribution":"replicated","columns":[{"name":"y","ndv":3}]}]"#;
 
 const COPIES_OF_THE_SMALL_TABLE: &str = "cost 50283
 output b.x

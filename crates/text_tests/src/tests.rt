@@ -20,8 +20,11 @@ const MOVED: &str =
     "      Redistribute(T2.b) rows=1000 cost=1001\n        Scan(T2) rows=1000 cost=251\n";
 
 // The lines under the merge, one level up.
-const JOINED: &str =
-    "  HashJoin(colocated p0) rows=1000 cost=1001\n    Scan(T1) rows=1000 cost=251\n    Redistribute(T2.b) rows=1000 cost=1001\n      Scan(T2) rows=1000 cost=251\n";
+const JOINED: &str = "  HashJoin(colocated p0) rows=1000 cost=1001
+    Scan(T1) rows=1000 cost=251
+    Redistribute(T2.b) rows=1000 cost=1001
+      Scan(T2) rows=1000 cost=251
+";
 
 // What is said of a text of these lines.
 fn said(alloc: Global, lines: &[&str]) -> Result<Result<u64, TextFault>, Fail> {

@@ -1,5 +1,7 @@
 //! What is printed of a list of queries: each line as a plan of it.
-use crate::runs::{assert_printed, assert_told, printed, run_over, shelf_of, text_at, words_of};
+use crate::runs::{
+    ONE_TABLE, assert_printed, assert_told, printed, run_over, shelf_of, text_at, words_of,
+};
 use crate::tests::alone;
 use orca_cli::Status;
 use orca_io::MemSink;
@@ -9,9 +11,6 @@ use std::sync::Wait;
 use std::test::Fail;
 use std::thread::Threads;
 use test_gates::MeetingGate;
-
-const CATALOG: &str =
-    r#"{"version":1,"segments":4,"tables":[{"name":"t","rows":1000,"distribution":"random","columns":[{"name":"a","ndv":1000},{"name":"b","ndv":10}]}]}"#;
 
 const BATCH: &str = "batch c.json q.sql";
 
@@ -37,7 +36,7 @@ fn assert_batch<R: Threads + Wait + Sync + AllocGlobal + Abort>(
     text: &str,
 ) -> Result<(), Fail> {
     let line = [BATCH, " --workers ", workers].concat(rt.alloc())?;
-    let (catalog, list) = (CATALOG.as_bytes(), list.as_bytes());
+    let (catalog, list) = (ONE_TABLE.as_bytes(), list.as_bytes());
     assert_printed(rt, &line, catalog, list, Status::Planned, text)
 }
 
@@ -91,7 +90,14 @@ fn assert_ended<R: Threads + Wait + Sync + AllocGlobal + Abort>(
     status: Status,
     text: &str,
 ) -> Result<(), Fail> {
-    assert_printed(rt, line, CATALOG.as_bytes(), list.as_bytes(), status, text)
+    assert_printed(
+        rt,
+        line,
+        ONE_TABLE.as_bytes(),
+        list.as_bytes(),
+        status,
+        text,
+    )
 }
 
 // So many lines with a query.
@@ -135,7 +141,7 @@ batch c.json";
 #[test]
 fn other_words_are_no_batch(rt: HostRuntime) -> Result<(), Fail> {
     for line in OTHERS.split('\n') {
-        let told = printed(&rt, line, CATALOG.as_bytes(), b"", Status::Usage)?;
+        let told = printed(&rt, line, ONE_TABLE.as_bytes(), b"", Status::Usage)?;
         assert!(rt; told.ends_with("[--memo] [--trace]\n"), "{line}");
     }
     assert_ended(
@@ -182,7 +188,7 @@ Gather rows=1000 cost=2001
 #[test]
 fn any_number_of_workers_prints_the_same_of_a_list(rt: HostRuntime) -> Result<(), Fail> {
     let list = [queries(rt.alloc(), 60)?.as_str(), TWO, FAULTS].concat(rt.alloc())?;
-    let (catalog, list) = (CATALOG.as_bytes(), list.as_bytes());
+    let (catalog, list) = (ONE_TABLE.as_bytes(), list.as_bytes());
     let alone = printed(
         &rt,
         "batch c.json q.sql --capacity 64",
@@ -200,7 +206,7 @@ fn any_number_of_workers_prints_the_same_of_a_list(rt: HostRuntime) -> Result<()
 #[test]
 fn one_worker_answers_a_list_alone(rt: HostRuntime) -> Result<(), Fail> {
     let words = words_of(rt.alloc(), BATCH)?;
-    let mut shelf = shelf_of(rt.alloc(), CATALOG.as_bytes(), TWO.as_bytes())?;
+    let mut shelf = shelf_of(rt.alloc(), ONE_TABLE.as_bytes(), TWO.as_bytes())?;
     let mut sink = MemSink::with_room(rt.alloc(), 4096)?;
     let status = alone(rt.alloc(), &words, &mut shelf, &mut sink);
     assert!(rt; status == Some(Status::Planned));
@@ -212,7 +218,7 @@ fn one_worker_answers_a_list_alone(rt: HostRuntime) -> Result<(), Fail> {
 #[test]
 fn two_workers_of_a_list_meet(rt: HostRuntime) -> Result<(), Fail> {
     let gate = MeetingGate::new();
-    let mut shelf = shelf_of(rt.alloc(), CATALOG.as_bytes(), TWO.as_bytes())?;
+    let mut shelf = shelf_of(rt.alloc(), ONE_TABLE.as_bytes(), TWO.as_bytes())?;
     let mut sink = MemSink::with_room(rt.alloc(), 1 << 20)?;
     let line = "batch c.json q.sql --workers 2";
     let (status, note) = run_over(&rt, line, &mut shelf, &mut sink, &gate)?;

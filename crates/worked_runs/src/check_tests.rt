@@ -25,8 +25,11 @@ const MOVED: &str =
     "      Redistribute(T2.b) rows=1000 cost=1001\n        Scan(T2) rows=1000 cost=251\n";
 
 // The lines below the sort, one level up.
-const UNSORTED: &str =
-    "  HashJoin(colocated p0) rows=1000 cost=1001\n    Scan(T1) rows=1000 cost=251\n    Redistribute(T2.b) rows=1000 cost=1001\n      Scan(T2) rows=1000 cost=251\n";
+const UNSORTED: &str = "  HashJoin(colocated p0) rows=1000 cost=1001
+    Scan(T1) rows=1000 cost=251
+    Redistribute(T2.b) rows=1000 cost=1001
+      Scan(T2) rows=1000 cost=251
+";
 
 // Asserts that the words of a line say this, with the status, where these lines are the plan's text.
 fn assert_said<R: Threads + Wait + Sync + AllocGlobal + Abort>(

@@ -6,8 +6,11 @@ use std::test::Fail;
 #[test]
 fn a_generated_query_is_planned(rt: HostRuntime) -> Result<(), Fail> {
     let words = "gen 1 1 chain";
-    let text =
-        "gen number=1 tables=1 shape=chain\ncost 93128\nmemo groups=1 members=2\ntrace goals=10 exp=1 expe=1 xf=1 imp=1 impe=1 opt=4 opte=1\n";
+    let text = "gen number=1 tables=1 shape=chain
+cost 93128
+memo groups=1 members=2
+trace goals=10 exp=1 expe=1 xf=1 imp=1 impe=1 opt=4 opte=1
+";
     assert_printed(&rt, words, b"", b"", Status::Planned, text)?;
     let (_, note) = noted(&rt, words, b"", b"")?;
     assert!(rt; note == Some((131_072, 1, 10)));

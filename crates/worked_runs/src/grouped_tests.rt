@@ -1,16 +1,13 @@
 //! What the program prints for grouped queries.
-use crate::runs::{assert_plans, assert_printed};
+use crate::runs::{ONE_TABLE, assert_plans, assert_printed};
 use orca_cli::Status;
 use std::test::Fail;
 
-const RANDOM: &str =
-    r#"{"version":1,"segments":4,"tables":[{"name":"t","rows":1000,"distribution":"random","columns":[{"name":"a","ndv":1000},{"name":"b","ndv":10}]}]}"#;
-
-const HASHED: &str =
-    r#"{"version":1,"segments":4,"tables":[{"name":"t","rows":1000,"distribution":["a"],"columns":[{"name":"a","ndv":100},{"name":"b","ndv":10}]}]}"#;
+const HASHED: &str = r#"{"version":1,"segments":4,"tables":[
+{"name":"t","rows":1000,"distribution":["a"],"columns":[{"name":"a","ndv":100},{"name":"b","ndv":10}]}]}"#;
 
 // Queries over the table at random places, each with its plan below it.
-const OVER_RANDOM: &str = "SELECT COUNT(*) FROM t
+const OVER_ONE_TABLE: &str = "SELECT COUNT(*) FROM t
 cost 771
 output COUNT(*)
 HashAgg(one) rows=1 cost=10
@@ -45,7 +42,7 @@ GatherMerge(s) rows=100 cost=301
 
 #[test]
 fn prints_the_least_plan_of_each_grouping(rt: HostRuntime) -> Result<(), Fail> {
-    assert_plans(&rt, RANDOM, OVER_RANDOM)?;
+    assert_plans(&rt, ONE_TABLE, OVER_ONE_TABLE)?;
     assert_plans(&rt, HASHED, OVER_HASHED)
 }
 
@@ -54,7 +51,7 @@ fn the_one_row_of_an_aggregate_is_never_spread(rt: HostRuntime) -> Result<(), Fa
     assert_printed(
         &rt,
         "plan c.json q.sql --root spread",
-        RANDOM.as_bytes(),
+        ONE_TABLE.as_bytes(),
         b"SELECT COUNT(*) FROM t",
         Status::NoPlan,
         "no plan\n",

@@ -1,6 +1,6 @@
 //! What the program prints for queries over several tables.
 use crate::runs::{
-    JOIN, TWO_TABLES, assert_planned, assert_plans, assert_printed, assert_query_fault,
+    JOIN, TWO_TABLES, UNLINKED, assert_planned, assert_plans, assert_printed, assert_query_fault,
 };
 use orca_cli::Status;
 use std::alloc::{AllocError, AllocGlobal, Global};
@@ -10,18 +10,24 @@ use std::test::Fail;
 use std::thread::Threads;
 use worked_queries::JOIN_MEMO;
 
-const LARGE_AND_SMALL: &str =
-    r#"{"version":1,"segments":4,"tables":[{"name":"b","rows":100000,"distribution":"random","columns":[{"name":"x","ndv":1000}]},{"name":"s","rows":10,"distribution":"random","columns":[{"name":"y","ndv":10}]}]}"#;
+const LARGE_AND_SMALL: &str = r#"{"version":1,"segments":4,"tables":[
+{"name":"b","rows":100000,"distribution":"random","columns":[{"name":"x","ndv":1000}]},
+{"name":"s","rows":10,"distribution":"random","columns":[{"name":"y","ndv":10}]}]}"#;
 
-const UNLINKED: &str =
-    r#"{"version":1,"segments":4,"tables":[{"name":"t","rows":100,"distribution":"random","columns":[{"name":"a","ndv":100}]},{"name":"u","rows":10,"distribution":"random","columns":[{"name":"b","ndv":10}]}]}"#;
-
-const VAST: &str =
-    r#"{"version":1,"segments":4,"tables":[{"name":"T1","rows":1000000000000,"distribution":"random","columns":[{"name":"a","ndv":1}]},{"name":"T2","rows":1000000000000,"distribution":"random","columns":[{"name":"b","ndv":1}]}]}"#;
+const VAST: &str = r#"{"version":1,"segments":4,"tables":[
+{"name":"T1","rows":1000000000000,"distribution":"random","columns":[{"name":"a","ndv":1}]},
+{"name":"T2","rows":1000000000000,"distribution":"random","columns":[{"name":"b","ndv":1}]}]}"#;
 
 /// The plan of the running example.
-pub const JOINED: &str =
-    "cost 7506\noutput T1.a\nGatherMerge(T1.a) rows=1000 cost=3001\n  Sort(T1.a) rows=1000 cost=2001\n    HashJoin(colocated p0) rows=1000 cost=1001\n      Scan(T1) rows=1000 cost=251\n      Redistribute(T2.b) rows=1000 cost=1001\n        Scan(T2) rows=1000 cost=251\n";
+pub const JOINED: &str = "cost 7506
+output T1.a
+GatherMerge(T1.a) rows=1000 cost=3001
+  Sort(T1.a) rows=1000 cost=2001
+    HashJoin(colocated p0) rows=1000 cost=1001
+      Scan(T1) rows=1000 cost=251
+      Redistribute(T2.b) rows=1000 cost=1001
+        Scan(T2) rows=1000 cost=251
+";
 
 // A query over the tables of the running example, with its plan below it.
 const OVER_TWO_TABLES: &str = "SELECT T1.a FROM T1, T2 WHERE T1.a = T2.a

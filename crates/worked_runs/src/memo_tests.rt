@@ -60,11 +60,12 @@ fn star_catalog(alloc: Global) -> Result<String, AllocError> {
         write!(columns, ",{{\"name\":\"f{i}\",\"ndv\":1000}}")?;
         write!(
             tables,
-            ",{{\"name\":\"d{i}\",\"rows\":1000,\"distribution\":[\"id\"],\"columns\":[{{\"name\":\"id\",\"ndv\":1000}},{{\"name\":\"a\",\"ndv\":100}}]}}"
+            r#",
+{{"name":"d{i}","rows":1000,"distribution":["id"],"columns":[{{"name":"id","ndv":1000}},{{"name":"a","ndv":100}}]}}"#
         )?;
     }
-    let sales =
-        r#"{"version":1,"segments":4,"tables":[{"name":"sales","rows":10000000,"distribution":["id"],"columns":[{"name":"id","ndv":10000000}"#;
+    let sales = r#"{"version":1,"segments":4,"tables":[
+{"name":"sales","rows":10000000,"distribution":["id"],"columns":[{"name":"id","ndv":10000000}"#;
     [sales, &columns, "]}", &tables, "]}"].concat(alloc)
 }
 
@@ -89,8 +90,10 @@ fn star_printed_by<R: Threads + Wait + Sync + AllocGlobal>(
 // Rules: one that splits the Agg over the join, one for each of these seven members: 4160 + 8 = 4168.
 #[test]
 fn a_star_of_eight_tables_with_grouping(rt: HostRuntime) -> Result<(), Fail> {
-    let query =
-        b"SELECT d1.a, COUNT(*) AS n FROM sales, d1, d2, d3, d4, d5, d6, d7 WHERE sales.f1 = d1.id AND sales.f2 = d2.id AND sales.f3 = d3.id AND sales.f4 = d4.id AND sales.f5 = d5.id AND sales.f6 = d6.id AND sales.f7 = d7.id AND d2.a = 5 AND d3.a < 10 GROUP BY d1.a ORDER BY n DESC, d1.a";
+    let query = b"SELECT d1.a, COUNT(*) AS n FROM sales, d1, d2, d3, d4, d5, d6, d7
+WHERE sales.f1 = d1.id AND sales.f2 = d2.id AND sales.f3 = d3.id AND sales.f4 = d4.id
+AND sales.f5 = d5.id AND sales.f6 = d6.id AND sales.f7 = d7.id AND d2.a = 5 AND d3.a < 10
+GROUP BY d1.a ORDER BY n DESC, d1.a";
     let alone = star_printed_by(&rt, "1", query)?;
     assert!(rt; alone.contains("\nmemo groups=139 members=3739\n"));
     assert!(rt; alone.contains(" exp=139 expe=1036 xf=4168 imp=139 impe=1036 opt="));

@@ -1,25 +1,19 @@
 //! What the program prints where options are given.
-use crate::runs::{PLAN, answered, assert_plans, assert_printed, printed};
+use crate::runs::{
+    ONE_TABLE, PLAN, SORTED, UNLINKED, answered, assert_plans, assert_printed, printed,
+};
 use orca_cli::Status;
 use std::alloc::AllocGlobal;
 use std::sync::Wait;
 use std::test::Fail;
 use std::thread::Threads;
 
-const PLAIN: &str =
-    r#"{"version":1,"segments":4,"tables":[{"name":"t","rows":1000,"distribution":"random","columns":[{"name":"a","ndv":1000},{"name":"b","ndv":10}]}]}"#;
+const INDEXED: &str = r#"{"version":1,"segments":4,"tables":[
+{"name":"t","rows":1000,"distribution":"random",
+"columns":[{"name":"a","ndv":1000},{"name":"b","ndv":10}],"indexes":[["a","b"]]}]}"#;
 
-const INDEXED: &str =
-    r#"{"version":1,"segments":4,"tables":[{"name":"t","rows":1000,"distribution":"random","columns":[{"name":"a","ndv":1000},{"name":"b","ndv":10}],"indexes":[["a","b"]]}]}"#;
-
-const SOUGHT: &str =
-    r#"{"version":1,"segments":4,"tables":[{"name":"t","rows":1000,"distribution":"random","columns":[{"name":"a","ndv":100}],"indexes":[["a"]]}]}"#;
-
-const UNLINKED: &str =
-    r#"{"version":1,"segments":4,"tables":[{"name":"t","rows":100,"distribution":"random","columns":[{"name":"a","ndv":100}]},{"name":"u","rows":10,"distribution":"random","columns":[{"name":"b","ndv":10}]}]}"#;
-
-const SORTED: &str =
-    "cost 5253\noutput t.a\nGatherMerge(t.a) rows=1000 cost=3001\n  Sort(t.a) rows=1000 cost=2001\n    Scan(t) rows=1000 cost=251\n";
+const SOUGHT: &str = r#"{"version":1,"segments":4,"tables":[
+{"name":"t","rows":1000,"distribution":"random","columns":[{"name":"a","ndv":100}],"indexes":[["a"]]}]}"#;
 
 const SPREAD: &str = "cost 251\noutput t.a\nScan(t) rows=1000 cost=251\n";
 
@@ -88,12 +82,19 @@ fn a_query_that_no_plan_answers_is_told(rt: HostRuntime) -> Result<(), Fail> {
     let (catalog, none) = (UNLINKED.as_bytes(), "no plan\n");
     assert_printed(&rt, off, catalog, unlinked, Status::NoPlan, none)?;
     let scans = "plan c.json q.sql --off GetToScan+GetToIndexScan --memo";
-    assert_printed(&rt, scans, PLAIN.as_bytes(), query, Status::NoPlan, memo)
+    assert_printed(
+        &rt,
+        scans,
+        ONE_TABLE.as_bytes(),
+        query,
+        Status::NoPlan,
+        memo,
+    )
 }
 
 #[test]
 fn the_result_may_stay_spread(rt: HostRuntime) -> Result<(), Fail> {
-    let (catalog, query) = (PLAIN.as_bytes(), b"SELECT a FROM t");
+    let (catalog, query) = (ONE_TABLE.as_bytes(), b"SELECT a FROM t");
     let gathered =
         "cost 2252\noutput t.a\nGather rows=1000 cost=2001\n  Scan(t) rows=1000 cost=251\n";
     let spread = "plan c.json q.sql --root spread";
@@ -118,7 +119,7 @@ fn options_stand_before_between_and_behind_the_names(rt: HostRuntime) -> Result<
         assert_printed(
             &rt,
             words,
-            PLAIN.as_bytes(),
+            ONE_TABLE.as_bytes(),
             b"SELECT a FROM t",
             Status::Planned,
             text.as_str(),
@@ -161,7 +162,7 @@ fn options_of_another_form_get_the_usage_line(rt: HostRuntime) -> Result<(), Fai
         let told = printed(
             &rt,
             words,
-            PLAIN.as_bytes(),
+            ONE_TABLE.as_bytes(),
             b"SELECT a FROM t",
             Status::Usage,
         )?;
@@ -191,12 +192,16 @@ fn costs_no_less(status: Status, text: &[u8], least: u64) -> Result<bool, Fail> 
     }
 }
 
-const JOINED_WITH_INDEXES: &str =
-    r#"{"version":1,"segments":4,"tables":[{"name":"t","rows":1000,"distribution":"random","columns":[{"name":"a","ndv":100},{"name":"b","ndv":10}],"indexes":[["a"],["b","a"]]},{"name":"u","rows":50,"distribution":["c"],"columns":[{"name":"c","ndv":50},{"name":"d","ndv":5}],"indexes":[["d"]]}]}"#;
+const JOINED_WITH_INDEXES: &str = r#"{"version":1,"segments":4,"tables":[
+{"name":"t","rows":1000,"distribution":"random",
+"columns":[{"name":"a","ndv":100},{"name":"b","ndv":10}],"indexes":[["a"],["b","a"]]},
+{"name":"u","rows":50,"distribution":["c"],
+"columns":[{"name":"c","ndv":50},{"name":"d","ndv":5}],"indexes":[["d"]]}]}"#;
 
 // The rules that may be off.
 const RULES: &str =
-    "JoinCommute JoinAssociate SplitAgg GetToScan GetToIndexScan SelectToFilter SelectToIndexSeek JoinToHash JoinToMerge JoinToLoop AggToHash AggToStream PartialToHash";
+    "JoinCommute JoinAssociate SplitAgg GetToScan GetToIndexScan SelectToFilter SelectToIndexSeek \
+JoinToHash JoinToMerge JoinToLoop AggToHash AggToStream PartialToHash";
 
 // Whether the query costs no less without these two rules, which may be one.
 fn costs_no_less_without<R: Threads + Wait + Sync + AllocGlobal>(

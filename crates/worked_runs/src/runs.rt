@@ -7,15 +7,34 @@ use std::sync::Wait;
 use std::test::Fail;
 use std::thread::Threads;
 
-pub const TWO_TABLES: &str =
-    r#"{"version":1,"segments":4,"tables":[{"name":"T1","rows":1000,"distribution":["a"],"columns":[{"name":"a","ndv":1000}]},{"name":"T2","rows":1000,"distribution":["a"],"columns":[{"name":"a","ndv":1000},{"name":"b","ndv":500}]}]}"#;
+/// Two tables, each hashed on a.
+pub const TWO_TABLES: &str = r#"{"version":1,"segments":4,"tables":[
+{"name":"T1","rows":1000,"distribution":["a"],"columns":[{"name":"a","ndv":1000}]},
+{"name":"T2","rows":1000,"distribution":["a"],"columns":[{"name":"a","ndv":1000},{"name":"b","ndv":500}]}]}"#;
 
 /// The running example, over these two tables.
 pub const JOIN: &str = "SELECT T1.a FROM T1, T2 WHERE T1.a = T2.b ORDER BY T1.a";
 
+/// A table of 1,000 rows.
+pub const ONE_TABLE: &str = r#"{"version":1,"segments":4,"tables":[
+{"name":"t","rows":1000,"distribution":"random","columns":[{"name":"a","ndv":1000},{"name":"b","ndv":10}]}]}"#;
+
+/// The plan of `SELECT a FROM t ORDER BY a` over it.
+pub const SORTED: &str = "cost 5253
+output t.a
+GatherMerge(t.a) rows=1000 cost=3001
+  Sort(t.a) rows=1000 cost=2001
+    Scan(t) rows=1000 cost=251
+";
+
+/// Two tables that no predicate links.
+pub const UNLINKED: &str = r#"{"version":1,"segments":4,"tables":[
+{"name":"t","rows":100,"distribution":"random","columns":[{"name":"a","ndv":100}]},
+{"name":"u","rows":10,"distribution":"random","columns":[{"name":"b","ndv":10}]}]}"#;
+
 /// A table without rows.
-pub const EMPTY: &str =
-    r#"{"version":1,"segments":4,"tables":[{"name":"t","rows":0,"distribution":"random","columns":[{"name":"a","ndv":1000},{"name":"b","ndv":10}]}]}"#;
+pub const EMPTY: &str = r#"{"version":1,"segments":4,"tables":[
+{"name":"t","rows":0,"distribution":"random","columns":[{"name":"a","ndv":1000},{"name":"b","ndv":10}]}]}"#;
 
 /// What is printed for `SELECT a FROM t` over it: the plan and the memo.
 pub const EMPTY_PLAN: &str = "cost 2

@@ -1,7 +1,8 @@
 //! Plans of one table, refusals with their causes and places, and the greatest lengths of texts.
 use crate::runs::{
-    EMPTY, EMPTY_MEMO, EMPTY_PLAN, PLAN, TWO_TABLES, assert_catalog_fault, assert_planned,
-    assert_plans, assert_printed, assert_query_fault, assert_sections, printed, shelf_of, words_of,
+    EMPTY, EMPTY_MEMO, EMPTY_PLAN, ONE_TABLE, PLAN, SORTED, TWO_TABLES, assert_catalog_fault,
+    assert_planned, assert_plans, assert_printed, assert_query_fault, assert_sections, printed,
+    shelf_of, words_of,
 };
 use orca_cli::{RunNote, Status, is_for_one, orca_alone};
 use orca_io::{MemShelf, MemSink};
@@ -12,25 +13,15 @@ use std::test::Fail;
 use std::thread::Threads;
 use worked_queries::SCAN_TRACE;
 
-const CATALOG: &str =
-    r#"{"version":1,"segments":4,"tables":[{"name":"t","rows":1000,"distribution":"random","columns":[{"name":"a","ndv":1000},{"name":"b","ndv":10}]}]}"#;
-
 const QUERY: &str = "SELECT a FROM t ORDER BY a";
-
-const SORTED: &str = "cost 5253
-output t.a
-GatherMerge(t.a) rows=1000 cost=3001
-  Sort(t.a) rows=1000 cost=2001
-    Scan(t) rows=1000 cost=251
-";
 
 #[test]
 fn prints_the_least_plan_of_one_table(rt: HostRuntime) -> Result<(), Fail> {
-    assert_planned(&rt, CATALOG, QUERY, SORTED)
+    assert_planned(&rt, ONE_TABLE, QUERY, SORTED)
 }
 
-const ON_ONE_SEGMENT: &str =
-    r#"{"version":1,"segments":1,"tables":[{"name":"t","rows":10,"distribution":"random","columns":[{"name":"a","ndv":1000},{"name":"b","ndv":10}]}]}"#;
+const ON_ONE_SEGMENT: &str = r#"{"version":1,"segments":1,"tables":[
+{"name":"t","rows":10,"distribution":"random","columns":[{"name":"a","ndv":1000},{"name":"b","ndv":10}]}]}"#;
 
 // A query over the table without rows, with its plan below it.
 const OVER_EMPTY: &str = "SELECT a FROM t
@@ -47,7 +38,7 @@ Gather rows=10 cost=21
   Scan(t) rows=10 cost=11";
 
 // Queries over the table of 1,000 rows, each with its plan below it.
-const OVER_CATALOG: &str = "SELECT b FROM t ORDER BY a
+const OVER_ONE_TABLE: &str = "SELECT b FROM t ORDER BY a
 cost 5253
 output t.b
 GatherMerge(t.a) rows=1000 cost=3001
@@ -72,7 +63,7 @@ Gather rows=1 cost=3
 fn prints_the_least_plan_of_each_query(rt: HostRuntime) -> Result<(), Fail> {
     assert_plans(&rt, EMPTY, OVER_EMPTY)?;
     assert_plans(&rt, ON_ONE_SEGMENT, OVER_ONE_SEGMENT)?;
-    assert_plans(&rt, CATALOG, OVER_CATALOG)
+    assert_plans(&rt, ONE_TABLE, OVER_ONE_TABLE)
 }
 
 #[test]
@@ -146,14 +137,14 @@ fn assert_refused<R: Threads + Wait + Sync + AllocGlobal + Abort>(
 #[test]
 fn a_refused_query_is_told_with_its_cause(rt: HostRuntime) -> Result<(), Fail> {
     assert_refused(&rt, TWO_TABLES, REFUSED_OVER_TWO)?;
-    assert_refused(&rt, CATALOG, REFUSED_OVER_ONE)?;
+    assert_refused(&rt, ONE_TABLE, REFUSED_OVER_ONE)?;
     assert_refused(&rt, NO_TABLES, REFUSED_OVER_NONE)
 }
 
 #[test]
 fn a_query_that_is_no_text_is_refused_at_its_byte(rt: HostRuntime) -> Result<(), Fail> {
     let query = b"SELECT \xc3 FROM t";
-    assert_query_fault(&rt, CATALOG.as_bytes(), query, "not ASCII at 7")
+    assert_query_fault(&rt, ONE_TABLE.as_bytes(), query, "not ASCII at 7")
 }
 
 const REFUSED_CATALOGS: [(&[u8], &str); 7] = [
@@ -190,8 +181,8 @@ fn two_hundred_nested_arrays_are_refused(rt: HostRuntime) -> Result<(), Fail> {
 fn a_catalog_has_at_most_a_mebibyte(rt: HostRuntime) -> Result<(), Fail> {
     let over = vec![in rt.alloc(); b' '; 1_048_577]?;
     assert_catalog_fault(&rt, &over, QUERY.as_bytes(), "too long")?;
-    let mut most = vec![in rt.alloc(); b' '; 1_048_576 - CATALOG.len()]?;
-    most.extend_from_slice(CATALOG.as_bytes())?;
+    let mut most = vec![in rt.alloc(); b' '; 1_048_576 - ONE_TABLE.len()]?;
+    most.extend_from_slice(ONE_TABLE.as_bytes())?;
     assert_printed(&rt, PLAN, &most, QUERY.as_bytes(), Status::Planned, SORTED)
 }
 
@@ -245,13 +236,13 @@ fn each_proper_prefix_of_a_catalog_is_refused(rt: HostRuntime) -> Result<(), Fai
 #[test]
 fn a_query_has_at_most_64_kibibytes(rt: HostRuntime) -> Result<(), Fail> {
     let over = vec![in rt.alloc(); b' '; 65_537]?;
-    assert_query_fault(&rt, CATALOG.as_bytes(), &over, "too long")?;
+    assert_query_fault(&rt, ONE_TABLE.as_bytes(), &over, "too long")?;
     let mut most = vec![in rt.alloc(); b' '; 65_536 - QUERY.len()]?;
     most.extend_from_slice(QUERY.as_bytes())?;
     assert_printed(
         &rt,
         PLAN,
-        CATALOG.as_bytes(),
+        ONE_TABLE.as_bytes(),
         &most,
         Status::Planned,
         SORTED,
@@ -275,7 +266,7 @@ fn other_words_get_the_usage_line(rt: HostRuntime) -> Result<(), Fail> {
         let told = printed(
             &rt,
             words,
-            CATALOG.as_bytes(),
+            ONE_TABLE.as_bytes(),
             QUERY.as_bytes(),
             Status::Usage,
         )?;
@@ -302,7 +293,7 @@ pub fn alone(
 #[test]
 fn one_worker_answers_alone(rt: HostRuntime) -> Result<(), Fail> {
     let words = words_of(rt.alloc(), PLAN)?;
-    let mut shelf = shelf_of(rt.alloc(), CATALOG.as_bytes(), QUERY.as_bytes())?;
+    let mut shelf = shelf_of(rt.alloc(), ONE_TABLE.as_bytes(), QUERY.as_bytes())?;
     let mut sink = MemSink::with_room(rt.alloc(), 4096)?;
     let status = alone(rt.alloc(), &words, &mut shelf, &mut sink);
     assert!(rt; status == Some(Status::Planned));
