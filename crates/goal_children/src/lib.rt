@@ -20,5 +20,5 @@ pub use group_members::{GroupMembers, put_expressions};
 pub use laws::{
     children_are_one, children_are_over_the_query, goal_lists_are_known, goals_are_over_the_query,
 };
-pub use lists::{list_children, list_children_by_group};
+pub use lists::list_children_by_group;
 pub use words::put_goals;

@@ -27,27 +27,8 @@ use query_core::{KeyParts, Query, candidates_are_known, groups_are_known};
 use request_props::{Props, Request};
 use std::alloc::AllocError;
 
-/// Puts the children of the goal into the list, ascending by their words, in place of what it held.
-pub fn list_children(
-    query: &Query,
-    props: &Props,
-    members: &[u64],
-    goal: GoalKind,
-    list: &mut Vec<GoalKind>,
-) -> Result<(), AllocError>
-    requires props { IsProps query.now props.now }
-    requires candidates { All (IsCandidateWord query.now) members.now }
-    requires ascending { IsStrictlyIncreasing members.now }
-    requires goal { IsGoalOver query.now goal }
-    ensures ok { OnOk result (AreChildren query.now members.now goal list.new.items) }
-{
-    let mut held = GroupMembers::none(*list.allocator());
-    list_children_by_group(query, props, members, goal, &mut held, list)?;
-    Ok(())
-}
-
-/// The same. The members of a group are held for its next goal, since goals of one group for its requests come one
-/// after the other.
+/// Puts the children of the goal into the list, ascending by their words, in place of what it held. The members of a
+/// group are held for its next goal, since goals of one group for its requests come one after the other.
 pub fn list_children_by_group(
     query: &Query,
     props: &Props,
