@@ -113,8 +113,8 @@ fn best_at(source: Source<'_>, at: Linked) -> Option<Best>
     best_in(answer_to(source.answers, goal.0))
 }
 
-/// The answer to the goal of this word, of answers that ascend by the words of their goals.
-pub fn answer_to(answers: &[Answered], word: u64) -> Answered
+// The answer to the goal of this word, of answers that ascend by the words of their goals.
+fn answer_to(answers: &[Answered], word: u64) -> Answered
     requires ascending { IsStrictlyIncreasing (words_told answers.now) }
     requires there { Contains (words_told answers.now) word }
     ensures told { Contains answers.now result }
@@ -126,8 +126,8 @@ pub fn answer_to(answers: &[Answered], word: u64) -> Answered
     }
 }
 
-/// The answer that is told.
-pub fn best_in(told: Answered) -> Option<Best>
+// The answer that is told.
+fn best_in(told: Answered) -> Option<Best>
     ensures { (q : AnyQuery) (goal : Goal) → (tells : Tells q told goal) → result ≡ tells.answer }
 {
     match told.cost {

@@ -4,5 +4,5 @@
 mod extraction;
 mod links;
 
-pub use extraction::{answer_to, best_in, extract};
+pub use extraction::extract;
 pub use plan_lines::plan_text;
