@@ -18,4 +18,3 @@ mod word_set;
 
 pub use closure::plain_closure;
 pub use least::{plain_least, plain_least_of};
-pub use word_set::WordSet;
