@@ -1,7 +1,8 @@
 pub mod FirstAndLast
-mod NodeAndBelow
+mod Walks
 pub mod Lists
 pub mod Trees
 pub mod OneTree
 pub mod Validity
+mod Outcomes
 mod OneOutcome

@@ -1,20 +1,14 @@
 //! The check of a plan that is given. No call here takes memory.
 #![tactic(auto)]
 
-ghost use Rattle.std.specs.Prelude.{ℕ, ◌≡◌, ◌↔◌, All, Result, Ok, Err};
-ghost use Rattle.query_core.specs.Expressions.{IsCandidate};
+ghost use Rattle.std.specs.Prelude.{ℕ, ◌≡◌, ◌↔◌, Ok, Err};
 ghost use Rattle.request_props.specs.Numbered.{IsProps};
-ghost use Rattle.plan_space.specs.Nodes.{Tree};
-ghost use Rattle.plan_space.specs.Valid.{IsValid};
-ghost use Rattle.plan_tree.specs.Spells.{Spells};
-ghost use Rattle.plan_check.specs.Preorder.{nodes_of};
-ghost use Rattle.plan_check.specs.Nodes.{IsNodeOf};
-ghost use Rattle.plan_check.specs.Passes.{AreKnown};
-ghost use Rattle.plan_check.specs.Outcome.{IsSmall, IsGood, IsTooLarge, HasShapeFault, HasKidsFault, HasNeedsFault, IsUnsatisfied, IsOutcome};
+ghost use Rattle.plan_check.specs.Outcome.{IsGood, IsTooLarge, HasShapeFault, HasKidsFault, HasNeedsFault};
+ghost use Rattle.plan_check.specs.Outcome.{IsUnsatisfied, IsOutcome};
 
 use crate::fault::PlanFault;
-use crate::passes::{cost, count, first_unfit, first_unknown, last_wrong};
-use plan_tree::{Plan, given_satisfies, nodes_are_one, plan_seen};
+use crate::walk::{count, walk};
+use plan_tree::{Plan, given_satisfies, nodes_are_one};
 use query_core::Query;
 use request_props::{Props, Request};
 
@@ -60,50 +54,19 @@ fn outcome(query: &Query, props: &Props, plan: &Plan, request: Request) -> Resul
     if nodes > MOST_NODES {
         return Err(PlanFault::TooLarge { nodes });
     }
-    match first_unknown(query, props, plan) {
-        Some(node) => Err(PlanFault::Shape { node }),
-        None => tree_outcome(query, props, plan, request),
+    let walked = walk(query, props, plan);
+    let findings = walked.findings;
+    if let Some(node) = findings.unknown {
+        return Err(PlanFault::Shape { node });
     }
-}
-
-// The same of a tree of nodes of the query.
-fn tree_outcome(
-    query: &Query,
-    props: &Props,
-    plan: &Plan,
-    request: Request,
-) -> Result<u64, PlanFault>
-    requires props { IsProps query.now props.now }
-    requires small { IsSmall plan.now }
-    requires nodes { All (IsNodeOf query.now) (nodes_of plan.now) }
-    requires known { AreKnown query.now plan.now }
-    ensures { IsOutcome query.now plan.now request result }
-{
-    match last_wrong(query, props, plan) {
-        Some(node) => Err(PlanFault::Kids { node }),
-        None => match first_unfit(query, props, plan) {
-            Some(node) => Err(PlanFault::Needs { node }),
-            None => valid_outcome(query, props, plan, request),
-        },
+    if let Some(node) = findings.wrong {
+        return Err(PlanFault::Kids { node });
     }
-}
-
-// The same of a valid plan.
-fn valid_outcome(
-    query: &Query,
-    props: &Props,
-    plan: &Plan,
-    request: Request,
-) -> Result<u64, PlanFault>
-    requires props { IsProps query.now props.now }
-    requires small { IsSmall plan.now }
-    requires nodes { All (IsNodeOf query.now) (nodes_of plan.now) }
-    requires known { AreKnown query.now plan.now }
-    requires valid { (t : Tree) → Spells plan.now t → IsValid (IsCandidate query.now) query.now t }
-    ensures { IsOutcome query.now plan.now request result }
-{
-    if given_satisfies(query, props, plan_seen(query, props, plan).given, request) {
-        Ok(cost(query, props, plan))
+    if let Some(node) = findings.unfit {
+        return Err(PlanFault::Needs { node });
+    }
+    if given_satisfies(query, props, walked.kid.given, request) {
+        Ok(findings.cost)
     } else {
         Err(PlanFault::Unsatisfied)
     }

@@ -3,11 +3,12 @@
 
 mod check;
 mod fault;
+mod findings;
 mod kids;
 mod needs;
 mod nodes;
-mod passes;
 mod places;
+mod walk;
 
 pub use check::check_plan;
 pub use fault::PlanFault;

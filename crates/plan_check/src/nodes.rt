@@ -1,9 +1,8 @@
 //! Which numbers are nodes of a query. No call here takes memory.
 #![tactic(auto)]
 
-ghost use Rattle.std.specs.Prelude.{◌↔◌, IsTrue, ◌≡◌};
+ghost use Rattle.std.specs.Prelude.{◌↔◌, IsTrue, MatchOption};
 ghost use Rattle.request_props.specs.Numbered.{IsProps};
-ghost use Rattle.plan_space.specs.declared.nodes.NodeKind.{NodeKind as Kind};
 ghost use Rattle.plan_tree.specs.Nodes.{IsInRange, IsNode};
 ghost use Rattle.std.specs.Option.{IsSome};
 ghost use Rattle.query_core.specs.Expressions.{expr_of, IsPacked};
@@ -15,26 +14,15 @@ use plan_tree::{Node, line_of};
 use query_core::{PhysicalExpr, Query};
 use request_props::Props;
 
-/// Whether the number is that of a node of the query.
-pub fn is_node_of(query: &Query, props: &Props, node: Node) -> bool
+/// The node of the query that the number is that of.
+pub fn known_kind(query: &Query, props: &Props, node: Node) -> Option<NodeKind>
     requires { IsProps query.now props.now }
-    ensures { IsTrue result ↔ IsNodeOf query.now node }
+    ensures { MatchOption result (IsNodeOf query.now node → ⊥)
+        (λ kind. IsNode node kind × IsKindOf query.now kind) }
 {
     match node.kind() {
-        Some(kind) => is_kind_of(query, props, kind),
-        None => false,
-    }
-}
-
-/// What a node of the query does.
-pub fn known_kind(query: &Query, node: Node) -> NodeKind
-    requires { IsNodeOf query.now node }
-    ensures of_query { IsKindOf query.now result }
-    ensures only { (k : Kind) → IsNode node k → result ≡ k }
-{
-    match node.kind() {
-        Some(kind) => kind,
-        None => unreachable!(),
+        Some(kind) if is_kind_of(query, props, kind) => Some(kind),
+        _ => None,
     }
 }
 
