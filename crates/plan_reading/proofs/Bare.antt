@@ -27,7 +27,8 @@ use Rattle.plan_reading.specs.Reading.{is_bare}
 use Rattle.plan_reading.specs.declared.named.Named.{Named}
 use Rattle.plan_reading.specs.declared.named.Named.TheVariants as named
 use Rattle.plan_reading.proofs.Places.{passed_at}
-use Rattle.plan_reading.proofs.Columns.{name_continues, agg_named}
+use Rattle.plan_reading.proofs.Columns.{name_continues}
+use Rattle.plan_reading.proofs.AggregateNames.{agg_named}
 
 abbrev pub IsBare : List ℕ → Type 0
 IsBare text = list_all is_bare text ≡ true

@@ -9,8 +9,8 @@ use Rattle.query_core.specs.declared.table.Item.{Item}
 use Rattle.query_text.specs.Columns.{item_text, column_text, sorted_text}
 use Rattle.query_text.specs.Lists.{element_text, order_text, list_text}
 use Rattle.plan_reading.proofs.Places.{there}
-use Rattle.plan_reading.proofs.Columns.{IsEnd, IsSorted, IsFilled, columns_one, sorted_one, end_of_name, IsBehind, end_of_behind}
-use Rattle.plan_reading.proofs.Columns.{item_text_filled, sorted_text_filled}
+use Rattle.plan_reading.proofs.Columns.{IsFilled, columns_one, item_text_filled}
+use Rattle.plan_reading.proofs.Sorted.{IsEnd, IsSorted, sorted_one, end_of_name, IsBehind, end_of_behind, sorted_text_filled}
 use Rattle.plan_reading.proofs.Joined.{IsShut, Each, joined_one}
 
 -- ---- hashed lists

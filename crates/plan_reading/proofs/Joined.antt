@@ -1,7 +1,7 @@
 -- Lists of texts with a comma and a space between each two are told apart in one way.
 use Rattle.std.proofs.Common.{◌≡◌, ℕ, List, [], ◌∷◌, ◌++◌, refl, sym, ◌∙◌, append_assoc, inl, inr, arith}
 use Rattle.std.specs.Prelude.{codes, flat_map}
-use Rattle.plan_reading.proofs.Columns.{IsBehind}
+use Rattle.plan_reading.proofs.Sorted.{IsBehind}
 
 -- what stands behind a whole list
 abbrev pub IsShut : List ℕ → Type 0

@@ -2,6 +2,8 @@ mod Fronts
 mod Cuts
 mod Places
 mod Columns
+mod AggregateNames
+mod Sorted
 mod Joined
 mod Elements
 mod Lists

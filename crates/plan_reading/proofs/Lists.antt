@@ -34,7 +34,7 @@ use Rattle.request_props.proofs.Ordered.{list_cmp_total}
 use Rattle.plan_space.proofs.TableColumns.{hashed_columns}
 use Rattle.plan_check.specs.Nodes.{IsOrder}
 use Rattle.plan_reading.proofs.Places.{there}
-use Rattle.plan_reading.proofs.Columns.{IsSorted, column, aggregate}
+use Rattle.plan_reading.proofs.Sorted.{IsSorted, column, aggregate}
 use Rattle.plan_reading.proofs.Joined.{Each}
 use Rattle.plan_reading.proofs.Elements.{IsColumn, IsElement}
 
