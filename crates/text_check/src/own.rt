@@ -1,15 +1,17 @@
 //! What a plan's own lines say.
 #![tactic(auto)]
 
-ghost use Rattle.std.specs.Prelude.{◌≡◌, ◌++◌, IfOk, OnOk};
+ghost use Rattle.std.specs.Prelude.{◌≡◌, IfOk, OnOk};
 ghost use Rattle.request_props.specs.Numbered.{IsProps};
 ghost use Rattle.plan_space.specs.Nodes.{Tree};
+ghost use Rattle.plan_space.specs.declared.nodes.NodeKind.{NodeKind as Kind};
+ghost use Rattle.plan_tree.specs.Nodes.{IsNode};
 ghost use Rattle.plan_tree.specs.Spells.{Spells};
 ghost use Rattle.plan_reading.specs.Outline.{IsPlanTree};
-ghost use Rattle.text_check.specs.OwnLines.{own_lines as lines_of, AddsLine, AddsLines};
+ghost use Rattle.text_check.specs.OwnLines.{own_lines as lines_of, IsSeenOf, IsSeenOver, AddsLine, AddsLines};
 
-use plan_space::NodeKind;
-use plan_tree::{Below, Node, Plan, cost_above_any, plan_seen, rows_above};
+use plan_space::{Enforcer, Kid, NodeKind};
+use plan_tree::{Below, Node, Plan, cost_above_any, rows_above, seen_above};
 use query_core::Query;
 use request_props::Props;
 use std::alloc::{AllocError, Global};
@@ -35,57 +37,62 @@ pub fn own_lines(
 {
     let mut lines = Vec::new(alloc);
     push_lines(query, props, plan, &mut lines)?;
+    lines.as_mut_slice().reverse();
     Ok(lines)
 }
 
-// Adds the lines of a plan.
+// Adds the lines of a plan, the last one first, and tells what is seen of the plan.
 fn push_lines(
     query: &Query,
     props: &Props,
     plan: &Plan,
     lines: &mut Vec<OwnLine>,
-) -> Result<(), AllocError>
+) -> Result<Kid, AllocError>
     requires { IsProps query.now props.now }
-    ensures { OnOk result (AddsLines query.now plan.now lines.old.items lines.new.items) }
+    ensures seen { IfOk result (IsSeenOf query.now plan.now) }
+    ensures added { OnOk result (AddsLines query.now plan.now lines.old.items lines.new.items) }
 {
     match plan {
         Plan::Leaf(node) => push_line(query, props, *node, Below::Nothing, lines),
         Plan::Over(node, kid) => {
-            let below = Below::One(plan_seen(query, props, kid));
-            push_line(query, props, *node, below, lines)?;
-            push_lines(query, props, kid, lines)?;
-            Ok(())
+            let only = push_lines(query, props, kid, lines)?;
+            push_line(query, props, *node, Below::One(only), lines)
         }
         Plan::Two(node, left, right) => {
-            let below = Below::Two(
-                plan_seen(query, props, left),
-                plan_seen(query, props, right),
-            );
-            push_line(query, props, *node, below, lines)?;
-            push_lines(query, props, left, lines)?;
-            push_lines(query, props, right, lines)?;
-            Ok(())
+            let second = push_lines(query, props, right, lines)?;
+            let first = push_lines(query, props, left, lines)?;
+            push_line(query, props, *node, Below::Two(first, second), lines)
         }
     }
 }
 
-// Adds the line of a node; none for a number that no node has.
+// Adds the line of a node, and tells what is seen of a plan with this root.
 fn push_line(
     query: &Query,
     props: &Props,
     node: Node,
     below: Below,
     lines: &mut Vec<OwnLine>,
-) -> Result<(), AllocError>
+) -> Result<Kid, AllocError>
     requires { IsProps query.now props.now }
-    ensures { OnOk result (AddsLine query.now node below lines.old.items lines.new.items) }
+    ensures seen { IfOk result (IsSeenOver query.now node below) }
+    ensures added { OnOk result (AddsLine query.now node below lines.old.items lines.new.items) }
 {
-    if let Some(kind) = node.kind() {
-        lines.push(OwnLine {
-            node: kind,
-            rows: rows_above(query, props, kind, below),
-            cost: cost_above_any(query, props, kind, below),
-        })?;
+    let kind = kind_of(node);
+    lines.push(OwnLine {
+        node: kind,
+        rows: rows_above(query, props, kind, below),
+        cost: cost_above_any(query, props, kind, below),
+    })?;
+    Ok(seen_above(query, props, kind, below))
+}
+
+// What the node does; a number that no node has counts as that of a gather.
+fn kind_of(node: Node) -> NodeKind
+    ensures { (kind : Kind) → IsNode node kind → result ≡ kind }
+{
+    match node.kind() {
+        Some(kind) => kind,
+        None => NodeKind::Enforcer(Enforcer::Gather),
     }
-    Ok(())
 }

@@ -1,29 +1,39 @@
--- The line of the plan's root comes before those of the plans below it, the left ones before the right ones.
-use Rattle.std.proofs.Common.{rules}
-use Rattle.text_check.specs.OwnLines.{AddsLines}
-use Rattle.text_check.proofs.OwnFollowing.{IsSeenOf, over_follows, two_follows}
+-- The line of the plan's root comes behind those of the plans below it, the right ones first.
+use Rattle.std.proofs.Common.{subst}
+use Rattle.plan_tree.specs.declared.plan.Plan.{Plan}
+use Rattle.text_check.specs.OwnLines.{IsSeenOf, AddsLines}
+use Rattle.text_check.proofs.OwnFollowing.{on_ok, over_follows, two_follows}
 use Rattle.text_check.proofs.own.+push_lines.Goals as goal
 
 -- the root stands over one plan
-pub returns-in_ok-push_lines-in-Over : goal.returns-in_ok-push_lines-in-Over
-returns-in_ok-push_lines-in-Over t c =
+pub returns-in_ok-only-in-Over-clause-added : goal.returns-in_ok-only-in-Over-clause-added
+returns-in_ok-only-in-Over-clause-added t c =
     let q = c.args.query.now in
     let kid = c.in-Over.kid.value in
-    let seen : IsSeenOf q kid c.plan_seen.result = search rules in
-    let next : AddsLines q kid c.push_line-in-Over.new.lines.items c.push_lines.new.lines.items = search rules in
-    over_follows q c.args.plan.now c.in-Over.node _ kid c.plan_seen.result _ _ _ c.in-Over.is seen
-    c.in_ok-push_line-in-Over.ensures next
+    let seen = subst (λ (p : Plan). IsSeenOf q p c.in_ok-only-in-Over.only) c.deref.ensures
+    c.in_ok-only-in-Over.ensures.seen in
+    let first = subst (λ (p : Plan). AddsLines q p c.args.lines.now.items c.push_lines.new.lines.items) c.deref.ensures
+    c.in_ok-only-in-Over.ensures.added in
+    on_ok c.push_line-in-Over.result _ _
+    (over_follows q c.args.plan.now c.in-Over.node _ kid c.in_ok-only-in-Over.only _ _ _ c.in-Over.is seen first)
+    c.push_line-in-Over.ensures.added
 
 -- the root stands over two plans
-pub returns-in_ok-push_lines-in-Two-2 : goal.returns-in_ok-push_lines-in-Two-2
-returns-in_ok-push_lines-in-Two-2 t c =
+pub returns-in_ok-first-in-Two-clause-added : goal.returns-in_ok-first-in-Two-clause-added
+returns-in_ok-first-in-Two-clause-added t c =
     let q = c.args.query.now in
     let left = c.in-Two.left.value in
     let right = c.in-Two.right.value in
-    let first : IsSeenOf q left c.plan_seen-in-Two.result = search rules in
-    let second : IsSeenOf q right c.plan_seen-in-Two-2.result = search rules in
     let halfway = c.push_lines-in-Two.new.lines.items in
-    let next : AddsLines q left c.push_line-in-Two.new.lines.items halfway = search rules in
-    let last : AddsLines q right halfway c.push_lines-in-Two-2.new.lines.items = search rules in
-    two_follows q c.args.plan.now c.in-Two.node _ left _ right c.plan_seen-in-Two.result c.plan_seen-in-Two-2.result
-    _ _ _ _ c.in-Two.is first second c.in_ok-push_line-in-Two.ensures next last
+    let first = subst (λ (p : Plan). IsSeenOf q p c.in_ok-first-in-Two.first) c.deref-in-Two-2.ensures
+    c.in_ok-first-in-Two.ensures.seen in
+    let second = subst (λ (p : Plan). IsSeenOf q p c.in_ok-second-in-Two.second) c.deref-in-Two.ensures
+    c.in_ok-second-in-Two.ensures.seen in
+    let last = subst (λ (p : Plan). AddsLines q p c.args.lines.now.items halfway) c.deref-in-Two.ensures
+    c.in_ok-second-in-Two.ensures.added in
+    let next = subst (λ (p : Plan). AddsLines q p halfway c.push_lines-in-Two-2.new.lines.items) c.deref-in-Two-2.ensures
+    c.in_ok-first-in-Two.ensures.added in
+    on_ok c.push_line-in-Two.result _ _
+    (two_follows q c.args.plan.now c.in-Two.node _ left _ right c.in_ok-first-in-Two.first
+    c.in_ok-second-in-Two.second _ _ _ _ c.in-Two.is first second last next)
+    c.push_line-in-Two.ensures.added
