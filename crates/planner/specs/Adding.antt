@@ -19,7 +19,8 @@ IsNodeOver q depth kind below node =
 -- the root of whichever tree the plan is
 abbrev pub IsRootOf : Query → ℕ → Plan → Option PlanNode → Type 0
 IsRootOf q depth plan root =
-    (tree : Tree) → Spells plan tree → HasGroups q tree → root ≡ Some (node_at q depth (root_node tree) (kids_of q tree))
+    (tree : Tree) → Spells plan tree → HasGroups q tree
+    → root ≡ Some (node_at q depth (root_node tree) (kids_of q tree))
 
 -- the nodes of whichever tree the plan is were put behind the others
 abbrev pub AddsPlan : Query → ℕ → Plan → List PlanNode → List PlanNode → Type 0

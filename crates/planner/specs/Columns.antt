@@ -6,6 +6,7 @@ use Rattle.query_core.specs.declared.query.Query.{Query}
 use Rattle.query_core.specs.declared.words.KeyParts.{KeyParts}
 use Rattle.query_core.specs.declared.expressions.Physical.{Physical}
 use Rattle.query_core.specs.declared.expressions.Physical.TheVariants as physical
+use Rattle.query_core.specs.declared.expressions.PhysicalExpr.{PhysicalExpr}
 use Rattle.query_text.specs.Columns.{computed_text}
 use Rattle.request_props.specs.Numbered.{list_of, order_of}
 use Rattle.request_props.specs.Satisfied.{index_columns}
@@ -57,7 +58,11 @@ enforcer_columns q (enforcers.Sort order) = map (column_by q) (order_of q order)
 enforcer_columns q (enforcers.GatherMerge order) = map (column_by q) (order_of q order)
 enforcer_columns q (enforcers.Redistribute list) = map (column_at q) (list_of q list)
 
+-- those of an expression's operator, by name
+abbrev pub native_columns : Query → PhysicalExpr → List PlanColumn
+native_columns q e = map (column_at q) (operator_columns q e.operator (table_in e.group))
+
 -- the columns of a node
 abbrev pub columns_of : Query → NodeKind → List PlanColumn
-columns_of q (nodes.Native e mode) = map (column_at q) (operator_columns q e.operator (table_in e.group))
+columns_of q (nodes.Native e mode) = native_columns q e
 columns_of q (nodes.Enforcer e) = enforcer_columns q e

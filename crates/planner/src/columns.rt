@@ -6,8 +6,7 @@ ghost use Rattle.request_props.specs.Found.{element_of, elements_of};
 ghost use Rattle.request_props.specs.Numbered.{IsProps, list_of, order_of};
 ghost use Rattle.request_props.specs.Satisfied.{index_columns as columns_of_index};
 ghost use Rattle.query_text.specs.Columns.{computed_text as computed};
-ghost use Rattle.plan_space.specs.Lines.{table_in as table_of_group};
-ghost use Rattle.planner.specs.Columns.{columns_of as columns_meant, operator_columns as columns_by_operator};
+ghost use Rattle.planner.specs.Columns.{columns_of as columns_meant, native_columns as columns_by_operator};
 ghost use Rattle.planner.specs.Columns.{enforcer_columns as columns_by_enforcer, column_at, column_by};
 ghost use Rattle.planner.specs.Columns.{join_columns as columns_of_join};
 
@@ -41,8 +40,7 @@ fn operator_columns(
     query: &Query,
     expr: PhysicalExpr,
 ) -> Result<List<PlanColumn>, AllocError>
-    ensures { IfOk result (λ columns. columns ≡
-        map (column_at query.now) (columns_by_operator query.now expr.operator (table_of_group expr.group))) }
+    ensures { IfOk result (λ columns. columns ≡ columns_by_operator query.now expr) }
 {
     let table = table_in(expr.group);
     match expr.operator {

@@ -24,8 +24,8 @@ pub struct PlanNode {
     /// The same by names, in its mode, as the program prints it: `HashJoin(colocated p0)`.
     pub text: Text,
     /// By which columns it works: of a sort and a merge those of its order, of a redistribution those whose hash it
-    /// takes, of an aggregation those of GROUP BY, of an index those that it has, and of a join the two of each equality
-    /// between its sides, the left one first. All other nodes have none.
+    /// takes, of an aggregation those of GROUP BY, of an index those that it has, and of a join the two of each
+    /// equality between its sides, the left one first. All other nodes have none.
     pub columns: List<PlanColumn>,
     /// The estimated rows that it gives, on all segments together and each once: 0 to 10^12.
     pub rows: u64,
@@ -38,7 +38,8 @@ pub struct PlanNode {
 /// The least plan of a query.
 #[derive(Drop)]
 pub struct LeastPlan {
-    /// The query over numbers: its tables in the order of FROM, the columns that it uses, its predicates and its output.
+    /// The query over numbers: its tables in the order of FROM, the columns that it uses, its predicates and its
+    /// output.
     pub query: Query,
     /// The sum of the costs of the nodes.
     pub cost: u64,

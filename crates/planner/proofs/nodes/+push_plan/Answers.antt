@@ -23,7 +23,7 @@ returns-in_ok-push_plan-in-Two-clause-adds t c =
     let lent : c.deref-in-Two-2.result.now ≡ right = search rules in
     let next : AddsPlan q (suc depth) left middle halfway = search rules in
     on_ok_weaker c.push_plan-in-Two-2.result
-    (λ last. two_added q depth c.args.plan.now c.in-Two.field-0 _ left _ right c.in-Some.root before middle halfway after
-    c.in-Two.is is put next
+    (λ last. two_added q depth c.args.plan.now c.in-Two.field-0 _ left _ right c.in-Some.root before middle halfway
+    after c.in-Two.is is put next
     (subst (λ d. AddsPlan q d right halfway after) deeper (subst (λ p. AddsPlan q (depth + 1) p halfway after) lent
     last))) c.push_plan-in-Two-2.ensures.adds
