@@ -26,6 +26,18 @@ const JOINED: &str = "  HashJoin(colocated p0) rows=1000 cost=1001
       Scan(T2) rows=1000 cost=251
 ";
 
+// A plan whose sorts nest 995 deep begins with these lines.
+const DEEP_HEAD: &str = "cost 1996500\noutput T1.a\nGatherMerge(T1.a) rows=1000 cost=3001\n";
+
+// Adds a line at this level.
+fn push_line(text: &mut Vec<u8>, level: u32, line: &str) -> Result<(), Fail> {
+    for _ in 0..level {
+        text.extend_from_slice(b"  ")?;
+    }
+    text.extend_from_slice(line.as_bytes())?;
+    Ok(())
+}
+
 // What is said of a text of these lines.
 fn said(alloc: Global, lines: &[&str]) -> Result<Result<u64, TextFault>, Fail> {
     let (query, props) = implied(alloc, two_tables(alloc)?)?;
@@ -96,5 +108,28 @@ fn a_text_that_is_no_plan_is_refused_at_its_line(rt: HostRuntime) -> Result<(), 
         let found = said(alloc, lines)?;
         assert!(rt; found == Err(*fault));
     }
+    Ok(())
+}
+
+#[test]
+fn a_plan_of_a_thousand_nodes_has_its_cost(rt: HostRuntime) -> Result<(), Fail> {
+    let alloc = rt.alloc();
+    let (query, props) = implied(alloc, two_tables(alloc)?)?;
+    let mut text = Vec::new(alloc);
+    text.extend_from_slice(DEEP_HEAD.as_bytes())?;
+    for level in 1..996 {
+        push_line(&mut text, level, "Sort(T1.a) rows=1000 cost=2001\n")?;
+    }
+    push_line(
+        &mut text,
+        996,
+        "HashJoin(colocated p0) rows=1000 cost=1001\n",
+    )?;
+    push_line(&mut text, 997, "Scan(T1) rows=1000 cost=251\n")?;
+    push_line(&mut text, 997, "Redistribute(T2.b) rows=1000 cost=1001\n")?;
+    push_line(&mut text, 998, "Scan(T2) rows=1000 cost=251\n")?;
+    assert!(rt; text.len() == 1030042);
+    let found = check_text(alloc, &query, &props, text.as_slice());
+    assert!(rt; found == Ok(1996500));
     Ok(())
 }
