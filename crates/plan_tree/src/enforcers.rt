@@ -2,7 +2,7 @@
 #![tactic(auto)]
 
 ghost use Rattle.std.specs.Prelude.{◌≡◌, None, IfSome, slice_get};
-ghost use Rattle.query_core.specs.Keys.{IsGroup, IsKey, Names};
+ghost use Rattle.query_core.specs.Keys.{IsKey, Names};
 ghost use Rattle.query_core.specs.declared.words.KeyParts.{KeyParts as Group};
 ghost use Rattle.request_props.specs.Numbered.{IsProps};
 ghost use Rattle.request_props.specs.Fitting.{Fits};
@@ -14,7 +14,7 @@ ghost use Rattle.plan_tree.specs.NodeCosts.{IsThere};
 
 use crate::node::Node;
 use plan_space::{Enforcer, NodeKind};
-use query_core::{Key, KeyParts, Query, groups_are_known};
+use query_core::{Key, KeyParts, Query};
 use request_props::{Dist, Props, Request};
 
 /// An enforcer that may meet a request, and what it asks of a plan of the same group.
@@ -40,12 +40,7 @@ pub fn enforcer(
         IsEnforced result (slice_get (enforcers_of request) n) }
     ensures there { IfSome result (λ found. IsThere query.now request found.node) }
 {
-    let (first, second) = both(query, props, query.group(key), request);
-    match n {
-        0 => first,
-        1 => second,
-        _ => None,
-    }
+    enforcer_of_group(query, props, query.group(key), request, n)
 }
 
 /// The enforcer at this place, of all those for a request that fits the group.
@@ -57,13 +52,32 @@ pub fn enforcer_for(
     place: u32,
 ) -> Option<Enforced>
     requires props { IsProps query.now props.now }
-    requires known { IsGroup query.now group }
     requires fits { Fits query.now group wanted }
     ensures { IsEnforced result (slice_get (enforcers_of wanted) place) }
 {
-    // For the proof: a group has one key.
-    groups_are_known();
-    enforcer(query, props, Key::make(group), wanted, place)
+    enforcer_of_group(query, props, group, wanted, place)
+}
+
+// The enforcer at this place, of those for the request that fit the group.
+fn enforcer_of_group(
+    query: &Query,
+    props: &Props,
+    group: KeyParts,
+    request: Request,
+    n: u32,
+) -> Option<Enforced>
+    requires props { IsProps query.now props.now }
+    ensures at_place { IsEnforcerAt query.now group request n result }
+    ensures fitting { Fits query.now group request →
+        IsEnforced result (slice_get (enforcers_of request) n) }
+    ensures there { IfSome result (λ found. IsThere query.now request found.node) }
+{
+    let (first, second) = both(query, props, group, request);
+    match n {
+        0 => first,
+        1 => second,
+        _ => None,
+    }
 }
 
 /// What an enforcer for the request asks of a plan of the same group.
