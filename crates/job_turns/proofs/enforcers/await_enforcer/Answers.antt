@@ -13,10 +13,6 @@ use Rattle.job_turns.proofs.Finding.{finds_none, finds_told}
 use Rattle.job_turns.proofs.Enforced.{found_at, goal_found, no_goal, no_node}
 use Rattle.job_turns.proofs.enforcers.await_enforcer.Goals as goal
 
-pub enforcer_for-requires-clause-known : goal.enforcer_for-requires-clause-known
-enforcer_for-requires-clause-known g c =
-    c.goals_are_known.ensures.candidates c.args.query.now (Opt c.args.group c.args.wanted) c.requires.goal.is_goal
-
 pub enforcer_for-requires-clause-fits : goal.enforcer_for-requires-clause-fits
 enforcer_for-requires-clause-fits g c = c.goals_are_known.ensures.requests c.args.query.now
     (Opt c.args.group c.args.wanted) c.requires.goal.is_goal

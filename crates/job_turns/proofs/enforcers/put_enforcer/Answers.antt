@@ -8,10 +8,6 @@ use Rattle.goal_space.specs.declared.goals.GoalKind.TheVariants.{Opt}
 use Rattle.job_turns.proofs.Enforced.{found_at}
 use Rattle.job_turns.proofs.enforcers.put_enforcer.Goals as goal
 
-pub enforcer_for-requires-clause-known : goal.enforcer_for-requires-clause-known
-enforcer_for-requires-clause-known g c =
-    c.goals_are_known.ensures.candidates c.args.query.now (Opt c.args.group c.args.wanted) c.requires.goal.is_goal
-
 pub enforcer_for-requires-clause-fits : goal.enforcer_for-requires-clause-fits
 enforcer_for-requires-clause-fits g c = c.goals_are_known.ensures.requests c.args.query.now
     (Opt c.args.group c.args.wanted) c.requires.goal.is_goal
